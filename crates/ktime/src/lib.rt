@@ -1,0 +1,16 @@
+//! Times of high-resolution timers: clocks and their readings, sums that stop at the end of time, and forwarding.
+#![tactic(auto)]
+
+pub use clock_id::ClockId;
+pub use forwarding::{Forwarded, forward, passed_counts_instants};
+pub use mode::Mode;
+pub use reading::Reading;
+pub use times::{LAST_TIME, effective, sat_add};
+pub use timespec::{BadTime, TimeSpec};
+
+mod clock_id;
+mod forwarding;
+mod mode;
+mod reading;
+mod times;
+mod timespec;

@@ -1,0 +1,57 @@
+ghost use Rattle.std.specs.Prelude.{◌≡◌};
+ghost use Rattle.ktime.specs.Readings.{ClockReading, IsTimely, value_of};
+
+use crate::clock_id::ClockId;
+use std::marker::Model;
+
+/// What the clock shows at one moment. The three times are nanoseconds.
+#[derive(Clone, Copy, Debug, PartialEq, Eq)]
+pub struct Reading {
+    pub stamp: u64,
+    pub mono: u64,
+    pub real: u64,
+    pub boot: u64,
+    pub changes: u64,
+}
+
+impl Model for Reading {
+    ghost Value = { ClockReading };
+
+    ghost view = { λ r. record { stamp = r.stamp; mono = r.mono; real = r.real; boot = r.boot; changes = r.changes } };
+
+    ghost invariant = { λ r. IsTimely (record { stamp = r.stamp; mono = r.mono; real = r.real; boot = r.boot; changes = r.changes }) };
+
+    ghost inverse = { λ v. record { stamp = v.stamp; mono = v.mono; real = v.real; boot = v.boot; changes = v.changes } };
+}
+
+impl Reading {
+    /// The time that this clock shows.
+    pub fn value(&self, clock: ClockId) -> u64
+        ensures { result ≡ value_of clock self.now }
+    {
+        match clock {
+            ClockId::Monotonic => self.mono,
+            ClockId::Realtime => self.real,
+            ClockId::Boottime => self.boot,
+        }
+    }
+}
+
+#[cfg(test)]
+mod tests {
+    use super::*;
+
+    #[test]
+    fn each_clock_has_its_own_time(rt: HostRuntime) {
+        let reading = Reading {
+            stamp: 4,
+            mono: 10,
+            real: 20,
+            boot: 30,
+            changes: 1,
+        };
+        assert_eq!(rt; reading.value(ClockId::Monotonic), 10);
+        assert_eq!(rt; reading.value(ClockId::Realtime), 20);
+        assert_eq!(rt; reading.value(ClockId::Boottime), 30);
+    }
+}
