@@ -1,0 +1,213 @@
+ghost use Rattle.std.specs.Prelude.{◌≡◌, ◌+◌, ◌≤◌, if◌then◌else◌, IfOk, OnErr};
+ghost use Rattle.ktime.specs.Readings.{ClockReading, latest};
+ghost use Rattle.clock_model.specs.Clocks.{after_write, at_stamp, greatest, last_stamp, IsRefusedAs};
+ghost use Rattle.clock_model.specs.declared.write.Write.TheVariants.{Advance, Set, Suspend};
+
+use crate::write::{ClockFault, Write};
+use ktime::Reading;
+use std::marker::Model;
+
+/// The latest time that a clock shows, in nanoseconds.
+const LATEST: u128 = 1 << 62;
+
+/// How many writes the clock counts.
+const LAST_STAMP: u64 = 1 << 32;
+
+/// The monotonic, the real-time and the boot-time clock.
+#[derive(Clone, Copy, Debug, PartialEq, Eq)]
+pub struct Clock {
+    reading: Reading,
+}
+
+impl Model for Clock {
+    ghost Value = { ClockReading };
+
+    ghost view = { λ c. c.reading };
+
+    ghost invariant = { λ c. (c.reading.stamp ≤ last_stamp) × (c.reading.changes ≤ c.reading.stamp) };
+
+    ghost inverse = { λ r. record { reading = r } };
+}
+
+impl Clock {
+    /// The clock at its start: all times are 0.
+    pub fn new() -> Self
+        ensures { result ≡ at_stamp 0 }
+    {
+        Clock::at_stamp(0)
+    }
+
+    /// The clock at its start, with so many writes counted already.
+    pub fn at_stamp(stamp: u64) -> Self
+        requires { stamp ≤ last_stamp }
+        ensures { result ≡ at_stamp stamp }
+    {
+        Clock {
+            reading: Reading {
+                stamp,
+                mono: 0,
+                real: 0,
+                boot: 0,
+                changes: 0,
+            },
+        }
+    }
+
+    pub fn reading(&self) -> Reading
+        ensures { result ≡ self.now }
+    {
+        self.reading
+    }
+
+    /// Time passes, in nanoseconds.
+    pub fn advance(&mut self, by: u64) -> Result<Reading, ClockFault>
+        ensures ok { IfOk result (λ r. (r ≡ after_write self.old (Advance by)) × (self.new ≡ r)) }
+        ensures refused { IsRefusedAs self.old (Advance by) result }
+        ensures err { OnErr result (self.new ≡ self.old) }
+    {
+        self.write(Write::Advance { by })
+    }
+
+    /// Sets the time of day, in nanoseconds.
+    pub fn set_real(&mut self, to: u64) -> Result<Reading, ClockFault>
+        ensures ok { IfOk result (λ r. (r ≡ after_write self.old (Set to)) × (self.new ≡ r)) }
+        ensures refused { IsRefusedAs self.old (Set to) result }
+        ensures err { OnErr result (self.new ≡ self.old) }
+    {
+        self.write(Write::Set { to })
+    }
+
+    /// The machine sleeps, for so many nanoseconds.
+    pub fn suspend(&mut self, by: u64) -> Result<Reading, ClockFault>
+        ensures ok { IfOk result (λ r. (r ≡ after_write self.old (Suspend by)) × (self.new ≡ r)) }
+        ensures refused { IsRefusedAs self.old (Suspend by) result }
+        ensures err { OnErr result (self.new ≡ self.old) }
+    {
+        self.write(Write::Suspend { by })
+    }
+
+    /// Makes one write.
+    pub fn write(&mut self, write: Write) -> Result<Reading, ClockFault>
+        ensures ok { IfOk result (λ r. (r ≡ after_write self.old write) × (self.new ≡ r)) }
+        ensures refused { IsRefusedAs self.old write result }
+        ensures err { OnErr result (self.new ≡ self.old) }
+    {
+        let was = self.reading;
+        if was.stamp >= LAST_STAMP {
+            return Err(ClockFault::ClockSpent);
+        }
+        let times = times_after(&was, write);
+        let would_be = times.mono.max(times.real).max(times.boot);
+        if would_be > LATEST {
+            return Err(ClockFault::ClockRange { would_be });
+        }
+        self.reading = Reading {
+            stamp: was.stamp + 1,
+            mono: times.mono as u64,
+            real: times.real as u64,
+            boot: times.boot as u64,
+            changes: was.changes + u64::from(times.is_offset_changed),
+        };
+        Ok(self.reading)
+    }
+}
+
+/// The times that a write would make, in nanoseconds, and whether real time would be at another
+/// offset from monotonic time.
+#[derive(Clone, Copy)]
+struct Times {
+    mono: u128,
+    real: u128,
+    boot: u128,
+    is_offset_changed: bool,
+}
+
+fn times_after(was: &Reading, write: Write) -> Times
+    ensures mono { result.mono ≡ (after_write was.now write).mono }
+    ensures real { result.real ≡ (after_write was.now write).real }
+    ensures boot { result.boot ≡ (after_write was.now write).boot }
+    ensures changes { was.now.changes + (if result.is_offset_changed then 1 else 0) ≡ (after_write was.now write).changes }
+{
+    let (mono, real, boot) = (
+        u128::from(was.mono),
+        u128::from(was.real),
+        u128::from(was.boot),
+    );
+    match write {
+        Write::Advance { by } => {
+            let by = u128::from(by);
+            Times {
+                mono: mono + by,
+                real: real + by,
+                boot: boot + by,
+                is_offset_changed: false,
+            }
+        }
+        Write::Set { to } => Times {
+            mono,
+            real: u128::from(to),
+            boot,
+            is_offset_changed: to != was.real,
+        },
+        Write::Suspend { by } => {
+            let slept = u128::from(by);
+            Times {
+                mono,
+                real: real + slept,
+                boot: boot + slept,
+                is_offset_changed: by > 0,
+            }
+        }
+    }
+}
+
+#[cfg(test)]
+mod tests {
+    use super::*;
+
+    #[test]
+    fn a_write_counts_also_where_it_alters_nothing(rt: HostRuntime) {
+        let mut clock = Clock::new();
+        assert_eq!(rt; clock.advance(0).is_ok(), true);
+        assert_eq!(rt; clock.set_real(0).is_ok(), true);
+        assert_eq!(rt; clock.suspend(0).is_ok(), true);
+        let reading = clock.reading();
+        assert_eq!(rt; (reading.stamp, reading.changes), (3, 0));
+    }
+
+    #[test]
+    fn only_a_write_that_moves_the_real_offset_is_a_change(rt: HostRuntime) {
+        let mut clock = Clock::new();
+        assert_eq!(rt; clock.advance(5).is_ok(), true);
+        assert_eq!(rt; clock.suspend(50).is_ok(), true);
+        assert_eq!(rt; clock.set_real(7).is_ok(), true);
+        assert_eq!(rt; clock.set_real(7).is_ok(), true);
+        let now = Reading {
+            stamp: 4,
+            mono: 5,
+            real: 7,
+            boot: 55,
+            changes: 2,
+        };
+        assert_eq!(rt; clock.reading(), now);
+    }
+
+    #[test]
+    fn a_write_past_the_latest_time_is_refused(rt: HostRuntime) {
+        let mut clock = Clock::new();
+        assert_eq!(rt; clock.advance(1 << 62).is_ok(), true);
+        let late = Err(ClockFault::ClockRange {
+            would_be: (1 << 62) + 1,
+        });
+        assert_eq!(rt; clock.advance(1), late);
+        assert_eq!(rt; clock.write(Write::Suspend { by: 1 }), late);
+        assert_eq!(rt; clock.reading().stamp, 1);
+    }
+
+    #[test]
+    fn a_clock_that_has_counted_all_its_writes_is_spent(rt: HostRuntime) {
+        let mut clock = Clock::at_stamp(LAST_STAMP);
+        assert_eq!(rt; clock.advance(u64::MAX), Err(ClockFault::ClockSpent));
+        assert_eq!(rt; clock.reading().stamp, LAST_STAMP);
+    }
+}
