@@ -1,0 +1,12 @@
+pub mod Lifts
+pub mod Adding
+pub mod Counts
+pub mod Crosses
+pub mod Erasing
+pub mod Finds
+pub mod Puts
+pub mod Stores
+pub mod Taking
+pub mod Told
+pub mod Trees
+pub mod Rotations

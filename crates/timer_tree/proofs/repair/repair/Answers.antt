@@ -1,0 +1,17 @@
+use Rattle.timer_tree.proofs.Lifts.{repairing_step, repairing_smaller, repairing_end, repairing_start}
+use Rattle.timer_tree.proofs.repair.repair.Goals as goal
+
+pub loop-rest-smaller : goal.loop-rest-smaller
+loop-rest-smaller g c =
+    let start = c.requires in
+    let so_far = c.loop-rest.invariant start.0 start.1 start.2 in
+    repairing_smaller c.loop-rest.block c.lift-rest.new.block c.loop-rest.rest c.lift-rest.result start.0 so_far.left so_far.can c.loop-rest-test.true c.lift-rest.ensures.block
+
+pub loop-rest-preserved : goal.loop-rest-preserved
+loop-rest-preserved g c = λ ps levels can. repairing_step c.args.block.now c.loop-rest.block c.lift-rest.new.block c.loop-rest.rest c.lift-rest.result ps levels c.args.steps.now c.loop-rest.steps c.lift-rest.new.steps (c.loop-rest.invariant ps levels can) c.loop-rest-test.true c.lift-rest.ensures.block c.lift-rest.ensures.steps
+
+pub loop-rest-init : goal.loop-rest-init
+loop-rest-init g c = λ ps levels can. repairing_start c.args.block.now c.args.broken ps levels c.args.steps.now can
+
+pub returns : goal.returns
+returns g c = λ ps levels can. repairing_end c.args.block.now c.loop-rest.block c.loop-rest.rest ps levels c.args.steps.now c.loop-rest.steps (c.loop-rest.invariant ps levels can) c.loop-rest-test.false

@@ -1,0 +1,6 @@
+use Rattle.std.proofs.Common.{arith}
+use Rattle.timer_tree.proofs.Stores.{empty_stored}
+use Rattle.timer_tree.proofs.tree.TimerTreeQueue.make.Goals as goal
+
+pub invariant_of-result : goal.invariant_of-result
+invariant_of-result c = (empty_stored c.in_ok-block.block c.args.room (omega arith) c.in_ok-block.ensures).0

@@ -1,0 +1,16 @@
+-- How links are written.
+use Rattle.std.specs.Prelude.{ℕ, List, nat_eq, if◌then◌else◌, slice_set}
+use Rattle.timer_tree.specs.Nodes.{none, node_at}
+use Rattle.timer_tree.specs.declared.node.Node.{Node}
+
+-- the nodes after one has got another parent
+abbrev pub adopted : List Node → (n parent : ℕ) → List Node
+adopted xs n parent = slice_set xs n (record (node_at xs n) { parent = parent })
+
+-- a node with another node in place of one below it
+abbrev pub replaced : Node → (from to : ℕ) → Node
+replaced node from to = if nat_eq node.left from then record node { left = to } else record node { right = to }
+
+-- the nodes and the root after one node has got another's place
+abbrev pub relinked : List Node → (root parent from to : ℕ) → List Node × ℕ
+relinked xs root parent from to = if nat_eq parent none then (xs, to) else (slice_set xs parent (replaced (node_at xs parent) from to), root)

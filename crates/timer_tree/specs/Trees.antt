@@ -1,0 +1,79 @@
+-- The tree that the nodes make, and what a queue of it holds.
+use Rattle.std.specs.Prelude.{ℕ, ◌+◌, ◌≤◌, ◌<◌, ◌≡◌, List, [], ◌∷◌, ◌++◌, length, max, zero, suc, nat_eq, if◌then◌else◌}
+use Rattle.timer_queue.specs.Pairs.{IsQueue}
+use Rattle.timer_tree.specs.Nodes.{none, node_at}
+use Rattle.timer_tree.specs.declared.node.Node.{Node}
+
+-- the pairs of the part of the tree below a node, the first due at the front; the first number is at least its height
+abbrev pub pairs_below : ℕ → List Node → ℕ → List (ℕ × ℕ)
+pairs_below zero xs n = []
+pairs_below (suc k) xs n =
+    if nat_eq n none then [] else pairs_below k xs (node_at xs n).left ++ ((node_at xs n).expires, n) ∷ pairs_below k xs (node_at xs n).right
+
+-- the pairs of the whole tree
+abbrev pub queue_at : List Node → ℕ → List (ℕ × ℕ)
+queue_at xs root = pairs_below (node_at xs root).height xs root
+
+-- a part of a tree: nothing, or a node with its number, expiry and height between two parts
+pub data Tree : Type 0 where
+  Leaf : Tree
+  Fork : (l : Tree) (n e h : ℕ) (r : Tree) → Tree
+
+-- the number of the node at the top
+abbrev pub top : Tree → ℕ
+top Leaf = none
+top (Fork l n e h r) = n
+
+-- the height
+abbrev pub tall : Tree → ℕ
+tall Leaf = 0
+tall (Fork l n e h r) = h
+
+-- the pairs from left to right
+abbrev pub pairs : Tree → List (ℕ × ℕ)
+pairs Leaf = []
+pairs (Fork l n e h r) = pairs l ++ (e, n) ∷ pairs r
+
+-- a node of the block is linked like this
+pub record Stands (xs : List Node) (n : ℕ) (node : Node) : Type 0 where
+  pub inside : n < length xs
+  pub is : node_at xs n ≡ node
+
+-- the nodes are linked as this part of a tree below a parent
+abbrev pub IsAt : List Node → ℕ → Tree → Type 0
+IsAt xs p Leaf = Unit
+IsAt xs p (Fork l n e h r) = Stands xs n (record { expires = e; left = top l; right = top r; parent = p; height = h }) × IsAt xs n l × IsAt xs n r
+
+-- the heights are right, and those of two sides differ by at most one
+abbrev pub IsEven : Tree → Type 0
+IsEven Leaf = Unit
+IsEven (Fork l n e h r) = (h ≡ max (tall l) (tall r) + 1) × (tall l ≤ tall r + 1) × (tall r ≤ tall l + 1) × IsEven l × IsEven r
+
+-- how often a timer stands in a list of pairs
+abbrev pub one : ℕ → ℕ → ℕ
+one k n = if nat_eq k n then 1 else 0
+
+abbrev pub times : ℕ → List (ℕ × ℕ) → ℕ
+times k [] = 0
+times k (p ∷ ps) = one k p.1 + times k ps
+
+-- the number of the first pair
+abbrev pub first_id : List (ℕ × ℕ) → ℕ
+first_id [] = none
+first_id (p ∷ ps) = p.1
+
+-- the block holds a balanced tree of these pairs
+pub record IsTree (xs : List Node) (root : ℕ) (ps : List (ℕ × ℕ)) : Type 0 where
+  pub tree : Tree
+  pub at : IsAt xs none tree
+  pub root_is : root ≡ top tree
+  pub even : IsEven tree
+  pub pairs_are : pairs tree ≡ ps
+
+-- the block and the numbers of the root and of the first node are those of this queue, and each timer that isn't in it has the height 0
+pub record IsStored (xs : List Node) (root first : ℕ) (ps : List (ℕ × ℕ)) : Type 0 where
+  pub is_tree : IsTree xs root ps
+  pub first_is : first ≡ first_id ps
+  pub free : (k : ℕ) → times k ps ≡ 0 → (node_at xs k).height ≡ 0
+  pub queue : IsQueue (length xs) ps
+  pub small : length xs ≤ none
