@@ -1,0 +1,4 @@
+pub mod Generations
+pub mod Limits
+pub mod Spans
+pub mod StepKinds

@@ -1,0 +1,53 @@
+-- What a history says of the generations that it cancels, claims and finishes.
+use Rattle.std.specs.Prelude.{ℕ, ◌≡◌, ◌<◌, ◌≤◌, ◌-◌, ◌⊎◌, Bool, false, nat_eq, Option, Some, None, List, [], ◌∷◌, length, take, slice_get}
+use Rattle.std.specs.List.{AllByRecursion, list_any}
+use Rattle.ktime.specs.declared.clock_id.ClockId.{ClockId}
+use Rattle.seq_timer.specs.declared.event.Reply.{Reply}
+use Rattle.seq_timer.specs.declared.event.Reply.TheVariants as replies
+use Rattle.seq_timer.specs.Histories.{Entry, Span, IsInside, claim_in, state_after}
+
+-- the generation that a cancel answers
+abbrev pub cancel_in : Reply → Option ℕ
+cancel_in (replies.Cancel generation) = Some generation
+cancel_in (replies.Out was_armed) = None
+cancel_in (replies.Start base clock expires was_armed) = None
+cancel_in (replies.Claim generation) = None
+cancel_in (replies.Forward count expires) = None
+cancel_in (replies.Finish generation rearmed) = None
+
+-- the generation that a finish answers
+abbrev pub finish_in : Reply → Option ℕ
+finish_in (replies.Finish generation rearmed) = Some generation
+finish_in (replies.Out was_armed) = None
+finish_in (replies.Start base clock expires was_armed) = None
+finish_in (replies.Cancel generation) = None
+finish_in (replies.Claim generation) = None
+finish_in (replies.Forward count expires) = None
+
+-- whether this generation is told
+abbrev pub is_told : ℕ → Option ℕ → Bool
+is_told generation None = false
+is_told generation (Some told) = nat_eq told generation
+
+-- whether a cancel of the history answers this generation
+abbrev pub is_cancelled : ℕ → List Entry → Bool
+is_cancelled generation history = list_any (λ e. is_told generation (cancel_in e.reply)) history
+
+-- whether a claim of the history answers this generation
+abbrev pub is_claimed : ℕ → List Entry → Bool
+is_claimed generation history = list_any (λ e. is_told generation (claim_in e.reply)) history
+
+-- each span has ended before the next begins
+abbrev pub AreApart : List Span → Type 0
+AreApart [] = Unit
+AreApart (span ∷ spans) = AllByRecursion (λ later. span.finish < later.claim) spans × AreApart spans
+
+-- one of the spans is of this generation, and has the state after so many entries inside
+abbrev pub IsInOne : ℕ → ℕ → List Span → Type 0
+IsInOne generation stamp [] = ⊥
+IsInOne generation stamp (span ∷ spans) = ((span.generation ≡ generation) × IsInside span stamp) ⊎ IsInOne generation stamp spans
+
+-- in each state inside the span its generation runs, and so the finish that ends it answers
+pub record IsOfOneGeneration (clock : ClockId) (limit : ℕ) (history : List Entry) (span : Span) : Type 0 where
+  pub runs : (stamp : ℕ) → IsInside span stamp → stamp ≤ length history → (state_after clock limit (take stamp history)).running ≡ Some span.generation
+  pub finishes : (e : Entry) → slice_get history (span.finish - 1) ≡ Some e → finish_in e.reply ≡ Some span.generation

@@ -1,0 +1,5 @@
+pub mod Contents
+pub mod Histories
+pub mod Laws
+pub mod Steps
+pub mod Tables

@@ -1,0 +1,205 @@
+ghost use Rattle.std.specs.Prelude.{◌≡◌, ◌≤◌};
+ghost use Rattle.ktime.specs.Readings.{latest};
+ghost use Rattle.seq_timer.specs.declared.event.Event.TheVariants as events;
+
+use crate::{
+    Event, Observation, Peek, Rearmed, Reply, TimerState, a_cancelled_generation_never_runs,
+    a_span_has_one_generation, histories_end, running_is_told_inside_the_span,
+    spans_do_not_overlap,
+};
+use ktime::{ClockId, Mode, Reading};
+
+/// A reading in which all clocks show this time.
+fn at(time: u64) -> Reading
+    requires { time ≤ latest }
+    ensures { result ≡ record { stamp = 0; mono = time; real = time; boot = time; changes = 0 } }
+{
+    Reading {
+        stamp: 0,
+        mono: time,
+        real: time,
+        boot: time,
+        changes: 0,
+    }
+}
+
+fn start(mode: Mode, ns: u64, reading: Reading) -> Event
+    ensures { result ≡ events.Start mode ns reading 0 }
+{
+    Event::Start {
+        mode,
+        ns,
+        reading,
+        asked: 0,
+    }
+}
+
+#[test]
+fn a_new_timer_is_idle_on_base_0(rt: HostRuntime) {
+    let timer = TimerState::make(ClockId::Realtime, 100);
+    assert_eq!(rt; timer.declared(), ClockId::Realtime);
+    assert_eq!(rt; timer.clock(), ClockId::Realtime);
+    assert_eq!(rt; timer.base(), 0);
+    assert_eq!(rt; timer.expires(), 0);
+    assert_eq!(rt; timer.armed(), None);
+    assert_eq!(rt; timer.running(), None);
+    assert!(rt; !timer.is_moving());
+    assert_eq!(rt; timer.stamp(), 0);
+    assert_eq!(rt; timer.limit(), 100);
+}
+
+#[test]
+fn a_timer_runs_once(rt: HostRuntime) {
+    let mut timer = TimerState::make(ClockId::Monotonic, 100);
+    let reply = timer.apply(start(Mode::Rel, 100, at(0)));
+    assert_eq!(rt;
+        reply,
+        Reply::Start {
+            base: 0,
+            clock: ClockId::Monotonic,
+            expires: 100,
+            was_armed: false
+        }
+    );
+    let reply = timer.apply(Event::Claim {
+        base: 0,
+        reading: at(100),
+    });
+    assert_eq!(rt; reply, Reply::Claim { generation: 1 });
+    let seen = Observation::Running { generation: 1 };
+    assert_eq!(rt;
+        timer
+            .running()
+            .map(|generation| Observation::Running { generation }),
+        Some(seen)
+    );
+    let reply = timer.apply(Event::Finish { restart: false });
+    assert_eq!(rt;
+        reply,
+        Reply::Finish {
+            generation: 1,
+            rearmed: Rearmed::No
+        }
+    );
+    let idle = Peek {
+        stamp: 3,
+        base: 0,
+        enqueued: false,
+        running: false,
+        moving: false,
+    };
+    assert_eq!(rt; timer.peek(), idle);
+}
+
+#[test]
+fn a_periodic_timer_is_forwarded_and_armed_again(rt: HostRuntime) {
+    let mut timer = TimerState::make(ClockId::Monotonic, 100);
+    timer.apply(start(Mode::Rel, 100, at(0)));
+    timer.apply(Event::Claim {
+        base: 0,
+        reading: at(130),
+    });
+    let reply = timer.apply(Event::Forward {
+        reading: at(130),
+        interval: 10,
+    });
+    assert_eq!(rt;
+        reply,
+        Reply::Forward {
+            count: 4,
+            expires: 140
+        }
+    );
+    let reply = timer.apply(Event::Finish { restart: true });
+    assert_eq!(rt;
+        reply,
+        Reply::Finish {
+            generation: 1,
+            rearmed: Rearmed::Again { generation: 4 }
+        }
+    );
+    assert_eq!(rt; timer.armed(), Some(4));
+    let reply = timer.apply(Event::Cancel);
+    assert_eq!(rt; reply, Reply::Cancel { generation: 4 });
+}
+
+#[test]
+fn a_start_in_the_callback_stands(rt: HostRuntime) {
+    let mut timer = TimerState::make(ClockId::Monotonic, 100);
+    timer.apply(start(Mode::Abs, 0, at(0)));
+    timer.apply(Event::Claim {
+        base: 0,
+        reading: at(0),
+    });
+    timer.apply(start(Mode::Rel, 50, at(0)));
+    let reply = timer.apply(Event::Finish { restart: true });
+    assert_eq!(rt;
+        reply,
+        Reply::Finish {
+            generation: 1,
+            rearmed: Rearmed::No
+        }
+    );
+    assert_eq!(rt; timer.armed(), Some(3));
+    let reply = timer.apply(Event::Out { base: 1 });
+    assert_eq!(rt; reply, Reply::Out { was_armed: true });
+    assert!(rt; timer.is_moving());
+    let reply = timer.apply(Event::Start {
+        mode: Mode::Rel,
+        ns: 70,
+        reading: at(0),
+        asked: 1,
+    });
+    assert_eq!(rt;
+        reply,
+        Reply::Start {
+            base: 1,
+            clock: ClockId::Monotonic,
+            expires: 70,
+            was_armed: false
+        }
+    );
+}
+
+#[test]
+fn a_relative_time_of_day_is_kept_on_the_monotonic_clock(rt: HostRuntime) {
+    let mut timer = TimerState::make(ClockId::Realtime, 100);
+    let reading = Reading {
+        stamp: 0,
+        mono: 5,
+        real: 1000,
+        boot: 5,
+        changes: 1,
+    };
+    timer.apply(start(Mode::Rel, 10, reading));
+    assert_eq!(rt; timer.clock(), ClockId::Monotonic);
+    assert_eq!(rt; timer.expires(), 15);
+}
+
+#[test]
+fn the_limit_refuses_a_restart(rt: HostRuntime) {
+    let mut timer = TimerState::make(ClockId::Monotonic, 2);
+    timer.apply(start(Mode::Rel, 0, at(0)));
+    timer.apply(Event::Claim {
+        base: 0,
+        reading: at(0),
+    });
+    let reply = timer.apply(Event::Finish { restart: true });
+    assert_eq!(rt;
+        reply,
+        Reply::Finish {
+            generation: 1,
+            rearmed: Rearmed::Spent { stamp: 2 }
+        }
+    );
+    assert_eq!(rt; timer.armed(), None);
+}
+
+#[test]
+fn the_laws_can_be_cited() {
+    a_cancelled_generation_never_runs();
+    spans_do_not_overlap();
+    running_is_told_inside_the_span();
+    a_span_has_one_generation();
+    histories_end();
+}
