@@ -1,0 +1,26 @@
+-- Runs of calls, and the history that they give to one timer.
+use Rattle.std.specs.Prelude.{ℕ, ◌≡◌, List, [], ◌∷◌, ◌++◌, nat_eq, if◌then◌else◌}
+use Rattle.seq_timer.specs.declared.event.Event.{Event}
+use Rattle.seq_timer.specs.Steps.{Timer, after, reply_to}
+use Rattle.seq_timer.specs.Histories.{Entry}
+use Rattle.timer_core.specs.Kept.{Kept, Makes, step_all}
+
+-- a call by what it does: it makes these events of one timer
+pub record Call : Type 0 where
+  pub timer : ℕ
+  pub events : List Event
+
+-- these calls in turn lead from one to the other
+abbrev pub AreCalls : Kept → List Call → Kept → Type 0
+AreCalls old [] new = new ≡ old
+AreCalls old (c ∷ cs) new = (mid : Kept) × Makes old c.timer c.events mid × AreCalls mid cs new
+
+-- events as entries, each with its reply
+abbrev pub entries_of : Timer → List Event → List Entry
+entries_of t [] = []
+entries_of t (e ∷ es) = record { event = e; reply = reply_to t e } ∷ entries_of (after t e) es
+
+-- the entries of one timer along calls
+abbrev pub history_along : ℕ → Timer → List Call → List Entry
+history_along id t [] = []
+history_along id t (c ∷ cs) = if nat_eq c.timer id then entries_of t c.events ++ history_along id (step_all t c.events) cs else history_along id t cs
