@@ -1,0 +1,261 @@
+ghost use Rattle.std.specs.Prelude.{◌≡◌, ◌≤◌};
+ghost use Rattle.ktime.specs.Readings.{latest};
+
+use crate::{
+    AcceptAnswer, Arm, Call, Phase, PosixState, Reply, SettimeAnswer, Setting, TriggerAnswer,
+    Wanted, few_entries, one_more_entry, times_of,
+};
+use ktime::{ClockId, Mode, Reading, TimeSpec};
+
+/// A reading in which all clocks show this time.
+fn at(time: u64) -> Reading
+    requires { time ≤ latest }
+    ensures { result ≡ record { stamp = 0; mono = time; real = time; boot = time; changes = 0 } }
+{
+    Reading {
+        stamp: 0,
+        mono: time,
+        real: time,
+        boot: time,
+        changes: 0,
+    }
+}
+
+fn ns(nsec: u64) -> TimeSpec
+    ensures { result ≡ record { sec = 0; nsec = nsec } }
+{
+    TimeSpec { sec: 0, nsec }
+}
+
+#[test]
+fn a_new_timer_is_disarmed(rt: HostRuntime) {
+    let timer = PosixState::make(ClockId::Realtime, 3, 100);
+    assert_eq!(rt; timer.clock(), ClockId::Realtime);
+    assert_eq!(rt; timer.base(), 3);
+    assert_eq!(rt; timer.phase(), Phase::Idle);
+    assert!(rt; !timer.is_pending());
+    assert_eq!(rt; timer.getoverrun(), 0);
+    assert_eq!(rt; timer.stamp(), 0);
+    assert_eq!(rt; timer.limit(), 100);
+    let setting = Setting {
+        left: 0,
+        interval: 0,
+    };
+    assert_eq!(rt; timer.gettime(at(5)), setting);
+}
+
+#[test]
+fn periods_that_passed_before_the_acceptance_are_overruns(rt: HostRuntime) {
+    let mut timer = PosixState::make(ClockId::Monotonic, 0, 100);
+    let wanted = timer.settime_wants(1, ns(100), ns(10), at(0));
+    assert_eq!(rt;
+        wanted,
+        Some(Wanted {
+            mode: Mode::Abs,
+            ns: 100
+        })
+    );
+    let old = timer.settime(1, ns(100), ns(10), at(0), Arm::Armed(1));
+    assert_eq!(rt;
+        old,
+        SettimeAnswer::Old {
+            left: 0,
+            interval: 0
+        }
+    );
+    assert_eq!(rt; timer.trigger(1, at(100)), TriggerAnswer::Counted);
+    let wanted = timer.accept_wants(at(135));
+    assert_eq!(rt;
+        wanted,
+        Some(Wanted {
+            mode: Mode::Keep,
+            ns: 140
+        })
+    );
+    let accepted = timer.accept(at(135), Arm::Armed(4));
+    assert_eq!(rt; accepted, AcceptAnswer::Accepted { overrun: 3 });
+    assert_eq!(rt; timer.accept_wants(at(135)), None);
+    let again = timer.accept(at(135), Arm::NotAsked);
+    assert_eq!(rt; again, AcceptAnswer::NoSignal);
+    assert_eq!(rt; timer.getoverrun(), 3);
+    assert_eq!(rt; timer.stamp(), 4);
+}
+
+#[test]
+fn the_overrun_stops_at_its_greatest_value(rt: HostRuntime) {
+    let mut timer = PosixState::make(ClockId::Monotonic, 0, 100);
+    timer.settime(1, ns(100), ns(1), at(0), Arm::Armed(1));
+    assert_eq!(rt; timer.trigger(1, at(100)), TriggerAnswer::Counted);
+    let late = at(4_294_967_396);
+    let next = 4_294_967_397;
+    assert_eq!(rt;
+        timer.accept_wants(late),
+        Some(Wanted {
+            mode: Mode::Keep,
+            ns: next
+        })
+    );
+    let accepted = timer.accept(late, Arm::Armed(2));
+    assert_eq!(rt;
+        accepted,
+        AcceptAnswer::Accepted {
+            overrun: 2_147_483_647
+        }
+    );
+    let armed = Phase::Armed {
+        generation: 2,
+        clock: ClockId::Monotonic,
+        expires: next,
+    };
+    assert_eq!(rt; timer.phase(), armed);
+}
+
+#[test]
+fn a_timer_whose_expiry_has_come_has_one_nanosecond_left(rt: HostRuntime) {
+    let mut timer = PosixState::make(ClockId::Monotonic, 0, 100);
+    timer.settime(1, ns(100), ns(10), at(0), Arm::Armed(1));
+    assert_eq!(rt;
+        timer.gettime(at(40)),
+        Setting {
+            left: 60,
+            interval: 10
+        }
+    );
+    assert_eq!(rt;
+        timer.gettime(at(130)),
+        Setting {
+            left: 1,
+            interval: 10
+        }
+    );
+    let bad = timer.settime(1, ns(1_000_000_000), ns(0), at(130), Arm::NotAsked);
+    assert_eq!(rt; bad, SettimeAnswer::BadTime);
+    assert_eq!(rt; timer.trigger(2, at(130)), TriggerAnswer::Stale);
+    assert_eq!(rt; timer.trigger(1, at(99)), TriggerAnswer::Stale);
+    assert_eq!(rt; timer.trigger(1, at(130)), TriggerAnswer::Counted);
+    let due = Phase::Due {
+        clock: ClockId::Monotonic,
+        expires: 100,
+    };
+    assert_eq!(rt; timer.phase(), due);
+    assert!(rt; timer.is_pending());
+    assert_eq!(rt;
+        timer.gettime(at(134)),
+        Setting {
+            left: 6,
+            interval: 10
+        }
+    );
+}
+
+#[test]
+fn the_limits_disarm_and_then_refuse(rt: HostRuntime) {
+    let mut timer = PosixState::make(ClockId::Monotonic, 0, 3);
+    let answer = timer.settime(1, ns(100), ns(0), at(0), Arm::Armed(1));
+    assert_eq!(rt;
+        answer,
+        SettimeAnswer::Old {
+            left: 0,
+            interval: 0
+        }
+    );
+    let answer = timer.settime(1, ns(100), ns(0), at(0), Arm::Armed(3));
+    assert_eq!(rt;
+        answer,
+        SettimeAnswer::Old {
+            left: 100,
+            interval: 0
+        }
+    );
+    let answer = timer.settime(1, ns(100), ns(0), at(0), Arm::Unarmed(4));
+    assert_eq!(rt; answer, SettimeAnswer::Unarmed { stamp: 4 });
+    assert_eq!(rt; timer.phase(), Phase::Idle);
+    let answer = timer.settime(1, ns(100), ns(0), at(0), Arm::NotAsked);
+    assert_eq!(rt; answer, SettimeAnswer::Spent { stamp: 3 });
+    assert_eq!(rt;
+        timer.trigger(3, at(100)),
+        TriggerAnswer::Spent { stamp: 3 }
+    );
+    let answer = timer.accept(at(100), Arm::NotAsked);
+    assert_eq!(rt; answer, AcceptAnswer::Spent { stamp: 3 });
+}
+
+#[test]
+fn a_relative_time_of_day_is_kept_on_the_monotonic_clock(rt: HostRuntime) {
+    let mut timer = PosixState::make(ClockId::Realtime, 0, 100);
+    let reading = Reading {
+        stamp: 2,
+        mono: 5,
+        real: 1000,
+        boot: 5,
+        changes: 1,
+    };
+    let times = times_of(0, TimeSpec { sec: 1, nsec: 10 }, ns(7));
+    assert_eq!(rt; times, Ok((1_000_000_010, 7)));
+    assert_eq!(rt;
+        times_of(2, ns(1_000_000_000), ns(0)),
+        Err(SettimeAnswer::BadFlags)
+    );
+    let call = Call::Settime {
+        flags: 0,
+        value: 1_000_000_010,
+        interval: 7,
+        reading,
+        arm: Arm::Armed(1),
+    };
+    let reply = timer.apply(call);
+    let old = SettimeAnswer::Old {
+        left: 0,
+        interval: 0,
+    };
+    assert_eq!(rt; reply, Reply::Settime(old));
+    let armed = Phase::Armed {
+        generation: 1,
+        clock: ClockId::Monotonic,
+        expires: 1_000_000_015,
+    };
+    assert_eq!(rt; timer.phase(), armed);
+    let reply = timer.apply(Call::Trigger {
+        generation: 1,
+        reading: at(1_000_000_015),
+    });
+    assert_eq!(rt; reply, Reply::Trigger(TriggerAnswer::Counted));
+    let reply = timer.apply(Call::Accept {
+        reading: at(1_000_000_015),
+        arm: Arm::Unarmed(8),
+    });
+    assert_eq!(rt; reply, Reply::Accept(AcceptAnswer::Accepted { overrun: 0 }));
+    assert_eq!(rt;
+        timer.gettime(at(1_000_000_015)),
+        Setting {
+            left: 0,
+            interval: 0
+        }
+    );
+    few_entries();
+    one_more_entry();
+}
+
+#[test]
+fn the_value_zero_disarms_and_clears_the_signal(rt: HostRuntime) {
+    let mut timer = PosixState::make(ClockId::Boottime, 0, 100);
+    timer.settime(1, ns(100), ns(10), at(0), Arm::Armed(1));
+    timer.trigger(1, at(150));
+    assert_eq!(rt; timer.settime_wants(0, ns(0), ns(10), at(150)), None);
+    let answer = timer.settime(0, ns(0), ns(10), at(150), Arm::NotAsked);
+    assert_eq!(rt;
+        answer,
+        SettimeAnswer::Old {
+            left: 10,
+            interval: 10
+        }
+    );
+    assert!(rt; !timer.is_pending());
+    assert_eq!(rt;
+        timer.gettime(at(150)),
+        Setting {
+            left: 0,
+            interval: 0
+        }
+    );
+}
