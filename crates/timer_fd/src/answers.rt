@@ -1,0 +1,66 @@
+ghost use Rattle.std.specs.Prelude.{◌≡◌};
+ghost use Rattle.timer_fd.specs.States.{bytes_of};
+
+/// What `timerfd_settime` answers. A time left and an interval are in nanoseconds.
+#[derive(Clone, Copy, Debug, PartialEq, Eq)]
+pub enum SettimeAnswer {
+    /// The setting before the call.
+    Old { left: u64, interval: u64 },
+    /// A flag is neither `TFD_TIMER_ABSTIME` nor `TFD_TIMER_CANCEL_ON_SET` (EINVAL).
+    BadFlags,
+    /// The value or the interval has a second or more of nanoseconds (EINVAL).
+    BadTime,
+    /// The object has as many entries as its limit allows.
+    Spent { stamp: u64 },
+    /// The high-resolution timer has as many entries as its limit allows, so it was not started. The object is disarmed.
+    Unarmed { stamp: u64 },
+    /// The real-time clock was set, or the machine slept, since the last setting or read (ECANCELED). The new setting stands all the same.
+    Canceled,
+}
+
+/// What an expiry of the high-resolution timer does.
+#[derive(Clone, Copy, Debug, PartialEq, Eq)]
+pub enum TriggerAnswer {
+    /// One more expiry can be read.
+    Counted,
+    /// The expiry is of a generation that is armed no more.
+    Stale,
+    /// The object has as many entries as its limit allows.
+    Spent { stamp: u64 },
+}
+
+/// What a read answers.
+#[derive(Clone, Copy, Debug, PartialEq, Eq)]
+pub enum ReadAnswer {
+    /// How often the timer has expired since the last setting or read.
+    Count { total: u64 },
+    /// The buffer has less than 8 bytes (EINVAL).
+    ShortBuffer,
+    /// The object has as many entries as its limit allows.
+    Spent { stamp: u64 },
+    /// The real-time clock was set, or the machine slept, since the last setting or read (ECANCELED).
+    Canceled,
+    /// There is no expiry to read (EAGAIN).
+    Again,
+}
+
+impl ReadAnswer {
+    /// The bytes that a read puts into its buffer: the count, the least byte first.
+    pub fn bytes(&self) -> Option<[u8; 8]>
+        ensures { result ≡ bytes_of self.now }
+    {
+        match self {
+            ReadAnswer::Count { total } => Some(total.to_le_bytes()),
+            _ => None,
+        }
+    }
+}
+
+/// What `timerfd_gettime` answers, both in nanoseconds.
+#[derive(Clone, Copy, Debug, PartialEq, Eq)]
+pub enum GettimeAnswer {
+    /// How long until the next expiry, and the interval.
+    Left { left: u64, interval: u64 },
+    /// The object has as many entries as its limit allows.
+    Spent { stamp: u64 },
+}

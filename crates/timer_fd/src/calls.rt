@@ -1,0 +1,36 @@
+use crate::answers::{GettimeAnswer, ReadAnswer, SettimeAnswer, TriggerAnswer};
+use crate::arming::Arm;
+use ktime::Reading;
+
+/// A call that makes an entry in an object's history. A value and an interval are in nanoseconds.
+#[derive(Clone, Copy, Debug, PartialEq, Eq)]
+pub enum Call {
+    Settime {
+        flags: u64,
+        value: u64,
+        interval: u64,
+        reading: Reading,
+        arm: Arm,
+    },
+    Trigger {
+        generation: u64,
+        reading: Reading,
+    },
+    Read {
+        reading: Reading,
+        arm: Arm,
+    },
+    Gettime {
+        reading: Reading,
+        arm: Arm,
+    },
+}
+
+/// What such a call answers.
+#[derive(Clone, Copy, Debug, PartialEq, Eq)]
+pub enum Reply {
+    Settime(SettimeAnswer),
+    Trigger(TriggerAnswer),
+    Read(ReadAnswer),
+    Gettime(GettimeAnswer),
+}

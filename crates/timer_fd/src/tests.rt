@@ -1,0 +1,269 @@
+ghost use Rattle.std.specs.Prelude.{◌≡◌, ◌≤◌};
+ghost use Rattle.ktime.specs.Readings.{latest};
+
+use crate::{
+    Arm, Call, FdState, GettimeAnswer, Phase, ReadAnswer, Reply, SettimeAnswer, TriggerAnswer,
+    Wanted, few_entries, one_more_entry, times_of,
+};
+use ktime::{ClockId, Mode, Reading, TimeSpec};
+
+/// A reading in which all clocks show this time.
+fn at(time: u64) -> Reading
+    requires { time ≤ latest }
+    ensures { result ≡ record { stamp = 0; mono = time; real = time; boot = time; changes = 0 } }
+{
+    Reading {
+        stamp: 0,
+        mono: time,
+        real: time,
+        boot: time,
+        changes: 0,
+    }
+}
+
+/// A reading in which the real-time clock has been set so often, to this time, and nothing else has happened.
+fn set_to(real: u64, changes: u64) -> Reading
+    requires { real ≤ latest }
+    ensures { result ≡ record { stamp = changes; mono = 0; real = real; boot = 0; changes = changes } }
+{
+    Reading {
+        stamp: changes,
+        mono: 0,
+        real,
+        boot: 0,
+        changes,
+    }
+}
+
+fn ns(nsec: u64) -> TimeSpec
+    ensures { result ≡ record { sec = 0; nsec = nsec } }
+{
+    TimeSpec { sec: 0, nsec }
+}
+
+#[test]
+fn a_new_descriptor_is_disarmed(rt: HostRuntime) {
+    let descriptor = FdState::make(ClockId::Realtime, 3, 100);
+    assert_eq!(rt; descriptor.clock(), ClockId::Realtime);
+    assert_eq!(rt; descriptor.base(), 3);
+    assert_eq!(rt; descriptor.phase(), Phase::Idle);
+    assert_eq!(rt; descriptor.count(), 0);
+    assert_eq!(rt; descriptor.stamp(), 0);
+    assert_eq!(rt; descriptor.limit(), 100);
+    assert!(rt; !descriptor.readable(set_to(50, 1)));
+}
+
+#[test]
+fn a_read_counts_the_periods_that_passed(rt: HostRuntime) {
+    let mut descriptor = FdState::make(ClockId::Monotonic, 0, 100);
+    let wanted = descriptor.settime_wants(1, ns(100), ns(10), at(0));
+    assert_eq!(rt;
+        wanted,
+        Some(Wanted {
+            mode: Mode::Abs,
+            ns: 100
+        })
+    );
+    let old = descriptor.settime(1, ns(100), ns(10), at(0), Arm::Armed(1));
+    assert_eq!(rt;
+        old,
+        SettimeAnswer::Old {
+            left: 0,
+            interval: 0
+        }
+    );
+    assert_eq!(rt; descriptor.trigger(1, at(100)), TriggerAnswer::Counted);
+    assert!(rt; descriptor.readable(at(100)));
+    let wanted = descriptor.read_wants(8, at(135));
+    assert_eq!(rt;
+        wanted,
+        Some(Wanted {
+            mode: Mode::Keep,
+            ns: 140
+        })
+    );
+    let four = descriptor.read(8, at(135), Arm::Armed(4));
+    assert_eq!(rt; four, ReadAnswer::Count { total: 4 });
+    assert_eq!(rt; four.bytes(), Some([4, 0, 0, 0, 0, 0, 0, 0]));
+    let again = descriptor.read(8, at(135), Arm::NotAsked);
+    assert_eq!(rt; again, ReadAnswer::Again);
+    assert_eq!(rt; again.bytes(), None);
+    let short = descriptor.read(7, at(135), Arm::NotAsked);
+    assert_eq!(rt; short, ReadAnswer::ShortBuffer);
+    assert_eq!(rt; descriptor.stamp(), 4);
+}
+
+#[test]
+fn an_overdue_timer_has_nothing_left(rt: HostRuntime) {
+    let mut descriptor = FdState::make(ClockId::Monotonic, 0, 100);
+    descriptor.settime(1, ns(100), ns(10), at(0), Arm::Armed(1));
+    let left = descriptor.gettime(at(130), Arm::NotAsked);
+    assert_eq!(rt;
+        left,
+        GettimeAnswer::Left {
+            left: 0,
+            interval: 10
+        }
+    );
+    assert!(rt; !descriptor.readable(at(130)));
+    assert_eq!(rt; descriptor.stamp(), 2);
+    let bad = descriptor.settime(1, ns(1_000_000_000), ns(0), at(130), Arm::NotAsked);
+    assert_eq!(rt; bad, SettimeAnswer::BadTime);
+}
+
+#[test]
+fn a_gettime_arms_an_expired_timer_again(rt: HostRuntime) {
+    let mut descriptor = FdState::make(ClockId::Boottime, 0, 100);
+    descriptor.settime(0, ns(100), ns(10), at(0), Arm::Armed(1));
+    assert_eq!(rt; descriptor.trigger(2, at(100)), TriggerAnswer::Stale);
+    assert_eq!(rt; descriptor.trigger(1, at(99)), TriggerAnswer::Stale);
+    assert_eq!(rt; descriptor.trigger(1, at(100)), TriggerAnswer::Counted);
+    let expired = Phase::Expired {
+        clock: ClockId::Boottime,
+        expires: 100,
+    };
+    assert_eq!(rt; descriptor.phase(), expired);
+    let wanted = descriptor.gettime_wants(at(125));
+    assert_eq!(rt;
+        wanted,
+        Some(Wanted {
+            mode: Mode::Keep,
+            ns: 130
+        })
+    );
+    let left = descriptor.gettime(at(125), Arm::Unarmed(8));
+    assert_eq!(rt;
+        left,
+        GettimeAnswer::Left {
+            left: 0,
+            interval: 10
+        }
+    );
+    assert_eq!(rt; descriptor.phase(), Phase::Idle);
+    let total = descriptor.read(8, at(125), Arm::NotAsked);
+    assert_eq!(rt; total, ReadAnswer::Count { total: 3 });
+}
+
+#[test]
+fn a_set_clock_cancels(rt: HostRuntime) {
+    let mut descriptor = FdState::make(ClockId::Realtime, 0, 100);
+    descriptor.settime(3, ns(100), ns(0), set_to(0, 0), Arm::Armed(1));
+    let first = descriptor.read(8, set_to(50, 1), Arm::NotAsked);
+    assert_eq!(rt; first, ReadAnswer::Canceled);
+    let second = descriptor.read(8, set_to(50, 1), Arm::NotAsked);
+    assert_eq!(rt; second, ReadAnswer::Again);
+    let third = descriptor.settime(3, ns(200), ns(0), set_to(60, 2), Arm::Armed(3));
+    assert_eq!(rt; third, SettimeAnswer::Canceled);
+    let armed = Phase::Armed {
+        generation: 3,
+        clock: ClockId::Realtime,
+        expires: 200,
+    };
+    assert_eq!(rt; descriptor.phase(), armed);
+    let fourth = descriptor.settime(2, ns(10), ns(0), set_to(60, 2), Arm::Armed(5));
+    assert_eq!(rt;
+        fourth,
+        SettimeAnswer::Old {
+            left: 140,
+            interval: 0
+        }
+    );
+    let fifth = descriptor.read(8, set_to(70, 3), Arm::NotAsked);
+    assert_eq!(rt; fifth, ReadAnswer::Again);
+    let armed = Phase::Armed {
+        generation: 5,
+        clock: ClockId::Monotonic,
+        expires: 10,
+    };
+    assert_eq!(rt; descriptor.phase(), armed);
+}
+
+#[test]
+fn an_expiry_that_the_set_clock_took_back_is_not_counted(rt: HostRuntime) {
+    let mut descriptor = FdState::make(ClockId::Realtime, 0, 100);
+    descriptor.settime(1, ns(1000), ns(100), set_to(1000, 1), Arm::Armed(1));
+    assert_eq!(rt;
+        descriptor.trigger(1, set_to(1000, 1)),
+        TriggerAnswer::Counted
+    );
+    let wanted = descriptor.read_wants(8, set_to(500, 2));
+    assert_eq!(rt;
+        wanted,
+        Some(Wanted {
+            mode: Mode::Keep,
+            ns: 1000
+        })
+    );
+    let again = descriptor.read(8, set_to(500, 2), Arm::Armed(4));
+    assert_eq!(rt; again, ReadAnswer::Again);
+    let armed = Phase::Armed {
+        generation: 4,
+        clock: ClockId::Realtime,
+        expires: 1000,
+    };
+    assert_eq!(rt; descriptor.phase(), armed);
+}
+
+#[test]
+fn a_spent_descriptor_refuses_all_but_a_look(rt: HostRuntime) {
+    let mut descriptor = FdState::make(ClockId::Monotonic, 0, 2);
+    let times = times_of(3, TimeSpec { sec: 1, nsec: 10 }, ns(7));
+    assert_eq!(rt; times, Ok((1_000_000_010, 7)));
+    assert_eq!(rt;
+        times_of(4, ns(1_000_000_000), ns(0)),
+        Err(SettimeAnswer::BadFlags)
+    );
+    let call = Call::Settime {
+        flags: 1,
+        value: 100,
+        interval: 0,
+        reading: at(0),
+        arm: Arm::Armed(1),
+    };
+    let old = SettimeAnswer::Old {
+        left: 0,
+        interval: 0,
+    };
+    assert_eq!(rt; descriptor.apply(call), Reply::Settime(old));
+    let reply = descriptor.apply(Call::Trigger {
+        generation: 1,
+        reading: at(100),
+    });
+    assert_eq!(rt; reply, Reply::Trigger(TriggerAnswer::Counted));
+    let spent = descriptor.read(8, at(100), Arm::NotAsked);
+    assert_eq!(rt; spent, ReadAnswer::Spent { stamp: 2 });
+    assert_eq!(rt; descriptor.gettime_wants(at(100)), None);
+    let spent = descriptor.gettime(at(100), Arm::NotAsked);
+    assert_eq!(rt; spent, GettimeAnswer::Spent { stamp: 2 });
+    assert!(rt; descriptor.readable(at(100)));
+    few_entries();
+    one_more_entry();
+}
+
+#[test]
+fn entries_are_made_by_calls(rt: HostRuntime) {
+    let mut descriptor = FdState::make(ClockId::Monotonic, 0, 10);
+    let call = Call::Settime {
+        flags: 1,
+        value: 100,
+        interval: 0,
+        reading: at(0),
+        arm: Arm::Unarmed(9),
+    };
+    let unarmed = SettimeAnswer::Unarmed { stamp: 9 };
+    assert_eq!(rt; descriptor.apply(call), Reply::Settime(unarmed));
+    let reply = descriptor.apply(Call::Read {
+        reading: at(0),
+        arm: Arm::NotAsked,
+    });
+    assert_eq!(rt; reply, Reply::Read(ReadAnswer::Again));
+    let reply = descriptor.apply(Call::Gettime {
+        reading: at(0),
+        arm: Arm::NotAsked,
+    });
+    let nothing = GettimeAnswer::Left {
+        left: 0,
+        interval: 0,
+    };
+    assert_eq!(rt; reply, Reply::Gettime(nothing));
+}
