@@ -1,0 +1,74 @@
+-- The names of passes: which name a new pass gets, which names a pass answers for, and which passes there are.
+use Rattle.std.specs.Prelude.{◌≡◌, ℕ, ◌+◌, ◌<◌, ◌≤◌, Bool, true, false, ◌==◌, ◌&&◌, List, [], ◌∷◌, ◌++◌}
+use lib.ListN.{get_elem?}
+use mathlib.Core.Option.{some}
+use Rattle.pass_names.specs.declared.Line.{Line}
+use Rattle.pass_names.specs.Counts.{one_if, total, count, without}
+
+-- whether two names are the same
+abbrev pub same : List ℕ → List ℕ → Bool
+same [] [] = true
+same (x ∷ xs) (y ∷ ys) = (x == y) && same xs ys
+same [] (y ∷ ys) = false
+same (x ∷ xs) [] = false
+
+-- how often the name is listed
+abbrev pub times : List ℕ → List (List ℕ) → ℕ
+times name names = count (same name) names
+
+-- the name goes on from another, with this number next
+pub record Extends (other : List ℕ) (next : ℕ) (name : List ℕ) : Type 0 where
+  pub rest : List ℕ
+  pub whole : name ≡ other ++ next ∷ rest
+
+-- the first pass: no name, and nothing split off
+abbrev pub first_line : Line
+first_line = record { live = true; name = []; made = 0; split = [] }
+
+-- what is left where a pass was taken in
+abbrev pub gone_line : Line
+gone_line = record { live = false; name = []; made = 0; split = [] }
+
+-- the name of the next pass that is split off
+abbrev pub next_name : Line → List ℕ
+next_name l = l.name ++ (l.made + 1) ∷ []
+
+-- the pass that is split off next
+abbrev pub child_of : Line → Line
+child_of l = record { live = true; name = next_name l; made = 0; split = [] }
+
+-- the pass after it has split one off
+abbrev pub after_split : Line → Line
+after_split l = record l { made = l.made + 1; split = l.split ++ next_name l ∷ [] }
+
+-- the pass after it has taken in another, for which it answered
+abbrev pub after_retire : Line → Line → Line
+after_retire l other = record l { split = without (same other.name) l.split ++ other.split }
+
+-- the pass answers for the other
+abbrev pub AnswersFor : Line → Line → Type 0
+AnswersFor l other = 0 < times other.name l.split
+
+-- the first pass, when it answers for no other
+pub record IsLast (l : Line) : Type 0 where
+  pub first : l.name ≡ []
+  pub alone : l.split ≡ []
+
+-- how often the name is listed by all passes
+abbrev pub listed : List ℕ → List Line → ℕ
+listed name lines = total (λ l. times name l.split) lines
+
+-- how many passes bear the name
+abbrev pub named : List ℕ → List Line → ℕ
+named name lines = total (λ l. one_if (l.live && same name l.name)) lines
+
+-- The passes that there are are the first one and those that are listed, each once.
+pub record Tree (lines : List Line) : Type 0 where
+  -- each name is listed as often as a pass bears it, but the first pass's, which is not listed
+  pub each : (name : List ℕ) → listed name lines + one_if (same name []) ≡ named name lines
+  pub once : (name : List ℕ) → named name lines ≤ 1
+  -- a listed name goes on from the name of the pass that lists it
+  pub longer : (j : ℕ) (l : Line) (name : List ℕ) → get_elem? lines j ≡ some l → 0 < times name l.split → (k : ℕ) × Extends l.name k name
+  -- where a pass's name goes on from another pass's, the next number is one that was given out
+  pub fresh : (j : ℕ) (l : Line) (k : ℕ) (name : List ℕ) → get_elem? lines j ≡ some l → l.live ≡ true → 0 < named name lines → Extends l.name k name → k ≤ l.made
+  pub dead : (j : ℕ) (l : Line) → get_elem? lines j ≡ some l → l.live ≡ false → l.split ≡ []
