@@ -1,0 +1,114 @@
+-- The rule holds of a new row: every lock is free and every history is empty.
+use Rattle.std.proofs.Common.{◌≡◌, ℕ, zero, suc, ◌+◌, ◌<◌, List, [], ◌∷◌, length, map, replicate, refl, ap, sym, ◌∙◌, subst, arith}
+use Rattle.std.specs.Prelude.{slice_index, Option, Some, None, All}
+use Rattle.std.proofs.lemmas.Bool.Decides.{nat_tests}
+use Rattle.std.proofs.lemmas.List.{length-replicate, length-map, get_or-replicate}
+use mathlib.Core.Option.{some, some-injective, some-ne-none}
+use lib.ListN.{get_elem?}
+use Rattle.atomic_table.specs.Table.{opening}
+use Rattle.pass_names.specs.Counts.{one_if}
+use Rattle.pass_names.specs.Names.{times}
+use Rattle.pass_names.specs.Passes.{entries, within}
+use Rattle.pass_names.proofs.Names.{first_tree}
+use Rattle.pass_names.proofs.Passes.{goes_nil, goes_refl, entries_replicate}
+use Rattle.counted_row.specs.declared.view.Entry.{Entry}
+use Rattle.counted_row.specs.declared.view.Locked.{Locked}
+use Rattle.counted_row.specs.declared.view.View.{View}
+use Rattle.counted_row.specs.Meaning.{Meaning}
+use Rattle.counted_row.specs.Views.{StateAfter, first_view}
+use Rattle.counted_row.specs.Rules.{Cell, Fits, Home}
+
+value_at : {A : Type 0} (xs : List A) (i : ℕ) → i < length xs → (x : A) × (get_elem? xs i ≡ some x)
+value_at [] i h = absurd (omega arith)
+value_at (x ∷ xs) zero h = (x, refl)
+value_at (x ∷ xs) (suc i) h = value_at xs i (omega arith)
+
+slot_at : {A : Type 0} (xs : List A) (i : ℕ) (x : A) → get_elem? xs i ≡ some x → get_elem? (map some (map Some xs)) i ≡ some (some (Some x))
+slot_at [] i x e = absurd (some-ne-none x (sym e))
+slot_at (y ∷ ys) zero x e = ap (λ z. some (some (Some z))) (some-injective y x e)
+slot_at (y ∷ ys) (suc i) x e = slot_at ys i x e
+
+word_at : (n i : ℕ) → i < n + 1 → slice_index (replicate (n + 1) 0) i ≡ 0
+word_at n i h = get_or-replicate (n + 1) i 0 0 h
+
+module _ {S C R : Type 0} (m : Meaning S C R) (made : List S) where
+  abbrev first : View S C R
+  first = first_view made
+
+  abbrev logs : List (List (Entry C R))
+  logs = replicate (length made) []
+
+  abbrev holders : List ℕ
+  holders = replicate (length made) 0
+
+  empty : (i : ℕ) → length (entries i logs) ≡ 0
+  empty i = ap length (entries_replicate (length made) i)
+
+  fits_first : (j : ℕ) → Fits m made logs holders j first
+  fits_first j = record {
+    opening = λ live. refl;
+    wide = λ live. length-replicate (length made) [];
+    seen = goes_refl logs;
+    heard = goes_nil logs;
+    held = λ h e. absurd (no_lock h e);
+    mine = λ i k some_one. absurd (omega arith);
+    claims = λ i name log x has a b c after. absurd (omega arith);
+    gone = λ off. (refl, refl);
+  }
+    where
+      no_lock : (h : Locked S) → None ≡ Some h → ⊥
+      no_lock h e = cc
+
+  start : (i : ℕ) (x : S) → get_elem? made i ≡ some x → StateAfter m made i (entries i logs) x
+  start i x at = subst (λ l. StateAfter m made i l x) (sym (entries_replicate (length made) i)) (record { from = x; at = at; leads = refl })
+
+  cell : (i : ℕ) → i < length made → Cell m made i (entries i logs) (get_elem? (map some (map Some made)) i) (slice_index (replicate (length made + 1) 0) (i + 1)) (slice_index holders i)
+  cell i h =
+      let x = value_at made i h in
+      record {
+        state = x.0;
+        after = start i x.0 x.1;
+        short = omega (arith, empty i);
+        free = λ e. (omega (arith, word_at (length made) (i + 1) (omega arith), empty i), slot_at made i x.0 x.1);
+        taken = λ n. absurd (n (get_or-replicate (length made) i 0 0 h));
+      }
+
+  no_entry : (i k : ℕ) → one_if (within k (length (entries i logs))) ≡ 0
+  no_entry i k = ap (λ n. one_if (within k n)) (empty i) ∙ none k
+    where
+      none : (k : ℕ) → one_if (within k 0) ≡ 0
+      none k = grind (arith, nat_tests)
+
+  pub opens_home : ((i : ℕ) (x : S) → get_elem? made i ≡ some x → m.claims x ≡ []) → Home m made (opening (replicate (length made + 1) 0) (map Some made) first)
+  opens_home unclaimed = record {
+    logs = logs;
+    holders = holders;
+    words_len = length-replicate (length made + 1) 0;
+    homes_len = length-map (map Some made) some ∙ length-map made Some;
+    logs_len = length-replicate (length made) [];
+    holders_len = length-replicate (length made) 0;
+    each_cell = cell;
+    each_view = λ j v e. here j v e;
+    tree = first_tree;
+    tally = λ i k. omega (arith, no_entry i k);
+    claims = λ i name x after. omega (arith, no_claim i name x after);
+  }
+    where
+      here : (j : ℕ) (v : View S C R) → get_elem? (first ∷ []) j ≡ some v → Fits m made logs holders j v
+      here zero v e = subst (λ w. Fits m made logs holders 0 w) (some-injective first v e) (fits_first 0)
+      here (suc j) v e = absurd (some-ne-none v (sym e))
+
+      no_claim : (i : ℕ) (name : List ℕ) (x : S) → StateAfter m made i (entries i logs) x → times name (m.claims x) ≡ 0
+      no_claim i name x after =
+          let begins : StateAfter m made i [] x = subst (λ l. StateAfter m made i l x) (entries_replicate (length made) i) after in
+          ap (times name) (ap m.claims begins.leads ∙ unclaimed i begins.from begins.at)
+
+  all_at : (P : S → Type 0) (xs : List S) → All P xs → (i : ℕ) (x : S) → get_elem? xs i ≡ some x → P x
+  all_at P [] all i x e = absurd (some-ne-none x (sym e))
+  all_at P (y ∷ ys) all zero x e = subst P (some-injective y x e) (all 0 y (omega arith))
+  all_at P (y ∷ ys) all (suc i) x e = all_at P ys (λ k d h. all (suc k) d (omega arith)) i x e
+
+  pub opens : (words : List ℕ) (slots : List (Option S)) → All (λ x. m.claims x ≡ []) made → words ≡ replicate (length made + 1) 0 → slots ≡ map Some made → Home m made (opening words slots first)
+  opens words slots unclaimed is_words is_slots =
+      subst (λ ws. Home m made (opening ws slots first)) (sym is_words)
+      (subst (λ ss. Home m made (opening (replicate (length made + 1) 0) ss first)) (sym is_slots) (opens_home (λ i x e. all_at (λ y. m.claims y ≡ []) made unclaimed i x e)))

@@ -1,0 +1,14 @@
+use Rattle.counted_row.proofs.Splitting.{joins}
+use Rattle.counted_row.proofs.steps.absorb.Goals as goal
+
+pub join_seat-requires : goal.join_seat-requires
+join_seat-requires g c =
+    let seat = c.args.main.now in
+    let main = c.requires.main in
+    let other = c.requires.other in (
+      c.requires.same.0,
+      c.requires.same.1,
+      other.2,
+      c.requires.words,
+      joins g.O.Object.meaning c.args.cells.now.key.value.items seat.id c.args.other.id seat.me.0 c.args.other.me.0 main.0 other.0 main.1 other.1 main.2 c.requires.answers,
+    )

@@ -1,0 +1,44 @@
+-- What an object's calls mean.
+use Rattle.std.specs.Prelude.{◌≡◌, ℕ, ◌+◌, List, [], ◌∷◌}
+use Rattle.pass_names.specs.Counts.{one_if}
+use Rattle.pass_names.specs.Names.{same, times}
+use Rattle.counted_row.specs.declared.view.Entry.{Entry}
+
+-- what a call does to claims, each of which is named by numbers
+pub data Effect : Type 0 where
+  plain : Effect
+  opens : List ℕ → Effect
+  uses : List ℕ → Effect
+  ends : List ℕ → Effect
+
+-- of a state and a call: whether it may be made, the state after it, its reply, and what it does to claims; and the open claims of a state
+pub record Meaning (S C R : Type 0) : Type 1 where
+  pub may : S → C → Type 0
+  pub next : S → C → S
+  pub reply : S → C → R
+  pub claims : S → List (List ℕ)
+  pub effect : S → C → Effect
+
+-- how often the claim is opened
+abbrev pub opened : List ℕ → Effect → ℕ
+opened name plain = 0
+opened name (opens claim) = one_if (same name claim)
+opened name (uses claim) = 0
+opened name (ends claim) = 0
+
+-- how often the claim is ended
+abbrev pub ended : List ℕ → Effect → ℕ
+ended name plain = 0
+ended name (opens claim) = 0
+ended name (uses claim) = 0
+ended name (ends claim) = one_if (same name claim)
+
+module _ {S C R : Type 0} where
+  -- a call opens and ends the claims that its effect says, and no others
+  abbrev pub Counts : Meaning S C R → Type 0
+  Counts m = (s : S) (c : C) (name : List ℕ) → m.may s c → times name (m.claims (m.next s c)) + ended name (m.effect s c) ≡ times name (m.claims s) + opened name (m.effect s c)
+
+  -- from the first state the calls of the history may be made in turn, with these replies, and lead to the second
+  abbrev pub Leads : Meaning S C R → S → List (Entry C R) → S → Type 0
+  Leads m x [] y = y ≡ x
+  Leads m x (e ∷ es) y = m.may x e.call × (e.reply ≡ m.reply x e.call) × Leads m (m.next x e.call) es y
