@@ -1,0 +1,46 @@
+-- What a gate's calls mean.
+use Rattle.std.specs.Prelude.{◌≡◌, ℕ, ◌+◌, ◌^◌, ◌<◌, Bool, true, false, List, [], ◌∷◌}
+use Rattle.std.proofs.Common.{subst, sym, ◌∙◌}
+use Rattle.std.proofs.Math.Nat.{add-zero, zero-add}
+use Rattle.pass_names.specs.Counts.{one_if}
+use Rattle.pass_names.specs.Names.{same, times}
+use Rattle.counted_row.specs.Meaning.{Meaning, Effect, Counts, opens, ends}
+use Rattle.counted_row_uses.specs.declared.gate.Gate.{Gate}
+use Rattle.counted_row_uses.specs.declared.gate.Turn.{Turn}
+use Rattle.counted_row_uses.specs.declared.gate.Turn.TheVariants.{Enter, Leave}
+
+-- one may enter while nobody is inside, and leave while somebody is
+abbrev pub may_turn : Gate → Turn → Type 0
+may_turn s Enter = (s.inside ≡ false) × (s.entries + 1 < 2 ^ 64)
+may_turn s Leave = s.inside ≡ true
+
+abbrev pub turned_gate : Gate → Turn → Gate
+turned_gate s Enter = record { inside = true; entries = s.entries + 1 }
+turned_gate s Leave = record { inside = false; entries = s.entries }
+
+-- who is inside has the claim of the last entry
+abbrev pub claims_of : Bool → ℕ → List (List ℕ)
+claims_of true n = (n ∷ []) ∷ []
+claims_of false n = []
+
+abbrev pub effect_of : Gate → Turn → Effect
+effect_of s Enter = opens ((s.entries + 1) ∷ [])
+effect_of s Leave = ends (s.entries ∷ [])
+
+abbrev pub gating : Meaning Gate Turn ℕ
+gating = record {
+  may = may_turn;
+  next = turned_gate;
+  reply = λ s c. (turned_gate s c).entries;
+  claims = λ s. claims_of s.inside s.entries;
+  effect = effect_of;
+}
+
+-- each entry opens one claim, and each leave ends it
+pub gating_counts : Counts gating
+gating_counts s Enter name may =
+    let one : ℕ = one_if (same name ((s.entries + 1) ∷ [])) in
+    subst (λ b. (one + 0) + 0 ≡ times name (claims_of b s.entries) + one) (sym may.0) (add-zero (one + 0) ∙ (add-zero one ∙ sym (zero-add one)))
+gating_counts s Leave name may =
+    let one : ℕ = one_if (same name (s.entries ∷ [])) in
+    subst (λ b. 0 + one ≡ times name (claims_of b s.entries) + 0) (sym may) (zero-add one ∙ (sym (add-zero one) ∙ sym (add-zero (one + 0))))

@@ -1,0 +1,97 @@
+ghost use Rattle.std.specs.Prelude.{◌≡◌, ℕ, ◌<◌, [], ◌∷◌, None, length, IfSome, MatchBool};
+ghost use Rattle.counted_row.specs.Views.{IsPassOf, HasClaim, is_claim};
+ghost use Rattle.pass_names.specs.Counts.{without};
+
+use counted_row::{Object, Row, RowPass};
+use std::sync::Wait;
+
+/// The last stamp at which a call may be made.
+const LAST_STAMP: u64 = (1 << 48) - 1;
+
+/// A gate that one at a time may be inside of. Who enters gets a claim, which leaving ends.
+#[derive(Clone, Copy, Debug, PartialEq, Eq)]
+pub struct Gate {
+    pub inside: bool,
+    pub entries: u64,
+}
+
+#[derive(Clone, Copy, Debug, PartialEq, Eq)]
+pub enum Turn {
+    Enter,
+    Leave,
+}
+
+impl Object for Gate {
+    type Call = Turn;
+
+    type Reply = u64;
+
+    ghost use Rattle.counted_row_uses.specs.Gates.{gating, gating_counts};
+
+    ghost meaning = { gating };
+
+    fn apply(&mut self, call: &Turn) -> u64 {
+        match *call {
+            Turn::Enter => {
+                self.inside = true;
+                self.entries += 1;
+            }
+            Turn::Leave => self.inside = false,
+        }
+        self.entries
+    }
+
+    ghost counts = { gating_counts };
+}
+
+/// Enters if nobody is inside, and answers the number of the entry, which names the claim.
+pub fn enter<R: Wait>(
+    rt: &R,
+    row: &Row<Gate>,
+    pass: &mut RowPass<Gate>,
+    index: usize,
+) -> Option<u64>
+    requires row { IsPassOf row.now pass.old }
+    requires within { index < length row.now.made }
+    requires idle { pass.old.knows.held ≡ None }
+    ensures row { IsPassOf row.now pass.new }
+    ensures idle { pass.new.knows.held ≡ None }
+    ensures claim { IfSome result (λ n. HasClaim index (n ∷ []) pass.new.knows.claims) }
+{
+    let held = row.lock(rt, pass, index);
+    let gate = *held.state();
+    if gate.inside || gate.entries == u64::MAX || held.stamp() > LAST_STAMP {
+        row.release(pass, held);
+        None
+    } else {
+        let (_, number) = row.commit(pass, held, Turn::Enter);
+        Some(number)
+    }
+}
+
+/// Leaves, unless the history is full. The claim is that of the pass's own entry.
+pub fn leave<R: Wait>(
+    rt: &R,
+    row: &Row<Gate>,
+    pass: &mut RowPass<Gate>,
+    index: usize,
+    number: u64,
+) -> bool
+    requires row { IsPassOf row.now pass.old }
+    requires within { index < length row.now.made }
+    requires idle { pass.old.knows.held ≡ None }
+    requires claim { HasClaim index (number ∷ []) pass.old.knows.claims }
+    ensures row { IsPassOf row.now pass.new }
+    ensures idle { pass.new.knows.held ≡ None }
+    ensures claim { MatchBool result
+        (pass.new.knows.claims ≡ without (is_claim index (number ∷ [])) pass.old.knows.claims)
+        (pass.new.knows.claims ≡ pass.old.knows.claims) }
+{
+    let held = row.lock(rt, pass, index);
+    if held.stamp() > LAST_STAMP {
+        row.release(pass, held);
+        return false;
+    }
+    row.commit(pass, held, Turn::Leave);
+    true
+}
