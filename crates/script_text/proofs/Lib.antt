@@ -1,0 +1,12 @@
+pub mod Cutting
+pub mod Each
+pub mod Forms
+pub mod Laws
+pub mod Lines
+pub mod Numbers
+pub mod RecordTexts
+pub mod Scripts
+pub mod Sections
+pub mod Spelling
+pub mod Texts
+pub mod Words

@@ -1,0 +1,86 @@
+-- The histories that a record tells: the clock's readings, and each timer's entries with the state after each number of them.
+use Rattle.std.specs.Prelude.{ℕ, ◌≡◌, ◌+◌, List, [], ◌∷◌, map, take, get_or}
+use Rattle.ktime.specs.Readings.{ClockReading}
+use Rattle.ktime.specs.declared.clock_id.ClockId.{ClockId}
+use Rattle.ktime.specs.declared.clock_id.ClockId.TheVariants as clocks
+use Rattle.clock_model.specs.Clocks.{at_stamp, after_write, clock_after, IsAccepted}
+use Rattle.seq_timer.specs.declared.event.Event.TheVariants as events
+use Rattle.seq_timer.specs.declared.event.Reply.TheVariants as replies
+use Rattle.seq_timer.specs.declared.event.Rearmed.{Rearmed}
+use Rattle.seq_timer.specs.declared.event.Rearmed.TheVariants as rearmings
+use Rattle.seq_timer.specs.Steps.{Timer}
+use Rattle.seq_timer.specs.Histories as histories
+use Rattle.script_text.specs.declared.script.Script.{Script}
+use Rattle.script_text.specs.declared.record.Label.{Label}
+use Rattle.script_text.specs.declared.record.ClockLine.{ClockLine}
+use Rattle.script_text.specs.declared.record.Restart.{Restart}
+use Rattle.script_text.specs.declared.record.Restart.TheVariants as restarts
+use Rattle.script_text.specs.declared.record.Entry.{Entry}
+use Rattle.script_text.specs.declared.record.Entry.TheVariants as entries
+use Rattle.script_text.specs.declared.record.TimerLine.{TimerLine}
+use Rattle.script_text.specs.declared.record.RunRecord.{RunRecord}
+
+-- a line of the clock shows this reading
+pub record Shows (line : ClockLine) (reading : ClockReading) : Type 0 where
+  pub mono : line.mono ≡ reading.mono
+  pub real : line.real ≡ reading.real
+  pub boot : line.boot ≡ reading.boot
+  pub changes : line.changes ≡ reading.changes
+
+-- from this reading on, each line is a write that the clock takes, and shows the reading after it
+abbrev pub AreWrites : ClockReading → List ClockLine → Type 0
+AreWrites reading [] = Unit
+AreWrites reading (line ∷ lines) =
+    IsAccepted reading line.write × Shows line (after_write reading line.write) × AreWrites (after_write reading line.write) lines
+
+-- the reading that is named by a stamp: the one after so many of the record's writes
+abbrev pub reading_at : List ClockLine → ℕ → ClockReading
+reading_at lines stamp = clock_after (at_stamp 0) (map (λ line. line.write) (take stamp lines))
+
+-- the labels along the clock's writes
+abbrev pub clock_labels : RunRecord → List Label
+clock_labels r = map (λ line. line.label) r.clock
+
+-- a timer's lines; none for a timer that isn't there
+abbrev pub lines_of : RunRecord → ℕ → List TimerLine
+lines_of r timer = get_or r.timers timer []
+
+-- the labels along a timer's entries
+abbrev pub timer_labels : RunRecord → ℕ → List Label
+timer_labels r timer = map (λ line. line.label) (lines_of r timer)
+
+-- what a finish answered, where so many entries stand before it
+abbrev pub rearmed_as : ℕ → Restart → Rearmed
+rearmed_as stamp restarts.None = rearmings.No
+rearmed_as stamp (restarts.Again generation) = rearmings.Again generation
+rearmed_as stamp restarts.Spent = rearmings.Spent stamp
+
+-- the entry of a history that a line shows, with the readings that its stamps name
+abbrev pub shown : List ClockLine → ℕ → Entry → histories.Entry
+shown clock stamp (entries.Out base was_armed) = record { event = events.Out base; reply = replies.Out was_armed }
+shown clock stamp (entries.Start mode ns reading asked base on expires was_armed) =
+    record { event = events.Start mode ns (reading_at clock reading) asked; reply = replies.Start base on expires was_armed }
+shown clock stamp (entries.Cancel generation) = record { event = events.Cancel; reply = replies.Cancel generation }
+shown clock stamp (entries.Claim base reading generation) =
+    record { event = events.Claim base (reading_at clock reading); reply = replies.Claim generation }
+shown clock stamp (entries.Forward reading interval count expires) =
+    record { event = events.Forward (reading_at clock reading) interval; reply = replies.Forward count expires }
+shown clock stamp (entries.Finish restart generation rearmed) =
+    record { event = events.Finish restart; reply = replies.Finish generation (rearmed_as stamp rearmed) }
+
+-- the history that lines show, where so many entries stand before them
+abbrev pub history_from : List ClockLine → ℕ → List TimerLine → List histories.Entry
+history_from clock stamp [] = []
+history_from clock stamp (line ∷ lines) = shown clock stamp line.entry ∷ history_from clock (stamp + 1) lines
+
+-- a timer's history
+abbrev pub history_of : RunRecord → ℕ → List histories.Entry
+history_of r timer = history_from r.clock 0 (lines_of r timer)
+
+-- the clock that a timer is declared on
+abbrev pub clock_of : Script → ℕ → ClockId
+clock_of s timer = get_or (map (λ d. d.clock) s.timers) timer clocks.Monotonic
+
+-- a timer after its first so many entries
+abbrev pub timer_after : Script → RunRecord → ℕ → ℕ → Timer
+timer_after s r timer stamp = histories.state_after (clock_of s timer) s.limit (take stamp (history_of r timer))

@@ -1,0 +1,13 @@
+pub mod Words
+pub mod Grammar
+pub mod Scripts
+pub mod Reading
+pub mod Refusals
+pub mod Text
+pub mod Numbers
+pub mod Order
+pub mod Histories
+pub mod Dids
+pub mod Calls
+pub mod Passes
+pub mod Fits

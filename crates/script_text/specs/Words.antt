@@ -1,0 +1,18 @@
+-- The words that scripts and records share.
+use Rattle.std.specs.Prelude.{ℕ, List, codes}
+use Rattle.ktime.specs.declared.clock_id.ClockId.{ClockId}
+use Rattle.ktime.specs.declared.clock_id.ClockId.TheVariants as clocks
+use Rattle.ktime.specs.declared.mode.Mode.{Mode}
+use Rattle.ktime.specs.declared.mode.Mode.TheVariants as modes
+
+-- the name of a clock
+abbrev pub clock_word : ClockId → List ℕ
+clock_word clocks.Monotonic = codes "monotonic"
+clock_word clocks.Realtime = codes "realtime"
+clock_word clocks.Boottime = codes "boottime"
+
+-- the name of a mode of starting
+abbrev pub mode_word : Mode → List ℕ
+mode_word modes.Abs = codes "abs"
+mode_word modes.Rel = codes "rel"
+mode_word modes.Keep = codes "keep"

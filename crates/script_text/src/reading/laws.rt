@@ -1,0 +1,17 @@
+ghost use Rattle.std.specs.Prelude.{◌≡◌, ℕ, List, ◌⊎◌};
+ghost use Rattle.script_text.specs.Scripts.{Reads};
+ghost use Rattle.script_text.specs.Refusals.{IsRefused};
+ghost use Rattle.script_text.specs.declared.refusal.Refused.{Refused};
+ghost use Rattle.script_text.specs.declared.script.Script.{Script};
+
+/// Bytes are read as one script at most.
+pub fn at_most_one_script_is_read()
+    ensures { (bytes : List ℕ) → (s t : Script) → Reads bytes s → Reads bytes t → s ≡ t }
+{}
+
+/// Bytes are read as a script, or they are refused in one way, and not both.
+pub fn bytes_are_read_or_refused()
+    ensures either { (bytes : List ℕ) → ((s : Script) × Reads bytes s) ⊎ ((r : Refused) × IsRefused bytes r) }
+    ensures never_both { (bytes : List ℕ) → (s : Script) → (r : Refused) → Reads bytes s → IsRefused bytes r → ⊥ }
+    ensures one_refusal { (bytes : List ℕ) → (q r : Refused) → IsRefused bytes q → IsRefused bytes r → q ≡ r }
+{}

@@ -1,0 +1,71 @@
+use crate::items::Items;
+use clock_model::Write;
+use ktime::{ClockId, Mode};
+
+/// What a timer's callback does when it runs.
+#[derive(Clone, Copy, Debug, PartialEq, Eq)]
+pub enum Callback {
+    /// Nothing, and asks for no restart.
+    Once,
+    /// Forwards the timer by so many nanoseconds, by the reading of its pass, and asks for a restart.
+    Every { interval: u64 },
+    /// Tries to cancel the timer, and asks for no restart.
+    Cancels,
+    /// Starts the timer so many nanoseconds after the reading of its pass, and asks for a restart.
+    Starts { ns: u64, base: u32 },
+}
+
+/// A timer of a script: the clock that it is declared on, and its callback.
+#[derive(Clone, Copy, Debug, PartialEq, Eq)]
+pub struct Declaration {
+    pub clock: ClockId,
+    pub callback: Callback,
+}
+
+/// What one call line asks for.
+#[derive(Clone, Copy, Debug, PartialEq, Eq)]
+pub enum Call {
+    Start {
+        timer: u32,
+        mode: Mode,
+        ns: u64,
+        base: u32,
+    },
+    Cancel {
+        timer: u32,
+    },
+    Peek {
+        timer: u32,
+    },
+    Expire {
+        base: u32,
+        budget: u64,
+    },
+    Clock {
+        write: Write,
+    },
+}
+
+/// A call line: the lane that makes the call, and the call.
+#[derive(Clone, Copy, Debug, PartialEq, Eq)]
+pub struct LaneCall {
+    pub lane: u32,
+    pub call: Call,
+}
+
+/// The call lines of one round, in their order.
+#[derive(Drop)]
+pub struct Round {
+    pub calls: Items<LaneCall>,
+}
+
+/// A script: how many bases and lanes there are, how many entries a timer's history may have
+/// before a start is refused, the timers, and the rounds of calls.
+#[derive(Drop)]
+pub struct Script {
+    pub bases: u32,
+    pub lanes: u32,
+    pub limit: u64,
+    pub timers: Items<Declaration>,
+    pub rounds: Items<Round>,
+}
