@@ -1,0 +1,9 @@
+pub mod Progress
+pub mod Turns
+pub mod Runs
+pub mod Streams
+pub mod Transfer
+pub mod Status
+pub mod Command
+pub mod Engine
+pub mod Top

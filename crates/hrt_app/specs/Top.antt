@@ -1,0 +1,50 @@
+-- What each outcome of the program says of what was read and written.
+use Rattle.std.specs.Prelude.{◌≡◌, ◌⊎◌, ℕ, List, Some, None, IfSome, ⊤}
+use Rattle.std.specs.declared.option.Option.{Option}
+use Rattle.std.specs.Io.KnownBytes.{IsAtEnd}
+use Rattle.hrt_app.specs.Streams.{Adds}
+use Rattle.hrt_app.specs.Transfer.{IsRead, AddsPrefix}
+use Rattle.hrt_app.specs.Engine.{HasForm, IsRecordText, IsAnswerText, refusal_text}
+use Rattle.hrt_app.specs.declared.command.Asked.{Asked}
+use Rattle.hrt_app.specs.declared.command.Asked.TheVariants.{Run}
+use Rattle.hrt_app.specs.declared.status.Status.{Status}
+use Rattle.hrt_app.specs.declared.status.Status.TheVariants as statuses
+
+-- what the words asked for, by the outcome
+abbrev pub IsAskedFor : Option Asked → Status → Type 0
+IsAskedFor asked statuses.Ok = asked ≡ Some Run
+IsAskedFor asked statuses.Usage = asked ≡ None
+IsAskedFor asked statuses.Refused = asked ≡ Some Run
+IsAskedFor asked statuses.ReadFault = asked ≡ Some Run
+IsAskedFor asked statuses.WriteFault = asked ≡ Some Run
+IsAskedFor asked statuses.OutOfMemory = ⊤
+
+-- a script was read to the source's end, and the text of a record that fits it was written
+pub record HasRecorded (left left_now taken taken_now : Option (List ℕ)) : Type 0 where
+  pub bytes : List ℕ
+  pub text : List ℕ
+  pub all : IfSome left (λ told. bytes ≡ told)
+  pub end : IsAtEnd left_now
+  pub form : HasForm bytes
+  pub fits : IsRecordText bytes text
+  pub written : Adds taken taken_now text
+
+-- bytes that are no script were read, and their refusal was written
+pub record HasRefused (left left_now taken taken_now : Option (List ℕ)) : Type 0 where
+  pub bytes : List ℕ
+  pub read : IsRead left left_now bytes
+  pub form : HasForm bytes → ⊥
+  pub written : Adds taken taken_now refusal_text
+
+-- bytes were read, and a prefix of the text that answers them was written
+pub record HasStopped (left left_now taken taken_now : Option (List ℕ)) : Type 0 where
+  pub bytes : List ℕ
+  pub text : List ℕ
+  pub read : IsRead left left_now bytes
+  pub answer : IsAnswerText bytes text
+  pub written : AddsPrefix taken taken_now text
+
+-- the outcomes that stand to bytes where neither stream fails
+pub record MustAnswer (bytes : List ℕ) (status : Status) : Type 0 where
+  pub script : HasForm bytes → (status ≡ statuses.Ok) ⊎ (status ≡ statuses.OutOfMemory)
+  pub other : (HasForm bytes → ⊥) → (status ≡ statuses.Refused) ⊎ (status ≡ statuses.OutOfMemory)

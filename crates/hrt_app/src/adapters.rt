@@ -1,0 +1,140 @@
+//! The streams of std as a source and a sink. Standard input and output tell nothing of their bytes.
+ghost use Rattle.std.specs.Prelude.{◌≡◌, ◌<◌, length, take, None, IfOk, OnErr};
+ghost use Rattle.std.specs.Io.{WritesAtMost};
+ghost use Rattle.std.specs.Io.KnownBytes.{Appends, Keeps};
+ghost use Rattle.hrt_app.specs.Streams.{HasCause};
+
+use crate::stream::{Failed, Sink, Source};
+use std::io::{Read, Write};
+
+/// A reader of std, with a count of its errors.
+#[derive(Drop)]
+pub struct Reading<R> {
+    inner: R,
+    faults: u64,
+}
+
+impl<R: Read> Reading<R> {
+    /// The reader as a source that hasn't failed yet.
+    pub fn new(inner: R) -> Self
+        ensures inner { result.inner ≡ inner }
+        ensures faults { result.faults ≡ 0 }
+    {
+        Reading { inner, faults: 0 }
+    }
+}
+
+impl<R: Read> Source for Reading<R> {
+    ghost left = { λ s. R.remaining s.inner };
+
+    ghost faults = { λ s. s.faults };
+
+    fn read(&mut self, buf: &mut [u8]) -> Result<usize, Failed> {
+        match self.inner.read(buf) {
+            Ok(count) => Ok(count),
+            Err(_) => {
+                self.faults = self.faults.saturating_add(1);
+                Err(Failed)
+            }
+        }
+    }
+}
+
+/// A writer of std, with a count of its errors and of the writes that took nothing.
+#[derive(Drop)]
+pub struct Writing<W> {
+    inner: W,
+    faults: u64,
+}
+
+impl<W: Write> Writing<W> {
+    /// The writer as a sink that hasn't failed yet.
+    pub fn new(inner: W) -> Self
+        ensures inner { result.inner ≡ inner }
+        ensures faults { result.faults ≡ 0 }
+    {
+        Writing { inner, faults: 0 }
+    }
+}
+
+impl<W: Write> Sink for Writing<W> {
+    ghost taken = { λ _. None };
+
+    ghost faults = { λ s. s.faults };
+
+    fn write(&mut self, piece: &[u8]) -> Result<usize, Failed>
+        ensures bound { WritesAtMost result piece.now }
+        ensures some { 0 < length piece.now → IfOk result (λ n. 0 < n) }
+        ensures inner { IfOk result (λ n. Appends (W.contents self.old.inner) (W.contents self.new.inner) (take n piece.now)) }
+        ensures inner_kept { OnErr result (Keeps (W.contents self.old.inner) (W.contents self.new.inner)) }
+        ensures cause { HasCause self.old.faults self.new.faults result }
+    {
+        if piece.is_empty() {
+            return Ok(0);
+        }
+        match self.inner.write(piece) {
+            Ok(count) if count > 0 => Ok(count),
+            _ => {
+                self.faults = self.faults.saturating_add(1);
+                Err(Failed)
+            }
+        }
+    }
+}
+
+#[cfg(test)]
+mod tests {
+    use super::*;
+    use std::io;
+    use std::test::Fail;
+
+    // A stream of std whose every call is an error.
+    #[derive(Drop)]
+    struct Broken;
+
+    impl Read for Broken {
+        fn read(&mut self, _buf: &mut [u8]) -> io::Result<usize> {
+            Err(io::Error::from(io::ErrorKind::BrokenPipe))
+        }
+    }
+
+    impl Write for Broken {
+        fn write(&mut self, _buf: &[u8]) -> io::Result<usize> {
+            Err(io::Error::from(io::ErrorKind::BrokenPipe))
+        }
+
+        fn flush(&mut self) -> io::Result<()> {
+            Ok(())
+        }
+    }
+
+    #[test]
+    fn the_streams_of_std_hand_on_their_bytes_and_count_their_errors(
+        rt: HostRuntime,
+    ) -> Result<(), Fail> {
+        let mut buf = [0u8; 4];
+        let mut source = Reading::new(b"hrt".as_slice());
+        assert_eq!(rt; source.read(&mut buf), Ok(3));
+        assert_eq!(rt; buf, *b"hrt\0");
+        assert_eq!(rt; source.read(&mut buf), Ok(0));
+        assert_eq!(rt; source.faults, 0);
+        let mut source = Reading::new(Broken);
+        assert_eq!(rt; source.read(&mut buf), Err(Failed));
+        assert_eq!(rt; source.faults, 1);
+
+        let mut sink = Writing::new(Vec::new(rt.alloc()));
+        assert_eq!(rt; sink.write(b"hrt"), Ok(3));
+        assert_eq!(rt; sink.write(b""), Ok(0));
+        assert_eq!(rt; sink.inner.as_slice(), b"hrt".as_slice());
+        assert_eq!(rt; sink.faults, 0);
+        let mut room = [0u8; 2];
+        let mut full = Writing::new(room.as_mut_slice());
+        assert_eq!(rt; full.write(b"hrt"), Ok(2));
+        assert_eq!(rt; full.write(b"t"), Err(Failed));
+        assert_eq!(rt; full.faults, 1);
+        let mut sink = Writing::new(Broken);
+        assert_eq!(rt; sink.write(b"hrt"), Err(Failed));
+        assert_eq!(rt; sink.faults, 1);
+        Ok(())
+    }
+}

@@ -1,0 +1,250 @@
+ghost use Rattle.std.specs.Prelude.{◌≡◌, ◌≤◌, ◌<◌, ◌+◌, ℕ, IfOk, OnOk, length};
+ghost use Rattle.clock_model.specs.Clocks.{last_stamp};
+ghost use Rattle.hrt_app.specs.Runs.{RunState, Keeps, Nexts, progress, with_out};
+ghost use Rattle.hrt_app.specs.Turns.{NamesBase, NamesTimer, Turns, peek_answer};
+ghost use Rattle.seq_timer.specs.Tables.{timer_at};
+ghost use Rattle.script_text.specs.declared.script.Call.TheVariants as calls;
+
+use crate::gate::{Gate, Point};
+use crate::run::Run;
+use clock_model::{ClockFault, Write};
+use ktime::{Mode, Reading};
+use script_text::{Answer, Call, ClockLine, Entry, Items, Label, Restart};
+use std::alloc::{AllocError, Global};
+use timer_core::{CancelAnswer, ClaimAnswer, StartAnswer};
+
+/// What the next claim of an expiry pass came to.
+#[derive(Clone, Copy, Debug, PartialEq, Eq)]
+pub enum Next {
+    /// This timer was claimed, and its callback has run.
+    Fired { timer: u32 },
+    /// No timer was due.
+    Drained,
+    /// A function was running on the base.
+    Busy { timer: u32, generation: u64 },
+}
+
+impl Run {
+    /// Makes one call and adds its lines.
+    pub fn call<G: Gate>(
+        &mut self,
+        gate: &G,
+        label: Label,
+        call: Call,
+    ) -> Result<Answer, AllocError>
+        requires timer { NamesTimer (length self.old.core.timers) call }
+        requires base { NamesBase (length self.old.core.bases) call }
+        requires counted { self.old.reading.stamp < last_stamp }
+        ensures turn { IfOk result (λ answer. Turns label (progress self.old) call answer (progress self.new)) }
+        ensures kept { OnOk result (Keeps self.old self.new) }
+    {
+        match call {
+            Call::Start {
+                timer,
+                mode,
+                ns,
+                base,
+            } => self.start(label, timer, mode, ns, base),
+            Call::Cancel { timer } => self.cancel(label, timer),
+            Call::Peek { timer } => Ok(self.peek(timer)),
+            Call::Expire { base, budget } => self.expire(gate, label, base, budget),
+            Call::Clock { write } => self.write(label, write),
+        }
+    }
+
+    fn start(
+        &mut self,
+        label: Label,
+        timer: u32,
+        mode: Mode,
+        ns: u64,
+        base: u32,
+    ) -> Result<Answer, AllocError>
+        requires timer { timer < length self.old.core.timers }
+        requires base { base < length self.old.core.bases }
+        ensures turn { IfOk result (λ answer. Turns label (progress self.old) (calls.Start timer mode ns base) answer (progress self.new)) }
+        ensures kept { OnOk result (Keeps self.old self.new) }
+    {
+        let reading = self.clock.reading();
+        match self.core.start(timer, mode, ns, base, reading) {
+            StartAnswer::Spent { stamp } => Ok(Answer::Spent { stamp }),
+            StartAnswer::Started {
+                was_armed,
+                generation,
+                base: on,
+                outs,
+                clock,
+            } => {
+                let expires = self.core.state(timer).expires();
+                self.enter_out(label, timer, base, was_armed, outs)?;
+                let start = Entry::Start {
+                    mode,
+                    ns,
+                    reading: reading.stamp,
+                    asked: base,
+                    base: on,
+                    clock,
+                    expires,
+                    was_armed: was_armed & (outs == 0),
+                };
+                self.enter(label, timer, start)?;
+                Ok(Answer::Started {
+                    generation,
+                    base: on,
+                    was_armed,
+                })
+            }
+        }
+    }
+
+    /// Adds the line of a move to this base, where a start has made one.
+    fn enter_out(
+        &mut self,
+        label: Label,
+        timer: u32,
+        base: u32,
+        was_armed: bool,
+        outs: u64,
+    ) -> Result<(), AllocError>
+        requires { timer < length self.old.core.timers }
+        ensures { OnOk result (self.new ≡ with_out self.old label timer base was_armed outs) }
+    {
+        if outs == 0 {
+            return Ok(());
+        }
+        self.enter(label, timer, Entry::Out { base, was_armed })
+    }
+
+    fn cancel(&mut self, label: Label, timer: u32) -> Result<Answer, AllocError>
+        requires timer { timer < length self.old.core.timers }
+        ensures turn { IfOk result (λ answer. Turns label (progress self.old) (calls.Cancel timer) answer (progress self.new)) }
+        ensures kept { OnOk result (Keeps self.old self.new) }
+    {
+        match self.core.try_to_cancel(timer) {
+            CancelAnswer::Idle { stamp } => Ok(Answer::Idle { stamp }),
+            CancelAnswer::Running { generation, stamp } => Ok(Answer::Running {
+                generation,
+                stamp,
+            }),
+            CancelAnswer::Cancelled { generation, .. } => {
+                self.enter(label, timer, Entry::Cancel { generation })?;
+                Ok(Answer::Cancelled { generation })
+            }
+        }
+    }
+
+    fn peek(&self, timer: u32) -> Answer
+        requires timer { timer < length self.now.core.timers }
+        ensures { result ≡ peek_answer (timer_at self.now.core.timers timer) }
+    {
+        let word = self.core.peek(timer);
+        Answer::Peek {
+            stamp: word.stamp,
+            base: word.base,
+            enqueued: word.enqueued,
+            running: word.running,
+            moving: word.moving,
+        }
+    }
+
+    fn write(&mut self, label: Label, write: Write) -> Result<Answer, AllocError>
+        requires counted { self.old.reading.stamp < last_stamp }
+        ensures turn { IfOk result (λ answer. Turns label (progress self.old) (calls.Clock write) answer (progress self.new)) }
+        ensures kept { OnOk result (Keeps self.old self.new) }
+    {
+        match self.clock.write(write) {
+            Ok(now) => {
+                self.clock_lines.push(ClockLine {
+                    label,
+                    write,
+                    mono: now.mono,
+                    real: now.real,
+                    boot: now.boot,
+                    changes: now.changes,
+                })?;
+                Ok(Answer::Clock { stamp: now.stamp })
+            }
+            Err(ClockFault::ClockRange { would_be }) => Ok(Answer::Range { would_be }),
+            Err(ClockFault::ClockSpent) => unreachable!(),
+        }
+    }
+
+    /// An expiry pass: at most so many callbacks, all by one reading of the clock.
+    fn expire<G: Gate>(
+        &mut self,
+        gate: &G,
+        label: Label,
+        base: u32,
+        budget: u64,
+    ) -> Result<Answer, AllocError>
+        requires base { base < length self.old.core.bases }
+        ensures turn { IfOk result (λ answer. Turns label (progress self.old) (calls.Expire base budget) answer (progress self.new)) }
+        ensures kept { OnOk result (Keeps self.old self.new) }
+    {
+        let reading = self.clock.reading();
+        let mut fired = Items::new(self.alloc);
+        for _claim in 0..budget {
+            match self.fire_next(gate, label, base, reading)? {
+                Next::Fired { timer } => fired.push(timer)?,
+                Next::Drained => {
+                    return Ok(Answer::Done {
+                        reading: reading.stamp,
+                        fired,
+                    });
+                }
+                Next::Busy { timer, generation } => {
+                    return Ok(Answer::Busy {
+                        reading: reading.stamp,
+                        fired,
+                        timer,
+                        generation,
+                    });
+                }
+            }
+        }
+        Ok(Answer::More {
+            reading: reading.stamp,
+            fired,
+        })
+    }
+
+    /// Claims the next timer that is due, and runs its callback.
+    fn fire_next<G: Gate>(
+        &mut self,
+        gate: &G,
+        label: Label,
+        base: u32,
+        reading: Reading,
+    ) -> Result<Next, AllocError>
+        requires base { base < length self.old.core.bases }
+        requires reading { reading ≡ self.old.reading }
+        ensures next { IfOk result (λ next. Nexts label base (progress self.old) next (progress self.new)) }
+        ensures kept { OnOk result (Keeps self.old self.new) }
+    {
+        match self.core.claim_next(base, reading) {
+            ClaimAnswer::NoneDue => Ok(Next::Drained),
+            ClaimAnswer::BaseBusy { timer, generation } => Ok(Next::Busy { timer, generation }),
+            ClaimAnswer::Claimed {
+                timer,
+                generation,
+                ..
+            } => {
+                let claim = Entry::Claim {
+                    base,
+                    reading: reading.stamp,
+                    generation,
+                };
+                self.enter(label, timer, claim)?;
+                gate.at(label.lane, label.call, Point::Callback);
+                self.core.finish(timer, false);
+                let finish = Entry::Finish {
+                    restart: false,
+                    generation,
+                    rearmed: Restart::None,
+                };
+                self.enter(label, timer, finish)?;
+                Ok(Next::Fired { timer })
+            }
+        }
+    }
+}

@@ -1,0 +1,223 @@
+//! All that the program does, over the streams that it is handed.
+ghost use Rattle.std.specs.Prelude.{◌≡◌, ◌≤◌, ◌⊎◌, [], Some, None, IfSome};
+ghost use Rattle.hrt_app.specs.Streams.{Rose, Adds};
+ghost use Rattle.hrt_app.specs.Transfer.{TakesAtMost, most_bytes};
+ghost use Rattle.hrt_app.specs.Command.{asked_by};
+ghost use Rattle.hrt_app.specs.Engine.{HasForm, refusal_text};
+ghost use Rattle.hrt_app.specs.Top.{IsAskedFor, HasRecorded, HasRefused, HasStopped, MustAnswer};
+
+use crate::command::{Asked, asks};
+use crate::engine::{Answer, answer_to};
+use crate::gate::Gate;
+use crate::memory::{CleanSink, CleanSource};
+use crate::status::Status;
+use crate::stream::{Failed, Sink, Source};
+use crate::transfer::{ReadFault, read_all, write_all};
+use std::alloc::Global;
+
+/// Does what the words ask for, the program's name being the first. The text is made whole before the first
+/// write.
+pub fn top<S: Source, K: Sink, G: Gate>(
+    rt: &impl AllocGlobal,
+    words: &[String],
+    source: &mut S,
+    sink: &mut K,
+    gate: &G,
+) -> Status
+    ensures asked { IsAskedFor (asked_by words.now) result }
+    ensures usage { asked_by words.now ≡ None → (result ≡ Status.Usage) ⊎ (result ≡ Status.OutOfMemory) }
+    ensures untouched { result ≡ Status.Usage → (source.new ≡ source.old) × (sink.new ≡ sink.old) }
+    ensures ok { result ≡ Status.Ok → HasRecorded (S.left source.old) (S.left source.new) (K.taken sink.old) (K.taken sink.new) }
+    ensures refused { result ≡ Status.Refused → HasRefused (S.left source.old) (S.left source.new) (K.taken sink.old) (K.taken sink.new) }
+    ensures calm { (result ≡ Status.Ok) ⊎ (result ≡ Status.Refused) → (S.faults source.new ≡ S.faults source.old) × (K.faults sink.new ≡ K.faults sink.old) }
+    ensures read_fault { result ≡ Status.ReadFault → Rose (S.faults source.old) (S.faults source.new) }
+    ensures read_few { result ≡ Status.ReadFault → TakesAtMost (S.left source.old) (S.left source.new) most_bytes }
+    ensures write_fault { result ≡ Status.WriteFault → Rose (K.faults sink.old) (K.faults sink.new) }
+    ensures prefix { result ≡ Status.WriteFault → HasStopped (S.left source.old) (S.left source.new) (K.taken sink.old) (K.taken sink.new) }
+    ensures unwritten { (result ≡ Status.ReadFault) ⊎ (result ≡ Status.OutOfMemory) → sink.new ≡ sink.old }
+    ensures complete { asked_by words.now ≡ Some Asked.Run → (Rose (S.faults source.old) (S.faults source.new) → ⊥) → (Rose (K.faults sink.old) (K.faults sink.new) → ⊥) → IfSome (S.left source.old) (λ bytes. MustAnswer bytes result) }
+    ensures source_later { S.faults source.old ≤ S.faults source.new }
+    ensures sink_later { K.faults sink.old ≤ K.faults sink.new }
+{
+    match asks(words) {
+        Some(Asked::Run) => run(rt.alloc(), source, sink, gate),
+        None => Status::Usage,
+    }
+}
+
+/// The program over bytes in memory, with a source and a sink that never fail: the outcome, and the sink.
+pub fn on_bytes<G: Gate>(
+    rt: &impl AllocGlobal,
+    words: &[String],
+    bytes: &[u8],
+    gate: &G,
+) -> (Status, CleanSink)
+    ensures asked { IsAskedFor (asked_by words.now) result.0 }
+    ensures answer { asked_by words.now ≡ Some Asked.Run → MustAnswer bytes.now result.0 }
+    ensures ok { result.0 ≡ Status.Ok → HasRecorded (Some bytes.now) (Some []) (Some []) result.1.kept }
+    ensures refused { result.0 ≡ Status.Refused → Adds (Some []) result.1.kept refusal_text }
+    ensures unwritten { (result.0 ≡ Status.Usage) ⊎ (result.0 ≡ Status.OutOfMemory) → result.1.kept ≡ Some [] }
+    ensures no_fault { (result.0 ≡ Status.ReadFault) ⊎ (result.0 ≡ Status.WriteFault) → ⊥ }
+{
+    let mut source = CleanSource::new(bytes);
+    let mut sink = CleanSink::new(rt.alloc());
+    let status = top(rt, words, &mut source, &mut sink, gate);
+    (status, sink)
+}
+
+// Reads a script from the source, runs it, and writes its record or its refusal to the sink.
+#[tactic(auto, using(crate::proofs::Outcomes::recorded, crate::proofs::Outcomes::must_succeed, crate::proofs::Outcomes::must_refuse, crate::proofs::Outcomes::may_want))]
+fn run<S: Source, K: Sink, G: Gate>(alloc: Global, source: &mut S, sink: &mut K, gate: &G) -> Status
+    ensures usage { result ≡ Status.Usage → ⊥ }
+    ensures ok { result ≡ Status.Ok → HasRecorded (S.left source.old) (S.left source.new) (K.taken sink.old) (K.taken sink.new) }
+    ensures refused { result ≡ Status.Refused → HasRefused (S.left source.old) (S.left source.new) (K.taken sink.old) (K.taken sink.new) }
+    ensures calm { (result ≡ Status.Ok) ⊎ (result ≡ Status.Refused) → (S.faults source.new ≡ S.faults source.old) × (K.faults sink.new ≡ K.faults sink.old) }
+    ensures read_fault { result ≡ Status.ReadFault → Rose (S.faults source.old) (S.faults source.new) }
+    ensures read_few { result ≡ Status.ReadFault → TakesAtMost (S.left source.old) (S.left source.new) most_bytes }
+    ensures write_fault { result ≡ Status.WriteFault → Rose (K.faults sink.old) (K.faults sink.new) }
+    ensures prefix { result ≡ Status.WriteFault → HasStopped (S.left source.old) (S.left source.new) (K.taken sink.old) (K.taken sink.new) }
+    ensures unwritten { (result ≡ Status.ReadFault) ⊎ (result ≡ Status.OutOfMemory) → sink.new ≡ sink.old }
+    ensures complete { (Rose (S.faults source.old) (S.faults source.new) → ⊥) → (Rose (K.faults sink.old) (K.faults sink.new) → ⊥) → IfSome (S.left source.old) (λ bytes. MustAnswer bytes result) }
+    ensures source_later { S.faults source.old ≤ S.faults source.new }
+    ensures sink_later { K.faults sink.old ≤ K.faults sink.new }
+{
+    let bytes = match read_all(alloc, source) {
+        Ok(bytes) => bytes,
+        Err(ReadFault::Failed) => return Status::ReadFault,
+        Err(ReadFault::OutOfMemory) => return Status::OutOfMemory,
+    };
+    match answer_to(alloc, gate, &bytes) {
+        Ok(Answer::Record(text)) => match write_all(sink, &text) {
+            Ok(()) => Status::Ok,
+            Err(Failed) => Status::WriteFault,
+        },
+        Ok(Answer::Refusal(text)) => match write_all(sink, &text) {
+            Ok(()) => Status::Refused,
+            Err(Failed) => Status::WriteFault,
+        },
+        Err(_) => Status::OutOfMemory,
+    }
+}
+
+#[cfg(test)]
+mod tests {
+    use super::*;
+    use crate::gate::OpenGate;
+    use crate::memory::{BytesSink, BytesSource};
+    use std::alloc::AllocError;
+    use std::test::Fail;
+
+    const RUN: &[&str] = &["hrt", "run"];
+
+    const EMPTY: &[u8] = b"hrt 1\nbases 1\nlanes 1\nlimit 100\n";
+
+    const RECORD: &[u8] = b"record 1\nend\n";
+
+    const REFUSAL: &[u8] = b"line 0: NotBuilt\n";
+
+    fn command(alloc: Global, words: &[&str]) -> Result<Vec<String>, AllocError> {
+        let mut all = Vec::new(alloc);
+        for word in words {
+            all.push(String::from_str(alloc, word)?)?;
+        }
+        Ok(all)
+    }
+
+    fn outcome(
+        rt: &impl AllocGlobal,
+        words: &[&str],
+        source: &mut BytesSource<'_>,
+        sink: &mut BytesSink<'_>,
+    ) -> Result<Status, AllocError> {
+        let words = command(rt.alloc(), words)?;
+        Ok(top(rt, &words, source, sink, &OpenGate))
+    }
+
+    #[test]
+    fn a_script_is_answered_by_its_record_however_few_bytes_a_call_moves(
+        rt: HostRuntime,
+    ) -> Result<(), Fail> {
+        for most in [1, 5, 4096] {
+            let mut source = BytesSource::new(EMPTY, most, &[]);
+            let mut sink = BytesSink::new(rt.alloc(), most, &[]);
+            let status = outcome(&rt, RUN, &mut source, &mut sink)?;
+            assert_eq!(rt; status, Status::Ok);
+            assert_eq!(rt; sink.kept.bytes(), Some(RECORD));
+            assert_eq!(rt; source.left.len(), 0);
+        }
+        Ok(())
+    }
+
+    #[test]
+    fn bytes_that_are_no_script_are_refused(rt: HostRuntime) -> Result<(), Fail> {
+        let words = command(rt.alloc(), RUN)?;
+        let cases: [&[u8]; 4] = [b"", b"hrt 2\n", RECORD, b"\xff\x00"];
+        for bytes in cases {
+            let (status, sink) = on_bytes(&rt, &words, bytes, &OpenGate);
+            assert_eq!(rt; status, Status::Refused);
+            assert_eq!(rt; sink.kept.bytes(), Some(REFUSAL));
+        }
+        Ok(())
+    }
+
+    #[test]
+    fn a_fault_leaves_nothing_or_a_prefix_written(rt: HostRuntime) -> Result<(), Fail> {
+        let cases: [(&[u8], &[u64], &[u64], Status, &[u8]); 4] = [
+            (EMPTY, &[2], &[], Status::ReadFault, b""),
+            (EMPTY, &[], &[3], Status::WriteFault, b"record 1\ne"),
+            (EMPTY, &[], &[1], Status::WriteFault, b""),
+            (b"hrt 2\n", &[], &[1], Status::WriteFault, b""),
+        ];
+        for (bytes, reads, writes, status, taken) in cases {
+            let mut source = BytesSource::new(bytes, 5, reads);
+            let mut sink = BytesSink::new(rt.alloc(), 5, writes);
+            let found = outcome(&rt, RUN, &mut source, &mut sink)?;
+            assert_eq!(rt; found, status);
+            assert_eq!(rt; sink.kept.bytes(), Some(taken));
+            assert_eq!(rt; source.plan.faults == 1, !reads.is_empty());
+            assert_eq!(rt; sink.plan.faults == 1, !writes.is_empty());
+        }
+        Ok(())
+    }
+
+    #[test]
+    fn reading_stops_once_more_was_taken_than_a_script_may_have(
+        rt: HostRuntime,
+    ) -> Result<(), Fail> {
+        // The next read would fail in either case.
+        for (len, next, status) in [
+            (1_048_577, 258, Status::Refused),
+            (1_048_576, 257, Status::ReadFault),
+        ] {
+            let bytes = vec![in rt.alloc(); b'#'; len]?;
+            let failing = [next];
+            let mut source = BytesSource::new(&bytes, 4096, &failing);
+            let mut sink = BytesSink::new(rt.alloc(), 4096, &[]);
+            let found = outcome(&rt, RUN, &mut source, &mut sink)?;
+            assert_eq!(rt; found, status);
+        }
+        Ok(())
+    }
+
+    #[test]
+    fn words_that_ask_for_nothing_touch_neither_stream(rt: HostRuntime) -> Result<(), Fail> {
+        let cases: [&[&str]; 8] = [
+            &[],
+            &["hrt"],
+            &["run"],
+            &["hrt", "help"],
+            &["hrt", "--help"],
+            &["hrt", "Run"],
+            &["hrt", "run", "run"],
+            &["hrt", "gen", "--seed", "1"],
+        ];
+        for words in cases {
+            let mut source = BytesSource::new(EMPTY, 4096, &[]);
+            let mut sink = BytesSink::new(rt.alloc(), 4096, &[]);
+            let status = outcome(&rt, words, &mut source, &mut sink)?;
+            assert_eq!(rt; status, Status::Usage);
+            assert_eq!(rt; (source.plan.calls, sink.plan.calls), (0, 0));
+        }
+        Ok(())
+    }
+}
