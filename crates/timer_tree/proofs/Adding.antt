@@ -121,7 +121,7 @@ added_stored xs root first place expires id ps old steps new zs new_root old_ste
     }
 
 -- the steps of finding, hanging and repairing together
-pub added_steps : (xs : List Node) (root : ℕ) (place : Place) (expires : ℕ) (ps : List (ℕ × ℕ)) (old steps hung_steps new_steps d : ℕ) → (found : IsPlace xs root place expires ps old steps) → hung_steps ≤ steps + 3 → new_steps ≤ hung_steps + 14 * length found.context → length ps + 1 < 2 ^ d → new_steps ≤ old + 32 * (d + 1)
+pub added_steps : (xs : List Node) (root : ℕ) (place : Place) (expires : ℕ) (ps : List (ℕ × ℕ)) (old steps hung_steps new_steps d : ℕ) → (found : IsPlace xs root place expires ps old steps) → hung_steps ≤ steps + 3 → new_steps ≤ hung_steps + 15 * length found.context → length ps + 1 < 2 ^ d → new_steps ≤ old + 32 * (d + 1)
 added_steps xs root place expires ps old steps hung_steps new_steps d found hang repair few =
     let c = found.context in
     let even = plug-even c Leaf found.fits tt in

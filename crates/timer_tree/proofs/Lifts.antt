@@ -171,7 +171,7 @@ low_height xs r ps levels small broken =
 lifted_new : (xs : List Node) (r : Uneven) (ps : List (ℕ × ℕ)) (levels : ℕ) (new : List Node × Uneven) → (r.at ≡ none → ⊥) → CanRepair xs r ps levels → new ≡ lifted xs r → Lifted xs r ps levels new
 lifted_new xs r ps levels new some can is = subst (λ x. Lifted xs r ps levels x) (sym is) (lifted_uneven xs r ps levels can.small can.few can.once some can.uneven)
 
-pub repairing_step : (xs ys zs : List Node) (r r' : Uneven) (ps : List (ℕ × ℕ)) (levels old_steps steps new_steps : ℕ) → IsRepairing xs ys r ps levels old_steps steps → (r.at ≡ none → ⊥) → (zs, r') ≡ lifted ys r → new_steps ≤ steps + 14 → IsRepairing xs zs r' ps levels old_steps new_steps
+pub repairing_step : (xs ys zs : List Node) (r r' : Uneven) (ps : List (ℕ × ℕ)) (levels old_steps steps new_steps : ℕ) → IsRepairing xs ys r ps levels old_steps steps → (r.at ≡ none → ⊥) → (zs, r') ≡ lifted ys r → new_steps ≤ steps + 15 → IsRepairing xs zs r' ps levels old_steps new_steps
 repairing_step xs ys zs r r' ps levels old_steps steps new_steps so_far some is few =
     let done = lifted_new ys r ps so_far.left (zs, r') some so_far.can is in
     record {

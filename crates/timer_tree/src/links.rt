@@ -16,6 +16,15 @@ pub(crate) fn read<L: Ledger>(block: &Block, n: u32, steps: &mut Steps<L>) -> No
     block.get(n)
 }
 
+/// Reads a link for its height alone.
+pub(crate) fn height<L: Ledger>(block: &Block, n: u32, steps: &mut Steps<L>) -> u32
+    ensures height { result ≡ (node_at block.now n).height }
+    ensures steps { steps.new ≡ steps.old + 1 }
+{
+    steps.tick();
+    block.get(n).height
+}
+
 /// Writes a link.
 pub(crate) fn write<L: Ledger>(block: &mut Block, n: u32, node: Node, steps: &mut Steps<L>)
     ensures block { block.new ≡ slice_set block.old n node }

@@ -32,7 +32,7 @@ pub(crate) fn repair<L: Ledger>(block: &mut Block, broken: Uneven, steps: &mut S
 #[tactic(auto, unfolding(crate::specs::Moves::lifted))]
 fn lift<L: Ledger>(block: &mut Block, rest: Uneven, steps: &mut Steps<L>) -> Uneven
     ensures block { (block.new, result) ≡ lifted block.old rest }
-    ensures steps { steps.new ≤ steps.old + 14 }
+    ensures steps { steps.new ≤ steps.old + 15 }
 {
     let Uneven { root, at } = rest;
     let node = read(block, at, steps);

@@ -3,7 +3,7 @@ ghost use Rattle.timer_tree.specs.Nodes.{node_at, next};
 ghost use Rattle.timer_tree.specs.Turns.{turned_once, turned_twice, turned, evened};
 
 use crate::block::Block;
-use crate::links::{adopt, read, write};
+use crate::links::{adopt, height, read, write};
 use crate::node::{Node, Side};
 use crate::steps::Steps;
 use std::sync::ledger::Ledger;
@@ -26,24 +26,16 @@ pub(crate) struct Numbered {
 #[tactic(auto, unfolding(crate::specs::Turns::evened, crate::specs::Nodes::next))]
 pub(crate) fn even<L: Ledger>(block: &mut Block, n: u32, node: Node, steps: &mut Steps<L>) -> Top
     ensures block { (block.new, result) ≡ evened block.old n node }
-    ensures steps { steps.new ≤ steps.old + 11 }
+    ensures steps { steps.new ≤ steps.old + 12 }
 {
-    let left = read(block, node.left, steps);
-    let right = read(block, node.right, steps);
-    if right.height < left.height && right.height + 1 < left.height {
-        let high = Numbered {
-            n: node.left,
-            node: left,
-        };
-        turn(block, Side::Left, Numbered { n, node }, high, steps)
-    } else if left.height < right.height && left.height + 1 < right.height {
-        let high = Numbered {
-            n: node.right,
-            node: right,
-        };
-        turn(block, Side::Right, Numbered { n, node }, high, steps)
+    let left = height(block, node.left, steps);
+    let right = height(block, node.right, steps);
+    if right < left && right + 1 < left {
+        turn(block, Side::Left, Numbered { n, node }, node.left, steps)
+    } else if left < right && left + 1 < right {
+        turn(block, Side::Right, Numbered { n, node }, node.right, steps)
     } else {
-        let height = left.height.max(right.height).saturating_add(1);
+        let height = left.max(right).saturating_add(1);
         if height != node.height {
             write(block, n, Node { height, ..node }, steps);
         }
@@ -57,12 +49,16 @@ fn turn<L: Ledger>(
     block: &mut Block,
     side: Side,
     low: Numbered,
-    high: Numbered,
+    high: u32,
     steps: &mut Steps<L>,
 ) -> Top
-    ensures block { (block.new, result) ≡ turned block.old side low high }
-    ensures steps { steps.new ≤ steps.old + 9 }
+    ensures block { (block.new, result) ≡ turned block.old side low (record { n = high; node = node_at block.old high }) }
+    ensures steps { steps.new ≤ steps.old + 10 }
 {
+    let high = Numbered {
+        n: high,
+        node: read(block, high, steps),
+    };
     let outer = read(block, high.node.near(side), steps);
     let n = high.node.far(side);
     let inner = Numbered {
