@@ -1,6 +1,6 @@
 -- What the rule tells of what a pass knows.
-use Rattle.std.proofs.Common.{◌≡◌, ℕ, zero, suc, ◌<◌, ◌≤◌, ◌≢◌, true, false, List, [], ◌∷◌, length, ◌++◌, map, set, refl, ap, sym, ◌∙◌, subst, ⊎_elim, arith}
-use Rattle.std.specs.Prelude.{Option, Some}
+use Rattle.std.proofs.Common.{◌≡◌, ℕ, zero, suc, ◌<◌, ◌≤◌, ◌≢◌, true, false, List, [], ◌∷◌, length, map, set, refl, ap, sym, ◌∙◌, subst, ⊎_elim, length-append, arith}
+use Rattle.std.specs.Prelude.{◌+◌, Option, Some, None}
 use Rattle.std.proofs.lemmas.Bool.{cases_Bool, cases_lt}
 use Rattle.std.proofs.lemmas.Bool.Decides.{nat_tests}
 use mathlib.Core.Option.{some, some-ne-none}
@@ -8,7 +8,8 @@ use lib.ListN.{get_elem?}
 use Rattle.atomic_table.specs.Table.{State}
 use Rattle.atomic_table.proofs.Lists.{at_map}
 use Rattle.pass_names.specs.Counts.{one_if, count}
-use Rattle.pass_names.specs.Names.{IsLast, times}
+use Rattle.pass_names.specs.declared.Line.{Line}
+use Rattle.pass_names.specs.Names.{IsLast, times, next_name, after_split, child_of}
 use Rattle.pass_names.specs.Passes.{Begins, entries, HasEach, within, is_place}
 use Rattle.pass_names.proofs.Names.{last_alone}
 use Rattle.pass_names.proofs.Counts.{total_only}
@@ -16,7 +17,7 @@ use Rattle.pass_names.proofs.Passes.{begins_refl, begins_nil, begins_whole}
 use Rattle.counted_row.specs.declared.view.Locked.{Locked}
 use Rattle.counted_row.specs.declared.view.View.{View}
 use Rattle.counted_row.specs.Meaning.{Meaning}
-use Rattle.counted_row.specs.Views.{is_claim, StateAfter, IsNow, Knows, PassOf, Locks, HasClaim}
+use Rattle.counted_row.specs.Views.{is_claim, StateAfter, IsNow, Knows, PassOf, Locks, HasClaim, split_view, new_view}
 use Rattle.counted_row.specs.Rules.{line_of, places_at, claims_at, Fits, Home}
 use Rattle.counted_row.proofs.Histories.{after_part}
 
@@ -104,3 +105,33 @@ module _ {S C R : Type 0} (m : Meaning S C R) (made : List S) (s : State (Option
 pub open_now : {S C R : Type 0} (m : Meaning S C R) (old new : PassOf S C R) (i : ℕ) (name : List ℕ) (h : Locked S) → Locks m old new i h → HasClaim i name old.knows.claims → 0 < times name (m.claims h.state)
 open_now m old new i name h locks has =
     locks.knows.open_claims h.index name h.state (subst (λ cs. HasClaim h.index name cs) (sym locks.claims) (subst (λ k. HasClaim k name old.knows.claims) (sym locks.index) has)) locks.now.state
+
+no_lock : {S : Type 0} (h : Locked S) → None ≡ Some h → ⊥
+no_lock h e = cc
+
+module _ {S C R : Type 0} (m : Meaning S C R) where
+  -- who has split a pass off knows as much as before, and isn't the last
+  pub knows_split : (v : View S C R) → Knows m v → Knows m (split_view v)
+  knows_split v knows = record {
+    legal = knows.legal;
+    open_claims = knows.open_claims;
+    held = λ h e. let t = knows.held h e in record { state = t.state; stamp = t.stamp };
+    all_entries = λ last. absurd (not_last v.pass.line last);
+    all_claims = λ last. absurd (not_last v.pass.line last);
+  }
+    where
+      not_last : (l : Line) → IsLast (after_split l) → ⊥
+      not_last l last = omega (arith, ap length last.alone, length-append l.split (next_name l ∷ []))
+
+  -- a pass that was split off knows as much, and isn't the last
+  pub knows_new : (v : View S C R) → Knows m v → Knows m (new_view v)
+  knows_new v knows = record {
+    legal = knows.legal;
+    open_claims = λ i name x has. absurd (omega arith);
+    held = λ h e. absurd (no_lock h e);
+    all_entries = λ last. absurd (not_last v.pass.line last);
+    all_claims = λ last. absurd (not_last v.pass.line last);
+  }
+    where
+      not_last : (l : Line) → IsLast (child_of l) → ⊥
+      not_last l last = omega (arith, ap length last.first, length-append l.name ((l.made + 1) ∷ []))

@@ -15,8 +15,9 @@ use Rattle.counted_row.specs.declared.view.Entry.{Entry}
 use Rattle.counted_row.specs.declared.view.Locked.{Locked}
 use Rattle.counted_row.specs.declared.view.View.{View}
 use Rattle.counted_row.specs.Meaning.{Meaning}
-use Rattle.counted_row.specs.Views.{StateAfter, first_view}
+use Rattle.counted_row.specs.Views.{StateAfter, Knows, first_view}
 use Rattle.counted_row.specs.Rules.{Cell, Fits, Home}
+use Rattle.counted_row.proofs.Knowing.{knows_of}
 
 value_at : {A : Type 0} (xs : List A) (i : ℕ) → i < length xs → (x : A) × (get_elem? xs i ≡ some x)
 value_at [] i h = absurd (omega arith)
@@ -112,3 +113,9 @@ module _ {S C R : Type 0} (m : Meaning S C R) (made : List S) where
   opens words slots unclaimed is_words is_slots =
       subst (λ ws. Home m made (opening ws slots first)) (sym is_words)
       (subst (λ ss. Home m made (opening (replicate (length made + 1) 0) ss first)) (sym is_slots) (opens_home (λ i x e. all_at (λ y. m.claims y ≡ []) made unclaimed i x e)))
+
+  -- the first pass knows that it is the last
+  pub knows_first : All (λ x. m.claims x ≡ []) made → Knows m first
+  knows_first unclaimed =
+      knows_of m made (opening (replicate (length made + 1) 0) (map Some made) first)
+      (opens (replicate (length made + 1) 0) (map Some made) unclaimed refl refl) 0 first refl refl refl

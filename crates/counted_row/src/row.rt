@@ -49,6 +49,7 @@ impl<O: Object> Row<O> {
         ensures made { IfOk result (λ r. r.0.made ≡ values.items) }
         ensures row { IfOk result (λ r. IsPassOf r.0 r.1) }
         ensures first { IfOk result (λ r. r.1.knows ≡ first_view values.items) }
+        ensures known { IfOk result (λ r. Knows O.meaning r.1.knows) }
     {
         let about = Snapshot::of(&values);
         let words = zeros(alloc, values.len())?;
@@ -174,7 +175,9 @@ impl<O: Object> Row<O> {
         ensures splitter { pass.new.knows ≡ split_view pass.old.knows }
         ensures new { result.knows ≡ new_view pass.old.knows }
         ensures answers { AnswersFor pass.new.knows.pass.line result.knows.pass.line }
+        ensures known { Knows O.meaning pass.new.knows × Knows O.meaning result.knows }
     {
+        check(&self.table.shared, &mut pass.seat, 0);
         RowPass {
             seat: self.table.shared.split_seat::<Child>(&mut pass.seat),
         }

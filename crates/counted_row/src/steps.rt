@@ -40,6 +40,7 @@ pub fn check<O: Object>(cells: &Cells<O>, seat: &mut RowSeat<O>, word: usize)
     requires same { seat.old.table_id ≡ cells.now.table_id }
     requires word { word < cells.now.table_id.words }
     requires known { (seat.old.me.0.pass.line.live ≡ true) × (seat.old.me.0.heard ≡ []) }
+    ensures same { (seat.new.table_id ≡ seat.old.table_id) × (seat.new.me ≡ seat.old.me) }
     ensures knows { Knows O.meaning seat.old.me.0 }
 {
     cells.load::<Check>(seat, word);

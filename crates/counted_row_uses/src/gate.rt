@@ -1,4 +1,4 @@
-ghost use Rattle.std.specs.Prelude.{◌≡◌, ℕ, ◌<◌, [], ◌∷◌, None, length, IfSome, MatchBool};
+ghost use Rattle.std.specs.Prelude.{◌≡◌, ℕ, ◌<◌, [], ◌∷◌, ◌++◌, None, length, IfSome, MatchOption, MatchBool};
 ghost use Rattle.counted_row.specs.Views.{IsPassOf, HasClaim, is_claim};
 ghost use Rattle.pass_names.specs.Counts.{without};
 
@@ -56,7 +56,11 @@ pub fn enter<R: Wait>(
     requires idle { pass.old.knows.held ≡ None }
     ensures row { IsPassOf row.now pass.new }
     ensures idle { pass.new.knows.held ≡ None }
+    ensures line { pass.new.knows.pass.line ≡ pass.old.knows.pass.line }
     ensures claim { IfSome result (λ n. HasClaim index (n ∷ []) pass.new.knows.claims) }
+    ensures claims { MatchOption result
+        (pass.new.knows.claims ≡ pass.old.knows.claims)
+        (λ n. pass.new.knows.claims ≡ pass.old.knows.claims ++ (index, n ∷ []) ∷ []) }
 {
     let held = row.lock(rt, pass, index);
     let gate = *held.state();
@@ -82,6 +86,7 @@ pub fn leave<R: Wait>(
     requires idle { pass.old.knows.held ≡ None }
     requires claim { HasClaim index (number ∷ []) pass.old.knows.claims }
     ensures row { IsPassOf row.now pass.new }
+    ensures line { pass.new.knows.pass.line ≡ pass.old.knows.pass.line }
     ensures idle { pass.new.knows.held ≡ None }
     ensures claim { MatchBool result
         (pass.new.knows.claims ≡ without (is_claim index (number ∷ [])) pass.old.knows.claims)

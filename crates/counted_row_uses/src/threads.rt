@@ -86,10 +86,11 @@ pub fn count_anew<R: Threads + Wait + Sync>(
     values.push(Counter { total: 0 })?;
     let (row, mut pass) = Row::make(alloc, values)?;
     let (first, second) = count_by_two(rt, &row, &mut pass, 0, times);
+    let stamp = row.peek_stamp(&mut pass, 0);
     let other = row.peek_stamp(&mut pass, 1);
     let held = row.lock(rt, &mut pass, 0);
     let state = held.state().total;
-    let stamp = row.release(&mut pass, held);
+    row.release(&mut pass, held);
     row.close(pass);
     Ok(Totals {
         made: first + second,
