@@ -1,0 +1,33 @@
+#!/usr/bin/env bash
+# Times a lock and its end on a value of counted_row, beside a C11 lock and Rust's Mutex round a counter, and prints one
+# table. The proved program is built with `rt run` if none is current; the runs then end within 30 seconds. Outside the gate.
+# On a busy machine two threads may get one processor in turn: `chrt -r 1 bench/row.sh` keeps them running.
+set -eu
+top=$(cd "$(dirname "$0")/.." && pwd)
+program=$top/crates/counted_row_bench/out/counted_row_bench
+built=$(mktemp -d)
+trap 'rm -rf "$built"' EXIT
+gcc -O2 -pthread -o "$built/c" "$top/bench/row_peers.c"
+rustc -O -o "$built/rust" "$top/bench/row_peers.rs"
+if [ ! -x "$program" ] || [ -n "$(find "$top"/crates/*/src "$top"/crates/*/specs "$top"/crates/*/proofs -newer "$program" 2>/dev/null)" ]; then
+    (cd "$top/crates/counted_row_bench" && rt run --jobs 1 -- check) > "$built/log" 2>&1 || { tail -n 20 "$built/log" >&2; exit 1; }
+fi
+
+for _ in 1 2 3; do
+    for each in "$program" "$built/c" "$built/rust"; do
+        timeout 3 "$each" || { echo "row.sh: ${each##*/} failed, or took over 3 seconds" >&2; exit 1; }
+    done
+done > "$built/times"
+
+echo "$(nproc) processors, load $(cut -d' ' -f1 /proc/loadavg)"
+echo "Nanoseconds that a thread takes for a lock and its end, the least of 15 rounds:"
+awk -F'\t' '
+    { key = $1 FS $2 }
+    !(key in least) { order[++keys] = key; least[key] = $3 }
+    $3 < least[key] { least[key] = $3 }
+    END {
+        for (i = 1; i <= keys; i++) {
+            split(order[i], part, FS)
+            printf "%-22s %-34s %7.1f\n", part[1], part[2], least[order[i]]
+        }
+    }' "$built/times"

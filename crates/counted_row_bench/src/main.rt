@@ -1,0 +1,34 @@
+//! Times locks of a row's values, by one thread and by two. With the word `check` it makes a few calls
+//! and prints how many it made.
+#![tactic(auto)]
+
+ghost use Rattle.std.specs.Prelude.{◌≡◌, length, IfOk};
+ghost use Rattle.counted_row_bench.specs.Alone.{IsAlone};
+
+mod report;
+mod turns;
+
+use counted_row::{Row, RowPass};
+use counted_row_uses::Counter;
+use report::{Task, VALUES, report};
+use std::alloc::{AllocError, Global};
+use std::{env, io};
+
+fn counters(alloc: Global) -> Result<(Row<Counter>, RowPass<Counter>), AllocError>
+    ensures alone { IfOk result (λ r. IsAlone r.0 r.1) }
+    ensures values { IfOk result (λ r. length r.0.made ≡ 32) }
+{
+    let values = vec![in alloc; Counter { total: 0 }; VALUES]?;
+    Row::make(alloc, values)
+}
+
+fn main(rt: HostRuntime) -> io::Result<()> {
+    let task = match env::args(&rt)?.nth(1) {
+        Some(word) if word.as_str() == "check" => Task::Check,
+        _ => Task::Measure,
+    };
+    let (row, mut main) = counters(rt.alloc())?;
+    let done = report(&rt, &row, &mut main, task);
+    row.close(main);
+    done
+}

@@ -1,0 +1,149 @@
+//! Which cases there are, and the line that is printed for each.
+ghost use Rattle.std.specs.Prelude.{◌≡◌, ◌<◌, length, IfSome};
+ghost use Rattle.counted_row_bench.specs.Alone.{IsAlone};
+
+use crate::turns::{Ending, run};
+use counted_row::{Row, RowPass};
+use counted_row_uses::Counter;
+use std::io;
+use std::sync::Wait;
+use std::thread::Threads;
+use std::time::{Clock, Instant};
+
+/// How many values the row has. The words of the first and the last lie 248 bytes apart.
+pub const VALUES: usize = 32;
+
+/// Locks a thread and a round.
+const LOCKS: u64 = 500_000;
+
+const ROUNDS: u64 = 5;
+
+/// Which values the threads work on. The first thread is on value 0.
+#[derive(Clone, Copy, Debug, PartialEq, Eq)]
+enum Place {
+    Alone,
+    Beside,
+    Apart,
+    Same,
+}
+
+impl Place {
+    fn name(self) -> &'static str {
+        match self {
+            Place::Alone => "one thread, one value",
+            Place::Beside => "two threads, values side by side",
+            Place::Apart => "two threads, values far apart",
+            Place::Same => "two threads, one value",
+        }
+    }
+
+    /// The value of the second thread, if there is one.
+    fn second(self) -> Option<usize>
+        ensures { IfSome result (λ index. index < 32) }
+    {
+        match self {
+            Place::Alone => None,
+            Place::Beside => Some(1),
+            Place::Apart => Some(VALUES - 1),
+            Place::Same => Some(0),
+        }
+    }
+}
+
+#[derive(Clone, Copy, Debug, PartialEq, Eq)]
+pub enum Task {
+    /// Prints how many calls were made on three of the values, after a few in each case.
+    Check,
+    /// Prints the nanoseconds that a lock and its end take.
+    Measure,
+}
+
+/// The least time of some rounds, in tenths of a nanosecond for each lock of a thread.
+fn least<R: Threads + Wait + Sync + Clock>(
+    rt: &R,
+    row: &Row<Counter>,
+    main: &mut RowPass<Counter>,
+    place: Place,
+    ending: Ending,
+) -> io::Result<u128>
+    requires alone { IsAlone row.now main.old }
+    requires values { length row.now.made ≡ 32 }
+    ensures alone { IsAlone row.now main.new }
+{
+    let mut least = u128::MAX;
+    for _ in 0..ROUNDS {
+        let start = Instant::now(rt)?;
+        run(rt, row, main, place.second(), ending, LOCKS);
+        let took = Instant::now(rt)?.saturating_duration_since(start);
+        least = least.min(took.as_nanos());
+    }
+    Ok(least / u128::from(LOCKS / 10))
+}
+
+fn line<R: Threads + Wait + Sync + Clock + Print>(
+    rt: &R,
+    row: &Row<Counter>,
+    main: &mut RowPass<Counter>,
+    task: Task,
+    ending: Ending,
+    place: Place,
+) -> io::Result<()>
+    requires alone { IsAlone row.now main.old }
+    requires values { length row.now.made ≡ 32 }
+    ensures alone { IsAlone row.now main.new }
+{
+    let name = place.name();
+    let end = match ending {
+        Ending::Commit => "commit",
+        Ending::Release => "release",
+    };
+    match task {
+        Task::Measure => {
+            let tenths = least(rt, row, main, place, ending)?;
+            println!(rt;
+                "counted_row, {end}\t{name}\t{}.{}",
+                tenths / 10,
+                tenths % 10
+            )
+        }
+        Task::Check => {
+            run(rt, row, main, place.second(), ending, 10);
+            let first = row.peek_stamp(main, 0);
+            let beside = row.peek_stamp(main, 1);
+            let last = row.peek_stamp(main, VALUES - 1);
+            println!(rt; "{end}\t{name}\t{first} {beside} {last}")
+        }
+    }
+}
+
+fn lines<R: Threads + Wait + Sync + Clock + Print>(
+    rt: &R,
+    row: &Row<Counter>,
+    main: &mut RowPass<Counter>,
+    task: Task,
+    ending: Ending,
+) -> io::Result<()>
+    requires alone { IsAlone row.now main.old }
+    requires values { length row.now.made ≡ 32 }
+    ensures alone { IsAlone row.now main.new }
+{
+    for place in [Place::Alone, Place::Beside, Place::Apart, Place::Same] {
+        line(rt, row, main, task, ending, place)?;
+    }
+    Ok(())
+}
+
+/// Prints a line for each case.
+pub fn report<R: Threads + Wait + Sync + Clock + Print>(
+    rt: &R,
+    row: &Row<Counter>,
+    main: &mut RowPass<Counter>,
+    task: Task,
+) -> io::Result<()>
+    requires alone { IsAlone row.now main.old }
+    requires values { length row.now.made ≡ 32 }
+    ensures alone { IsAlone row.now main.new }
+{
+    lines(rt, row, main, task, Ending::Commit)?;
+    lines(rt, row, main, task, Ending::Release)
+}
