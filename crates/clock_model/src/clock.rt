@@ -53,6 +53,15 @@ impl Clock {
         }
     }
 
+    /// The clock as this reading shows it.
+    pub fn at(reading: Reading) -> Self
+        requires counted { reading.stamp ≤ last_stamp }
+        requires changes { reading.changes ≤ reading.stamp }
+        ensures { result ≡ reading }
+    {
+        Clock { reading }
+    }
+
     pub fn reading(&self) -> Reading
         ensures { result ≡ self.now }
     {
@@ -202,6 +211,14 @@ mod tests {
         assert_eq!(rt; clock.advance(1), late);
         assert_eq!(rt; clock.write(Write::Suspend { by: 1 }), late);
         assert_eq!(rt; clock.reading().stamp, 1);
+    }
+
+    #[test]
+    fn a_clock_goes_on_from_a_reading(rt: HostRuntime) {
+        let mut clock = Clock::new();
+        assert_eq!(rt; clock.suspend(7).is_ok(), true);
+        let mut other = Clock::at(clock.reading());
+        assert_eq!(rt; other.advance(5), clock.advance(5));
     }
 
     #[test]

@@ -1,0 +1,38 @@
+#!/usr/bin/env bash
+# Counts readings of clock_cell's clock in a second, beside the kernel's clock_gettime (vDSO), and prints one table. The
+# proved program is built with `rt run` if none is current; the runs then end within 100 seconds. Outside the gate.
+# On a busy machine threads may get one processor in turn: `chrt -r 1 bench/clock.sh` keeps them running.
+set -eu
+top=$(cd "$(dirname "$0")/.." && pwd)
+program=$top/crates/clock_cell_bench/out/clock_cell_bench
+built=$(mktemp -d)
+trap 'rm -rf "$built"' EXIT
+gcc -O2 -pthread -o "$built/c" "$top/bench/clock_peers.c"
+if [ ! -x "$program" ] || [ -n "$(find "$top"/crates/*/src "$top"/crates/*/specs "$top"/crates/*/proofs -newer "$program" 2>/dev/null)" ]; then
+    (cd "$top/crates/clock_cell_bench" && rt run --jobs 1 -- check) > "$built/log" 2>&1 || { tail -n 20 "$built/log" >&2; exit 1; }
+fi
+
+for _ in 1 2 3 4 5; do
+    for each in "$program" "$built/c"; do
+        timeout 10 "$each" || { echo "clock.sh: ${each##*/} failed, or took over 10 seconds" >&2; exit 1; }
+    done
+done > "$built/rates"
+
+echo "$(nproc) processors, load $(cut -d' ' -f1 /proc/loadavg)"
+echo "Millions a second, all threads together, from the least to the most of 5 runs: readings, and writes beside them:"
+awk -F'\t' '
+    { key = $1 FS $2 }
+    !(key in most) { order[++keys] = key; least[key] = $3; most[key] = $3; few[key] = $4; many[key] = $4 }
+    $3 < least[key] { least[key] = $3 }
+    $3 > most[key] { most[key] = $3 }
+    $4 < few[key] { few[key] = $4 }
+    $4 > many[key] { many[key] = $4 }
+    END {
+        for (i = 1; i <= keys; i++) {
+            key = order[i]
+            split(key, part, FS)
+            printf "%-14s %-34s %6.1f to %6.1f", part[1], part[2], least[key], most[key]
+            if (many[key] > 0) printf "  %5.1f to %5.1f", few[key], many[key]
+            print ""
+        }
+    }' "$built/rates"

@@ -1,0 +1,19 @@
+-- The last pass has as many places as there are writes.
+use Rattle.std.proofs.Common.{◌≡◌, ◌≢◌, ℕ, zero, suc, [], ◌∷◌, length, refl, ap, sym, ◌∙◌, arith}
+use Rattle.std.proofs.lemmas.Bool.Decides.{nat_tests}
+use Rattle.clock_model.specs.declared.write.Write.{Write}
+use Rattle.pass_names.specs.Counts.{one_if}
+use Rattle.pass_names.specs.Names.{IsLast}
+use Rattle.pass_names.specs.Passes.{entries, within}
+use Rattle.pass_names.proofs.Passes.{places_of_one}
+use Rattle.clock_cell.specs.declared.view.ClockView.{ClockView}
+use Rattle.clock_cell.specs.Views.{Knows, writes}
+
+pub all_made : (v : ClockView) → Knows v → IsLast v.pass.line → length (writes v) ≡ length v.pass.mine
+all_made v knows last =
+    let each = knows.all_entries last in
+    sym (places_of_one 0 (length (writes v)) v.pass.mine (λ k. each.once 0 k) (λ j k apart. each.once j k ∙ (ap (λ seen. one_if (within k (length (entries j seen)))) knows.one ∙ elsewhere j k apart)))
+  where
+    elsewhere : (j k : ℕ) → j ≢ 0 → one_if (within k (length (entries {E = Write} j (writes v ∷ [])))) ≡ 0
+    elsewhere zero k apart = absurd (apart refl)
+    elsewhere (suc j) k apart = grind (arith, nat_tests)

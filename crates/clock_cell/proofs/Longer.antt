@@ -1,0 +1,87 @@
+-- The longer one of two lists that begin one list.
+use Rattle.std.proofs.Common.{◌≡◌, ◌≤◌, Bool, true, false, if◌then◌else◌, List, [], ◌∷◌, ◌++◌, length, refl, ap, sym, ◌∙◌, subst, arith}
+use Rattle.std.specs.Prelude.{nat_lt, All}
+use Rattle.std.proofs.lemmas.Bool.Decides.{nat_tests}
+use Rattle.std.proofs.lemmas.List.Elements.{All-head, All-tail}
+use Rattle.clock_model.specs.Clocks.{at_stamp, AreAccepted}
+use Rattle.clock_model.specs.declared.write.Write.{Write}
+use Rattle.pass_names.specs.Passes.{Begins, GoesOn, Retires, Meets}
+use Rattle.pass_names.proofs.Passes.{begins_refl, begins_nil, begins_trans}
+use Rattle.clock_cell.specs.declared.view.ClockView.{ClockView}
+use Rattle.clock_cell.specs.Views.{AreOfOne, Hears, longer, writes, all_told, told_of, joined}
+use Rattle.clock_cell.specs.Plays.{IsResting}
+use Rattle.clock_cell.proofs.Frames.{goes_one}
+
+-- what holds of both lists holds of the longer one
+longer_is : (P : List Write → Type 0) (xs ys : List Write) → P xs → P ys → P (longer xs ys)
+longer_is P xs ys a b = elim (nat_lt (length xs) (length ys)) as (λ t. P (if t then ys else xs)) [ true ↦ b | false ↦ a ]
+
+pub longer_begins : (xs ys log : List Write) → Begins xs log → Begins ys log → Begins (longer xs ys) log
+longer_begins xs ys log a b = longer_is (λ ws. Begins ws log) xs ys a b
+
+pub longer_legal : (xs ys : List Write) → AreAccepted (at_stamp 0) xs → AreAccepted (at_stamp 0) ys → AreAccepted (at_stamp 0) (longer xs ys)
+longer_legal xs ys a b = longer_is (AreAccepted (at_stamp 0)) xs ys a b
+
+-- of two lists that begin one list, the shorter begins the other
+shorter : (xs ys r s : List Write) → xs ++ r ≡ ys ++ s → length xs ≤ length ys → Begins xs ys
+shorter [] ys r s e h = begins_nil ys
+shorter (x ∷ xs) [] r s e h = absurd (omega arith)
+shorter (x ∷ xs) (y ∷ ys) r s e h =
+    let head : x ≡ y = cc in
+    let tail : xs ++ r ≡ ys ++ s = cc in
+    let t = shorter xs ys r s tail (omega arith) in
+    record { rest = t.rest; whole = (λ i. y ∷ t.whole i) ∙ (λ i. sym head i ∷ (xs ++ t.rest)) }
+
+begins_other : {xs ys all : List Write} → Begins xs all → Begins ys all → length xs ≤ length ys → Begins xs ys
+begins_other {xs} {ys} a b h = shorter xs ys a.rest b.rest (sym a.whole ∙ b.whole) h
+
+-- the longer one goes on from both
+goes_on : (xs ys all : List Write) → Begins xs all → Begins ys all → Begins xs (longer xs ys) × Begins ys (longer xs ys)
+goes_on xs ys all a b = by (nat_lt (length xs) (length ys)) refl
+  where
+    by : (t : Bool) → nat_lt (length xs) (length ys) ≡ t → Begins xs (if t then ys else xs) × Begins ys (if t then ys else xs)
+    by true e = (begins_other a b (grind (arith, nat_tests, e)), begins_refl ys)
+    by false e = (begins_refl xs, begins_other b a (grind (arith, nat_tests, e)))
+
+-- what a pass was told of another begins what it sees next, as does what it had seen itself
+pub of_one : (v w old new : ClockView) → old.told ≡ all_told v w → Hears old new → Begins (writes v) (writes new) × Begins (writes w) (writes new)
+of_one v w old new told hears =
+    let P : List Write → Type 0 = λ ws. Begins ws (writes new) in
+    let all : All P (all_told v w) = subst (All P) told hears.begins in
+    (All-head P (writes v) (writes w ∷ v.told ++ w.told) all, All-head P (writes w) (v.told ++ w.told) (All-tail P (writes v) (writes w ∷ v.told ++ w.told) all))
+
+module _ (v w : ClockView) (is : IsResting v) (is_w : IsResting w) (one : AreOfOne (writes v) (writes w)) where
+  -- what was seen with a pass goes on where its one list does
+  from : (u : ClockView) (ws : List Write) → IsResting u → Begins (writes u) ws → GoesOn u.pass.seen (ws ∷ [])
+  from u ws rests b = subst (λ seen. GoesOn seen (ws ∷ [])) (sym rests.one) (goes_one (writes u) ws b)
+
+  retires : Retires v.pass w.pass (joined v w).pass
+  retires =
+      let t = goes_on (writes v) (writes w) one.all one.first one.second in
+      record { seen = from v _ is t.0; heard = from w _ is_w t.1; mine = refl; line = refl }
+
+  meets : Meets v.pass w.pass (told_of v (told_of w v)).pass (told_of w v).pass
+  meets =
+      let told = longer (writes w) (writes v) in
+      let t = goes_on (writes w) (writes v) one.all one.second one.first in
+      let u = goes_on (writes v) told one.all one.first (longer_begins (writes w) (writes v) one.all one.second one.first) in
+      record {
+        first = record { seen = from v _ is u.0; mine = refl; line = refl };
+        second = record { seen = from w _ is_w t.0; mine = refl; line = refl };
+        first_heard = from w _ is_w (begins_trans t.0 u.1);
+        second_heard = from v _ is t.1;
+        one = goes_one _ _ u.1;
+      }
+
+-- the same of the views of seats: those before, inside the passes, and those after
+module _ (v w before other : ClockView) (e : before ≡ v) (f : other ≡ w) (is : IsResting before) (is_w : IsResting other) (one : AreOfOne (writes v) (writes w)) where
+  pub retires_at : (after : ClockView) → after ≡ joined before other → Retires v.pass w.pass after.pass
+  retires_at after told =
+      subst (λ u. Retires v.pass w.pass u.pass) (sym (told ∙ (ap (λ u. joined u other) e ∙ ap (joined v) f)))
+      (retires v w (subst IsResting e is) (subst IsResting f is_w) one)
+
+  pub meets_at : (from to first second : ClockView) → from ≡ before → to ≡ told_of other before → second ≡ to → first ≡ told_of from to → Meets v.pass w.pass first.pass second.pass
+  meets_at from to first second same told again back =
+      let heard : to ≡ told_of w v = told ∙ (ap (λ u. told_of u before) f ∙ ap (told_of w) e) in
+      subst (λ u. Meets v.pass w.pass u.pass second.pass) (sym (back ∙ (ap (λ u. told_of u to) (same ∙ e) ∙ ap (told_of v) heard)))
+      (subst (λ u. Meets v.pass w.pass (told_of v (told_of w v)).pass u.pass) (sym (again ∙ heard)) (meets v w (subst IsResting e is) (subst IsResting f is_w) one))

@@ -1,0 +1,58 @@
+-- What is known of a write that was made after looks, and of one that was refused.
+use Rattle.std.proofs.Common.{◌≡◌, ℕ, ◌+◌, Bool, true, false, List, [], ◌∷◌, ◌++◌, length, ap, ◌∙◌, length-append, arith}
+use Rattle.std.specs.Prelude.{MatchBool}
+use Rattle.std.proofs.lemmas.List.Elements.{All-weaker}
+use Rattle.ktime.specs.Readings.{ClockReading}
+use Rattle.clock_model.specs.declared.write.Write.{Write}
+use Rattle.pass_names.specs.Passes.{Begins, Looks, places}
+use Rattle.pass_names.proofs.Passes.{begins_trans, goes_trans}
+use Rattle.clock_cell.specs.declared.view.ClockView.{ClockView}
+use Rattle.clock_cell.specs.Views.{writes, shown, Hears, Takes}
+use Rattle.clock_cell.specs.Words.{words_of, reading_in}
+use Rattle.clock_cell.specs.Plays.{Looked, Entered}
+use Rattle.clock_cell.proofs.Writes.{stamp_after}
+
+module _ (w : Write) (old new : ClockView) (r : ClockReading) where
+  -- the stamp of the reading after the write is its place
+  entered : Entered w old (words_of r) new → Takes w old new r
+  entered t =
+      let shows : r ≡ shown new = ap reading_in t.sees.shows in
+      let count : r.stamp ≡ length (writes new) = ap (λ x. x.stamp) shows ∙ stamp_after (writes new) in
+      let stamp : length t.adds.before + 1 ≡ r.stamp = omega (arith, count, ap length t.adds.last, length-append t.adds.before (w ∷ [])) in
+      record {
+        adds = t.adds;
+        accepted = t.accepted;
+        shows = shows;
+        count = count;
+        place = t.adds.mine ∙ ap (λ n. old.pass.mine ++ (0, n) ∷ []) stamp;
+      }
+
+  pub taken : (b : Bool) → MatchBool b (Entered w old (words_of r) new) ((words : List ℕ) × Looked old words new) → MatchBool b (Takes w old new r) (Looks old.pass new.pass)
+  taken true t = entered t
+  taken false t = t.1.looks
+
+module _ (old mid new : ClockView) where
+  pub looks_again : Looks old.pass mid.pass → Looks mid.pass new.pass → Looks old.pass new.pass
+  looks_again a b = record { seen = goes_trans a.seen b.seen; mine = b.mine ∙ a.mine; line = b.line ∙ a.line }
+
+  pub hears_again : Hears old mid → Begins (writes mid) (writes new) → new.told ≡ [] → Hears old new
+  hears_again a b none = record {
+    begins = All-weaker (λ ws. Begins ws (writes mid)) (λ ws. Begins ws (writes new)) (λ ws t. begins_trans t b) old.told a.begins;
+    none = none;
+  }
+
+  pub takes_again : (w : Write) (r : ClockReading) → Looks old.pass mid.pass → Takes w mid new r → Takes w old new r
+  takes_again w r a t = record {
+    adds = record {
+      seen = goes_trans a.seen t.adds.seen;
+      before = t.adds.before;
+      begins = begins_trans (a.seen.each 0) t.adds.begins;
+      last = t.adds.last;
+      mine = t.adds.mine ∙ ap (λ ms. ms ++ places 0 (length t.adds.before) (w ∷ [])) a.mine;
+      line = t.adds.line ∙ a.line;
+    };
+    accepted = t.accepted;
+    shows = t.shows;
+    count = t.count;
+    place = t.place ∙ ap (λ ms. ms ++ (0, r.stamp) ∷ []) a.mine;
+  }

@@ -1,0 +1,4 @@
+pub mod Plays
+pub mod Rules
+pub mod Views
+pub mod Words

@@ -1,0 +1,11 @@
+-- A reading as the words of the clock's cell.
+use Rattle.std.specs.Prelude.{ℕ, List, [], ◌∷◌, slice_index}
+use Rattle.ktime.specs.Readings.{ClockReading}
+
+-- the words of a reading
+abbrev pub words_of : ClockReading → List ℕ
+words_of r = r.stamp ∷ r.mono ∷ r.real ∷ r.boot ∷ r.changes ∷ []
+
+-- the reading that words show
+abbrev pub reading_in : List ℕ → ClockReading
+reading_in ws = record { stamp = slice_index ws 0; mono = slice_index ws 1; real = slice_index ws 2; boot = slice_index ws 3; changes = slice_index ws 4 }

@@ -1,0 +1,100 @@
+//! The rule of a clock's cell, and what each step on it tells.
+use crate::view::ClockView;
+use atomic_table::{Join, Split};
+use crossbeam_utils::rule::{Outcome, Protocol};
+use std::marker::{Brand, PhantomData};
+
+pub struct Law;
+
+impl Protocol<[u64; 5], ClockView> for Law {
+    ghost use Rattle.clock_cell.specs.Rules.{Home};
+    ghost use Rattle.clock_cell.specs.Views.{first_view};
+
+    ghost holds = { Home };
+
+    ghost first = { first_view };
+}
+
+/// A load: all writes so far are seen.
+pub struct Look;
+
+impl Outcome<[u64; 5], ClockView> for Look {
+    ghost use Rattle.clock_cell.specs.Plays.{Looked};
+
+    ghost then = { λ v before after w. Looked v after w };
+}
+
+/// Which write an exchange makes. Each exchange picks it.
+pub trait Asked {
+    ghost use Rattle.clock_model.specs.declared.write.Write.{Write};
+
+    ghost write: { Write };
+}
+
+impl Asked for Brand {
+    ghost use Rattle.clock_model.specs.declared.write.Write.TheVariants.{Advance};
+
+    ghost write = { Advance 0 };
+}
+
+/// An exchange from one reading to the one after the write.
+pub struct Enter<K: Asked> {
+    of: PhantomData<K>,
+}
+
+impl<K: Asked> Outcome<[u64; 5], ClockView> for Enter<K> {
+    ghost use Rattle.clock_cell.specs.Plays.{Tried};
+
+    ghost then = { Tried K.write };
+}
+
+/// A pass is split off, or taken in.
+pub struct Child;
+
+impl Split<ClockView> for Child {
+    ghost use Rattle.clock_cell.specs.Views.{split_view, new_view};
+
+    ghost left = { split_view };
+
+    ghost right = { new_view };
+}
+
+impl Join<ClockView> for Child {
+    ghost use Rattle.clock_cell.specs.Views.{joined};
+    ghost use Rattle.clock_cell.specs.Plays.{gone_view};
+
+    ghost both = { joined };
+
+    ghost spent = { gone_view };
+}
+
+/// A note of what a pass has seen is made, or taken in.
+pub struct Note;
+
+impl Split<ClockView> for Note {
+    ghost use Rattle.clock_cell.specs.Plays.{note_of};
+
+    ghost left = { λ v. v };
+
+    ghost right = { note_of };
+}
+
+impl Join<ClockView> for Note {
+    ghost use Rattle.clock_cell.specs.Views.{told_of};
+    ghost use Rattle.clock_cell.specs.Plays.{gone_view};
+
+    ghost both = { told_of };
+
+    ghost spent = { gone_view };
+}
+
+/// A pass moves to a new seat.
+pub struct Whole;
+
+impl Split<ClockView> for Whole {
+    ghost use Rattle.clock_cell.specs.Plays.{gone_view};
+
+    ghost left = { λ _. gone_view };
+
+    ghost right = { λ v. v };
+}
