@@ -1,4 +1,5 @@
 -- What a call did on one lane fits, whatever the run still adds.
+use Rattle.script_text.specs.Objects.{object_lines}
 use Rattle.std.proofs.Common.{arith, refl, sym, ap, ◌∙◌, subst, ◌≡◌, ◌≤◌, ◌<◌, ℕ, ◌+◌, true, false, Some, is_some, nat_eq, if◌then◌else◌, List, [], ◌∷◌, length}
 use Rattle.std.proofs.lemmas.Bool.{cases_eq}
 use Rattle.std.proofs.Math.Logic.{⊎_elim}
@@ -10,36 +11,43 @@ use Rattle.seq_timer.specs.Tables.{timer_at}
 use Rattle.script_text.specs.declared.script.Script.{Script}
 use Rattle.script_text.specs.declared.script.Call.{Call}
 use Rattle.script_text.specs.declared.script.Call.TheVariants as calls
-use Rattle.script_text.specs.declared.record.Label.{Label}
-use Rattle.script_text.specs.declared.record.Answer.{Answer}
-use Rattle.script_text.specs.declared.record.Answer.TheVariants as answers
-use Rattle.script_text.specs.declared.record.RunRecord.{RunRecord}
+use Rattle.record_text.specs.declared.record.Answer.{Answer}
+use Rattle.record_text.specs.declared.record.Answer.TheVariants as answers
+use Rattle.record_text.specs.declared.record.ClockLine.{ClockLine}
+use Rattle.record_text.specs.declared.record.RunRecord.{RunRecord}
 use Rattle.script_text.specs.Histories.{lines_of, timer_after}
 use Rattle.script_text.specs.Dids.{Did}
 use Rattle.script_text.specs.Order.{NeverFall}
 use Rattle.script_text.specs.Calls.{Does, IsSeen, IsTimerPoint, Saw}
-use Rattle.script_text.specs.Fits.{Seen, FitsCall, steps_on}
+use Rattle.script_text.specs.Fits.{Seen, FitsCall, steps_on, object_steps_on}
 use Rattle.script_text.specs.Passes.{IsRightPass}
 use Rattle.ktime.specs.declared.mode.Mode.{Mode}
 use Rattle.hrt_app.specs.Progress.{Progress}
 use Rattle.hrt_app.proofs.Lists.{All-map}
-use Rattle.hrt_app.proofs.Runs.{on, IsBelow, Continues, Extends, IsRun}
+use Rattle.hrt_app.specs.Objects.{object_at}
+use Rattle.hrt_app.proofs.Grown.{on, below_more, Continues-less, Grows-less, IsBelow}
+use Rattle.hrt_app.proofs.ObjectRuns.{begin_object, finish_object}
+use Rattle.hrt_app.proofs.Runs.{Extends, IsRun}
 use Rattle.hrt_app.proofs.Told.{tells_start, tells_end, point_of_timer, point_of_clock, nat_eq_apart}
 
 -- all that a record has is seen
 abbrev pub seen_of : RunRecord → Seen
-seen_of r = record { clock = length r.clock; timers = λ t. length (lines_of r t) }
+seen_of r = record { clock = length r.clock; timers = λ t. length (lines_of r t); objects = λ i. length (object_lines r i) }
 
 -- at the start of a call, as within it
 pub begin : (s : Script) (call : ℕ) (p : Progress) → IsRun s call call p → IsRun s call (call + 1) p
 begin s call p run = record {
+  limit = run.limit;
   timers = run.timers;
   lists = run.lists;
-  clock_below = All-map (IsBelow call) (IsBelow (call + 1)) _ (λ x b. (b.0, omega (arith, b.1))) run.clock_below;
-  timers_below = λ t. All-map (IsBelow call) (IsBelow (call + 1)) _ (λ x b. (b.0, omega (arith, b.1))) (run.timers_below t);
+  declared = run.declared;
+  object_lists = run.object_lists;
+  objects = λ i. begin_object s call i p.told.clock (object_lines p.told i) (object_at p.objects i) (run.objects i);
+  clock_below = All-map (IsBelow call) (IsBelow (call + 1)) _ (below_more call) run.clock_below;
+  timers_below = λ t. All-map (IsBelow call) (IsBelow (call + 1)) _ (below_more call) (run.timers_below t);
   clock_order = run.clock_order;
   timer_order = run.timer_order;
-  bare = run.bare;
+  looks = run.looks;
   writes = run.writes;
   stamp = run.stamp;
   stamps = run.stamps;
@@ -48,27 +56,28 @@ begin s call p run = record {
   legal = run.legal;
 }
 
-since_less : {X : Type 0} (label : X → Label) (call : ℕ) (now end : List X) → Continues label (call + 1) now end → Continues label call now end
-since_less label call now end c = record { rest = c.rest; more = c.more; later = All-map _ _ c.rest (λ x since. (since.0, omega (arith, since.1))) c.later }
-
 -- what goes on after a call goes on within it
 pub within : (call : ℕ) (now end : RunRecord) → Extends (call + 1) now end → Extends call now end
-within call now end e = record { clock = since_less _ call _ _ e.clock; timers = λ t. since_less _ call _ _ (e.timers t); bare = e.bare }
+within call now end e = record { clock = Continues-less _ call _ _ e.clock; timers = λ t. Continues-less _ call _ _ (e.timers t); looks = e.looks; objects = λ i. Grows-less call _ _ (e.objects i) }
 
 -- the end of a call is the start of the next
 pub finish : (s : Script) (call : ℕ) (p : Progress) → IsRun s call (call + 1) p → IsRun s (call + 1) (call + 1) p
 finish s call p run = record {
+  limit = run.limit;
   timers = run.timers;
   lists = run.lists;
+  declared = run.declared;
+  object_lists = run.object_lists;
+  objects = λ i. finish_object s call i p.told.clock (object_lines p.told i) (object_at p.objects i) (run.objects i);
   clock_below = run.clock_below;
   timers_below = run.timers_below;
   clock_order = run.clock_order;
   timer_order = run.timer_order;
-  bare = run.bare;
+  looks = run.looks;
   writes = run.writes;
   stamp = run.stamp;
   stamps = run.stamps;
-  reading_now = λ end e. run.reading_now end (within call p.told end e);
+  reading_now = λ clock c. run.reading_now clock (Continues-less (λ (l : ClockLine). l.label) call p.told.clock clock c);
   states = λ end e. run.states end (within call p.told end e);
   legal = λ end e. run.legal end (within call p.told end e);
 }
@@ -95,8 +104,9 @@ pub quiet_called : (s : Script) (number : ℕ) (p : Progress) (t : ℕ) (end : R
     → (Saw s end (on number) [] t (timer_at p.timers t).stamp o → timer_after s end t (timer_at p.timers t).stamp ≡ timer_at p.timers t → IsSeen s end (on number) (length p.told.clock) [] call answer)
     → IsRightPass s end (on number) (length p.told.clock) call answer [] [] (λ u. 0)
     → ((u : ℕ) → steps_on u (length p.told.clock) call answer [] [] (λ u. 0) ≡ (if nat_eq t u then (timer_at p.timers t).stamp ∷ [] else []))
+    → ((i : ℕ) → object_steps_on i call answer [] ≡ [])
     → FitsCall s end (on number) call answer (seen_of p.told) (seen_of p.told)
-quiet_called s number p t end call answer o run there e holds does seen pass steps =
+quiet_called s number p t end call answer o run there e holds does seen pass steps objects =
     let inside = begin s number p run in
     let told = tells_start s number p run in
     let so_far = within number p.told end e in
@@ -105,7 +115,7 @@ quiet_called s number p t end call answer o run there e holds does seen pass ste
       fired = [];
       dids = [];
       last = λ u. 0;
-      tells = tells_end number p.told end [] run.bare e told;
+      tells = tells_end number p.told end [] e told;
       does = does;
       reading = point_of_clock s number p end [] inside so_far told;
       looks = tt;
@@ -114,26 +124,33 @@ quiet_called s number p t end call answer o run there e holds does seen pass ste
       pass = pass;
       clock_steps = (omega arith, omega arith);
       timer_steps = λ u. subst (λ ns. NeverFall (length (lines_of p.told u)) ns (length (lines_of p.told u))) (sym (steps u)) (one_step s number p t u inside);
+      object_steps = λ i. subst (λ ns. NeverFall (length (object_lines p.told i)) ns (length (object_lines p.told i))) (sym (objects i)) (omega arith);
     }
 
 -- a peek, and a start and a try to cancel that change nothing
 pub peek_called : (s : Script) (call : ℕ) (p : Progress) (t : ℕ) (end : RunRecord) → IsRun s call call p → t < length s.timers → Extends (call + 1) p.told end
     → FitsCall s end (on call) (calls.Peek t) (answers.Peek (timer_at p.timers t).stamp (timer_at p.timers t).base (is_some (timer_at p.timers t).armed) (is_some (timer_at p.timers t).running) (timer_at p.timers t).moving) (seen_of p.told) (seen_of p.told)
 peek_called s call p t end run there e =
-    quiet_called s call p t end _ _ (observations.Peek (peek_of (timer_at p.timers t))) run there e refl refl (λ saw state. saw) tt (λ u. refl)
+    quiet_called s call p t end _ _ (observations.Peek (peek_of (timer_at p.timers t))) run there e refl refl (λ saw state. saw) tt (λ u. refl) (λ i. refl)
 
 pub spent_called : (s : Script) (call : ℕ) (p : Progress) (t : ℕ) (mode : Mode) (ns base : ℕ) (end : RunRecord) → IsRun s call call p → t < length s.timers → Extends (call + 1) p.told end
     → (timer_at p.timers t).limit ≤ (timer_at p.timers t).stamp → (timer_at p.timers t).moving ≡ false
     → FitsCall s end (on call) (calls.Start t mode ns base) (answers.Spent (timer_at p.timers t).stamp) (seen_of p.told) (seen_of p.told)
 spent_called s call p t mode ns base end run there e spent still =
-    quiet_called s call p t end _ _ observations.Spent run there e spent refl (λ saw state. (saw, ap (λ (x : Timer). x.moving) state ∙ still)) tt (λ u. refl)
+    quiet_called s call p t end _ _ observations.Spent run there e spent refl (λ saw state. (saw, ap (λ (x : Timer). x.moving) state ∙ still)) tt (λ u. refl) (λ i. refl)
 
 pub running_called : (s : Script) (call : ℕ) (p : Progress) (t generation : ℕ) (end : RunRecord) → IsRun s call call p → t < length s.timers → Extends (call + 1) p.told end
     → (timer_at p.timers t).running ≡ Some generation
     → FitsCall s end (on call) (calls.Cancel t) (answers.Running generation (timer_at p.timers t).stamp) (seen_of p.told) (seen_of p.told)
-running_called s call p t generation end run there e running = quiet_called s call p t end _ _ (observations.Running generation) run there e running refl (λ saw state. saw) tt (λ u. refl)
+running_called s call p t generation end run there e running = quiet_called s call p t end _ _ (observations.Running generation) run there e running refl (λ saw state. saw) tt (λ u. refl) (λ i. refl)
 
 pub idle_called : (s : Script) (call : ℕ) (p : Progress) (t : ℕ) (end : RunRecord) → IsRun s call call p → t < length s.timers → Extends (call + 1) p.told end
     → IsIdle (timer_at p.timers t)
     → FitsCall s end (on call) (calls.Cancel t) (answers.Idle (timer_at p.timers t).stamp) (seen_of p.told) (seen_of p.told)
-idle_called s call p t end run there e idle = quiet_called s call p t end _ _ observations.Idle run there e idle refl (λ saw state. saw) tt (λ u. refl)
+idle_called s call p t end run there e idle = quiet_called s call p t end _ _ observations.Idle run there e idle refl (λ saw state. saw) tt (λ u. refl) (λ i. refl)
+
+-- what a turn comes to: the run goes on, what goes on after it goes on from before it, and the call fits
+pub record TurnMade (s : Script) (number : ℕ) (p : Progress) (call : Call) (answer : Answer) (next : Progress) : Type 0 where
+  pub run : IsRun s (number + 1) (number + 1) next
+  pub back : (end : RunRecord) → Extends (number + 1) next.told end → Extends number p.told end
+  pub fits : (end : RunRecord) → Extends (number + 1) next.told end → FitsCall s end (on number) call answer (seen_of p.told) (seen_of next.told)

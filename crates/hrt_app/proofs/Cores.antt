@@ -1,23 +1,34 @@
 -- From what the timers answer to the turns of a run.
-use Rattle.std.proofs.Common.{arith, refl, sym, ap, subst, ◌∙◌, ◌≡◌, ◌<◌, ◌⊎◌, inl, inr, ℕ, ◌+◌, ◌^◌, zero, suc, Bool, true, false, ◌&&◌, is_some, nat_eq, if◌then◌else◌, List, [], ◌∷◌, ◌++◌, length, get_or, set}
+use Rattle.std.proofs.Common.{arith, refl, sym, ap, subst, ◌∙◌, ◌≡◌, ◌<◌, ◌⊎◌, inl, inr, ℕ, ◌+◌, ◌^◌, zero, suc, Bool, true, false, ◌&&◌, Option, Some, None, is_some, nat_eq, if◌then◌else◌, List, [], ◌∷◌, ◌++◌, length, get_or, set}
 use Rattle.std.proofs.lemmas.List.{get_or-set_same}
 use Rattle.std.proofs.Math.Logic.{⊎_elim}
 use Rattle.std.proofs.lemmas.Nat.{pow_pos}
 use Rattle.ktime.specs.declared.clock_id.ClockId.{ClockId}
 use Rattle.ktime.specs.declared.mode.Mode.{Mode}
 use Rattle.seq_timer.specs.declared.event.Event.TheVariants as events
-use Rattle.seq_timer.specs.Steps.{Timer, after}
+use Rattle.seq_timer.specs.declared.event.Rearmed.{Rearmed}
+use Rattle.seq_timer.specs.Steps.{Timer, after, rearmed_by}
 use Rattle.seq_timer.specs.Tables.{no_timer, timer_at}
 use Rattle.timer_core.specs.declared.answer.StartAnswer.TheVariants as starts
-use Rattle.timer_core.specs.Kept.{AreAllowed, Kept, Makes, step_all}
+use Rattle.timer_core.specs.Kept.{AreAllowed, Kept, Makes, step_all, timer_in}
 use Rattle.timer_core.specs.Answers.{IsRightClaim, moves_first, start_events, started_as}
-use Rattle.script_text.specs.declared.record.Label.{Label}
-use Rattle.script_text.specs.declared.record.Entry.{Entry}
-use Rattle.script_text.specs.declared.record.Entry.TheVariants as entries
-use Rattle.script_text.specs.declared.record.Restart.TheVariants as restarts
-use Rattle.hrt_app.specs.Progress.{Progress, bare}
-use Rattle.hrt_app.specs.Turns.{IsNext, StartsHere, StartsThere, fired_once, move_out, start_line}
-use Rattle.hrt_app.specs.Runs.{RunState, progress, with_line, with_out}
+use Rattle.script_text.specs.declared.script.Callback.{Callback}
+use Rattle.record_text.specs.declared.record.Label.{Label}
+use Rattle.record_text.specs.declared.record.Restart.TheVariants as restarts
+use Rattle.hrt_app.specs.declared.objects.Object.{Object}
+use Rattle.hrt_app.specs.declared.objects.Object.TheVariants.{Raw, Posix, Fd}
+use Rattle.hrt_app.specs.Objects.{ObjectStep, after_call, callback_of, object_at, trigger_step}
+use Rattle.record_text.specs.declared.record.Entry.{Entry}
+use Rattle.record_text.specs.declared.record.Entry.TheVariants as entries
+use Rattle.record_text.specs.declared.record.Restart.{Restart}
+use Rattle.record_text.specs.declared.record.Told.{Told}
+use Rattle.hrt_app.specs.declared.callbacks.Work.{Work}
+use Rattle.hrt_app.specs.Progress.{Progress, Step, line_of, plain, with_step, with_steps, with_trigger}
+use Rattle.hrt_app.specs.Callbacks.{act_of, after_act, entry_of, restart_of, start_line}
+use Rattle.hrt_app.specs.ObjectTurns.{StartsHere, StartsThere, move_out}
+use Rattle.hrt_app.specs.Turns.{IsNext, act_then, claim_step, finish_step, fired_by}
+use Rattle.hrt_app.specs.Runs.{Acts, RunState, progress, with_act, with_expiry_line, with_line, with_look, with_out, with_some, with_trigger_line}
+use Rattle.hrt_app.proofs.Acts.{act_allowed, MayTakeSome}
 use Rattle.hrt_app.proofs.Told.{nat_eq_apart}
 
 -- the parts of the answer of a start
@@ -65,7 +76,7 @@ here r k c t mode ns asked was generation on outs clock there parts stays makes 
           ∙ ap (λ n. progress (with_line (record r { core = k }) c t (entries.Start mode ns r.reading.stamp asked n clock (timer_at k.timers t).expires (is_some T.armed)))) parts.on_is
           ∙ ap (λ n. progress (with_line (record r { core = k }) c t (entries.Start mode ns r.reading.stamp asked (timer_at k.timers t).base n (timer_at k.timers t).expires (is_some T.armed)))) parts.clock_is
           ∙ ap (λ (x : Timer). progress (with_line (record r { core = k }) c t (entries.Start mode ns r.reading.stamp asked x.base x.clock x.expires (is_some T.armed)))) is_now
-          ∙ ap (λ ts. record { timers = ts; reading = r.reading; told = (progress (with_line r c t (entries.Start mode ns r.reading.stamp asked now.base now.clock now.expires (is_some T.armed)))).told }) timers;
+          ∙ ap (λ ts. record { timers = ts; objects = r.objects; reading = r.reading; told = (progress (with_line r c t (entries.Start mode ns r.reading.stamp asked now.base now.clock now.expires (is_some T.armed)))).told }) timers;
     }
   where
     and_true : (w : Bool) → (w && nat_eq 0 0) ≡ w
@@ -76,11 +87,13 @@ here r k c t mode ns asked was generation on outs clock there parts stays makes 
 abbrev pub pair_told : RunState → Label → ℕ → ℕ → List Timer → Bool → Entry → Progress
 pair_told r c t asked ts was entry = record {
   timers = ts;
+  objects = r.objects;
   reading = r.reading;
   told = record {
     clock = r.clock;
-    timers = set (set r.lines t (get_or r.lines t [] ++ bare c (entries.Out asked was) ∷ [])) t
-        (get_or (set r.lines t (get_or r.lines t [] ++ bare c (entries.Out asked was) ∷ [])) t [] ++ bare c entry ∷ []);
+    timers = set (set r.lines t (get_or r.lines t [] ++ line_of c (entries.Out asked was) None ∷ [])) t
+        (get_or (set r.lines t (get_or r.lines t [] ++ line_of c (entries.Out asked was) None ∷ [])) t [] ++ line_of c entry None ∷ []);
+    objects = r.object_lines;
     answers = [];
   };
 }
@@ -120,9 +133,9 @@ there r k c t mode ns asked was generation on outs clock some parts moves makes 
           ∙ ap (λ n. pair_told r c t asked k.timers was (entries.Start mode ns r.reading.stamp asked n clock (timer_at k.timers t).expires false)) parts.on_is
           ∙ ap (λ n. pair_told r c t asked k.timers was (entries.Start mode ns r.reading.stamp asked (timer_at k.timers t).base n (timer_at k.timers t).expires false)) parts.clock_is
           ∙ ap (λ (y : Timer). pair_told r c t asked k.timers was (entries.Start mode ns r.reading.stamp asked y.base y.clock y.expires false)) is_now
-          ∙ ap (λ w. pair_told r c t asked k.timers w (start_line moved q mode ns asked)) parts.was_is
-          ∙ ap (λ ts. pair_told r c t asked ts (is_some T.armed) (start_line moved q mode ns asked)) (timers ∙ sym (set_twice r.core.timers t moved now))
-          ∙ ap (λ (y : Timer). pair_told r c t asked (set q.timers t (after y start)) (is_some T.armed) (start_line y q mode ns asked)) (sym is_moved);
+          ∙ ap (λ w. pair_told r c t asked k.timers w (start_line moved r.reading mode ns asked)) parts.was_is
+          ∙ ap (λ ts. pair_told r c t asked ts (is_some T.armed) (start_line moved r.reading mode ns asked)) (timers ∙ sym (set_twice r.core.timers t moved now))
+          ∙ ap (λ (y : Timer). pair_told r c t asked (set q.timers t (after y start)) (is_some T.armed) (start_line y r.reading mode ns asked)) (sym is_moved);
     }
   where
     two_more : (n : ℕ) → n + 1 + 1 ≡ n + 2
@@ -148,28 +161,80 @@ started_turn r k c t mode ns asked was generation on outs clock some e makes =
     is_either true = inl refl
     is_either false = inr refl
 
--- the run after a claim and the finish after it have entered their lines
-abbrev pub fired_told : RunState → Kept → Label → ℕ → ℕ → ℕ → RunState
-fired_told r k c base t generation = record r {
-  core = k;
-  lines = set (set r.lines t (get_or r.lines t [] ++ bare c (entries.Claim base r.reading.stamp generation) ∷ [])) t
-      (get_or (set r.lines t (get_or r.lines t [] ++ bare c (entries.Claim base r.reading.stamp generation) ∷ [])) t [] ++ bare c (entries.Finish false generation restarts.None) ∷ []);
+-- the run after a claim, the work of its callback and the finish have entered their lines
+abbrev pub fired_told : RunState → Kept → Object → Label → ℕ → ℕ → ℕ → Option Told → Option Entry → Bool → Restart → RunState
+fired_told r k o c base t generation look entry again rearmed =
+    with_line (with_expiry_line (with_some (with_look (record r { core = k }) c t (entries.Claim base r.reading.stamp generation) look) c t entry) c t generation r.reading o) c t (entries.Finish again generation rearmed)
+
+-- the timers after a claim, a callback's step and a finish
+abbrev pub fired_timers : List Timer → ℕ → Timer → Option Step → Bool → List Timer
+fired_timers ts t running step again = set (with_act (set ts t running) t step) t (after (timer_at (with_act (set ts t running) t step) t) (events.Finish again))
+
+-- the run after these steps
+told_steps : (r : RunState) (k : Kept) (callback : Callback) (c : Label) (base t generation : ℕ) (look : Option Told) (step : Option Step) (again : Bool) (rearmed : Restart)
+    → k.timers ≡ fired_timers r.core.timers t (after (timer_at r.core.timers t) (events.Claim base r.reading)) step again
+    → MayTakeSome (after (timer_at r.core.timers t) (events.Claim base r.reading)) r.reading step
+    → progress (fired_told r k (Raw callback) c base t generation look (entry_of step) again rearmed)
+    ≡ with_steps (progress r) c t (claim_step base r.reading generation look ∷ act_then step (plain (events.Finish again) (entries.Finish again generation rearmed) ∷ []))
+told_steps r k callback c base t generation look None again rearmed timers takes =
+    ap (λ ts. record { timers = ts; objects = r.objects; reading = r.reading; told = (progress (fired_told r k (Raw callback) c base t generation look None again rearmed)).told }) timers
+told_steps r k callback c base t generation look (Some x) again rearmed timers takes =
+    ap (λ ts. record { timers = ts; objects = r.objects; reading = r.reading; told = (progress (fired_told r k (Raw callback) c base t generation look (Some x.entry) again rearmed)).told }) timers
+    ∙ ap (λ o. with_steps (progress r) c t (claim_step base r.reading generation look ∷ record { event = x.event; entry = x.entry; look = o } ∷ plain (events.Finish again) (entries.Finish again generation rearmed) ∷ [])) (sym takes.bare)
+
+-- the timer that is claimed is the next of the run
+pub next_turn : (r : RunState) (one : Kept) (base t generation number : ℕ) → IsRightClaim r.core base r.reading t generation number one → IsNext (progress r) base t generation
+next_turn r one base t generation number claim = record {
+  there = claim.next.within;
+  armed = claim.armed;
+  needs = claim.entry.allowed.0;
+  free = claim.idle;
+  first = claim.next.ahead;
+  earliest = claim.next.smaller;
 }
 
+-- the run after the claim of an object's timer, its expiry and the finish
+told_expiry : (r : RunState) (k : Kept) (c : Label) (base t generation : ℕ) (x : Option ObjectStep)
+    → k.timers ≡ fired_timers r.core.timers t (after (timer_at r.core.timers t) (events.Claim base r.reading)) None false
+    → progress (with_line (with_trigger_line (with_line (record r { core = k }) c t (entries.Claim base r.reading.stamp generation)) c t generation x) c t (entries.Finish false generation restarts.None))
+    ≡ with_step (with_trigger (with_step (progress r) c t (claim_step base r.reading generation None)) c t generation x) c t (finish_step (after (timer_at r.core.timers t) (events.Claim base r.reading)) generation false)
+told_expiry r k c base t generation None timers =
+    ap (λ ts. record { timers = ts; objects = r.objects; reading = r.reading; told = (progress (with_line (with_trigger_line (with_line (record r { core = k }) c t (entries.Claim base r.reading.stamp generation)) c t generation None) c t (entries.Finish false generation restarts.None))).told }) timers
+told_expiry r k c base t generation (Some x) timers =
+    ap (λ ts. record { timers = ts; objects = set r.objects t (after_call (object_at r.objects t) x.call); reading = r.reading; told = (progress (with_line (with_trigger_line (with_line (record r { core = k }) c t (entries.Claim base r.reading.stamp generation)) c t generation (Some x)) c t (entries.Finish false generation restarts.None))).told }) timers
+
+-- a claim's turn, by what the timer is declared with
+turn_by : (r : RunState) (k : Kept) (o : Object) (c : Label) (base t generation : ℕ) (running : Timer) → running ≡ after (timer_at r.core.timers t) (events.Claim base r.reading) → (timer_at r.core.timers t).armed ≡ Some generation
+    → let act = act_of (callback_of o) running r.reading in k.timers ≡ fired_timers r.core.timers t running act.step act.again
+    → progress (fired_told r k o c base t generation act.look (entry_of act.step) act.again (restart_of (rearmed_by (after_act running act.step) act.again))) ≡ fired_by o (progress r) c base t generation
+turn_by r k (Raw callback) c base t generation running is armed timers =
+    subst (λ x. let act = act_of callback x r.reading in k.timers ≡ fired_timers r.core.timers t x act.step act.again
+    → progress (fired_told r k (Raw callback) c base t generation act.look (entry_of act.step) act.again (restart_of (rearmed_by (after_act x act.step) act.again))) ≡ fired_by (Raw callback) (progress r) c base t generation) (sym is)
+    (λ same. let now = after (timer_at r.core.timers t) (events.Claim base r.reading) in
+    let act = act_of callback now r.reading in
+    told_steps r k callback c base t generation act.look act.step act.again (restart_of (rearmed_by (after_act now act.step) act.again)) same
+    (act_allowed (timer_at r.core.timers t).limit callback now r.reading generation refl armed).takes) timers
+turn_by r k (Posix x) c base t generation running is armed timers =
+    told_expiry r k c base t generation (trigger_step (Posix x) generation r.reading) (timers ∙ ap (λ y. fired_timers r.core.timers t y None false) is)
+turn_by r k (Fd x) c base t generation running is armed timers =
+    told_expiry r k c base t generation (trigger_step (Fd x) generation r.reading) (timers ∙ ap (λ y. fired_timers r.core.timers t y None false) is)
+
 -- a callback's turn
-pub fired_turn : (r : RunState) (one two : Kept) (c : Label) (base t generation number : ℕ) → IsRightClaim r.core base r.reading t generation number one → Makes one t (events.Finish false ∷ []) two
-    → IsNext (progress r) base t generation × (progress (fired_told r two c base t generation) ≡ fired_once (progress r) c base t generation)
-fired_turn r one two c base t generation number claim finish =
-    let claimed_timers : one.timers ≡ set r.core.timers t (after (timer_at r.core.timers t) (events.Claim base r.reading)) = ap (λ (x : Kept). x.timers) claim.entry.kept in
-    let next : IsNext (progress r) base t generation = record {
-      there = claim.next.within;
-      armed = claim.armed;
-      needs = claim.entry.allowed.0;
-      free = claim.idle;
-      first = claim.next.ahead;
-      earliest = claim.next.smaller;
-    } in (
-      next,
-      ap (λ ts. record { timers = ts; reading = r.reading; told = (progress (fired_told r two c base t generation)).told })
-          (ap (λ (x : Kept). x.timers) finish.kept ∙ ap (λ ts. set ts t (after (timer_at ts t) (events.Finish false))) claimed_timers),
-    )
+pub fired_turn : (r : RunState) (one two three : Kept) (o : Object) (c : Label) (base t generation number : ℕ) (work : Work) (rearmed : Rearmed) → IsRightClaim r.core base r.reading t generation number one
+    → Acts one t (act_of (callback_of o) (timer_in one t) r.reading) work two → Makes two t (events.Finish work.again ∷ []) three → rearmed ≡ rearmed_by (timer_in two t) work.again
+    → progress (fired_told r three o c base t generation work.told work.entry work.again (restart_of rearmed)) ≡ fired_by o (progress r) c base t generation
+fired_turn r one two three o c base t generation number work rearmed claim worked finish rearms =
+    let running = after (timer_at r.core.timers t) (events.Claim base r.reading) in
+    let act = act_of (callback_of o) running r.reading in
+    let acts : Acts one t act work two = subst (λ (x : Timer). Acts one t (act_of (callback_of o) x r.reading) work two) claim.entry.timer worked in
+    let now : timer_in two t ≡ after_act running act.step = acts.now ∙ ap (λ (x : Timer). after_act x act.step) claim.entry.timer in
+    let restart : restart_of rearmed ≡ restart_of (rearmed_by (after_act running act.step) act.again) =
+    ap restart_of (rearms ∙ ap (λ b. rearmed_by (timer_in two t) b) acts.again ∙ ap (λ (x : Timer). rearmed_by x act.again) now) in
+    let timers : three.timers ≡ fired_timers r.core.timers t running act.step act.again =
+    ap (λ (x : Kept). x.timers) finish.kept ∙ ap (λ b. set two.timers t (after (timer_at two.timers t) (events.Finish b))) acts.again
+    ∙ ap (λ ts. set ts t (after (timer_at ts t) (events.Finish act.again))) (acts.timers ∙ ap (λ ts. with_act ts t act.step) (ap (λ (x : Kept). x.timers) claim.entry.kept)) in
+    ap (λ x. progress (fired_told r three o c base t generation x work.entry work.again (restart_of rearmed))) acts.told
+    ∙ ap (λ x. progress (fired_told r three o c base t generation act.look x work.again (restart_of rearmed))) acts.entry
+    ∙ ap (λ b. progress (fired_told r three o c base t generation act.look (entry_of act.step) b (restart_of rearmed))) acts.again
+    ∙ ap (λ x. progress (fired_told r three o c base t generation act.look (entry_of act.step) act.again x)) restart
+    ∙ turn_by r three o c base t generation running refl claim.armed timers

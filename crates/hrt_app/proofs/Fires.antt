@@ -1,172 +1,173 @@
--- An expiry pass on one lane fits, whatever the run still adds.
-use Rattle.std.proofs.Common.{arith, refl, sym, ap, ◌∙◌, subst, ◌≡◌, ◌≤◌, ◌<◌, ℕ, ◌+◌, Bool, false, Some, None, is_some, nat_eq, nat_lt, nat_le, not, ◌&&◌, List, [], ◌∷◌, ◌++◌, length, map, unwrap_or}
-use Rattle.std.specs.Prelude.{flat_map}
+-- A timer that an expiry pass claims, its callback and its finish: what they leave of the record.
+use Rattle.std.proofs.Common.{arith, refl, sym, ap, ◌∙◌, subst, ◌≡◌, ◌≢◌, ◌<◌, ◌⊎◌, inl, ℕ, ◌+◌, Bool, Option, Some, None, is_some, List, [], ◌∷◌, ◌++◌, length, unwrap_or}
 use Rattle.std.proofs.Math.Logic.{⊎_elim}
-use Rattle.std.proofs.lemmas.Bool.{cases_lt}
-use Rattle.std.proofs.lemmas.List.{get_or-set_same, get_or_past, append_assoc}
+use Rattle.std.proofs.lemmas.Bool.{cases_eq}
+use Rattle.std.proofs.lemmas.List.{get_or-set_other}
 use Rattle.std.specs.List.{AllByRecursion}
-use Rattle.ktime.specs.Readings.{ClockReading}
-use Rattle.ktime.specs.declared.clock_id.ClockId.{ClockId}
 use Rattle.seq_timer.specs.declared.event.Event.TheVariants as events
 use Rattle.seq_timer.specs.declared.event.Reply.TheVariants as replies
-use Rattle.seq_timer.specs.declared.event.Rearmed.TheVariants as rearmings
-use Rattle.seq_timer.specs.Steps.{Timer, after, now_of, opening}
-use Rattle.seq_timer.specs.Tables.{timer_at, no_timer, runs_on, is_due_on, is_ahead, is_smaller, rank}
+use Rattle.seq_timer.specs.Steps.{Timer, Needs, after, finish_reply, rearmed_by, reply_to}
+use Rattle.seq_timer.specs.Tables.{no_timer, timer_at}
+use Rattle.script_text.specs.declared.script.Callback.{Callback}
+use Rattle.script_text.specs.declared.script.Kind.TheVariants as kinds
 use Rattle.script_text.specs.declared.script.Script.{Script}
-use Rattle.script_text.specs.declared.script.Callback.TheVariants as callbacks
-use Rattle.script_text.specs.declared.record.Restart.TheVariants as restarts
-use Rattle.script_text.specs.declared.record.Entry.TheVariants as entries
-use Rattle.script_text.specs.declared.record.RunRecord.{RunRecord}
+use Rattle.record_text.specs.declared.record.Label.{Label}
+use Rattle.record_text.specs.declared.record.ObjectLine.{ObjectLine}
+use Rattle.record_text.specs.declared.record.RunRecord.{RunRecord}
+use Rattle.record_text.specs.declared.record.Told.{Told}
 use Rattle.script_text.specs.Order.{NeverFall}
-use Rattle.script_text.specs.Histories.{clock_of, lines_of, reading_at, timer_after}
-use Rattle.script_text.specs.Dids.{Did, Entered, Tells, numbers_on, wrote}
-use Rattle.script_text.specs.Calls.{Fired, fires, callback_of, IsBody, AreTrue}
-use Rattle.script_text.specs.Passes.{IsRightClaim, AreRightClaims}
-use Rattle.hrt_app.specs.Progress.{Progress}
-use Rattle.hrt_app.specs.Turns.{IsNext, Claims, claimed, fired_once}
-use Rattle.hrt_app.proofs.Runs.{on, Extends, IsRun, IsStep}
-use Rattle.hrt_app.proofs.Told.{point_of_timer}
-use Rattle.hrt_app.proofs.Made.{append_nothing, ArePair, NeverFall-append, pair_back, pair_run, pair_steps, pair_told, reading_shown}
+use Rattle.script_text.specs.Histories.{lines_of, rearmed_as}
+use Rattle.script_text.specs.Objects.{kind_of, object_lines}
+use Rattle.script_text.specs.Dids.{Did, Tells, numbers_on, wrote, numbers_of_object}
+use Rattle.script_text.specs.Calls.{Fired, fires, IsBody, AreTrue}
+use Rattle.hrt_app.specs.declared.objects.Object.TheVariants.{Raw}
+use Rattle.hrt_app.specs.Objects.{entries_of, object_at}
+use Rattle.hrt_app.specs.Progress.{Progress, Step, with_step, with_steps}
+use Rattle.hrt_app.specs.Callbacks.{Act, act_of, after_act, restart_of}
+use Rattle.hrt_app.specs.Turns.{IsNext, act_steps, act_then, claim_step, finish_step}
+use Rattle.hrt_app.proofs.Grown.{on, AreBelow}
+use Rattle.hrt_app.proofs.ObjectHistories.{IsMadeAs}
+use Rattle.hrt_app.proofs.Runs.{push_step, Extends, IsRun, IsStep, Sees}
+use Rattle.hrt_app.proofs.Taken.{dids_of, steps_back, steps_clock, steps_numbers, steps_reading, steps_run, steps_told, steps_true, timer_with, wrote_steps, steps_object, AreTaken}
+use Rattle.hrt_app.proofs.Acts.{act_allowed, firing_as, fires_are, is_body, rearmed_back, MayTakeSome}
+use Rattle.hrt_app.proofs.Made.{reading_shown}
 
--- every callback does nothing
-abbrev pub AreOnce : Script → Type 0
-AreOnce s = (t : ℕ) → callback_of s t ≡ callbacks.Once
+-- the timer while its function runs, and what its callback comes to
+abbrev pub running_timer : Progress → ℕ → ℕ → Timer
+running_timer p base t = after (timer_at p.timers t) (events.Claim base p.reading)
 
--- the claimed timer, running
-claimed_timer : (s : Script) (p : Progress) (call base t generation : ℕ) → IsRun s call (call + 1) p → t < length s.timers
-    → timer_at (claimed p (on call) base t generation).timers t ≡ after (timer_at p.timers t) (events.Claim base p.reading)
-claimed_timer s p call base t generation run there = get_or-set_same p.timers t (after (timer_at p.timers t) (events.Claim base p.reading)) no_timer (subst (λ n. t < n) (sym run.timers) there)
+abbrev pub act_at : Callback → Progress → ℕ → ℕ → Act
+act_at callback p base t = act_of callback (running_timer p base t) p.reading
 
--- a claim and the finish after it are entries that the timer takes
-pub fire_pair : (s : Script) (p : Progress) (call base t generation : ℕ) → IsRun s call (call + 1) p → IsNext p base t generation
-    → ArePair s p call t (events.Claim base p.reading) (entries.Claim base p.reading.stamp generation) (events.Finish false) (entries.Finish false generation restarts.None)
-fire_pair s p call base t generation run next =
-    let there : t < length s.timers = subst (λ n. t < n) run.timers next.there in
-    let step : IsStep s p call t (events.Claim base p.reading) (entries.Claim base p.reading.stamp generation) = record {
-      there = there;
-      needs = next.needs;
-      counts = refl;
-      shows = λ end e.
-          ap (λ r. record { event = events.Claim base r; reply = replies.Claim generation }) (reading_shown s p call end run e)
-          ∙ ap (λ g. record { event = events.Claim base p.reading; reply = replies.Claim (unwrap_or g 0) }) (sym next.armed);
-    } in
-    let is_claimed = claimed_timer s p call base t generation run there in
-    let runs : (timer_at (claimed p (on call) base t generation).timers t).running ≡ Some generation = ap (λ (x : Timer). x.running) is_claimed ∙ next.armed in
+-- the steps from the claim to the finish
+abbrev pub fire_steps : Callback → Progress → ℕ → ℕ → ℕ → List Step
+fire_steps callback p base t generation = act_steps (running_timer p base t) p.reading base generation (act_at callback p base t)
+
+pub finish_taken : (s : Script) (p : Progress) (call t generation : ℕ) (now : Timer) (again : Bool) → IsRun s call (call + 1) p → t < length s.timers → timer_at p.timers t ≡ now → now.running ≡ Some generation
+    → IsStep s p call t (finish_step now generation again)
+finish_taken s p call t generation now again run there is runs =
+    let stamp : length (lines_of p.told t) ≡ now.stamp = sym (run.stamps t) ∙ ap (λ (x : Timer). x.stamp) is in
     record {
-      one = step;
-      two = record {
-        there = there;
-        needs = ap is_some runs;
-        counts = refl;
-        shows = λ end e. ap (λ g. record { event = events.Finish false; reply = replies.Finish (unwrap_or g 0) rearmings.No }) (sym runs);
-      };
+      there = there;
+      needs = ap (λ (x : Timer). is_some x.running) is ∙ ap is_some runs;
+      counts = refl;
+      sees = tt;
+      shows = λ end e.
+          ap (λ n. record { event = events.Finish again; reply = replies.Finish generation (rearmed_as n (restart_of (rearmed_by now again))) }) stamp
+          ∙ ap (λ a. record { event = events.Finish again; reply = replies.Finish generation a }) (rearmed_back now again)
+          ∙ ap (λ o. record { event = events.Finish again; reply = replies.Finish (unwrap_or o 0) (rearmed_by now again) }) (sym runs)
+          ∙ ap (λ (x : Timer). record { event = events.Finish again; reply = finish_reply x again }) (sym is);
     }
 
--- the callback, as the record has it
-abbrev pub firing : Progress → ℕ → ℕ → ℕ → ℕ → Fired
-firing p call base t generation = record {
-  seen = λ u. length (lines_of p.told u);
-  timer = t;
-  claim = length (lines_of p.told t) + 1;
-  generation = generation;
-  body = [];
-  finish = length (lines_of (claimed p (on call) base t generation).told t) + 1;
-  restart = false;
-  rearmed = restarts.None;
+act_taken : (s : Script) (p : Progress) (call t generation : ℕ) (now : Timer) (step : Option Step) (again : Bool) → IsRun s call (call + 1) p → t < length s.timers → timer_at p.timers t ≡ now → now.running ≡ Some generation
+    → MayTakeSome now p.reading step → AreTaken s call t p (act_then step (finish_step (after_act now step) generation again ∷ []))
+act_taken s p call t generation now None again run there is runs takes = (finish_taken s p call t generation now again run there is runs, tt)
+act_taken s p call t generation now (Some x) again run there is runs takes =
+    let step : IsStep s p call t x = record {
+      there = there;
+      needs = subst (λ (u : Timer). Needs u x.event) (sym is) takes.needs;
+      counts = subst (λ (u : Timer). (after u x.event).stamp ≡ u.stamp + 1) (sym is) takes.counts;
+      sees = subst (Sees s.limit (after (timer_at p.timers t) x.event)) (sym takes.bare) tt;
+      shows = λ end e.
+          takes.shows end.clock (length (lines_of p.told t)) (reading_shown s p call end run e)
+          ∙ ap (λ (u : Timer). record { event = x.event; reply = reply_to u x.event }) (sym is);
+    } in (
+      step,
+      (
+        finish_taken s (with_step p (on call) t x) call t generation (after now x.event) again (push_step s p call t x run step) there
+            (timer_with p (on call) t x (subst (λ n. t < n) (sym run.timers) there) ∙ ap (λ (u : Timer). after u x.event) is) (takes.running ∙ runs),
+        tt,
+      ),
+    )
+
+-- the claim is a step that the timer takes
+pub claim_taken : (s : Script) (p : Progress) (call base t generation : ℕ) (look : Option Told) → IsRun s call (call + 1) p → IsNext p base t generation → Sees s.limit (running_timer p base t) look → IsStep s p call t (claim_step base p.reading generation look)
+claim_taken s p call base t generation look run next sees = record {
+  there = subst (λ n. t < n) run.timers next.there;
+  needs = next.needs;
+  counts = refl;
+  sees = sees;
+  shows = λ end e.
+      ap (λ r. record { event = events.Claim base r; reply = replies.Claim generation }) (reading_shown s p call end run e)
+      ∙ ap (λ g. record { event = events.Claim base p.reading; reply = replies.Claim (unwrap_or g 0) }) (sym next.armed);
 }
 
--- the callbacks of a pass, as the record has them
-abbrev pub firings : Progress → ℕ → ℕ → List (ℕ × ℕ) → List Fired
-firings p call base [] = []
-firings p call base (f ∷ fs) = firing p call base f.0 f.1 ∷ firings (fired_once p (on call) base f.0 f.1) call base fs
+-- the steps from a claim to the finish are ones that the timer takes
+pub fire_taken : (s : Script) (callback : Callback) (p : Progress) (call base t generation : ℕ) → IsRun s call (call + 1) p → IsNext p base t generation → AreTaken s call t p (fire_steps callback p base t generation)
+fire_taken s callback p call base t generation run next =
+    let there : t < length s.timers = subst (λ n. t < n) run.timers next.there in
+    let act = act_at callback p base t in
+    let allowed = act_allowed s.limit callback (running_timer p base t) p.reading generation refl next.armed in
+    let claim = claim_step base p.reading generation act.look in
+    let step = claim_taken s p call base t generation act.look run next allowed.sees in (
+      step,
+      act_taken s (with_step p (on call) t claim) call t generation (running_timer p base t) act.step act.again (push_step s p call t claim run step) there
+          (timer_with p (on call) t claim (subst (λ n. t < n) (sym run.timers) there)) next.armed allowed.takes,
+    )
 
--- a test of a timer, as it was seen at the end of its lines so far
-pub test_seen : (s : Script) (p : Progress) (call : ℕ) (end : RunRecord) (test : Timer → Bool) (u : ℕ) → IsRun s call (call + 1) p → Extends call p.told end
-    → ((timer : Timer) → timer.armed ≡ None → timer.running ≡ None → test timer ≡ false)
-    → test (timer_at p.timers u) ≡ false → test (timer_after s end u (length (lines_of p.told u))) ≡ false
-test_seen s p call end test u run e never now =
-    ⊎_elim (λ there. ap test (run.states end e u there) ∙ now)
-    (λ past. subst (λ ls. test (timer_after s end u (length ls)) ≡ false) (sym (get_or_past p.told.timers u [] (subst (λ n. n ≤ u) (sym run.lists) past))) (never (opening (clock_of s u) s.limit) refl refl))
-    (cases_lt u (length s.timers))
+-- no refused expiry of an object is of this call, or its timer isn't armed
+abbrev pub IsFresh : ℕ → Progress → ℕ → Type 0
+IsFresh call p i = AllByRecursion (λ (l : ObjectLine). AreBelow call l.skips) (object_lines p.told i) ⊎ ((timer_at p.timers i).armed ≡ None)
 
--- a timer that is neither armed nor running is not running on a base, nor due or armed there
-pub never_runs : (base : ℕ) (timer : Timer) → timer.armed ≡ None → timer.running ≡ None → runs_on base timer ≡ false
-never_runs base timer armed running = ap (λ g. is_some g && nat_eq timer.base base) running
-
-pub never_due : (base : ℕ) (reading : ClockReading) (timer : Timer) → timer.armed ≡ None → timer.running ≡ None → is_due_on base reading timer ≡ false
-never_due base reading timer armed running = ap (λ g. is_some g && not timer.moving && nat_eq timer.base base && nat_le timer.expires (now_of timer reading)) armed
-
-never_ahead : (base : ℕ) (reading : ClockReading) (clock : ClockId) (timer : Timer) → timer.armed ≡ None → timer.running ≡ None → is_ahead base reading clock timer ≡ false
-never_ahead base reading clock timer armed running = ap (λ b. b && nat_lt (rank timer.clock) (rank clock)) (never_due base reading timer armed running)
-
-never_smaller : (base : ℕ) (clock : ClockId) (expires : ℕ) (timer : Timer) → timer.armed ≡ None → timer.running ≡ None → is_smaller base clock expires timer ≡ false
-never_smaller base clock expires timer armed running =
-    ap (λ g. is_some g && not timer.moving && nat_eq timer.base base && nat_eq (rank timer.clock) (rank clock) && nat_lt timer.expires expires) armed
-
--- what a pass did, by the record that it leaves
-pub record PassMade (s : Script) (call base at : ℕ) (p next : Progress) (fs : List (ℕ × ℕ)) (before : List Did) : Type 0 where
+-- what the claim of one timer led to, up to its finish: the record tells these things, and the run goes on
+pub record FireMade (s : Script) (call base at : ℕ) (p next : Progress) (this : Fired) : Type 0 where
   pub run : IsRun s call (call + 1) next
   pub same_clock : next.told.clock ≡ p.told.clock
   pub same_reading : next.reading ≡ p.reading
   pub back : (end : RunRecord) → Extends call next.told end → Extends call p.told end
-  pub tells : Tells next.told (on call) (before ++ flat_map (fires base at) (firings p call base fs))
-  pub writes_none : wrote (flat_map (fires base at) (firings p call base fs)) ≡ []
-  pub claims : (end : RunRecord) → Extends call next.told end → AreRightClaims s end (on call) at base before (firings p call base fs)
-  pub looks : (end : RunRecord) → AreTrue s end (on call) before (flat_map (fires base at) (firings p call base fs))
-  pub steps : (u : ℕ) → NeverFall (length (lines_of p.told u)) (flat_map (λ f. f.seen u ∷ numbers_on u (fires base at f)) (firings p call base fs)) (length (lines_of next.told u))
-  pub timers : map (λ f. f.0) fs ≡ map (λ (f : Fired). f.timer) (firings p call base fs)
-  pub bodies : AllByRecursion (λ f. IsBody (callback_of s f.timer) at f) (firings p call base fs)
+  pub tells : (before : List Did) → Tells p.told (on call) before → Tells next.told (on call) (before ++ fires base at this)
+  pub writes_none : wrote (fires base at this) ≡ []
+  pub looks : (end : RunRecord) (before rest : List Did) → Tells p.told (on call) before → Extends call next.told end → AreTrue s end (on call) (before ++ fires base at this) rest
+      → AreTrue s end (on call) before (fires base at this ++ rest)
+  pub steps : (u : ℕ) → NeverFall (length (lines_of p.told u)) (numbers_on u (fires base at this)) (length (lines_of next.told u))
+  pub object_steps : (i : ℕ) → NeverFall (length (object_lines p.told i)) (numbers_of_object i (fires base at this)) (length (object_lines next.told i))
+  pub fresh : (i : ℕ) → IsFresh call p i → IsFresh call next i
+  pub body : IsBody (kind_of s this.timer) at this
 
-right_claim : (s : Script) (call base at t generation : ℕ) (p : Progress) (before : List Did) (end : RunRecord) → p.reading.stamp ≡ at → IsRun s call (call + 1) p → IsNext p base t generation → Tells p.told (on call) before → Extends call p.told end
-    → IsRightClaim s end (on call) (reading_at end.clock at) base before (firing p call base t generation) (timer_after s end t (length (lines_of p.told t)))
-right_claim s call base at t generation p before end same run next told e =
-    let there : t < length s.timers = subst (λ n. t < n) run.timers next.there in
-    let right : IsRightClaim s end (on call) p.reading base before (firing p call base t generation) (timer_at p.timers t) = record {
-      points = point_of_timer s call p end before run e told;
-      next = refl;
-      free = λ u. test_seen s p call end (runs_on base) u run e (never_runs base) (next.free u);
-      first = λ u. test_seen s p call end (is_ahead base p.reading (timer_at p.timers t).clock) u run e (never_ahead base p.reading (timer_at p.timers t).clock) (next.first u);
-      earliest = λ u. test_seen s p call end (is_smaller base (timer_at p.timers t).clock (timer_at p.timers t).expires) u run e (never_smaller base (timer_at p.timers t).clock (timer_at p.timers t).expires) (next.earliest u);
-    } in
-    subst (λ r. IsRightClaim s end (on call) r base before (firing p call base t generation) (timer_after s end t (length (lines_of p.told t))))
-    (sym (subst (λ n. reading_at end.clock n ≡ p.reading) same (reading_shown s p call end run e)))
-    (subst (λ timer. IsRightClaim s end (on call) p.reading base before (firing p call base t generation) timer) (sym (run.states end e t there)) right)
+-- the steps of one timer leave all others
+pub steps_others : (p : Progress) (c : Label) (t u : ℕ) (xs : List Step) → u ≢ t → timer_at (with_steps p c t xs).timers u ≡ timer_at p.timers u
+steps_others p c t u [] apart = refl
+steps_others p c t u (x ∷ xs) apart = steps_others (with_step p c t x) c t u xs apart ∙ get_or-set_other p.timers t u (after (timer_at p.timers t) x.event) no_timer apart
 
-pub pass_made : (s : Script) (call base at : ℕ) → AreOnce s → (fs : List (ℕ × ℕ)) (p next : Progress) (before : List Did) → p.reading.stamp ≡ at → IsRun s call (call + 1) p → Claims (on call) base p fs next → Tells p.told (on call) before
-    → PassMade s call base at p next fs before
-pass_made s call base at once [] p next before same run claims told =
-    subst (λ (q : Progress). PassMade s call base at p q [] before) (sym claims) (record {
-      run = run;
-      same_clock = refl;
-      same_reading = refl;
-      back = λ end e. e;
-      tells = subst (Tells p.told (on call)) (sym (append_nothing before)) told;
-      writes_none = refl;
-      claims = λ end e. tt;
-      looks = λ end. tt;
-      steps = λ u. omega arith;
-      timers = refl;
-      bodies = tt;
-    })
-pass_made s call base at once (f ∷ fs) p next before same run claims told =
-    let pair = fire_pair s p call base f.0 f.1 run claims.0 in
-    let claim = Entered f.0 (length (lines_of p.told f.0) + 1) (entries.Claim base p.reading.stamp f.1) in
-    let end_of = Entered f.0 (length (lines_of (claimed p (on call) base f.0 f.1).told f.0) + 1) (entries.Finish false f.1 restarts.None) in
-    let both : ((before ++ claim ∷ []) ++ end_of ∷ []) ≡ before ++ fires base at (firing p call base f.0 f.1) =
-    append_assoc before (claim ∷ []) (end_of ∷ []) ∙ ap (λ n. before ++ Entered f.0 (length (lines_of p.told f.0) + 1) (entries.Claim base n f.1) ∷ end_of ∷ []) same in
-    let told_after = subst (Tells (fired_once p (on call) base f.0 f.1).told (on call)) both (pair_told s p call f.0 _ _ _ _ before run pair told) in
-    let rest = pass_made s call base at once fs (fired_once p (on call) base f.0 f.1) next (before ++ fires base at (firing p call base f.0 f.1)) same (pair_run s p call f.0 _ _ _ _ run pair) claims.1 told_after in
-    let back = λ (end : RunRecord) (e : Extends call next.told end). pair_back s p call f.0 (events.Claim base p.reading) (entries.Claim base p.reading.stamp f.1) (events.Finish false) (entries.Finish false f.1 restarts.None) end run pair (rest.back end e) in
+pub steps_objects : (p : Progress) (c : Label) (t : ℕ) (xs : List Step) (i : ℕ) → object_lines (with_steps p c t xs).told i ≡ object_lines p.told i
+steps_objects p c t [] i = refl
+steps_objects p c t (x ∷ xs) i = steps_objects (with_step p c t x) c t xs i
+
+no_lines : (ls : List ObjectLine) → 0 ≡ length ls → ls ≡ []
+no_lines [] e = refl
+no_lines (l ∷ ls) e = absurd (omega (arith, e))
+
+-- a raw timer's
+pub raw_made : (s : Script) (callback : Callback) (call base at t generation : ℕ) (p : Progress) → object_at p.objects t ≡ Raw callback → p.reading.stamp ≡ at → IsRun s call (call + 1) p → IsNext p base t generation
+    → FireMade s call base at p (with_steps p (on call) t (fire_steps callback p base t generation)) (firing_as (λ u. length (lines_of p.told u)) t (length (lines_of p.told t)) generation (running_timer p base t) (act_at callback p base t))
+raw_made s callback call base at t generation p raw same run next =
+    let n = length (lines_of p.told t) in
+    let xs = fire_steps callback p base t generation in
+    let q = with_steps p (on call) t xs in
+    let taken = fire_taken s callback p call base t generation run next in
+    let this = firing_as (λ u. length (lines_of p.told u)) t n generation (running_timer p base t) (act_at callback p base t) in
+    let mine = fires base at this in
+    let is : dids_of t n xs ≡ mine = sym (fires_are p.reading base (λ u. length (lines_of p.told u)) t n generation (running_timer p base t) (act_at callback p base t)) ∙ ap (λ m. fires base m this) same in
+    let own = run.objects t in
+    let bare : object_lines p.told t ≡ [] = no_lines (object_lines p.told t) (ap entries_of (sym raw) ∙ own.counted) in
+    let kind : kind_of s t ≡ kinds.Raw callback = subst (IsMadeAs s t) raw own.made in
     record {
-      run = rest.run;
-      same_clock = rest.same_clock;
-      same_reading = rest.same_reading;
-      back = back;
-      tells = subst (Tells next.told (on call)) (append_assoc before (fires base at (firing p call base f.0 f.1)) _) rest.tells;
-      writes_none = rest.writes_none;
-      claims = λ end e. (right_claim s call base at f.0 f.1 p before end same run claims.0 told (back end e), rest.claims end e);
-      looks = λ end. subst (λ ds. AreTrue s end (on call) ds (flat_map (fires base at) (firings (fired_once p (on call) base f.0 f.1) call base fs))) (sym (append_assoc before (Entered f.0 (length (lines_of p.told f.0) + 1) (entries.Claim base at f.1) ∷ []) (end_of ∷ []))) (rest.looks end);
-      steps = λ u. (omega arith, NeverFall-append _ _ _ (numbers_on u (claim ∷ end_of ∷ [])) _ (pair_steps s p call f.0 _ _ _ _ run pair u) (rest.steps u));
-      timers = ap (λ ts. f.0 ∷ ts) rest.timers;
-      bodies = (subst (λ callback. IsBody callback at (firing p call base f.0 f.1)) (sym (once f.0)) (refl, refl), rest.bodies);
+      run = steps_run s call t xs p run taken;
+      same_clock = steps_clock p (on call) t xs;
+      same_reading = steps_reading p (on call) t xs;
+      back = λ end e. steps_back s call t xs p end run taken e;
+      tells = λ before told. subst (λ ds. Tells q.told (on call) (before ++ ds)) is (steps_told s call t xs p before run taken told);
+      writes_none = ap wrote (sym is) ∙ wrote_steps t n xs;
+      looks = λ end before rest told e later. subst (λ ds. AreTrue s end (on call) before (ds ++ rest)) is
+          (steps_true s call t xs p before rest end run taken told e (subst (λ ds. AreTrue s end (on call) (before ++ ds) rest) (sym is) later));
+      steps = λ u. subst (λ ds. NeverFall (length (lines_of p.told u)) (numbers_on u ds) (length (lines_of q.told u))) is (steps_numbers s call t xs p run taken u);
+      object_steps = λ i. subst (λ ns. NeverFall (length (object_lines p.told i)) ns (length (object_lines q.told i))) (sym (ap (numbers_of_object i) (sym is) ∙ steps_object i t n xs))
+          (omega (arith, ap length (steps_objects p (on call) t xs i)));
+      fresh = λ i fresh. ⊎_elim
+          (λ here. inl (subst (AllByRecursion (λ (l : ObjectLine). AreBelow call l.skips)) (sym (steps_objects p (on call) t xs i ∙ ap (object_lines p.told) here ∙ bare)) tt))
+          (λ apart. subst (λ ls. AllByRecursion (λ (l : ObjectLine). AreBelow call l.skips) ls ⊎ ((timer_at q.timers i).armed ≡ None)) (sym (steps_objects p (on call) t xs i))
+          (subst (λ (x : Timer). AllByRecursion (λ (l : ObjectLine). AreBelow call l.skips) (object_lines p.told i) ⊎ (x.armed ≡ None)) (sym (steps_others p (on call) t i xs apart)) fresh))
+          (cases_eq i t);
+      body = subst (λ m. IsBody (kind_of s t) m this) same (subst (λ k. IsBody k p.reading.stamp this) (sym kind)
+          (is_body callback (running_timer p base t) p.reading (λ u. length (lines_of p.told u)) t n generation refl next.armed));
     }

@@ -4,7 +4,7 @@ use Rattle.std.proofs.lemmas.Bool.Decides.{nat_tests}
 use Rattle.std.proofs.Math.Seq.{take-append_seam, drop-append_seam}
 use Rattle.std.proofs.lemmas.List.{map-append, length-append}
 use Rattle.std.specs.List.{AllByRecursion}
-use Rattle.script_text.specs.declared.record.Label.{Label}
+use Rattle.record_text.specs.declared.record.Label.{Label}
 use Rattle.script_text.specs.declared.script.LaneCall.{LaneCall}
 use Rattle.script_text.specs.declared.script.Round.{Round}
 use Rattle.script_text.specs.declared.script.Script.{Script}

@@ -22,3 +22,7 @@ All-map P Q (x ∷ xs) f a = (f x a.0, All-map P Q xs f a.1)
 pub All-of_map : {X Y : Type 0} (P : Y → Type 0) (f : X → Y) (xs : List X) → AllByRecursion P (map f xs) → AllByRecursion (λ x. P (f x)) xs
 All-of_map P f [] a = tt
 All-of_map P f (x ∷ xs) a = (a.0, All-of_map P f xs a.1)
+
+pub All-to_map : {X Y : Type 0} (P : Y → Type 0) (f : X → Y) (xs : List X) → AllByRecursion (λ x. P (f x)) xs → AllByRecursion P (map f xs)
+All-to_map P f [] a = tt
+All-to_map P f (x ∷ xs) a = (a.0, All-to_map P f xs a.1)

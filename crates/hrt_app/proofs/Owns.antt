@@ -2,7 +2,7 @@
 use Rattle.std.proofs.Common.{arith, refl, ap, ◌∙◌, ◌≡◌, ◌≢◌, ℕ, ◌+◌, suc, Bool, true, false, if◌then◌else◌, List, [], ◌∷◌, ◌++◌, length, map, filter}
 use Rattle.std.proofs.lemmas.Bool.Decides.{nat_tests}
 use Rattle.std.specs.List.{AllByRecursion}
-use Rattle.script_text.specs.declared.record.Label.{Label}
+use Rattle.record_text.specs.declared.record.Label.{Label}
 use Rattle.script_text.specs.Order.{is_label, made_by}
 use Rattle.script_text.specs.Dids.{own, also}
 

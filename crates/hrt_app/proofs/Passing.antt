@@ -1,22 +1,36 @@
 -- An expiry pass, one claim after another.
-use Rattle.std.proofs.Common.{arith, refl, sym, ap, subst, ◌∙◌, ◌≡◌, ◌≤◌, ℕ, ◌+◌, List, [], ◌∷◌, ◌++◌, length, map}
+use Rattle.std.proofs.Common.{arith, refl, sym, ap, subst, ◌∙◌, ◌≡◌, ◌≤◌, ℕ, ◌+◌, Option, None, Some, List, [], ◌∷◌, ◌++◌, length, map}
 use Rattle.std.proofs.lemmas.List.{map-append}
 use Rattle.ktime.specs.Readings.{ClockReading}
-use Rattle.script_text.specs.declared.record.Label.{Label}
+use Rattle.record_text.specs.declared.record.Label.{Label}
 use Rattle.hrt_app.specs.declared.calls.Next.TheVariants as nexts
-use Rattle.hrt_app.specs.Progress.{Progress}
-use Rattle.hrt_app.specs.Turns.{Claims, IsNext, Passes, fired_once}
+use Rattle.hrt_app.specs.declared.objects.Object.{Object}
+use Rattle.hrt_app.specs.declared.objects.Object.TheVariants.{Raw, Posix, Fd}
+use Rattle.hrt_app.specs.Objects.{ObjectStep, object_at, trigger_step}
+use Rattle.hrt_app.specs.Progress.{Progress, with_step, with_trigger}
+use Rattle.hrt_app.specs.Turns.{Claims, IsNext, Passes, claim_step, fired, fired_by}
 use Rattle.hrt_app.specs.Runs.{RunState, Keeps, Nexts, progress}
+use Rattle.hrt_app.proofs.Taken.{steps_reading}
+use Rattle.hrt_app.proofs.Fires.{fire_steps}
 
-Claims-push : (c : Label) (base : ℕ) (p mid next : Progress) (fs : List (ℕ × ℕ)) (t generation : ℕ) → Claims c base p fs mid → IsNext mid base t generation → next ≡ fired_once mid c base t generation
+Claims-push : (c : Label) (base : ℕ) (p mid next : Progress) (fs : List (ℕ × ℕ)) (t generation : ℕ) → Claims c base p fs mid → IsNext mid base t generation → next ≡ fired mid c base t generation
     → Claims c base p (fs ++ (t, generation) ∷ []) next
 Claims-push c base p mid next [] t generation claims is_next e =
-    (subst (λ (q : Progress). IsNext q base t generation) claims is_next, e ∙ ap (λ (q : Progress). fired_once q c base t generation) claims)
-Claims-push c base p mid next (f ∷ fs) t generation claims is_next e = (claims.0, Claims-push c base (fired_once p c base f.0 f.1) mid next fs t generation claims.1 is_next e)
+    (subst (λ (q : Progress). IsNext q base t generation) claims is_next, e ∙ ap (λ (q : Progress). fired q c base t generation) claims)
+Claims-push c base p mid next (f ∷ fs) t generation claims is_next e = (claims.0, Claims-push c base (fired p c base f.0 f.1) mid next fs t generation claims.1 is_next e)
+
+trigger_reading : (p : Progress) (c : Label) (t generation : ℕ) (x : Option ObjectStep) → (with_trigger p c t generation x).reading ≡ p.reading
+trigger_reading p c t generation None = refl
+trigger_reading p c t generation (Some x) = refl
+
+fired_reading : (o : Object) (c : Label) (base t generation : ℕ) (p : Progress) → (fired_by o p c base t generation).reading ≡ p.reading
+fired_reading (Raw callback) c base t generation p = steps_reading p c t (fire_steps callback p base t generation)
+fired_reading (Posix x) c base t generation p = trigger_reading (with_step p c t (claim_step base p.reading generation None)) c t generation (trigger_step (Posix x) generation p.reading)
+fired_reading (Fd x) c base t generation p = trigger_reading (with_step p c t (claim_step base p.reading generation None)) c t generation (trigger_step (Fd x) generation p.reading)
 
 same_reading : (c : Label) (base : ℕ) (p next : Progress) (fs : List (ℕ × ℕ)) → Claims c base p fs next → next.reading ≡ p.reading
 same_reading c base p next [] claims = ap (λ (q : Progress). q.reading) claims
-same_reading c base p next (f ∷ fs) claims = same_reading c base (fired_once p c base f.0 f.1) next fs claims.1
+same_reading c base p next (f ∷ fs) claims = same_reading c base (fired p c base f.0 f.1) next fs claims.1 ∙ fired_reading (object_at p.objects f.0) c base f.0 f.1 p
 
 -- a pass has claimed these timers so far
 pub record IsPassing (c : Label) (base : ℕ) (old now : RunState) (fired : List ℕ) : Type 0 where

@@ -1,16 +1,18 @@
 -- Calls in turn, one list of them after another.
+use Rattle.hrt_app.specs.Objects.{object_in}
 use Rattle.std.proofs.Common.{arith, refl, sym, ap, subst, ◌∙◌, ◌≡◌, ◌≤◌, ◌<◌, ℕ, ◌+◌, zero, suc, List, [], ◌∷◌, ◌++◌, length, map, take, get_or}
 use Rattle.std.proofs.lemmas.List.{length-append, length-map, length-take-le, map-append, append_assoc, take_more}
 use Rattle.std.proofs.lemmas.Grind.{flat_map-append}
 use Rattle.std.specs.Prelude.{replicate}
 use Rattle.std.specs.List.{AllByRecursion}
 use Rattle.script_text.specs.declared.script.Call.{Call}
-use Rattle.script_text.specs.declared.record.Answer.{Answer}
+use Rattle.record_text.specs.declared.record.Answer.{Answer}
 use Rattle.hrt_app.specs.Progress.{Progress}
 use Rattle.hrt_app.specs.Turns.{Turns, TurnsAll, calls_in, opened}
 use Rattle.hrt_app.specs.Runs.{GoesOn, IsOpened, IsRunnable, Keeps, RunState, progress}
-use Rattle.hrt_app.proofs.Made.{append_nothing}
-use Rattle.hrt_app.proofs.Runs.{on, IsRun}
+use Rattle.hrt_app.proofs.Taken.{append_nothing}
+use Rattle.hrt_app.proofs.Grown.{on}
+use Rattle.hrt_app.proofs.Runs.{IsRun}
 use Rattle.hrt_app.proofs.Whole.{opened_run, whole}
 use Rattle.clock_model.specs.Clocks.{at_stamp}
 use Rattle.timer_core.specs.Kept as kept
@@ -94,13 +96,18 @@ length-lane cs i below = length-map (take i cs) (λ (c : LaneCall). c.call) ∙ 
 
 -- the record of the whole run
 pub run_fits : (s : Script) (first now : RunState) (answers : List Answer) → IsRunnable s → IsOpened s first → GoesOn first [] (calls_in s.rounds) now answers
-    → Fits s (record { clock = now.clock; timers = now.lines; answers = answers ∷ [] })
+    → Fits s (record { clock = now.clock; timers = now.lines; objects = now.object_lines; answers = answers ∷ [] })
 run_fits s first now answers runnable start goes =
     let clocks = map (λ (d : Declaration). d.clock) s.timers in
-    let is_opened : progress first ≡ opened clocks s.limit =
-    ap (λ k. progress (record { core = k; reading = first.reading; clock = first.clock; lines = first.lines })) start.core
-    ∙ ap (λ r. progress (record { core = kept.opened s.bases clocks s.limit; reading = r; clock = first.clock; lines = first.lines })) start.reading
-    ∙ ap (λ ls. progress (record { core = kept.opened s.bases clocks s.limit; reading = at_stamp 0; clock = ls; lines = first.lines })) start.clock
-    ∙ ap (λ ls. progress (record { core = kept.opened s.bases clocks s.limit; reading = at_stamp 0; clock = []; lines = ls })) (start.lines ∙ ap (λ n. replicate n []) (sym (length-map s.timers (λ (d : Declaration). d.clock)))) in
-    let run : IsRun s 0 0 (progress first) = subst (IsRun s 0 0) (sym is_opened) (opened_run s) in
-    subst (λ xs. Fits s (record { clock = now.clock; timers = now.lines; answers = xs ∷ [] })) (sym goes.answers) (whole s (progress first) (progress now) goes.given runnable.one_lane run goes.turns)
+    let core = kept.opened s.bases clocks s.limit in
+    let made = map (object_in s.limit) s.timers in
+    let none = replicate (length s.timers) [] in
+    let is_opened : progress first ≡ opened s.timers s.limit =
+    ap (λ k. progress (record first { core = k })) start.core
+    ∙ ap (λ os. progress (record first { core = core; objects = os })) start.objects
+    ∙ ap (λ r. progress (record first { core = core; objects = made; reading = r })) start.reading
+    ∙ ap (λ ls. progress (record first { core = core; objects = made; reading = at_stamp 0; clock = ls })) start.clock
+    ∙ ap (λ ls. progress (record first { core = core; objects = made; reading = at_stamp 0; clock = []; lines = ls })) start.lines
+    ∙ ap (λ ls. progress (record { core = core; objects = made; reading = at_stamp 0; clock = []; lines = none; object_lines = ls })) start.object_lines in
+    let run : IsRun s 0 0 (progress first) = subst (IsRun s 0 0) (sym is_opened) (opened_run s runnable.limit.0) in
+    subst (λ xs. Fits s (record { clock = now.clock; timers = now.lines; objects = now.object_lines; answers = xs ∷ [] })) (sym goes.answers) (whole s (progress first) (progress now) goes.given runnable.one_lane run goes.turns)

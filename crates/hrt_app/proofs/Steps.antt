@@ -2,8 +2,8 @@
 use Rattle.std.proofs.Common.{arith, refl, ap, ◌∙◌, ◌≡◌, ℕ, ◌+◌, suc, List, [], ◌∷◌, ◌++◌, length}
 use Rattle.seq_timer.specs.Steps.{Timer, after}
 use Rattle.seq_timer.specs.Histories.{Entry, AreSteps, after_all}
-use Rattle.script_text.specs.declared.record.ClockLine.{ClockLine}
-use Rattle.script_text.specs.declared.record.TimerLine.{TimerLine}
+use Rattle.record_text.specs.declared.record.ClockLine.{ClockLine}
+use Rattle.record_text.specs.declared.record.TimerLine.{TimerLine}
 use Rattle.script_text.specs.Histories.{history_from, shown}
 
 pub after_all-append : (t : Timer) (xs ys : List Entry) → after_all t (xs ++ ys) ≡ after_all (after_all t xs) ys

@@ -1,5 +1,5 @@
 -- Each turn of a run on one lane fits.
-use Rattle.std.proofs.Common.{arith, refl, sym, ap, ◌∙◌, subst, ◌≡◌, ◌≤◌, ◌<◌, ℕ, ◌+◌, Bool, false, is_some, List, [], ◌∷◌, length, map}
+use Rattle.std.proofs.Common.{arith, refl, sym, ap, ◌∙◌, subst, ◌≡◌, ◌≤◌, ◌<◌, inl, ℕ, ◌+◌, Bool, false, is_some, List, [], ◌∷◌, length, map}
 use Rattle.std.specs.Prelude.{flat_map}
 use Rattle.std.proofs.Math.Logic.{⊎_elim}
 use Rattle.std.proofs.lemmas.List.{length-map}
@@ -11,31 +11,31 @@ use Rattle.seq_timer.specs.Tables.{timer_at, runs_on, is_due_on}
 use Rattle.script_text.specs.declared.script.Script.{Script}
 use Rattle.script_text.specs.declared.script.Call.{Call}
 use Rattle.script_text.specs.declared.script.Call.TheVariants as calls
-use Rattle.script_text.specs.declared.record.Entry.{Entry}
-use Rattle.script_text.specs.declared.record.Entry.TheVariants as entries
-use Rattle.script_text.specs.declared.record.Answer.{Answer}
-use Rattle.script_text.specs.declared.record.Answer.TheVariants as answers
-use Rattle.script_text.specs.declared.record.RunRecord.{RunRecord}
+use Rattle.record_text.specs.declared.record.Entry.{Entry}
+use Rattle.record_text.specs.declared.record.Entry.TheVariants as entries
+use Rattle.record_text.specs.declared.record.Answer.{Answer}
+use Rattle.record_text.specs.declared.record.Answer.TheVariants as answers
+use Rattle.record_text.specs.declared.record.RunRecord.{RunRecord}
 use Rattle.script_text.specs.Histories.{lines_of, reading_at, timer_after}
 use Rattle.script_text.specs.Dids.{Did}
 use Rattle.script_text.specs.Calls.{Fired, Does, IsPass, IsSeen, fires}
 use Rattle.script_text.specs.Passes.{IsRightPass}
 use Rattle.script_text.specs.Fits.{FitsCall}
-use Rattle.hrt_app.specs.Progress.{Progress, with_entry, with_write}
-use Rattle.hrt_app.specs.Turns.{NamesTimer, Passes, StartsHere, StartsThere, Turns, move_out, start_here}
-use Rattle.hrt_app.proofs.Runs.{on, before_entry, push_entry, Extends, IsRun, IsStep}
+use Rattle.hrt_app.specs.Progress.{Progress, plain, with_entry, with_steps, with_write}
+use Rattle.hrt_app.specs.ObjectTurns.{StartsHere, StartsThere, start_here}
+use Rattle.hrt_app.specs.Turns.{NamesTimer, Passes, Turns}
+use Rattle.hrt_app.proofs.Grown.{on}
+use Rattle.hrt_app.proofs.Runs.{before_step, push_step, Extends, IsRun, IsStep}
 use Rattle.hrt_app.proofs.Writes.{before_write, push_write}
 use Rattle.hrt_app.proofs.Told.{point_of_timer, tells_start}
-use Rattle.hrt_app.proofs.Called.{seen_of, begin, finish, within, idle_called, peek_called, running_called, spent_called}
-use Rattle.hrt_app.proofs.Made.{cancel_step, cancelled_called, made_called, pair_back, pair_run, start_step, started_called, NeverFall-append}
-use Rattle.hrt_app.proofs.Moves.{move_pair, moved_called, range_called, wrote_called}
-use Rattle.hrt_app.proofs.Fires.{AreOnce, PassMade, firings, never_due, never_runs, pass_made, test_seen}
-
--- what a turn comes to: the run goes on, what goes on after it goes on from before it, and the call fits
-pub record TurnMade (s : Script) (number : ℕ) (p : Progress) (call : Call) (answer : Answer) (next : Progress) : Type 0 where
-  pub run : IsRun s (number + 1) (number + 1) next
-  pub back : (end : RunRecord) → Extends (number + 1) next.told end → Extends number p.told end
-  pub fits : (end : RunRecord) → Extends (number + 1) next.told end → FitsCall s end (on number) call answer (seen_of p.told) (seen_of next.told)
+use Rattle.hrt_app.proofs.Called.{TurnMade, seen_of, begin, finish, within, idle_called, peek_called, running_called, spent_called}
+use Rattle.hrt_app.proofs.Taken.{steps_back, steps_run, NeverFall-append}
+use Rattle.hrt_app.proofs.Made.{cancel_step, cancelled_called, made_called, start_step, started_called}
+use Rattle.hrt_app.proofs.Moves.{move_steps, move_taken, moved_called, moved_on, range_called, wrote_called}
+use Rattle.record_text.specs.declared.record.SettimeReply.TheVariants as settings
+use Rattle.hrt_app.specs.Objects.{limit_of, object_at}
+use Rattle.hrt_app.proofs.SettimeMade.{full_called, invalid_called, settime_made}
+use Rattle.hrt_app.proofs.Passes.{PassMade, firings, never_due, never_runs, pass_made, test_seen}
 
 -- a turn that changes nothing
 pub quiet : (s : Script) (number : ℕ) (p next : Progress) (call : Call) (answer : Answer) → IsRun s number number p → next ≡ p
@@ -50,16 +50,16 @@ count s number base at p next fs before timers made same =
     sym (length-map (firings p number base fs) (λ (f : Fired). f.timer)) ∙ ap length (sym made.timers ∙ sym same)
 
 -- a pass that ends as it should
-pub passed : (s : Script) (number base budget : ℕ) (p next : Progress) (timers : List ℕ) (shown : ℕ) (answer : Answer) → AreOnce s → IsRun s number number p → (passes : Passes (on number) base p timers shown next)
+pub passed : (s : Script) (number base budget : ℕ) (p next : Progress) (timers : List ℕ) (shown : ℕ) (answer : Answer) → IsRun s number number p → (passes : Passes (on number) base p timers shown next)
     → ((fired : List Fired) (dids : List Did) → IsPass s (length p.told.clock) base fired shown timers dids → length fired ≡ length timers → Does s (length p.told.clock) (calls.Expire base budget) answer fired dids)
     → ((end : RunRecord) → (made : PassMade s number base (length p.told.clock) p next passes.fired []) → Extends number next.told end
     → IsRightPass s end (on number) (length p.told.clock) (calls.Expire base budget) answer (firings p number base passes.fired) (flat_map (fires base (length p.told.clock)) (firings p number base passes.fired)) (λ u. length (lines_of next.told u)))
     → ((end : RunRecord) (dids : List Did) → IsSeen s end (on number) (length p.told.clock) dids (calls.Expire base budget) answer)
     → TurnMade s number p (calls.Expire base budget) answer next
-passed s number base budget p next timers shown answer once run passes does right seen =
+passed s number base budget p next timers shown answer run passes does right seen =
     let at = length p.told.clock in
     let inside = begin s number p run in
-    let made = pass_made s number base at once passes.fired p next [] run.stamp inside passes.claims (tells_start s number p run) in
+    let made = pass_made s number base at passes.fired p next [] run.stamp inside (λ i. inl (run.objects i).skips_below) passes.claims (tells_start s number p run) in
     let fired = firings p number base passes.fired in
     let dids = flat_map (fires base at) fired in
     let is_pass : IsPass s at base fired shown timers dids = record {
@@ -74,17 +74,18 @@ passed s number base budget p next timers shown answer once run passes does righ
       fits = λ end e.
           let inner = within number next.told end e in
           made_called s number p next end (calls.Expire base budget) answer fired dids (λ u. length (lines_of next.told u)) run made.run e (made.back end inner) made.same_clock made.writes_none
-          made.tells (does fired dids is_pass (count s number base at p next passes.fired [] timers made passes.in_order)) (made.looks end) (seen end dids) (right end made inner)
-          (λ u. NeverFall-append _ _ _ _ (length (lines_of next.told u) ∷ []) (made.steps u) (omega arith, omega arith));
+          made.tells (does fired dids is_pass (count s number base at p next passes.fired [] timers made passes.in_order)) (made.looks end inner) (seen end dids) (right end made inner)
+          (λ u. NeverFall-append _ _ _ _ (length (lines_of next.told u) ∷ []) (made.steps u) (omega arith, omega arith))
+          (λ i. NeverFall-append _ _ _ _ [] (made.object_steps i) (omega arith));
     }
 
 -- one entry was made
-entry_made : (s : Script) (number : ℕ) (p : Progress) (t : ℕ) (event : Event) (entry : Entry) (call : Call) (answer : Answer) → IsRun s number number p → IsStep s p number t event entry
+entry_made : (s : Script) (number : ℕ) (p : Progress) (t : ℕ) (event : Event) (entry : Entry) (call : Call) (answer : Answer) → IsRun s number number p → IsStep s p number t (plain event entry)
     → ((end : RunRecord) → Extends (number + 1) (with_entry p (on number) t event entry).told end → FitsCall s end (on number) call answer (seen_of p.told) (seen_of (with_entry p (on number) t event entry).told))
     → TurnMade s number p call answer (with_entry p (on number) t event entry)
 entry_made s number p t event entry call answer run step fits = record {
-  run = finish s number (with_entry p (on number) t event entry) (push_entry s p number t event entry (begin s number p run) step);
-  back = λ end e. before_entry p number t event entry end (subst (λ n. t < n) (sym run.timers) step.there) (subst (λ n. t < n) (sym run.lists) step.there) (within number (with_entry p (on number) t event entry).told end e);
+  run = finish s number (with_entry p (on number) t event entry) (push_step s p number t (plain event entry) (begin s number p run) step);
+  back = λ end e. before_step p number t (plain event entry) end (subst (λ n. t < n) (sym run.timers) step.there) (subst (λ n. t < n) (sym run.lists) step.there) (within number (with_entry p (on number) t event entry).told end e);
   fits = fits;
 }
 
@@ -100,32 +101,33 @@ move_made : (s : Script) (number : ℕ) (p next : Progress) (t : ℕ) (mode : Mo
     → StartsThere p (on number) t mode ns asked generation base was next → TurnMade s number p (calls.Start t mode ns asked) (answers.Started generation base was) next
 move_made s number p next t mode ns asked generation base was run there starts =
     let inside = begin s number p run in
-    let pair = move_pair s p number t mode ns asked inside there starts.needs_out starts.needs in
-    let moved = move_out p (on number) t asked in
+    let xs = move_steps (timer_at p.timers t) p.reading mode ns asked in
+    let taken = move_taken s p number t mode ns asked inside there starts.needs_out starts.needs in
+    let goes_on = moved_on p next (on number) t mode ns asked generation base was (subst (λ n. t < n) (sym run.timers) there) starts in
     record {
-      run = subst (λ (q : Progress). IsRun s (number + 1) (number + 1) q) (sym starts.goes_on) (finish s number (start_here moved (on number) t mode ns asked) (pair_run s p number t _ _ _ _ inside pair));
-      back = λ end e. pair_back s p number t _ _ _ _ end inside pair (within number (start_here moved (on number) t mode ns asked).told end (subst (λ (q : Progress). Extends (number + 1) q.told end) starts.goes_on e));
+      run = subst (λ (q : Progress). IsRun s (number + 1) (number + 1) q) (sym goes_on) (finish s number (with_steps p (on number) t xs) (steps_run s number t xs p inside taken));
+      back = λ end e. steps_back s number t xs p end inside taken (within number (with_steps p (on number) t xs).told end (subst (λ (q : Progress). Extends (number + 1) q.told end) goes_on e));
       fits = λ end e. moved_called s number p t mode ns asked generation base was next end run there starts e;
     }
 
-pub turn_made : (s : Script) (number : ℕ) (p next : Progress) (call : Call) (answer : Answer) → AreOnce s → IsRun s number number p → NamesTimer (length s.timers) call → Turns (on number) p call answer next → TurnMade s number p call answer next
-turn_made s number p next (calls.Start t mode ns base) (answers.Started generation b was) once run there turns =
+pub turn_made : (s : Script) (number : ℕ) (p next : Progress) (call : Call) (answer : Answer) → IsRun s number number p → NamesTimer (length s.timers) call → Turns (on number) p call answer next → TurnMade s number p call answer next
+turn_made s number p next (calls.Start t mode ns base) (answers.Started generation b was) run there turns =
     ⊎_elim (λ here. start_made s number p next t mode ns base generation b was run there here) (λ moved. move_made s number p next t mode ns base generation b was run there moved) turns
-turn_made s number p next (calls.Start t mode ns base) (answers.Spent stamp) once run there turns =
+turn_made s number p next (calls.Start t mode ns base) (answers.Spent stamp) run there turns =
     quiet s number p next (calls.Start t mode ns base) (answers.Spent stamp) run turns.3
     (λ end e. subst (λ n. FitsCall s end (on number) (calls.Start t mode ns base) (answers.Spent n) (seen_of p.told) (seen_of p.told)) (sym turns.1)
     (spent_called s number p t mode ns base end run there e (subst (λ n. (timer_at p.timers t).limit ≤ n) turns.1 turns.0) turns.2))
-turn_made s number p next (calls.Cancel t) (answers.Cancelled generation) once run there turns =
+turn_made s number p next (calls.Cancel t) (answers.Cancelled generation) run there turns =
     subst (λ (q : Progress). TurnMade s number p (calls.Cancel t) (answers.Cancelled generation) q) (sym turns.2)
     (entry_made s number p t events.Cancel (entries.Cancel generation) (calls.Cancel t) (answers.Cancelled generation) run (cancel_step s p number t generation there turns.0 turns.1)
     (λ end e. cancelled_called s number p t generation end run there turns.0 turns.1 e))
-turn_made s number p next (calls.Cancel t) (answers.Running generation stamp) once run there turns =
+turn_made s number p next (calls.Cancel t) (answers.Running generation stamp) run there turns =
     quiet s number p next (calls.Cancel t) (answers.Running generation stamp) run turns.2
     (λ end e. subst (λ n. FitsCall s end (on number) (calls.Cancel t) (answers.Running generation n) (seen_of p.told) (seen_of p.told)) (sym turns.1) (running_called s number p t generation end run there e turns.0))
-turn_made s number p next (calls.Cancel t) (answers.Idle stamp) once run there turns =
+turn_made s number p next (calls.Cancel t) (answers.Idle stamp) run there turns =
     quiet s number p next (calls.Cancel t) (answers.Idle stamp) run turns.2
     (λ end e. subst (λ n. FitsCall s end (on number) (calls.Cancel t) (answers.Idle n) (seen_of p.told) (seen_of p.told)) (sym turns.1) (idle_called s number p t end run there e turns.0))
-turn_made s number p next (calls.Peek t) (answers.Peek stamp base enqueued running moving) once run there turns =
+turn_made s number p next (calls.Peek t) (answers.Peek stamp base enqueued running moving) run there turns =
     quiet s number p next (calls.Peek t) (answers.Peek stamp base enqueued running moving) run turns.5
     (λ end e.
     subst (λ n. FitsCall s end (on number) (calls.Peek t) (answers.Peek n base enqueued running moving) (seen_of p.told) (seen_of p.told)) (sym turns.0)
@@ -134,11 +136,11 @@ turn_made s number p next (calls.Peek t) (answers.Peek stamp base enqueued runni
     (subst (λ b. FitsCall s end (on number) (calls.Peek t) (answers.Peek (timer_at p.timers t).stamp (timer_at p.timers t).base (is_some (timer_at p.timers t).armed) b moving) (seen_of p.told) (seen_of p.told)) (sym turns.3)
     (subst (λ b. FitsCall s end (on number) (calls.Peek t) (answers.Peek (timer_at p.timers t).stamp (timer_at p.timers t).base (is_some (timer_at p.timers t).armed) (is_some (timer_at p.timers t).running) b) (seen_of p.told) (seen_of p.told)) (sym turns.4)
     (peek_called s number p t end run there e))))))
-turn_made s number p next (calls.Expire base budget) (answers.Done shown timers) once run there turns =
-    passed s number base budget p next timers shown (answers.Done shown timers) once run turns.0
+turn_made s number p next (calls.Expire base budget) (answers.Done shown timers) run there turns =
+    passed s number base budget p next timers shown (answers.Done shown timers) run turns.0
     (λ fired dids pass counted. (pass, subst (λ n. n < budget) (sym counted) turns.1))
     (λ end made e.
-    let reading : reading_at end.clock (length p.told.clock) ≡ next.reading = run.reading_now end (made.back end e) ∙ sym made.same_reading in (
+    let reading : reading_at end.clock (length p.told.clock) ≡ next.reading = run.reading_now end.clock (made.back end e).clock ∙ sym made.same_reading in (
       made.claims end e,
       record {
         points = point_of_timer s number next end _ made.run e made.tells;
@@ -148,13 +150,13 @@ turn_made s number p next (calls.Expire base budget) (answers.Done shown timers)
       },
     ))
     (λ end dids. tt)
-turn_made s number p next (calls.Expire base budget) (answers.More shown timers) once run there turns =
-    passed s number base budget p next timers shown (answers.More shown timers) once run turns.0
+turn_made s number p next (calls.Expire base budget) (answers.More shown timers) run there turns =
+    passed s number base budget p next timers shown (answers.More shown timers) run turns.0
     (λ fired dids pass counted. (pass, counted ∙ turns.1))
     (λ end made e. made.claims end e)
     (λ end dids. tt)
-turn_made s number p next (calls.Expire base budget) (answers.Busy shown timers t generation) once run there turns =
-    passed s number base budget p next timers shown (answers.Busy shown timers t generation) once run turns.0
+turn_made s number p next (calls.Expire base budget) (answers.Busy shown timers t generation) run there turns =
+    passed s number base budget p next timers shown (answers.Busy shown timers t generation) run turns.0
     (λ fired dids pass counted. (pass, subst (λ n. n < budget) (sym counted) turns.1))
     (λ end made e.
     let state = made.run.states end e t (subst (λ n. t < n) made.run.timers turns.2.there) in (
@@ -166,13 +168,22 @@ turn_made s number p next (calls.Expire base budget) (answers.Busy shown timers 
       },
     ))
     (λ end dids. tt)
-turn_made s number p next (calls.Clock write) (answers.Clock stamp) once run there turns =
+turn_made s number p next (calls.Clock write) (answers.Clock stamp) run there turns =
     subst (λ (q : Progress). TurnMade s number p (calls.Clock write) (answers.Clock stamp) q) (sym turns.2) (record {
       run = finish s number (with_write p (on number) write) (push_write s p number write (begin s number p run) turns.0);
       back = λ end e. before_write p number write end (within number (with_write p (on number) write).told end e);
       fits = λ end e. subst (λ n. FitsCall s end (on number) (calls.Clock write) (answers.Clock n) (seen_of p.told) (seen_of (with_write p (on number) write).told)) (sym (turns.1 ∙ ap (λ n. n + 1) run.stamp))
           (wrote_called s number p write end run turns.0 e);
     })
-turn_made s number p next (calls.Clock write) (answers.Range would_be) once run there turns =
+turn_made s number p next (calls.Clock write) (answers.Range would_be) run there turns =
     quiet s number p next (calls.Clock write) (answers.Range would_be) run turns.3 (λ end e. range_called s number p write would_be end run turns.0 turns.1 turns.2 e)
-turn_made s number p next call answer once run there turns = absurd turns
+turn_made s number p next (calls.Settime t flags value interval) answers.Invalid run there turns =
+    quiet s number p next (calls.Settime t flags value interval) answers.Invalid run turns.1 (λ end e. invalid_called s number p t flags value interval end run turns.0 e)
+turn_made s number p next (calls.Settime t flags value interval) (answers.Spent stamp) run there turns =
+    quiet s number p next (calls.Settime t flags value interval) (answers.Spent stamp) run turns.3
+    (λ end e. subst (λ n. FitsCall s end (on number) (calls.Settime t flags value interval) (answers.Spent n) (seen_of p.told) (seen_of p.told)) (sym turns.2)
+    (full_called s number p t flags value interval end run turns.0 (subst (λ n. limit_of (object_at p.objects t) ≤ n) turns.2 turns.1) e))
+turn_made s number p next (calls.Settime t flags value interval) (answers.Old left old) run there turns = settime_made s number p next t flags value interval (settings.Old left old) run there turns
+turn_made s number p next (calls.Settime t flags value interval) answers.Canceled run there turns = settime_made s number p next t flags value interval settings.Canceled run there turns
+turn_made s number p next (calls.Settime t flags value interval) (answers.Unarmed stamp) run there turns = settime_made s number p next t flags value interval (settings.Unarmed stamp) run there turns
+turn_made s number p next call answer run there turns = absurd turns

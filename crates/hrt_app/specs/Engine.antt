@@ -1,18 +1,18 @@
 -- What the program answers to the bytes of a script.
 use Rattle.std.specs.Prelude.{◌≡◌, ◌⊎◌, ℕ, List}
-use Rattle.script_text.specs.declared.refusal.Cause.TheVariants.{NotBuilt}
+use Rattle.script_text.specs.declared.refusal.Refused.{Refused}
 use Rattle.script_text.specs.declared.script.Script.{Script}
-use Rattle.script_text.specs.declared.record.RunRecord.{RunRecord}
+use Rattle.record_text.specs.declared.record.RunRecord.{RunRecord}
 use Rattle.script_text.specs.Fits.{Fits}
-use Rattle.script_text.specs.Refusals as refusals
+use Rattle.script_text.specs.Refusals.{IsRefused, refusal_text}
 use Rattle.script_text.specs.Scripts.{Reads}
-use Rattle.script_text.specs.Text.{text_of}
+use Rattle.record_text.specs.Text.{text_of}
 use Rattle.hrt_app.specs.declared.engine.Answer.{Answer}
 use Rattle.hrt_app.specs.declared.engine.Answer.TheVariants.{Record, Refusal}
 
--- the bytes are a script that the program accepts
-unfoldable pub HasForm : List ℕ → Type 0
-HasForm bytes = (s : Script) × Reads bytes s
+-- the bytes are a script
+unfoldable pub IsScript : List ℕ → Type 0
+IsScript bytes = (s : Script) × Reads bytes s
 
 -- the text is that of a record that fits the script that these bytes read as
 pub record IsRecordText (bytes text : List ℕ) : Type 0 where
@@ -22,15 +22,18 @@ pub record IsRecordText (bytes text : List ℕ) : Type 0 where
   pub fits : Fits script run
   pub spelled : text ≡ text_of run
 
--- what is written for bytes that are no script that the program accepts
-unfoldable pub refusal_text : List ℕ
-refusal_text = refusals.refusal_text (record { line = 0; cause = NotBuilt })
+-- the text is the line that tells why these bytes are refused, which are no script
+pub record IsRefusalText (bytes text : List ℕ) : Type 0 where
+  pub refused : Refused
+  pub cause : IsRefused bytes refused
+  pub unread : IsScript bytes → ⊥
+  pub spelled : text ≡ refusal_text refused
 
 -- the text that answers these bytes
 abbrev pub IsAnswerText : List ℕ → List ℕ → Type 0
-IsAnswerText bytes text = (HasForm bytes × IsRecordText bytes text) ⊎ ((HasForm bytes → ⊥) × (text ≡ refusal_text))
+IsAnswerText bytes text = IsRecordText bytes text ⊎ IsRefusalText bytes text
 
--- a record for a script that the program accepts, and else the refusal
+-- a record for a script, and else the refusal
 abbrev pub Answers : List ℕ → Answer → Type 0
-Answers bytes (Record text) = HasForm bytes × IsRecordText bytes text.items
-Answers bytes (Refusal text) = (HasForm bytes → ⊥) × (text.items ≡ refusal_text)
+Answers bytes (Record text) = IsRecordText bytes text.items
+Answers bytes (Refusal text) = IsRefusalText bytes text.items

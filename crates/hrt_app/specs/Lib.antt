@@ -1,4 +1,7 @@
+pub mod Objects
 pub mod Progress
+pub mod ObjectTurns
+pub mod Callbacks
 pub mod Turns
 pub mod Runs
 pub mod Streams

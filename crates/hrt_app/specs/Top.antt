@@ -4,7 +4,7 @@ use Rattle.std.specs.declared.option.Option.{Option}
 use Rattle.std.specs.Io.KnownBytes.{IsAtEnd}
 use Rattle.hrt_app.specs.Streams.{Adds}
 use Rattle.hrt_app.specs.Transfer.{IsRead, AddsPrefix}
-use Rattle.hrt_app.specs.Engine.{HasForm, IsRecordText, IsAnswerText, refusal_text}
+use Rattle.hrt_app.specs.Engine.{IsScript, IsRecordText, IsRefusalText, IsAnswerText}
 use Rattle.hrt_app.specs.declared.command.Asked.{Asked}
 use Rattle.hrt_app.specs.declared.command.Asked.TheVariants.{Run}
 use Rattle.hrt_app.specs.declared.status.Status.{Status}
@@ -25,16 +25,16 @@ pub record HasRecorded (left left_now taken taken_now : Option (List ℕ)) : Typ
   pub text : List ℕ
   pub all : IfSome left (λ told. bytes ≡ told)
   pub end : IsAtEnd left_now
-  pub form : HasForm bytes
   pub fits : IsRecordText bytes text
   pub written : Adds taken taken_now text
 
--- bytes that are no script were read, and their refusal was written
+-- bytes that are refused were read, and the line that tells why was written
 pub record HasRefused (left left_now taken taken_now : Option (List ℕ)) : Type 0 where
   pub bytes : List ℕ
+  pub text : List ℕ
   pub read : IsRead left left_now bytes
-  pub form : HasForm bytes → ⊥
-  pub written : Adds taken taken_now refusal_text
+  pub refusal : IsRefusalText bytes text
+  pub written : Adds taken taken_now text
 
 -- bytes were read, and a prefix of the text that answers them was written
 pub record HasStopped (left left_now taken taken_now : Option (List ℕ)) : Type 0 where
@@ -46,5 +46,5 @@ pub record HasStopped (left left_now taken taken_now : Option (List ℕ)) : Type
 
 -- the outcomes that stand to bytes where neither stream fails
 pub record MustAnswer (bytes : List ℕ) (status : Status) : Type 0 where
-  pub script : HasForm bytes → (status ≡ statuses.Ok) ⊎ (status ≡ statuses.OutOfMemory)
-  pub other : (HasForm bytes → ⊥) → (status ≡ statuses.Refused) ⊎ (status ≡ statuses.OutOfMemory)
+  pub script : IsScript bytes → (status ≡ statuses.Ok) ⊎ (status ≡ statuses.OutOfMemory)
+  pub other : (IsScript bytes → ⊥) → (status ≡ statuses.Refused) ⊎ (status ≡ statuses.OutOfMemory)

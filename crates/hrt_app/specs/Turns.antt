@@ -1,56 +1,30 @@
 -- One call of a script on one lane: what it answers, and how the run goes on.
-use Rattle.std.specs.Prelude.{ℕ, ◌≡◌, ◌+◌, ◌≤◌, ◌<◌, ◌⊎◌, Bool, false, Some, is_some, List, [], ◌∷◌, length, map}
+use Rattle.std.specs.Prelude.{ℕ, ◌≡◌, ◌+◌, ◌<◌, Bool, false, Option, Some, None, is_some, List, [], ◌∷◌, length, map}
 use Rattle.std.specs.Prelude.{flat_map, replicate}
 use Rattle.std.specs.List.{AllByRecursion}
-use Rattle.ktime.specs.declared.clock_id.ClockId.{ClockId}
-use Rattle.ktime.specs.declared.mode.Mode.{Mode}
-use Rattle.ktime.specs.Readings.{latest}
+use Rattle.ktime.specs.Readings.{ClockReading, latest}
 use Rattle.clock_model.specs.Clocks.{after_write, at_stamp, greatest, last_stamp, IsAccepted}
 use Rattle.seq_timer.specs.declared.event.Event.TheVariants as events
-use Rattle.seq_timer.specs.Steps.{Timer, Needs, after, opening, started}
+use Rattle.seq_timer.specs.Steps.{Timer, Needs, after, opening, rearmed_by}
 use Rattle.seq_timer.specs.Histories.{IsIdle}
 use Rattle.seq_timer.specs.Tables.{timer_at, runs_on, is_due_on, is_ahead, is_smaller}
+use Rattle.script_text.specs.declared.script.Declaration.{Declaration}
 use Rattle.script_text.specs.declared.script.Call.{Call}
 use Rattle.script_text.specs.declared.script.Call.TheVariants as calls
-use Rattle.script_text.specs.declared.script.Callback.TheVariants as callbacks
 use Rattle.script_text.specs.declared.script.Round.{Round}
 use Rattle.script_text.specs.declared.script.Script.{Script}
-use Rattle.script_text.specs.declared.record.Label.{Label}
-use Rattle.script_text.specs.declared.record.Restart.TheVariants as restarts
-use Rattle.script_text.specs.declared.record.Entry.{Entry}
-use Rattle.script_text.specs.declared.record.Entry.TheVariants as entries
-use Rattle.script_text.specs.declared.record.Answer.{Answer}
-use Rattle.script_text.specs.declared.record.Answer.TheVariants as answers
-use Rattle.hrt_app.specs.Progress.{Progress, with_entry, with_write}
-
--- the line of a start of this timer
-abbrev pub start_line : Timer → Progress → Mode → ℕ → ℕ → Entry
-start_line t p mode ns asked = let now = started t mode ns p.reading in entries.Start mode ns p.reading.stamp asked now.base now.clock now.expires (is_some t.armed)
-
--- a start that leaves the timer on its base
-abbrev pub start_here : Progress → Label → ℕ → Mode → ℕ → ℕ → Progress
-start_here p c timer mode ns asked = with_entry p c timer (events.Start mode ns p.reading asked) (start_line (timer_at p.timers timer) p mode ns asked)
-
--- the timer is taken off its base
-abbrev pub move_out : Progress → Label → ℕ → ℕ → Progress
-move_out p c timer to = with_entry p c timer (events.Out to) (entries.Out to (is_some (timer_at p.timers timer).armed))
-
--- a start that the timer takes where it is
-pub record StartsHere (p : Progress) (c : Label) (timer : ℕ) (mode : Mode) (ns asked generation on : ℕ) (was_armed : Bool) (next : Progress) : Type 0 where
-  pub needs : Needs (timer_at p.timers timer) (events.Start mode ns p.reading asked)
-  pub generation_is : generation ≡ (timer_at p.timers timer).stamp + 1
-  pub base_is : on ≡ (timer_at p.timers timer).base
-  pub was : was_armed ≡ is_some (timer_at p.timers timer).armed
-  pub goes_on : next ≡ start_here p c timer mode ns asked
-
--- a start that moves the timer first
-pub record StartsThere (p : Progress) (c : Label) (timer : ℕ) (mode : Mode) (ns asked generation on : ℕ) (was_armed : Bool) (next : Progress) : Type 0 where
-  pub needs_out : Needs (timer_at p.timers timer) (events.Out asked)
-  pub needs : Needs (after (timer_at p.timers timer) (events.Out asked)) (events.Start mode ns p.reading asked)
-  pub generation_is : generation ≡ (timer_at p.timers timer).stamp + 2
-  pub base_is : on ≡ asked
-  pub was : was_armed ≡ is_some (timer_at p.timers timer).armed
-  pub goes_on : next ≡ start_here (move_out p c timer asked) c timer mode ns asked
+use Rattle.record_text.specs.declared.record.Label.{Label}
+use Rattle.record_text.specs.declared.record.Told.{Told}
+use Rattle.record_text.specs.declared.record.Entry.TheVariants as entries
+use Rattle.record_text.specs.declared.record.Answer.{Answer}
+use Rattle.record_text.specs.declared.record.Answer.TheVariants as answers
+use Rattle.script_text.specs.Scripts.{IsKindInRange}
+use Rattle.hrt_app.specs.Progress.{Progress, Step, plain, with_entry, with_step, with_steps, with_trigger, with_write}
+use Rattle.hrt_app.specs.declared.objects.Object.{Object}
+use Rattle.hrt_app.specs.declared.objects.Object.TheVariants.{Raw}
+use Rattle.hrt_app.specs.Objects.{object_at, object_in, trigger_step}
+use Rattle.hrt_app.specs.ObjectTurns.{SettimeTurn, Starts}
+use Rattle.hrt_app.specs.Callbacks.{Act, act_of, after_act, restart_of}
 
 -- a timer that an expiry pass claims: the first that is due
 pub record IsNext (p : Progress) (base timer generation : ℕ) : Type 0 where
@@ -61,18 +35,41 @@ pub record IsNext (p : Progress) (base timer generation : ℕ) : Type 0 where
   pub first : (u : ℕ) → is_ahead base p.reading (timer_at p.timers timer).clock (timer_at p.timers u) ≡ false
   pub earliest : (u : ℕ) → is_smaller base (timer_at p.timers timer).clock (timer_at p.timers timer).expires (timer_at p.timers u) ≡ false
 
--- a timer is claimed
-abbrev pub claimed : Progress → Label → ℕ → ℕ → ℕ → Progress
-claimed p c base timer generation = with_entry p c timer (events.Claim base p.reading) (entries.Claim base p.reading.stamp generation)
+-- the claim of a timer, with what its callback was told before it made any entry
+abbrev pub claim_step : ℕ → ClockReading → ℕ → Option Told → Step
+claim_step base reading generation look = record { event = events.Claim base reading; entry = entries.Claim base reading.stamp generation; look = look }
 
--- a timer is claimed, and its callback does nothing and asks for no restart
-abbrev pub fired_once : Progress → Label → ℕ → ℕ → ℕ → Progress
-fired_once p c base timer generation = with_entry (claimed p c base timer generation) c timer (events.Finish false) (entries.Finish false generation restarts.None)
+-- the finish of a timer in this state
+abbrev pub finish_step : Timer → ℕ → Bool → Step
+finish_step t generation again = plain (events.Finish again) (entries.Finish again generation (restart_of (rearmed_by t again)))
 
--- an expiry pass claims these timers, each with its generation
+-- a callback's step, where it made one, before others
+abbrev pub act_then : Option Step → List Step → List Step
+act_then None xs = xs
+act_then (Some x) xs = x ∷ xs
+
+-- the steps of a timer that is claimed, from the claim to the finish, where its callback comes to this
+abbrev pub act_steps : Timer → ClockReading → ℕ → ℕ → Act → List Step
+act_steps running reading base generation act =
+    claim_step base reading generation act.look ∷ act_then act.step (finish_step (after_act running act.step) generation act.again ∷ [])
+
+-- a timer is claimed, what it is declared with runs, and its function is finished
+abbrev pub fired_by : Object → Progress → Label → ℕ → ℕ → ℕ → Progress
+fired_by (Raw callback) p c base timer generation =
+    let running = after (timer_at p.timers timer) (events.Claim base p.reading) in
+    with_steps p c timer (act_steps running p.reading base generation (act_of callback running p.reading))
+fired_by o p c base timer generation =
+    let running = after (timer_at p.timers timer) (events.Claim base p.reading) in
+    with_step (with_trigger (with_step p c timer (claim_step base p.reading generation None)) c timer generation (trigger_step o generation p.reading)) c timer (finish_step running generation false)
+
+-- the same, of the timer of this number
+abbrev pub fired : Progress → Label → ℕ → ℕ → ℕ → Progress
+fired p c base timer generation = fired_by (object_at p.objects timer) p c base timer generation
+
+-- an expiry pass claims these timers, each with its generation, and runs their callbacks
 abbrev pub Claims : Label → ℕ → Progress → List (ℕ × ℕ) → Progress → Type 0
 Claims c base p [] next = next ≡ p
-Claims c base p (f ∷ fs) next = IsNext p base f.0 f.1 × Claims c base (fired_once p c base f.0 f.1) fs next
+Claims c base p (f ∷ fs) next = IsNext p base f.0 f.1 × Claims c base (fired p c base f.0 f.1) fs next
 
 -- what an expiry pass had claimed when it ended
 pub record Passes (c : Label) (base : ℕ) (p : Progress) (timers : List ℕ) (shown : ℕ) (next : Progress) : Type 0 where
@@ -96,13 +93,15 @@ pub record IsTaken (p : Progress) (base timer generation : ℕ) : Type 0 where
 abbrev pub peek_answer : Timer → Answer
 peek_answer t = answers.Peek t.stamp t.base (is_some t.armed) (is_some t.running) t.moving
 
--- the call names a timer below this number
+-- the call names a timer below this number; of the calls on objects a settime alone is made yet
 abbrev pub NamesTimer : ℕ → Call → Type 0
 NamesTimer count (calls.Start timer mode ns base) = timer < count
 NamesTimer count (calls.Cancel timer) = timer < count
 NamesTimer count (calls.Peek timer) = timer < count
 NamesTimer count (calls.Expire base budget) = Unit
 NamesTimer count (calls.Clock write) = Unit
+NamesTimer count (calls.Settime timer flags value interval) = timer < count
+NamesTimer count call = ⊥
 
 -- the call names a base below this number
 abbrev pub NamesBase : ℕ → Call → Type 0
@@ -110,13 +109,11 @@ NamesBase count (calls.Start timer mode ns base) = base < count
 NamesBase count (calls.Cancel timer) = Unit
 NamesBase count (calls.Peek timer) = Unit
 NamesBase count (calls.Expire base budget) = base < count
-NamesBase count (calls.Clock write) = Unit
+NamesBase count call = Unit
 
 -- a call, its answer, and the run after it
 abbrev pub Turns : Label → Progress → Call → Answer → Progress → Type 0
-Turns c p (calls.Start timer mode ns base) (answers.Started generation on was_armed) next =
-    StartsHere p c timer mode ns base generation on was_armed next ⊎ StartsThere p c timer mode ns base generation on was_armed next
-Turns c p (calls.Start timer mode ns base) (answers.Spent stamp) next = ((timer_at p.timers timer).limit ≤ stamp) × (stamp ≡ (timer_at p.timers timer).stamp) × ((timer_at p.timers timer).moving ≡ false) × (next ≡ p)
+Turns c p (calls.Start timer mode ns base) answer next = Starts c p timer mode ns base answer next
 Turns c p (calls.Cancel timer) (answers.Cancelled generation) next =
     ((timer_at p.timers timer).armed ≡ Some generation) × Needs (timer_at p.timers timer) events.Cancel × (next ≡ with_entry p c timer events.Cancel (entries.Cancel generation))
 Turns c p (calls.Cancel timer) (answers.Running generation stamp) next = ((timer_at p.timers timer).running ≡ Some generation) × (stamp ≡ (timer_at p.timers timer).stamp) × (next ≡ p)
@@ -129,6 +126,7 @@ Turns c p (calls.Expire base budget) (answers.More shown timers) next = Passes c
 Turns c p (calls.Expire base budget) (answers.Busy shown timers timer generation) next = Passes c base p timers shown next × (length timers < budget) × IsTaken next base timer generation
 Turns c p (calls.Clock write) (answers.Clock stamp) next = IsAccepted p.reading write × (stamp ≡ p.reading.stamp + 1) × (next ≡ with_write p c write)
 Turns c p (calls.Clock write) (answers.Range would_be) next = (p.reading.stamp < last_stamp) × (latest < would_be) × (would_be ≡ greatest (after_write p.reading write)) × (next ≡ p)
+Turns c p (calls.Settime timer flags value interval) answer next = SettimeTurn c p timer flags value interval answer next
 Turns c p call answer next = ⊥
 
 -- calls in turn, numbered from here, with their answers
@@ -139,18 +137,20 @@ TurnsAll number p [] (answer ∷ given) next = ⊥
 TurnsAll number p (call ∷ cs) [] next = ⊥
 
 -- a run before its first call
-abbrev pub opened : List ClockId → ℕ → Progress
-opened clocks limit = record {
-  timers = map (λ clock. opening clock limit) clocks;
+abbrev pub opened : List Declaration → ℕ → Progress
+opened declared limit = record {
+  timers = map (λ clock. opening clock limit) (map (λ d. d.clock) declared);
+  objects = map (object_in limit) declared;
   reading = at_stamp 0;
-  told = record { clock = []; timers = replicate (length clocks) []; answers = [] };
+  told = record { clock = []; timers = replicate (length declared) []; objects = replicate (length declared) []; answers = [] };
 }
 
--- what a run on one lane asks of its script: one lane makes all calls, each on a timer that is declared, and callbacks do nothing
+-- what a run on one lane asks of its script: one lane makes all calls, each on a timer and a base that there are; the timers
+-- are raw, and callbacks start them on such a base
 pub record IsOneLane (s : Script) : Type 0 where
   pub lanes : s.lanes ≡ 1
   pub lane : AllByRecursion (λ r. AllByRecursion (λ c. c.lane ≡ 0) r.calls) s.rounds
-  pub once : AllByRecursion (λ d. d.callback ≡ callbacks.Once) s.timers
+  pub kinds : AllByRecursion (λ d. IsKindInRange s.bases d.kind) s.timers
   pub named : AllByRecursion (λ r. AllByRecursion (λ c. NamesTimer (length s.timers) c.call) r.calls) s.rounds
   pub based : AllByRecursion (λ r. AllByRecursion (λ c. NamesBase s.bases c.call) r.calls) s.rounds
 

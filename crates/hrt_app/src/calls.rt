@@ -1,15 +1,18 @@
-ghost use Rattle.std.specs.Prelude.{◌≡◌, ◌≤◌, ◌<◌, ◌+◌, ℕ, IfOk, OnOk, length};
+ghost use Rattle.std.specs.Prelude.{◌≡◌, ◌≤◌, ◌<◌, ◌+◌, ℕ, IfOk, None, OnOk, length};
 ghost use Rattle.clock_model.specs.Clocks.{last_stamp};
 ghost use Rattle.hrt_app.specs.Runs.{RunState, Keeps, Nexts, progress, with_out};
+ghost use Rattle.hrt_app.specs.ObjectTurns.{ArmsBy, Disarms, SettimeTurn, Starts};
 ghost use Rattle.hrt_app.specs.Turns.{NamesBase, NamesTimer, Turns, peek_answer};
 ghost use Rattle.seq_timer.specs.Tables.{timer_at};
 ghost use Rattle.script_text.specs.declared.script.Call.TheVariants as calls;
 
+use crate::callbacks::{restart_of, run_callback};
 use crate::gate::{Gate, Point};
 use crate::run::Run;
 use clock_model::{ClockFault, Write};
-use ktime::{Mode, Reading};
-use script_text::{Answer, Call, ClockLine, Entry, Items, Label, Restart};
+use ktime::{Mode, Reading, TimeSpec};
+use record_text::{Answer, Armed, ClockLine, Entry, Items, Label, ObjectEntry};
+use script_text::Call;
 use std::alloc::{AllocError, Global};
 use timer_core::{CancelAnswer, ClaimAnswer, StartAnswer};
 
@@ -35,6 +38,7 @@ impl Run {
         requires timer { NamesTimer (length self.old.core.timers) call }
         requires base { NamesBase (length self.old.core.bases) call }
         requires counted { self.old.reading.stamp < last_stamp }
+        requires idle { (timer : ℕ) → (timer_at self.old.core.timers timer).running ≡ None }
         ensures turn { IfOk result (λ answer. Turns label (progress self.old) call answer (progress self.new)) }
         ensures kept { OnOk result (Keeps self.old self.new) }
     {
@@ -49,6 +53,17 @@ impl Run {
             Call::Peek { timer } => Ok(self.peek(timer)),
             Call::Expire { base, budget } => self.expire(gate, label, base, budget),
             Call::Clock { write } => self.write(label, write),
+            Call::Settime {
+                timer,
+                flags,
+                value,
+                interval,
+            } => self.settime(label, timer, flags, value, interval),
+            Call::Gettime { .. }
+            | Call::Accept { .. }
+            | Call::Overrun { .. }
+            | Call::Read { .. }
+            | Call::Readable { .. } => unreachable!(),
         }
     }
 
@@ -66,6 +81,26 @@ impl Run {
         ensures kept { OnOk result (Keeps self.old self.new) }
     {
         let reading = self.clock.reading();
+        self.start_at(label, timer, mode, ns, base, reading)
+    }
+
+    /// A start by this reading of the clock.
+    fn start_at(
+        &mut self,
+        label: Label,
+        timer: u32,
+        mode: Mode,
+        ns: u64,
+        base: u32,
+        reading: Reading,
+    ) -> Result<Answer, AllocError>
+        requires timer { timer < length self.old.core.timers }
+        requires base { base < length self.old.core.bases }
+        requires reading { reading ≡ self.old.reading }
+        ensures turn { IfOk result (λ answer. Starts label (progress self.old) timer mode ns base answer (progress self.new)) }
+        ensures objects { OnOk result (self.new.objects ≡ self.old.objects) }
+        ensures kept { OnOk result (Keeps self.old self.new) }
+    {
         match self.core.start(timer, mode, ns, base, reading) {
             StartAnswer::Spent { stamp } => Ok(Answer::Spent { stamp }),
             StartAnswer::Started {
@@ -130,6 +165,91 @@ impl Run {
                 self.enter(label, timer, Entry::Cancel { generation })?;
                 Ok(Answer::Cancelled { generation })
             }
+        }
+    }
+
+    /// Arms the timer of an object anew, or disarms it.
+    fn settime(
+        &mut self,
+        label: Label,
+        timer: u32,
+        flags: u64,
+        value: TimeSpec,
+        interval: TimeSpec,
+    ) -> Result<Answer, AllocError>
+        requires timer { timer < length self.old.core.timers }
+        requires idle { (timer_at self.old.core.timers timer).running ≡ None }
+        ensures turn { IfOk result (λ answer. SettimeTurn label (progress self.old) timer flags value interval answer (progress self.new)) }
+        ensures kept { OnOk result (Keeps self.old self.new) }
+    {
+        let mut object = self.objects[timer as usize];
+        let Some(times) = object.times(flags, value, interval) else {
+            return Ok(Answer::Invalid);
+        };
+        if object.is_spent() {
+            return Ok(Answer::Spent {
+                stamp: object.entries(),
+            });
+        }
+        let reading = self.clock.reading();
+        let _ = self.disarm(label, timer)?;
+        let wanted = object.settime_wants(flags, value, interval, reading);
+        let (arm, refused) = self.arm(label, timer, wanted, object.base(), reading)?;
+        let reply = object.settime(flags, value, interval, reading, arm, refused);
+        let entry = ObjectEntry::Settime {
+            flags,
+            value: times.0,
+            interval: times.1,
+            reading: reading.stamp,
+            arm,
+            reply,
+        };
+        self.enter_object(label, timer, object, entry)?;
+        Ok(reply.answer())
+    }
+
+    /// Cancels a timer whose function isn't running, where it is armed, and tells the generation.
+    fn disarm(&mut self, label: Label, timer: u32) -> Result<Option<u64>, AllocError>
+        requires timer { timer < length self.old.core.timers }
+        requires idle { (timer_at self.old.core.timers timer).running ≡ None }
+        ensures turn { IfOk result (λ cancel. Disarms label (progress self.old) timer cancel (progress self.new)) }
+        ensures objects { OnOk result (self.new.objects ≡ self.old.objects) }
+        ensures reading { OnOk result (self.new.reading ≡ self.old.reading) }
+        ensures kept { OnOk result (Keeps self.old self.new) }
+    {
+        match self.core.try_to_cancel(timer) {
+            CancelAnswer::Idle { .. } => Ok(None),
+            CancelAnswer::Cancelled { generation, .. } => {
+                self.enter(label, timer, Entry::Cancel { generation })?;
+                Ok(Some(generation))
+            }
+            CancelAnswer::Running { .. } => unreachable!(),
+        }
+    }
+
+    /// Makes the start that an object wants, and tells what became of it, with the stamp of a timer that refused it.
+    fn arm(
+        &mut self,
+        label: Label,
+        timer: u32,
+        wanted: Option<(Mode, u64)>,
+        base: u32,
+        reading: Reading,
+    ) -> Result<(Armed, u64), AllocError>
+        requires timer { timer < length self.old.core.timers }
+        requires base { base < length self.old.core.bases }
+        requires reading { reading ≡ self.old.reading }
+        ensures turn { IfOk result (λ told. ArmsBy label (progress self.old) timer base wanted told.0 told.1 (progress self.new)) }
+        ensures objects { OnOk result (self.new.objects ≡ self.old.objects) }
+        ensures kept { OnOk result (Keeps self.old self.new) }
+    {
+        let Some((mode, ns)) = wanted else {
+            return Ok((Armed::None, 0));
+        };
+        match self.start_at(label, timer, mode, ns, base, reading)? {
+            Answer::Started { generation, .. } => Ok((Armed::Generation { generation }, 0)),
+            Answer::Spent { stamp } => Ok((Armed::Unarmed, stamp)),
+            _ => unreachable!(),
         }
     }
 
@@ -229,18 +349,22 @@ impl Run {
                 generation,
                 ..
             } => {
+                gate.at(label.lane, label.call, Point::Callback);
+                let object = self.objects[timer as usize];
+                let work = run_callback(&mut self.core, timer, object.callback(), reading);
+                let finished = self.core.finish(timer, work.again);
                 let claim = Entry::Claim {
                     base,
                     reading: reading.stamp,
                     generation,
                 };
-                self.enter(label, timer, claim)?;
-                gate.at(label.lane, label.call, Point::Callback);
-                self.core.finish(timer, false);
+                self.enter_told(label, timer, claim, work.told)?;
+                self.enter_some(label, timer, work.entry)?;
+                self.enter_expiry(label, timer, generation, reading)?;
                 let finish = Entry::Finish {
-                    restart: false,
+                    restart: work.again,
                     generation,
-                    rearmed: Restart::None,
+                    rearmed: restart_of(finished.rearmed),
                 };
                 self.enter(label, timer, finish)?;
                 Ok(Next::Fired { timer })

@@ -4,7 +4,8 @@ ghost use Rattle.hrt_app.specs.Engine.{Answers};
 
 use crate::gate::Gate;
 use crate::runner::run;
-use script_text::{ParseError, parse, text};
+use record_text::text;
+use script_text::{ParseError, parse};
 use std::alloc::{AllocError, Global};
 
 /// The text that answers a script.

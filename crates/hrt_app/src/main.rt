@@ -4,11 +4,13 @@
 ghost use Rattle.std.specs.Prelude.{◌≡◌, ◌⊎◌, IfErr};
 
 mod adapters;
+mod callbacks;
 mod calls;
 mod command;
 mod engine;
 mod gate;
 mod memory;
+mod objects;
 mod run;
 mod runner;
 mod status;

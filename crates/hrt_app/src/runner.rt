@@ -1,13 +1,15 @@
-ghost use Rattle.std.specs.Prelude.{◌≡◌, ◌≤◌, ◌<◌, ◌+◌, ◌++◌, ℕ, List, [], ◌∷◌, IfOk, OnOk, length, map};
+ghost use Rattle.std.specs.Prelude.{◌≡◌, ◌≤◌, ◌<◌, ◌+◌, ◌++◌, ℕ, List, [], ◌∷◌, None, IfOk, OnOk, length, map};
 ghost use Rattle.std.specs.List.{AllByRecursion};
 ghost use Rattle.clock_model.specs.Clocks.{last_stamp};
+ghost use Rattle.seq_timer.specs.Tables.{timer_at};
 ghost use Rattle.script_text.specs.Fits.{Fits};
 ghost use Rattle.hrt_app.specs.Runs.{GoesOn, IsRunnable};
 ghost use Rattle.hrt_app.specs.Turns.{NamesBase, NamesTimer};
 
 use crate::gate::{Gate, Point};
 use crate::run::Run;
-use script_text::{Answer, Label, Round, RunRecord, Script};
+use record_text::{Answer, Label, RunRecord};
+use script_text::{Round, Script};
 use std::alloc::{AllocError, Global};
 
 /// Runs a script of one lane, and gives the record of the run.
@@ -35,6 +37,7 @@ impl Run {
         requires bases { AllByRecursion (λ c. NamesBase (length self.old.core.bases) c.call) round.now.calls }
         requires few { length answers.old.items + length round.now.calls < last_stamp }
         requires counted { self.old.reading.stamp ≤ length answers.old.items }
+        requires idle { (timer : ℕ) → (timer_at self.old.core.timers timer).running ≡ None }
         ensures turns { OnOk result (GoesOn self.old answers.old.items (map (λ c. c.call) round.now.calls) self.new answers.new.items) }
     {
         for line in round.calls.as_slice() {

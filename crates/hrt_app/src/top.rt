@@ -3,7 +3,8 @@ ghost use Rattle.std.specs.Prelude.{◌≡◌, ◌≤◌, ◌⊎◌, [], Some, N
 ghost use Rattle.hrt_app.specs.Streams.{Rose, Adds};
 ghost use Rattle.hrt_app.specs.Transfer.{TakesAtMost, most_bytes};
 ghost use Rattle.hrt_app.specs.Command.{asked_by};
-ghost use Rattle.hrt_app.specs.Engine.{HasForm, refusal_text};
+ghost use Rattle.script_text.specs.declared.refusal.Refused.{Refused};
+ghost use Rattle.script_text.specs.Refusals.{IsRefused, refusal_text};
 ghost use Rattle.hrt_app.specs.Top.{IsAskedFor, HasRecorded, HasRefused, HasStopped, MustAnswer};
 
 use crate::command::{Asked, asks};
@@ -46,6 +47,7 @@ pub fn top<S: Source, K: Sink, G: Gate>(
 }
 
 /// The program over bytes in memory, with a source and a sink that never fail: the outcome, and the sink.
+#[tactic(auto, using(crate::proofs::Outcomes::refused_told))]
 pub fn on_bytes<G: Gate>(
     rt: &impl AllocGlobal,
     words: &[String],
@@ -55,7 +57,7 @@ pub fn on_bytes<G: Gate>(
     ensures asked { IsAskedFor (asked_by words.now) result.0 }
     ensures answer { asked_by words.now ≡ Some Asked.Run → MustAnswer bytes.now result.0 }
     ensures ok { result.0 ≡ Status.Ok → HasRecorded (Some bytes.now) (Some []) (Some []) result.1.kept }
-    ensures refused { result.0 ≡ Status.Refused → Adds (Some []) result.1.kept refusal_text }
+    ensures refused { result.0 ≡ Status.Refused → (r : Refused) × IsRefused bytes.now r × Adds (Some []) result.1.kept (refusal_text r) }
     ensures unwritten { (result.0 ≡ Status.Usage) ⊎ (result.0 ≡ Status.OutOfMemory) → result.1.kept ≡ Some [] }
     ensures no_fault { (result.0 ≡ Status.ReadFault) ⊎ (result.0 ≡ Status.WriteFault) → ⊥ }
 {
@@ -66,7 +68,7 @@ pub fn on_bytes<G: Gate>(
 }
 
 // Reads a script from the source, runs it, and writes its record or its refusal to the sink.
-#[tactic(auto, using(crate::proofs::Outcomes::recorded, crate::proofs::Outcomes::must_succeed, crate::proofs::Outcomes::must_refuse, crate::proofs::Outcomes::may_want))]
+#[tactic(auto, using(crate::proofs::Outcomes::recorded, crate::proofs::Outcomes::may_want))]
 fn run<S: Source, K: Sink, G: Gate>(alloc: Global, source: &mut S, sink: &mut K, gate: &G) -> Status
     ensures usage { result ≡ Status.Usage → ⊥ }
     ensures ok { result ≡ Status.Ok → HasRecorded (S.left source.old) (S.left source.new) (K.taken sink.old) (K.taken sink.new) }
@@ -113,8 +115,6 @@ mod tests {
 
     const RECORD: &[u8] = b"record 1\nend\n";
 
-    const REFUSAL: &[u8] = b"line 0: NotBuilt\n";
-
     fn command(alloc: Global, words: &[&str]) -> Result<Vec<String>, AllocError> {
         let mut all = Vec::new(alloc);
         for word in words {
@@ -149,13 +149,18 @@ mod tests {
     }
 
     #[test]
-    fn bytes_that_are_no_script_are_refused(rt: HostRuntime) -> Result<(), Fail> {
+    fn bytes_that_are_no_script_are_refused_by_line_and_cause(rt: HostRuntime) -> Result<(), Fail> {
         let words = command(rt.alloc(), RUN)?;
-        let cases: [&[u8]; 4] = [b"", b"hrt 2\n", RECORD, b"\xff\x00"];
-        for bytes in cases {
+        let cases: [(&[u8], &[u8]); 4] = [
+            (b"", b"line 1: Unfinished\n"),
+            (b"hrt 2\n", b"line 1: Version\n"),
+            (RECORD, b"line 1: UnknownWord\n"),
+            (b"# none\n\xff\x00", b"line 2: BadByte\n"),
+        ];
+        for (bytes, refusal) in cases {
             let (status, sink) = on_bytes(&rt, &words, bytes, &OpenGate);
             assert_eq!(rt; status, Status::Refused);
-            assert_eq!(rt; sink.kept.bytes(), Some(REFUSAL));
+            assert_eq!(rt; sink.kept.bytes(), Some(refusal));
         }
         Ok(())
     }

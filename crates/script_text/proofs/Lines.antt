@@ -1,44 +1,113 @@
--- The lines of a record are read back from their text.
-use Rattle.std.proofs.Common.{◌≡◌, ◌++◌, ◌∷◌, [], List, ℕ, true, map, ap, sym, refl, ◌∙◌}
-use Rattle.std.specs.List.{AllByRecursion}
-use Rattle.std.proofs.lemmas.List.{append_cancel_right}
-use Rattle.script_text.specs.Text.{RecordLine, Version, OfClock, OfTimer, OfLook, OfCall, End, joined, lines_text, words_of}
-use Rattle.script_text.specs.Numbers.{AreMachineNumbers, numbers_of}
-use Rattle.script_text.proofs.Words.{are_words, parts, words_again, line_again}
-use Rattle.script_text.proofs.Spelling.{line_of, line_from_words, words_are_words}
-use Rattle.std.proofs.lemmas.Bool.{and_parts}
+-- A line is read from its own bytes, and from no others.
+use Rattle.std.proofs.Common.{arith, ◌≡◌, ℕ, ◌<◌, Bool, true, false, List, [], ◌∷◌, length, Result, Ok, Err, refl, sym, ap, subst, ◌∙◌, nat_lt, if◌then◌else◌, ◌==◌}
+use Rattle.std.specs.List.{AllByRecursion, join_with_byte, list_all, list_any}
+use Rattle.std.proofs.lemmas.Bool.{and_parts, eq-eqb, eqb-true, ltb-true, ne_eqb, le-ltb}
+use Rattle.std.proofs.lemmas.List.Folds.{list_any-append}
+use Rattle.std.proofs.lemmas.List.Splits.{join_with_byte-slice_split}
+use Rattle.script_text.specs.declared.form.Form.{Form}
+use Rattle.script_text.specs.declared.form.Line.{Line}
+use Rattle.script_text.specs.declared.refusal.Cause.{Cause}
+use Rattle.script_text.specs.declared.refusal.Cause.TheVariants as causes
+use Rattle.script_text.specs.Forms.{is_built, row}
+use Rattle.script_text.specs.Grammar.{IsLine, filled, spelled}
+use Rattle.script_text.specs.Reading.{◌>>=◌, filled_by, is_bad_byte, is_empty_word, line_in, values_in, words_of}
+use Rattle.script_text.specs.Scripts.{is_skipped}
+use Rattle.script_text.proofs.Cutting.{Without, split_joined}
+use Rattle.script_text.proofs.Choosing.{form_again, form_spells}
+use Rattle.script_text.proofs.Filling.{line_in-words}
+use Rattle.script_text.proofs.Rows.{AreWords, HasKeys, bind_ok, is_plain, is_word, length-filled, row_words, same_Ok, values_again, values_spell}
 
-abbrev HasWords : List (List ℕ) → Type 0
-HasWords [] = ⊥
-HasWords (w ∷ ws) = Unit {0}
+-- ---- the bytes of words
 
-each_has_words : (l : RecordLine) → HasWords (words_of l)
-each_has_words Version = tt
-each_has_words (OfClock n w) = tt
-each_has_words (OfTimer timer n label entry) = tt
-each_has_words (OfLook timer n look) = tt
-each_has_words (OfCall lane call answer) = tt
-each_has_words End = tt
+-- all are words
+abbrev AllWords : List (List ℕ) → Type 0
+AllWords words = AllByRecursion (λ w. is_word w ≡ true) words
 
-joined_again : (ws : List (List ℕ)) → HasWords ws → are_words ws ≡ true → parts 32 (joined ws) ≡ ws
-joined_again [] has h = absurd has
-joined_again (w ∷ ws) has h = words_again w ws (and_parts _ _ h).0 (and_parts _ _ h).1
+without_space : (word : List ℕ) → list_all is_plain word ≡ true → Without 32 word
+without_space [] plain = tt
+without_space (b ∷ bs) plain =
+    let both = and_parts (is_plain b) (list_all is_plain bs) plain in
+    (ne_eqb b 32 (λ same. omega (arith, same, ltb-true 47 b (and_parts (nat_lt 47 b) (nat_lt b 127) both.0).0)), without_space bs both.1)
 
-read_line : List ℕ → RecordLine
-read_line bytes = line_of (parts 32 bytes)
+words_without_space : (words : List (List ℕ)) → AllWords words → AllByRecursion (λ w. Without 32 w) words
+words_without_space [] h = tt
+words_without_space ([] ∷ words) h = absurd cc
+words_without_space ((b ∷ bs) ∷ words) h = (without_space (b ∷ bs) h.0, words_without_space words h.1)
 
-line_read : (l : RecordLine) → AreMachineNumbers (numbers_of l) → read_line (joined (words_of l)) ≡ l
-unfolding read_line
-line_read l h = ap line_of (joined_again (words_of l) (each_has_words l) (words_are_words l h)) ∙ line_from_words l h
+words_again : (words : List (List ℕ)) → AreWords words → words_of (join_with_byte 32 words) ≡ words
+words_again [] h = absurd (omega (arith, h.0))
+words_again (w ∷ ws) h = split_joined 32 w ws (words_without_space (w ∷ ws) h.1)
 
--- an end of the text is read as one line more
-lines_read : (ls : List RecordLine) → AllByRecursion (λ l. AreMachineNumbers (numbers_of l)) ls → map read_line (parts 10 (lines_text ls)) ≡ ls ++ read_line [] ∷ []
-lines_read [] h = refl
-lines_read (l ∷ ls) h =
-    ap (λ ps. map read_line ps) (line_again (words_of l) (lines_text ls) (words_are_words l h.0))
-    ∙ ap (λ x. x ∷ map read_line (parts 10 (lines_text ls))) (line_read l h.0)
-    ∙ ap (λ r. l ∷ r) (lines_read ls h.1)
+first_byte : (b : ℕ) (bs : List ℕ) → is_word (b ∷ bs) ≡ true → 47 < b
+first_byte b bs plain = ltb-true 47 b (and_parts (nat_lt 47 b) (nat_lt b 127) (and_parts (is_plain b) (list_all is_plain bs) plain).0).0
 
-pub lines_from_text : (ls ms : List RecordLine) → AllByRecursion (λ l. AreMachineNumbers (numbers_of l)) ls → AllByRecursion (λ l. AreMachineNumbers (numbers_of l)) ms → lines_text ls ≡ lines_text ms → ls ≡ ms
-lines_from_text ls ms h k e =
-    append_cancel_right ls ms (read_line [] ∷ []) (sym (lines_read ls h) ∙ ap (λ text. map read_line (parts 10 text)) e ∙ lines_read ms k)
+no_empty_word : (words : List (List ℕ)) → AllWords words → list_any is_empty_word words ≡ false
+no_empty_word [] h = refl
+no_empty_word ([] ∷ words) h = absurd cc
+no_empty_word ((b ∷ bs) ∷ words) h = rw (ne_eqb (length (b ∷ bs)) 0 (λ none. omega (arith, none))) (no_empty_word words h.1)
+
+good_byte : (b : ℕ) → is_plain b ≡ true → is_bad_byte b ≡ false
+good_byte b plain =
+    let both = and_parts (nat_lt 47 b) (nat_lt b 127) plain in
+    rw (le-ltb b 32 (omega (arith, ltb-true 47 b both.0)), le-ltb 126 b (omega (arith, ltb-true b 127 both.1))) refl
+
+no_bad_byte : (word : List ℕ) → list_all is_plain word ≡ true → list_any is_bad_byte word ≡ false
+no_bad_byte [] plain = refl
+no_bad_byte (b ∷ bs) plain =
+    let both = and_parts (is_plain b) (list_all is_plain bs) plain in
+    rw (good_byte b both.0) (no_bad_byte bs both.1)
+
+good_bytes : (words : List (List ℕ)) → AllWords words → list_any is_bad_byte (join_with_byte 32 words) ≡ false
+good_bytes [] h = refl
+good_bytes ([] ∷ words) h = absurd cc
+good_bytes ((b ∷ bs) ∷ []) h = no_bad_byte (b ∷ bs) h.0
+good_bytes ((b ∷ bs) ∷ w ∷ ws) h = list_any-append is_bad_byte (b ∷ bs) (32 ∷ join_with_byte 32 (w ∷ ws)) ∙ rw (no_bad_byte (b ∷ bs) h.0) (good_bytes (w ∷ ws) h.1)
+
+kept : (words : List (List ℕ)) → AreWords words → is_skipped (join_with_byte 32 words) ≡ false
+kept [] h = absurd (omega (arith, h.0))
+kept ([] ∷ words) h = absurd cc
+kept ((b ∷ bs) ∷ []) h = ne_eqb b 35 (λ same. omega (arith, same, first_byte b bs h.1.0))
+kept ((b ∷ bs) ∷ w ∷ ws) h = ne_eqb b 35 (λ same. omega (arith, same, first_byte b bs h.1.0))
+
+-- ---- a line
+
+line_words : (l : Line) → IsLine l → AreWords (filled (row l.form) l.values)
+line_words l h = row_words (row l.form) l.values h (form_again l.form).1
+
+-- a line that can be spelled isn't skipped
+pub spelled_kept : (l : Line) → IsLine l → is_skipped (spelled l) ≡ false
+spelled_kept l h = kept (filled (row l.form) l.values) (line_words l h)
+
+pub line_again : (l : Line) → IsLine l → is_built l.form ≡ true → line_in (spelled l) ≡ Ok l
+unfolding filled_by
+line_again l h built =
+    let words = filled (row l.form) l.values in
+    let are = line_words l h in
+    let form = (form_again l.form).0 built l.values h in
+    line_in-words (spelled l) words (sym (words_again words are)) (good_bytes words are.1) (no_empty_word words are.1)
+    ∙ rw (form, eq-eqb (length words) (length (row l.form)) (length-filled (row l.form) l.values h), values_again (row l.form) l.values h) refl
+
+unless_refused : (b : Bool) (cause : Cause) (r : Result Line Cause) (l : Line) → (if b then Err cause else r) ≡ Ok l → r ≡ Ok l
+unless_refused true cause r l e = absurd cc
+unless_refused false cause r l e = e
+
+filled_spells : (form : Form) (words : List (List ℕ)) (l : Line) → HasKeys (row form) words → filled_by form words ≡ Ok l → (words ≡ filled (row l.form) l.values) × IsLine l × (l.form ≡ form)
+unfolding filled_by
+filled_spells form words l keys e =
+    let go : (b : Bool) → (length words == length (row form)) ≡ b → (if b then (values_in (row form) words >>= λ vs. Ok (record { form = form; values = vs })) else Err causes.WordCount) ≡ Ok l → (words ≡ filled (row l.form) l.values) × IsLine l × (l.form ≡ form) = λ b. elim b as (λ b. (length words == length (row form)) ≡ b → (if b then (values_in (row form) words >>= λ vs. Ok (record { form = form; values = vs })) else Err causes.WordCount) ≡ Ok l → (words ≡ filled (row l.form) l.values) × IsLine l × (l.form ≡ form)) [
+      | true ↦ λ is k.
+          let vs = bind_ok _ _ l k in
+          let s = values_spell (row form) words vs.0 (eqb-true _ _ is) keys vs.1 in
+          subst (λ l. (words ≡ filled (row l.form) l.values) × IsLine l × (l.form ≡ form)) (same_Ok _ l vs.2) (s.0, s.1, refl)
+      | false ↦ λ is k. absurd cc
+    ] in
+    go (length words == length (row form)) refl e
+
+pub line_spells : (bytes : List ℕ) (l : Line) → line_in bytes ≡ Ok l → (bytes ≡ spelled l) × IsLine l × (is_built l.form ≡ true)
+unfolding line_in
+line_spells bytes l e =
+    let full = unless_refused (list_any is_bad_byte bytes) causes.BadByte _ l e in
+    let form = bind_ok _ _ l (unless_refused (list_any is_empty_word (words_of bytes)) causes.BadSpace _ l full) in
+    let chosen = form_spells (words_of bytes) form.0 form.1 in
+    let s = filled_spells form.0 (words_of bytes) l chosen.0 form.2 in
+    (sym (join_with_byte-slice_split 32 bytes) ∙ ap (λ (words : List (List ℕ)). join_with_byte 32 words) s.0, s.1, ap is_built s.2 ∙ chosen.1)

@@ -1,5 +1,5 @@
 -- What each call may do and answer: its entries in their order, with the call's own arguments and one reading, and the answer that they give.
-use Rattle.std.specs.Prelude.{ℕ, ◌≡◌, ◌+◌, ◌<◌, Bool, true, false, ◌⊎◌, Option, Some, None, List, [], ◌∷◌, ◌++◌, length, map, flat_map, get_or}
+use Rattle.std.specs.Prelude.{ℕ, ◌≡◌, ◌+◌, ◌<◌, ◌≤◌, Bool, true, false, ◌⊎◌, Option, Some, None, List, [], ◌∷◌, ◌++◌, length, map, flat_map, get_or}
 use Rattle.std.specs.List.{AllByRecursion}
 use Rattle.ktime.specs.declared.clock_id.ClockId.{ClockId}
 use Rattle.ktime.specs.declared.mode.Mode.{Mode}
@@ -11,45 +11,32 @@ use Rattle.seq_timer.specs.declared.observation.Observation.TheVariants as obser
 use Rattle.seq_timer.specs.Histories.{Holds}
 use Rattle.script_text.specs.declared.script.Callback.{Callback}
 use Rattle.script_text.specs.declared.script.Callback.TheVariants as callbacks
+use Rattle.script_text.specs.declared.script.Kind.{Kind}
+use Rattle.script_text.specs.declared.script.Kind.TheVariants as kinds
 use Rattle.script_text.specs.declared.script.Call.{Call}
 use Rattle.script_text.specs.declared.script.Call.TheVariants as calls
 use Rattle.script_text.specs.declared.script.Script.{Script}
-use Rattle.script_text.specs.declared.record.Label.{Label}
-use Rattle.script_text.specs.declared.record.Restart.{Restart}
-use Rattle.script_text.specs.declared.record.Entry.TheVariants as entries
-use Rattle.script_text.specs.declared.record.Told.{Told}
-use Rattle.script_text.specs.declared.record.Told.TheVariants as told
-use Rattle.script_text.specs.declared.record.Answer.{Answer}
-use Rattle.script_text.specs.declared.record.Answer.TheVariants as answers
-use Rattle.script_text.specs.declared.record.RunRecord.{RunRecord}
+use Rattle.record_text.specs.declared.record.Label.{Label}
+use Rattle.record_text.specs.declared.record.Restart.{Restart}
+use Rattle.record_text.specs.declared.record.Entry.TheVariants as entries
+use Rattle.record_text.specs.declared.record.Told.{Told}
+use Rattle.record_text.specs.declared.record.Told.TheVariants as told
+use Rattle.record_text.specs.declared.record.Answer.{Answer}
+use Rattle.record_text.specs.declared.record.Answer.TheVariants as answers
+use Rattle.record_text.specs.declared.record.Armed.{Armed}
+use Rattle.record_text.specs.declared.record.Armed.TheVariants as armings
+use Rattle.record_text.specs.declared.record.ObjectEntry.{ObjectEntry}
+use Rattle.record_text.specs.declared.record.ObjectEntry.TheVariants as object_entries
+use Rattle.record_text.specs.declared.record.RunRecord.{RunRecord}
+use Rattle.posix_timer.specs.States.{setting_of}
+use Rattle.timer_fd.specs.States.{is_readable}
+use Rattle.seq_timer.specs.Steps.{Timer}
 use Rattle.script_text.specs.Order.{IsPoint}
 use Rattle.script_text.specs.Histories.{reading_at, timer_labels, timer_after}
-use Rattle.script_text.specs.Dids.{Did, Wrote, Entered, Looked, entered}
-
--- a start that is made: the number of its Out and whether the timer was armed before it, where the base changes; then the Start's
--- number, base, clock and expiry, and whether the timer was armed before it
-pub record Arming : Type 0 where
-  pub out : Option (ℕ × Bool)
-  pub number : ℕ
-  pub base : ℕ
-  pub clock : ClockId
-  pub expires : ℕ
-  pub was_armed : Bool
-
--- whether the timer was armed before the first entry of a start
-abbrev pub was_armed_before : Option (ℕ × Bool) → Bool → Bool
-was_armed_before None was_armed = was_armed
-was_armed_before (Some out) was_armed = out.1
-
--- the Out of a start, where there is one
-abbrev pub moves : ℕ → ℕ → Option (ℕ × Bool) → List Did
-moves timer asked None = []
-moves timer asked (Some out) = Entered timer out.0 (entries.Out asked out.1) ∷ []
-
--- the entries of a start
-abbrev pub arms : ℕ → Mode → ℕ → ℕ → ℕ → Arming → List Did
-arms timer mode ns reading asked a =
-    moves timer asked a.out ++ Entered timer a.number (entries.Start mode ns reading asked a.base a.clock a.expires a.was_armed) ∷ []
+use Rattle.script_text.specs.Objects.{ArmedAs, armed_after, fd_after, kind_of, object_labels, posix_after}
+use Rattle.script_text.specs.Dids.{Did, Wrote, Entered, Looked, Made, Skipped, entered, made}
+use Rattle.script_text.specs.Starts.{Arming, IsJustBefore, arms, was_armed_before}
+use Rattle.script_text.specs.ObjectCalls.{DoesSettime, DoesGettime, DoesAccept, DoesRead, base_of}
 
 -- one callback of a pass: how many entries of each timer had been seen when it was claimed; the timer, and the number and the
 -- generation of its claim; what the callback did; the number of the finish, whether a restart was asked for, and what came of it
@@ -68,35 +55,40 @@ abbrev pub fires : ℕ → ℕ → Fired → List Did
 fires base reading f =
     Entered f.timer f.claim (entries.Claim base reading f.generation) ∷ f.body ++ Entered f.timer f.finish (entries.Finish f.restart f.generation f.rearmed) ∷ []
 
--- an Out stands just before its Start: nobody else touches a timer on the move
-abbrev pub IsJustBefore : Option (ℕ × Bool) → ℕ → Type 0
-IsJustBefore None number = Unit
-IsJustBefore (Some out) number = number ≡ out.0 + 1
-
--- the callback of a timer
-abbrev pub callback_of : Script → ℕ → Callback
-callback_of s timer = get_or (map (λ d. d.callback) s.timers) timer callbacks.Once
-
--- what a callback may do, and whether it asks for a restart, by its declaration
-abbrev pub IsBody : Callback → ℕ → Fired → Type 0
-IsBody callbacks.Once reading f = (f.body ≡ []) × (f.restart ≡ false)
-IsBody (callbacks.Every interval) reading f =
+-- what a raw timer's callback may do, and whether it asks for a restart, by its declaration
+abbrev pub IsCallback : Callback → ℕ → Fired → Type 0
+IsCallback callbacks.Once reading f = (f.body ≡ []) × (f.restart ≡ false)
+IsCallback (callbacks.Every interval) reading f =
     (((number : ℕ) × (count : ℕ) × (expires : ℕ) × (f.body ≡ Entered f.timer number (entries.Forward reading interval count expires) ∷ []))
     ⊎ (((number : ℕ) × (generation : ℕ) × (f.body ≡ Looked f.timer number (told.Armed generation) ∷ []))
     ⊎ ((number : ℕ) × (f.body ≡ Looked f.timer number told.Spent ∷ []))))
     × (f.restart ≡ true)
-IsBody callbacks.Cancels reading f = ((number : ℕ) × (f.body ≡ Looked f.timer number (told.Running f.generation) ∷ [])) × (f.restart ≡ false)
-IsBody (callbacks.Starts ns base) reading f =
+IsCallback callbacks.Cancels reading f = ((number : ℕ) × (f.body ≡ Looked f.timer number (told.Running f.generation) ∷ [])) × (f.restart ≡ false)
+IsCallback (callbacks.Starts ns base) reading f =
     (((a : Arming) × (f.body ≡ arms f.timer modes.Rel ns reading base a))
     ⊎ ((number : ℕ) × (f.body ≡ Looked f.timer number told.Spent ∷ [])))
     × (f.restart ≡ true)
+
+-- what a claim of an object's timer does: an entry of the object that tells the expiry, or none where its history is full; it
+-- never asks for a restart
+abbrev pub IsTrigger : ℕ → Fired → Type 0
+IsTrigger reading f =
+    (((number : ℕ) × (counted : Bool) × (f.body ≡ Made f.timer number (object_entries.Trigger f.generation reading counted) ∷ []))
+    ⊎ ((number : ℕ) × (f.body ≡ Skipped f.timer number f.generation ∷ [])))
+    × (f.restart ≡ false)
+
+-- what runs when a timer is claimed, by its kind
+abbrev pub IsBody : Kind → ℕ → Fired → Type 0
+IsBody (kinds.Raw callback) reading f = IsCallback callback reading f
+IsBody (kinds.Posix base) reading f = IsTrigger reading f
+IsBody (kinds.Fd base) reading f = IsTrigger reading f
 
 -- what a pass did: each callback as its timer declares it, all by one reading, and the timers in the order of their claims
 pub record IsPass (s : Script) (reading base : ℕ) (fired : List Fired) (shown : ℕ) (timers : List ℕ) (dids : List Did) : Type 0 where
   pub one_reading : shown ≡ reading
   pub claimed : timers ≡ map (λ f. f.timer) fired
   pub done : dids ≡ flat_map (fires base reading) fired
-  pub bodies : AllByRecursion (λ f. IsBody (callback_of s f.timer) reading f) fired
+  pub bodies : AllByRecursion (λ f. IsBody (kind_of s f.timer) reading f) fired
 
 -- what a call did is what its arguments and its answer say; the answer that the clock has taken too many writes never comes
 abbrev pub Does : Script → ℕ → Call → Answer → List Fired → List Did → Type 0
@@ -112,6 +104,12 @@ Does s reading (calls.Expire base budget) (answers.More shown timers) fired dids
 Does s reading (calls.Expire base budget) (answers.Busy shown timers timer generation) fired dids = IsPass s reading base fired shown timers dids × (length fired < budget)
 Does s reading (calls.Clock write) (answers.Clock stamp) fired dids = dids ≡ Wrote stamp write ∷ []
 Does s reading (calls.Clock write) (answers.Range would_be) fired dids = dids ≡ []
+Does s reading (calls.Settime timer flags value interval) answer fired dids = DoesSettime (kind_of s timer) timer flags value interval reading answer dids
+Does s reading (calls.Gettime timer) answer fired dids = DoesGettime (kind_of s timer) timer reading answer dids
+Does s reading (calls.Accept timer) answer fired dids = DoesAccept (kind_of s timer) timer reading answer dids
+Does s reading (calls.Overrun timer) (answers.Overrun overrun stamp) fired dids = dids ≡ []
+Does s reading (calls.Read timer len) answer fired dids = DoesRead (kind_of s timer) timer len reading answer dids
+Does s reading (calls.Readable timer) (answers.Readable ready shown stamp) fired dids = (dids ≡ []) × (shown ≡ reading)
 Does s reading call answer fired dids = ⊥
 
 -- a number of entries of a timer is one that the call, having done so much, may have seen
@@ -121,6 +119,10 @@ IsTimerPoint s r c before timer n = IsPoint s c (length (entered timer before)) 
 -- an observation of a timer that the call, having done so much, made after so many of its entries
 abbrev pub Saw : Script → RunRecord → Label → List Did → ℕ → ℕ → Observation → Type 0
 Saw s r c before timer stamp observation = IsTimerPoint s r c before timer stamp × Holds (timer_after s r timer stamp) observation
+
+-- a start was refused: the timer's history was full, and the timer was not on the move between bases
+abbrev pub SawRefusal : Script → RunRecord → Label → List Did → ℕ → ℕ → Type 0
+SawRefusal s r c before timer stamp = Saw s r c before timer stamp observations.Spent × ((timer_after s r timer stamp).moving ≡ false)
 
 -- what a callback was told, as an observation
 abbrev pub observed : Told → Observation
@@ -134,12 +136,50 @@ IsBelowLimit limit number (told.Armed generation) = number < limit
 IsBelowLimit limit number (told.Running generation) = Unit
 IsBelowLimit limit number told.Spent = Unit
 
--- each look is true, after what the call did before it
+-- a number of entries of an object is one that the call, having done so much, may have seen
+abbrev pub IsObjectPoint : Script → RunRecord → Label → List Did → ℕ → ℕ → Type 0
+IsObjectPoint s r c before i n = IsPoint s c (length (made i before)) n (object_labels r i)
+
+-- an object's history is full, after so many of its entries, which the call, having done so much, may have seen
+abbrev pub SawFull : Script → RunRecord → Label → List Did → ℕ → ℕ → Type 0
+SawFull s r c before i stamp = IsObjectPoint s r c before i stamp × (s.limit ≤ stamp)
+
+-- a settime disarmed its timer first: it cancelled it, or saw, before it made any entry of it, that it was idle
+abbrev pub DisarmedFirst : Script → RunRecord → Label → ℕ → List Did → Type 0
+DisarmedFirst s r c timer (Entered t number (entries.Cancel generation) ∷ dids) = Unit
+DisarmedFirst s r c timer dids = (stamp : ℕ) × Saw s r c [] timer stamp observations.Idle
+
+-- the object after its entry has armed its timer as the timer's start has it: with its expiry, and for a settime on its clock
+abbrev pub IsArmedLike : Bool → Option ArmedAs → ℕ → Timer → Type 0
+IsArmedLike on_clock None generation timer = ⊥
+IsArmedLike on_clock (Some a) generation timer = (a.generation ≡ generation) × (a.expires ≡ timer.expires) × (on_clock ≡ true → a.clock ≡ timer.clock)
+
+-- what an entry of an object tells of its timer's start is true, after what the call did before it
+abbrev pub IsTrueStart : Script → RunRecord → Label → List Did → ℕ → ℕ → Bool → Armed → Type 0
+IsTrueStart s r c before i number on_clock armings.None = Unit
+IsTrueStart s r c before i number on_clock (armings.Generation generation) = IsArmedLike on_clock (armed_after s r i number (kind_of s i)) generation (timer_after s r i generation)
+IsTrueStart s r c before i number on_clock armings.Unarmed = (stamp : ℕ) × SawRefusal s r c before i stamp
+
+-- the same, of each entry of an object
+abbrev pub IsTrueEntry : Script → RunRecord → Label → List Did → ℕ → ℕ → ObjectEntry → Type 0
+IsTrueEntry s r c before i number (object_entries.Settime flags value interval reading arm reply) = IsTrueStart s r c before i number true arm
+IsTrueEntry s r c before i number (object_entries.Trigger generation reading counted) = Unit
+IsTrueEntry s r c before i number (object_entries.Accept reading arm reply) = IsTrueStart s r c before i number false arm
+IsTrueEntry s r c before i number (object_entries.Read reading arm reply) = IsTrueStart s r c before i number false arm
+IsTrueEntry s r c before i number (object_entries.Gettime reading arm left interval) = IsTrueStart s r c before i number false arm
+
+-- what a thing that a call did tells of a timer or an object is true, after what the call did before it
+abbrev pub IsTrue : Script → RunRecord → Label → List Did → Did → Type 0
+IsTrue s r c before (Wrote number write) = Unit
+IsTrue s r c before (Entered timer number entry) = Unit
+IsTrue s r c before (Looked timer number look) = Saw s r c before timer number (observed look) × IsBelowLimit s.limit number look
+IsTrue s r c before (Made i number entry) = IsTrueEntry s r c before i number entry
+IsTrue s r c before (Skipped i number generation) = SawFull s r c before i number
+
+-- each thing that a call did tells the truth
 abbrev pub AreTrue : Script → RunRecord → Label → List Did → List Did → Type 0
 AreTrue s r c before [] = Unit
-AreTrue s r c before (Wrote number write ∷ ds) = AreTrue s r c (before ++ Wrote number write ∷ []) ds
-AreTrue s r c before (Entered timer number entry ∷ ds) = AreTrue s r c (before ++ Entered timer number entry ∷ []) ds
-AreTrue s r c before (Looked timer number look ∷ ds) = Saw s r c before timer number (observed look) × IsBelowLimit s.limit number look × AreTrue s r c (before ++ Looked timer number look ∷ []) ds
+AreTrue s r c before (d ∷ ds) = IsTrue s r c before d × AreTrue s r c (before ++ d ∷ []) ds
 
 -- the clock refuses the write: the greatest of its times would be past the latest
 pub record IsOutOfRange (stamp would_be most : ℕ) : Type 0 where
@@ -150,10 +190,23 @@ pub record IsOutOfRange (stamp would_be most : ℕ) : Type 0 where
 -- an answer that tells of a timer's state tells of one that the call may have seen; a write is refused only while the clock
 -- may take more of them, and where one of its times would be past the latest, and the answer is the greatest of these
 abbrev pub IsSeen : Script → RunRecord → Label → ℕ → List Did → Call → Answer → Type 0
-IsSeen s r c reading dids (calls.Start timer mode ns base) (answers.Spent stamp) = Saw s r c dids timer stamp observations.Spent × ((timer_after s r timer stamp).moving ≡ false)
+IsSeen s r c reading dids (calls.Start timer mode ns base) (answers.Spent stamp) = SawRefusal s r c dids timer stamp
 IsSeen s r c reading dids (calls.Cancel timer) (answers.Running generation stamp) = Saw s r c dids timer stamp (observations.Running generation)
 IsSeen s r c reading dids (calls.Cancel timer) (answers.Idle stamp) = Saw s r c dids timer stamp observations.Idle
 IsSeen s r c reading dids (calls.Peek timer) (answers.Peek stamp base enqueued running moving) =
     Saw s r c dids timer stamp (observations.Peek (record { stamp = stamp; base = base; enqueued = enqueued; running = running; moving = moving }))
 IsSeen s r c reading dids (calls.Clock write) (answers.Range would_be) = IsOutOfRange reading would_be (greatest (after_write (reading_at r.clock reading) write))
+IsSeen s r c reading dids (calls.Settime timer flags value interval) (answers.Spent stamp) = SawFull s r c dids timer stamp
+IsSeen s r c reading dids (calls.Settime timer flags value interval) (answers.Old left old) = DisarmedFirst s r c timer dids
+IsSeen s r c reading dids (calls.Settime timer flags value interval) answers.Canceled = DisarmedFirst s r c timer dids
+IsSeen s r c reading dids (calls.Settime timer flags value interval) (answers.Unarmed stamp) = DisarmedFirst s r c timer dids × SawRefusal s r c dids timer stamp
+IsSeen s r c reading dids (calls.Gettime timer) (answers.Spent stamp) = SawFull s r c dids timer stamp
+IsSeen s r c reading dids (calls.Gettime timer) (answers.LeftAt left interval shown stamp) =
+    IsObjectPoint s r c dids timer stamp × (setting_of (posix_after s r timer (base_of (kind_of s timer)) stamp) (reading_at r.clock reading) ≡ record { left = left; interval = interval })
+IsSeen s r c reading dids (calls.Accept timer) (answers.Spent stamp) = SawFull s r c dids timer stamp
+IsSeen s r c reading dids (calls.Overrun timer) (answers.Overrun overrun stamp) =
+    IsObjectPoint s r c dids timer stamp × ((posix_after s r timer (base_of (kind_of s timer)) stamp).overrun ≡ overrun)
+IsSeen s r c reading dids (calls.Read timer len) (answers.Spent stamp) = SawFull s r c dids timer stamp
+IsSeen s r c reading dids (calls.Readable timer) (answers.Readable ready shown stamp) =
+    IsObjectPoint s r c dids timer stamp × (is_readable (fd_after s r timer (base_of (kind_of s timer)) stamp) (reading_at r.clock reading) ≡ ready)
 IsSeen s r c reading dids call answer = Unit

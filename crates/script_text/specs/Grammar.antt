@@ -1,58 +1,53 @@
--- The grammar of scripts: their lines, and how each is spelled.
-use Rattle.std.specs.Prelude.{ℕ, ◌≤◌, ◌++◌, List, [], ◌∷◌, codes}
-use Rattle.std.specs.List.{AllByRecursion, flat_map, join_with_byte}
+-- The grammar of a line: how it is spelled, and which lines can be.
+use Rattle.std.specs.Prelude.{ℕ, ◌≤◌, List, [], ◌∷◌}
+use Rattle.std.specs.List.{join_with_byte}
 use Rattle.std.specs.Fmt.{decimal}
 use Rattle.ktime.specs.Times.{last_time}
-use Rattle.script_text.specs.declared.line.Line.{Line}
-use Rattle.script_text.specs.declared.line.Line.TheVariants as lines
-use Rattle.script_text.specs.Words.{clock_word, mode_word}
+use Rattle.ktime.specs.declared.mode.Mode.TheVariants as modes
+use Rattle.record_text.specs.Words.{clock_word, mode_word}
+use Rattle.script_text.specs.declared.form.Line.{Line}
+use Rattle.script_text.specs.declared.form.Place.{Place}
+use Rattle.script_text.specs.declared.form.Value.{Value}
+use Rattle.script_text.specs.declared.form.Value.TheVariants as values
+use Rattle.script_text.specs.Forms.{Spot, Key, At, Sort, ClockName, ModeName, Numeral, row, sort}
 
--- the words of each form of line: key words as they stand, numbers in decimal, clocks and modes by their words
-abbrev pub spelled : Line → List (List ℕ)
-spelled (lines.Version number) = codes "hrt" ∷ decimal number ∷ []
-spelled (lines.Bases count) = codes "bases" ∷ decimal count ∷ []
-spelled (lines.Lanes count) = codes "lanes" ∷ decimal count ∷ []
-spelled (lines.Limit events) = codes "limit" ∷ decimal events ∷ []
-spelled (lines.RawOnce timer clock) = codes "raw" ∷ decimal timer ∷ clock_word clock ∷ codes "once" ∷ []
-spelled (lines.RawEvery timer clock interval) = codes "raw" ∷ decimal timer ∷ clock_word clock ∷ codes "every" ∷ decimal interval ∷ []
-spelled (lines.RawCancels timer clock) = codes "raw" ∷ decimal timer ∷ clock_word clock ∷ codes "cancels" ∷ []
-spelled (lines.RawStarts timer clock ns base) = codes "raw" ∷ decimal timer ∷ clock_word clock ∷ codes "starts" ∷ decimal ns ∷ decimal base ∷ []
-spelled lines.Round = codes "round" ∷ []
-spelled (lines.Start lane timer mode ns base) = decimal lane ∷ codes "start" ∷ decimal timer ∷ mode_word mode ∷ decimal ns ∷ decimal base ∷ []
-spelled (lines.Cancel lane timer) = decimal lane ∷ codes "cancel" ∷ decimal timer ∷ []
-spelled (lines.Peek lane timer) = decimal lane ∷ codes "peek" ∷ decimal timer ∷ []
-spelled (lines.Expire lane base budget) = decimal lane ∷ codes "expire" ∷ decimal base ∷ decimal budget ∷ []
-spelled (lines.Advance lane by) = decimal lane ∷ codes "advance" ∷ decimal by ∷ []
-spelled (lines.Set lane to) = decimal lane ∷ codes "set" ∷ decimal to ∷ []
-spelled (lines.Suspend lane by) = decimal lane ∷ codes "suspend" ∷ decimal by ∷ []
+-- the word that a place is filled with: a number in decimal, a clock or a mode by its name
+abbrev pub value_word : Value → List ℕ
+value_word (values.Clock clock) = clock_word clock
+value_word (values.Mode mode) = mode_word mode
+value_word (values.Number n) = decimal n
 
--- the numbers of a line
-abbrev pub line_numbers : Line → List ℕ
-line_numbers (lines.Version number) = number ∷ []
-line_numbers (lines.Bases count) = count ∷ []
-line_numbers (lines.Lanes count) = count ∷ []
-line_numbers (lines.Limit events) = events ∷ []
-line_numbers (lines.RawOnce timer clock) = timer ∷ []
-line_numbers (lines.RawEvery timer clock interval) = timer ∷ interval ∷ []
-line_numbers (lines.RawCancels timer clock) = timer ∷ []
-line_numbers (lines.RawStarts timer clock ns base) = timer ∷ ns ∷ base ∷ []
-line_numbers lines.Round = []
-line_numbers (lines.Start lane timer mode ns base) = lane ∷ timer ∷ ns ∷ base ∷ []
-line_numbers (lines.Cancel lane timer) = lane ∷ timer ∷ []
-line_numbers (lines.Peek lane timer) = lane ∷ timer ∷ []
-line_numbers (lines.Expire lane base budget) = lane ∷ base ∷ budget ∷ []
-line_numbers (lines.Advance lane by) = lane ∷ by ∷ []
-line_numbers (lines.Set lane to) = lane ∷ to ∷ []
-line_numbers (lines.Suspend lane by) = lane ∷ by ∷ []
+-- a row's words, its places filled from left to right
+abbrev pub filled : List Spot → List Value → List (List ℕ)
+filled [] vs = []
+filled (Key word ∷ spots) vs = word ∷ filled spots vs
+filled (At place ∷ spots) (v ∷ vs) = value_word v ∷ filled spots vs
+filled (At place ∷ spots) [] = []
 
--- each number of a line is at most the end of time
-abbrev pub HasNumbers : Line → Type 0
-HasNumbers l = AllByRecursion (λ n. n ≤ last_time) (line_numbers l)
+-- it may be the name of a clock, a mode that a script can give, or a number up to the end of time
+abbrev pub IsOfSort : Sort → Value → Type 0
+IsOfSort ClockName (values.Clock clock) = Unit
+IsOfSort ModeName (values.Mode modes.Abs) = Unit
+IsOfSort ModeName (values.Mode modes.Rel) = Unit
+IsOfSort Numeral (values.Number n) = n ≤ last_time
+IsOfSort sort v = ⊥
 
--- a line in bytes: its words with single spaces between them, and a newline
-abbrev pub line_bytes : Line → List ℕ
-line_bytes l = join_with_byte 32 (spelled l) ++ 10 ∷ []
+-- a place takes what is of its sort
+abbrev pub Takes : Place → Value → Type 0
+Takes place v = IsOfSort (sort place) v
 
--- lines in bytes
-abbrev pub lines_bytes : List Line → List ℕ
-lines_bytes ls = flat_map line_bytes ls
+-- each place of a row is filled with what it takes, and nothing is left over
+abbrev pub Fills : List Spot → List Value → Type 0
+Fills [] [] = Unit
+Fills [] (v ∷ vs) = ⊥
+Fills (Key word ∷ spots) vs = Fills spots vs
+Fills (At place ∷ spots) (v ∷ vs) = Takes place v × Fills spots vs
+Fills (At place ∷ spots) [] = ⊥
+
+-- a line can be spelled
+abbrev pub IsLine : Line → Type 0
+IsLine l = Fills (row l.form) l.values
+
+-- a line in bytes: its words with single spaces between them
+abbrev pub spelled : Line → List ℕ
+spelled l = join_with_byte 32 (filled (row l.form) l.values)

@@ -11,14 +11,14 @@ use Rattle.seq_timer.specs.declared.event.Rearmed.TheVariants as rearmings
 use Rattle.seq_timer.specs.Steps.{Timer}
 use Rattle.seq_timer.specs.Histories as histories
 use Rattle.script_text.specs.declared.script.Script.{Script}
-use Rattle.script_text.specs.declared.record.Label.{Label}
-use Rattle.script_text.specs.declared.record.ClockLine.{ClockLine}
-use Rattle.script_text.specs.declared.record.Restart.{Restart}
-use Rattle.script_text.specs.declared.record.Restart.TheVariants as restarts
-use Rattle.script_text.specs.declared.record.Entry.{Entry}
-use Rattle.script_text.specs.declared.record.Entry.TheVariants as entries
-use Rattle.script_text.specs.declared.record.TimerLine.{TimerLine}
-use Rattle.script_text.specs.declared.record.RunRecord.{RunRecord}
+use Rattle.record_text.specs.declared.record.Label.{Label}
+use Rattle.record_text.specs.declared.record.ClockLine.{ClockLine}
+use Rattle.record_text.specs.declared.record.Restart.{Restart}
+use Rattle.record_text.specs.declared.record.Restart.TheVariants as restarts
+use Rattle.record_text.specs.declared.record.Entry.{Entry}
+use Rattle.record_text.specs.declared.record.Entry.TheVariants as entries
+use Rattle.record_text.specs.declared.record.TimerLine.{TimerLine}
+use Rattle.record_text.specs.declared.record.RunRecord.{RunRecord}
 
 -- a line of the clock shows this reading
 pub record Shows (line : ClockLine) (reading : ClockReading) : Type 0 where

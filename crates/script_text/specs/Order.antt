@@ -4,7 +4,7 @@ use Rattle.std.specs.List.{AllByRecursion}
 use Rattle.script_text.specs.declared.script.Call.{Call}
 use Rattle.script_text.specs.declared.script.Round.{Round}
 use Rattle.script_text.specs.declared.script.Script.{Script}
-use Rattle.script_text.specs.declared.record.Label.{Label}
+use Rattle.record_text.specs.declared.record.Label.{Label}
 
 -- a call of a lane, with the number of its round
 pub record Placed : Type 0 where

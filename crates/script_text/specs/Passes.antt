@@ -6,10 +6,10 @@ use Rattle.seq_timer.specs.Tables.{runs_on, is_due_on, is_ahead, is_smaller}
 use Rattle.script_text.specs.declared.script.Call.{Call}
 use Rattle.script_text.specs.declared.script.Call.TheVariants as calls
 use Rattle.script_text.specs.declared.script.Script.{Script}
-use Rattle.script_text.specs.declared.record.Label.{Label}
-use Rattle.script_text.specs.declared.record.Answer.{Answer}
-use Rattle.script_text.specs.declared.record.Answer.TheVariants as answers
-use Rattle.script_text.specs.declared.record.RunRecord.{RunRecord}
+use Rattle.record_text.specs.declared.record.Label.{Label}
+use Rattle.record_text.specs.declared.record.Answer.{Answer}
+use Rattle.record_text.specs.declared.record.Answer.TheVariants as answers
+use Rattle.record_text.specs.declared.record.RunRecord.{RunRecord}
 use Rattle.script_text.specs.Histories.{reading_at, timer_after}
 use Rattle.script_text.specs.Dids.{Did}
 use Rattle.script_text.specs.Calls.{Fired, fires, IsTimerPoint}

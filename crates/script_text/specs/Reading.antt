@@ -1,7 +1,6 @@
--- How the reader works: what it finds in words, lines and bytes, or none. Only private contracts cite these; no public clause
--- does, since a script is what its lines spell.
-use Rattle.std.specs.Prelude.{ℕ, ◌==◌, ◌&&◌, nat_le, nat_lt, zero, List, [], ◌∷◌, codes, length, Option, Some, None, if◌then◌else◌, bytes_eq}
-use Rattle.std.specs.List.{slice_split}
+-- How one line is read by itself, and the first cause against it that needs no line before it.
+use Rattle.std.specs.Prelude.{ℕ, ◌==◌, ◌&&◌, ◌||◌, Bool, false, nat_lt, nat_le, if◌then◌else◌, List, [], ◌∷◌, length, drop, bytes_eq, Option, Some, None, Result, Ok, Err, codes}
+use Rattle.std.specs.List.{list_any, slice_split}
 use Rattle.std.specs.Fmt.{decimal}
 use Rattle.std.specs.Str.Parse.{digits_value}
 use Rattle.ktime.specs.Times.{last_time}
@@ -9,21 +8,24 @@ use Rattle.ktime.specs.declared.clock_id.ClockId.{ClockId}
 use Rattle.ktime.specs.declared.clock_id.ClockId.TheVariants as clocks
 use Rattle.ktime.specs.declared.mode.Mode.{Mode}
 use Rattle.ktime.specs.declared.mode.Mode.TheVariants as modes
-use Rattle.clock_model.specs.declared.write.Write.TheVariants as writes
-use Rattle.script_text.specs.declared.line.Line.{Line}
-use Rattle.script_text.specs.declared.line.Line.TheVariants as lines
-use Rattle.script_text.specs.declared.script.Callback.TheVariants as callbacks
-use Rattle.script_text.specs.declared.script.Call.TheVariants as calls
-use Rattle.script_text.specs.declared.script.Declaration.{Declaration}
-use Rattle.script_text.specs.declared.script.LaneCall.{LaneCall}
-use Rattle.script_text.specs.declared.script.Round.{Round}
-use Rattle.script_text.specs.declared.script.Script.{Script}
-use Rattle.script_text.specs.Scripts.{most_bytes, most_calls, most_budget, most_events_built}
+use Rattle.script_text.specs.declared.form.Form.{Form}
+use Rattle.script_text.specs.declared.form.Line.{Line}
+use Rattle.script_text.specs.declared.form.Place.{Place}
+use Rattle.script_text.specs.declared.form.Value.{Value}
+use Rattle.script_text.specs.declared.form.Value.TheVariants as values
+use Rattle.script_text.specs.declared.refusal.Cause.{Cause}
+use Rattle.script_text.specs.declared.refusal.Cause.TheVariants as causes
+use Rattle.script_text.specs.Forms.{Spot, Key, At, Sort, ClockName, ModeName, Numeral, sort, row, plain_forms, raw_forms, call_forms, is_built}
 
 infixl 10 ◌>>=◌
-abbrev pub ◌>>=◌ : {A B : Type 0} → Option A → (A → Option B) → Option B
-(Some x) >>= f = f x
-None >>= f = None
+abbrev pub ◌>>=◌ : {A B E : Type 0} → Result A E → (A → Result B E) → Result B E
+(Ok x) >>= f = f x
+(Err e) >>= f = Err e
+
+-- what there is, or this cause
+abbrev pub or_cause : {A : Type 0} → Cause → Option A → Result A Cause
+or_cause cause None = Err cause
+or_cause cause (Some x) = Ok x
 
 -- ---- words
 
@@ -31,6 +33,7 @@ None >>= f = None
 unfoldable pub number_in : List ℕ → Option ℕ
 number_in word = if nat_le (digits_value 10 word) last_time && bytes_eq word (decimal (digits_value 10 word)) then Some (digits_value 10 word) else None
 
+-- the clock of this name
 unfoldable pub clock_in : List ℕ → Option ClockId
 clock_in word =
     if bytes_eq word (codes "monotonic") then Some clocks.Monotonic
@@ -38,144 +41,77 @@ clock_in word =
     else if bytes_eq word (codes "boottime") then Some clocks.Boottime
     else None
 
+-- the mode of this name, among those that a script can give
 unfoldable pub mode_in : List ℕ → Option Mode
 mode_in word =
     if bytes_eq word (codes "rel") then Some modes.Rel
     else if bytes_eq word (codes "abs") then Some modes.Abs
     else None
 
--- ---- lines, by the number of their words
+-- what a word says, where it is of this sort
+unfoldable pub word_in : Sort → List ℕ → Result Value Cause
+word_in ClockName word = or_cause causes.UnknownWord (clock_in word) >>= λ clock. Ok (values.Clock clock)
+word_in ModeName word = or_cause causes.UnknownWord (mode_in word) >>= λ mode. Ok (values.Mode mode)
+word_in Numeral word = or_cause causes.BadNumber (number_in word) >>= λ n. Ok (values.Number n)
 
-unfoldable pub header_of : List ℕ → ℕ → Option Line
-header_of key n =
-    if bytes_eq key (codes "hrt") then Some (lines.Version n)
-    else if bytes_eq key (codes "bases") then Some (lines.Bases n)
-    else if bytes_eq key (codes "lanes") then Some (lines.Lanes n)
-    else if bytes_eq key (codes "limit") then Some (lines.Limit n)
-    else None
+-- what a word fills a place with
+abbrev pub value_in : Place → List ℕ → Result Value Cause
+value_in place word = word_in (sort place) word
 
-unfoldable pub short_call_of : ℕ → List ℕ → ℕ → Option Line
-short_call_of lane key n =
-    if bytes_eq key (codes "cancel") then Some (lines.Cancel lane n)
-    else if bytes_eq key (codes "peek") then Some (lines.Peek lane n)
-    else if bytes_eq key (codes "advance") then Some (lines.Advance lane n)
-    else if bytes_eq key (codes "set") then Some (lines.Set lane n)
-    else if bytes_eq key (codes "suspend") then Some (lines.Suspend lane n)
-    else None
+-- what words fill the places of a row with, from left to right
+unfoldable pub values_in : List Spot → List (List ℕ) → Result (List Value) Cause
+values_in (Key key ∷ spots) (word ∷ words) = values_in spots words
+values_in (At place ∷ spots) (word ∷ words) = value_in place word >>= λ v. values_in spots words >>= λ vs. Ok (v ∷ vs)
+values_in spots words = Ok []
 
-unfoldable pub short_raw_of : List ℕ → List ℕ → List ℕ → Option Line
-short_raw_of a b key = do
-  timer ← number_in a
-  clock ← clock_in b
-  if bytes_eq key (codes "once") then Some (lines.RawOnce timer clock) else if bytes_eq key (codes "cancels") then Some (lines.RawCancels timer clock) else None
+-- ---- forms
 
-unfoldable pub every_of : List ℕ → List ℕ → List ℕ → Option Line
-every_of a b c = do
-  timer ← number_in a
-  clock ← clock_in b
-  interval ← number_in c
-  Some (lines.RawEvery timer clock interval)
+-- the form that a word names among these; a form that isn't built yet has no name
+unfoldable pub named : List (List ℕ × Form) → List ℕ → Result Form Cause
+named [] word = Err causes.UnknownWord
+named (f ∷ fs) word = if bytes_eq word f.0 && is_built f.1 then Ok f.1 else named fs word
 
-unfoldable pub starts_of : List ℕ → List ℕ → List ℕ → List ℕ → Option Line
-starts_of a b c d = do
-  timer ← number_in a
-  clock ← clock_in b
-  ns ← number_in c
-  base ← number_in d
-  Some (lines.RawStarts timer clock ns base)
+-- the form that the first of these words names
+unfoldable pub first_named : List (List ℕ × Form) → List (List ℕ) → Result Form Cause
+first_named forms [] = Err causes.WordCount
+first_named forms (word ∷ words) = named forms word
 
-unfoldable pub expire_of : List ℕ → List ℕ → List ℕ → Option Line
-expire_of a b c = do
-  lane ← number_in a
-  base ← number_in b
-  budget ← number_in c
-  Some (lines.Expire lane base budget)
+-- a call line begins with a digit
+unfoldable pub begins_with_digit : List ℕ → Bool
+begins_with_digit [] = false
+begins_with_digit (b ∷ bs) = nat_le 48 b && nat_le b 57
 
-unfoldable pub start_of : List ℕ → List ℕ → List ℕ → List ℕ → List ℕ → Option Line
-start_of a b c d e = do
-  lane ← number_in a
-  timer ← number_in b
-  mode ← mode_in c
-  ns ← number_in d
-  base ← number_in e
-  Some (lines.Start lane timer mode ns base)
+-- the form of a line: a call's is chosen by the second word, a raw timer's by the fourth, any other by the first
+unfoldable pub form_in : List (List ℕ) → Result Form Cause
+form_in [] = Err causes.WordCount
+form_in (word ∷ words) =
+    if begins_with_digit word then first_named call_forms words
+    else if bytes_eq word (codes "raw") then first_named raw_forms (drop 2 words)
+    else named plain_forms word
 
-unfoldable pub line_of : List (List ℕ) → Option Line
-line_of [] = None
-line_of (a ∷ []) = if bytes_eq a (codes "round") then Some lines.Round else None
-line_of (a ∷ b ∷ []) = number_in b >>= λ n. header_of a n
-line_of (a ∷ b ∷ c ∷ []) = number_in a >>= λ lane. number_in c >>= λ n. short_call_of lane b n
-line_of (a ∷ b ∷ c ∷ d ∷ []) =
-    if bytes_eq a (codes "raw") then short_raw_of b c d
-    else if bytes_eq b (codes "expire") then expire_of a c d
-    else None
-line_of (a ∷ b ∷ c ∷ d ∷ e ∷ []) =
-    if bytes_eq a (codes "raw") then (if bytes_eq d (codes "every") then every_of b c e else None)
-    else None
-line_of (a ∷ b ∷ c ∷ d ∷ e ∷ f ∷ []) =
-    if bytes_eq a (codes "raw") then (if bytes_eq d (codes "starts") then starts_of b c e f else None)
-    else if bytes_eq b (codes "start") then start_of a c d e f
-    else None
-line_of (a ∷ b ∷ c ∷ d ∷ e ∷ f ∷ g ∷ more) = None
+-- ---- lines
 
--- ---- lines of bytes
+-- the words of a line: it is cut at spaces
+abbrev pub words_of : List ℕ → List (List ℕ)
+words_of line = slice_split (λ b. b == 32) line
 
--- what each of these gives, where each gives something
-unfoldable pub each : {X A : Type 0} → (X → Option A) → List X → Option (List A)
-each f [] = Some []
-each f (x ∷ xs) = f x >>= λ a. each f xs >>= λ rest. Some (a ∷ rest)
+-- no letter, digit, sign or space
+abbrev pub is_bad_byte : ℕ → Bool
+is_bad_byte b = nat_lt b 32 || nat_lt 126 b
 
--- the line that these bytes spell
-abbrev pub line_at : List ℕ → Option Line
-line_at bytes = line_of (slice_split (λ b. b == 32) bytes)
+-- an empty word stands beside a space too many
+abbrev pub is_empty_word : List ℕ → Bool
+is_empty_word word = length word == 0
 
--- the parts before the last one, where the last one is empty
-unfoldable pub closed : List (List ℕ) → Option (List (List ℕ))
-closed [] = None
-closed (last ∷ []) = if length last == 0 then Some [] else None
-closed (part ∷ next ∷ more) = closed (next ∷ more) >>= λ parts. Some (part ∷ parts)
+-- words of the right number fill the places of a form
+unfoldable pub filled_by : Form → List (List ℕ) → Result Line Cause
+filled_by form words =
+    if length words == length (row form) then (values_in (row form) words >>= λ vs. Ok (record { form = form; values = vs }))
+    else Err causes.WordCount
 
--- the lines of a script: a newline ends each of them
-abbrev pub lines_in : List ℕ → Option (List Line)
-lines_in bytes = closed (slice_split (λ b. b == 10) bytes) >>= each line_at
-
--- ---- scripts
-
--- the header lines that are built: the limit, and the lines after them
-unfoldable pub limit_of : List Line → Option (ℕ × List Line)
-limit_of (lines.Version version ∷ lines.Bases bases ∷ lines.Lanes lanes ∷ lines.Limit events ∷ rest) =
-    if version == 1 && bases == 1 && lanes == 1 && nat_le 1 events && nat_le events most_events_built then Some (events, rest) else None
-limit_of _ = None
-
--- the declarations that are built, and the lines after them
-unfoldable pub timers_of : List Line → List Declaration × List Line
-timers_of (lines.RawOnce zero clocks.Monotonic ∷ rest) = (record { clock = clocks.Monotonic; callback = callbacks.Once } ∷ [], rest)
-timers_of ls = ([], ls)
-
--- a call that is built, among so many timers
-unfoldable pub call_of : ℕ → Line → Option LaneCall
-call_of timers (lines.Start lane timer modes.Rel ns base) =
-    if lane == 0 && nat_lt timer timers && base == 0 then Some (record { lane = lane; call = calls.Start timer modes.Rel ns base }) else None
-call_of timers (lines.Cancel lane timer) = if lane == 0 && nat_lt timer timers then Some (record { lane = lane; call = calls.Cancel timer }) else None
-call_of timers (lines.Peek lane timer) = if lane == 0 && nat_lt timer timers then Some (record { lane = lane; call = calls.Peek timer }) else None
-call_of timers (lines.Expire lane base budget) =
-    if lane == 0 && base == 0 && nat_le budget most_budget then Some (record { lane = lane; call = calls.Expire base budget }) else None
-call_of timers (lines.Advance lane by) = if lane == 0 then Some (record { lane = lane; call = calls.Clock (writes.Advance by) }) else None
-call_of timers _ = None
-
--- no round, or one that all lines to the end belong to
-unfoldable pub rounds_of : ℕ → List Line → Option (List Round)
-rounds_of timers [] = Some []
-rounds_of timers (lines.Round ∷ rest) =
-    if nat_le (length rest) most_calls then (each (call_of timers) rest >>= λ cs. Some (record { calls = cs } ∷ [])) else None
-rounds_of timers _ = None
-
-unfoldable pub script_of : List Line → Option Script
-script_of ls = do
-  header ← limit_of ls
-  rounds ← rounds_of (length (timers_of header.1).0) (timers_of header.1).1
-  Some (record { bases = 1; lanes = 1; limit = header.0; timers = (timers_of header.1).0; rounds = rounds })
-
--- the script that bytes are read as
-unfoldable pub script_in : List ℕ → Option Script
-script_in bytes = if nat_le (length bytes) most_bytes then lines_in bytes >>= script_of else None
+-- a line by itself: its bytes, then its spaces, then its form, then its words
+unfoldable pub line_in : List ℕ → Result Line Cause
+line_in line =
+    if list_any is_bad_byte line then Err causes.BadByte
+    else if list_any is_empty_word (words_of line) then Err causes.BadSpace
+    else form_in (words_of line) >>= λ form. filled_by form (words_of line)

@@ -1,30 +1,148 @@
--- When a script is refused, and how that is told.
-use Rattle.std.specs.Prelude.{ℕ, ◌≡◌, List, [], ◌∷◌, ◌++◌, codes, Result, Ok, Err}
+-- When a script is refused, at which line and for which cause, and how that is told.
+use Rattle.std.specs.Prelude.{ℕ, ◌≡◌, ◌+◌, ◌&&◌, ◌++◌, Bool, true, false, not, is_some, nat_lt, nat_le, nat_eq, if◌then◌else◌, List, [], ◌∷◌, length, map, get_or, Option, Some, None, Result, Ok, Err, codes}
 use Rattle.std.specs.Fmt.{decimal}
+use Rattle.std.specs.Option.{option_or}
+use Rattle.script_text.specs.declared.form.Form.{Form}
+use Rattle.script_text.specs.declared.form.Line.{Line}
+use Rattle.script_text.specs.declared.form.Part.{Part}
+use Rattle.script_text.specs.declared.form.Part.TheVariants as parts
+use Rattle.script_text.specs.declared.form.Place.{Place}
+use Rattle.script_text.specs.declared.form.Place.TheVariants as places
+use Rattle.script_text.specs.declared.form.Value.{Value}
+use Rattle.script_text.specs.declared.form.Value.TheVariants as values
+use Rattle.script_text.specs.declared.script.Callback.TheVariants as callbacks
+use Rattle.script_text.specs.declared.script.Kind.{Kind}
+use Rattle.script_text.specs.declared.script.Kind.TheVariants as kinds
+use Rattle.script_text.specs.declared.script.Script.{Script}
 use Rattle.script_text.specs.declared.refusal.Cause.{Cause}
-use Rattle.script_text.specs.declared.refusal.Cause.TheVariants.{NotBuilt}
+use Rattle.script_text.specs.declared.refusal.Cause.TheVariants as causes
+use Rattle.script_text.specs.declared.refusal.Refused.{Refused}
 use Rattle.script_text.specs.declared.refusal.ParseError.{ParseError}
 use Rattle.script_text.specs.declared.refusal.ParseError.TheVariants as errors
-use Rattle.script_text.specs.declared.refusal.Refused.{Refused}
-use Rattle.script_text.specs.declared.script.Script.{Script}
-use Rattle.script_text.specs.Scripts.{Reads}
+use Rattle.script_text.specs.Forms.{Spot, Key, At, row, part, suits}
+use Rattle.script_text.specs.Reading.{◌>>=◌, line_in}
+use Rattle.script_text.specs.declared.reading.drafts.Draft.{Draft}
+use Rattle.script_text.specs.Drafts.{empty, script_of, with_line}
+use Rattle.script_text.specs.Scripts.{most_bytes, most_bases, most_lanes, most_timers, most_events, most_calls, most_budget, lines_of, is_skipped}
+
+-- ---- causes that need the lines before
+
+-- this cause, unless the test holds
+abbrev pub unless : Bool → Cause → Option Cause
+unless true cause = None
+unless false cause = Some cause
+
+-- a line of this part may stand here: the header lines in their order, then declarations, then rounds with their calls
+unfoldable pub is_placed : Draft → Part → Bool
+is_placed d (parts.Header n) = nat_eq d.headers n
+is_placed d parts.Declaration = nat_eq d.headers 4 && not (is_some d.begun)
+is_placed d parts.Round = nat_eq d.headers 4
+is_placed d parts.Call = is_some d.begun
+
+-- what is said against one more line of this part
+unfoldable pub against_count : Draft → Part → Option Cause
+against_count d parts.Declaration = unless (nat_lt (length d.timers) most_timers) causes.TimerLimit
+against_count d parts.Call = unless (nat_lt d.calls most_calls) causes.CallLimit
+against_count d part = None
+
+-- what is said against a number in its place
+unfoldable pub against_number : Draft → Place → ℕ → Option Cause
+against_number d places.Version n = unless (nat_eq n 1) causes.Version
+against_number d places.Bases n = unless (nat_le 1 n && nat_le n most_bases) causes.BaseLimit
+against_number d places.Base n = unless (nat_lt n d.bases) causes.BaseLimit
+against_number d places.Lanes n = unless (nat_le 1 n && nat_le n most_lanes) causes.LaneLimit
+against_number d places.Lane n = unless (nat_lt n d.lanes) causes.LaneLimit
+against_number d places.Limit n = unless (nat_le 1 n && nat_le n most_events) causes.EventLimit
+against_number d places.NewTimer n = unless (nat_eq n (length d.timers)) causes.BadId
+against_number d places.Timer n = unless (nat_lt n (length d.timers)) causes.NoTimer
+against_number d places.Budget n = unless (nat_le n most_budget) causes.BudgetLimit
+against_number d place n = None
+
+-- what is said against what fills a place
+abbrev pub against_value : Draft → Place → Value → Option Cause
+against_value d place (values.Number n) = against_number d place n
+against_value d place v = None
+
+-- what is said first against what fills the places of a row
+unfoldable pub against_values : Draft → List Spot → List Value → Option Cause
+against_values d (Key word ∷ spots) vs = against_values d spots vs
+against_values d (At place ∷ spots) (v ∷ vs) = option_or (against_value d place v) (against_values d spots vs)
+against_values d spots vs = None
+
+-- the kind of the timer of a number
+abbrev pub kind_of : Draft → ℕ → Kind
+kind_of d n = get_or (map (λ t. t.kind) d.timers) n (kinds.Raw callbacks.Once)
+
+-- what is said against a call on a timer whose kind it doesn't suit; the timer stands behind the call's name
+unfoldable pub against_kind : Draft → Form → List Spot → List Value → Option Cause
+against_kind d form (At k ∷ Key name ∷ At places.Timer ∷ spots) (lane ∷ values.Number n ∷ vs) = unless (suits form (kind_of d n)) causes.WrongKind
+against_kind d form spots vs = None
+
+-- what is said first against a line that was read by itself: its place, the count of its like, its numbers, its timer's kind
+unfoldable pub against : Draft → Line → Option Cause
+against d l =
+    option_or (unless (is_placed d (part l.form)) causes.BadPlace)
+    (option_or (against_count d (part l.form)) (option_or (against_values d (row l.form) l.values) (against_kind d l.form (row l.form) l.values)))
+
+-- this, where nothing is said against it
+abbrev pub accepted : {A : Type 0} → Option Cause → A → Result A Cause
+accepted None x = Ok x
+accepted (Some cause) x = Err cause
+
+-- what the lines have told after one more, or the first cause against it
+unfoldable pub with_line_in : Draft → List ℕ → Result Draft Cause
+with_line_in d line = line_in line >>= λ l. accepted (against d l) (with_line d l)
+
+-- ---- scripts
+
+-- what comes behind a line of this number, or its refusal
+abbrev pub behind : {A : Type 0} → ℕ → Result Draft Cause → (Draft → Result A Refused) → Result A Refused
+behind number (Ok d) next = next d
+behind number (Err cause) next = Err (record { line = number; cause = cause })
+
+-- the script of lines that are numbered from here, after those before; or the first line that is refused, and its cause
+unfoldable pub script_from : ℕ → Draft → List (List ℕ) → Result Script Refused
+script_from number d [] = if nat_lt d.headers 4 then Err (record { line = number; cause = causes.Unfinished }) else Ok (script_of d)
+script_from number d (line ∷ lines) =
+    if is_skipped line then script_from (number + 1) d lines
+    else behind number (with_line_in d line) (λ now. script_from (number + 1) now lines)
+
+-- the script of bytes, or why they are refused
+unfoldable pub script_in : List ℕ → Result Script Refused
+script_in bytes = if nat_lt most_bytes (length bytes) then Err (record { line = 0; cause = causes.TooLong }) else script_from 1 empty (lines_of bytes)
+
+-- these bytes are refused, at this line and for this cause
+abbrev pub IsRefused : List ℕ → Refused → Type 0
+IsRefused bytes r = script_in bytes ≡ Err r
+
+-- ---- the text of a refusal
 
 -- the word of a cause
 abbrev pub cause_word : Cause → List ℕ
-cause_word NotBuilt = codes "NotBuilt"
+cause_word causes.TooLong = codes "TooLong"
+cause_word causes.BadByte = codes "BadByte"
+cause_word causes.BadSpace = codes "BadSpace"
+cause_word causes.UnknownWord = codes "UnknownWord"
+cause_word causes.WordCount = codes "WordCount"
+cause_word causes.BadNumber = codes "BadNumber"
+cause_word causes.BadPlace = codes "BadPlace"
+cause_word causes.TimerLimit = codes "TimerLimit"
+cause_word causes.CallLimit = codes "CallLimit"
+cause_word causes.Version = codes "Version"
+cause_word causes.BaseLimit = codes "BaseLimit"
+cause_word causes.LaneLimit = codes "LaneLimit"
+cause_word causes.EventLimit = codes "EventLimit"
+cause_word causes.BadId = codes "BadId"
+cause_word causes.NoTimer = codes "NoTimer"
+cause_word causes.BudgetLimit = codes "BudgetLimit"
+cause_word causes.WrongKind = codes "WrongKind"
+cause_word causes.Unfinished = codes "Unfinished"
 
 -- the line that tells a refusal
 abbrev pub refusal_text : Refused → List ℕ
 refusal_text r = codes "line " ++ decimal r.line ++ codes ": " ++ cause_word r.cause ++ 10 ∷ []
 
--- no script is read from these bytes
-abbrev pub IsUnread : List ℕ → Type 0
-IsUnread bytes = (s : Script) → Reads bytes s → ⊥
-
--- these bytes are refused so
-pub record IsRefused (bytes : List ℕ) (r : Refused) : Type 0 where
-  pub unread : IsUnread bytes
-  pub told : r ≡ record { line = 0; cause = NotBuilt }
+-- ---- what a reading of bytes gives
 
 -- why no script was read: the bytes are refused so, or memory ran out
 abbrev pub IsReason : List ℕ → ParseError → Type 0

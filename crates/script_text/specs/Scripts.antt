@@ -1,22 +1,24 @@
--- The lines of a script, and the bytes that it is read from.
-use Rattle.std.specs.Prelude.{ℕ, ◌≡◌, ◌+◌, ◌-◌, ◌^◌, ◌<◌, ◌≤◌, List, [], ◌∷◌, ◌++◌, length, map}
-use Rattle.std.specs.List.{AllByRecursion, flat_map}
+-- The lines of a script, the limits that it keeps to, and the bytes that it is read from.
+use Rattle.std.specs.Prelude.{ℕ, ◌≡◌, ◌+◌, ◌-◌, ◌^◌, ◌<◌, ◌≤◌, ◌==◌, Bool, true, not, if◌then◌else◌, List, [], ◌∷◌, ◌++◌, length, map, filter, get_or}
+use Rattle.std.specs.List.{AllByRecursion, flat_map, slice_split}
 use Rattle.ktime.specs.declared.clock_id.ClockId.{ClockId}
-use Rattle.ktime.specs.declared.clock_id.ClockId.TheVariants.{Monotonic}
 use Rattle.ktime.specs.declared.mode.Mode.TheVariants as modes
-use Rattle.clock_model.specs.declared.write.Write.{Write}
 use Rattle.clock_model.specs.declared.write.Write.TheVariants as writes
-use Rattle.script_text.specs.declared.line.Line.{Line}
-use Rattle.script_text.specs.declared.line.Line.TheVariants as lines
-use Rattle.script_text.specs.declared.script.Callback.{Callback}
+use Rattle.script_text.specs.declared.form.Line.{Line}
+use Rattle.script_text.specs.declared.form.Form.{Form}
+use Rattle.script_text.specs.declared.form.Form.TheVariants as forms
+use Rattle.script_text.specs.declared.form.Value.TheVariants as values
 use Rattle.script_text.specs.declared.script.Callback.TheVariants as callbacks
+use Rattle.script_text.specs.declared.script.Kind.{Kind}
+use Rattle.script_text.specs.declared.script.Kind.TheVariants as kinds
 use Rattle.script_text.specs.declared.script.Call.{Call}
 use Rattle.script_text.specs.declared.script.Call.TheVariants as calls
 use Rattle.script_text.specs.declared.script.Declaration.{Declaration}
 use Rattle.script_text.specs.declared.script.LaneCall.{LaneCall}
 use Rattle.script_text.specs.declared.script.Round.{Round}
 use Rattle.script_text.specs.declared.script.Script.{Script}
-use Rattle.script_text.specs.Grammar.{HasNumbers, lines_bytes}
+use Rattle.script_text.specs.Forms.{suits}
+use Rattle.script_text.specs.Grammar.{IsLine, spelled}
 
 -- ---- limits
 
@@ -24,11 +26,13 @@ use Rattle.script_text.specs.Grammar.{HasNumbers, lines_bytes}
 abbrev pub most_bytes : ℕ
 most_bytes = 1048576
 
+-- how many bases a script may have
 abbrev pub most_bases : ℕ
 most_bases = 8
 
+-- how many lanes a script may have: one, until lanes run on threads
 abbrev pub most_lanes : ℕ
-most_lanes = 16
+most_lanes = 1
 
 -- how many timers may be declared
 abbrev pub most_timers : ℕ
@@ -36,7 +40,7 @@ most_timers = 256
 
 -- the greatest limit on a timer's entries
 abbrev pub most_events : ℕ
-most_events = 2 ^ 48 - 16
+most_events = 2 ^ 40 - 4
 
 -- how many call lines a script may have
 abbrev pub most_calls : ℕ
@@ -48,41 +52,54 @@ most_budget = 4096
 
 -- ---- the lines of a script
 
--- the line that declares a timer
-abbrev pub declaration_line : ℕ → ClockId → Callback → Line
-declaration_line timer clock callbacks.Once = lines.RawOnce timer clock
-declaration_line timer clock (callbacks.Every interval) = lines.RawEvery timer clock interval
-declaration_line timer clock callbacks.Cancels = lines.RawCancels timer clock
-declaration_line timer clock (callbacks.Starts ns base) = lines.RawStarts timer clock ns base
+-- a line of a form whose places are all filled with numbers
+abbrev pub of_numbers : Form → List ℕ → Line
+of_numbers form ns = record { form = form; values = map (λ n. values.Number n) ns }
+
+-- the line that declares a timer of this number, on a clock and of a kind
+abbrev pub declaration_line : ℕ → ClockId → Kind → Line
+declaration_line timer clock (kinds.Raw callbacks.Once) = record { form = forms.RawOnce; values = values.Number timer ∷ values.Clock clock ∷ [] }
+declaration_line timer clock (kinds.Raw (callbacks.Every interval)) = record { form = forms.RawEvery; values = values.Number timer ∷ values.Clock clock ∷ values.Number interval ∷ [] }
+declaration_line timer clock (kinds.Raw callbacks.Cancels) = record { form = forms.RawCancels; values = values.Number timer ∷ values.Clock clock ∷ [] }
+declaration_line timer clock (kinds.Raw (callbacks.Starts ns base)) = record { form = forms.RawStarts; values = values.Number timer ∷ values.Clock clock ∷ values.Number ns ∷ values.Number base ∷ [] }
+declaration_line timer clock (kinds.Posix base) = record { form = forms.Posix; values = values.Number timer ∷ values.Clock clock ∷ values.Number base ∷ [] }
+declaration_line timer clock (kinds.Fd base) = record { form = forms.Fd; values = values.Number timer ∷ values.Clock clock ∷ values.Number base ∷ [] }
 
 -- the lines that declare timers, numbered from this one on
 abbrev pub declaration_lines : ℕ → List Declaration → List Line
 declaration_lines timer [] = []
-declaration_lines timer (d ∷ ds) = declaration_line timer d.clock d.callback ∷ declaration_lines (timer + 1) ds
+declaration_lines timer (d ∷ ds) = declaration_line timer d.clock d.kind ∷ declaration_lines (timer + 1) ds
 
--- the line of a clock write
-abbrev pub write_line : ℕ → Write → Line
-write_line lane (writes.Advance by) = lines.Advance lane by
-write_line lane (writes.Set to) = lines.Set lane to
-write_line lane (writes.Suspend by) = lines.Suspend lane by
-
--- the line of a call
+-- the line of a lane's call
 abbrev pub call_line : ℕ → Call → Line
-call_line lane (calls.Start timer mode ns base) = lines.Start lane timer mode ns base
-call_line lane (calls.Cancel timer) = lines.Cancel lane timer
-call_line lane (calls.Peek timer) = lines.Peek lane timer
-call_line lane (calls.Expire base budget) = lines.Expire lane base budget
-call_line lane (calls.Clock write) = write_line lane write
+call_line lane (calls.Start timer mode ns base) =
+    record { form = forms.Start; values = values.Number lane ∷ values.Number timer ∷ values.Mode mode ∷ values.Number ns ∷ values.Number base ∷ [] }
+call_line lane (calls.Cancel timer) = of_numbers forms.Cancel (lane ∷ timer ∷ [])
+call_line lane (calls.Peek timer) = of_numbers forms.Peek (lane ∷ timer ∷ [])
+call_line lane (calls.Expire base budget) = of_numbers forms.Expire (lane ∷ base ∷ budget ∷ [])
+call_line lane (calls.Clock (writes.Advance by)) = of_numbers forms.Advance (lane ∷ by ∷ [])
+call_line lane (calls.Clock (writes.Set to)) = of_numbers forms.Set (lane ∷ to ∷ [])
+call_line lane (calls.Clock (writes.Suspend by)) = of_numbers forms.Suspend (lane ∷ by ∷ [])
+call_line lane (calls.Settime timer flags value interval) =
+    of_numbers forms.Settime (lane ∷ timer ∷ flags ∷ value.sec ∷ value.nsec ∷ interval.sec ∷ interval.nsec ∷ [])
+call_line lane (calls.Gettime timer) = of_numbers forms.Gettime (lane ∷ timer ∷ [])
+call_line lane (calls.Accept timer) = of_numbers forms.Accept (lane ∷ timer ∷ [])
+call_line lane (calls.Overrun timer) = of_numbers forms.Overrun (lane ∷ timer ∷ [])
+call_line lane (calls.Read timer len) = of_numbers forms.Read (lane ∷ timer ∷ len ∷ [])
+call_line lane (calls.Readable timer) = of_numbers forms.Readable (lane ∷ timer ∷ [])
 
 -- the lines of a round: one that begins it, and its calls in order
 abbrev pub round_lines : Round → List Line
-round_lines r = lines.Round ∷ map (λ c. call_line c.lane c.call) r.calls
+round_lines r = of_numbers forms.Round [] ∷ map (λ c. call_line c.lane c.call) r.calls
 
--- the lines of a script: the four header lines, the declarations and the rounds
+-- the four header lines
+abbrev pub header_lines : ℕ → ℕ → ℕ → List Line
+header_lines bases lanes limit =
+    of_numbers forms.Version (1 ∷ []) ∷ of_numbers forms.Bases (bases ∷ []) ∷ of_numbers forms.Lanes (lanes ∷ []) ∷ of_numbers forms.Limit (limit ∷ []) ∷ []
+
+-- the lines of a script: the header, the declarations and the rounds
 abbrev pub script_lines : Script → List Line
-script_lines s =
-    lines.Version 1 ∷ lines.Bases s.bases ∷ lines.Lanes s.lanes ∷ lines.Limit s.limit
-    ∷ declaration_lines 0 s.timers ++ flat_map round_lines s.rounds
+script_lines s = header_lines s.bases s.lanes s.limit ++ declaration_lines 0 s.timers ++ flat_map round_lines s.rounds
 
 -- ---- what a script may ask for
 
@@ -90,22 +107,31 @@ script_lines s =
 abbrev pub all_calls : List Round → List LaneCall
 all_calls rounds = flat_map (λ r. r.calls) rounds
 
--- a callback starts its timer on a base that exists
-abbrev pub IsCallbackInRange : ℕ → Callback → Type 0
-IsCallbackInRange bases callbacks.Once = Unit
-IsCallbackInRange bases (callbacks.Every interval) = Unit
-IsCallbackInRange bases callbacks.Cancels = Unit
-IsCallbackInRange bases (callbacks.Starts ns base) = base < bases
+-- a timer's base exists; objects aren't built yet
+abbrev pub IsKindInRange : ℕ → Kind → Type 0
+IsKindInRange bases (kinds.Raw (callbacks.Starts ns base)) = base < bases
+IsKindInRange bases (kinds.Raw callback) = Unit
+IsKindInRange bases (kinds.Posix base) = ⊥
+IsKindInRange bases (kinds.Fd base) = ⊥
 
--- a call is of a timer and on a base that exist, with a mode that a script can give
-abbrev pub IsCallInRange : ℕ → ℕ → Call → Type 0
-IsCallInRange bases timers (calls.Start timer modes.Abs ns base) = (timer < timers) × (base < bases)
-IsCallInRange bases timers (calls.Start timer modes.Rel ns base) = (timer < timers) × (base < bases)
+-- there is a timer of this number, and its kind suits calls of this form
+abbrev pub Suits : List Declaration → ℕ → Form → Type 0
+Suits timers timer form = (timer < length timers) × (suits form (get_or (map (λ d. d.kind) timers) timer (kinds.Raw callbacks.Once)) ≡ true)
+
+-- a call is of a timer and on a base that exist, and suits the timer's kind
+abbrev pub IsCallInRange : ℕ → List Declaration → Call → Type 0
 IsCallInRange bases timers (calls.Start timer modes.Keep ns base) = ⊥
-IsCallInRange bases timers (calls.Cancel timer) = timer < timers
-IsCallInRange bases timers (calls.Peek timer) = timer < timers
+IsCallInRange bases timers (calls.Start timer mode ns base) = Suits timers timer forms.Start × (base < bases)
+IsCallInRange bases timers (calls.Cancel timer) = Suits timers timer forms.Cancel
+IsCallInRange bases timers (calls.Peek timer) = Suits timers timer forms.Peek
 IsCallInRange bases timers (calls.Expire base budget) = (base < bases) × (budget ≤ most_budget)
 IsCallInRange bases timers (calls.Clock write) = Unit
+IsCallInRange bases timers (calls.Settime timer flags value interval) = Suits timers timer forms.Settime
+IsCallInRange bases timers (calls.Gettime timer) = Suits timers timer forms.Gettime
+IsCallInRange bases timers (calls.Accept timer) = Suits timers timer forms.Accept
+IsCallInRange bases timers (calls.Overrun timer) = Suits timers timer forms.Overrun
+IsCallInRange bases timers (calls.Read timer len) = Suits timers timer forms.Read
+IsCallInRange bases timers (calls.Readable timer) = Suits timers timer forms.Readable
 
 -- a script keeps to the limits
 pub record IsInRange (s : Script) : Type 0 where
@@ -113,48 +139,31 @@ pub record IsInRange (s : Script) : Type 0 where
   pub lanes : (1 ≤ s.lanes) × (s.lanes ≤ most_lanes)
   pub limit : (1 ≤ s.limit) × (s.limit ≤ most_events)
   pub timers : length s.timers ≤ most_timers
-  pub callbacks : AllByRecursion (λ d. IsCallbackInRange s.bases d.callback) s.timers
+  pub kinds : AllByRecursion (λ d. IsKindInRange s.bases d.kind) s.timers
   pub count : length (all_calls s.rounds) ≤ most_calls
   pub callers : AllByRecursion (λ c. c.lane < s.lanes) (all_calls s.rounds)
-  pub calls : AllByRecursion (λ c. IsCallInRange s.bases (length s.timers) c.call) (all_calls s.rounds)
-
--- ---- what is built
-
--- the greatest limit on a timer's entries for now
-abbrev pub most_events_built : ℕ
-most_events_built = 2 ^ 40 - 4
-
--- no timer, or one on monotonic time whose callback does nothing
-abbrev pub AreTimersBuilt : List Declaration → Type 0
-AreTimersBuilt [] = Unit
-AreTimersBuilt (d ∷ []) = d ≡ record { clock = Monotonic; callback = callbacks.Once }
-AreTimersBuilt (d ∷ e ∷ ds) = ⊥
-
--- a relative start, a cancel, a peek, an expire or an advance
-abbrev pub IsCallBuilt : Call → Type 0
-IsCallBuilt (calls.Start timer mode ns base) = mode ≡ modes.Rel
-IsCallBuilt (calls.Cancel timer) = Unit
-IsCallBuilt (calls.Peek timer) = Unit
-IsCallBuilt (calls.Expire base budget) = Unit
-IsCallBuilt (calls.Clock (writes.Advance by)) = Unit
-IsCallBuilt (calls.Clock (writes.Set to)) = ⊥
-IsCallBuilt (calls.Clock (writes.Suspend by)) = ⊥
-
--- the first form of script: one base, one lane, at most one timer and at most one round
-pub record HasFirstForm (s : Script) : Type 0 where
-  pub bases : s.bases ≡ 1
-  pub lanes : s.lanes ≡ 1
-  pub limit : s.limit ≤ most_events_built
-  pub timers : AreTimersBuilt s.timers
-  pub rounds : length s.rounds ≤ 1
-  pub calls : AllByRecursion (λ c. IsCallBuilt c.call) (all_calls s.rounds)
+  pub calls : AllByRecursion (λ c. IsCallInRange s.bases s.timers c.call) (all_calls s.rounds)
 
 -- ---- reading
 
--- these bytes are read as this script
+-- the parts of a cut, the last one only if it isn't empty
+abbrev pub closed : List (List ℕ) → List (List ℕ)
+closed [] = []
+closed (last ∷ []) = if length last == 0 then [] else last ∷ []
+closed (part ∷ parts) = part ∷ closed parts
+
+-- the lines of bytes: they are cut at newlines, and what stands after the last newline is a line if it isn't empty
+abbrev pub lines_of : List ℕ → List (List ℕ)
+lines_of bytes = closed (slice_split (λ b. b == 10) bytes)
+
+-- an empty line, and one that begins with `#`, are skipped
+abbrev pub is_skipped : List ℕ → Bool
+is_skipped [] = true
+is_skipped (b ∷ bs) = b == 35
+
+-- these bytes are read as this script: the lines that aren't skipped are spelled as the script's lines
 pub record Reads (bytes : List ℕ) (s : Script) : Type 0 where
   pub few : length bytes ≤ most_bytes
-  pub spelling : bytes ≡ lines_bytes (script_lines s)
-  pub numbers : AllByRecursion HasNumbers (script_lines s)
+  pub spelling : filter (λ l. not (is_skipped l)) (lines_of bytes) ≡ map spelled (script_lines s)
+  pub lines : AllByRecursion IsLine (script_lines s)
   pub ranges : IsInRange s
-  pub form : HasFirstForm s

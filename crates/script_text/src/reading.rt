@@ -1,11 +1,13 @@
 //! Reads a script.
 
-mod building;
-mod calling;
 mod cutting;
+mod drafts;
 mod forms;
 pub mod laws;
+mod lines;
+mod meaning;
 pub mod parsing;
+mod placing;
 #[cfg(test)]
 mod tests;
 mod words;

@@ -4,11 +4,40 @@ ghost use Rattle.script_text.specs.declared.refusal.ParseError.TheVariants.{OutO
 
 use std::alloc::{AllocError, AllocFailed, Global};
 
-/// Why a script is refused.
+/// Why a script is refused, in the order in which causes are looked for in a line.
 #[derive(Clone, Copy, Debug, PartialEq, Eq)]
 pub enum Cause {
-    /// It asks for something that is not built yet.
-    NotBuilt,
+    /// The script has more than 1048576 bytes.
+    TooLong,
+    /// A byte that is no letter, digit, sign or space.
+    BadByte,
+    /// A space at the beginning or the end, or two together.
+    BadSpace,
+    /// A word that names no form, clock or mode.
+    UnknownWord,
+    /// Another number of words than the form has.
+    WordCount,
+    /// A word that is no number from 0 to the end of time, without a 0 before it.
+    BadNumber,
+    /// A line of this form may not stand here.
+    BadPlace,
+    /// More than 256 timers.
+    TimerLimit,
+    /// More than 65536 calls.
+    CallLimit,
+    Version,
+    BaseLimit,
+    LaneLimit,
+    EventLimit,
+    /// A declaration out of its order.
+    BadId,
+    /// No timer has this number.
+    NoTimer,
+    BudgetLimit,
+    /// The call isn't for a timer of this kind.
+    WrongKind,
+    /// The script ends before its fourth header line.
+    Unfinished,
 }
 
 impl Cause {
@@ -17,7 +46,24 @@ impl Cause {
         ensures { result.now ≡ cause_word self }
     {
         match self {
-            Cause::NotBuilt => "NotBuilt",
+            Cause::TooLong => "TooLong",
+            Cause::BadByte => "BadByte",
+            Cause::BadSpace => "BadSpace",
+            Cause::UnknownWord => "UnknownWord",
+            Cause::WordCount => "WordCount",
+            Cause::BadNumber => "BadNumber",
+            Cause::BadPlace => "BadPlace",
+            Cause::TimerLimit => "TimerLimit",
+            Cause::CallLimit => "CallLimit",
+            Cause::Version => "Version",
+            Cause::BaseLimit => "BaseLimit",
+            Cause::LaneLimit => "LaneLimit",
+            Cause::EventLimit => "EventLimit",
+            Cause::BadId => "BadId",
+            Cause::NoTimer => "NoTimer",
+            Cause::BudgetLimit => "BudgetLimit",
+            Cause::WrongKind => "WrongKind",
+            Cause::Unfinished => "Unfinished",
         }
     }
 }

@@ -1,8 +1,8 @@
-use crate::items::Items;
 use clock_model::Write;
-use ktime::{ClockId, Mode};
+use ktime::{ClockId, Mode, TimeSpec};
+use record_text::Items;
 
-/// What a timer's callback does when it runs.
+/// What a raw timer's callback does when it runs.
 #[derive(Clone, Copy, Debug, PartialEq, Eq)]
 pub enum Callback {
     /// Nothing, and asks for no restart.
@@ -15,14 +15,24 @@ pub enum Callback {
     Starts { ns: u64, base: u32 },
 }
 
-/// A timer of a script: the clock that it is declared on, and its callback.
+/// What is declared: a timer by itself, or an object with a timer of the same number.
+#[derive(Clone, Copy, Debug, PartialEq, Eq)]
+pub enum Kind {
+    Raw { callback: Callback },
+    /// A POSIX timer, its timer on this base.
+    Posix { base: u32 },
+    /// A timerfd descriptor, its timer on this base.
+    Fd { base: u32 },
+}
+
+/// A timer of a script: the clock that it is declared on, and its kind.
 #[derive(Clone, Copy, Debug, PartialEq, Eq)]
 pub struct Declaration {
     pub clock: ClockId,
-    pub callback: Callback,
+    pub kind: Kind,
 }
 
-/// What one call line asks for.
+/// What one call line asks for. Times are nanoseconds where no seconds stand beside them.
 #[derive(Clone, Copy, Debug, PartialEq, Eq)]
 pub enum Call {
     Start {
@@ -43,6 +53,28 @@ pub enum Call {
     },
     Clock {
         write: Write,
+    },
+    Settime {
+        timer: u32,
+        flags: u64,
+        value: TimeSpec,
+        interval: TimeSpec,
+    },
+    Gettime {
+        timer: u32,
+    },
+    Accept {
+        timer: u32,
+    },
+    Overrun {
+        timer: u32,
+    },
+    Read {
+        timer: u32,
+        len: u64,
+    },
+    Readable {
+        timer: u32,
     },
 }
 

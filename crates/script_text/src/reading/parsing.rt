@@ -1,15 +1,14 @@
-ghost use Rattle.std.specs.Prelude.{◌≡◌, IfOk, IfErr, Ok, Err};
-ghost use Rattle.std.specs.Option.{option_map};
-ghost use Rattle.script_text.specs.Scripts.{Reads};
-ghost use Rattle.script_text.specs.Refusals.{Gives, IsReason, IsRefused};
+ghost use Rattle.std.specs.Prelude.{◌≡◌, ◌<◌, ◌^◌, IfOk, IfErr, Ok, Err, map, length};
+ghost use Rattle.script_text.specs.Scripts.{Reads, closed, is_skipped};
+ghost use Rattle.script_text.specs.Drafts.{HasRoom, empty};
+ghost use Rattle.script_text.specs.Refusals.{Gives, IsReason, IsRefused, script_from, script_in, with_line_in};
 ghost use Rattle.script_text.specs.declared.refusal.Refused.{Refused};
 ghost use Rattle.script_text.specs.declared.script.Script.{Script};
-ghost use Rattle.script_text.specs.Reading.{each, line_at, lines_in, script_in};
 
-use crate::line::Line;
-use crate::reading::building::build;
 use crate::reading::cutting::cut;
-use crate::reading::forms::line;
+use crate::reading::drafts::Draft;
+use crate::reading::lines::read_line;
+use crate::reading::placing::against;
 use crate::refusal::{Cause, ParseError, Refused};
 use crate::script::Script;
 use std::alloc::{AllocError, Global};
@@ -17,8 +16,7 @@ use std::alloc::{AllocError, Global};
 /// How many bytes a script may have.
 const MOST_BYTES: usize = 1048576;
 
-/// Reads a script. Every form of line and every limit that is not built yet is refused for the
-/// script as a whole.
+/// Reads a script, or says which line is refused and why.
 pub fn parse(alloc: Global, bytes: &[u8]) -> Result<Script, ParseError>
     ensures script { IfOk result (λ s. Reads bytes.now s) }
     ensures refusal { IfErr result (λ e. IsReason bytes.now e) }
@@ -27,63 +25,98 @@ pub fn parse(alloc: Global, bytes: &[u8]) -> Result<Script, ParseError>
     ensures reads { (s : Script) → Reads bytes.now s → Gives result (Ok s) }
     ensures refuses { (r : Refused) → IsRefused bytes.now r → Gives result (Err r) }
 {
-    let Some(script) = read_script(alloc, bytes)? else {
-        return Err(ParseError::Refused(Refused {
-            line: 0,
-            cause: Cause::NotBuilt,
-        }));
-    };
-    Ok(script)
-}
-
-/// The line that these bytes spell.
-fn read_line(alloc: Global, bytes: &[u8]) -> Result<Option<Line>, AllocError>
-    ensures { IfOk result (λ r. r ≡ line_at bytes.now) }
-{
-    let words = cut(alloc, bytes, b' ')?;
-    Ok(line(&words))
-}
-
-/// The lines that these parts spell, each one line.
-fn read_each(alloc: Global, parts: &[&[u8]]) -> Result<Option<Vec<Line>>, AllocError>
-    ensures { IfOk result (λ r. option_map (λ v. v.items) r ≡ each (λ p. line_at p.now) parts.now) }
-{
-    let mut lines = Vec::new(alloc);
-    for part in parts {
-        let Some(line) = read_line(alloc, part)? else {
-            return Ok(None);
-        };
-        lines.push(line)?;
+    match read_script(alloc, bytes)? {
+        Ok(script) => Ok(script),
+        Err(refused) => Err(ParseError::Refused(refused)),
     }
-    Ok(Some(lines))
 }
 
-/// The lines of a script, each with its newline.
-fn read_lines(alloc: Global, bytes: &[u8]) -> Result<Option<Vec<Line>>, AllocError>
-    ensures { IfOk result (λ r. option_map (λ v. v.items) r ≡ lines_in bytes.now) }
-{
-    let mut parts = cut(alloc, bytes, b'\n')?;
-    let Some(last) = parts.pop() else {
-        return Ok(None);
-    };
-    if !last.is_empty() {
-        return Ok(None);
-    }
-    let lines = read_each(alloc, &parts)?;
-    Ok(lines)
-}
-
-/// The script that these bytes are read as.
-#[tactic(auto, unfolding(crate::specs::Reading::script_in))]
-fn read_script(alloc: Global, bytes: &[u8]) -> Result<Option<Script>, AllocError>
+#[tactic(auto, unfolding(crate::specs::Refusals::script_in))]
+fn read_script(alloc: Global, bytes: &[u8]) -> Result<Result<Script, Refused>, AllocError>
     ensures { IfOk result (λ r. r ≡ script_in bytes.now) }
 {
     if bytes.len() > MOST_BYTES {
-        return Ok(None);
+        return Ok(Err(Refused {
+            line: 0,
+            cause: Cause::TooLong,
+        }));
     }
-    let Some(lines) = read_lines(alloc, bytes)? else {
-        return Ok(None);
+    let parts = cut(alloc, bytes, b'\n')?;
+    read_lines(alloc, closed(&parts))
+}
+
+/// The lines among the parts between newlines: the last part is none if it is empty.
+fn closed<'a, 'b>(parts: &'a [&'b [u8]]) -> &'a [&'b [u8]]
+    ensures { map (λ l. l.now) result.now ≡ closed (map (λ p. p.now) parts.now) }
+{
+    let [lines @ .., last] = parts else {
+        return parts;
     };
-    let built = build(alloc, &lines)?;
-    Ok(built)
+    if last.is_empty() {
+        return lines;
+    }
+    parts
+}
+
+/// The script of these lines, or the first that is refused.
+fn read_lines(alloc: Global, lines: &[&[u8]]) -> Result<Result<Script, Refused>, AllocError>
+    requires { length lines.now < 2 ^ 31 }
+    ensures { IfOk result (λ r. r ≡ script_from 1 empty (map (λ l. l.now) lines.now)) }
+{
+    let mut draft = Draft::new(alloc);
+    let mut number = 0;
+    for line in lines {
+        number += 1;
+        if is_skipped(line) {
+            continue;
+        }
+        draft = match with_line(alloc, draft, line)? {
+            Ok(draft) => draft,
+            Err(cause) => {
+                return Ok(Err(Refused {
+                    line: number,
+                    cause,
+                }));
+            }
+        };
+    }
+    if draft.headers < 4 {
+        return Ok(Err(Refused {
+            line: number + 1,
+            cause: Cause::Unfinished,
+        }));
+    }
+    Ok(Ok(draft.script()?))
+}
+
+/// An empty line, and one that begins with `#`, are skipped.
+fn is_skipped(line: &[u8]) -> bool
+    ensures { result ≡ is_skipped line.now }
+{
+    match line {
+        [] => true,
+        [first, ..] => *first == b'#',
+    }
+}
+
+/// What the lines have told after one more, or the first cause against it.
+#[tactic(auto, unfolding(crate::specs::Refusals::with_line_in))]
+fn with_line(
+    alloc: Global,
+    mut draft: Draft,
+    line: &[u8],
+) -> Result<Result<Draft, Cause>, AllocError>
+    requires { HasRoom draft }
+    ensures read { IfOk result (λ r. r ≡ with_line_in draft line.now) }
+    ensures room { IfOk result (λ r. IfOk r (λ d. HasRoom d)) }
+{
+    let line = match read_line(alloc, line)? {
+        Ok(line) => line,
+        Err(cause) => return Ok(Err(cause)),
+    };
+    if let Some(cause) = against(&draft, &line) {
+        return Ok(Err(cause));
+    }
+    draft.add(alloc, &line)?;
+    Ok(Ok(draft))
 }

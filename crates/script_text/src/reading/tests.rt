@@ -1,172 +1,170 @@
 use super::laws::{at_most_one_script_is_read, bytes_are_read_or_refused};
 use super::parsing::parse;
-use crate::refusal::{Cause, ParseError, Refused};
-use crate::script::{Call, Callback, Declaration, LaneCall};
+use crate::refusal::ParseError;
+use crate::script::{Call, Callback, Declaration, Kind, LaneCall};
 use clock_model::Write;
 use ktime::{ClockId, Mode};
 use std::alloc::Global;
+use std::process::Abort;
 
 const HEADER: &str = "hrt 1\nbases 1\nlanes 1\nlimit 100\n";
 
-fn is_refused(alloc: Global, text: &str) -> bool {
-    match parse(alloc, text.as_bytes()) {
-        Err(ParseError::Refused(refused)) => {
-            refused
-                == Refused {
-                    line: 0,
-                    cause: Cause::NotBuilt,
-                }
-        }
-        _ => false,
+/// The line that tells the refusal of these bytes; nothing where they are read.
+fn refusal(rt: &impl Abort, alloc: Global, bytes: &[u8]) -> String {
+    match parse(alloc, bytes) {
+        Err(ParseError::Refused(refused)) => refused.text(alloc).expect(rt, "memory"),
+        Err(ParseError::OutOfMemory) => panic!(rt; "memory"),
+        Ok(_) => String::new(alloc),
     }
 }
 
 #[test]
-fn reads_the_smallest_script(rt: HostRuntime) {
-    let Ok(script) = parse(rt.alloc(), HEADER.as_bytes()) else {
-        panic!(rt; "refused");
-    };
-    assert_eq!(rt; script.bases, 1);
-    assert_eq!(rt; script.lanes, 1);
-    assert_eq!(rt; script.limit, 100);
-    assert_eq!(rt; script.timers.as_slice().len(), 0);
-    assert_eq!(rt; script.rounds.as_slice().len(), 0);
+fn tells_the_first_line_that_is_refused_and_why(rt: HostRuntime) {
+    let cases = [
+        ("", "", "line 1: Unfinished\n"),
+        ("", "hrt 2\n", "line 1: Version\n"),
+        ("", "hrt  1\n", "line 1: BadSpace\n"),
+        ("", "hrt 1 1\n", "line 1: WordCount\n"),
+        ("", "hrt 1\nbas", "line 2: UnknownWord\n"),
+        ("", "hrt 1\nbases 01\n", "line 2: BadNumber\n"),
+        ("", "hrt 1\nbases 9\n", "line 2: BaseLimit\n"),
+        ("", "hrt 1\nlanes 1\n", "line 2: BadPlace\n"),
+        (HEADER, "raw 1 monotonic once\n", "line 5: BadId\n"),
+        (HEADER, "0 peek 0\n", "line 5: BadPlace\n"),
+        (HEADER, "round\n1 advance 5\n", "line 6: LaneLimit\n"),
+        (HEADER, "round\n0 peek 0\n", "line 6: NoTimer\n"),
+        (HEADER, "round\n0 expire 0 4097\n", "line 6: BudgetLimit\n"),
+        (
+            HEADER,
+            "raw 0 monotonic once\nround\n0 read 0 8\n",
+            "line 7: UnknownWord\n",
+        ),
+        ("", "\n# none\nhrt 1\n", "line 4: Unfinished\n"),
+        ("", "hrt 1\nbases 1\nlanes 2\n", "line 3: LaneLimit\n"),
+        (
+            "",
+            "hrt 1\nbases 1\nlanes 1\nlimit 1099511627773\n",
+            "line 4: EventLimit\n",
+        ),
+        (HEADER, "raw 1 monotonic starts 5 1\n", "line 5: BadId\n"),
+        (
+            HEADER,
+            "raw 0 monotonic starts 5 1\n",
+            "line 5: BaseLimit\n",
+        ),
+        (
+            HEADER,
+            "round\nraw 7 monotonic once\n",
+            "line 6: BadPlace\n",
+        ),
+        (
+            HEADER,
+            "round\n\n#\nround\n0 expire 1 4097\n",
+            "line 9: BaseLimit\n",
+        ),
+        (HEADER, "round", ""),
+    ];
+    for (before, rest, told) in cases {
+        let script = format!(in rt.alloc(); "{before}{rest}").expect(&rt, "memory");
+        let text = refusal(&rt, rt.alloc(), script.as_bytes());
+        assert_eq!(rt; text.as_str(), told, "{rest}");
+    }
 }
 
 #[test]
-fn reads_each_call_that_is_built(rt: HostRuntime) {
-    let text = "hrt 1\nbases 1\nlanes 1\nlimit 100\nraw 0 monotonic once\nround\n\
-        0 start 0 rel 100 0\n0 advance 100\n0 expire 0 4\n0 cancel 0\n0 peek 0\n";
+fn counts_bytes_timers_and_calls(rt: HostRuntime) {
+    let most = vec![in rt.alloc(); b'#'; 1048576].expect(&rt, "memory");
+    assert_eq!(rt;
+        refusal(&rt, rt.alloc(), &most).as_str(),
+        "line 2: Unfinished\n"
+    );
+    let more = vec![in rt.alloc(); b'#'; 1048577].expect(&rt, "memory");
+    assert_eq!(rt;
+        refusal(&rt, rt.alloc(), &more).as_str(),
+        "line 0: TooLong\n"
+    );
+    let mut script = format!(in rt.alloc(); "{HEADER}").expect(&rt, "memory");
+    for timer in 0..257 {
+        let line = format!(in rt.alloc(); "raw {timer} monotonic once\n").expect(&rt, "memory");
+        script.push_str(&line).expect(&rt, "memory");
+    }
+    assert_eq!(rt;
+        refusal(&rt, rt.alloc(), script.as_bytes()).as_str(),
+        "line 261: TimerLimit\n"
+    );
+    let mut script = format!(in rt.alloc(); "{HEADER}round\n").expect(&rt, "memory");
+    for _ in 0..65536 {
+        script.push_str("0 set 7\n").expect(&rt, "memory");
+    }
+    assert_eq!(rt; refusal(&rt, rt.alloc(), script.as_bytes()).as_str(), "");
+    script.push_str("1 set 7\n").expect(&rt, "memory");
+    assert_eq!(rt;
+        refusal(&rt, rt.alloc(), script.as_bytes()).as_str(),
+        "line 65542: CallLimit\n"
+    );
+}
+
+#[test]
+fn reads_a_script_whole(rt: HostRuntime) {
+    let text = "#\u{7} anything\n\nhrt 1\nbases 2\nlanes 1\nlimit 1099511627772\n\
+        raw 0 monotonic once\nraw 1 realtime every 10\n# more\nraw 2 boottime cancels\n\
+        raw 3 monotonic starts 5 1\nround\n0 start 0 rel 100 0\n\
+        0 start 1 abs 9223372036854775807 1\n0 cancel 2\n\n0 peek 3\nround\nround\n\
+        0 expire 1 4096\n0 advance 1\n0 set 2\n0 suspend 3";
     let Ok(script) = parse(rt.alloc(), text.as_bytes()) else {
         panic!(rt; "refused");
     };
-    let timer = Declaration {
-        clock: ClockId::Monotonic,
-        callback: Callback::Once,
-    };
-    assert_eq!(rt; script.timers.as_slice(), [timer].as_slice());
-    let calls = [
-        Call::Start {
-            timer: 0,
-            mode: Mode::Rel,
-            ns: 100,
-            base: 0,
-        },
-        Call::Clock {
-            write: Write::Advance { by: 100 },
-        },
-        Call::Expire { base: 0, budget: 4 },
-        Call::Cancel { timer: 0 },
-        Call::Peek { timer: 0 },
+    assert_eq!(rt;
+        (script.bases, script.lanes, script.limit),
+        (2, 1, 1099511627772)
+    );
+    let timers = [
+        (ClockId::Monotonic, Callback::Once),
+        (ClockId::Realtime, Callback::Every { interval: 10 }),
+        (ClockId::Boottime, Callback::Cancels),
+        (ClockId::Monotonic, Callback::Starts { ns: 5, base: 1 }),
+    ]
+    .map(|(clock, callback)| Declaration {
+        clock,
+        kind: Kind::Raw { callback },
+    });
+    assert_eq!(rt; script.timers.as_slice(), timers.as_slice());
+    let first = [
+        start(0, Mode::Rel, 100, 0),
+        start(1, Mode::Abs, 9223372036854775807, 1),
+        Call::Cancel { timer: 2 },
+        Call::Peek { timer: 3 },
     ]
     .map(|call| LaneCall { lane: 0, call });
-    assert_eq!(rt; script.rounds.as_slice().len(), 1);
-    for round in script.rounds.as_slice() {
-        assert_eq!(rt; round.calls.as_slice(), calls.as_slice());
-    }
-}
-
-#[test]
-fn reads_the_greatest_numbers(rt: HostRuntime) {
-    let text = "hrt 1\nbases 1\nlanes 1\nlimit 1099511627772\nraw 0 monotonic once\nround\n\
-        0 start 0 rel 9223372036854775807 0\n0 advance 9223372036854775807\n0 expire 0 4096\n";
-    let Ok(script) = parse(rt.alloc(), text.as_bytes()) else {
-        panic!(rt; "refused");
+    let last = [
+        Call::Expire {
+            base: 1,
+            budget: 4096,
+        },
+        write(Write::Advance { by: 1 }),
+        write(Write::Set { to: 2 }),
+        write(Write::Suspend { by: 3 }),
+    ]
+    .map(|call| LaneCall { lane: 0, call });
+    let [a, b, c] = script.rounds.as_slice() else {
+        panic!(rt; "rounds");
     };
-    assert_eq!(rt; script.limit, 1099511627772);
-}
-
-#[test]
-fn refuses_what_is_no_header(rt: HostRuntime) {
-    let texts = [
-        "",
-        "\n",
-        "hrt 1\n",
-        "hrt 1\nbases 1\nlanes 1\n",
-        "hrt 1\nbases 1\nlanes 1\nlimit 100",
-        "hrt 2\nbases 1\nlanes 1\nlimit 100\n",
-        "hrt 1\nbases 2\nlanes 1\nlimit 100\n",
-        "hrt 1\nbases 1\nlanes 2\nlimit 100\n",
-        "hrt 1\nbases 1\nlanes 1\nlimit 0\n",
-        "hrt 1\nbases 1\nlanes 1\nlimit 1099511627773\n",
-        "hrt 1\nlanes 1\nbases 1\nlimit 100\n",
-        "hrt  1\nbases 1\nlanes 1\nlimit 100\n",
-        "hrt 01\nbases 1\nlanes 1\nlimit 100\n",
-        "hrt +1\nbases 1\nlanes 1\nlimit 100\n",
-        "hrt 1 1\nbases 1\nlanes 1\nlimit 100\n",
-        "hrt 1\n\nbases 1\nlanes 1\nlimit 100\n",
-        "hrt 1\n# one base\nbases 1\nlanes 1\nlimit 100\n",
-        "hrt 1\r\nbases 1\r\nlanes 1\r\nlimit 100\r\n",
-    ];
-    for text in texts {
-        assert!(rt; is_refused(rt.alloc(), text), "{text}");
-    }
-}
-
-#[test]
-fn refuses_lines_that_are_not_built_or_out_of_place(rt: HostRuntime) {
-    let lines = [
-        "raw 1 monotonic once\n",
-        "raw 0 realtime once\n",
-        "raw 0 monotonic cancels\n",
-        "raw 0 monotonic every 10\n",
-        "raw 0 monotonic starts 10 0\n",
-        "raw 0 monotonic once\nraw 1 monotonic once\n",
-        "round\nraw 0 monotonic once\n",
-        "round\nround\n",
-        "raw 0 monotonic once\n0 peek 0\n",
-        "hrt 1\n",
-        "round\nlimit 100\n",
-        "raw 0 monotonic once\nround",
-    ];
-    for line in lines {
-        let text = format!(in rt.alloc(); "{HEADER}{line}").expect(&rt, "memory");
-        assert!(rt; is_refused(rt.alloc(), &text), "{line}");
-    }
-}
-
-#[test]
-fn refuses_calls_that_are_not_built_or_out_of_range(rt: HostRuntime) {
-    let calls = [
-        "0 start 0 abs 100 0\n",
-        "0 start 0 keep 100 0\n",
-        "0 start 1 rel 100 0\n",
-        "0 start 0 rel 100 1\n",
-        "0 start 0 rel 9223372036854775808 0\n",
-        "1 start 0 rel 100 0\n",
-        "0 start 0 rel 0100 0\n",
-        "0 advance 9223372036854775808\n",
-        "0 advance 18446744073709551616\n",
-        "1 advance 100\n",
-        "0 set 100\n",
-        "0 suspend 100\n",
-        "0 expire 1 4\n",
-        "0 expire 0 4097\n",
-        "0 cancel 1\n",
-        "0 peek 1\n",
-        "00 peek 0\n",
-        "0 peek\n",
-        "0 peek 0 \n",
-        " 0 peek 0\n",
-        "0 Peek 0\n",
-        "0 peek 0",
-    ];
-    for call in calls {
-        let text = format!(in rt.alloc(); "{HEADER}raw 0 monotonic once\nround\n{call}").expect(
-            &rt, "memory",
-        );
-        assert!(rt; is_refused(rt.alloc(), &text), "{call}");
-    }
-}
-
-#[test]
-fn tells_a_refusal_in_one_line(rt: HostRuntime) {
-    let refused = Refused {
-        line: 7,
-        cause: Cause::NotBuilt,
-    };
-    let text = refused.text(rt.alloc()).expect(&rt, "memory");
-    assert_eq!(rt; text.as_str(), "line 7: NotBuilt\n");
+    assert_eq!(rt; a.calls.as_slice(), first.as_slice());
+    assert_eq!(rt; b.calls.as_slice().len(), 0);
+    assert_eq!(rt; c.calls.as_slice(), last.as_slice());
     at_most_one_script_is_read();
     bytes_are_read_or_refused();
+}
+
+fn start(timer: u32, mode: Mode, ns: u64, base: u32) -> Call {
+    Call::Start {
+        timer,
+        mode,
+        ns,
+        base,
+    }
+}
+
+fn write(write: Write) -> Call {
+    Call::Clock { write }
 }

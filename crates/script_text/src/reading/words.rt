@@ -1,6 +1,8 @@
 ghost use Rattle.std.specs.Prelude.{◌≡◌};
-ghost use Rattle.script_text.specs.Reading.{number_in, clock_in, mode_in};
+ghost use Rattle.script_text.specs.Reading.{number_in, clock_in, mode_in, value_in};
 
+use crate::form::{Place, Value};
+use crate::refusal::Cause;
 use ktime::{ClockId, LAST_TIME, Mode};
 
 /// The number that this word spells, if it is at most the end of time.
@@ -53,5 +55,17 @@ pub fn mode(word: &[u8]) -> Option<Mode>
         Some(Mode::Abs)
     } else {
         None
+    }
+}
+
+/// What this word fills a place with.
+#[tactic(auto, unfolding(crate::specs::Reading::word_in))]
+pub fn value(place: Place, word: &[u8]) -> Result<Value, Cause>
+    ensures { result ≡ value_in place word.now }
+{
+    match place {
+        Place::Clock => Ok(Value::Clock(clock(word).ok_or(Cause::UnknownWord)?)),
+        Place::Mode => Ok(Value::Mode(mode(word).ok_or(Cause::UnknownWord)?)),
+        _ => Ok(Value::Number(number(word).ok_or(Cause::BadNumber)?)),
     }
 }

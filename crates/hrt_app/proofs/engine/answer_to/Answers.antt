@@ -1,20 +1,27 @@
 use Rattle.std.proofs.Common.{ap, subst, ◌∙◌}
-use Rattle.script_text.specs.Refusals as refusals
-use Rattle.hrt_app.specs.Engine.{HasForm, refusal_text}
+use Rattle.std.specs.Prelude.{Err, Ok}
+use Rattle.script_text.specs.declared.refusal.ParseError.TheVariants as errors
+use Rattle.script_text.specs.declared.refusal.Refused.{Refused}
+use Rattle.script_text.specs.declared.script.Script.{Script}
+use Rattle.script_text.specs.Refusals.{Gives, IsReason}
+use Rattle.hrt_app.specs.Engine.{IsScript}
 use Rattle.hrt_app.proofs.Form.{runnable}
 use Rattle.hrt_app.proofs.engine.answer_to.Goals as goal
 
+unequal : (r : Refused) (s : Script) → Gives (Err (errors.Refused r)) (Ok s) → ⊥
+unequal r s e = absurd cc
+
 pub returns-in-Err-Refused : goal.returns-in-Err-Refused
-unfolding HasForm refusal_text
-returns-in-Err-Refused g c =
-    let refused = subst (refusals.IsReason c.args.bytes.now) c.in-Err-Refused.field-0-is c.in-Err-Refused.ensures.refusal in (
-      λ form. refused.unread form.0 form.1,
-      ap (λ v. v.items) c.into_bytes.ensures.value ∙ c.in_ok-line-in-Err-Refused.ensures ∙ ap refusals.refusal_text refused.told,
-    )
+unfolding IsScript
+returns-in-Err-Refused g c = record {
+  refused = c.in-Err-Refused.refused;
+  cause = subst (IsReason c.args.bytes.now) c.in-Err-Refused.field-0-is c.in-Err-Refused.ensures.refusal;
+  unread = λ form. unequal _ form.0 (subst (λ e. Gives (Err e) (Ok form.0)) c.in-Err-Refused.field-0-is (c.in-Err-Refused.ensures.reads form.0 form.1));
+  spelled = ap (λ v. v.items) c.into_bytes.ensures.value ∙ c.in_ok-line-in-Err-Refused.ensures;
+}
 
 pub run-requires : goal.run-requires
 run-requires g c = runnable c.args.bytes.now c.in-Ok.script c.in-Ok.ensures.script
 
 pub returns : goal.returns
-unfolding HasForm
-returns g c = ((c.in-Ok.script, c.in-Ok.ensures.script), record { script = c.in-Ok.script; reads = c.in-Ok.ensures.script; run = c.in_ok-record.record; fits = c.in_ok-record.ensures; spelled = c.in_ok-bytes.ensures })
+returns g c = record { script = c.in-Ok.script; reads = c.in-Ok.ensures.script; run = c.in_ok-record.record; fits = c.in_ok-record.ensures; spelled = c.in_ok-bytes.ensures.text }

@@ -1,14 +1,18 @@
-use Rattle.std.proofs.Common.{arith, sym, ap, subst, ◌∙◌, ◌≡◌, ◌≤◌, ◌<◌, ◌+◌, ◌++◌, [], ◌∷◌, List, length, map, take, get_or}
+use Rattle.std.proofs.Common.{arith, sym, ap, subst, ◌∙◌, ◌≡◌, ◌≤◌, ◌<◌, ◌+◌, ◌++◌, [], ◌∷◌, None, List, length, map, take, get_or}
 use Rattle.script_text.specs.declared.script.LaneCall.{LaneCall}
 use Rattle.script_text.specs.declared.script.Call.{Call}
 use Rattle.script_text.specs.declared.script.Round.{Round}
-use Rattle.script_text.specs.declared.record.RunRecord.{RunRecord}
+use Rattle.record_text.specs.declared.record.RunRecord.{RunRecord}
 use Rattle.script_text.specs.Fits.{Fits}
 use Rattle.std.proofs.lemmas.List.{take_all}
 use Rattle.std.proofs.lemmas.Result.{IfOk-weaker}
-use Rattle.hrt_app.specs.Runs.{GoesOn}
+use Rattle.hrt_app.specs.Runs.{GoesOn, progress}
 use Rattle.hrt_app.specs.Turns.{calls_in}
 use Rattle.hrt_app.proofs.Rounds.{GoesOn-append, calls_more, few_calls, length-goes, run_fits}
+use Rattle.seq_timer.specs.Tables.{timer_at}
+use Rattle.timer_core.specs.Kept.{Kept}
+use Rattle.script_text.specs.declared.script.Declaration.{Declaration}
+use Rattle.hrt_app.proofs.Still.{opened_still, turns_still}
 use Rattle.hrt_app.proofs.runner.run.Goals as goal
 
 pub make_round-requires-clause-few : goal.make_round-requires-clause-few
@@ -20,6 +24,12 @@ make_round-requires-clause-few g c =
     let round = c.round-item.result in
     let item : round ≡ get_or rounds i round = subst (λ (xs : List Round). round ≡ get_or xs i round) c.as_slice-round-items.ensures c.round-item.is in
     omega (arith, count, few_calls rounds i round below, ap (λ (r : Round). length r.calls) item, c.requires.few)
+
+pub make_round-requires-clause-idle : goal.make_round-requires-clause-idle
+make_round-requires-clause-idle g c =
+    let goes = c.loop-round.invariant.goes in
+    turns_still 0 (progress c.in_ok-run.run') (progress c.loop-round.run) (calls_in (take c.loop-round.round-index c.args.script.now.rounds)) goes.given goes.turns
+    (λ u. subst (λ (k : Kept). (timer_at k.timers u).running ≡ None) (sym c.loop-round.invariant.opened.core) (opened_still (map (λ (d : Declaration). d.clock) c.args.script.now.timers) c.args.script.now.limit u))
 
 pub loop-round-preserved : goal.loop-round-preserved
 loop-round-preserved g c =
@@ -41,5 +51,5 @@ returns g c =
     let rounds = c.args.script.now.rounds in
     let all : take c.loop-round.round-index rounds ≡ rounds = take_all c.loop-round.round-index rounds (subst (λ (xs : List Round). length xs ≤ c.loop-round.round-index) c.as_slice-round-items.ensures c.loop-round-test.false) in
     let goes = subst (λ (rs : List Round). GoesOn c.in_ok-run.run' [] (calls_in rs) c.loop-round.run c.loop-round.answers.items) all c.loop-round.invariant.goes in
-    IfOk-weaker c.into_record.result (λ (r : RunRecord). r ≡ record { clock = c.loop-round.run.clock; timers = c.loop-round.run.lines; answers = c.loop-round.answers.items ∷ [] }) (λ (r : RunRecord). Fits c.args.script.now r)
+    IfOk-weaker c.into_record.result (λ (r : RunRecord). r ≡ record { clock = c.loop-round.run.clock; timers = c.loop-round.run.lines; objects = c.loop-round.run.object_lines; answers = c.loop-round.answers.items ∷ [] }) (λ (r : RunRecord). Fits c.args.script.now r)
     (λ r e. subst (Fits c.args.script.now) (sym e) (run_fits c.args.script.now c.in_ok-run.run' c.loop-round.run c.loop-round.answers.items c.requires c.loop-round.invariant.opened goes)) c.into_record.ensures

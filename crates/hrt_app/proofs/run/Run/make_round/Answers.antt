@@ -3,10 +3,11 @@ use Rattle.script_text.specs.declared.script.LaneCall.{LaneCall}
 use Rattle.script_text.specs.declared.script.Call.{Call}
 use Rattle.script_text.specs.declared.script.Call.TheVariants.{Start}
 use Rattle.ktime.specs.declared.mode.Mode.TheVariants.{Abs}
-use Rattle.script_text.specs.declared.record.Answer.{Answer}
+use Rattle.record_text.specs.declared.record.Answer.{Answer}
 use Rattle.hrt_app.specs.Runs.{GoesOn, RunState, progress}
 use Rattle.hrt_app.specs.Turns.{Turns}
 use Rattle.hrt_app.proofs.Rounds.{GoesOn-append, GoesOn-one, lane_more, length-goes, length-lane}
+use Rattle.hrt_app.proofs.Still.{turns_still}
 use Rattle.hrt_app.proofs.run.Run.make_round.Goals as goal
 
 -- so many answers have been given: those from before, and one for each call so far
@@ -26,6 +27,10 @@ call-requires-clause-counted g c =
     let below : c.loop-line.line-index < length c.args.round.now.calls = subst (λ (xs : List LaneCall). c.loop-line.line-index < length xs) c.as_slice-line-items.ensures c.loop-line-test.true in
     let count = answered c.args.self.now c.loop-line.self c.args.answers.now.items c.loop-line.answers.items c.args.round.now.calls c.loop-line.line-index c.loop-line.invariant (omega (arith, below)) in
     omega (arith, c.loop-line.invariant.counted, c.requires.few, count, below)
+
+pub call-requires-clause-idle : goal.call-requires-clause-idle
+call-requires-clause-idle g c =
+    turns_still (length c.args.answers.now.items) (progress c.args.self.now) (progress c.loop-line.self) (map (λ (x : LaneCall). x.call) (take c.loop-line.line-index c.args.round.now.calls)) c.loop-line.invariant.given c.loop-line.invariant.turns c.requires.idle
 
 pub loop-line-preserved : goal.loop-line-preserved
 loop-line-preserved g c =

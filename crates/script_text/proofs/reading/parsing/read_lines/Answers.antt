@@ -1,22 +1,39 @@
-use Rattle.std.proofs.Common.{arith, sym, ◌∙◌, ap, ◌≡◌, ◌∷◌, [], map, length, List, ℕ, Bor}
-use Rattle.std.proofs.lemmas.List.{map-append, length-map}
-use Rattle.script_text.specs.Reading.{each, line_at}
-use Rattle.script_text.proofs.Cutting.{no_parts, open_parts, ended_parts}
-use Rattle.script_text.proofs.Each.{each-map}
+use Rattle.std.proofs.Common.{◌+◌, ℕ, Result, Ok, Err, sym, ap, subst, IfOk, ◌∙◌, arith}
+use Rattle.script_text.specs.declared.refusal.Cause.{Cause}
+use Rattle.script_text.specs.declared.refusal.Cause.TheVariants as causes
+use Rattle.script_text.specs.declared.refusal.Refused.{Refused}
+use Rattle.script_text.specs.declared.script.Script.{Script}
+use Rattle.script_text.specs.Drafts.{HasRoom}
+use Rattle.script_text.proofs.Loop.{line_skipped, line_refused, line_taken, lines_end_early, lines_end}
 use Rattle.script_text.proofs.reading.parsing.read_lines.Goals as goal
 
-pub returns-in_default : goal.returns-in_default
-returns-in_default c =
-    let count : length c.in_ok-parts.parts.items ≡ 0 = omega (arith, c.in_default.ensures.cases.0, c.in_ok-parts.parts.ok.0) in
-    no_parts _ (each line_at) (ap (λ (ps : List (List ℕ)). length ps) (sym c.in_ok-parts.ensures) ∙ length-map _ _ ∙ count)
+refused_at : Cause → ℕ → Result Script Refused
+refused_at cause n = Err (record { line = n + 1; cause = cause })
 
-pub returns-then-not-is_empty : goal.returns-then-not-is_empty
-returns-then-not-is_empty c =
-    let all = sym c.in_ok-parts.ensures ∙ ap (λ (ps : List (Bor (List ℕ))). map (λ p. p.now) ps) c.in-Some.ensures.items ∙ map-append (λ p. p.now) c.pop.new.self.items (c.in-Some.last ∷ []) in
-    open_parts _ (map (λ p. p.now) c.pop.new.self.items) c.in-Some.last.now (each line_at) all (sym c.is_empty.ensures ∙ c.if-not-is_empty.true)
+pub loop-line-preserved-then-is_skipped : goal.loop-line-preserved-then-is_skipped
+loop-line-preserved-then-is_skipped c = record {
+  number = omega (arith, c.loop-line.invariant.number);
+  so_far = line_skipped (λ p. p.now) c.args.lines.now c.loop-line.line-index c.loop-line.draft _ c.loop-line.invariant.so_far _ c.loop-line-test.true (sym c.is_skipped.ensures ∙ c.if-is_skipped.true);
+  room = c.loop-line.invariant.room;
+}
+
+pub returns-in-Err : goal.returns-in-Err
+unfolding refused_at
+returns-in-Err c =
+    ap (refused_at c.in-Err.cause) c.loop-line.invariant.number
+    ∙ line_refused (λ p. p.now) c.args.lines.now c.loop-line.line-index c.loop-line.draft _ c.loop-line.invariant.so_far _ c.in-Err.cause c.loop-line-test.true (sym c.is_skipped.ensures ∙ c.if-is_skipped.false) (sym c.in_ok-draft.ensures.read ∙ c.in-Err.is)
+
+pub loop-line-preserved : goal.loop-line-preserved
+loop-line-preserved c = record {
+  number = omega (arith, c.loop-line.invariant.number);
+  so_far = line_taken (λ p. p.now) c.args.lines.now c.loop-line.line-index c.loop-line.draft _ c.loop-line.invariant.so_far _ c.in-Ok.draft c.loop-line-test.true (sym c.is_skipped.ensures ∙ c.if-is_skipped.false) (sym c.in_ok-draft.ensures.read ∙ c.in-Ok.is);
+  room = subst (λ r. IfOk r (λ d. HasRoom d)) c.in-Ok.is c.in_ok-draft.ensures.room;
+}
+
+pub returns-then-draft-lt4 : goal.returns-then-draft-lt4
+unfolding refused_at
+returns-then-draft-lt4 c =
+    ap (refused_at causes.Unfinished) c.loop-line.invariant.number ∙ lines_end_early (λ p. p.now) c.args.lines.now c.loop-line.line-index c.loop-line.draft _ c.loop-line.invariant.so_far c.loop-line-test.false c.if-draft-lt4.true
 
 pub returns : goal.returns
-returns c =
-    let all = sym c.in_ok-parts.ensures ∙ ap (λ (ps : List (Bor (List ℕ))). map (λ p. p.now) ps) c.in-Some.ensures.items ∙ map-append (λ p. p.now) c.pop.new.self.items (c.in-Some.last ∷ []) in
-    let parts = ap (λ (ps : List (Bor (List ℕ))). each (λ p. line_at p.now) ps) c.deref.ensures.value in
-    c.in_ok-lines.ensures ∙ parts ∙ sym (each-map line_at (λ (p : Bor (List ℕ)). p.now) c.pop.new.self.items) ∙ ended_parts _ (map (λ p. p.now) c.pop.new.self.items) c.in-Some.last.now (each line_at) all (sym c.is_empty.ensures ∙ c.if-not-is_empty.false)
+returns c = ap (λ (s : Script). Ok s) c.in_ok-script.ensures ∙ lines_end (λ p. p.now) c.args.lines.now c.loop-line.line-index c.loop-line.draft _ c.loop-line.invariant.so_far c.loop-line-test.false c.if-draft-lt4.false

@@ -1,0 +1,109 @@
+-- The numbers of a record's lines, and that a program can hold them.
+use Rattle.std.specs.Prelude.{ℕ, ◌<◌, ◌^◌, List, [], ◌∷◌, length}
+use Rattle.std.specs.List.{AllByRecursion}
+use Rattle.record_text.specs.declared.record.Restart.{Restart}
+use Rattle.record_text.specs.declared.record.Restart.TheVariants as restarts
+use Rattle.record_text.specs.declared.record.Entry.{Entry}
+use Rattle.record_text.specs.declared.record.Entry.TheVariants as entries
+use Rattle.record_text.specs.declared.record.Told.{Told}
+use Rattle.record_text.specs.declared.record.Told.TheVariants as tolds
+use Rattle.record_text.specs.declared.record.Armed.{Armed}
+use Rattle.record_text.specs.declared.record.Armed.TheVariants as arms
+use Rattle.record_text.specs.declared.record.ObjectEntry.{ObjectEntry}
+use Rattle.record_text.specs.declared.record.ObjectEntry.TheVariants as steps
+use Rattle.record_text.specs.declared.record.Answer.{Answer}
+use Rattle.record_text.specs.declared.record.Answer.TheVariants as answers
+use Rattle.record_text.specs.declared.record.RunRecord.{RunRecord}
+use Rattle.record_text.specs.Replies.{accept_answer, read_answer, settime_answer}
+use Rattle.record_text.specs.Text.{RecordLine, Version, OfClock, OfTimer, OfLook, OfObject, OfSkip, OfCall, End, write_time, record_lines}
+
+-- the numbers that tell what came of a restart
+abbrev pub rearmed_numbers : Restart → List ℕ
+rearmed_numbers restarts.None = []
+rearmed_numbers (restarts.Again generation) = generation ∷ []
+rearmed_numbers restarts.Spent = []
+
+-- the numbers of an entry
+abbrev pub entry_numbers : Entry → List ℕ
+entry_numbers (entries.Out base was_armed) = base ∷ []
+entry_numbers (entries.Start mode ns reading asked base clock expires was_armed) = ns ∷ reading ∷ asked ∷ base ∷ expires ∷ []
+entry_numbers (entries.Cancel generation) = generation ∷ []
+entry_numbers (entries.Claim base reading generation) = base ∷ reading ∷ generation ∷ []
+entry_numbers (entries.Forward reading interval count expires) = reading ∷ interval ∷ count ∷ expires ∷ []
+entry_numbers (entries.Finish restart generation rearmed) = generation ∷ rearmed_numbers rearmed
+
+-- the numbers of what a callback was told
+abbrev pub told_numbers : Told → List ℕ
+told_numbers (tolds.Running generation) = generation ∷ []
+told_numbers (tolds.Armed generation) = generation ∷ []
+told_numbers tolds.Spent = []
+
+-- the numbers of what an object's call alone is answered, and none for another answer
+abbrev pub object_answer_numbers : Answer → List ℕ
+object_answer_numbers (answers.Old left interval) = left ∷ interval ∷ []
+object_answer_numbers answers.Canceled = []
+object_answer_numbers (answers.Unarmed stamp) = stamp ∷ []
+object_answer_numbers answers.Invalid = []
+object_answer_numbers (answers.LeftAt left interval reading stamp) = left ∷ interval ∷ reading ∷ stamp ∷ []
+object_answer_numbers (answers.Left left interval) = left ∷ interval ∷ []
+object_answer_numbers (answers.Accepted overrun) = overrun ∷ []
+object_answer_numbers answers.NoSignal = []
+object_answer_numbers (answers.Overrun overrun stamp) = overrun ∷ stamp ∷ []
+object_answer_numbers (answers.Count total) = total ∷ []
+object_answer_numbers answers.Again = []
+object_answer_numbers (answers.Readable ready reading stamp) = reading ∷ stamp ∷ []
+object_answer_numbers other = []
+
+-- the numbers of an answer
+abbrev pub answer_numbers : Answer → List ℕ
+answer_numbers (answers.Started generation base was_armed) = generation ∷ base ∷ []
+answer_numbers (answers.Spent stamp) = stamp ∷ []
+answer_numbers (answers.Cancelled generation) = generation ∷ []
+answer_numbers (answers.Running generation stamp) = generation ∷ stamp ∷ []
+answer_numbers (answers.Idle stamp) = stamp ∷ []
+answer_numbers (answers.Peek stamp base enqueued running moving) = stamp ∷ base ∷ []
+answer_numbers (answers.Done reading fired) = length fired ∷ reading ∷ fired
+answer_numbers (answers.More reading fired) = length fired ∷ reading ∷ fired
+answer_numbers (answers.Busy reading fired timer generation) = length fired ∷ reading ∷ timer ∷ generation ∷ fired
+answer_numbers (answers.Clock stamp) = stamp ∷ []
+answer_numbers (answers.Range would_be) = would_be ∷ []
+answer_numbers answers.ClockSpent = []
+answer_numbers other = object_answer_numbers other
+
+-- the generation that a call armed, or 0
+abbrev pub armed_number : Armed → ℕ
+armed_number arms.None = 0
+armed_number (arms.Generation generation) = generation
+armed_number arms.Unarmed = 0
+
+-- the numbers of an object's entry
+abbrev pub step_numbers : ObjectEntry → List ℕ
+step_numbers (steps.Settime flags value interval reading arm reply) =
+    flags ∷ value ∷ interval ∷ reading ∷ armed_number arm ∷ answer_numbers (settime_answer reply)
+step_numbers (steps.Trigger generation reading counted) = generation ∷ reading ∷ []
+step_numbers (steps.Accept reading arm reply) = reading ∷ armed_number arm ∷ answer_numbers (accept_answer reply)
+step_numbers (steps.Read reading arm reply) = reading ∷ armed_number arm ∷ answer_numbers (read_answer reply)
+step_numbers (steps.Gettime reading arm left interval) = reading ∷ armed_number arm ∷ left ∷ interval ∷ []
+
+-- the numbers of a line
+abbrev pub numbers_of : RecordLine → List ℕ
+numbers_of Version = []
+numbers_of (OfClock number w) = number ∷ w.label.lane ∷ w.label.call ∷ write_time w.write ∷ w.mono ∷ w.real ∷ w.boot ∷ w.changes ∷ []
+numbers_of (OfTimer timer number label entry) = timer ∷ number ∷ label.lane ∷ label.call ∷ entry_numbers entry
+numbers_of (OfLook timer number look) = timer ∷ number ∷ look.label.lane ∷ look.label.call ∷ told_numbers look.told
+numbers_of (OfObject object number label entry) = object ∷ number ∷ label.lane ∷ label.call ∷ step_numbers entry
+numbers_of (OfSkip object number skip) = object ∷ number ∷ skip.label.lane ∷ skip.label.call ∷ skip.generation ∷ []
+numbers_of (OfCall lane call answer) = lane ∷ call ∷ answer_numbers answer
+numbers_of End = []
+
+-- numbers of at most 128 bits, the widest that a program has
+abbrev pub AreMachineNumbers : List ℕ → Type 0
+AreMachineNumbers ns = AllByRecursion (λ n. n < 2 ^ 128) ns
+
+-- each number that these lines show is one that a program can hold
+abbrev pub HaveMachineNumbers : List RecordLine → Type 0
+HaveMachineNumbers ls = AllByRecursion (λ l. AreMachineNumbers (numbers_of l)) ls
+
+-- each number that the record's text shows is one that a program can hold
+abbrev pub HasMachineNumbers : RunRecord → Type 0
+HasMachineNumbers r = HaveMachineNumbers (record_lines r)

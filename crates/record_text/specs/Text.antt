@@ -1,0 +1,217 @@
+-- The text of a record: its lines in their order, the words of each line, and their bytes.
+use Rattle.std.specs.Prelude.{ℕ, ◌+◌, List, [], ◌∷◌, ◌++◌, map, flat_map, length, Bool, if◌then◌else◌, codes}
+use Rattle.std.specs.Fmt.{decimal}
+use Rattle.clock_model.specs.declared.write.Write.{Write}
+use Rattle.clock_model.specs.declared.write.Write.TheVariants as writes
+use Rattle.record_text.specs.declared.record.Label.{Label}
+use Rattle.record_text.specs.declared.record.ClockLine.{ClockLine}
+use Rattle.record_text.specs.declared.record.Restart.{Restart}
+use Rattle.record_text.specs.declared.record.Restart.TheVariants as restarts
+use Rattle.record_text.specs.declared.record.Entry.{Entry}
+use Rattle.record_text.specs.declared.record.Entry.TheVariants as entries
+use Rattle.record_text.specs.declared.record.Told.{Told}
+use Rattle.record_text.specs.declared.record.Told.TheVariants as tolds
+use Rattle.record_text.specs.declared.record.Look.{Look}
+use Rattle.record_text.specs.declared.record.TimerLine.{TimerLine}
+use Rattle.record_text.specs.declared.record.Armed.{Armed}
+use Rattle.record_text.specs.declared.record.Armed.TheVariants as arms
+use Rattle.record_text.specs.declared.record.ObjectEntry.{ObjectEntry}
+use Rattle.record_text.specs.declared.record.ObjectEntry.TheVariants as steps
+use Rattle.record_text.specs.declared.record.Skip.{Skip}
+use Rattle.record_text.specs.declared.record.ObjectLine.{ObjectLine}
+use Rattle.record_text.specs.declared.record.Answer.{Answer}
+use Rattle.record_text.specs.declared.record.Answer.TheVariants as answers
+use Rattle.record_text.specs.declared.record.RunRecord.{RunRecord}
+use Rattle.record_text.specs.Replies.{accept_answer, read_answer, settime_answer}
+use Rattle.record_text.specs.Words.{clock_word, mode_word}
+
+-- a line of a record's text, with the numbers that it begins with: of a write, of a timer or an object and its entry, of a lane and its call
+pub data RecordLine : Type 0 where
+  Version : RecordLine
+  OfClock : (number : ℕ) (written : ClockLine) → RecordLine
+  OfTimer : (timer number : ℕ) (label : Label) (entry : Entry) → RecordLine
+  OfLook : (timer number : ℕ) (look : Look) → RecordLine
+  OfObject : (object number : ℕ) (label : Label) (entry : ObjectEntry) → RecordLine
+  OfSkip : (object number : ℕ) (skip : Skip) → RecordLine
+  OfCall : (lane call : ℕ) (answer : Answer) → RecordLine
+  End : RecordLine
+
+-- the lines of each item in turn, the items numbered on from a number
+abbrev pub numbered : {X : Type 0} → (ℕ → X → List RecordLine) → ℕ → List X → List RecordLine
+numbered lines number [] = []
+numbered lines number (x ∷ xs) = lines number x ++ numbered lines (number + 1) xs
+
+-- the lines of the clock's writes, numbered on from a number
+abbrev pub clock_lines : ℕ → List ClockLine → List RecordLine
+clock_lines number ws = numbered (λ n w. OfClock n w ∷ []) number ws
+
+-- the line of an entry, and after it those of what callbacks were told there
+abbrev pub entry_and_looks : ℕ → ℕ → TimerLine → List RecordLine
+entry_and_looks timer number t = OfTimer timer number t.label t.entry ∷ map (OfLook timer number) t.looks
+
+-- the lines of one timer, its entries numbered on from a number
+abbrev pub entry_lines : ℕ → ℕ → List TimerLine → List RecordLine
+entry_lines timer number ts = numbered (entry_and_looks timer) number ts
+
+-- the lines of the timers, numbered on from a number
+abbrev pub timer_lines : ℕ → List (List TimerLine) → List RecordLine
+timer_lines timer tss = numbered (λ t ts. entry_lines t 1 ts) timer tss
+
+-- the line of an object's entry, and after it those of the expiries that were refused there
+abbrev pub step_and_skips : ℕ → ℕ → ObjectLine → List RecordLine
+step_and_skips object number o = OfObject object number o.label o.entry ∷ map (OfSkip object number) o.skips
+
+-- the lines of one object, its entries numbered on from a number
+abbrev pub step_lines : ℕ → ℕ → List ObjectLine → List RecordLine
+step_lines object number os = numbered (step_and_skips object) number os
+
+-- the lines of the objects, numbered on from a number
+abbrev pub object_lines : ℕ → List (List ObjectLine) → List RecordLine
+object_lines object oss = numbered (λ o os. step_lines o 1 os) object oss
+
+-- the lines of one lane's answers, its calls numbered on from a number
+abbrev pub answer_lines : ℕ → ℕ → List Answer → List RecordLine
+answer_lines lane call given = numbered (λ c a. OfCall lane c a ∷ []) call given
+
+-- the lines of the lanes, numbered on from a number
+abbrev pub lane_lines : ℕ → List (List Answer) → List RecordLine
+lane_lines lane lanes = numbered (λ l given. answer_lines l 0 given) lane lanes
+
+-- the lines of a record
+abbrev pub record_lines : RunRecord → List RecordLine
+record_lines r = Version ∷ (clock_lines 1 r.clock ++ (timer_lines 0 r.timers ++ (object_lines 0 r.objects ++ (lane_lines 0 r.answers ++ End ∷ []))))
+
+-- 1 where a test holds, else 0
+abbrev pub flag : Bool → List ℕ
+flag b = decimal (if b then 1 else 0)
+
+-- the kind of a write
+abbrev pub write_word : Write → List ℕ
+write_word (writes.Advance by) = codes "advance"
+write_word (writes.Set to) = codes "set"
+write_word (writes.Suspend by) = codes "suspend"
+
+-- the time that a write is made with
+abbrev pub write_time : Write → ℕ
+write_time (writes.Advance by) = by
+write_time (writes.Set to) = to
+write_time (writes.Suspend by) = by
+
+-- whether a callback asked for a restart
+abbrev pub restart_word : Bool → List ℕ
+restart_word asked = if asked then codes "again" else codes "stop"
+
+-- what came of it: the new generation, none where the timer was not armed again by the finish, or spent where its history was full
+abbrev pub rearmed_word : Restart → List ℕ
+rearmed_word restarts.None = codes "none"
+rearmed_word (restarts.Again generation) = decimal generation
+rearmed_word restarts.Spent = codes "spent"
+
+-- what a call made of its object's timer: the new generation, none where it wanted no start, or unarmed where its history was full
+abbrev pub armed_word : Armed → List ℕ
+armed_word arms.None = codes "none"
+armed_word (arms.Generation generation) = decimal generation
+armed_word arms.Unarmed = codes "unarmed"
+
+-- whether an expiry counted
+abbrev pub counted_word : Bool → List ℕ
+counted_word counted = if counted then codes "counted" else codes "stale"
+
+-- the words of an entry
+abbrev pub entry_words : Entry → List (List ℕ)
+entry_words (entries.Out base was_armed) = codes "out" ∷ decimal base ∷ flag was_armed ∷ []
+entry_words (entries.Start mode ns reading asked base clock expires was_armed) =
+    codes "start" ∷ mode_word mode ∷ decimal ns ∷ decimal reading ∷ decimal asked ∷ decimal base ∷ clock_word clock ∷ decimal expires ∷ flag was_armed ∷ []
+entry_words (entries.Cancel generation) = codes "cancel" ∷ decimal generation ∷ []
+entry_words (entries.Claim base reading generation) = codes "claim" ∷ decimal base ∷ decimal reading ∷ decimal generation ∷ []
+entry_words (entries.Forward reading interval count expires) =
+    codes "forward" ∷ decimal reading ∷ decimal interval ∷ decimal count ∷ decimal expires ∷ []
+entry_words (entries.Finish restart generation rearmed) =
+    codes "finish" ∷ restart_word restart ∷ decimal generation ∷ rearmed_word rearmed ∷ []
+
+-- the words of what a callback was told in place of an entry
+abbrev pub told_words : Told → List (List ℕ)
+told_words (tolds.Running generation) = codes "running" ∷ decimal generation ∷ []
+told_words (tolds.Armed generation) = codes "armed" ∷ decimal generation ∷ []
+told_words tolds.Spent = codes "spent" ∷ []
+
+-- the words of what an object's call alone is answered, and none for another answer
+abbrev pub object_answer_words : Answer → List (List ℕ)
+object_answer_words (answers.Old left interval) = codes "old" ∷ decimal left ∷ decimal interval ∷ []
+object_answer_words answers.Canceled = codes "canceled" ∷ []
+object_answer_words (answers.Unarmed stamp) = codes "unarmed" ∷ decimal stamp ∷ []
+object_answer_words answers.Invalid = codes "einval" ∷ []
+object_answer_words (answers.LeftAt left interval reading stamp) = codes "left" ∷ decimal left ∷ decimal interval ∷ decimal reading ∷ decimal stamp ∷ []
+object_answer_words (answers.Left left interval) = codes "left" ∷ decimal left ∷ decimal interval ∷ []
+object_answer_words (answers.Accepted overrun) = codes "accepted" ∷ decimal overrun ∷ []
+object_answer_words answers.NoSignal = codes "nosignal" ∷ []
+object_answer_words (answers.Overrun overrun stamp) = codes "overrun" ∷ decimal overrun ∷ decimal stamp ∷ []
+object_answer_words (answers.Count total) = codes "count" ∷ decimal total ∷ []
+object_answer_words answers.Again = codes "again" ∷ []
+object_answer_words (answers.Readable ready reading stamp) = codes "readable" ∷ flag ready ∷ decimal reading ∷ decimal stamp ∷ []
+object_answer_words other = []
+
+-- the words of an answer
+abbrev pub answer_words : Answer → List (List ℕ)
+answer_words (answers.Started generation base was_armed) = codes "started" ∷ decimal generation ∷ decimal base ∷ flag was_armed ∷ []
+answer_words (answers.Spent stamp) = codes "spent" ∷ decimal stamp ∷ []
+answer_words (answers.Cancelled generation) = codes "cancelled" ∷ decimal generation ∷ []
+answer_words (answers.Running generation stamp) = codes "running" ∷ decimal generation ∷ decimal stamp ∷ []
+answer_words (answers.Idle stamp) = codes "idle" ∷ decimal stamp ∷ []
+answer_words (answers.Peek stamp base enqueued running moving) =
+    codes "peek" ∷ decimal stamp ∷ decimal base ∷ flag enqueued ∷ flag running ∷ flag moving ∷ []
+answer_words (answers.Done reading fired) = codes "done" ∷ decimal (length fired) ∷ decimal reading ∷ map decimal fired
+answer_words (answers.More reading fired) = codes "more" ∷ decimal (length fired) ∷ decimal reading ∷ map decimal fired
+answer_words (answers.Busy reading fired timer generation) =
+    codes "busy" ∷ decimal (length fired) ∷ decimal reading ∷ decimal timer ∷ decimal generation ∷ map decimal fired
+answer_words (answers.Clock stamp) = codes "clock" ∷ decimal stamp ∷ []
+answer_words (answers.Range would_be) = codes "range" ∷ decimal would_be ∷ []
+answer_words answers.ClockSpent = codes "clockspent" ∷ []
+answer_words other = object_answer_words other
+
+-- the words of an object's entry
+abbrev pub step_words : ObjectEntry → List (List ℕ)
+step_words (steps.Settime flags value interval reading arm reply) =
+    codes "settime" ∷ decimal flags ∷ decimal value ∷ decimal interval ∷ decimal reading ∷ armed_word arm ∷ answer_words (settime_answer reply)
+step_words (steps.Trigger generation reading counted) = codes "trigger" ∷ decimal generation ∷ decimal reading ∷ counted_word counted ∷ []
+step_words (steps.Accept reading arm reply) = codes "accept" ∷ decimal reading ∷ armed_word arm ∷ answer_words (accept_answer reply)
+step_words (steps.Read reading arm reply) = codes "read" ∷ decimal reading ∷ armed_word arm ∷ answer_words (read_answer reply)
+step_words (steps.Gettime reading arm left interval) = codes "gettime" ∷ decimal reading ∷ armed_word arm ∷ decimal left ∷ decimal interval ∷ []
+
+-- the words of a line
+abbrev pub words_of : RecordLine → List (List ℕ)
+words_of Version = codes "record" ∷ codes "1" ∷ []
+words_of (OfClock number w) =
+    codes "clock" ∷ decimal number ∷ decimal w.label.lane ∷ decimal w.label.call ∷ write_word w.write ∷ decimal (write_time w.write) ∷ decimal w.mono ∷ decimal w.real ∷ decimal w.boot ∷ decimal w.changes ∷ []
+words_of (OfTimer timer number label entry) =
+    codes "timer" ∷ decimal timer ∷ decimal number ∷ decimal label.lane ∷ decimal label.call ∷ entry_words entry
+words_of (OfLook timer number look) =
+    codes "look" ∷ decimal timer ∷ decimal number ∷ decimal look.label.lane ∷ decimal look.label.call ∷ told_words look.told
+words_of (OfObject object number label entry) =
+    codes "object" ∷ decimal object ∷ decimal number ∷ decimal label.lane ∷ decimal label.call ∷ step_words entry
+words_of (OfSkip object number skip) =
+    codes "skip" ∷ decimal object ∷ decimal number ∷ decimal skip.label.lane ∷ decimal skip.label.call ∷ decimal skip.generation ∷ []
+words_of (OfCall lane call answer) = codes "call" ∷ decimal lane ∷ decimal call ∷ answer_words answer
+words_of End = codes "end" ∷ []
+
+-- each word after a space
+abbrev pub spaced : List (List ℕ) → List ℕ
+spaced [] = []
+spaced (w ∷ ws) = 32 ∷ (w ++ spaced ws)
+
+-- words with a space between each two
+abbrev pub joined : List (List ℕ) → List ℕ
+joined [] = []
+joined (w ∷ ws) = w ++ spaced ws
+
+-- the bytes of a line: its words, and a newline
+abbrev pub line_text : RecordLine → List ℕ
+line_text l = joined (words_of l) ++ 10 ∷ []
+
+-- the bytes of lines
+abbrev pub lines_text : List RecordLine → List ℕ
+lines_text ls = flat_map line_text ls
+
+-- the text of a record
+abbrev pub text_of : RunRecord → List ℕ
+text_of r = lines_text (record_lines r)

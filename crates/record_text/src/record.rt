@@ -1,0 +1,337 @@
+ghost use Rattle.std.specs.Prelude.{◌≡◌};
+ghost use Rattle.record_text.specs.Replies.{accept_answer, read_answer, settime_answer};
+
+use crate::items::Items;
+use clock_model::Write;
+use ktime::{ClockId, Mode};
+
+/// The call that made a line: its lane, and its place among that lane's calls, from 0.
+#[derive(Clone, Copy, Debug, PartialEq, Eq)]
+pub struct Label {
+    pub lane: u32,
+    pub call: u32,
+}
+
+/// A write that the clock took, and its times after it. The line's place is the clock's stamp.
+#[derive(Clone, Copy, Debug, PartialEq, Eq)]
+pub struct ClockLine {
+    pub label: Label,
+    pub write: Write,
+    pub mono: u64,
+    pub real: u64,
+    pub boot: u64,
+    pub changes: u64,
+}
+
+/// How a finish left the timer.
+#[derive(Clone, Copy, Debug, PartialEq, Eq)]
+pub enum Restart {
+    /// It was not armed again by the finish.
+    None,
+    /// It was armed again, as this generation.
+    Again { generation: u64 },
+    /// It was to be armed again, and its history was full.
+    Spent,
+}
+
+/// An entry of a timer's history as its line shows it. A reading is named by its stamp.
+#[derive(Clone, Copy, Debug, PartialEq, Eq)]
+pub enum Entry {
+    Out {
+        base: u32,
+        was_armed: bool,
+    },
+    Start {
+        mode: Mode,
+        ns: u64,
+        reading: u64,
+        asked: u32,
+        base: u32,
+        clock: ClockId,
+        expires: u64,
+        was_armed: bool,
+    },
+    Cancel {
+        generation: u64,
+    },
+    Claim {
+        base: u32,
+        reading: u64,
+        generation: u64,
+    },
+    Forward {
+        reading: u64,
+        interval: u64,
+        count: u64,
+        expires: u64,
+    },
+    Finish {
+        restart: bool,
+        generation: u64,
+        rearmed: Restart,
+    },
+}
+
+/// What a callback was told of its timer in place of an entry.
+#[derive(Clone, Copy, Debug, PartialEq, Eq)]
+pub enum Told {
+    Running { generation: u64 },
+    Armed { generation: u64 },
+    Spent,
+}
+
+/// What a callback was told, under the entry after which it holds.
+#[derive(Clone, Copy, Debug, PartialEq, Eq)]
+pub struct Look {
+    pub label: Label,
+    pub told: Told,
+}
+
+/// An entry of a timer's history, and what callbacks were told after it.
+#[derive(Drop)]
+pub struct TimerLine {
+    pub label: Label,
+    pub entry: Entry,
+    pub looks: Items<Look>,
+}
+
+/// What a call made of the timer that it wanted to start for its object.
+#[derive(Clone, Copy, Debug, PartialEq, Eq)]
+pub enum Armed {
+    /// It wanted no start.
+    None,
+    /// The timer was armed, as this generation.
+    Generation { generation: u64 },
+    /// The timer's history was full, so it was not started.
+    Unarmed,
+}
+
+/// What a settime that made an entry was answered.
+#[derive(Clone, Copy, Debug, PartialEq, Eq)]
+pub enum SettimeReply {
+    /// The setting before the call, in nanoseconds.
+    Old { left: u64, interval: u64 },
+    /// The real-time clock was set, or the machine slept (ECANCELED). The new setting stands all the same.
+    Canceled,
+    /// The timer had so many entries and was not started. The object is disarmed.
+    Unarmed { stamp: u64 },
+}
+
+impl SettimeReply {
+    /// The call's answer.
+    pub fn answer(self) -> Answer
+        ensures { result ≡ settime_answer self }
+    {
+        match self {
+            SettimeReply::Old { left, interval } => Answer::Old { left, interval },
+            SettimeReply::Canceled => Answer::Canceled,
+            SettimeReply::Unarmed { stamp } => Answer::Unarmed { stamp },
+        }
+    }
+}
+
+/// What the acceptance of a timer's signal that made an entry was answered.
+#[derive(Clone, Copy, Debug, PartialEq, Eq)]
+pub enum AcceptReply {
+    /// So many further periods had passed when the signal was accepted.
+    Accepted { overrun: u64 },
+    /// No signal was pending.
+    NoSignal,
+}
+
+impl AcceptReply {
+    /// The call's answer.
+    pub fn answer(self) -> Answer
+        ensures { result ≡ accept_answer self }
+    {
+        match self {
+            AcceptReply::Accepted { overrun } => Answer::Accepted { overrun },
+            AcceptReply::NoSignal => Answer::NoSignal,
+        }
+    }
+}
+
+/// What a read that made an entry was answered.
+#[derive(Clone, Copy, Debug, PartialEq, Eq)]
+pub enum ReadReply {
+    /// The timer had expired so often since the last setting or read.
+    Count { total: u64 },
+    /// There was no expiry to read (EAGAIN).
+    Again,
+    /// The real-time clock was set, or the machine slept (ECANCELED).
+    Canceled,
+}
+
+impl ReadReply {
+    /// The call's answer.
+    pub fn answer(self) -> Answer
+        ensures { result ≡ read_answer self }
+    {
+        match self {
+            ReadReply::Count { total } => Answer::Count { total },
+            ReadReply::Again => Answer::Again,
+            ReadReply::Canceled => Answer::Canceled,
+        }
+    }
+}
+
+/// An entry of an object's history as its line shows it. A reading is named by its stamp; a value, an interval and a
+/// time left are in nanoseconds.
+#[derive(Clone, Copy, Debug, PartialEq, Eq)]
+pub enum ObjectEntry {
+    Settime {
+        flags: u64,
+        value: u64,
+        interval: u64,
+        reading: u64,
+        arm: Armed,
+        reply: SettimeReply,
+    },
+    /// An expiry of this generation: it counted, or it was stale.
+    Trigger {
+        generation: u64,
+        reading: u64,
+        counted: bool,
+    },
+    Accept {
+        reading: u64,
+        arm: Armed,
+        reply: AcceptReply,
+    },
+    Read {
+        reading: u64,
+        arm: Armed,
+        reply: ReadReply,
+    },
+    /// Of a descriptor alone.
+    Gettime {
+        reading: u64,
+        arm: Armed,
+        left: u64,
+        interval: u64,
+    },
+}
+
+/// An expiry of this generation that an object with a full history refused, under the entry after which it came.
+#[derive(Clone, Copy, Debug, PartialEq, Eq)]
+pub struct Skip {
+    pub label: Label,
+    pub generation: u64,
+}
+
+/// An entry of an object's history, and the expiries that were refused after it.
+#[derive(Drop)]
+pub struct ObjectLine {
+    pub label: Label,
+    pub entry: ObjectEntry,
+    pub skips: Items<Skip>,
+}
+
+/// What a call was answered. A stamp is the number of entries after which the answer holds; a reading is named by its
+/// stamp; an interval and a time left are in nanoseconds.
+#[derive(Drop)]
+pub enum Answer {
+    Started {
+        generation: u64,
+        base: u32,
+        was_armed: bool,
+    },
+    Spent {
+        stamp: u64,
+    },
+    Cancelled {
+        generation: u64,
+    },
+    Running {
+        generation: u64,
+        stamp: u64,
+    },
+    Idle {
+        stamp: u64,
+    },
+    Peek {
+        stamp: u64,
+        base: u32,
+        enqueued: bool,
+        running: bool,
+        moving: bool,
+    },
+    Done {
+        reading: u64,
+        fired: Items<u32>,
+    },
+    More {
+        reading: u64,
+        fired: Items<u32>,
+    },
+    Busy {
+        reading: u64,
+        fired: Items<u32>,
+        timer: u32,
+        generation: u64,
+    },
+    Clock {
+        stamp: u64,
+    },
+    Range {
+        would_be: u128,
+    },
+    ClockSpent,
+    /// The setting before a settime.
+    Old {
+        left: u64,
+        interval: u64,
+    },
+    /// The real-time clock was set, or the machine slept (ECANCELED).
+    Canceled,
+    /// The object's timer had so many entries and was not started. The object is disarmed.
+    Unarmed {
+        stamp: u64,
+    },
+    /// The arguments are refused (EINVAL).
+    Invalid,
+    /// The setting of a POSIX timer, which a look tells.
+    LeftAt {
+        left: u64,
+        interval: u64,
+        reading: u64,
+        stamp: u64,
+    },
+    /// The setting of a descriptor, which makes an entry.
+    Left {
+        left: u64,
+        interval: u64,
+    },
+    /// A signal was accepted, and so many further periods had passed.
+    Accepted {
+        overrun: u64,
+    },
+    /// No signal was pending.
+    NoSignal,
+    /// The overrun of the last accepted signal.
+    Overrun {
+        overrun: u64,
+        stamp: u64,
+    },
+    /// The timer had expired so often since the last setting or read.
+    Count {
+        total: u64,
+    },
+    /// There was no expiry to read (EAGAIN).
+    Again,
+    Readable {
+        ready: bool,
+        reading: u64,
+        stamp: u64,
+    },
+}
+
+/// What a run leaves: the clock's writes, each timer's history, each object's history, and each lane's answers. There is
+/// a list of objects' lines for each timer, which stays empty for a raw timer.
+#[derive(Drop)]
+pub struct RunRecord {
+    pub clock: Items<ClockLine>,
+    pub timers: Items<Items<TimerLine>>,
+    pub objects: Items<Items<ObjectLine>>,
+    pub answers: Items<Items<Answer>>,
+}

@@ -1,0 +1,16 @@
+//! The text of a record.
+
+pub use lines::text;
+pub use unique::text_determines_the_record;
+
+mod answers;
+mod entries;
+mod lines;
+#[cfg(test)]
+mod object_tests;
+mod objects;
+mod steps;
+#[cfg(test)]
+mod tests;
+mod unique;
+mod words;

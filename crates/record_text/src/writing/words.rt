@@ -1,0 +1,57 @@
+ghost use Rattle.std.specs.Prelude.{◌≡◌};
+ghost use Rattle.record_text.specs.Text.{counted_word, restart_word, write_time, write_word};
+ghost use Rattle.record_text.specs.Words.{clock_word, mode_word};
+
+use clock_model::Write;
+use ktime::{ClockId, Mode};
+
+pub(crate) fn clock_word(clock: ClockId) -> &'static str
+    ensures { result.now ≡ clock_word clock }
+{
+    match clock {
+        ClockId::Monotonic => "monotonic",
+        ClockId::Realtime => "realtime",
+        ClockId::Boottime => "boottime",
+    }
+}
+
+pub(crate) fn mode_word(mode: Mode) -> &'static str
+    ensures { result.now ≡ mode_word mode }
+{
+    match mode {
+        Mode::Abs => "abs",
+        Mode::Rel => "rel",
+        Mode::Keep => "keep",
+    }
+}
+
+pub(crate) fn write_word(write: Write) -> &'static str
+    ensures { result.now ≡ write_word write }
+{
+    match write {
+        Write::Advance { .. } => "advance",
+        Write::Set { .. } => "set",
+        Write::Suspend { .. } => "suspend",
+    }
+}
+
+pub(crate) fn write_time(write: Write) -> u64
+    ensures { result ≡ write_time write }
+{
+    match write {
+        Write::Advance { by } | Write::Suspend { by } => by,
+        Write::Set { to } => to,
+    }
+}
+
+pub(crate) fn restart_word(asked: bool) -> &'static str
+    ensures { result.now ≡ restart_word asked }
+{
+    if asked { "again" } else { "stop" }
+}
+
+pub(crate) fn counted_word(counted: bool) -> &'static str
+    ensures { result.now ≡ counted_word counted }
+{
+    if counted { "counted" } else { "stale" }
+}

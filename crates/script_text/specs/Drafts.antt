@@ -1,0 +1,132 @@
+-- A script as its lines are read one after the other: what they have told so far, and what a line adds.
+use Rattle.std.specs.Prelude.{ℕ, ◌+◌, ◌^◌, ◌<◌, ◌≤◌, length, List, [], ◌∷◌, ◌++◌, Option, Some, None, option_map}
+use Rattle.std.specs.Option.{option_or}
+use Rattle.clock_model.specs.declared.write.Write.TheVariants as writes
+use Rattle.script_text.specs.declared.reading.drafts.Draft.{Draft}
+use Rattle.script_text.specs.declared.form.Form.{Form}
+use Rattle.script_text.specs.declared.form.Form.TheVariants as forms
+use Rattle.script_text.specs.declared.form.Line.{Line}
+use Rattle.script_text.specs.declared.form.Place.{Place}
+use Rattle.script_text.specs.declared.form.Place.TheVariants as places
+use Rattle.script_text.specs.declared.form.Part.{Part}
+use Rattle.script_text.specs.declared.form.Part.TheVariants as parts
+use Rattle.script_text.specs.declared.form.Value.{Value}
+use Rattle.script_text.specs.declared.form.Value.TheVariants as values
+use Rattle.script_text.specs.declared.script.Callback.TheVariants as callbacks
+use Rattle.script_text.specs.declared.script.Call.TheVariants as calls
+use Rattle.script_text.specs.declared.script.Declaration.{Declaration}
+use Rattle.script_text.specs.declared.script.Kind.TheVariants as kinds
+use Rattle.script_text.specs.declared.script.LaneCall.{LaneCall}
+use Rattle.script_text.specs.declared.script.Round.{Round}
+use Rattle.script_text.specs.declared.script.Script.{Script}
+use Rattle.script_text.specs.Forms.{Spot, Key, At, part}
+use Rattle.script_text.specs.Scripts.{most_bases, most_lanes, most_timers, most_calls}
+
+-- before the first line
+abbrev pub empty : Draft
+empty = record { headers = 0; bases = 0; lanes = 0; limit = 0; timers = []; ended = []; begun = None; calls = 0 }
+
+-- the round that has begun, where one has
+abbrev pub last_round : Option (List LaneCall) → List Round
+last_round None = []
+last_round (Some cs) = record { calls = cs } ∷ []
+
+-- the script that the lines make
+abbrev pub script_of : Draft → Script
+script_of d = record { bases = d.bases; lanes = d.lanes; limit = d.limit; timers = d.timers; rounds = d.ended ++ last_round d.begun }
+
+-- ---- what a line means
+
+-- what a declaration declares, by its form and values
+unfoldable pub declaration_of : Form → List Value → Option Declaration
+declaration_of forms.RawOnce (values.Number i ∷ values.Clock c ∷ []) = Some (record { clock = c; kind = kinds.Raw callbacks.Once })
+declaration_of forms.RawEvery (values.Number i ∷ values.Clock c ∷ values.Number n ∷ []) = Some (record { clock = c; kind = kinds.Raw (callbacks.Every n) })
+declaration_of forms.RawCancels (values.Number i ∷ values.Clock c ∷ []) = Some (record { clock = c; kind = kinds.Raw callbacks.Cancels })
+declaration_of forms.RawStarts (values.Number i ∷ values.Clock c ∷ values.Number n ∷ values.Number b ∷ []) = Some (record { clock = c; kind = kinds.Raw (callbacks.Starts n b) })
+declaration_of forms.Posix (values.Number i ∷ values.Clock c ∷ values.Number b ∷ []) = Some (record { clock = c; kind = kinds.Posix b })
+declaration_of forms.Fd (values.Number i ∷ values.Clock c ∷ values.Number b ∷ []) = Some (record { clock = c; kind = kinds.Fd b })
+declaration_of form vs = None
+
+-- the call of a raw timer, of a base or of the clock that a line asks for, and its lane, by its form and values
+unfoldable pub plain_call_of : Form → List Value → Option LaneCall
+plain_call_of forms.Start (values.Number k ∷ values.Number i ∷ values.Mode m ∷ values.Number n ∷ values.Number b ∷ []) = Some (record { lane = k; call = calls.Start i m n b })
+plain_call_of forms.Cancel (values.Number k ∷ values.Number i ∷ []) = Some (record { lane = k; call = calls.Cancel i })
+plain_call_of forms.Peek (values.Number k ∷ values.Number i ∷ []) = Some (record { lane = k; call = calls.Peek i })
+plain_call_of forms.Expire (values.Number k ∷ values.Number b ∷ values.Number n ∷ []) = Some (record { lane = k; call = calls.Expire b n })
+plain_call_of forms.Advance (values.Number k ∷ values.Number n ∷ []) = Some (record { lane = k; call = calls.Clock (writes.Advance n) })
+plain_call_of forms.Set (values.Number k ∷ values.Number n ∷ []) = Some (record { lane = k; call = calls.Clock (writes.Set n) })
+plain_call_of forms.Suspend (values.Number k ∷ values.Number n ∷ []) = Some (record { lane = k; call = calls.Clock (writes.Suspend n) })
+plain_call_of form vs = None
+
+-- the call of an object that a line asks for, and its lane, by its form and values
+unfoldable pub object_call_of : Form → List Value → Option LaneCall
+object_call_of forms.Settime (values.Number k ∷ values.Number i ∷ values.Number f ∷ values.Number vs ∷ values.Number vn ∷ values.Number is ∷ values.Number in_ ∷ []) =
+    Some (record { lane = k; call = calls.Settime i f (record { sec = vs; nsec = vn }) (record { sec = is; nsec = in_ }) })
+object_call_of forms.Gettime (values.Number k ∷ values.Number i ∷ []) = Some (record { lane = k; call = calls.Gettime i })
+object_call_of forms.Accept (values.Number k ∷ values.Number i ∷ []) = Some (record { lane = k; call = calls.Accept i })
+object_call_of forms.Overrun (values.Number k ∷ values.Number i ∷ []) = Some (record { lane = k; call = calls.Overrun i })
+object_call_of forms.Read (values.Number k ∷ values.Number i ∷ values.Number n ∷ []) = Some (record { lane = k; call = calls.Read i n })
+object_call_of forms.Readable (values.Number k ∷ values.Number i ∷ []) = Some (record { lane = k; call = calls.Readable i })
+object_call_of form vs = None
+
+-- the call that a line asks for, and its lane
+unfoldable pub call_of : Form → List Value → Option LaneCall
+call_of form vs = option_or (plain_call_of form vs) (object_call_of form vs)
+
+-- one more header line, with its number
+unfoldable pub with_header : Draft → Form → List Value → Draft
+with_header d forms.Bases (values.Number n ∷ []) = record d { headers = d.headers + 1; bases = n }
+with_header d forms.Lanes (values.Number n ∷ []) = record d { headers = d.headers + 1; lanes = n }
+with_header d forms.Limit (values.Number n ∷ []) = record d { headers = d.headers + 1; limit = n }
+with_header d form vs = record d { headers = d.headers + 1 }
+
+-- one more timer
+unfoldable pub with_timer : Draft → Option Declaration → Draft
+with_timer d None = d
+with_timer d (Some declared) = record d { timers = d.timers ++ declared ∷ [] }
+
+-- the round that had begun ends, and the next begins
+unfoldable pub with_round : Draft → Draft
+with_round d = record d { ended = d.ended ++ last_round d.begun; begun = Some [] }
+
+-- one more call in the round that has begun
+unfoldable pub with_call : Draft → Option LaneCall → Draft
+with_call d None = d
+with_call d (Some c) = record d { begun = option_map (λ cs. cs ++ c ∷ []) d.begun; calls = d.calls + 1 }
+
+-- what the lines have told after one more, by the part of the script that it belongs to
+unfoldable pub with_part : Draft → Part → Form → List Value → Draft
+with_part d (parts.Header n) form vs = with_header d form vs
+with_part d parts.Declaration form vs = with_timer d (declaration_of form vs)
+with_part d parts.Round form vs = with_round d
+with_part d parts.Call form vs = with_call d (call_of form vs)
+
+-- what the lines have told after one more
+unfoldable pub with_line : Draft → Line → Draft
+with_line d l = with_part d (part l.form) l.form l.values
+
+-- ---- room
+
+-- the header lines are at most four, and there are no more bases, lanes, timers and calls than there may be
+pub record HasRoom (d : Draft) : Type 0 where
+  pub headers : d.headers ≤ 4
+  pub bases : d.bases ≤ most_bases
+  pub lanes : d.lanes ≤ most_lanes
+  pub timers : length d.timers ≤ most_timers
+  pub calls : d.calls ≤ most_calls
+
+-- the number of a timer, a base or a lane fits in 32 bits
+abbrev pub IsShort : Place → ℕ → Type 0
+IsShort places.Bases n = n < 2 ^ 32
+IsShort places.Lanes n = n < 2 ^ 32
+IsShort places.Lane n = n < 2 ^ 32
+IsShort places.Timer n = n < 2 ^ 32
+IsShort places.Base n = n < 2 ^ 32
+IsShort place n = Unit
+
+-- each number that fills the places of a row is as short as its place asks for
+abbrev pub AreShort : List Spot → List Value → Type 0
+AreShort (Key word ∷ spots) vs = AreShort spots vs
+AreShort (At place ∷ spots) (values.Number n ∷ vs) = IsShort place n × AreShort spots vs
+AreShort (At place ∷ spots) (v ∷ vs) = AreShort spots vs
+AreShort spots vs = Unit

@@ -1,0 +1,129 @@
+-- The forms of line of a script, one row each of a table: key words and places from left to right; the part of a script that
+-- it belongs to; whether its call suits a timer of a kind.
+use Rattle.std.specs.Prelude.{ℕ, Bool, true, false, List, [], ◌∷◌, Option, Some, None, codes}
+use Rattle.script_text.specs.declared.form.Form.{Form}
+use Rattle.script_text.specs.declared.form.Form.TheVariants as forms
+use Rattle.script_text.specs.declared.form.Place.{Place}
+use Rattle.script_text.specs.declared.form.Place.TheVariants as places
+use Rattle.script_text.specs.declared.form.Part.{Part}
+use Rattle.script_text.specs.declared.form.Part.TheVariants as parts
+use Rattle.script_text.specs.declared.script.Kind.{Kind}
+use Rattle.script_text.specs.declared.script.Kind.TheVariants as kinds
+
+-- a word of a form: a key word, or a place to fill
+pub data Spot : Type 0 where
+  Key : List ℕ → Spot
+  At : Place → Spot
+
+-- what a place is filled with: the name of a clock or of a mode of starting, or a number
+pub data Sort : Type 0 where
+  ClockName : Sort
+  ModeName : Sort
+  Numeral : Sort
+
+-- the sort of each place
+abbrev pub sort : Place → Sort
+sort places.Clock = ClockName
+sort places.Mode = ModeName
+sort place = Numeral
+
+-- the place at a spot, where it is one
+abbrev pub place_at : Spot → Option Place
+place_at (Key word) = None
+place_at (At place) = Some place
+
+-- the words of a raw timer's declaration
+abbrev pub raw : List ℕ → List Spot → List Spot
+raw callback more = Key (codes "raw") ∷ At places.NewTimer ∷ At places.Clock ∷ Key callback ∷ more
+
+-- the words of a call
+abbrev pub called : List ℕ → List Spot → List Spot
+called name more = At places.Lane ∷ Key name ∷ more
+
+-- the words of each form
+abbrev pub row : Form → List Spot
+row forms.Version = Key (codes "hrt") ∷ At places.Version ∷ []
+row forms.Bases = Key (codes "bases") ∷ At places.Bases ∷ []
+row forms.Lanes = Key (codes "lanes") ∷ At places.Lanes ∷ []
+row forms.Limit = Key (codes "limit") ∷ At places.Limit ∷ []
+row forms.RawOnce = raw (codes "once") []
+row forms.RawEvery = raw (codes "every") (At places.Free ∷ [])
+row forms.RawCancels = raw (codes "cancels") []
+row forms.RawStarts = raw (codes "starts") (At places.Free ∷ At places.Base ∷ [])
+row forms.Posix = Key (codes "posix") ∷ At places.NewTimer ∷ At places.Clock ∷ At places.Base ∷ []
+row forms.Fd = Key (codes "fd") ∷ At places.NewTimer ∷ At places.Clock ∷ At places.Base ∷ []
+row forms.Round = Key (codes "round") ∷ []
+row forms.Start = called (codes "start") (At places.Timer ∷ At places.Mode ∷ At places.Free ∷ At places.Base ∷ [])
+row forms.Cancel = called (codes "cancel") (At places.Timer ∷ [])
+row forms.Peek = called (codes "peek") (At places.Timer ∷ [])
+row forms.Expire = called (codes "expire") (At places.Base ∷ At places.Budget ∷ [])
+row forms.Advance = called (codes "advance") (At places.Free ∷ [])
+row forms.Set = called (codes "set") (At places.Free ∷ [])
+row forms.Suspend = called (codes "suspend") (At places.Free ∷ [])
+row forms.Settime = called (codes "settime") (At places.Timer ∷ At places.Free ∷ At places.Free ∷ At places.Free ∷ At places.Free ∷ At places.Free ∷ [])
+row forms.Gettime = called (codes "gettime") (At places.Timer ∷ [])
+row forms.Accept = called (codes "accept") (At places.Timer ∷ [])
+row forms.Overrun = called (codes "overrun") (At places.Timer ∷ [])
+row forms.Read = called (codes "read") (At places.Timer ∷ At places.Free ∷ [])
+row forms.Readable = called (codes "readable") (At places.Timer ∷ [])
+
+-- the part of a script that each form belongs to; a header line has so many before it
+abbrev pub part : Form → Part
+part forms.Version = parts.Header 0
+part forms.Bases = parts.Header 1
+part forms.Lanes = parts.Header 2
+part forms.Limit = parts.Header 3
+part forms.RawOnce = parts.Declaration
+part forms.RawEvery = parts.Declaration
+part forms.RawCancels = parts.Declaration
+part forms.RawStarts = parts.Declaration
+part forms.Posix = parts.Declaration
+part forms.Fd = parts.Declaration
+part forms.Round = parts.Round
+part call = parts.Call
+
+-- whether a form's call can be made on a timer of this kind
+abbrev pub suits : Form → Kind → Bool
+suits forms.Start (kinds.Raw callback) = true
+suits forms.Cancel (kinds.Raw callback) = true
+suits forms.Peek kind = true
+suits forms.Settime (kinds.Posix base) = true
+suits forms.Settime (kinds.Fd base) = true
+suits forms.Gettime (kinds.Posix base) = true
+suits forms.Gettime (kinds.Fd base) = true
+suits forms.Accept (kinds.Posix base) = true
+suits forms.Overrun (kinds.Posix base) = true
+suits forms.Read (kinds.Fd base) = true
+suits forms.Readable (kinds.Fd base) = true
+suits form kind = false
+
+-- the forms that are chosen by a line's first word
+abbrev pub plain_forms : List (List ℕ × Form)
+plain_forms =
+    (codes "hrt", forms.Version) ∷ (codes "bases", forms.Bases) ∷ (codes "lanes", forms.Lanes) ∷ (codes "limit", forms.Limit)
+    ∷ (codes "posix", forms.Posix) ∷ (codes "fd", forms.Fd) ∷ (codes "round", forms.Round) ∷ []
+
+-- those of a raw timer, by the word after its clock
+abbrev pub raw_forms : List (List ℕ × Form)
+raw_forms =
+    (codes "once", forms.RawOnce) ∷ (codes "every", forms.RawEvery) ∷ (codes "cancels", forms.RawCancels) ∷ (codes "starts", forms.RawStarts) ∷ []
+
+-- those of a call, by the word after its lane
+abbrev pub call_forms : List (List ℕ × Form)
+call_forms =
+    (codes "start", forms.Start) ∷ (codes "cancel", forms.Cancel) ∷ (codes "peek", forms.Peek) ∷ (codes "expire", forms.Expire)
+    ∷ (codes "advance", forms.Advance) ∷ (codes "set", forms.Set) ∷ (codes "suspend", forms.Suspend)
+    ∷ (codes "settime", forms.Settime) ∷ (codes "gettime", forms.Gettime) ∷ (codes "accept", forms.Accept) ∷ (codes "overrun", forms.Overrun)
+    ∷ (codes "read", forms.Read) ∷ (codes "readable", forms.Readable) ∷ []
+
+-- whether the program takes lines of this form already
+abbrev pub is_built : Form → Bool
+is_built forms.Posix = false
+is_built forms.Fd = false
+is_built forms.Settime = false
+is_built forms.Gettime = false
+is_built forms.Accept = false
+is_built forms.Overrun = false
+is_built forms.Read = false
+is_built forms.Readable = false
+is_built form = true

@@ -1,0 +1,94 @@
+-- The histories of a record's objects, which are POSIX timers and timer descriptors: each one's entries, and its state after each
+-- number of them.
+use Rattle.std.specs.Prelude.{ℕ, ◌≡◌, true, is_some, Option, Some, None, List, [], ◌∷◌, map, take, get_or}
+use Rattle.std.specs.List.{AllByRecursion}
+use Rattle.ktime.specs.declared.clock_id.ClockId.{ClockId}
+use Rattle.record_text.specs.declared.record.Label.{Label}
+use Rattle.record_text.specs.declared.record.ObjectEntry.{ObjectEntry}
+use Rattle.record_text.specs.declared.record.ObjectLine.{ObjectLine}
+use Rattle.record_text.specs.declared.record.RunRecord.{RunRecord}
+use Rattle.posix_timer.specs.declared.phase.Phase.TheVariants as posix_phases
+use Rattle.posix_timer.specs.declared.phase.Phase as posix_phase
+use Rattle.posix_timer.specs.States.{PosixTimer}
+use Rattle.posix_timer.specs.Histories as posix
+use Rattle.timer_fd.specs.declared.phase.Phase.TheVariants as fd_phases
+use Rattle.timer_fd.specs.declared.phase.Phase as fd_phase
+use Rattle.timer_fd.specs.States.{Descriptor}
+use Rattle.timer_fd.specs.Histories as fd
+use Rattle.script_text.specs.declared.script.Callback.TheVariants as callbacks
+use Rattle.script_text.specs.declared.script.Kind.{Kind}
+use Rattle.script_text.specs.declared.script.Kind.TheVariants as kinds
+use Rattle.script_text.specs.declared.script.Script.{Script}
+use Rattle.script_text.specs.Histories.{clock_of}
+use Rattle.script_text.specs.PosixHistories as posix_lines
+use Rattle.script_text.specs.FdHistories as fd_lines
+
+-- an object's lines; none for a timer by itself, and for one that isn't there
+abbrev pub object_lines : RunRecord → ℕ → List ObjectLine
+object_lines r i = get_or r.objects i []
+
+-- the labels along an object's entries
+abbrev pub object_labels : RunRecord → ℕ → List Label
+object_labels r i = map (λ line. line.label) (object_lines r i)
+
+-- an object's entries
+abbrev pub object_entries : RunRecord → ℕ → List ObjectEntry
+object_entries r i = map (λ line. line.entry) (object_lines r i)
+
+-- the kind of a declared timer
+abbrev pub kind_of : Script → ℕ → Kind
+kind_of s i = get_or (map (λ d. d.kind) s.timers) i (kinds.Raw callbacks.Once)
+
+-- the items that are there
+abbrev pub present : {A : Type 0} → List (Option A) → List A
+present [] = []
+present (None ∷ xs) = present xs
+present (Some x ∷ xs) = x ∷ present xs
+
+-- an object's history, as a POSIX timer's
+abbrev pub posix_history : RunRecord → ℕ → List posix.Entry
+posix_history r i = present (map (posix_lines.entry_of r.clock) (object_entries r i))
+
+-- an object's history, as a descriptor's
+abbrev pub fd_history : RunRecord → ℕ → List fd.Entry
+fd_history r i = present (map (fd_lines.entry_of r.clock) (object_entries r i))
+
+-- a timer by itself has no object's entries; those of an object are all of its kind, and make a history that one such object gives
+abbrev pub IsLegalObject : Script → RunRecord → ℕ → Kind → Type 0
+IsLegalObject s r i (kinds.Raw callback) = object_lines r i ≡ []
+IsLegalObject s r i (kinds.Posix base) =
+    AllByRecursion (λ e. is_some (posix_lines.entry_of r.clock e) ≡ true) (object_entries r i) × posix.IsLegal (clock_of s i) base s.limit (posix_history r i)
+IsLegalObject s r i (kinds.Fd base) =
+    AllByRecursion (λ e. is_some (fd_lines.entry_of r.clock e) ≡ true) (object_entries r i) × fd.IsLegal (clock_of s i) base s.limit (fd_history r i)
+
+-- a POSIX timer after its first so many entries
+abbrev pub posix_after : Script → RunRecord → ℕ → ℕ → ℕ → PosixTimer
+posix_after s r i base stamp = posix.state_after (clock_of s i) base s.limit (take stamp (posix_history r i))
+
+-- a descriptor after its first so many entries
+abbrev pub fd_after : Script → RunRecord → ℕ → ℕ → ℕ → Descriptor
+fd_after s r i base stamp = fd.state_after (clock_of s i) base s.limit (take stamp (fd_history r i))
+
+-- how an object has armed its timer: the generation, the clock and the expiry
+pub record ArmedAs : Type 0 where
+  pub generation : ℕ
+  pub clock : ClockId
+  pub expires : ℕ
+
+-- the same, where a POSIX timer's phase is that it is armed
+abbrev pub posix_armed : posix_phase.Phase → Option ArmedAs
+posix_armed posix_phases.Idle = None
+posix_armed (posix_phases.Armed generation clock expires) = Some (record { generation = generation; clock = clock; expires = expires })
+posix_armed (posix_phases.Due clock expires) = None
+
+-- where a descriptor's phase is that it is armed
+abbrev pub fd_armed : fd_phase.Phase → Option ArmedAs
+fd_armed fd_phases.Idle = None
+fd_armed (fd_phases.Armed generation clock expires) = Some (record { generation = generation; clock = clock; expires = expires })
+fd_armed (fd_phases.Expired clock expires) = None
+
+-- how an object of this kind has armed its timer after its first so many entries
+abbrev pub armed_after : Script → RunRecord → ℕ → ℕ → Kind → Option ArmedAs
+armed_after s r i stamp (kinds.Raw callback) = None
+armed_after s r i stamp (kinds.Posix base) = posix_armed (posix_after s r i base stamp).phase
+armed_after s r i stamp (kinds.Fd base) = fd_armed (fd_after s r i base stamp).phase

@@ -1,0 +1,192 @@
+ghost use Rattle.std.specs.Prelude.{◌≡◌, map};
+ghost use Rattle.script_text.specs.Forms.{is_built, part, place_at, row, suits};
+
+use crate::script::Kind;
+use ktime::{ClockId, Mode};
+use record_text::Items;
+
+/// A form of line: what a line's words are, and what it does. The forms are the rows of one table.
+#[derive(Clone, Copy, Debug, PartialEq, Eq)]
+pub enum Form {
+    Version,
+    Bases,
+    Lanes,
+    Limit,
+    RawOnce,
+    RawEvery,
+    RawCancels,
+    RawStarts,
+    Posix,
+    Fd,
+    Round,
+    Start,
+    Cancel,
+    Peek,
+    Expire,
+    Advance,
+    Set,
+    Suspend,
+    Settime,
+    Gettime,
+    Accept,
+    Overrun,
+    Read,
+    Readable,
+}
+
+/// What a place of a line is filled with: the name of a clock, a mode of starting, or a number that
+/// stands for something.
+#[derive(Clone, Copy, Debug, PartialEq, Eq)]
+pub enum Place {
+    Clock,
+    Mode,
+    Version,
+    Bases,
+    Lanes,
+    Limit,
+    /// The number of the timer that is declared.
+    NewTimer,
+    Lane,
+    Timer,
+    Base,
+    Budget,
+    /// A number without a limit of its own.
+    Free,
+}
+
+/// What a place of a line is filled with.
+#[derive(Clone, Copy, Debug, PartialEq, Eq)]
+pub enum Value {
+    Clock(ClockId),
+    Mode(Mode),
+    Number(u64),
+}
+
+/// The part of a script that a form of line belongs to.
+#[derive(Clone, Copy, Debug, PartialEq, Eq)]
+pub enum Part {
+    /// A header line, with so many of them before it.
+    Header(u64),
+    Declaration,
+    Round,
+    Call,
+}
+
+/// A line that is read: its form, and what its places are filled with, from left to right.
+#[derive(Drop)]
+pub struct Line {
+    pub form: Form,
+    pub values: Items<Value>,
+}
+
+// The words of a form's row: a key word, or a place.
+const KEY: Option<Place> = None;
+
+const CLOCK: Option<Place> = Some(Place::Clock);
+
+const MODE: Option<Place> = Some(Place::Mode);
+
+const VERSION: Option<Place> = Some(Place::Version);
+
+const BASES: Option<Place> = Some(Place::Bases);
+
+const LANES: Option<Place> = Some(Place::Lanes);
+
+const LIMIT: Option<Place> = Some(Place::Limit);
+
+const NEW_TIMER: Option<Place> = Some(Place::NewTimer);
+
+const LANE: Option<Place> = Some(Place::Lane);
+
+const TIMER: Option<Place> = Some(Place::Timer);
+
+const BASE: Option<Place> = Some(Place::Base);
+
+const BUDGET: Option<Place> = Some(Place::Budget);
+
+const FREE: Option<Place> = Some(Place::Free);
+
+impl Form {
+    /// The places of its words from left to right, `None` where a key word stands.
+    pub fn places(self) -> &'static [Option<Place>]
+        ensures { result.now ≡ map place_at (row self) }
+    {
+        match self {
+            Form::Version => &[KEY, VERSION],
+            Form::Bases => &[KEY, BASES],
+            Form::Lanes => &[KEY, LANES],
+            Form::Limit => &[KEY, LIMIT],
+            Form::RawOnce => &[KEY, NEW_TIMER, CLOCK, KEY],
+            Form::RawEvery => &[KEY, NEW_TIMER, CLOCK, KEY, FREE],
+            Form::RawCancels => &[KEY, NEW_TIMER, CLOCK, KEY],
+            Form::RawStarts => &[KEY, NEW_TIMER, CLOCK, KEY, FREE, BASE],
+            Form::Posix => &[KEY, NEW_TIMER, CLOCK, BASE],
+            Form::Fd => &[KEY, NEW_TIMER, CLOCK, BASE],
+            Form::Round => &[KEY],
+            Form::Start => &[LANE, KEY, TIMER, MODE, FREE, BASE],
+            Form::Cancel => &[LANE, KEY, TIMER],
+            Form::Peek => &[LANE, KEY, TIMER],
+            Form::Expire => &[LANE, KEY, BASE, BUDGET],
+            Form::Advance => &[LANE, KEY, FREE],
+            Form::Set => &[LANE, KEY, FREE],
+            Form::Suspend => &[LANE, KEY, FREE],
+            Form::Settime => &[LANE, KEY, TIMER, FREE, FREE, FREE, FREE, FREE],
+            Form::Gettime => &[LANE, KEY, TIMER],
+            Form::Accept => &[LANE, KEY, TIMER],
+            Form::Overrun => &[LANE, KEY, TIMER],
+            Form::Read => &[LANE, KEY, TIMER, FREE],
+            Form::Readable => &[LANE, KEY, TIMER],
+        }
+    }
+
+    /// The part of a script that lines of it stand in.
+    pub fn part(self) -> Part
+        ensures { result ≡ part self }
+    {
+        match self {
+            Form::Version => Part::Header(0),
+            Form::Bases => Part::Header(1),
+            Form::Lanes => Part::Header(2),
+            Form::Limit => Part::Header(3),
+            Form::RawOnce
+            | Form::RawEvery
+            | Form::RawCancels
+            | Form::RawStarts
+            | Form::Posix
+            | Form::Fd => Part::Declaration,
+            Form::Round => Part::Round,
+            _ => Part::Call,
+        }
+    }
+
+    /// Whether its call can be made on a timer of this kind.
+    pub fn suits(self, kind: Kind) -> bool
+        ensures { result ≡ suits self kind }
+    {
+        match self {
+            Form::Peek => true,
+            Form::Start | Form::Cancel => matches!(kind, Kind::Raw { .. }),
+            Form::Settime | Form::Gettime => matches!(kind, Kind::Posix { .. } | Kind::Fd { .. }),
+            Form::Accept | Form::Overrun => matches!(kind, Kind::Posix { .. }),
+            Form::Read | Form::Readable => matches!(kind, Kind::Fd { .. }),
+            _ => false,
+        }
+    }
+
+    /// Whether the program takes lines of it already.
+    pub fn is_built(self) -> bool
+        ensures { result ≡ is_built self }
+    {
+        !matches!(
+            self,
+            Form::Posix
+                | Form::Fd
+                | Form::Settime
+                | Form::Gettime
+                | Form::Accept
+                | Form::Overrun
+                | Form::Read
+                | Form::Readable
+        )
+    }
+}

@@ -1,0 +1,137 @@
+ghost use Rattle.std.specs.Prelude.{◌≡◌, ◌≤◌, OnOk, IfOk};
+ghost use Rattle.script_text.specs.Forms.{row};
+ghost use Rattle.script_text.specs.Scripts.{most_calls};
+ghost use Rattle.script_text.specs.Drafts.{AreShort, HasRoom, empty, script_of, with_call, with_header, with_line, with_round, with_timer};
+
+use crate::form::{Form, Line, Part, Value};
+use crate::reading::meaning::{call, declaration};
+use crate::script::{Declaration, LaneCall, Round, Script};
+use record_text::Items;
+use std::alloc::{AllocError, Global};
+
+/// What the lines so far have told: how many header lines there were and their numbers, the
+/// declared timers, the rounds that have ended and the calls of the one that has begun, and how
+/// many calls there were in all.
+#[derive(Drop)]
+pub struct Draft {
+    pub headers: u64,
+    pub bases: u32,
+    pub lanes: u32,
+    pub limit: u64,
+    pub timers: Items<Declaration>,
+    pub ended: Items<Round>,
+    pub begun: Option<Items<LaneCall>>,
+    pub calls: u64,
+}
+
+impl Draft {
+    /// Before the first line.
+    pub fn new(alloc: Global) -> Self
+        ensures { result ≡ empty }
+    {
+        Draft {
+            headers: 0,
+            bases: 0,
+            lanes: 0,
+            limit: 0,
+            timers: Items::new(alloc),
+            ended: Items::new(alloc),
+            begun: None,
+            calls: 0,
+        }
+    }
+
+    /// Adds what a line tells that was read and that nothing is said against.
+    #[tactic(auto, unfolding(crate::specs::Drafts::with_line, crate::specs::Drafts::with_part))]
+    pub fn add(&mut self, alloc: Global, line: &Line) -> Result<(), AllocError>
+        requires room { HasRoom self.old }
+        requires short { AreShort (row line.now.form) line.now.values }
+        ensures { OnOk result (self.new ≡ with_line self.old line.now) }
+    {
+        let form = line.form;
+        let values = line.values.as_slice();
+        match form.part() {
+            Part::Header(_) => self.add_header(form, values),
+            Part::Declaration => self.add_timer(declaration(form, values))?,
+            Part::Round => self.add_round(alloc)?,
+            Part::Call => self.add_call(call(form, values))?,
+        }
+        Ok(())
+    }
+
+    /// The script that the lines make.
+    #[tactic(auto, unfolding(crate::specs::Drafts::script_of))]
+    pub fn script(self) -> Result<Script, AllocError>
+        ensures { IfOk result (λ s. s ≡ script_of self) }
+    {
+        let Draft {
+            bases,
+            lanes,
+            limit,
+            timers,
+            ended: mut rounds,
+            begun,
+            ..
+        } = self;
+        if let Some(calls) = begun {
+            rounds.push(Round { calls })?;
+        }
+        Ok(Script {
+            bases,
+            lanes,
+            limit,
+            timers,
+            rounds,
+        })
+    }
+
+    #[tactic(auto, unfolding(crate::specs::Drafts::with_header))]
+    fn add_header(&mut self, form: Form, values: &[Value])
+        requires few { self.old.headers ≤ 4 }
+        requires short { AreShort (row form) values.now }
+        ensures { self.new ≡ with_header self.old form values.now }
+    {
+        match (form, values) {
+            (Form::Bases, [Value::Number(n)]) => self.bases = *n as u32,
+            (Form::Lanes, [Value::Number(n)]) => self.lanes = *n as u32,
+            (Form::Limit, [Value::Number(n)]) => self.limit = *n,
+            _ => {}
+        }
+        self.headers += 1;
+    }
+
+    #[tactic(auto, unfolding(crate::specs::Drafts::with_timer))]
+    fn add_timer(&mut self, declared: Option<Declaration>) -> Result<(), AllocError>
+        ensures { OnOk result (self.new ≡ with_timer self.old declared) }
+    {
+        if let Some(declared) = declared {
+            self.timers.push(declared)?;
+        }
+        Ok(())
+    }
+
+    #[tactic(auto, unfolding(crate::specs::Drafts::with_round))]
+    fn add_round(&mut self, alloc: Global) -> Result<(), AllocError>
+        ensures { OnOk result (self.new ≡ with_round self.old) }
+    {
+        if let Some(calls) = self.begun.replace(Items::new(alloc)) {
+            self.ended.push(Round { calls })?;
+        }
+        Ok(())
+    }
+
+    #[tactic(auto, unfolding(crate::specs::Drafts::with_call))]
+    fn add_call(&mut self, call: Option<LaneCall>) -> Result<(), AllocError>
+        requires { self.old.calls ≤ most_calls }
+        ensures { OnOk result (self.new ≡ with_call self.old call) }
+    {
+        let Some(call) = call else {
+            return Ok(());
+        };
+        if let Some(calls) = &mut self.begun {
+            calls.push(call)?;
+        }
+        self.calls += 1;
+        Ok(())
+    }
+}

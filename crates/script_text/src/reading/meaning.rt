@@ -1,0 +1,179 @@
+ghost use Rattle.std.specs.Prelude.{◌≡◌};
+ghost use Rattle.script_text.specs.Forms.{row};
+ghost use Rattle.script_text.specs.declared.form.Form.TheVariants as forms;
+ghost use Rattle.script_text.specs.declared.script.Kind.TheVariants as kinds;
+ghost use Rattle.script_text.specs.declared.script.Call.TheVariants as calls;
+ghost use Rattle.script_text.specs.Drafts.{AreShort, call_of, declaration_of, object_call_of, plain_call_of};
+
+use crate::form::Form;
+use crate::form::Value::{self, Clock, Mode, Number};
+use crate::script::{Call, Callback, Declaration, Kind, LaneCall};
+use clock_model::Write;
+use ktime::TimeSpec;
+
+/// What a declaration declares, by its form and values.
+#[tactic(auto, unfolding(crate::specs::Drafts::declaration_of))]
+pub fn declaration(form: Form, values: &[Value]) -> Option<Declaration>
+    requires { AreShort (row form) values.now }
+    ensures { result ≡ declaration_of form values.now }
+{
+    let (clock, kind) = match (form, values) {
+        (Form::RawOnce, [Number(_), Clock(clock)]) => (clock, raw(Callback::Once)),
+        (Form::RawEvery, [Number(_), Clock(clock), Number(interval)]) => {
+            let interval = *interval;
+            (clock, raw(Callback::Every { interval }))
+        }
+        (Form::RawCancels, [Number(_), Clock(clock)]) => (clock, raw(Callback::Cancels)),
+        (Form::RawStarts, [Number(_), Clock(clock), Number(ns), Number(base)]) => {
+            let (ns, base) = (*ns, *base as u32);
+            (clock, raw(Callback::Starts { ns, base }))
+        }
+        (Form::Posix, [Number(_), Clock(clock), Number(base)]) => {
+            let base = *base as u32;
+            (clock, Kind::Posix { base })
+        }
+        (Form::Fd, [Number(_), Clock(clock), Number(base)]) => {
+            let base = *base as u32;
+            (clock, Kind::Fd { base })
+        }
+        _ => return None,
+    };
+    let clock = *clock;
+    Some(Declaration { clock, kind })
+}
+
+fn raw(callback: Callback) -> Kind
+    ensures { result ≡ kinds.Raw callback }
+{
+    Kind::Raw { callback }
+}
+
+/// The call that a line asks for, and its lane, by its form and values.
+#[tactic(auto, unfolding(crate::specs::Drafts::call_of))]
+pub fn call(form: Form, values: &[Value]) -> Option<LaneCall>
+    requires { AreShort (row form) values.now }
+    ensures { result ≡ call_of form values.now }
+{
+    plain_call(form, values).or(object_call(form, values))
+}
+
+/// The call of a raw timer, of a base or of the clock that a line asks for.
+#[tactic(auto, unfolding(crate::specs::Drafts::plain_call_of))]
+fn plain_call(form: Form, values: &[Value]) -> Option<LaneCall>
+    requires { AreShort (row form) values.now }
+    ensures { result ≡ plain_call_of form values.now }
+{
+    let (lane, call) = match (form, values) {
+        (
+            Form::Start,
+            [
+                Number(lane),
+                Number(timer),
+                Mode(mode),
+                Number(ns),
+                Number(base),
+            ],
+        ) => {
+            let (timer, mode, ns, base) = (*timer as u32, *mode, *ns, *base as u32);
+            let call = Call::Start {
+                timer,
+                mode,
+                ns,
+                base,
+            };
+            (lane, call)
+        }
+        (Form::Cancel, [Number(lane), Number(timer)]) => {
+            let timer = *timer as u32;
+            (lane, Call::Cancel { timer })
+        }
+        (Form::Peek, [Number(lane), Number(timer)]) => {
+            let timer = *timer as u32;
+            (lane, Call::Peek { timer })
+        }
+        (Form::Expire, [Number(lane), Number(base), Number(budget)]) => {
+            let (base, budget) = (*base as u32, *budget);
+            (lane, Call::Expire { base, budget })
+        }
+        (Form::Advance, [Number(lane), Number(by)]) => (lane, write(Write::Advance { by: *by })),
+        (Form::Set, [Number(lane), Number(to)]) => (lane, write(Write::Set { to: *to })),
+        (Form::Suspend, [Number(lane), Number(by)]) => (lane, write(Write::Suspend { by: *by })),
+        _ => return None,
+    };
+    let lane = *lane as u32;
+    Some(LaneCall { lane, call })
+}
+
+fn write(write: Write) -> Call
+    ensures { result ≡ calls.Clock write }
+{
+    Call::Clock { write }
+}
+
+/// The call of an object that a line asks for.
+#[tactic(auto, unfolding(crate::specs::Drafts::object_call_of))]
+fn object_call(form: Form, values: &[Value]) -> Option<LaneCall>
+    requires { AreShort (row form) values.now }
+    ensures { result ≡ object_call_of form values.now }
+{
+    let (lane, call) = match (form, values) {
+        (Form::Settime, values) => return settime(values),
+        (Form::Gettime, [Number(lane), Number(timer)]) => {
+            let timer = *timer as u32;
+            (lane, Call::Gettime { timer })
+        }
+        (Form::Accept, [Number(lane), Number(timer)]) => {
+            let timer = *timer as u32;
+            (lane, Call::Accept { timer })
+        }
+        (Form::Overrun, [Number(lane), Number(timer)]) => {
+            let timer = *timer as u32;
+            (lane, Call::Overrun { timer })
+        }
+        (Form::Read, [Number(lane), Number(timer), Number(len)]) => {
+            let (timer, len) = (*timer as u32, *len);
+            (lane, Call::Read { timer, len })
+        }
+        (Form::Readable, [Number(lane), Number(timer)]) => {
+            let timer = *timer as u32;
+            (lane, Call::Readable { timer })
+        }
+        _ => return None,
+    };
+    let lane = *lane as u32;
+    Some(LaneCall { lane, call })
+}
+
+/// The settime that a line of these values asks for.
+#[tactic(auto, unfolding(crate::specs::Drafts::object_call_of))]
+fn settime(values: &[Value]) -> Option<LaneCall>
+    requires { AreShort (row forms.Settime) values.now }
+    ensures { result ≡ object_call_of forms.Settime values.now }
+{
+    let [
+        Number(lane),
+        Number(timer),
+        Number(flags),
+        Number(sec),
+        Number(nsec),
+        Number(period_sec),
+        Number(period_nsec),
+    ] = values
+    else {
+        return None;
+    };
+    let call = Call::Settime {
+        timer: *timer as u32,
+        flags: *flags,
+        value: TimeSpec {
+            sec: *sec,
+            nsec: *nsec,
+        },
+        interval: TimeSpec {
+            sec: *period_sec,
+            nsec: *period_nsec,
+        },
+    };
+    let lane = *lane as u32;
+    Some(LaneCall { lane, call })
+}

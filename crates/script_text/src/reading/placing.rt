@@ -1,0 +1,149 @@
+ghost use Rattle.std.specs.Prelude.{◌≡◌};
+ghost use Rattle.script_text.specs.Forms.{row};
+ghost use Rattle.script_text.specs.Refusals.{against, against_count, against_kind, against_number, against_value, against_values, is_placed, kind_of};
+
+use crate::form::{Form, Line, Part, Place, Value};
+use crate::reading::drafts::Draft;
+use crate::refusal::Cause;
+use crate::script::{Callback, Kind};
+
+/// How many timers may be declared.
+const MOST_TIMERS: usize = 256;
+
+/// How many call lines a script may have.
+const MOST_CALLS: u64 = 65536;
+
+/// How many bases a script may have.
+const MOST_BASES: u64 = 8;
+
+/// How many lanes a script may have, until lanes run on threads.
+const MOST_LANES: u64 = 1;
+
+/// The greatest limit on a timer's entries.
+const MOST_EVENTS: u64 = (1 << 40) - 4;
+
+/// How many timers one expire may claim.
+const MOST_BUDGET: u64 = 4096;
+
+/// What is said first against a line that was read by itself.
+#[tactic(auto, unfolding(crate::specs::Refusals::against))]
+pub fn against(draft: &Draft, line: &Line) -> Option<Cause>
+    ensures { result ≡ against draft.now line.now }
+{
+    let part = line.form.part();
+    let values = line.values.as_slice();
+    if !is_placed(draft, part) {
+        return Some(Cause::BadPlace);
+    }
+    if let Some(cause) = against_count(draft, part) {
+        return Some(cause);
+    }
+    if let Some(cause) = against_values(draft, line.form, values) {
+        return Some(cause);
+    }
+    against_kind(draft, line.form, values)
+}
+
+/// A line of this part may stand here.
+#[tactic(auto, unfolding(crate::specs::Refusals::is_placed))]
+fn is_placed(draft: &Draft, part: Part) -> bool
+    ensures { result ≡ is_placed draft.now part }
+{
+    match part {
+        Part::Header(n) => draft.headers == n,
+        Part::Declaration => draft.headers == 4 && draft.begun.is_none(),
+        Part::Round => draft.headers == 4,
+        Part::Call => draft.begun.is_some(),
+    }
+}
+
+/// What is said against one more line of this part.
+#[tactic(auto, unfolding(crate::specs::Refusals::against_count))]
+fn against_count(draft: &Draft, part: Part) -> Option<Cause>
+    ensures { result ≡ against_count draft.now part }
+{
+    match part {
+        Part::Declaration if draft.timers.as_slice().len() >= MOST_TIMERS => {
+            Some(Cause::TimerLimit)
+        }
+        Part::Call if draft.calls >= MOST_CALLS => Some(Cause::CallLimit),
+        _ => None,
+    }
+}
+
+/// What is said against a number in its place.
+#[tactic(auto, unfolding(crate::specs::Refusals::against_number))]
+fn against_number(draft: &Draft, place: Place, n: u64) -> Option<Cause>
+    ensures { result ≡ against_number draft.now place n }
+{
+    let timers = draft.timers.as_slice().len() as u64;
+    match place {
+        Place::Version if n != 1 => Some(Cause::Version),
+        Place::Bases if n < 1 || n > MOST_BASES => Some(Cause::BaseLimit),
+        Place::Base if n >= u64::from(draft.bases) => Some(Cause::BaseLimit),
+        Place::Lanes if n < 1 || n > MOST_LANES => Some(Cause::LaneLimit),
+        Place::Lane if n >= u64::from(draft.lanes) => Some(Cause::LaneLimit),
+        Place::Limit if n < 1 || n > MOST_EVENTS => Some(Cause::EventLimit),
+        Place::NewTimer if n != timers => Some(Cause::BadId),
+        Place::Timer if n >= timers => Some(Cause::NoTimer),
+        Place::Budget if n > MOST_BUDGET => Some(Cause::BudgetLimit),
+        _ => None,
+    }
+}
+
+/// What is said against what fills a place.
+fn against_value(draft: &Draft, place: Place, value: Value) -> Option<Cause>
+    ensures { result ≡ against_value draft.now place value }
+{
+    match value {
+        Value::Number(n) => against_number(draft, place, n),
+        _ => None,
+    }
+}
+
+/// What is said first against what fills the places of a form.
+fn against_values(draft: &Draft, form: Form, values: &[Value]) -> Option<Cause>
+    ensures { result ≡ against_values draft.now (row form) values.now }
+{
+    let mut rest = values;
+    for place in form.places() {
+        let Some(place) = place else {
+            continue;
+        };
+        let Some((value, more)) = rest.split_first() else {
+            return None;
+        };
+        if let Some(cause) = against_value(draft, *place, *value) {
+            return Some(cause);
+        }
+        rest = more;
+    }
+    None
+}
+
+/// The kind of the timer of a number.
+fn kind_of(draft: &Draft, timer: u64) -> Kind
+    ensures { result ≡ kind_of draft.now timer }
+{
+    match draft.timers.as_slice().get(timer as usize) {
+        Some(declared) => declared.kind,
+        None => Kind::Raw {
+            callback: Callback::Once,
+        },
+    }
+}
+
+/// What is said against a call on a timer whose kind it doesn't suit.
+#[tactic(auto, unfolding(crate::specs::Refusals::against_kind))]
+fn against_kind(draft: &Draft, form: Form, values: &[Value]) -> Option<Cause>
+    ensures { result ≡ against_kind draft.now form (row form) values.now }
+{
+    let ([_, None, Some(Place::Timer), ..], [_, Value::Number(timer), ..]) = (form.places(), values)
+    else {
+        return None;
+    };
+    if form.suits(kind_of(draft, *timer)) {
+        return None;
+    }
+    Some(Cause::WrongKind)
+}
