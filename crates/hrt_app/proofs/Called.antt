@@ -154,3 +154,9 @@ pub record TurnMade (s : Script) (number : ℕ) (p : Progress) (call : Call) (an
   pub run : IsRun s (number + 1) (number + 1) next
   pub back : (end : RunRecord) → Extends (number + 1) next.told end → Extends number p.told end
   pub fits : (end : RunRecord) → Extends (number + 1) next.told end → FitsCall s end (on number) call answer (seen_of p.told) (seen_of next.told)
+
+-- a turn that changes nothing
+pub quiet : (s : Script) (number : ℕ) (p next : Progress) (call : Call) (answer : Answer) → IsRun s number number p → next ≡ p
+    → ((end : RunRecord) → Extends (number + 1) p.told end → FitsCall s end (on number) call answer (seen_of p.told) (seen_of p.told)) → TurnMade s number p call answer next
+quiet s number p next call answer run same fits =
+    subst (λ (q : Progress). TurnMade s number p call answer q) (sym same) (record { run = finish s number p (begin s number p run); back = within number p.told; fits = fits })

@@ -1,28 +1,24 @@
 -- Lemmas on the scripts that the program accepts.
-use Rattle.std.proofs.Common.{arith, refl, ap, ◌≡◌, ◌≤◌, ◌<◌, ℕ, List, [], ◌∷◌, length, map, get_or, true, false, sym, ◌∙◌, zero, suc}
+use Rattle.std.proofs.Common.{arith, refl, ◌≡◌, ◌≤◌, ◌<◌, ℕ, List, [], ◌∷◌, length, map}
 use Rattle.std.proofs.lemmas.List.{length-append, length-map}
 use Rattle.std.specs.List.{AllByRecursion}
 use Rattle.ktime.specs.declared.mode.Mode.TheVariants as modes
 use Rattle.script_text.specs.declared.script.Call.{Call}
 use Rattle.script_text.specs.declared.script.Call.TheVariants as calls
-use Rattle.script_text.specs.declared.script.Callback.{Callback}
-use Rattle.script_text.specs.declared.script.Callback.TheVariants as callbacks
 use Rattle.script_text.specs.declared.script.Declaration.{Declaration}
 use Rattle.script_text.specs.declared.script.LaneCall.{LaneCall}
 use Rattle.script_text.specs.declared.script.Round.{Round}
 use Rattle.script_text.specs.declared.script.Script.{Script}
 use Rattle.script_text.specs.declared.script.Kind.{Kind}
 use Rattle.script_text.specs.declared.script.Kind.TheVariants as kinds
-use Rattle.script_text.specs.declared.form.Form.{Form}
-use Rattle.script_text.specs.declared.form.Form.TheVariants as forms
-use Rattle.script_text.specs.Forms.{suits}
-use Rattle.script_text.specs.Scripts.{IsCallInRange, IsKindInRange, Reads, Suits, all_calls}
+use Rattle.script_text.specs.Objects.{kind_of}
+use Rattle.script_text.specs.Scripts.{IsCallInRange, IsKindInRange, Reads, all_calls}
 use Rattle.ktime.specs.declared.clock_id.ClockId.{ClockId}
 use Rattle.hrt_app.specs.Objects.{IsObjectInRange, object_in, opened_object}
 use Rattle.hrt_app.specs.Engine.{IsRecordText, IsScript}
 use Rattle.hrt_app.specs.Runs.{IsRunnable}
 use Rattle.hrt_app.specs.Transfer.{most_bytes}
-use Rattle.hrt_app.specs.Turns.{NamesBase, NamesTimer, calls_in}
+use Rattle.hrt_app.specs.Turns.{NamesBase, NamesTimer, Suits, calls_in}
 use Rattle.hrt_app.proofs.Lists.{All-left, All-map, All-right}
 
 -- a script is never longer than what is read of a source
@@ -45,49 +41,38 @@ same_count [] = refl
 same_count (r ∷ rs) =
     omega (arith, length-append (map (λ (c : LaneCall). c.call) r.calls) (calls_in rs), length-map r.calls (λ (c : LaneCall). c.call), length-append r.calls (all_calls rs), same_count rs)
 
-is_raw : (bases : ℕ) (kind : Kind) → IsKindInRange bases kind → (callback : Callback) × (kind ≡ kinds.Raw callback)
-is_raw bases (kinds.Raw callback) range = (callback, refl)
-is_raw bases (kinds.Posix base) range = absurd range
-is_raw bases (kinds.Fd base) range = absurd range
-
--- each timer is raw
-raw_at : (bases : ℕ) (ds : List Declaration) (timer : ℕ) → AllByRecursion (λ (d : Declaration). IsKindInRange bases d.kind) ds
-    → (callback : Callback) × (get_or (map (λ (d : Declaration). d.kind) ds) timer (kinds.Raw callbacks.Once) ≡ kinds.Raw callback)
-raw_at bases [] timer range = (callbacks.Once, refl)
-raw_at bases (d ∷ ds) zero range = is_raw bases d.kind range.0
-raw_at bases (d ∷ ds) (suc timer) range = raw_at bases ds timer range.1
-
 object_kept : (bases limit : ℕ) (clock : ClockId) (kind : Kind) → IsKindInRange bases kind → IsObjectInRange bases (opened_object limit clock kind)
 object_kept bases limit clock (kinds.Raw callback) range = range
-object_kept bases limit clock (kinds.Posix base) range = absurd range
-object_kept bases limit clock (kinds.Fd base) range = absurd range
+object_kept bases limit clock (kinds.Posix base) range = range
+object_kept bases limit clock (kinds.Fd base) range = range
 
 -- what timers are declared with names bases that there are
 pub objects_in_range : (bases limit : ℕ) (ds : List Declaration) → AllByRecursion (λ (d : Declaration). IsKindInRange bases d.kind) ds → AllByRecursion (IsObjectInRange bases) (map (object_in limit) ds)
 objects_in_range bases limit [] range = tt
 objects_in_range bases limit (d ∷ ds) range = (object_kept bases limit d.clock d.kind range.0, objects_in_range bases limit ds range.1)
 
--- a call that doesn't suit raw timers isn't in range
-never_suits : (bases : ℕ) (ds : List Declaration) (timer : ℕ) (form : Form) → AllByRecursion (λ (d : Declaration). IsKindInRange bases d.kind) ds → ((callback : Callback) → suits form (kinds.Raw callback) ≡ false) → Suits ds timer form → ⊥
-never_suits bases ds timer form range not_raw suit =
-    let raw = raw_at bases ds timer range in
-    let is : true ≡ false = sym suit.1 ∙ ap (suits form) raw.1 ∙ not_raw raw.0 in
-    absurd cc
+names_timer : (bases : ℕ) (ds : List Declaration) (c : Call) → IsCallInRange bases ds c → NamesTimer (length ds) c
+names_timer bases ds (calls.Start timer modes.Abs ns base) range = range.0.0
+names_timer bases ds (calls.Start timer modes.Rel ns base) range = range.0.0
+names_timer bases ds (calls.Start timer modes.Keep ns base) range = absurd range
+names_timer bases ds (calls.Cancel timer) range = range.0
+names_timer bases ds (calls.Peek timer) range = range.0
+names_timer bases ds (calls.Expire base budget) range = tt
+names_timer bases ds (calls.Clock write) range = tt
+names_timer bases ds (calls.Settime timer flags value interval) range = range.0
+names_timer bases ds (calls.Gettime timer) range = range.0
+names_timer bases ds (calls.Accept timer) range = range.0
+names_timer bases ds (calls.Overrun timer) range = range.0
+names_timer bases ds (calls.Read timer len) range = range.0
+names_timer bases ds (calls.Readable timer) range = range.0
 
-names_timer : (bases : ℕ) (ds : List Declaration) (c : Call) → AllByRecursion (λ (d : Declaration). IsKindInRange bases d.kind) ds → IsCallInRange bases ds c → NamesTimer (length ds) c
-names_timer bases ds (calls.Start timer modes.Abs ns base) kinds range = range.0.0
-names_timer bases ds (calls.Start timer modes.Rel ns base) kinds range = range.0.0
-names_timer bases ds (calls.Start timer modes.Keep ns base) kinds range = absurd range
-names_timer bases ds (calls.Cancel timer) kinds range = range.0
-names_timer bases ds (calls.Peek timer) kinds range = range.0
-names_timer bases ds (calls.Expire base budget) kinds range = tt
-names_timer bases ds (calls.Clock write) kinds range = tt
-names_timer bases ds (calls.Settime timer flags value interval) kinds range = absurd (never_suits bases ds timer forms.Settime kinds (λ c. refl) range)
-names_timer bases ds (calls.Gettime timer) kinds range = absurd (never_suits bases ds timer forms.Gettime kinds (λ c. refl) range)
-names_timer bases ds (calls.Accept timer) kinds range = absurd (never_suits bases ds timer forms.Accept kinds (λ c. refl) range)
-names_timer bases ds (calls.Overrun timer) kinds range = absurd (never_suits bases ds timer forms.Overrun kinds (λ c. refl) range)
-names_timer bases ds (calls.Read timer len) kinds range = absurd (never_suits bases ds timer forms.Read kinds (λ c. refl) range)
-names_timer bases ds (calls.Readable timer) kinds range = absurd (never_suits bases ds timer forms.Readable kinds (λ c. refl) range)
+suits_kind : (s : Script) (c : Call) → IsCallInRange s.bases s.timers c → Suits (kind_of s) c
+suits_kind s (calls.Gettime timer) range = range.1
+suits_kind s (calls.Accept timer) range = range.1
+suits_kind s (calls.Overrun timer) range = range.1
+suits_kind s (calls.Read timer len) range = range.1
+suits_kind s (calls.Readable timer) range = range.1
+suits_kind s c range = tt
 
 names_base : (bases : ℕ) (ds : List Declaration) (c : Call) → IsCallInRange bases ds c → NamesBase bases c
 names_base bases ds (calls.Start timer modes.Abs ns base) range = range.1
@@ -105,7 +90,9 @@ runnable bytes s reads = record {
         (All-map (λ (c : LaneCall). c.lane < s.lanes) (λ (c : LaneCall). c.lane ≡ 0) (all_calls s.rounds) (λ c below. omega (arith, below, reads.ranges.lanes.1)) reads.ranges.callers);
     kinds = reads.ranges.kinds;
     named = by_round (λ (c : LaneCall). NamesTimer (length s.timers) c.call) s.rounds
-        (All-map (λ (c : LaneCall). IsCallInRange s.bases s.timers c.call) (λ (c : LaneCall). NamesTimer (length s.timers) c.call) (all_calls s.rounds) (λ c range. names_timer s.bases s.timers c.call reads.ranges.kinds range) reads.ranges.calls);
+        (All-map (λ (c : LaneCall). IsCallInRange s.bases s.timers c.call) (λ (c : LaneCall). NamesTimer (length s.timers) c.call) (all_calls s.rounds) (λ c range. names_timer s.bases s.timers c.call range) reads.ranges.calls);
+    suited = by_round (λ (c : LaneCall). Suits (kind_of s) c.call) s.rounds
+        (All-map (λ (c : LaneCall). IsCallInRange s.bases s.timers c.call) (λ (c : LaneCall). Suits (kind_of s) c.call) (all_calls s.rounds) (λ c range. suits_kind s c.call range) reads.ranges.calls);
     based = by_round (λ (c : LaneCall). NamesBase s.bases c.call) s.rounds
         (All-map (λ (c : LaneCall). IsCallInRange s.bases s.timers c.call) (λ (c : LaneCall). NamesBase s.bases c.call) (all_calls s.rounds) (λ c range. names_base s.bases s.timers c.call range) reads.ranges.calls);
   };

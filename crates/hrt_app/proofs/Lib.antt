@@ -19,10 +19,15 @@ pub mod Triggers
 pub mod Passes
 pub mod Phases
 pub mod Still
+pub mod SameKinds
 pub mod Settimes
 pub mod SettimeCalls
+pub mod RenewalCalls
 pub mod ObjectCalled
+pub mod ObjectSeen
 pub mod SettimeMade
+pub mod RenewalMade
+pub mod ObjectTold
 pub mod Turned
 pub mod Whole
 pub mod Options

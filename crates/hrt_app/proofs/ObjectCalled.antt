@@ -17,7 +17,7 @@ use Rattle.script_text.specs.Calls.{Does, IsSeen, IsTrueEntry}
 use Rattle.script_text.specs.Dids.{Did, Made, Tells, also, numbers_of_object, wrote}
 use Rattle.script_text.specs.Fits.{object_steps_on, steps_on}
 use Rattle.script_text.specs.Histories.{clock_of, lines_of}
-use Rattle.script_text.specs.Objects.{armed_after, fd_armed, posix_armed, kind_of, object_entries, object_lines, present}
+use Rattle.script_text.specs.Objects.{armed_after, fd_after, fd_armed, posix_after, posix_armed, kind_of, object_entries, object_lines, present}
 use Rattle.script_text.specs.PosixHistories as posix_lines
 use Rattle.script_text.specs.FdHistories as fd_lines
 use Rattle.script_text.specs.Order.{NeverFall}
@@ -53,28 +53,33 @@ taken_present f es rest all is some =
     ∙ ap (take (length es)) (present_append (map f es) (map f rest))
     ∙ subst (λ n. take n (present (map f es) ++ present (map f rest)) ≡ present (map f es)) (length_present f es some) (take-append_seam (present (map f es)) (present (map f rest)))
 
--- how an object has armed its timer after the entries so far
-pub armed_is : (s : Script) (from below i : ℕ) (now end : RunRecord) (o : Object) → IsObjectRun s from below i now.clock (object_lines now i) o → Extends from now end
-    → armed_after s end i (length (object_lines now i)) (kind_of s i) ≡ object_armed o
-armed_is s from below i now end (Raw callback) run e = ap (armed_after s end i (length (object_lines now i))) run.made
-armed_is s from below i now end (Posix t) run e =
+-- an object's state after the entries so far
+pub posix_is : (s : Script) (from below i : ℕ) (now end : RunRecord) (t : PosixTimer) → IsObjectRun s from below i now.clock (object_lines now i) (Posix t) → Extends from now end → posix_after s end i t.base (length (object_lines now i)) ≡ t
+posix_is s from below i now end t run e =
     let led = run.led end.clock e.clock in
     let more = grown_entries from (object_lines now i) (object_lines end i) (e.objects i) in
     let es = map (λ (l : ObjectLine). l.entry) (object_lines now i) in
     let f = posix_lines.entry_of end.clock in
-    ap (armed_after s end i (length (object_lines now i))) run.made.0
-    ∙ ap (λ n. posix_armed (posix.state_after (clock_of s i) t.base s.limit (take n (present (map f (object_entries end i))))).phase) (sym (length-map (object_lines now i) (λ (l : ObjectLine). l.entry)))
-    ∙ ap (λ xs. posix_armed (posix.state_after (clock_of s i) t.base s.limit xs).phase) (taken_present f es more.rest (object_entries end i) more.more led.all)
-    ∙ ap (λ (x : PosixTimer). posix_armed x.phase) led.state
-armed_is s from below i now end (Fd t) run e =
+    ap (λ n. posix.state_after (clock_of s i) t.base s.limit (take n (present (map f (object_entries end i))))) (sym (length-map (object_lines now i) (λ (l : ObjectLine). l.entry)))
+    ∙ ap (λ xs. posix.state_after (clock_of s i) t.base s.limit xs) (taken_present f es more.rest (object_entries end i) more.more led.all)
+    ∙ led.state
+
+pub fd_is : (s : Script) (from below i : ℕ) (now end : RunRecord) (t : Descriptor) → IsObjectRun s from below i now.clock (object_lines now i) (Fd t) → Extends from now end → fd_after s end i t.base (length (object_lines now i)) ≡ t
+fd_is s from below i now end t run e =
     let led = run.led end.clock e.clock in
     let more = grown_entries from (object_lines now i) (object_lines end i) (e.objects i) in
     let es = map (λ (l : ObjectLine). l.entry) (object_lines now i) in
     let f = fd_lines.entry_of end.clock in
-    ap (armed_after s end i (length (object_lines now i))) run.made.0
-    ∙ ap (λ n. fd_armed (fd.state_after (clock_of s i) t.base s.limit (take n (present (map f (object_entries end i))))).phase) (sym (length-map (object_lines now i) (λ (l : ObjectLine). l.entry)))
-    ∙ ap (λ xs. fd_armed (fd.state_after (clock_of s i) t.base s.limit xs).phase) (taken_present f es more.rest (object_entries end i) more.more led.all)
-    ∙ ap (λ (x : Descriptor). fd_armed x.phase) led.state
+    ap (λ n. fd.state_after (clock_of s i) t.base s.limit (take n (present (map f (object_entries end i))))) (sym (length-map (object_lines now i) (λ (l : ObjectLine). l.entry)))
+    ∙ ap (λ xs. fd.state_after (clock_of s i) t.base s.limit xs) (taken_present f es more.rest (object_entries end i) more.more led.all)
+    ∙ led.state
+
+-- how an object has armed its timer after the entries so far
+pub armed_is : (s : Script) (from below i : ℕ) (now end : RunRecord) (o : Object) → IsObjectRun s from below i now.clock (object_lines now i) o → Extends from now end
+    → armed_after s end i (length (object_lines now i)) (kind_of s i) ≡ object_armed o
+armed_is s from below i now end (Raw callback) run e = ap (armed_after s end i (length (object_lines now i))) run.made
+armed_is s from below i now end (Posix t) run e = ap (armed_after s end i (length (object_lines now i))) run.made.0 ∙ ap (λ (x : PosixTimer). posix_armed x.phase) (posix_is s from below i now end t run e)
+armed_is s from below i now end (Fd t) run e = ap (armed_after s end i (length (object_lines now i))) run.made.0 ∙ ap (λ (x : Descriptor). fd_armed x.phase) (fd_is s from below i now end t run e)
 
 -- a call that makes an entry of an object, after what it did to the object's timer
 pub object_turn : (s : Script) (number t : ℕ) (p q : Progress) (ds : List Did) (x : ObjectStep) (call : Call) (answer : Answer) → IsRun s number number p → Phase s number p q ds → IsObjectStep s q number t x

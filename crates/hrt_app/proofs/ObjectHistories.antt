@@ -63,7 +63,7 @@ ShowsCall clock (Posix t) (OfPosix call) e = posix_lines.entry_of clock e ≡ So
 ShowsCall clock (Fd t) (OfFd call) e = fd_lines.entry_of clock e ≡ Some (record { call = call; reply = fd_steps.reply_to t call })
 ShowsCall clock o call e = ⊥
 
-either : {A : Type 0} (P : A → Type 0) (b : Bool) (x y : A) → P x → P y → P (if b then x else y)
+pub either : {A : Type 0} (P : A → Type 0) (b : Bool) (x y : A) → P x → P y → P (if b then x else y)
 either P true x y one two = one
 either P false x y one two = two
 

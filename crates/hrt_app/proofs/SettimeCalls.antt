@@ -47,7 +47,7 @@ something : true ≡ false → ⊥
 something e = absurd cc
 
 -- an object is told of no start exactly where it wanted none
-posix_told : (p next : Progress) (t refused : ℕ) (w : Option posix_wanted.Wanted) (arm : Armed) → IsArmed p next t (option_map (λ x. (x.mode, x.ns)) w) arm refused → posix.IsToldOf (posix_lines.arm_of arm refused) w
+pub posix_told : (p next : Progress) (t refused : ℕ) (w : Option posix_wanted.Wanted) (arm : Armed) → IsArmed p next t (option_map (λ x. (x.mode, x.ns)) w) arm refused → posix.IsToldOf (posix_lines.arm_of arm refused) w
 posix_told p next t refused None arm armed = (λ e. refl, λ none. ap (λ a. posix_lines.arm_of a refused) armed)
 posix_told p next t refused (Some x) armings.None armed = absurd armed
 posix_told p next t refused (Some x) (armings.Generation generation) armed = (λ e. absurd (never e), λ none. absurd (something none))
@@ -59,7 +59,7 @@ posix_told p next t refused (Some x) armings.Unarmed armed = (λ e. absurd (neve
     never : posix_arms.Unarmed refused ≡ posix_arms.NotAsked → ⊥
     never e = absurd cc
 
-fd_told : (p next : Progress) (t refused : ℕ) (w : Option fd_wanted.Wanted) (arm : Armed) → IsArmed p next t (option_map (λ x. (x.mode, x.ns)) w) arm refused → fd.IsToldOf (fd_lines.arm_of arm refused) w
+pub fd_told : (p next : Progress) (t refused : ℕ) (w : Option fd_wanted.Wanted) (arm : Armed) → IsArmed p next t (option_map (λ x. (x.mode, x.ns)) w) arm refused → fd.IsToldOf (fd_lines.arm_of arm refused) w
 fd_told p next t refused None arm armed = (λ e. refl, λ none. ap (λ a. fd_lines.arm_of a refused) armed)
 fd_told p next t refused (Some x) armings.None armed = absurd armed
 fd_told p next t refused (Some x) (armings.Generation generation) armed = (λ e. absurd (never e), λ none. absurd (something none))

@@ -1,5 +1,5 @@
 -- A settime of an object on one lane fits, whatever the run still adds.
-use Rattle.std.proofs.Common.{arith, refl, sym, ap, ◌∙◌, subst, ◌≡◌, ◌≤◌, ◌<◌, ℕ, ◌+◌, Bool, true, false, nat_eq, get_or, if◌then◌else◌, Option, Some, None, List, [], ◌∷◌, ◌++◌, length, take}
+use Rattle.std.proofs.Common.{arith, refl, sym, ap, ◌∙◌, subst, ◌≡◌, ◌≤◌, ◌<◌, ℕ, ◌+◌, true, false, nat_eq, get_or, if◌then◌else◌, Option, Some, None, List, [], ◌∷◌, ◌++◌, length, take}
 use Rattle.std.proofs.Math.Logic.{⊎_elim}
 use Rattle.std.proofs.lemmas.Bool.{cases_eq}
 use Rattle.std.proofs.lemmas.List.{append_assoc, get_or-set_same, length-append}
@@ -27,7 +27,7 @@ use Rattle.script_text.specs.declared.script.Call.TheVariants as calls
 use Rattle.script_text.specs.declared.script.Callback.TheVariants as callbacks
 use Rattle.script_text.specs.declared.script.Kind.{Kind}
 use Rattle.script_text.specs.declared.script.Script.{Script}
-use Rattle.script_text.specs.Calls.{DisarmedFirst, IsArmedLike, IsSeen, IsTrueStart, SawFull, SawRefusal}
+use Rattle.script_text.specs.Calls.{DisarmedFirst, IsArmedLike, IsSeen, IsTrueStart, SawRefusal}
 use Rattle.script_text.specs.Dids.{Did, Made, Tells, entered, numbers_of_object, numbers_on}
 use Rattle.script_text.specs.Fits.{FitsCall, object_steps_on, steps_on}
 use Rattle.script_text.specs.Histories.{clock_of, history_of, lines_of, reading_at, timer_after, timer_labels}
@@ -41,20 +41,21 @@ use Rattle.hrt_app.specs.declared.objects.Object.TheVariants.{Raw, Posix, Fd}
 use Rattle.hrt_app.specs.Objects.{after_call, base_in, entries_of, kind_in, limit_of, object_at}
 use Rattle.hrt_app.specs.ObjectTurns.{Sets, SettimeReplies, settime_step, settime_want}
 use Rattle.hrt_app.specs.Progress.{Progress, object_line, with_object}
-use Rattle.hrt_app.proofs.Called.{begin, saw, seen_of, within, TurnMade}
+use Rattle.hrt_app.proofs.Called.{begin, saw, seen_of, TurnMade}
 use Rattle.hrt_app.proofs.Grown.{on, Continues}
 use Rattle.hrt_app.proofs.Made.{no_stamp, reading_of_clock}
 use Rattle.hrt_app.proofs.ObjectCalled.{armed_is, object_turn}
 use Rattle.hrt_app.proofs.ObjectHistories.{Allows, IsMadeAs, ShowsCall}
-use Rattle.hrt_app.proofs.ObjectPushes.{IsObjectStep, before_object, point_of_object, push_object}
+use Rattle.hrt_app.proofs.ObjectSeen.{nothing_called, object_called}
+use Rattle.hrt_app.proofs.ObjectPushes.{IsObjectStep, before_object, push_object}
 use Rattle.hrt_app.proofs.Phases.{IsArmed, IsWant, arm_made, disarm_made, phase_then}
 use Rattle.hrt_app.proofs.Runs.{Extends, IsRun}
 use Rattle.hrt_app.proofs.SettimeCalls.{clock_in, object_armed, settime_allows, settime_armed, settime_is, settime_shows, settime_unarmed}
 use Rattle.hrt_app.proofs.Taken.{append_nothing, numbers_on_append, NeverFall-append}
-use Rattle.hrt_app.proofs.Told.{entered_append, nat_eq_apart, nat_eq_same, point_of_clock, point_of_timer, tells_end, tells_start}
+use Rattle.hrt_app.proofs.Told.{entered_append, nat_eq_apart, nat_eq_same, point_of_timer, tells_start}
 use Rattle.hrt_app.proofs.Writes.{Extends-self}
 
-made_kind : (s : Script) (i : ℕ) (o : Object) → IsMadeAs s i o → kind_of s i ≡ kind_in o
+pub made_kind : (s : Script) (i : ℕ) (o : Object) → IsMadeAs s i o → kind_of s i ≡ kind_in o
 made_kind s i (Raw callback) made = made
 made_kind s i (Posix t) made = made.0
 made_kind s i (Fd t) made = made.0
@@ -69,7 +70,7 @@ made_clock s i (Raw callback) flags value interval taken made = absurd taken
 made_clock s i (Posix t) flags value interval taken made = made.1
 made_clock s i (Fd t) flags value interval taken made = made.1
 
-same_base : (o : Object) → base_in o ≡ base_of (kind_in o)
+pub same_base : (o : Object) → base_in o ≡ base_of (kind_in o)
 same_base (Raw callback) = refl
 same_base (Posix t) = refl
 same_base (Fd t) = refl
@@ -92,7 +93,7 @@ declared_on s from below t p run there =
     ap (λ (x : Timer). x.declared) (sym (run.states p.told (Extends-self s from below p run) t there)) ∙ declared_all (opening (clock_of s t) s.limit) (take (length (lines_of p.told t)) (history_of p.told t))
 
 -- a start that was made, of this mode and time
-started_so : (q next : Progress) (t : ℕ) (want : Option (Mode × ℕ)) (generation refused : ℕ) (mode : Mode) (ns : ℕ) → IsArmed q next t want (armings.Generation generation) refused → IsWant want mode ns
+pub started_so : (q next : Progress) (t : ℕ) (want : Option (Mode × ℕ)) (generation refused : ℕ) (mode : Mode) (ns : ℕ) → IsArmed q next t want (armings.Generation generation) refused → IsWant want mode ns
     → (generation ≡ length (lines_of next.told t)) × ((timer_at next.timers t).expires ≡ expiry_from mode ns (timer_at next.timers t).clock q.reading)
     × ((timer_at next.timers t).clock ≡ effective_clock (timer_at q.timers t).declared mode (timer_at q.timers t).clock)
 started_so q next t None generation refused mode ns armed want = absurd cc
@@ -103,13 +104,13 @@ started_so q next t (Some w) generation refused mode ns armed want = (
 )
 
 -- a start that was refused
-refused_so : (q next : Progress) (t : ℕ) (want : Option (Mode × ℕ)) (refused : ℕ) → IsArmed q next t want armings.Unarmed refused
+pub refused_so : (q next : Progress) (t : ℕ) (want : Option (Mode × ℕ)) (refused : ℕ) → IsArmed q next t want armings.Unarmed refused
     → ((timer_at q.timers t).limit ≤ (timer_at q.timers t).stamp) × (refused ≡ (timer_at q.timers t).stamp) × ((timer_at q.timers t).moving ≡ false) × (next ≡ q)
 refused_so q next t None refused armed = absurd cc
 refused_so q next t (Some w) refused armed = armed
 
 -- a timer whose history is full refused a start, where that is seen
-saw_refusal : (s : Script) (call t : ℕ) (p : Progress) (end : RunRecord) (ds : List Did) → IsRun s call (call + 1) p → Extends call p.told end → t < length s.timers → IsPoint s (on call) (length (entered t ds)) (length (lines_of p.told t)) (timer_labels end t)
+pub saw_refusal : (s : Script) (call t : ℕ) (p : Progress) (end : RunRecord) (ds : List Did) → IsRun s call (call + 1) p → Extends call p.told end → t < length s.timers → IsPoint s (on call) (length (entered t ds)) (length (lines_of p.told t)) (timer_labels end t)
     → (timer_at p.timers t).limit ≤ (timer_at p.timers t).stamp → (timer_at p.timers t).moving ≡ false → SawRefusal s end (on call) ds t (timer_at p.timers t).stamp
 saw_refusal s call t p end ds run e there point full still = (
   saw s call p end ds t observations.Spent run e point there full,
@@ -262,53 +263,15 @@ settime_made s number p next t flags value interval reply run there sets =
 pub invalid_called : (s : Script) (number : ℕ) (p : Progress) (t flags : ℕ) (value interval : TimeSpec) (end : RunRecord) → IsRun s number number p → (AreTaken (kind_in (object_at p.objects t)) flags value interval → ⊥) → Extends (number + 1) p.told end
     → FitsCall s end (on number) (calls.Settime t flags value interval) answers.Invalid (seen_of p.told) (seen_of p.told)
 invalid_called s number p t flags value interval end run refused e =
-    let told = tells_start s number p run in
-    record {
-      at = length p.told.clock;
-      fired = [];
-      dids = [];
-      last = λ u. 0;
-      tells = tells_end number p.told end [] e told;
-      does = (refl, λ taken. refused (subst (λ k. AreTaken k flags value interval) (made_kind s t (object_at p.objects t) (run.objects t).made) taken));
-      reading = point_of_clock s number p end [] (begin s number p run) (within number p.told end e) told;
-      looks = tt;
-      seen = tt;
-      pass = tt;
-      clock_steps = (omega arith, omega arith);
-      timer_steps = λ u. subst (λ ns. NeverFall (length (lines_of p.told u)) ns (length (lines_of p.told u))) (sym (no_stamp (nat_eq t u) [])) (omega arith);
-      object_steps = λ i. subst (λ ns. NeverFall (length (object_lines p.told i)) ns (length (object_lines p.told i))) (sym (no_stamp (nat_eq t i) [])) (omega arith);
-    }
+    nothing_called s number p end _ _ run e (refl, λ taken. refused (subst (λ k. AreTaken k flags value interval) (made_kind s t (object_at p.objects t) (run.objects t).made) taken)) tt tt
+    (λ u. no_stamp (nat_eq t u) []) (λ i. no_stamp (nat_eq t i) [])
 
 -- a settime of an object whose history is full
 pub full_called : (s : Script) (number : ℕ) (p : Progress) (t flags : ℕ) (value interval : TimeSpec) (end : RunRecord) → IsRun s number number p → AreTaken (kind_in (object_at p.objects t)) flags value interval
     → limit_of (object_at p.objects t) ≤ entries_of (object_at p.objects t) → Extends (number + 1) p.told end
     → FitsCall s end (on number) (calls.Settime t flags value interval) (answers.Spent (entries_of (object_at p.objects t))) (seen_of p.told) (seen_of p.told)
 full_called s number p t flags value interval end run taken full e =
-    let told = tells_start s number p run in
-    let inside = begin s number p run in
-    let back = within number p.told end e in
     let o = object_at p.objects t in
-    let own = run.objects t in
-    let limit : s.limit ≤ length (object_lines p.told t) = omega (arith, full, own.counted, made_limit s t o flags value interval taken own.made) in
-    record {
-      at = length p.told.clock;
-      fired = [];
-      dids = [];
-      last = λ u. 0;
-      tells = tells_end number p.told end [] e told;
-      does = (refl, subst (λ k. AreTaken k flags value interval) (sym (made_kind s t o own.made)) taken);
-      reading = point_of_clock s number p end [] inside back told;
-      looks = tt;
-      seen = subst (λ n. SawFull s end (on number) [] t n) (sym own.counted) (point_of_object s number p end [] inside back told t, limit);
-      pass = tt;
-      clock_steps = (omega arith, omega arith);
-      timer_steps = λ u. subst (λ ns. NeverFall (length (lines_of p.told u)) ns (length (lines_of p.told u))) (sym (no_stamp (nat_eq t u) [])) (omega arith);
-      object_steps = λ i. ⊎_elim
-          (λ here. subst (λ n. NeverFall n (if nat_eq t i then entries_of o ∷ [] else []) n) (own.counted ∙ ap (λ v. length (object_lines p.told v)) here) (one_stamp (nat_eq t i) (entries_of o)))
-          (λ apart. subst (λ b. NeverFall (length (object_lines p.told i)) (if b then entries_of o ∷ [] else []) (length (object_lines p.told i))) (sym (nat_eq_apart t i (λ e'. apart (sym e')))) (omega arith))
-          (cases_eq t i);
-    }
-  where
-    one_stamp : (b : Bool) (n : ℕ) → NeverFall n (if b then n ∷ [] else []) n
-    one_stamp true n = (omega arith, omega arith)
-    one_stamp false n = omega arith
+    let made = (run.objects t).made in
+    object_called s number p t end _ _ run e (refl, subst (λ k. AreTaken k flags value interval) (sym (made_kind s t o made)) taken)
+    (λ point. (point, omega (arith, full, made_limit s t o flags value interval taken made))) tt (λ u. no_stamp (nat_eq t u) []) (λ i. refl)

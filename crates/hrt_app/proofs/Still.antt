@@ -17,6 +17,10 @@ use Rattle.record_text.specs.declared.record.SettimeReply.{SettimeReply}
 use Rattle.ktime.specs.declared.timespec.TimeSpec.{TimeSpec}
 use Rattle.hrt_app.specs.declared.objects.Object.{Object}
 use Rattle.hrt_app.specs.declared.objects.Object.TheVariants.{Raw, Posix, Fd}
+use Rattle.hrt_app.specs.declared.renewals.Renewal.{Renewal}
+use Rattle.hrt_app.specs.declared.renewals.Renewal.TheVariants as renewals
+use Rattle.hrt_app.specs.ObjectLooks.{GettimeTurn}
+use Rattle.hrt_app.specs.Renewals.{RenewalTurn}
 use Rattle.hrt_app.specs.Objects.{ObjectStep, object_at, trigger_step}
 use Rattle.hrt_app.specs.ObjectTurns.{ArmsBy, Disarms, Sets, StartsHere, StartsThere, move_out}
 use Rattle.record_text.specs.declared.record.Entry.TheVariants as entries
@@ -100,6 +104,15 @@ sets_still : (c : Label) (p : Progress) (t flags : ℕ) (value interval : TimeSp
 sets_still c p t flags value interval reply next sets still =
     subst IsStill (sym sets.goes_on) (arms_still c sets.disarmed t _ _ sets.arm sets.refused sets.armed sets.arms (disarms_still c p t sets.cancel sets.disarmed sets.disarms still))
 
+renewal_still : (c : Label) (p : Progress) (t : ℕ) (call : Renewal) (answer : Answer) (next : Progress) → RenewalTurn c p t call answer next → IsStill p → IsStill next
+renewal_still c p t call answer next turn still =
+    ⊎_elim (λ full. subst IsStill (sym full.goes_on) still) (λ renews. subst IsStill (sym renews.goes_on) (arms_still c p t _ _ renews.arm renews.refused renews.armed renews.arms still)) turn
+
+gettime_still : (o : Object) (c : Label) (p : Progress) (t : ℕ) (answer : Answer) (next : Progress) → GettimeTurn c p t o answer next → IsStill p → IsStill next
+gettime_still (Posix x) c p t (answers.LeftAt left interval shown stamp) next turn still = subst IsStill (sym turn.3) still
+gettime_still (Fd x) c p t answer next turn still = renewal_still c p t renewals.Gettime answer next turn still
+gettime_still o c p t answer next turn still = absurd turn
+
 -- a call leaves no timer's function running
 turn_still : (c : Label) (p next : Progress) (call : Call) (answer : Answer) → Turns c p call answer next → IsStill p → IsStill next
 turn_still c p next (calls.Start t mode ns base) (answers.Started generation on was) turns still =
@@ -119,6 +132,11 @@ turn_still c p next (calls.Settime t flags value interval) (answers.Spent stamp)
 turn_still c p next (calls.Settime t flags value interval) (answers.Old left old) turns still = sets_still c p t flags value interval _ next turns still
 turn_still c p next (calls.Settime t flags value interval) answers.Canceled turns still = sets_still c p t flags value interval _ next turns still
 turn_still c p next (calls.Settime t flags value interval) (answers.Unarmed stamp) turns still = sets_still c p t flags value interval _ next turns still
+turn_still c p next (calls.Gettime t) answer turns still = gettime_still (object_at p.objects t) c p t answer next turns still
+turn_still c p next (calls.Accept t) answer turns still = renewal_still c p t renewals.Accept answer next turns still
+turn_still c p next (calls.Overrun t) answer turns still = subst IsStill (sym turns.1) still
+turn_still c p next (calls.Read t len) answer turns still = ⊎_elim (λ short. subst IsStill (sym short.2) still) (λ long. renewal_still c p t renewals.Read answer next long.1 still) turns
+turn_still c p next (calls.Readable t) answer turns still = subst IsStill (sym turns.1) still
 turn_still c p next call answer turns still = absurd turns
 
 pub turns_still : (number : ℕ) (p next : Progress) (cs : List Call) (given : List Answer) → TurnsAll number p cs given next → IsStill p → IsStill next

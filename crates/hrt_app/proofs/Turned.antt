@@ -1,5 +1,5 @@
 -- Each turn of a run on one lane fits.
-use Rattle.std.proofs.Common.{arith, refl, sym, ap, ◌∙◌, subst, ◌≡◌, ◌≤◌, ◌<◌, inl, ℕ, ◌+◌, Bool, false, is_some, List, [], ◌∷◌, length, map}
+use Rattle.std.proofs.Common.{arith, refl, sym, ap, ◌∙◌, subst, ◌≡◌, ◌≤◌, ◌<◌, inl, ℕ, ◌+◌, Bool, false, is_some, nat_eq, List, [], ◌∷◌, length, map}
 use Rattle.std.specs.Prelude.{flat_map}
 use Rattle.std.proofs.Math.Logic.{⊎_elim}
 use Rattle.std.proofs.lemmas.List.{length-map}
@@ -23,25 +23,25 @@ use Rattle.script_text.specs.Passes.{IsRightPass}
 use Rattle.script_text.specs.Fits.{FitsCall}
 use Rattle.hrt_app.specs.Progress.{Progress, plain, with_entry, with_steps, with_write}
 use Rattle.hrt_app.specs.ObjectTurns.{StartsHere, StartsThere, start_here}
-use Rattle.hrt_app.specs.Turns.{NamesTimer, Passes, Turns}
+use Rattle.hrt_app.specs.Turns.{NamesTimer, Passes, Suits, Turns}
+use Rattle.hrt_app.specs.declared.renewals.Renewal.TheVariants as renewals
+use Rattle.script_text.specs.declared.form.Form.TheVariants as forms
+use Rattle.script_text.specs.Objects.{kind_of}
+use Rattle.hrt_app.proofs.ObjectTold.{gettime_made, overrun_made, readable_made, short_made, suited_limit}
+use Rattle.hrt_app.proofs.ObjectSeen.{full_made}
+use Rattle.hrt_app.proofs.RenewalMade.{accept_is, read_is, renewal_turned}
 use Rattle.hrt_app.proofs.Grown.{on}
 use Rattle.hrt_app.proofs.Runs.{before_step, push_step, Extends, IsRun, IsStep}
 use Rattle.hrt_app.proofs.Writes.{before_write, push_write}
 use Rattle.hrt_app.proofs.Told.{point_of_timer, tells_start}
-use Rattle.hrt_app.proofs.Called.{TurnMade, seen_of, begin, finish, within, idle_called, peek_called, running_called, spent_called}
+use Rattle.hrt_app.proofs.Called.{TurnMade, seen_of, begin, finish, quiet, within, idle_called, peek_called, running_called, spent_called}
 use Rattle.hrt_app.proofs.Taken.{steps_back, steps_run, NeverFall-append}
-use Rattle.hrt_app.proofs.Made.{cancel_step, cancelled_called, made_called, start_step, started_called}
+use Rattle.hrt_app.proofs.Made.{cancel_step, cancelled_called, made_called, no_stamp, start_step, started_called}
 use Rattle.hrt_app.proofs.Moves.{move_steps, move_taken, moved_called, moved_on, range_called, wrote_called}
 use Rattle.record_text.specs.declared.record.SettimeReply.TheVariants as settings
 use Rattle.hrt_app.specs.Objects.{limit_of, object_at}
 use Rattle.hrt_app.proofs.SettimeMade.{full_called, invalid_called, settime_made}
 use Rattle.hrt_app.proofs.Passes.{PassMade, firings, never_due, never_runs, pass_made, test_seen}
-
--- a turn that changes nothing
-pub quiet : (s : Script) (number : ℕ) (p next : Progress) (call : Call) (answer : Answer) → IsRun s number number p → next ≡ p
-    → ((end : RunRecord) → Extends (number + 1) p.told end → FitsCall s end (on number) call answer (seen_of p.told) (seen_of p.told)) → TurnMade s number p call answer next
-quiet s number p next call answer run same fits =
-    subst (λ (q : Progress). TurnMade s number p call answer q) (sym same) (record { run = finish s number p (begin s number p run); back = within number p.told; fits = fits })
 
 -- how many timers a pass claimed
 count : (s : Script) (number base at : ℕ) (p next : Progress) (fs : List (ℕ × ℕ)) (before : List Did) (timers : List ℕ) → PassMade s number base at p next fs before → timers ≡ map (λ f. f.0) fs
@@ -110,24 +110,25 @@ move_made s number p next t mode ns asked generation base was run there starts =
       fits = λ end e. moved_called s number p t mode ns asked generation base was next end run there starts e;
     }
 
-pub turn_made : (s : Script) (number : ℕ) (p next : Progress) (call : Call) (answer : Answer) → IsRun s number number p → NamesTimer (length s.timers) call → Turns (on number) p call answer next → TurnMade s number p call answer next
-turn_made s number p next (calls.Start t mode ns base) (answers.Started generation b was) run there turns =
+pub turn_made : (s : Script) (number : ℕ) (p next : Progress) (call : Call) (answer : Answer) → IsRun s number number p → NamesTimer (length s.timers) call → Suits (kind_of s) call → Turns (on number) p call answer next
+    → TurnMade s number p call answer next
+turn_made s number p next (calls.Start t mode ns base) (answers.Started generation b was) run there suit turns =
     ⊎_elim (λ here. start_made s number p next t mode ns base generation b was run there here) (λ moved. move_made s number p next t mode ns base generation b was run there moved) turns
-turn_made s number p next (calls.Start t mode ns base) (answers.Spent stamp) run there turns =
+turn_made s number p next (calls.Start t mode ns base) (answers.Spent stamp) run there suit turns =
     quiet s number p next (calls.Start t mode ns base) (answers.Spent stamp) run turns.3
     (λ end e. subst (λ n. FitsCall s end (on number) (calls.Start t mode ns base) (answers.Spent n) (seen_of p.told) (seen_of p.told)) (sym turns.1)
     (spent_called s number p t mode ns base end run there e (subst (λ n. (timer_at p.timers t).limit ≤ n) turns.1 turns.0) turns.2))
-turn_made s number p next (calls.Cancel t) (answers.Cancelled generation) run there turns =
+turn_made s number p next (calls.Cancel t) (answers.Cancelled generation) run there suit turns =
     subst (λ (q : Progress). TurnMade s number p (calls.Cancel t) (answers.Cancelled generation) q) (sym turns.2)
     (entry_made s number p t events.Cancel (entries.Cancel generation) (calls.Cancel t) (answers.Cancelled generation) run (cancel_step s p number t generation there turns.0 turns.1)
     (λ end e. cancelled_called s number p t generation end run there turns.0 turns.1 e))
-turn_made s number p next (calls.Cancel t) (answers.Running generation stamp) run there turns =
+turn_made s number p next (calls.Cancel t) (answers.Running generation stamp) run there suit turns =
     quiet s number p next (calls.Cancel t) (answers.Running generation stamp) run turns.2
     (λ end e. subst (λ n. FitsCall s end (on number) (calls.Cancel t) (answers.Running generation n) (seen_of p.told) (seen_of p.told)) (sym turns.1) (running_called s number p t generation end run there e turns.0))
-turn_made s number p next (calls.Cancel t) (answers.Idle stamp) run there turns =
+turn_made s number p next (calls.Cancel t) (answers.Idle stamp) run there suit turns =
     quiet s number p next (calls.Cancel t) (answers.Idle stamp) run turns.2
     (λ end e. subst (λ n. FitsCall s end (on number) (calls.Cancel t) (answers.Idle n) (seen_of p.told) (seen_of p.told)) (sym turns.1) (idle_called s number p t end run there e turns.0))
-turn_made s number p next (calls.Peek t) (answers.Peek stamp base enqueued running moving) run there turns =
+turn_made s number p next (calls.Peek t) (answers.Peek stamp base enqueued running moving) run there suit turns =
     quiet s number p next (calls.Peek t) (answers.Peek stamp base enqueued running moving) run turns.5
     (λ end e.
     subst (λ n. FitsCall s end (on number) (calls.Peek t) (answers.Peek n base enqueued running moving) (seen_of p.told) (seen_of p.told)) (sym turns.0)
@@ -136,7 +137,7 @@ turn_made s number p next (calls.Peek t) (answers.Peek stamp base enqueued runni
     (subst (λ b. FitsCall s end (on number) (calls.Peek t) (answers.Peek (timer_at p.timers t).stamp (timer_at p.timers t).base (is_some (timer_at p.timers t).armed) b moving) (seen_of p.told) (seen_of p.told)) (sym turns.3)
     (subst (λ b. FitsCall s end (on number) (calls.Peek t) (answers.Peek (timer_at p.timers t).stamp (timer_at p.timers t).base (is_some (timer_at p.timers t).armed) (is_some (timer_at p.timers t).running) b) (seen_of p.told) (seen_of p.told)) (sym turns.4)
     (peek_called s number p t end run there e))))))
-turn_made s number p next (calls.Expire base budget) (answers.Done shown timers) run there turns =
+turn_made s number p next (calls.Expire base budget) (answers.Done shown timers) run there suit turns =
     passed s number base budget p next timers shown (answers.Done shown timers) run turns.0
     (λ fired dids pass counted. (pass, subst (λ n. n < budget) (sym counted) turns.1))
     (λ end made e.
@@ -150,12 +151,12 @@ turn_made s number p next (calls.Expire base budget) (answers.Done shown timers)
       },
     ))
     (λ end dids. tt)
-turn_made s number p next (calls.Expire base budget) (answers.More shown timers) run there turns =
+turn_made s number p next (calls.Expire base budget) (answers.More shown timers) run there suit turns =
     passed s number base budget p next timers shown (answers.More shown timers) run turns.0
     (λ fired dids pass counted. (pass, counted ∙ turns.1))
     (λ end made e. made.claims end e)
     (λ end dids. tt)
-turn_made s number p next (calls.Expire base budget) (answers.Busy shown timers t generation) run there turns =
+turn_made s number p next (calls.Expire base budget) (answers.Busy shown timers t generation) run there suit turns =
     passed s number base budget p next timers shown (answers.Busy shown timers t generation) run turns.0
     (λ fired dids pass counted. (pass, subst (λ n. n < budget) (sym counted) turns.1))
     (λ end made e.
@@ -168,22 +169,34 @@ turn_made s number p next (calls.Expire base budget) (answers.Busy shown timers 
       },
     ))
     (λ end dids. tt)
-turn_made s number p next (calls.Clock write) (answers.Clock stamp) run there turns =
+turn_made s number p next (calls.Clock write) (answers.Clock stamp) run there suit turns =
     subst (λ (q : Progress). TurnMade s number p (calls.Clock write) (answers.Clock stamp) q) (sym turns.2) (record {
       run = finish s number (with_write p (on number) write) (push_write s p number write (begin s number p run) turns.0);
       back = λ end e. before_write p number write end (within number (with_write p (on number) write).told end e);
       fits = λ end e. subst (λ n. FitsCall s end (on number) (calls.Clock write) (answers.Clock n) (seen_of p.told) (seen_of (with_write p (on number) write).told)) (sym (turns.1 ∙ ap (λ n. n + 1) run.stamp))
           (wrote_called s number p write end run turns.0 e);
     })
-turn_made s number p next (calls.Clock write) (answers.Range would_be) run there turns =
+turn_made s number p next (calls.Clock write) (answers.Range would_be) run there suit turns =
     quiet s number p next (calls.Clock write) (answers.Range would_be) run turns.3 (λ end e. range_called s number p write would_be end run turns.0 turns.1 turns.2 e)
-turn_made s number p next (calls.Settime t flags value interval) answers.Invalid run there turns =
+turn_made s number p next (calls.Settime t flags value interval) answers.Invalid run there suit turns =
     quiet s number p next (calls.Settime t flags value interval) answers.Invalid run turns.1 (λ end e. invalid_called s number p t flags value interval end run turns.0 e)
-turn_made s number p next (calls.Settime t flags value interval) (answers.Spent stamp) run there turns =
+turn_made s number p next (calls.Settime t flags value interval) (answers.Spent stamp) run there suit turns =
     quiet s number p next (calls.Settime t flags value interval) (answers.Spent stamp) run turns.3
     (λ end e. subst (λ n. FitsCall s end (on number) (calls.Settime t flags value interval) (answers.Spent n) (seen_of p.told) (seen_of p.told)) (sym turns.2)
     (full_called s number p t flags value interval end run turns.0 (subst (λ n. limit_of (object_at p.objects t) ≤ n) turns.2 turns.1) e))
-turn_made s number p next (calls.Settime t flags value interval) (answers.Old left old) run there turns = settime_made s number p next t flags value interval (settings.Old left old) run there turns
-turn_made s number p next (calls.Settime t flags value interval) answers.Canceled run there turns = settime_made s number p next t flags value interval settings.Canceled run there turns
-turn_made s number p next (calls.Settime t flags value interval) (answers.Unarmed stamp) run there turns = settime_made s number p next t flags value interval (settings.Unarmed stamp) run there turns
-turn_made s number p next call answer run there turns = absurd turns
+turn_made s number p next (calls.Settime t flags value interval) (answers.Old left old) run there suit turns = settime_made s number p next t flags value interval (settings.Old left old) run there turns
+turn_made s number p next (calls.Settime t flags value interval) answers.Canceled run there suit turns = settime_made s number p next t flags value interval settings.Canceled run there turns
+turn_made s number p next (calls.Settime t flags value interval) (answers.Unarmed stamp) run there suit turns = settime_made s number p next t flags value interval (settings.Unarmed stamp) run there turns
+turn_made s number p next (calls.Gettime t) answer run there suit turns = gettime_made s number p next t (object_at p.objects t) answer run there refl turns
+turn_made s number p next (calls.Accept t) answer run there suit turns =
+    renewal_turned s number p next t renewals.Accept (calls.Accept t) answer run there turns
+    (λ full. full_made s number p next t (calls.Accept t) answer run (suited_limit s number p t forms.Accept run (λ callback. refl) suit) full refl (λ end saw. saw) (λ end. tt) (λ u. no_stamp (nat_eq t u) []) (λ i. refl))
+    (λ reply arm replies. accept_is s t (object_at p.objects t) p.reading arm reply replies)
+turn_made s number p next (calls.Overrun t) answer run there suit turns = overrun_made s number p next t (object_at p.objects t) answer run refl turns.0 turns.1
+turn_made s number p next (calls.Read t len) answer run there suit turns =
+    ⊎_elim (λ short. short_made s number p next t len answer run short.0 short.1 short.2)
+    (λ long. renewal_turned s number p next t renewals.Read (calls.Read t len) answer run there long.1
+    (λ full. full_made s number p next t (calls.Read t len) answer run (suited_limit s number p t forms.Read run (λ callback. refl) suit) full (refl, long.0) (λ end saw. saw) (λ end. tt) (λ u. no_stamp (nat_eq t u) []) (λ i. refl))
+    (λ reply arm replies. read_is s t len (object_at p.objects t) p.reading arm reply long.0 replies)) turns
+turn_made s number p next (calls.Readable t) answer run there suit turns = readable_made s number p next t (object_at p.objects t) answer run refl turns.0 turns.1
+turn_made s number p next call answer run there suit turns = absurd turns

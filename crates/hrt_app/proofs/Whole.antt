@@ -37,7 +37,7 @@ use Rattle.script_text.specs.Order.{Placed, calls_from, calls_of, IsInOrder, IsL
 use Rattle.script_text.specs.Histories.{clock_of, history_of, lines_of, timer_after}
 use Rattle.script_text.specs.Fits.{AreSorted, AreUnder, Fits, FitsLane, Seen, answers_of, unseen}
 use Rattle.hrt_app.specs.Progress.{Progress}
-use Rattle.hrt_app.specs.Turns.{IsOneLane, NamesTimer, TurnsAll, calls_in, opened}
+use Rattle.hrt_app.specs.Turns.{IsOneLane, NamesTimer, Suits, TurnsAll, calls_in, opened}
 use Rattle.hrt_app.proofs.Lists.{All-append, All-map, All-to_map}
 use Rattle.hrt_app.proofs.Steps.{length-history}
 use Rattle.hrt_app.proofs.Grown.{AreBelow, Continues-self, IsBelow}
@@ -55,8 +55,8 @@ pub record TurnsMade (s : Script) (number : ℕ) (p : Progress) (placed : List P
   pub fits : (end : RunRecord) → Extends (number + length placed) next.told end → FitsLane s end 0 number (seen_of p.told) placed given
 
 pub turns_made : (s : Script) (placed : List Placed) (number : ℕ) (p next : Progress) (given : List Answer) → IsRun s number number p → AllByRecursion (λ (c : Placed). NamesTimer (length s.timers) c.call) placed
-    → TurnsAll number p (map (λ (c : Placed). c.call) placed) given next → TurnsMade s number p placed given next
-turns_made s [] number p next [] run named turns =
+    → AllByRecursion (λ (c : Placed). Suits (kind_of s) c.call) placed → TurnsAll number p (map (λ (c : Placed). c.call) placed) given next → TurnsMade s number p placed given next
+turns_made s [] number p next [] run named suited turns =
     subst (λ (q : Progress). TurnsMade s number p [] [] q) (sym turns) (record {
       run = subst (λ n. IsRun s n n p) (none_more number) run;
       back = λ end e. subst (λ n. Extends n p.told end) (sym (none_more number)) e;
@@ -65,9 +65,9 @@ turns_made s [] number p next [] run named turns =
   where
     none_more : (n : ℕ) → n ≡ n + 0
     none_more n = omega arith
-turns_made s (c ∷ cs) number p next (a ∷ given) run named turns =
-    let turn = turn_made s number p turns.0 c.call a run named.0 turns.1 in
-    let rest = turns_made s cs (number + 1) turns.0 next given turn.run named.1 turns.2 in
+turns_made s (c ∷ cs) number p next (a ∷ given) run named suited turns =
+    let turn = turn_made s number p turns.0 c.call a run named.0 suited.0 turns.1 in
+    let rest = turns_made s cs (number + 1) turns.0 next given turn.run named.1 suited.1 turns.2 in
     let same = one_more number (length cs) in
     record {
       run = subst (λ n. IsRun s n n next) same rest.run;
@@ -79,8 +79,8 @@ turns_made s (c ∷ cs) number p next (a ∷ given) run named turns =
   where
     one_more : (m n : ℕ) → m + 1 + n ≡ m + suc n
     one_more m n = omega arith
-turns_made s [] number p next (a ∷ given) run named turns = absurd turns
-turns_made s (c ∷ cs) number p next [] run named turns = absurd turns
+turns_made s [] number p next (a ∷ given) run named suited turns = absurd turns
+turns_made s (c ∷ cs) number p next [] run named suited turns = absurd turns
 
 -- the calls of the one lane are all calls, in the order of their lines
 pub kept : (cs : List LaneCall) → AllByRecursion (λ (c : LaneCall). c.lane ≡ 0) cs → filter (λ (c : LaneCall). nat_eq c.lane 0) cs ≡ cs
@@ -211,7 +211,7 @@ lanes_fit s first next given one made e (suc lane) =
 
 pub whole : (s : Script) (first next : Progress) (given : List Answer) → IsOneLane s → IsRun s 0 0 first → TurnsAll 0 first (calls_in s.rounds) given next → Fits s (record_of next given)
 whole s first next given one run turns =
-    let made = turns_made s (calls_of s 0) 0 first next given run (all_named (NamesTimer (length s.timers)) 0 s.rounds one.named) (subst (λ cs. TurnsAll 0 first cs given next) (sym (all_calls 0 s.rounds one.lane)) turns) in
+    let made = turns_made s (calls_of s 0) 0 first next given run (all_named (NamesTimer (length s.timers)) 0 s.rounds one.named) (all_named (Suits (kind_of s)) 0 s.rounds one.suited) (subst (λ cs. TurnsAll 0 first cs given next) (sym (all_calls 0 s.rounds one.lane)) turns) in
     let count = length (calls_of s 0) in
     let run_end : IsRun s count count next = subst (λ n. IsRun s n n next) (none_first count) made.run in
     let e : Extends count next.told (record_of next given) = again s count next given run_end in

@@ -1,6 +1,8 @@
 pub mod Objects
 pub mod Progress
 pub mod ObjectTurns
+pub mod Renewals
+pub mod ObjectLooks
 pub mod Callbacks
 pub mod Turns
 pub mod Runs

@@ -1,5 +1,5 @@
 -- One call of a script on one lane: what it answers, and how the run goes on.
-use Rattle.std.specs.Prelude.{ℕ, ◌≡◌, ◌+◌, ◌<◌, Bool, false, Option, Some, None, is_some, List, [], ◌∷◌, length, map}
+use Rattle.std.specs.Prelude.{ℕ, ◌≡◌, ◌+◌, ◌<◌, Bool, true, false, Option, Some, None, is_some, List, [], ◌∷◌, length, map}
 use Rattle.std.specs.Prelude.{flat_map, replicate}
 use Rattle.std.specs.List.{AllByRecursion}
 use Rattle.ktime.specs.Readings.{ClockReading, latest}
@@ -18,12 +18,19 @@ use Rattle.record_text.specs.declared.record.Told.{Told}
 use Rattle.record_text.specs.declared.record.Entry.TheVariants as entries
 use Rattle.record_text.specs.declared.record.Answer.{Answer}
 use Rattle.record_text.specs.declared.record.Answer.TheVariants as answers
+use Rattle.script_text.specs.declared.form.Form.TheVariants as forms
+use Rattle.script_text.specs.declared.script.Kind.{Kind}
+use Rattle.script_text.specs.Forms.{suits}
+use Rattle.script_text.specs.Objects.{kind_of}
 use Rattle.script_text.specs.Scripts.{IsKindInRange}
 use Rattle.hrt_app.specs.Progress.{Progress, Step, plain, with_entry, with_step, with_steps, with_trigger, with_write}
 use Rattle.hrt_app.specs.declared.objects.Object.{Object}
 use Rattle.hrt_app.specs.declared.objects.Object.TheVariants.{Raw}
 use Rattle.hrt_app.specs.Objects.{object_at, object_in, trigger_step}
+use Rattle.hrt_app.specs.declared.renewals.Renewal.TheVariants as renewals
+use Rattle.hrt_app.specs.ObjectLooks.{GettimeTurn, IsOverrun, IsReadable, ReadTurn}
 use Rattle.hrt_app.specs.ObjectTurns.{SettimeTurn, Starts}
+use Rattle.hrt_app.specs.Renewals.{RenewalTurn}
 use Rattle.hrt_app.specs.Callbacks.{Act, act_of, after_act, restart_of}
 
 -- a timer that an expiry pass claims: the first that is due
@@ -93,7 +100,7 @@ pub record IsTaken (p : Progress) (base timer generation : ℕ) : Type 0 where
 abbrev pub peek_answer : Timer → Answer
 peek_answer t = answers.Peek t.stamp t.base (is_some t.armed) (is_some t.running) t.moving
 
--- the call names a timer below this number; of the calls on objects a settime alone is made yet
+-- the call names a timer below this number
 abbrev pub NamesTimer : ℕ → Call → Type 0
 NamesTimer count (calls.Start timer mode ns base) = timer < count
 NamesTimer count (calls.Cancel timer) = timer < count
@@ -101,7 +108,11 @@ NamesTimer count (calls.Peek timer) = timer < count
 NamesTimer count (calls.Expire base budget) = Unit
 NamesTimer count (calls.Clock write) = Unit
 NamesTimer count (calls.Settime timer flags value interval) = timer < count
-NamesTimer count call = ⊥
+NamesTimer count (calls.Gettime timer) = timer < count
+NamesTimer count (calls.Accept timer) = timer < count
+NamesTimer count (calls.Overrun timer) = timer < count
+NamesTimer count (calls.Read timer len) = timer < count
+NamesTimer count (calls.Readable timer) = timer < count
 
 -- the call names a base below this number
 abbrev pub NamesBase : ℕ → Call → Type 0
@@ -110,6 +121,15 @@ NamesBase count (calls.Cancel timer) = Unit
 NamesBase count (calls.Peek timer) = Unit
 NamesBase count (calls.Expire base budget) = base < count
 NamesBase count call = Unit
+
+-- a look at an object, or a renewal of it, suits the kind of the timer that it names
+abbrev pub Suits : (ℕ → Kind) → Call → Type 0
+Suits kind (calls.Gettime timer) = suits forms.Gettime (kind timer) ≡ true
+Suits kind (calls.Accept timer) = suits forms.Accept (kind timer) ≡ true
+Suits kind (calls.Overrun timer) = suits forms.Overrun (kind timer) ≡ true
+Suits kind (calls.Read timer len) = suits forms.Read (kind timer) ≡ true
+Suits kind (calls.Readable timer) = suits forms.Readable (kind timer) ≡ true
+Suits kind call = Unit
 
 -- a call, its answer, and the run after it
 abbrev pub Turns : Label → Progress → Call → Answer → Progress → Type 0
@@ -127,6 +147,11 @@ Turns c p (calls.Expire base budget) (answers.Busy shown timers timer generation
 Turns c p (calls.Clock write) (answers.Clock stamp) next = IsAccepted p.reading write × (stamp ≡ p.reading.stamp + 1) × (next ≡ with_write p c write)
 Turns c p (calls.Clock write) (answers.Range would_be) next = (p.reading.stamp < last_stamp) × (latest < would_be) × (would_be ≡ greatest (after_write p.reading write)) × (next ≡ p)
 Turns c p (calls.Settime timer flags value interval) answer next = SettimeTurn c p timer flags value interval answer next
+Turns c p (calls.Gettime timer) answer next = GettimeTurn c p timer (object_at p.objects timer) answer next
+Turns c p (calls.Accept timer) answer next = RenewalTurn c p timer renewals.Accept answer next
+Turns c p (calls.Overrun timer) answer next = IsOverrun (object_at p.objects timer) answer × (next ≡ p)
+Turns c p (calls.Read timer len) answer next = ReadTurn c p timer len answer next
+Turns c p (calls.Readable timer) answer next = IsReadable (object_at p.objects timer) p.reading answer × (next ≡ p)
 Turns c p call answer next = ⊥
 
 -- calls in turn, numbered from here, with their answers
@@ -145,13 +170,14 @@ opened declared limit = record {
   told = record { clock = []; timers = replicate (length declared) []; objects = replicate (length declared) []; answers = [] };
 }
 
--- what a run on one lane asks of its script: one lane makes all calls, each on a timer and a base that there are; the timers
--- are raw, and callbacks start them on such a base
+-- what a run on one lane asks of its script: one lane makes all calls, each on a timer and a base that there are, and each suits
+-- its timer's kind; callbacks start timers on such a base, and objects are made on one
 pub record IsOneLane (s : Script) : Type 0 where
   pub lanes : s.lanes ≡ 1
   pub lane : AllByRecursion (λ r. AllByRecursion (λ c. c.lane ≡ 0) r.calls) s.rounds
   pub kinds : AllByRecursion (λ d. IsKindInRange s.bases d.kind) s.timers
   pub named : AllByRecursion (λ r. AllByRecursion (λ c. NamesTimer (length s.timers) c.call) r.calls) s.rounds
+  pub suited : AllByRecursion (λ r. AllByRecursion (λ c. Suits (kind_of s) c.call) r.calls) s.rounds
   pub based : AllByRecursion (λ r. AllByRecursion (λ c. NamesBase s.bases c.call) r.calls) s.rounds
 
 -- the calls of a script in the order of their lines

@@ -2,12 +2,14 @@ ghost use Rattle.std.specs.Prelude.{◌≡◌, ◌≤◌, ◌<◌, ◌+◌, ℕ,
 ghost use Rattle.clock_model.specs.Clocks.{last_stamp};
 ghost use Rattle.hrt_app.specs.Runs.{RunState, Keeps, Nexts, progress, with_out};
 ghost use Rattle.hrt_app.specs.ObjectTurns.{ArmsBy, Disarms, SettimeTurn, Starts};
-ghost use Rattle.hrt_app.specs.Turns.{NamesBase, NamesTimer, Turns, peek_answer};
+ghost use Rattle.hrt_app.specs.Turns.{NamesBase, NamesTimer, Suits, Turns, peek_answer};
+ghost use Rattle.hrt_app.specs.Objects.{kind_in, object_at};
 ghost use Rattle.seq_timer.specs.Tables.{timer_at};
 ghost use Rattle.script_text.specs.declared.script.Call.TheVariants as calls;
 
 use crate::callbacks::{restart_of, run_callback};
 use crate::gate::{Gate, Point};
+use crate::renewals::Renewal;
 use crate::run::Run;
 use clock_model::{ClockFault, Write};
 use ktime::{Mode, Reading, TimeSpec};
@@ -39,6 +41,7 @@ impl Run {
         requires base { NamesBase (length self.old.core.bases) call }
         requires counted { self.old.reading.stamp < last_stamp }
         requires idle { (timer : ℕ) → (timer_at self.old.core.timers timer).running ≡ None }
+        requires suits { Suits (λ t. kind_in (object_at self.old.objects t)) call }
         ensures turn { IfOk result (λ answer. Turns label (progress self.old) call answer (progress self.new)) }
         ensures kept { OnOk result (Keeps self.old self.new) }
     {
@@ -59,11 +62,11 @@ impl Run {
                 value,
                 interval,
             } => self.settime(label, timer, flags, value, interval),
-            Call::Gettime { .. }
-            | Call::Accept { .. }
-            | Call::Overrun { .. }
-            | Call::Read { .. }
-            | Call::Readable { .. } => unreachable!(),
+            Call::Gettime { timer } => self.gettime(label, timer),
+            Call::Accept { timer } => self.renew(label, timer, Renewal::Accept),
+            Call::Overrun { timer } => Ok(self.overrun(timer)),
+            Call::Read { timer, len } => self.read(label, timer, len),
+            Call::Readable { timer } => Ok(self.readable(timer)),
         }
     }
 
@@ -228,7 +231,7 @@ impl Run {
     }
 
     /// Makes the start that an object wants, and tells what became of it, with the stamp of a timer that refused it.
-    fn arm(
+    pub(crate) fn arm(
         &mut self,
         label: Label,
         timer: u32,

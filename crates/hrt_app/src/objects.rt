@@ -171,7 +171,7 @@ impl Object {
 }
 
 /// What a POSIX timer is told of its start.
-fn posix_arm(arm: Armed, refused: u64) -> posix_timer::Arm
+pub(crate) fn posix_arm(arm: Armed, refused: u64) -> posix_timer::Arm
     ensures { result ≡ posix_lines.arm_of arm refused }
 {
     match arm {
@@ -182,7 +182,7 @@ fn posix_arm(arm: Armed, refused: u64) -> posix_timer::Arm
 }
 
 /// What a descriptor is told of its start.
-fn fd_arm(arm: Armed, refused: u64) -> timer_fd::Arm
+pub(crate) fn fd_arm(arm: Armed, refused: u64) -> timer_fd::Arm
     ensures { result ≡ fd_lines.arm_of arm refused }
 {
     match arm {

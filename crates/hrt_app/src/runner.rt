@@ -4,7 +4,8 @@ ghost use Rattle.clock_model.specs.Clocks.{last_stamp};
 ghost use Rattle.seq_timer.specs.Tables.{timer_at};
 ghost use Rattle.script_text.specs.Fits.{Fits};
 ghost use Rattle.hrt_app.specs.Runs.{GoesOn, IsRunnable};
-ghost use Rattle.hrt_app.specs.Turns.{NamesBase, NamesTimer};
+ghost use Rattle.hrt_app.specs.Turns.{NamesBase, NamesTimer, Suits};
+ghost use Rattle.hrt_app.specs.Objects.{kind_in, object_at};
 
 use crate::gate::{Gate, Point};
 use crate::run::Run;
@@ -38,6 +39,7 @@ impl Run {
         requires few { length answers.old.items + length round.now.calls < last_stamp }
         requires counted { self.old.reading.stamp ≤ length answers.old.items }
         requires idle { (timer : ℕ) → (timer_at self.old.core.timers timer).running ≡ None }
+        requires suits { AllByRecursion (λ c. Suits (λ t. kind_in (object_at self.old.objects t)) c.call) round.now.calls }
         ensures turns { OnOk result (GoesOn self.old answers.old.items (map (λ c. c.call) round.now.calls) self.new answers.new.items) }
     {
         for line in round.calls.as_slice() {

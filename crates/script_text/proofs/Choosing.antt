@@ -1,10 +1,10 @@
 -- The form that words choose, and the key words that it has.
-use Rattle.std.proofs.Common.{arith, codes, ◌≡◌, ℕ, ◌<◌, ◌≤◌, length, Bool, true, false, List, [], ◌∷◌, drop, Ok, refl, sym, subst, nat_le, if◌then◌else◌, ◌&&◌}
+use Rattle.std.proofs.Common.{arith, codes, ◌≡◌, ℕ, ◌<◌, ◌≤◌, length, Bool, true, false, List, [], ◌∷◌, drop, Ok, refl, sym, subst, nat_le, if◌then◌else◌}
 use Rattle.std.specs.Prelude.{bytes_eq}
 use Rattle.std.specs.Fmt.{decimal}
 use Rattle.std.specs.List.{AllByRecursion}
 use Rattle.std.specs.Str.Parse.{AllDigits}
-use Rattle.std.proofs.lemmas.Bool.{and_from, and_parts, le-leb}
+use Rattle.std.proofs.lemmas.Bool.{and_from, le-leb}
 use Rattle.std.proofs.lemmas.Fmt.{decimal_nonempty, digits_decimal}
 use Rattle.std.proofs.lemmas.Slice.Eq.{bytes_eq-Decides}
 use Rattle.std.proofs.lemmas.Str.Parse.{digit_from_value}
@@ -13,7 +13,7 @@ use Rattle.script_text.specs.declared.form.Form.{Form}
 use Rattle.script_text.specs.declared.form.Form.TheVariants as forms
 use Rattle.script_text.specs.declared.form.Value.{Value}
 use Rattle.script_text.specs.declared.form.Value.TheVariants as values
-use Rattle.script_text.specs.Forms.{Spot, Key, At, call_forms, called, is_built, plain_forms, raw, raw_forms, row}
+use Rattle.script_text.specs.Forms.{Spot, Key, At, call_forms, called, plain_forms, raw, raw_forms, row}
 use Rattle.script_text.specs.Grammar.{Fills, filled}
 use Rattle.script_text.specs.Reading.{begins_with_digit, first_named, form_in, named}
 use Rattle.script_text.proofs.Numbers.{own}
@@ -48,48 +48,46 @@ callback key more form e [] h = absurd h
 callback key more form e (v ∷ []) h = absurd h.1
 callback key more form e (v ∷ w ∷ vs) h = e
 
--- the form of a row, where lines of it are taken, is the one that its words choose; its words are words of a line
-pub form_again : (form : Form) → (is_built form ≡ true → Chooses (row form) form) × (is_row (row form) ≡ true)
+-- the form of a row is the one that its words choose; its words are words of a line
+pub form_again : (form : Form) → Chooses (row form) form × (is_row (row form) ≡ true)
 unfolding form_in first_named begins_with_digit named
-form_again forms.Version = (λ built vs h. refl, refl)
-form_again forms.Bases = (λ built vs h. refl, refl)
-form_again forms.Lanes = (λ built vs h. refl, refl)
-form_again forms.Limit = (λ built vs h. refl, refl)
-form_again forms.RawOnce = (λ built. callback (codes "once") (drop 4 (row forms.RawOnce)) _ refl, refl)
-form_again forms.RawEvery = (λ built. callback (codes "every") (drop 4 (row forms.RawEvery)) _ refl, refl)
-form_again forms.RawCancels = (λ built. callback (codes "cancels") (drop 4 (row forms.RawCancels)) _ refl, refl)
-form_again forms.RawStarts = (λ built. callback (codes "starts") (drop 4 (row forms.RawStarts)) _ refl, refl)
-form_again forms.Posix = (λ built. absurd cc, refl)
-form_again forms.Fd = (λ built. absurd cc, refl)
-form_again forms.Round = (λ built vs h. refl, refl)
-form_again forms.Start = (λ built. call (codes "start") (drop 2 (row forms.Start)) _ refl, refl)
-form_again forms.Cancel = (λ built. call (codes "cancel") (drop 2 (row forms.Cancel)) _ refl, refl)
-form_again forms.Peek = (λ built. call (codes "peek") (drop 2 (row forms.Peek)) _ refl, refl)
-form_again forms.Expire = (λ built. call (codes "expire") (drop 2 (row forms.Expire)) _ refl, refl)
-form_again forms.Advance = (λ built. call (codes "advance") (drop 2 (row forms.Advance)) _ refl, refl)
-form_again forms.Set = (λ built. call (codes "set") (drop 2 (row forms.Set)) _ refl, refl)
-form_again forms.Suspend = (λ built. call (codes "suspend") (drop 2 (row forms.Suspend)) _ refl, refl)
-form_again forms.Settime = (λ built. absurd cc, refl)
-form_again forms.Gettime = (λ built. absurd cc, refl)
-form_again forms.Accept = (λ built. absurd cc, refl)
-form_again forms.Overrun = (λ built. absurd cc, refl)
-form_again forms.Read = (λ built. absurd cc, refl)
-form_again forms.Readable = (λ built. absurd cc, refl)
+form_again forms.Version = (λ vs h. refl, refl)
+form_again forms.Bases = (λ vs h. refl, refl)
+form_again forms.Lanes = (λ vs h. refl, refl)
+form_again forms.Limit = (λ vs h. refl, refl)
+form_again forms.RawOnce = (callback (codes "once") (drop 4 (row forms.RawOnce)) _ refl, refl)
+form_again forms.RawEvery = (callback (codes "every") (drop 4 (row forms.RawEvery)) _ refl, refl)
+form_again forms.RawCancels = (callback (codes "cancels") (drop 4 (row forms.RawCancels)) _ refl, refl)
+form_again forms.RawStarts = (callback (codes "starts") (drop 4 (row forms.RawStarts)) _ refl, refl)
+form_again forms.Posix = (λ vs h. refl, refl)
+form_again forms.Fd = (λ vs h. refl, refl)
+form_again forms.Round = (λ vs h. refl, refl)
+form_again forms.Start = (call (codes "start") (drop 2 (row forms.Start)) _ refl, refl)
+form_again forms.Cancel = (call (codes "cancel") (drop 2 (row forms.Cancel)) _ refl, refl)
+form_again forms.Peek = (call (codes "peek") (drop 2 (row forms.Peek)) _ refl, refl)
+form_again forms.Expire = (call (codes "expire") (drop 2 (row forms.Expire)) _ refl, refl)
+form_again forms.Advance = (call (codes "advance") (drop 2 (row forms.Advance)) _ refl, refl)
+form_again forms.Set = (call (codes "set") (drop 2 (row forms.Set)) _ refl, refl)
+form_again forms.Suspend = (call (codes "suspend") (drop 2 (row forms.Suspend)) _ refl, refl)
+form_again forms.Settime = (call (codes "settime") (drop 2 (row forms.Settime)) _ refl, refl)
+form_again forms.Gettime = (call (codes "gettime") (drop 2 (row forms.Gettime)) _ refl, refl)
+form_again forms.Accept = (call (codes "accept") (drop 2 (row forms.Accept)) _ refl, refl)
+form_again forms.Overrun = (call (codes "overrun") (drop 2 (row forms.Overrun)) _ refl, refl)
+form_again forms.Read = (call (codes "read") (drop 2 (row forms.Read)) _ refl, refl)
+form_again forms.Readable = (call (codes "readable") (drop 2 (row forms.Readable)) _ refl, refl)
 
 -- ---- the form that words choose has their key words
 
--- what holds of each row of a table holds of the word and the form that it names; and lines of this form are taken
-named_holds : (P : List ℕ → Form → Type 0) (table : List (List ℕ × Form)) (word : List ℕ) (form : Form) → AllByRecursion (λ f. P f.0 f.1) table → named table word ≡ Ok form → P word form × (is_built form ≡ true)
+-- what holds of each row of a table holds of the word and the form that it names
+named_holds : (P : List ℕ → Form → Type 0) (table : List (List ℕ × Form)) (word : List ℕ) (form : Form) → AllByRecursion (λ f. P f.0 f.1) table → named table word ≡ Ok form → P word form
 unfolding named
 named_holds P [] word form all e = absurd cc
 named_holds P (f ∷ table) word form all e =
-    let go : (b : Bool) → (bytes_eq word f.0 && is_built f.1) ≡ b → (if b then Ok f.1 else named table word) ≡ Ok form → P word form × (is_built form ≡ true) = λ b. elim b as (λ b. (bytes_eq word f.0 && is_built f.1) ≡ b → (if b then Ok f.1 else named table word) ≡ Ok form → P word form × (is_built form ≡ true)) [
-      | true ↦ λ is k.
-          let both = and_parts (bytes_eq word f.0) (is_built f.1) is in
-          subst (λ form. P word form × (is_built form ≡ true)) (same_Ok f.1 form k) (subst (λ w. P w f.1) (sym ((bytes_eq-Decides word f.0).0 both.0)) all.0, both.1)
+    let go : (b : Bool) → bytes_eq word f.0 ≡ b → (if b then Ok f.1 else named table word) ≡ Ok form → P word form = λ b. elim b as (λ b. bytes_eq word f.0 ≡ b → (if b then Ok f.1 else named table word) ≡ Ok form → P word form) [
+      | true ↦ λ is k. subst (λ form. P word form) (same_Ok f.1 form k) (subst (λ w. P w f.1) (sym ((bytes_eq-Decides word f.0).0 is)) all.0)
       | false ↦ λ is k. named_holds P table word form all.1 k
     ] in
-    go (bytes_eq word f.0 && is_built f.1) refl e
+    go (bytes_eq word f.0) refl e
 
 -- no key word stands in this row
 abbrev has_no_keys : List Spot → Bool
@@ -107,24 +105,20 @@ no_keys (At place ∷ spots) (word ∷ words) none = no_keys spots words none
 abbrev Begins : (List ℕ → List Spot → List Spot) → ℕ → List ℕ → Form → Type 0
 Begins begin n key form = (row form ≡ begin key (drop n (row form))) × (has_no_keys (drop n (row form)) ≡ true)
 
--- these words have the form's key words, and lines of it are taken
-abbrev pub IsChosen : List (List ℕ) → Form → Type 0
-IsChosen words form = HasKeys (row form) words × (is_built form ≡ true)
-
-chosen : (begin : List ℕ → List Spot → List Spot) (n : ℕ) (key : List ℕ) (form : Form) (words : List (List ℕ)) → Begins begin n key form × (is_built form ≡ true)
-    → ((more : List Spot) → has_no_keys more ≡ true → HasKeys (begin key more) words) → IsChosen words form
-chosen begin n key form words is has = (subst (λ spots. HasKeys spots words) (sym is.0.0) (has (drop n (row form)) is.0.1), is.1)
+chosen : (begin : List ℕ → List Spot → List Spot) (n : ℕ) (key : List ℕ) (form : Form) (words : List (List ℕ)) → Begins begin n key form
+    → ((more : List Spot) → has_no_keys more ≡ true → HasKeys (begin key more) words) → HasKeys (row form) words
+chosen begin n key form words is has = subst (λ spots. HasKeys spots words) (sym is.0) (has (drop n (row form)) is.1)
 
 -- a form that is chosen by its first word
 abbrev plain_begin : List ℕ → List Spot → List Spot
 plain_begin key more = Key key ∷ more
 
-plain_chosen : (word : List ℕ) (words : List (List ℕ)) (form : Form) → named plain_forms word ≡ Ok form → IsChosen (word ∷ words) form
+plain_chosen : (word : List ℕ) (words : List (List ℕ)) (form : Form) → named plain_forms word ≡ Ok form → HasKeys (row form) (word ∷ words)
 plain_chosen word words form e =
     chosen plain_begin 1 word form (word ∷ words) (named_holds (Begins plain_begin 1) plain_forms word form ((refl, refl), ((refl, refl), ((refl, refl), ((refl, refl), ((refl, refl), ((refl, refl), ((refl, refl), tt))))))) e)
     (λ more none. (refl, no_keys more words none))
 
-callback_chosen : (words : List (List ℕ)) (form : Form) → first_named raw_forms (drop 2 words) ≡ Ok form → IsChosen (codes "raw" ∷ words) form
+callback_chosen : (words : List (List ℕ)) (form : Form) → first_named raw_forms (drop 2 words) ≡ Ok form → HasKeys (row form) (codes "raw" ∷ words)
 unfolding first_named
 callback_chosen [] form e = absurd cc
 callback_chosen (timer ∷ []) form e = absurd cc
@@ -132,22 +126,22 @@ callback_chosen (timer ∷ clock ∷ []) form e = absurd cc
 callback_chosen (timer ∷ clock ∷ key ∷ words) form e =
     chosen raw 4 key form _ (named_holds (Begins raw 4) raw_forms key form ((refl, refl), ((refl, refl), ((refl, refl), ((refl, refl), tt)))) e) (λ more none. (refl, (refl, no_keys more words none)))
 
-call_chosen : (lane : List ℕ) (words : List (List ℕ)) (form : Form) → first_named call_forms words ≡ Ok form → IsChosen (lane ∷ words) form
+call_chosen : (lane : List ℕ) (words : List (List ℕ)) (form : Form) → first_named call_forms words ≡ Ok form → HasKeys (row form) (lane ∷ words)
 unfolding first_named
 call_chosen lane [] form e = absurd cc
 call_chosen lane (name ∷ words) form e =
     chosen called 2 name form _ (named_holds (Begins called 2) call_forms name form ((refl, refl), ((refl, refl), ((refl, refl), ((refl, refl), ((refl, refl), ((refl, refl), ((refl, refl), ((refl, refl), ((refl, refl), ((refl, refl), ((refl, refl), ((refl, refl), ((refl, refl), tt))))))))))))) e)
     (λ more none. (refl, no_keys more words none))
 
-pub form_spells : (words : List (List ℕ)) (form : Form) → form_in words ≡ Ok form → IsChosen words form
+pub form_spells : (words : List (List ℕ)) (form : Form) → form_in words ≡ Ok form → HasKeys (row form) words
 unfolding form_in
 form_spells [] form e = absurd cc
 form_spells (word ∷ words) form e =
-    let raw_or_plain : (b : Bool) → bytes_eq word (codes "raw") ≡ b → (if b then first_named raw_forms (drop 2 words) else named plain_forms word) ≡ Ok form → IsChosen (word ∷ words) form = λ b. elim b as (λ b. bytes_eq word (codes "raw") ≡ b → (if b then first_named raw_forms (drop 2 words) else named plain_forms word) ≡ Ok form → IsChosen (word ∷ words) form) [
-      | true ↦ λ is k. subst (λ w. IsChosen (w ∷ words) form) (sym ((bytes_eq-Decides word (codes "raw")).0 is)) (callback_chosen words form k)
+    let raw_or_plain : (b : Bool) → bytes_eq word (codes "raw") ≡ b → (if b then first_named raw_forms (drop 2 words) else named plain_forms word) ≡ Ok form → HasKeys (row form) (word ∷ words) = λ b. elim b as (λ b. bytes_eq word (codes "raw") ≡ b → (if b then first_named raw_forms (drop 2 words) else named plain_forms word) ≡ Ok form → HasKeys (row form) (word ∷ words)) [
+      | true ↦ λ is k. subst (λ w. HasKeys (row form) (w ∷ words)) (sym ((bytes_eq-Decides word (codes "raw")).0 is)) (callback_chosen words form k)
       | false ↦ λ is k. plain_chosen word words form k
     ] in
-    let go : (b : Bool) → (if b then first_named call_forms words else (if bytes_eq word (codes "raw") then first_named raw_forms (drop 2 words) else named plain_forms word)) ≡ Ok form → IsChosen (word ∷ words) form = λ b. elim b as (λ b. (if b then first_named call_forms words else (if bytes_eq word (codes "raw") then first_named raw_forms (drop 2 words) else named plain_forms word)) ≡ Ok form → IsChosen (word ∷ words) form) [
+    let go : (b : Bool) → (if b then first_named call_forms words else (if bytes_eq word (codes "raw") then first_named raw_forms (drop 2 words) else named plain_forms word)) ≡ Ok form → HasKeys (row form) (word ∷ words) = λ b. elim b as (λ b. (if b then first_named call_forms words else (if bytes_eq word (codes "raw") then first_named raw_forms (drop 2 words) else named plain_forms word)) ≡ Ok form → HasKeys (row form) (word ∷ words)) [
       | true ↦ λ k. call_chosen word words form k
       | false ↦ λ k. raw_or_plain (bytes_eq word (codes "raw")) refl k
     ] in

@@ -6,7 +6,6 @@ use Rattle.script_text.specs.declared.form.Line.{Line}
 use Rattle.script_text.specs.declared.reading.drafts.Draft.{Draft}
 use Rattle.script_text.specs.declared.refusal.Refused.{Refused}
 use Rattle.script_text.specs.declared.script.Script.{Script}
-use Rattle.script_text.specs.Forms.{is_built}
 use Rattle.script_text.specs.Grammar.{IsLine, spelled}
 use Rattle.script_text.specs.Scripts.{Reads, most_bytes, is_skipped, lines_of, script_lines}
 use Rattle.script_text.specs.Drafts.{empty, script_of, with_line}
@@ -15,9 +14,9 @@ use Rattle.script_text.proofs.Lines.{line_again}
 use Rattle.script_text.proofs.Scripts.{kept, kept_skipped, kept_more, read_from}
 use Rattle.script_text.proofs.Steps.{Steps, script_steps}
 
-line_taken : (d : Draft) (part : List ℕ) (l : Line) → part ≡ spelled l → IsLine l → is_built l.form ≡ true → against d l ≡ None → with_line_in d part ≡ Ok (with_line d l)
+line_taken : (d : Draft) (part : List ℕ) (l : Line) → part ≡ spelled l → IsLine l → against d l ≡ None → with_line_in d part ≡ Ok (with_line d l)
 unfolding with_line_in
-line_taken d part l is line built none = rw (is, line_again l line built, none) refl
+line_taken d part l is line none = rw (is, line_again l line, none) refl
 
 taken : (number : ℕ) (d e : Draft) (parts : List (List ℕ)) (ls : List Line) → kept parts ≡ map spelled ls → AllByRecursion IsLine ls → Steps d ls e → e.headers ≡ 4 → script_from number d parts ≡ Ok (script_of e)
 unfolding script_from
@@ -35,7 +34,7 @@ taken number d e (part ∷ parts) ls spelling lines steps four =
         | l ∷ ls ↦ λ spelling lines steps.
             let first : part ≡ spelled l = cc in
             let others : kept parts ≡ map spelled ls = cc in
-            rw (line_taken d part l first lines.0 steps.0 steps.1) (taken (number + 1) (with_line d l) e parts ls others lines.1 steps.2 four)
+            rw (line_taken d part l first lines.0 steps.0) (taken (number + 1) (with_line d l) e parts ls others lines.1 steps.1 four)
       ]) (sym (kept_more part parts here) ∙ spelling) lines steps
     ] in
     go (is_skipped part) refl

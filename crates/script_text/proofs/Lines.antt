@@ -8,7 +8,7 @@ use Rattle.script_text.specs.declared.form.Form.{Form}
 use Rattle.script_text.specs.declared.form.Line.{Line}
 use Rattle.script_text.specs.declared.refusal.Cause.{Cause}
 use Rattle.script_text.specs.declared.refusal.Cause.TheVariants as causes
-use Rattle.script_text.specs.Forms.{is_built, row}
+use Rattle.script_text.specs.Forms.{row}
 use Rattle.script_text.specs.Grammar.{IsLine, filled, spelled}
 use Rattle.script_text.specs.Reading.{◌>>=◌, filled_by, is_bad_byte, is_empty_word, line_in, values_in, words_of}
 use Rattle.script_text.specs.Scripts.{is_skipped}
@@ -78,12 +78,12 @@ line_words l h = row_words (row l.form) l.values h (form_again l.form).1
 pub spelled_kept : (l : Line) → IsLine l → is_skipped (spelled l) ≡ false
 spelled_kept l h = kept (filled (row l.form) l.values) (line_words l h)
 
-pub line_again : (l : Line) → IsLine l → is_built l.form ≡ true → line_in (spelled l) ≡ Ok l
+pub line_again : (l : Line) → IsLine l → line_in (spelled l) ≡ Ok l
 unfolding filled_by
-line_again l h built =
+line_again l h =
     let words = filled (row l.form) l.values in
     let are = line_words l h in
-    let form = (form_again l.form).0 built l.values h in
+    let form = (form_again l.form).0 l.values h in
     line_in-words (spelled l) words (sym (words_again words are)) (good_bytes words are.1) (no_empty_word words are.1)
     ∙ rw (form, eq-eqb (length words) (length (row l.form)) (length-filled (row l.form) l.values h), values_again (row l.form) l.values h) refl
 
@@ -91,23 +91,23 @@ unless_refused : (b : Bool) (cause : Cause) (r : Result Line Cause) (l : Line) �
 unless_refused true cause r l e = absurd cc
 unless_refused false cause r l e = e
 
-filled_spells : (form : Form) (words : List (List ℕ)) (l : Line) → HasKeys (row form) words → filled_by form words ≡ Ok l → (words ≡ filled (row l.form) l.values) × IsLine l × (l.form ≡ form)
+filled_spells : (form : Form) (words : List (List ℕ)) (l : Line) → HasKeys (row form) words → filled_by form words ≡ Ok l → (words ≡ filled (row l.form) l.values) × IsLine l
 unfolding filled_by
 filled_spells form words l keys e =
-    let go : (b : Bool) → (length words == length (row form)) ≡ b → (if b then (values_in (row form) words >>= λ vs. Ok (record { form = form; values = vs })) else Err causes.WordCount) ≡ Ok l → (words ≡ filled (row l.form) l.values) × IsLine l × (l.form ≡ form) = λ b. elim b as (λ b. (length words == length (row form)) ≡ b → (if b then (values_in (row form) words >>= λ vs. Ok (record { form = form; values = vs })) else Err causes.WordCount) ≡ Ok l → (words ≡ filled (row l.form) l.values) × IsLine l × (l.form ≡ form)) [
+    let go : (b : Bool) → (length words == length (row form)) ≡ b → (if b then (values_in (row form) words >>= λ vs. Ok (record { form = form; values = vs })) else Err causes.WordCount) ≡ Ok l → (words ≡ filled (row l.form) l.values) × IsLine l = λ b. elim b as (λ b. (length words == length (row form)) ≡ b → (if b then (values_in (row form) words >>= λ vs. Ok (record { form = form; values = vs })) else Err causes.WordCount) ≡ Ok l → (words ≡ filled (row l.form) l.values) × IsLine l) [
       | true ↦ λ is k.
           let vs = bind_ok _ _ l k in
           let s = values_spell (row form) words vs.0 (eqb-true _ _ is) keys vs.1 in
-          subst (λ l. (words ≡ filled (row l.form) l.values) × IsLine l × (l.form ≡ form)) (same_Ok _ l vs.2) (s.0, s.1, refl)
+          subst (λ l. (words ≡ filled (row l.form) l.values) × IsLine l) (same_Ok _ l vs.2) (s.0, s.1)
       | false ↦ λ is k. absurd cc
     ] in
     go (length words == length (row form)) refl e
 
-pub line_spells : (bytes : List ℕ) (l : Line) → line_in bytes ≡ Ok l → (bytes ≡ spelled l) × IsLine l × (is_built l.form ≡ true)
+pub line_spells : (bytes : List ℕ) (l : Line) → line_in bytes ≡ Ok l → (bytes ≡ spelled l) × IsLine l
 unfolding line_in
 line_spells bytes l e =
     let full = unless_refused (list_any is_bad_byte bytes) causes.BadByte _ l e in
     let form = bind_ok _ _ l (unless_refused (list_any is_empty_word (words_of bytes)) causes.BadSpace _ l full) in
-    let chosen = form_spells (words_of bytes) form.0 form.1 in
-    let s = filled_spells form.0 (words_of bytes) l chosen.0 form.2 in
-    (sym (join_with_byte-slice_split 32 bytes) ∙ ap (λ (words : List (List ℕ)). join_with_byte 32 words) s.0, s.1, ap is_built s.2 ∙ chosen.1)
+    let keys = form_spells (words_of bytes) form.0 form.1 in
+    let s = filled_spells form.0 (words_of bytes) l keys form.2 in
+    (sym (join_with_byte-slice_split 32 bytes) ∙ ap (λ (words : List (List ℕ)). join_with_byte 32 words) s.0, s.1)

@@ -5,7 +5,7 @@ use Rattle.std.proofs.lemmas.List.{drop-map, drop_all, drop_more}
 use Rattle.script_text.specs.declared.form.Form.{Form}
 use Rattle.script_text.specs.declared.refusal.Cause.{Cause}
 use Rattle.script_text.specs.declared.refusal.Cause.TheVariants as causes
-use Rattle.script_text.specs.Forms.{call_forms, is_built, plain_forms, raw_forms}
+use Rattle.script_text.specs.Forms.{call_forms, plain_forms, raw_forms}
 use Rattle.script_text.specs.Reading.{begins_with_digit, first_named, form_in, named}
 
 -- what a word names among the rows of a slice from one on
@@ -13,19 +13,14 @@ abbrev pub named_from : List (Bor (List ℕ) × Form) → ℕ → List ℕ → R
 named_from forms i word = named (map (λ f. (f.0.now, f.1)) (drop i forms)) word
 
 pub named_here : (forms : List (Bor (List ℕ) × Form)) (i : ℕ) (d : Bor (List ℕ) × Form) (word : List ℕ) → i < length forms
-    → bytes_eq word (get_or forms i d).0.now ≡ true → is_built (get_or forms i d).1 ≡ true → named_from forms i word ≡ Ok (get_or forms i d).1
+    → bytes_eq word (get_or forms i d).0.now ≡ true → named_from forms i word ≡ Ok (get_or forms i d).1
 unfolding named
-named_here forms i d word inside same built = rw (drop_more forms i d inside, same, built) refl
+named_here forms i d word inside same = rw (drop_more forms i d inside, same) refl
 
-pub named_past_unbuilt : (forms : List (Bor (List ℕ) × Form)) (i : ℕ) (d : Bor (List ℕ) × Form) (word : List ℕ) → i < length forms
-    → bytes_eq word (get_or forms i d).0.now ≡ true → is_built (get_or forms i d).1 ≡ false → named_from forms i word ≡ named_from forms (i + 1) word
-unfolding named
-named_past_unbuilt forms i d word inside same unbuilt = rw (drop_more forms i d inside, same, unbuilt) refl
-
-pub named_past_other : (forms : List (Bor (List ℕ) × Form)) (i : ℕ) (d : Bor (List ℕ) × Form) (word : List ℕ) → i < length forms
+pub named_past : (forms : List (Bor (List ℕ) × Form)) (i : ℕ) (d : Bor (List ℕ) × Form) (word : List ℕ) → i < length forms
     → bytes_eq word (get_or forms i d).0.now ≡ false → named_from forms i word ≡ named_from forms (i + 1) word
 unfolding named
-named_past_other forms i d word inside other = rw (drop_more forms i d inside, other) refl
+named_past forms i d word inside other = rw (drop_more forms i d inside, other) refl
 
 pub named_end : (forms : List (Bor (List ℕ) × Form)) (i : ℕ) (word : List ℕ) → length forms ≤ i → named_from forms i word ≡ Err causes.UnknownWord
 unfolding named

@@ -9,7 +9,6 @@ use Rattle.script_text.specs.declared.refusal.Cause.{Cause}
 use Rattle.script_text.specs.declared.refusal.Cause.TheVariants as causes
 use Rattle.script_text.specs.declared.refusal.Refused.{Refused}
 use Rattle.script_text.specs.declared.script.Script.{Script}
-use Rattle.script_text.specs.Forms.{is_built}
 use Rattle.script_text.specs.Grammar.{IsLine, spelled}
 use Rattle.script_text.specs.Reading.{◌>>=◌, line_in}
 use Rattle.script_text.specs.Scripts.{Reads, most_bytes, is_skipped, lines_of, script_lines, IsInRange}
@@ -30,7 +29,6 @@ pub record Tells (ls : List Line) (parts : List (List ℕ)) (s : Script) (ms : L
 record IsRead (d : Draft) (part : List ℕ) (e : Draft) (l : Line) : Type 0 where
   spelling : part ≡ spelled l
   line : IsLine l
-  built : is_built l.form ≡ true
   none : against d l ≡ None
   told : with_line d l ≡ e
 
@@ -46,7 +44,7 @@ line_read d part e is =
       | Ok l ↦ λ read is.
           let spells = line_spells part l read in
           let both = accepted_is d e (with_line d l) (against d l) is in
-          (l, record { spelling = spells.0; line = spells.1; built = spells.2; none = both.0; told = both.1 })
+          (l, record { spelling = spells.0; line = spells.1; none = both.0; told = both.1 })
       | Err cause ↦ λ read is. absurd cc
     ] in
     go (line_in part) refl is
@@ -108,7 +106,7 @@ tells number d (part ∷ parts) ls s told lines is =
       | false ↦ λ here is.
           let now = behind_is number (with_line_in d part) _ s is in
           let l = line_read d part now.0 now.1 in
-          let told : Told now.0 (ls ++ l.0 ∷ []) = subst (λ e. Told e (ls ++ l.0 ∷ [])) l.1.told (told_line d ls l.0 told l.1.line l.1.built l.1.none) in
+          let told : Told now.0 (ls ++ l.0 ∷ []) = subst (λ e. Told e (ls ++ l.0 ∷ [])) l.1.told (told_line d ls l.0 told l.1.line l.1.none) in
           let more = tells (number + 1) now.0 parts (ls ++ l.0 ∷ []) s told (All-append IsLine ls (l.0 ∷ []) lines (l.1.line, tt)) now.2 in
           (l.0 ∷ more.0, goes_on d now.0 part parts ls l.0 s more.0 here l.1 more.1)
     ] in

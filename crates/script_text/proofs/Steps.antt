@@ -12,7 +12,6 @@ use Rattle.script_text.specs.declared.script.Kind.{Kind}
 use Rattle.script_text.specs.declared.script.LaneCall.{LaneCall}
 use Rattle.script_text.specs.declared.script.Round.{Round}
 use Rattle.script_text.specs.declared.script.Script.{Script}
-use Rattle.script_text.specs.Forms.{is_built}
 use Rattle.script_text.specs.Scripts.{of_numbers, most_bases, most_lanes, most_timers, most_events, most_calls, declaration_line, declaration_lines, call_line, round_lines, header_lines, script_lines, all_calls, IsInRange, IsKindInRange, IsCallInRange}
 use Rattle.script_text.specs.Drafts.{empty, last_round, script_of, with_header, with_timer, with_round, with_call, with_part, with_line}
 use Rattle.script_text.specs.Refusals.{is_placed, against_count, against_number, against_values, against_kind, against}
@@ -21,17 +20,17 @@ use Rattle.script_text.proofs.Lists.{All-front, All-back}
 use Rattle.script_text.proofs.Meaning.{declaration_again, call_again}
 use Rattle.script_text.proofs.Told.{full}
 
--- these lines are built, nothing is said against each, and they make one draft of another
+-- nothing is said against each of these lines, and they make one draft of another
 abbrev pub Steps : Draft → List Line → Draft → Type 0
 Steps d [] e = d ≡ e
-Steps d (l ∷ ls) e = (is_built l.form ≡ true) × (against d l ≡ None) × Steps (with_line d l) ls e
+Steps d (l ∷ ls) e = (against d l ≡ None) × Steps (with_line d l) ls e
 
 Steps-append : (d e f : Draft) (ls ms : List Line) → Steps d ls e → Steps e ms f → Steps d (ls ++ ms) f
 Steps-append d e f [] ms here there = subst (λ x. Steps x ms f) (sym here) there
-Steps-append d e f (l ∷ ls) ms here there = (here.0, here.1, Steps-append (with_line d l) e f ls ms here.2 there)
+Steps-append d e f (l ∷ ls) ms here there = (here.0, Steps-append (with_line d l) e f ls ms here.1 there)
 
-one_step : (d e f : Draft) (l : Line) (ls : List Line) → is_built l.form ≡ true → Accepts d l → with_line d l ≡ e → Steps e ls f → Steps d (l ∷ ls) f
-one_step d e f l ls built a is rest = (built, accepted_none d l a, subst (λ x. Steps x ls f) (sym is) rest)
+one_step : (d e f : Draft) (l : Line) (ls : List Line) → Accepts d l → with_line d l ≡ e → Steps e ls f → Steps d (l ∷ ls) f
+one_step d e f l ls a is rest = (accepted_none d l a, subst (λ x. Steps x ls f) (sym is) rest)
 
 -- ---- the header
 
@@ -39,18 +38,11 @@ header_steps : (b l m : ℕ) → (1 ≤ b) × (b ≤ most_bases) → (1 ≤ l) �
 unfolding against is_placed against_count against_values against_number against_kind with_line with_part with_header
 header_steps b l m bases lanes limit = (
   refl,
-  refl,
   (
-    refl,
     rw (le-leb 1 b bases.0, le-leb b most_bases bases.1) refl,
     (
-      refl,
       rw (le-leb 1 l lanes.0, le-leb l most_lanes lanes.1) refl,
-      (
-        refl,
-        rw (le-leb 1 m limit.0, le-leb m most_events limit.1) refl,
-        refl,
-      ),
+      (rw (le-leb 1 m limit.0, le-leb m most_events limit.1) refl, refl),
     ),
   ),
 )
@@ -70,7 +62,7 @@ declaration_step b l m ts clock kind f ls few range rest =
       values = is.values;
       kind = is.kind;
     } in
-    one_step d (full b l m (ts ++ record { clock = clock; kind = kind } ∷ []) [] None 0) f line ls is.built a (rw (is.part, is.means) refl) rest
+    one_step d (full b l m (ts ++ record { clock = clock; kind = kind } ∷ []) [] None 0) f line ls a (rw (is.part, is.means) refl) rest
 
 declaration_steps : (b l m : ℕ) (ts ds : List Declaration) → length ts + length ds ≤ most_timers → AllByRecursion (λ d. IsKindInRange b d.kind) ds
     → (n : ℕ) → n ≡ length ts → Steps (full b l m ts [] None 0) (declaration_lines n ds) (full b l m (ts ++ ds) [] None 0)
@@ -86,21 +78,21 @@ declaration_steps b l m ts (d ∷ ds) few ranges n is =
 -- ---- rounds
 
 -- behind the header of these bases, lanes and limit and these declarations
-module _ (b l m : ℕ) (ts : List Declaration) (kinds : AllByRecursion (λ d. IsKindInRange b d.kind) ts) where
+module _ (b l m : ℕ) (ts : List Declaration) where
   call_step : (ended : List Round) (cs : List LaneCall) (n : ℕ) (c : LaneCall) (f : Draft) (ls : List Line) → n < most_calls → c.lane < l → IsCallInRange b ts c.call
       → Steps (full b l m ts ended (Some (cs ++ c ∷ [])) (n + 1)) ls f → Steps (full b l m ts ended (Some cs) n) (call_line c.lane c.call ∷ ls) f
   unfolding is_placed against_count with_line with_part with_call
   call_step ended cs n c f ls few lane range rest =
       let d : Draft = full b l m ts ended (Some cs) n in
       let line : Line = call_line c.lane c.call in
-      let is = call_again d kinds c.lane c.call lane range in
+      let is = call_again d c.lane c.call lane range in
       let a : Accepts d line = record {
         placed = subst (λ p. is_placed d p ≡ true) (sym is.part) refl;
         count = subst (λ p. against_count d p ≡ None) (sym is.part) (rw (lt-ltb n most_calls few) refl);
         values = is.values;
         kind = is.kind;
       } in
-      one_step d (full b l m ts ended (Some (cs ++ c ∷ [])) (n + 1)) f line ls is.built a (rw (is.part, is.means) refl) rest
+      one_step d (full b l m ts ended (Some (cs ++ c ∷ [])) (n + 1)) f line ls a (rw (is.part, is.means) refl) rest
 
   call_steps : (ended : List Round) (cs more : List LaneCall) (n : ℕ) → n + length more ≤ most_calls → AllByRecursion (λ c. c.lane < l) more → AllByRecursion (λ c. IsCallInRange b ts c.call) more
       → Steps (full b l m ts ended (Some cs) n) (map (λ c. call_line c.lane c.call) more) (full b l m ts ended (Some (cs ++ more)) (n + length more))
@@ -118,7 +110,7 @@ module _ (b l m : ℕ) (ts : List Declaration) (kinds : AllByRecursion (λ d. Is
   round_step : (ended : List Round) (begun : Option (List LaneCall)) (n : ℕ) (f : Draft) (ls : List Line)
       → Steps (full b l m ts (ended ++ last_round begun) (Some []) n) ls f → Steps (full b l m ts ended begun n) (of_numbers forms.Round [] ∷ ls) f
   unfolding against is_placed against_count against_values against_kind with_line with_part with_round
-  round_step ended begun n f ls rest = (refl, refl, rest)
+  round_step ended begun n f ls rest = (refl, rest)
 
   -- a draft behind all rounds, and its script
   abbrev Ends : List Round → Option (List LaneCall) → ℕ → List Line → List Round → Type 0
@@ -143,7 +135,7 @@ pub script_steps : (s : Script) → IsInRange s → (f : Draft) × Steps empty (
 script_steps s range =
     let header = header_steps s.bases s.lanes s.limit range.bases range.lanes range.limit in
     let timers = declaration_steps s.bases s.lanes s.limit [] s.timers (omega (arith, range.timers)) range.kinds 0 refl in
-    let rounds = round_steps s.bases s.lanes s.limit s.timers range.kinds s.rounds [] None 0 (omega (arith, range.count)) range.callers range.calls in
+    let rounds = round_steps s.bases s.lanes s.limit s.timers s.rounds [] None 0 (omega (arith, range.count)) range.callers range.calls in
     let behind : Steps (full s.bases s.lanes s.limit [] [] None 0) (declaration_lines 0 s.timers ++ flat_map round_lines s.rounds) rounds.0 =
     Steps-append _ (full s.bases s.lanes s.limit s.timers [] None 0) rounds.0 (declaration_lines 0 s.timers) (flat_map round_lines s.rounds) timers rounds.1 in
     (rounds.0, Steps-append empty (full s.bases s.lanes s.limit [] [] None 0) rounds.0 (header_lines s.bases s.lanes s.limit) (declaration_lines 0 s.timers ++ flat_map round_lines s.rounds) header behind, rounds.2, rounds.3)

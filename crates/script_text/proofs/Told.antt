@@ -14,7 +14,7 @@ use Rattle.script_text.specs.declared.reading.drafts.Draft.{Draft}
 use Rattle.script_text.specs.declared.script.Declaration.{Declaration}
 use Rattle.script_text.specs.declared.script.LaneCall.{LaneCall}
 use Rattle.script_text.specs.declared.script.Round.{Round}
-use Rattle.script_text.specs.Forms.{row, part, is_built}
+use Rattle.script_text.specs.Forms.{row, part}
 use Rattle.script_text.specs.Grammar.{IsLine}
 use Rattle.script_text.specs.Scripts.{of_numbers, most_bases, most_lanes, most_timers, most_events, most_calls, declaration_line, declaration_lines, call_line, round_lines, header_lines, script_lines, all_calls, IsInRange, IsKindInRange, IsCallInRange}
 use Rattle.script_text.specs.Drafts.{last_round, script_of, with_header, with_timer, with_round, with_call, with_part, with_line}
@@ -52,7 +52,6 @@ pub data Told : Draft → List Line → Type 0 where
 -- what is known of a line that nothing was said against
 pub record IsAccepted (d : Draft) (f : Form) (vs : List Value) : Type 0 where
   pub line : fits (row f) vs ≡ true
-  pub built : is_built f ≡ true
   pub accepts : Accepts d (record { form = f; values = vs })
 
 -- these lines and this one make the draft with this one
@@ -216,7 +215,7 @@ module _ (b l m calls : ℕ) (ts : List Declaration) (f : Form) (vs : List Value
   next_timer ended None stands a is =
       let none : ended ≡ [] = stands.unbegun refl in
       let count : against_count (now ended None) parts.Declaration ≡ None = subst (λ p. against_count (now ended None) p ≡ None) is a.accepts.count in
-      let t = declares (now ended None) f vs is a.built a.line a.accepts.values in
+      let t = declares (now ended None) f vs is a.line a.accepts.values in
       let few : length ts < most_timers = ltb-true (length ts) most_timers (holds _ _ count) in
       let told : with_line (now ended None) (record { form = f; values = vs }) ≡ full b l m (ts ++ t.0 ∷ []) ended None calls = rw (is, t.1.means) refl in
       goes_from _ (so_far ended None) f vs _ _ told t.1.line
@@ -234,7 +233,7 @@ module _ (b l m calls : ℕ) (ts : List Declaration) (f : Form) (vs : List Value
       absurd cc
   next_call ended (Some cs) stands a is =
       let count : against_count (now ended (Some cs)) parts.Call ≡ None = subst (λ p. against_count (now ended (Some cs)) p ≡ None) is a.accepts.count in
-      let c = calls_for (now ended (Some cs)) f vs is a.built a.line a.accepts.values a.accepts.kind in
+      let c = calls_for (now ended (Some cs)) f vs is a.line a.accepts.values a.accepts.kind in
       let few : calls < most_calls = ltb-true calls most_calls (holds _ _ count) in
       let told : with_line (now ended (Some cs)) (record { form = f; values = vs }) ≡ full b l m ts ended (Some (cs ++ c.0 ∷ [])) (calls + 1) = rw (is, c.1.means) refl in
       goes_from _ (so_far ended (Some cs)) f vs _ _ told c.1.line (one_call b l m calls ts ended cs c.0 stands few c.1.lane c.1.range)
@@ -266,9 +265,9 @@ told_more d ls f vs (at_bases b some few) a = from_bases b some few f vs a.line 
 told_more d ls f vs (at_lanes b l some few any only) a = from_lanes b l some few any only f vs a.line a.accepts.placed a.accepts.values
 told_more d ls f vs (behind_header b l m ts ended begun calls stands) a = next_line b l m calls ts f vs ended begun stands a (part f) refl
 
--- the draft with a line that can be spelled, is built and is accepted
-pub told_line : (d : Draft) (ls : List Line) (l : Line) → Told d ls → IsLine l → is_built l.form ≡ true → against d l ≡ None → Told (with_line d l) (ls ++ l ∷ [])
-told_line d ls l told line built none = told_more d ls l.form l.values told (record { line = fits_from (row l.form) l.values line; built = built; accepts = accepts d l none })
+-- the draft with a line that can be spelled and is accepted
+pub told_line : (d : Draft) (ls : List Line) (l : Line) → Told d ls → IsLine l → against d l ≡ None → Told (with_line d l) (ls ++ l ∷ [])
+told_line d ls l told line none = told_more d ls l.form l.values told (record { line = fits_from (row l.form) l.values line; accepts = accepts d l none })
 
 -- behind the header the lines are all of the script, and it keeps to the limits
 pub told_script : (d : Draft) (ls : List Line) → Told d ls → nat_lt d.headers 4 ≡ false → (ls ≡ script_lines (script_of d)) × IsInRange (script_of d)

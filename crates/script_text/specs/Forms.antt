@@ -115,15 +115,3 @@ call_forms =
     ∷ (codes "advance", forms.Advance) ∷ (codes "set", forms.Set) ∷ (codes "suspend", forms.Suspend)
     ∷ (codes "settime", forms.Settime) ∷ (codes "gettime", forms.Gettime) ∷ (codes "accept", forms.Accept) ∷ (codes "overrun", forms.Overrun)
     ∷ (codes "read", forms.Read) ∷ (codes "readable", forms.Readable) ∷ []
-
--- whether the program takes lines of this form already
-abbrev pub is_built : Form → Bool
-is_built forms.Posix = false
-is_built forms.Fd = false
-is_built forms.Settime = false
-is_built forms.Gettime = false
-is_built forms.Accept = false
-is_built forms.Overrun = false
-is_built forms.Read = false
-is_built forms.Readable = false
-is_built form = true

@@ -1,5 +1,5 @@
 -- The history of a POSIX timer that a record tells.
-use Rattle.std.specs.Prelude.{ℕ, Bool, if◌then◌else◌, Option, Some, None, List, option_map}
+use Rattle.std.specs.Prelude.{ℕ, if◌then◌else◌, Option, Some, None, List, option_map}
 use Rattle.record_text.specs.declared.record.ClockLine.{ClockLine}
 use Rattle.record_text.specs.declared.record.Armed.{Armed}
 use Rattle.record_text.specs.declared.record.Armed.TheVariants as armings

@@ -15,7 +15,7 @@ use Rattle.script_text.specs.declared.form.Value.{Value}
 use Rattle.script_text.specs.declared.form.Value.TheVariants as values
 use Rattle.script_text.specs.declared.refusal.Cause.{Cause}
 use Rattle.script_text.specs.declared.refusal.Cause.TheVariants as causes
-use Rattle.script_text.specs.Forms.{Spot, Key, At, Sort, ClockName, ModeName, Numeral, sort, row, plain_forms, raw_forms, call_forms, is_built}
+use Rattle.script_text.specs.Forms.{Spot, Key, At, Sort, ClockName, ModeName, Numeral, sort, row, plain_forms, raw_forms, call_forms}
 
 infixl 10 ◌>>=◌
 abbrev pub ◌>>=◌ : {A B E : Type 0} → Result A E → (A → Result B E) → Result B E
@@ -66,10 +66,10 @@ values_in spots words = Ok []
 
 -- ---- forms
 
--- the form that a word names among these; a form that isn't built yet has no name
+-- the form that a word names among these
 unfoldable pub named : List (List ℕ × Form) → List ℕ → Result Form Cause
 named [] word = Err causes.UnknownWord
-named (f ∷ fs) word = if bytes_eq word f.0 && is_built f.1 then Ok f.1 else named fs word
+named (f ∷ fs) word = if bytes_eq word f.0 then Ok f.1 else named fs word
 
 -- the form that the first of these words names
 unfoldable pub first_named : List (List ℕ × Form) → List (List ℕ) → Result Form Cause

@@ -107,12 +107,12 @@ script_lines s = header_lines s.bases s.lanes s.limit ++ declaration_lines 0 s.t
 abbrev pub all_calls : List Round → List LaneCall
 all_calls rounds = flat_map (λ r. r.calls) rounds
 
--- a timer's base exists; objects aren't built yet
+-- the base that a timer's callback starts it on, or that an object's timer is on, exists
 abbrev pub IsKindInRange : ℕ → Kind → Type 0
 IsKindInRange bases (kinds.Raw (callbacks.Starts ns base)) = base < bases
 IsKindInRange bases (kinds.Raw callback) = Unit
-IsKindInRange bases (kinds.Posix base) = ⊥
-IsKindInRange bases (kinds.Fd base) = ⊥
+IsKindInRange bases (kinds.Posix base) = base < bases
+IsKindInRange bases (kinds.Fd base) = base < bases
 
 -- there is a timer of this number, and its kind suits calls of this form
 abbrev pub Suits : List Declaration → ℕ → Form → Type 0

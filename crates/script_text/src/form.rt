@@ -1,5 +1,5 @@
 ghost use Rattle.std.specs.Prelude.{◌≡◌, map};
-ghost use Rattle.script_text.specs.Forms.{is_built, part, place_at, row, suits};
+ghost use Rattle.script_text.specs.Forms.{part, place_at, row, suits};
 
 use crate::script::Kind;
 use ktime::{ClockId, Mode};
@@ -171,22 +171,5 @@ impl Form {
             Form::Read | Form::Readable => matches!(kind, Kind::Fd { .. }),
             _ => false,
         }
-    }
-
-    /// Whether the program takes lines of it already.
-    pub fn is_built(self) -> bool
-        ensures { result ≡ is_built self }
-    {
-        !matches!(
-            self,
-            Form::Posix
-                | Form::Fd
-                | Form::Settime
-                | Form::Gettime
-                | Form::Accept
-                | Form::Overrun
-                | Form::Read
-                | Form::Readable
-        )
     }
 }

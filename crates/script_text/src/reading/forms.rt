@@ -40,12 +40,12 @@ const CALLS: &[(&[u8], Form)] = &[
     (b"readable", Form::Readable),
 ];
 
-/// The form that a word names among these, if lines of it are taken already.
+/// The form that a word names among these.
 fn named(forms: &[(&[u8], Form)], word: &[u8]) -> Result<Form, Cause>
     ensures { result ≡ named (map (λ f. (f.0.now, f.1)) forms.now) word.now }
 {
     for (name, form) in forms {
-        if word == *name && form.is_built() {
+        if word == *name {
             return Ok(*form);
         }
     }

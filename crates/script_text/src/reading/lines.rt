@@ -134,15 +134,15 @@ mod tests {
             ("bas", Cause::UnknownWord),
             ("0 stop", Cause::UnknownWord),
             ("raw 00 tai never", Cause::UnknownWord),
-            ("fd 0 monotonic 0", Cause::UnknownWord),
-            ("0 read 0 8", Cause::UnknownWord),
             ("0", Cause::WordCount),
             ("raw 0 tai", Cause::WordCount),
             ("hrt 01 1", Cause::WordCount),
+            ("0 read 0", Cause::WordCount),
             ("00 peek 0", Cause::BadNumber),
             ("raw 00 tai once", Cause::BadNumber),
             ("0 advance 9223372036854775808", Cause::BadNumber),
             ("raw 0 tai every 01", Cause::UnknownWord),
+            ("fd 0 tai 01", Cause::UnknownWord),
             ("0 start 0 keep 01 0", Cause::UnknownWord),
         ];
         for (text, cause) in lines {

@@ -3,11 +3,23 @@ use super::parsing::parse;
 use crate::refusal::ParseError;
 use crate::script::{Call, Callback, Declaration, Kind, LaneCall};
 use clock_model::Write;
-use ktime::{ClockId, Mode};
+use ktime::{ClockId, Mode, TimeSpec};
 use std::alloc::Global;
 use std::process::Abort;
 
 const HEADER: &str = "hrt 1\nbases 1\nlanes 1\nlimit 100\n";
+
+/// A timer of each kind, and a round's beginning.
+const KINDS: &str = "raw 0 monotonic once\nposix 1 realtime 0\nfd 2 boottime 0\nround\n";
+
+const WHOLE: &str = "#\u{7} anything\n\nhrt 1\nbases 2\nlanes 1\nlimit 1099511627772\n\
+    raw 0 monotonic once\nraw 1 realtime every 10\n# more\nraw 2 boottime cancels\n\
+    raw 3 monotonic starts 5 1\nposix 4 realtime 1\nfd 5 boottime 0\nround\n\
+    0 start 0 rel 100 0\n0 start 1 abs 9223372036854775807 1\n0 cancel 2\n\n0 peek 3\nround\n\
+    0 settime 4 1 5 999999999 0 7\n0 settime 5 3 8 0 9223372036854775807 1000000000\n\
+    0 gettime 4\n0 gettime 5\n0 accept 4\n0 overrun 4\n0 read 5 8\n0 readable 5\n\
+    0 peek 4\n0 peek 5\nround\nround\n\
+    0 expire 1 4096\n0 advance 1\n0 set 2\n0 suspend 3";
 
 /// The line that tells the refusal of these bytes; nothing where they are read.
 fn refusal(rt: &impl Abort, alloc: Global, bytes: &[u8]) -> String {
@@ -37,7 +49,7 @@ fn tells_the_first_line_that_is_refused_and_why(rt: HostRuntime) {
         (
             HEADER,
             "raw 0 monotonic once\nround\n0 read 0 8\n",
-            "line 7: UnknownWord\n",
+            "line 7: WrongKind\n",
         ),
         ("", "\n# none\nhrt 1\n", "line 4: Unfinished\n"),
         ("", "hrt 1\nbases 1\nlanes 2\n", "line 3: LaneLimit\n"),
@@ -52,6 +64,9 @@ fn tells_the_first_line_that_is_refused_and_why(rt: HostRuntime) {
             "raw 0 monotonic starts 5 1\n",
             "line 5: BaseLimit\n",
         ),
+        (HEADER, "posix 0 realtime 1\n", "line 5: BaseLimit\n"),
+        (HEADER, "fd 0 boottime 1\n", "line 5: BaseLimit\n"),
+        (HEADER, "fd 0 boottime\n", "line 5: WordCount\n"),
         (
             HEADER,
             "round\nraw 7 monotonic once\n",
@@ -68,6 +83,32 @@ fn tells_the_first_line_that_is_refused_and_why(rt: HostRuntime) {
         let script = format!(in rt.alloc(); "{before}{rest}").expect(&rt, "memory");
         let text = refusal(&rt, rt.alloc(), script.as_bytes());
         assert_eq!(rt; text.as_str(), told, "{rest}");
+    }
+}
+
+#[test]
+fn refuses_a_call_that_is_not_for_the_kind_of_its_timer(rt: HostRuntime) {
+    let cases = [
+        ("0 settime 0 0 1 0 0 0\n", "line 9: WrongKind\n"),
+        ("0 gettime 0\n", "line 9: WrongKind\n"),
+        ("0 start 2 rel 5 0\n", "line 9: WrongKind\n"),
+        ("0 cancel 1\n", "line 9: WrongKind\n"),
+        ("0 accept 2\n", "line 9: WrongKind\n"),
+        ("0 overrun 2\n", "line 9: WrongKind\n"),
+        ("0 read 1 8\n", "line 9: WrongKind\n"),
+        ("0 readable 1\n", "line 9: WrongKind\n"),
+        ("0 start 2 rel 5 1\n", "line 9: BaseLimit\n"),
+        ("0 read 3 8\n", "line 9: NoTimer\n"),
+        (
+            "0 read 2 8\n0 accept 1\n0 gettime 3\n",
+            "line 11: NoTimer\n",
+        ),
+        ("0 peek 0\n0 peek 1\n0 peek 2\n0 settime 1 9 0 0 0 0\n", ""),
+    ];
+    for (calls, told) in cases {
+        let script = format!(in rt.alloc(); "{HEADER}{KINDS}{calls}").expect(&rt, "memory");
+        let text = refusal(&rt, rt.alloc(), script.as_bytes());
+        assert_eq!(rt; text.as_str(), told, "{calls}");
     }
 }
 
@@ -106,12 +147,7 @@ fn counts_bytes_timers_and_calls(rt: HostRuntime) {
 
 #[test]
 fn reads_a_script_whole(rt: HostRuntime) {
-    let text = "#\u{7} anything\n\nhrt 1\nbases 2\nlanes 1\nlimit 1099511627772\n\
-        raw 0 monotonic once\nraw 1 realtime every 10\n# more\nraw 2 boottime cancels\n\
-        raw 3 monotonic starts 5 1\nround\n0 start 0 rel 100 0\n\
-        0 start 1 abs 9223372036854775807 1\n0 cancel 2\n\n0 peek 3\nround\nround\n\
-        0 expire 1 4096\n0 advance 1\n0 set 2\n0 suspend 3";
-    let Ok(script) = parse(rt.alloc(), text.as_bytes()) else {
+    let Ok(script) = parse(rt.alloc(), WHOLE.as_bytes()) else {
         panic!(rt; "refused");
     };
     assert_eq!(rt;
@@ -119,15 +155,13 @@ fn reads_a_script_whole(rt: HostRuntime) {
         (2, 1, 1099511627772)
     );
     let timers = [
-        (ClockId::Monotonic, Callback::Once),
-        (ClockId::Realtime, Callback::Every { interval: 10 }),
-        (ClockId::Boottime, Callback::Cancels),
-        (ClockId::Monotonic, Callback::Starts { ns: 5, base: 1 }),
-    ]
-    .map(|(clock, callback)| Declaration {
-        clock,
-        kind: Kind::Raw { callback },
-    });
+        raw(ClockId::Monotonic, Callback::Once),
+        raw(ClockId::Realtime, Callback::Every { interval: 10 }),
+        raw(ClockId::Boottime, Callback::Cancels),
+        raw(ClockId::Monotonic, Callback::Starts { ns: 5, base: 1 }),
+        declared(ClockId::Realtime, Kind::Posix { base: 1 }),
+        declared(ClockId::Boottime, Kind::Fd { base: 0 }),
+    ];
     assert_eq!(rt; script.timers.as_slice(), timers.as_slice());
     let first = [
         start(0, Mode::Rel, 100, 0),
@@ -146,14 +180,40 @@ fn reads_a_script_whole(rt: HostRuntime) {
         write(Write::Suspend { by: 3 }),
     ]
     .map(|call| LaneCall { lane: 0, call });
-    let [a, b, c] = script.rounds.as_slice() else {
+    let [a, b, c, d] = script.rounds.as_slice() else {
         panic!(rt; "rounds");
     };
     assert_eq!(rt; a.calls.as_slice(), first.as_slice());
-    assert_eq!(rt; b.calls.as_slice().len(), 0);
-    assert_eq!(rt; c.calls.as_slice(), last.as_slice());
+    assert_eq!(rt; b.calls.as_slice(), object_calls().as_slice());
+    assert_eq!(rt; c.calls.as_slice().len(), 0);
+    assert_eq!(rt; d.calls.as_slice(), last.as_slice());
     at_most_one_script_is_read();
     bytes_are_read_or_refused();
+}
+
+/// The calls of the second round.
+fn object_calls() -> [LaneCall; 10] {
+    [
+        settime(4, 1, (5, 999999999), (0, 7)),
+        settime(5, 3, (8, 0), (9223372036854775807, 1000000000)),
+        Call::Gettime { timer: 4 },
+        Call::Gettime { timer: 5 },
+        Call::Accept { timer: 4 },
+        Call::Overrun { timer: 4 },
+        Call::Read { timer: 5, len: 8 },
+        Call::Readable { timer: 5 },
+        Call::Peek { timer: 4 },
+        Call::Peek { timer: 5 },
+    ]
+    .map(|call| LaneCall { lane: 0, call })
+}
+
+fn declared(clock: ClockId, kind: Kind) -> Declaration {
+    Declaration { clock, kind }
+}
+
+fn raw(clock: ClockId, callback: Callback) -> Declaration {
+    declared(clock, Kind::Raw { callback })
 }
 
 fn start(timer: u32, mode: Mode, ns: u64, base: u32) -> Call {
@@ -162,6 +222,21 @@ fn start(timer: u32, mode: Mode, ns: u64, base: u32) -> Call {
         mode,
         ns,
         base,
+    }
+}
+
+fn settime(timer: u32, flags: u64, value: (u64, u64), interval: (u64, u64)) -> Call {
+    Call::Settime {
+        timer,
+        flags,
+        value: TimeSpec {
+            sec: value.0,
+            nsec: value.1,
+        },
+        interval: TimeSpec {
+            sec: interval.0,
+            nsec: interval.1,
+        },
     }
 }
 

@@ -1,4 +1,4 @@
-use Rattle.std.proofs.Common.{arith, sym, ap, subst, ◌∙◌, ◌≡◌, ◌≤◌, ◌<◌, ◌+◌, ◌++◌, [], ◌∷◌, None, List, length, map, take, get_or}
+use Rattle.std.proofs.Common.{arith, sym, ap, subst, ◌∙◌, ◌≡◌, ◌≤◌, ◌<◌, ◌+◌, ◌++◌, [], ◌∷◌, None, ℕ, List, length, map, take, get_or}
 use Rattle.script_text.specs.declared.script.LaneCall.{LaneCall}
 use Rattle.script_text.specs.declared.script.Call.{Call}
 use Rattle.script_text.specs.declared.script.Round.{Round}
@@ -7,8 +7,14 @@ use Rattle.script_text.specs.Fits.{Fits}
 use Rattle.std.proofs.lemmas.List.{take_all}
 use Rattle.std.proofs.lemmas.Result.{IfOk-weaker}
 use Rattle.hrt_app.specs.Runs.{GoesOn, progress}
-use Rattle.hrt_app.specs.Turns.{calls_in}
-use Rattle.hrt_app.proofs.Rounds.{GoesOn-append, calls_more, few_calls, length-goes, run_fits}
+use Rattle.hrt_app.specs.Turns.{Suits, calls_in}
+use Rattle.std.specs.List.{AllByRecursion}
+use Rattle.script_text.specs.Objects.{kind_of}
+use Rattle.hrt_app.specs.declared.objects.Object.{Object}
+use Rattle.hrt_app.specs.Objects.{kind_in, object_at}
+use Rattle.hrt_app.proofs.Lists.{All-map}
+use Rattle.hrt_app.proofs.SameKinds.{opened_kinds, suits_same, turns_kinds}
+use Rattle.hrt_app.proofs.Rounds.{All-at, GoesOn-append, calls_more, few_calls, length-goes, run_fits}
 use Rattle.seq_timer.specs.Tables.{timer_at}
 use Rattle.timer_core.specs.Kept.{Kept}
 use Rattle.script_text.specs.declared.script.Declaration.{Declaration}
@@ -30,6 +36,22 @@ make_round-requires-clause-idle g c =
     let goes = c.loop-round.invariant.goes in
     turns_still 0 (progress c.in_ok-run.run') (progress c.loop-round.run) (calls_in (take c.loop-round.round-index c.args.script.now.rounds)) goes.given goes.turns
     (λ u. subst (λ (k : Kept). (timer_at k.timers u).running ≡ None) (sym c.loop-round.invariant.opened.core) (opened_still (map (λ (d : Declaration). d.clock) c.args.script.now.timers) c.args.script.now.limit u))
+
+pub make_round-requires-clause-suits : goal.make_round-requires-clause-suits
+make_round-requires-clause-suits g c =
+    let i = c.loop-round.round-index in
+    let s = c.args.script.now in
+    let below : i < length s.rounds = subst (λ (xs : List Round). i < length xs) c.as_slice-round-items.ensures c.loop-round-test.true in
+    let round = c.round-item.result in
+    let item : round ≡ get_or s.rounds i round = subst (λ (xs : List Round). round ≡ get_or xs i round) c.as_slice-round-items.ensures c.round-item.is in
+    let goes = c.loop-round.invariant.goes in
+    let kinds = λ (u : ℕ).
+    turns_kinds 0 (progress c.in_ok-run.run') (progress c.loop-round.run) (calls_in (take i s.rounds)) goes.given goes.turns u
+    ∙ ap (λ (os : List Object). kind_in (object_at os u)) c.loop-round.invariant.opened.objects ∙ opened_kinds s.limit s.timers u in
+    All-map (λ (x : LaneCall). Suits (kind_of s) x.call) (λ (x : LaneCall). Suits (λ u. kind_in (object_at c.loop-round.run.objects u)) x.call) round.calls
+    (λ x suit. suits_same (kind_of s) (λ u. kind_in (object_at c.loop-round.run.objects u)) kinds x.call suit)
+    (subst (λ (r : Round). AllByRecursion (λ (x : LaneCall). Suits (kind_of s) x.call) r.calls) (sym item)
+    (All-at (λ (r : Round). AllByRecursion (λ (x : LaneCall). Suits (kind_of s) x.call) r.calls) s.rounds i round c.requires.one_lane.suited below))
 
 pub loop-round-preserved : goal.loop-round-preserved
 loop-round-preserved g c =

@@ -5,8 +5,10 @@ use Rattle.script_text.specs.declared.script.Call.TheVariants.{Start}
 use Rattle.ktime.specs.declared.mode.Mode.TheVariants.{Abs}
 use Rattle.record_text.specs.declared.record.Answer.{Answer}
 use Rattle.hrt_app.specs.Runs.{GoesOn, RunState, progress}
-use Rattle.hrt_app.specs.Turns.{Turns}
-use Rattle.hrt_app.proofs.Rounds.{GoesOn-append, GoesOn-one, lane_more, length-goes, length-lane}
+use Rattle.hrt_app.specs.Turns.{Suits, Turns}
+use Rattle.hrt_app.specs.Objects.{kind_in, object_at}
+use Rattle.hrt_app.proofs.Rounds.{All-at, GoesOn-append, GoesOn-one, lane_more, length-goes, length-lane}
+use Rattle.hrt_app.proofs.SameKinds.{suits_same, turns_kinds}
 use Rattle.hrt_app.proofs.Still.{turns_still}
 use Rattle.hrt_app.proofs.run.Run.make_round.Goals as goal
 
@@ -31,6 +33,18 @@ call-requires-clause-counted g c =
 pub call-requires-clause-idle : goal.call-requires-clause-idle
 call-requires-clause-idle g c =
     turns_still (length c.args.answers.now.items) (progress c.args.self.now) (progress c.loop-line.self) (map (λ (x : LaneCall). x.call) (take c.loop-line.line-index c.args.round.now.calls)) c.loop-line.invariant.given c.loop-line.invariant.turns c.requires.idle
+
+pub call-requires-clause-suits : goal.call-requires-clause-suits
+call-requires-clause-suits g c =
+    let i = c.loop-line.line-index in
+    let calls = c.args.round.now.calls in
+    let nothing : LaneCall = record { lane = 0; call = Start 0 Abs 0 0 } in
+    let below : i < length calls = subst (λ (xs : List LaneCall). i < length xs) c.as_slice-line-items.ensures c.loop-line-test.true in
+    let suit = All-at (λ (x : LaneCall). Suits (λ u. kind_in (object_at c.args.self.now.objects u)) x.call) calls i nothing c.requires.suits below in
+    subst (λ (xs : List LaneCall). Suits (λ u. kind_in (object_at c.loop-line.self.objects u)) (get_or xs i nothing).call) (sym c.as_slice-line-items.ensures)
+    (suits_same (λ u. kind_in (object_at c.args.self.now.objects u)) (λ u. kind_in (object_at c.loop-line.self.objects u))
+    (turns_kinds (length c.args.answers.now.items) (progress c.args.self.now) (progress c.loop-line.self) (map (λ (x : LaneCall). x.call) (take i calls)) c.loop-line.invariant.given c.loop-line.invariant.turns)
+    (get_or calls i nothing).call suit)
 
 pub loop-line-preserved : goal.loop-line-preserved
 loop-line-preserved g c =
