@@ -1,3 +1,4 @@
+-- What the clock shows at one moment.
 use Rattle.std.specs.Prelude.{ℕ, ◌^◌, ◌≤◌}
 use Rattle.ktime.specs.declared.clock_id.ClockId.{ClockId}
 use Rattle.ktime.specs.declared.clock_id.ClockId.TheVariants as clocks

@@ -1,3 +1,4 @@
+//! The three clocks that a timer can be declared on.
 /// A clock that timers are declared on, as in `clock_gettime(2)`.
 #[derive(Clone, Copy, Debug, PartialEq, Eq)]
 pub enum ClockId {

@@ -1,3 +1,4 @@
+//! Moving the expiry of a periodic timer past now, by whole intervals.
 ghost use Rattle.std.specs.Prelude.{◌≡◌, ◌≤◌, ◌<◌, ◌+◌, ℕ, suc, nat_lt, if◌then◌else◌};
 ghost use Rattle.ktime.specs.Times.{last_time, next_after, passed, step_of, IsFewest};
 
@@ -7,6 +8,7 @@ use crate::times::LAST_TIME;
 #[derive(Clone, Copy, Debug, PartialEq, Eq)]
 pub struct Forwarded {
     pub count: u64,
+    /// In nanoseconds, at most the end of time.
     pub expires: u64,
 }
 

@@ -1,3 +1,4 @@
+//! The ways in which a start gives its time.
 /// How a start gives the expiry.
 #[derive(Clone, Copy, Debug, PartialEq, Eq)]
 pub enum Mode {

@@ -1,3 +1,4 @@
+//! What the clock shows at one moment.
 ghost use Rattle.std.specs.Prelude.{◌≡◌};
 ghost use Rattle.ktime.specs.Readings.{ClockReading, IsTimely, value_of};
 
@@ -7,10 +8,12 @@ use std::marker::Model;
 /// What the clock shows at one moment. The three times are nanoseconds.
 #[derive(Clone, Copy, Debug, PartialEq, Eq)]
 pub struct Reading {
+    /// How many writes the clock has taken: its sequence number, not a time.
     pub stamp: u64,
     pub mono: u64,
     pub real: u64,
     pub boot: u64,
+    /// How often a write moved the real time against the monotonic one.
     pub changes: u64,
 }
 

@@ -1,3 +1,4 @@
+//! Sums that stop at the end of time, and the clock that a timer is kept on.
 ghost use Rattle.std.specs.Prelude.{◌≡◌, ◌+◌, ◌-◌, ◌^◌};
 ghost use Rattle.ktime.specs.Times.{effective_clock, last_time, sat};
 
@@ -15,7 +16,7 @@ pub fn sat_add(a: u64, b: u64) -> u64
 }
 
 /// The clock that a timer is kept on after a start: a relative time on the real-time clock is
-/// kept on the monotonic clock (`hrtimer_setup`), so that setting the time of day leaves it alone.
+/// kept on the monotonic clock (`__hrtimer_init`), so that setting the time of day leaves it alone.
 pub fn effective(declared: ClockId, mode: Mode, present: ClockId) -> ClockId
     ensures { result ≡ effective_clock declared mode present }
 {

@@ -1,3 +1,4 @@
+//! Times in seconds and nanoseconds, as POSIX hands them over.
 ghost use Rattle.std.specs.Prelude.{◌≡◌, ◌≤◌, ◌↔◌, IfOk, IsErr};
 ghost use Rattle.ktime.specs.Times.{nanoseconds, second};
 
