@@ -7,9 +7,9 @@ use Rattle.pass_names.specs.Names.{IsLast}
 use Rattle.pass_names.specs.Passes.{entries, within}
 use Rattle.pass_names.proofs.Passes.{places_of_one}
 use Rattle.clock_cell.specs.declared.view.ClockView.{ClockView}
-use Rattle.clock_cell.specs.Views.{Knows, writes}
+use Rattle.clock_cell.specs.Views.{KnowsClock, writes}
 
-pub all_made : (v : ClockView) → Knows v → IsLast v.pass.line → length (writes v) ≡ length v.pass.mine
+pub all_made : (v : ClockView) → KnowsClock v → IsLast v.pass.id → length (writes v) ≡ length v.pass.mine
 all_made v knows last =
     let each = knows.all_entries last in
     sym (places_of_one 0 (length (writes v)) v.pass.mine (λ k. each.once 0 k) (λ j k apart. each.once j k ∙ (ap (λ seen. one_if (within k (length (entries j seen)))) knows.one ∙ elsewhere j k apart)))

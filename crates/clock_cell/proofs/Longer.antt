@@ -8,8 +8,8 @@ use Rattle.clock_model.specs.declared.write.Write.{Write}
 use Rattle.pass_names.specs.Passes.{Begins, GoesOn, Retires, Meets}
 use Rattle.pass_names.proofs.Passes.{begins_refl, begins_nil, begins_trans}
 use Rattle.clock_cell.specs.declared.view.ClockView.{ClockView}
-use Rattle.clock_cell.specs.Views.{AreOfOne, Hears, longer, writes, all_told, told_of, joined}
-use Rattle.clock_cell.specs.Plays.{IsResting}
+use Rattle.clock_cell.specs.Views.{AreOfOne, Hears, longer, writes, all_heard, told_clock_view, joined_clock_view}
+use Rattle.clock_cell.specs.Plays.{IsRestingView}
 use Rattle.clock_cell.proofs.Frames.{goes_one}
 
 -- what holds of both lists holds of the longer one
@@ -44,44 +44,44 @@ goes_on xs ys all a b = by (nat_lt (length xs) (length ys)) refl
     by false e = (begins_refl xs, begins_other b a (grind (arith, nat_tests, e)))
 
 -- what a pass was told of another begins what it sees next, as does what it had seen itself
-pub of_one : (v w old new : ClockView) → old.told ≡ all_told v w → Hears old new → Begins (writes v) (writes new) × Begins (writes w) (writes new)
-of_one v w old new told hears =
+pub of_one : (v w old new : ClockView) → old.heard ≡ all_heard v w → Hears old new → Begins (writes v) (writes new) × Begins (writes w) (writes new)
+of_one v w old new heard hears =
     let P : List Write → Type 0 = λ ws. Begins ws (writes new) in
-    let all : All P (all_told v w) = subst (All P) told hears.begins in
-    (All-head P (writes v) (writes w ∷ v.told ++ w.told) all, All-head P (writes w) (v.told ++ w.told) (All-tail P (writes v) (writes w ∷ v.told ++ w.told) all))
+    let all : All P (all_heard v w) = subst (All P) heard hears.begins in
+    (All-head P (writes v) (writes w ∷ v.heard ++ w.heard) all, All-head P (writes w) (v.heard ++ w.heard) (All-tail P (writes v) (writes w ∷ v.heard ++ w.heard) all))
 
-module _ (v w : ClockView) (is : IsResting v) (is_w : IsResting w) (one : AreOfOne (writes v) (writes w)) where
+module _ (v w : ClockView) (is : IsRestingView v) (is_w : IsRestingView w) (one : AreOfOne (writes v) (writes w)) where
   -- what was seen with a pass goes on where its one list does
-  from : (u : ClockView) (ws : List Write) → IsResting u → Begins (writes u) ws → GoesOn u.pass.seen (ws ∷ [])
+  from : (u : ClockView) (ws : List Write) → IsRestingView u → Begins (writes u) ws → GoesOn u.pass.seen (ws ∷ [])
   from u ws rests b = subst (λ seen. GoesOn seen (ws ∷ [])) (sym rests.one) (goes_one (writes u) ws b)
 
-  retires : Retires v.pass w.pass (joined v w).pass
+  retires : Retires v.pass w.pass (joined_clock_view v w).pass
   retires =
       let t = goes_on (writes v) (writes w) one.all one.first one.second in
-      record { seen = from v _ is t.0; heard = from w _ is_w t.1; mine = refl; line = refl }
+      record { seen = from v _ is t.0; heard = from w _ is_w t.1; mine = refl; id = refl }
 
-  meets : Meets v.pass w.pass (told_of v (told_of w v)).pass (told_of w v).pass
+  meets : Meets v.pass w.pass (told_clock_view v (told_clock_view w v)).pass (told_clock_view w v).pass
   meets =
-      let told = longer (writes w) (writes v) in
+      let heard = longer (writes w) (writes v) in
       let t = goes_on (writes w) (writes v) one.all one.second one.first in
-      let u = goes_on (writes v) told one.all one.first (longer_begins (writes w) (writes v) one.all one.second one.first) in
+      let u = goes_on (writes v) heard one.all one.first (longer_begins (writes w) (writes v) one.all one.second one.first) in
       record {
-        first = record { seen = from v _ is u.0; mine = refl; line = refl };
-        second = record { seen = from w _ is_w t.0; mine = refl; line = refl };
+        first = record { seen = from v _ is u.0; mine = refl; id = refl };
+        second = record { seen = from w _ is_w t.0; mine = refl; id = refl };
         first_heard = from w _ is_w (begins_trans t.0 u.1);
         second_heard = from v _ is t.1;
         one = goes_one _ _ u.1;
       }
 
 -- the same of the views of seats: those before, inside the passes, and those after
-module _ (v w before other : ClockView) (e : before ≡ v) (f : other ≡ w) (is : IsResting before) (is_w : IsResting other) (one : AreOfOne (writes v) (writes w)) where
-  pub retires_at : (after : ClockView) → after ≡ joined before other → Retires v.pass w.pass after.pass
-  retires_at after told =
-      subst (λ u. Retires v.pass w.pass u.pass) (sym (told ∙ (ap (λ u. joined u other) e ∙ ap (joined v) f)))
-      (retires v w (subst IsResting e is) (subst IsResting f is_w) one)
+module _ (v w before other : ClockView) (e : before ≡ v) (f : other ≡ w) (is : IsRestingView before) (is_w : IsRestingView other) (one : AreOfOne (writes v) (writes w)) where
+  pub retires_at : (after : ClockView) → after ≡ joined_clock_view before other → Retires v.pass w.pass after.pass
+  retires_at after heard =
+      subst (λ u. Retires v.pass w.pass u.pass) (sym (heard ∙ (ap (λ u. joined_clock_view u other) e ∙ ap (joined_clock_view v) f)))
+      (retires v w (subst IsRestingView e is) (subst IsRestingView f is_w) one)
 
-  pub meets_at : (from to first second : ClockView) → from ≡ before → to ≡ told_of other before → second ≡ to → first ≡ told_of from to → Meets v.pass w.pass first.pass second.pass
-  meets_at from to first second same told again back =
-      let heard : to ≡ told_of w v = told ∙ (ap (λ u. told_of u before) f ∙ ap (told_of w) e) in
-      subst (λ u. Meets v.pass w.pass u.pass second.pass) (sym (back ∙ (ap (λ u. told_of u to) (same ∙ e) ∙ ap (told_of v) heard)))
-      (subst (λ u. Meets v.pass w.pass (told_of v (told_of w v)).pass u.pass) (sym (again ∙ heard)) (meets v w (subst IsResting e is) (subst IsResting f is_w) one))
+  pub meets_at : (from to first second : ClockView) → from ≡ before → to ≡ told_clock_view other before → second ≡ to → first ≡ told_clock_view from to → Meets v.pass w.pass first.pass second.pass
+  meets_at from to first second same heard again back =
+      let heard : to ≡ told_clock_view w v = heard ∙ (ap (λ u. told_clock_view u before) f ∙ ap (told_clock_view w) e) in
+      subst (λ u. Meets v.pass w.pass u.pass second.pass) (sym (back ∙ (ap (λ u. told_clock_view u to) (same ∙ e) ∙ ap (told_clock_view v) heard)))
+      (subst (λ u. Meets v.pass w.pass (told_clock_view v (told_clock_view w v)).pass u.pass) (sym (again ∙ heard)) (meets v w (subst IsRestingView e is) (subst IsRestingView f is_w) one))

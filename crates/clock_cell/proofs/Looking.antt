@@ -18,10 +18,10 @@ use Rattle.pass_names.proofs.Names.{last_alone}
 use Rattle.pass_names.proofs.Counts.{total_only}
 use Rattle.pass_names.proofs.Passes.{within_more, count_place, begins_refl, begins_trans, begins_more, goes_refl, goes_trans}
 use Rattle.clock_cell.specs.declared.view.ClockView.{ClockView}
-use Rattle.clock_cell.specs.Views.{reading_after, Knows, having_seen}
-use Rattle.clock_cell.specs.Words.{words_of, reading_in}
-use Rattle.clock_cell.specs.Rules.{line_of, places_at, Home}
-use Rattle.clock_cell.specs.Plays.{IsResting, Looked, Tried}
+use Rattle.clock_cell.specs.Views.{reading_after, KnowsClock, having_read}
+use Rattle.clock_cell.specs.Words.{cell_words, reading_in}
+use Rattle.clock_cell.specs.Rules.{clock_pass_id, clock_places, ClockInvariant}
+use Rattle.clock_cell.specs.Plays.{IsRestingView, Loaded, Exchanged}
 use Rattle.clock_cell.proofs.Writes.{counted_one, after_push, accepted_push}
 use Rattle.clock_cell.proofs.Frames.{goes_one, turned}
 
@@ -31,31 +31,31 @@ set_there (x ∷ xs) zero a b e = refl
 set_there (x ∷ xs) (suc i) a b e = set_there xs i a b e
 
 -- what is known of a pass that has seen all writes
-module _ (words : List ℕ) (views : List ClockView) (home : Home words views)
-    (id : ℕ) (v : ClockView) (at : get_elem? views id ≡ some v) (live : v.pass.line.live ≡ true) (all : v.pass.seen ≡ home.log ∷ []) where
+module _ (words : List ℕ) (views : List ClockView) (inv : ClockInvariant words views)
+    (id : ℕ) (v : ClockView) (at : get_elem? views id ≡ some v) (live : v.pass.id.live ≡ true) (all : v.pass.seen ≡ inv.log ∷ []) where
   -- where the pass is the last, all others are gone
-  others_gone : IsLast v.pass.line → (j : ℕ) (u : ClockView) → j ≢ id → get_elem? views j ≡ some u → u.pass.line.live ≡ false
+  others_gone : IsLast v.pass.id → (j : ℕ) (u : ClockView) → j ≢ id → get_elem? views j ≡ some u → u.pass.id.live ≡ false
   others_gone last j u apart at_u =
       ⊎_elim
-      (λ t. absurd (apart (last_alone (map line_of views) home.tree id j (line_of v) (line_of u) (at_map line_of views id v at) live last (at_map line_of views j u at_u) t)))
+      (λ t. absurd (apart (last_alone (map clock_pass_id views) inv.tree id j (clock_pass_id v) (clock_pass_id u) (at_map clock_pass_id views id v at) live last (at_map clock_pass_id views j u at_u) t)))
       (λ f. f)
-      (cases_Bool u.pass.line.live)
+      (cases_Bool u.pass.id.live)
 
-  has_each : IsLast v.pass.line → HasEach v.pass.seen v.pass.mine
+  has_each : IsLast v.pass.id → HasEach v.pass.seen v.pass.mine
   has_each last = record {
     once = λ i k.
-        sym (total_only (places_at i k) views id v at (λ j u apart at_u. ap (count (is_place i k)) ((home.each_view j u at_u).gone (others_gone last j u apart at_u))))
-        ∙ (home.tally i k ∙ ap (λ seen. one_if (within k (length (entries i seen)))) (sym all));
+        sym (total_only (clock_places i k) views id v at (λ j u apart at_u. ap (count (is_place i k)) ((inv.each_view j u at_u).gone (others_gone last j u apart at_u))))
+        ∙ (inv.tally i k ∙ ap (λ seen. one_if (within k (length (entries i seen)))) (sym all));
   }
 
-  pub knows_of : Knows v
+  pub knows_of : KnowsClock v
   knows_of = record {
     one = all ∙ ap (λ seen. entries 0 seen ∷ []) (sym all);
-    legal = subst (λ seen. AreAccepted (at_stamp 0) (entries 0 seen)) (sym all) home.legal;
+    legal = subst (λ seen. AreAccepted (at_stamp 0) (entries 0 seen)) (sym all) inv.legal;
     all_entries = has_each;
   }
 
-  pub rests_of : v.told ≡ [] → IsResting v
+  pub rests_of : v.heard ≡ [] → IsRestingView v
   rests_of none = record {
     live = live;
     one = knows_of.one;
@@ -63,35 +63,35 @@ module _ (words : List ℕ) (views : List ClockView) (home : Home words views)
     known = λ t. knows_of;
   }
 
-module _ (id : ℕ) (v : ClockView) (live : v.pass.line.live ≡ true) where
-  no_gone : {A : Type 0} → v.pass.line.live ≡ false → A
+module _ (id : ℕ) (v : ClockView) (live : v.pass.id.live ≡ true) where
+  no_gone : {A : Type 0} → v.pass.id.live ≡ false → A
   no_gone off = absurd (true≢false (sym live ∙ off))
 
   -- where the words stay, the pass may see all writes
-  pub looks_at : (words : List ℕ) (views : List ClockView) → Home words views → get_elem? views id ≡ some v → (w : ClockView) × Home words (slice_set views id w) × Looked v words w
-  looks_at words views home at =
-      let w = having_seen home.log v in
-      let fits = home.each_view id v at in
-      let next = turned words views home id v w words home.log at (begins_refl home.log) home.shows home.legal
-      (record { seen = goes_refl (home.log ∷ []); told = All-nil (λ ws. Begins ws home.log); gone = no_gone }) refl (λ i k. refl) in (
+  pub looks_at : (words : List ℕ) (views : List ClockView) → ClockInvariant words views → get_elem? views id ≡ some v → (w : ClockView) × ClockInvariant words (slice_set views id w) × Loaded v words w
+  looks_at words views inv at =
+      let w = having_read inv.log v in
+      let agrees = inv.each_view id v at in
+      let next = turned words views inv id v w words inv.log at (begins_refl inv.log) inv.shows inv.legal
+      (record { seen = goes_refl (inv.log ∷ []); heard = All-nil (λ ws. Begins ws inv.log); gone = no_gone }) refl (λ i k. refl) in (
         w,
         next.0,
         record {
-          looks = record { seen = fits.seen; mine = refl; line = refl };
+          looks = record { seen = agrees.seen; mine = refl; id = refl };
           sees = record {
-            shows = home.shows;
-            hears = record { begins = fits.told; none = refl };
+            shows = inv.shows;
+            hears = record { begins = agrees.heard; none = refl };
             rests = rests_of words (slice_set views id w) next.0 id w (set_there views id v w at) live (ap (λ log. log ∷ []) (sym next.1)) refl;
           };
         },
       )
 
-  pub looks : Turns Home id v (λ x. x) (λ old before after new. Looked old after new)
-  looks words views home at = looks_at words views home at
+  pub looks : Turns ClockInvariant id v (λ x. x) (λ old before after new. Loaded old after new)
+  looks words views inv at = looks_at words views inv at
 
   module _ (r : ClockReading) (w : Write) (ok : IsAccepted r w) where
     abbrev Goes : List ℕ → List ClockView → List ℕ → Type 0
-    Goes words views words' = (u : ClockView) × Home words' (slice_set views id u) × Tried w v words words' u
+    Goes words views words' = (u : ClockView) × ClockInvariant words' (slice_set views id u) × Exchanged w v words words' u
 
     -- the write's place is one more
     one_place : (log : List Write) (i k : ℕ) → count (is_place i k) (v.pass.mine ++ (0, length log + 1) ∷ []) + one_if (within k (length (entries i (log ∷ []))))
@@ -102,48 +102,48 @@ module _ (id : ℕ) (v : ClockView) (live : v.pass.line.live ≡ true) where
         omega (arith, elsewhere, count_place 0 (suc i) k (length log + 1) v.pass.mine)
 
     -- the words are those of the reading: the write is made
-    hits : (words : List ℕ) (views : List ClockView) → Home words views → get_elem? views id ≡ some v → words ≡ words_of r → Goes words views (words_of (after_write r w))
-    hits words views home at same =
-        let log = home.log ++ w ∷ [] in
-        let now : r ≡ reading_after home.log = ap reading_in (sym same ∙ home.shows) in
-        let accepted : IsAccepted (reading_after home.log) w = subst (λ x. IsAccepted x w) now ok in
-        let shows : words_of (after_write r w) ≡ words_of (reading_after log) = ap words_of (ap (λ x. after_write x w) now ∙ sym (after_push (at_stamp 0) home.log w)) in
-        let more : Begins home.log log = begins_more home.log (w ∷ []) in
-        let fits = home.each_view id v at in
-        let u : ClockView = record { pass = record v.pass { seen = log ∷ []; mine = v.pass.mine ++ (0, length home.log + 1) ∷ [] }; told = [] } in
-        let next = turned words views home id v u (words_of (after_write r w)) log at more shows (accepted_push (at_stamp 0) home.log w home.legal accepted)
-        (record { seen = goes_refl (log ∷ []); told = All-nil (λ ws. Begins ws log); gone = no_gone }) refl (one_place home.log) in
-        let stamp : slice_index (words_of (after_write r w)) 0 ≡ slice_index words 0 + 1 = counted_one r w ∙ ap (λ ws. slice_index ws 0 + 1) (sym same) in (
+    hits : (words : List ℕ) (views : List ClockView) → ClockInvariant words views → get_elem? views id ≡ some v → words ≡ cell_words r → Goes words views (cell_words (after_write r w))
+    hits words views inv at same =
+        let log = inv.log ++ w ∷ [] in
+        let now : r ≡ reading_after inv.log = ap reading_in (sym same ∙ inv.shows) in
+        let accepted : IsAccepted (reading_after inv.log) w = subst (λ x. IsAccepted x w) now ok in
+        let shows : cell_words (after_write r w) ≡ cell_words (reading_after log) = ap cell_words (ap (λ x. after_write x w) now ∙ sym (after_push (at_stamp 0) inv.log w)) in
+        let more : Begins inv.log log = begins_more inv.log (w ∷ []) in
+        let agrees = inv.each_view id v at in
+        let u : ClockView = record { pass = record v.pass { seen = log ∷ []; mine = v.pass.mine ++ (0, length inv.log + 1) ∷ [] }; heard = [] } in
+        let next = turned words views inv id v u (cell_words (after_write r w)) log at more shows (accepted_push (at_stamp 0) inv.log w inv.legal accepted)
+        (record { seen = goes_refl (log ∷ []); heard = All-nil (λ ws. Begins ws log); gone = no_gone }) refl (one_place inv.log) in
+        let stamp : slice_index (cell_words (after_write r w)) 0 ≡ slice_index words 0 + 1 = counted_one r w ∙ ap (λ ws. slice_index ws 0 + 1) (sym same) in (
           u,
           next.0,
           record {
             missed = λ e. let t = ap (λ ws. slice_index ws 0) e in absurd (omega arith);
             made = λ e. record {
               adds = record {
-                seen = goes_trans fits.seen (goes_one home.log log more);
-                before = home.log;
-                begins = fits.seen.each 0;
+                seen = goes_trans agrees.seen (goes_one inv.log log more);
+                before = inv.log;
+                begins = agrees.seen.each 0;
                 last = refl;
                 mine = refl;
-                line = refl;
+                id = refl;
               };
               accepted = accepted;
               sees = record {
                 shows = shows;
-                hears = record { begins = All-weaker (λ ws. Begins ws home.log) (λ ws. Begins ws log) (λ ws t. begins_trans t more) v.told fits.told; none = refl };
-                rests = rests_of (words_of (after_write r w)) (slice_set views id u) next.0 id u (set_there views id v u at) live (ap (λ l. l ∷ []) (sym next.1)) refl;
+                hears = record { begins = All-weaker (λ ws. Begins ws inv.log) (λ ws. Begins ws log) (λ ws t. begins_trans t more) v.heard agrees.heard; none = refl };
+                rests = rests_of (cell_words (after_write r w)) (slice_set views id u) next.0 id u (set_there views id v u at) live (ap (λ l. l ∷ []) (sym next.1)) refl;
               };
             };
           },
         )
 
     -- they are not: nothing is made
-    misses : (words : List ℕ) (views : List ClockView) → Home words views → get_elem? views id ≡ some v → Goes words views words
-    misses words views home at = let t = looks_at words views home at in (t.0, t.1, record { missed = λ e. t.2; made = λ e. absurd (omega arith) })
+    misses : (words : List ℕ) (views : List ClockView) → ClockInvariant words views → get_elem? views id ≡ some v → Goes words views words
+    misses words views inv at = let t = looks_at words views inv at in (t.0, t.1, record { missed = λ e. t.2; made = λ e. absurd (omega arith) })
 
-    pub enters : Turns Home id v (λ x. if pointwise nat_eq x (words_of r) then words_of (after_write r w) else x) (Tried w)
-    enters words views home at = tried (pointwise nat_eq words (words_of r)) refl
+    pub enters : Turns ClockInvariant id v (λ x. if pointwise nat_eq x (cell_words r) then cell_words (after_write r w) else x) (Exchanged w)
+    enters words views inv at = tried (pointwise nat_eq words (cell_words r)) refl
       where
-        tried : (b : Bool) → pointwise nat_eq words (words_of r) ≡ b → Goes words views (if b then words_of (after_write r w) else words)
-        tried true e = hits words views home at ((bytes_decides words (words_of r)).0 e)
-        tried false e = misses words views home at
+        tried : (b : Bool) → pointwise nat_eq words (cell_words r) ≡ b → Goes words views (if b then cell_words (after_write r w) else words)
+        tried true e = hits words views inv at ((bytes_decides words (cell_words r)).0 e)
+        tried false e = misses words views inv at

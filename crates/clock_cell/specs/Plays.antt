@@ -2,46 +2,46 @@
 use Rattle.std.specs.Prelude.{◌≡◌, ℕ, ◌+◌, true, List, [], ◌∷◌, slice_index}
 use Rattle.clock_model.specs.Clocks.{at_stamp, AreAccepted, IsAccepted}
 use Rattle.clock_model.specs.declared.write.Write.{Write}
-use Rattle.pass_names.specs.Names.{gone_line}
+use Rattle.pass_names.specs.Names.{gone_pass_id}
 use Rattle.pass_names.specs.Passes.{Looks, Adds}
 use Rattle.clock_cell.specs.declared.view.ClockView.{ClockView}
-use Rattle.clock_cell.specs.Views.{reading_after, writes, shown, Knows, Hears}
-use Rattle.clock_cell.specs.Words.{words_of}
+use Rattle.clock_cell.specs.Views.{reading_after, writes, seen_reading, KnowsClock, Hears}
+use Rattle.clock_cell.specs.Words.{cell_words}
 
 -- what a pass is like between calls
-pub record IsResting (v : ClockView) : Type 0 where
-  pub live : v.pass.line.live ≡ true
+pub record IsRestingView (v : ClockView) : Type 0 where
+  pub live : v.pass.id.live ≡ true
   pub one : v.pass.seen ≡ writes v ∷ []
   pub legal : AreAccepted (at_stamp 0) (writes v)
   -- once it has looked
-  pub known : v.told ≡ [] → Knows v
+  pub known : v.heard ≡ [] → KnowsClock v
 
 -- the words show the clock as the pass has seen it
-pub record Sees (old : ClockView) (words : List ℕ) (new : ClockView) : Type 0 where
-  pub shows : words ≡ words_of (shown new)
+pub record ShowsSeen (old : ClockView) (words : List ℕ) (new : ClockView) : Type 0 where
+  pub shows : words ≡ cell_words (seen_reading new)
   pub hears : Hears old new
-  pub rests : IsResting new
+  pub rests : IsRestingView new
 
 -- what a load tells
-pub record Looked (old : ClockView) (words : List ℕ) (new : ClockView) : Type 0 where
+pub record Loaded (old : ClockView) (words : List ℕ) (new : ClockView) : Type 0 where
   pub looks : Looks old.pass new.pass
-  pub sees : Sees old words new
+  pub sees : ShowsSeen old words new
 
 -- what an exchange tells that made this write
-pub record Entered (w : Write) (old : ClockView) (words : List ℕ) (new : ClockView) : Type 0 where
+pub record MadeWrite (w : Write) (old : ClockView) (words : List ℕ) (new : ClockView) : Type 0 where
   pub adds : Adds old.pass new.pass 0 (w ∷ [])
   pub accepted : IsAccepted (reading_after adds.before) w
-  pub sees : Sees old words new
+  pub sees : ShowsSeen old words new
 
 -- what an exchange tells: it left the words, or counted one write more
-pub record Tried (w : Write) (old : ClockView) (before after : List ℕ) (new : ClockView) : Type 0 where
-  pub missed : after ≡ before → Looked old after new
-  pub made : slice_index after 0 ≡ slice_index before 0 + 1 → Entered w old after new
+pub record Exchanged (w : Write) (old : ClockView) (before after : List ℕ) (new : ClockView) : Type 0 where
+  pub missed : after ≡ before → Loaded old after new
+  pub made : slice_index after 0 ≡ slice_index before 0 + 1 → MadeWrite w old after new
 
 -- a note of what a pass has seen, which is no pass
-abbrev pub note_of : ClockView → ClockView
-note_of v = record { pass = record { line = gone_line; seen = v.pass.seen; mine = [] }; told = v.told }
+abbrev pub clock_note_of : ClockView → ClockView
+clock_note_of v = record { pass = record { id = gone_pass_id; seen = v.pass.seen; mine = [] }; heard = v.heard }
 
 -- what is left of a pass that was taken in
-abbrev pub gone_view : ClockView
-gone_view = record { pass = record { line = gone_line; seen = []; mine = [] }; told = [] }
+abbrev pub gone_clock_view : ClockView
+gone_clock_view = record { pass = record { id = gone_pass_id; seen = []; mine = [] }; heard = [] }

@@ -3,8 +3,8 @@ use Rattle.std.specs.Prelude.{ℕ, List, [], ◌∷◌, slice_index}
 use Rattle.ktime.specs.Readings.{ClockReading}
 
 -- the words of a reading
-abbrev pub words_of : ClockReading → List ℕ
-words_of r = r.stamp ∷ r.mono ∷ r.real ∷ r.boot ∷ r.changes ∷ []
+abbrev pub cell_words : ClockReading → List ℕ
+cell_words r = r.stamp ∷ r.mono ∷ r.real ∷ r.boot ∷ r.changes ∷ []
 
 -- the reading that words show
 abbrev pub reading_in : List ℕ → ClockReading

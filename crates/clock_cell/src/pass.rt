@@ -1,6 +1,6 @@
 ghost use Rattle.std.specs.Prelude.{◌≡◌};
 ghost use Rattle.crossbeam_utils.specs.Seq.{cell_view};
-ghost use Rattle.clock_cell.specs.Plays.{IsResting};
+ghost use Rattle.clock_cell.specs.Plays.{IsRestingView};
 
 use crate::steps::ClockSeat;
 use std::marker::Model;
@@ -14,21 +14,21 @@ pub struct ClockPass {
 
 impl Model for ClockPass {
     ghost use Rattle.crossbeam_utils.specs.Seq.{cell_view};
-    ghost use Rattle.clock_cell.specs.Views.{PassOf};
-    ghost use Rattle.clock_cell.specs.Plays.{IsResting};
+    ghost use Rattle.clock_cell.specs.Views.{PassOfClock};
+    ghost use Rattle.clock_cell.specs.Plays.{IsRestingView};
 
-    ghost Value = { PassOf };
+    ghost Value = { PassOfClock };
 
     ghost view = { λ p. record { clock = p.seat.table_id; knows = cell_view p.seat } };
 
-    ghost invariant = { λ p. IsResting (cell_view p.seat) };
+    ghost invariant = { λ p. IsRestingView (cell_view p.seat) };
 }
 
 impl ClockPass {
     pub(crate) fn into_seat(self) -> ClockSeat
         ensures clock { result.table_id ≡ self.clock }
         ensures knows { cell_view result ≡ self.knows }
-        ensures rests { IsResting (cell_view result) }
+        ensures rests { IsRestingView (cell_view result) }
     {
         let ClockPass { seat } = self;
         seat

@@ -4,24 +4,24 @@ use atomic_table::{Join, Split};
 use crossbeam_utils::rule::{Outcome, Protocol};
 use std::marker::{Brand, PhantomData};
 
-pub struct Law;
+pub struct ClockRule;
 
-impl Protocol<[u64; 5], ClockView> for Law {
-    ghost use Rattle.clock_cell.specs.Rules.{Home};
-    ghost use Rattle.clock_cell.specs.Views.{first_view};
+impl Protocol<[u64; 5], ClockView> for ClockRule {
+    ghost use Rattle.clock_cell.specs.Rules.{ClockInvariant};
+    ghost use Rattle.clock_cell.specs.Views.{first_clock_view};
 
-    ghost holds = { Home };
+    ghost holds = { ClockInvariant };
 
-    ghost first = { first_view };
+    ghost first = { first_clock_view };
 }
 
 /// A load: all writes so far are seen.
 pub struct Look;
 
 impl Outcome<[u64; 5], ClockView> for Look {
-    ghost use Rattle.clock_cell.specs.Plays.{Looked};
+    ghost use Rattle.clock_cell.specs.Plays.{Loaded};
 
-    ghost then = { λ v before after w. Looked v after w };
+    ghost then = { λ v before after w. Loaded v after w };
 }
 
 /// Which write an exchange makes. Each exchange picks it.
@@ -43,58 +43,58 @@ pub struct Enter<K: Asked> {
 }
 
 impl<K: Asked> Outcome<[u64; 5], ClockView> for Enter<K> {
-    ghost use Rattle.clock_cell.specs.Plays.{Tried};
+    ghost use Rattle.clock_cell.specs.Plays.{Exchanged};
 
-    ghost then = { Tried K.write };
+    ghost then = { Exchanged K.write };
 }
 
 /// A pass is split off, or taken in.
 pub struct Child;
 
 impl Split<ClockView> for Child {
-    ghost use Rattle.clock_cell.specs.Views.{split_view, new_view};
+    ghost use Rattle.clock_cell.specs.Views.{split_clock_view, new_clock_view};
 
-    ghost left = { split_view };
+    ghost left = { split_clock_view };
 
-    ghost right = { new_view };
+    ghost right = { new_clock_view };
 }
 
 impl Join<ClockView> for Child {
-    ghost use Rattle.clock_cell.specs.Views.{joined};
-    ghost use Rattle.clock_cell.specs.Plays.{gone_view};
+    ghost use Rattle.clock_cell.specs.Views.{joined_clock_view};
+    ghost use Rattle.clock_cell.specs.Plays.{gone_clock_view};
 
-    ghost both = { joined };
+    ghost both = { joined_clock_view };
 
-    ghost spent = { gone_view };
+    ghost spent = { gone_clock_view };
 }
 
 /// A note of what a pass has seen is made, or taken in.
 pub struct Note;
 
 impl Split<ClockView> for Note {
-    ghost use Rattle.clock_cell.specs.Plays.{note_of};
+    ghost use Rattle.clock_cell.specs.Plays.{clock_note_of};
 
     ghost left = { λ v. v };
 
-    ghost right = { note_of };
+    ghost right = { clock_note_of };
 }
 
 impl Join<ClockView> for Note {
-    ghost use Rattle.clock_cell.specs.Views.{told_of};
-    ghost use Rattle.clock_cell.specs.Plays.{gone_view};
+    ghost use Rattle.clock_cell.specs.Views.{told_clock_view};
+    ghost use Rattle.clock_cell.specs.Plays.{gone_clock_view};
 
-    ghost both = { told_of };
+    ghost both = { told_clock_view };
 
-    ghost spent = { gone_view };
+    ghost spent = { gone_clock_view };
 }
 
 /// A pass moves to a new seat.
 pub struct Whole;
 
 impl Split<ClockView> for Whole {
-    ghost use Rattle.clock_cell.specs.Plays.{gone_view};
+    ghost use Rattle.clock_cell.specs.Plays.{gone_clock_view};
 
-    ghost left = { λ _. gone_view };
+    ghost left = { λ _. gone_clock_view };
 
     ghost right = { λ v. v };
 }

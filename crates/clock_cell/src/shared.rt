@@ -4,12 +4,12 @@ ghost use Rattle.pass_names.specs.Names.{AnswersFor, IsLast};
 ghost use Rattle.pass_names.specs.Passes.{Looks, Retires, Meets};
 ghost use Rattle.clock_model.specs.Clocks.{at_stamp, after_write, AreAccepted, IsAccepted};
 ghost use Rattle.clock_model.specs.declared.write.Write.TheVariants.{Advance, Set, Suspend};
-ghost use Rattle.clock_cell.specs.Views.{IsPassOf, AreOfOne, Hears, Knows, Refuses, Takes, writes, shown, first_view, split_view, new_view, told_of, joined};
+ghost use Rattle.clock_cell.specs.Views.{IsPassOfClock, AreOfOne, Hears, KnowsClock, Refuses, Accepts, writes, seen_reading, first_clock_view, split_clock_view, new_clock_view, told_clock_view, joined_clock_view};
 
 use crate::pass::ClockPass;
 use crate::plays::Child;
 use crate::steps::{ClockCell, absorb, enter, look, tell};
-use crate::words::{reading_in, words_of};
+use crate::words::{reading_in, cell_words};
 use clock_model::{Clock, ClockFault, Write};
 use ktime::Reading;
 use std::alloc::{AllocError, Global};
@@ -34,24 +34,24 @@ impl Model for SharedClock {
 impl SharedClock {
     /// A clock at its start, and the first pass.
     pub fn make(alloc: Global) -> Result<(SharedClock, ClockPass), AllocError>
-        ensures pass { IfOk result (λ r. IsPassOf r.0 r.1) }
-        ensures first { IfOk result (λ r. r.1.knows ≡ first_view) }
-        ensures known { IfOk result (λ r. Knows r.1.knows) }
+        ensures pass { IfOk result (λ r. IsPassOfClock r.0 r.1) }
+        ensures first { IfOk result (λ r. r.1.knows ≡ first_clock_view) }
+        ensures known { IfOk result (λ r. KnowsClock r.1.knows) }
     {
         let opening = Clock::new().reading();
-        let (cell, seat) = ClockCell::ruled(alloc, words_of(&opening))?;
+        let (cell, seat) = ClockCell::ruled(alloc, cell_words(&opening))?;
         Ok((SharedClock { cell }, ClockPass { seat }))
     }
 
     /// The clock as it is now, by one load.
     pub fn read<R: Wait>(&self, rt: &R, pass: &mut ClockPass) -> Reading
-        requires pass { IsPassOf self.now pass.old }
-        ensures pass { IsPassOf self.now pass.new }
-        ensures reading { result ≡ shown pass.new.knows }
+        requires pass { IsPassOfClock self.now pass.old }
+        ensures pass { IsPassOfClock self.now pass.new }
+        ensures reading { result ≡ seen_reading pass.new.knows }
         ensures count { result.stamp ≡ length (writes pass.new.knows) }
         ensures looks { Looks pass.old.knows.pass pass.new.knows.pass }
-        ensures told { Hears pass.old.knows pass.new.knows }
-        ensures known { Knows pass.new.knows }
+        ensures heard { Hears pass.old.knows pass.new.knows }
+        ensures known { KnowsClock pass.new.knows }
     {
         reading_in(&look(rt, &self.cell, &mut pass.seat))
     }
@@ -63,12 +63,12 @@ impl SharedClock {
         pass: &mut ClockPass,
         by: u64,
     ) -> Result<Reading, ClockFault>
-        requires pass { IsPassOf self.now pass.old }
-        ensures pass { IsPassOf self.now pass.new }
-        ensures ok { IfOk result (λ r. Takes (Advance by) pass.old.knows pass.new.knows r) }
+        requires pass { IsPassOfClock self.now pass.old }
+        ensures pass { IsPassOfClock self.now pass.new }
+        ensures ok { IfOk result (λ r. Accepts (Advance by) pass.old.knows pass.new.knows r) }
         ensures err { OnErr result (Refuses (Advance by) pass.old.knows pass.new.knows result) }
-        ensures told { Hears pass.old.knows pass.new.knows }
-        ensures known { Knows pass.new.knows }
+        ensures heard { Hears pass.old.knows pass.new.knows }
+        ensures known { KnowsClock pass.new.knows }
     {
         self.write(rt, pass, Write::Advance { by })
     }
@@ -80,12 +80,12 @@ impl SharedClock {
         pass: &mut ClockPass,
         to: u64,
     ) -> Result<Reading, ClockFault>
-        requires pass { IsPassOf self.now pass.old }
-        ensures pass { IsPassOf self.now pass.new }
-        ensures ok { IfOk result (λ r. Takes (Set to) pass.old.knows pass.new.knows r) }
+        requires pass { IsPassOfClock self.now pass.old }
+        ensures pass { IsPassOfClock self.now pass.new }
+        ensures ok { IfOk result (λ r. Accepts (Set to) pass.old.knows pass.new.knows r) }
         ensures err { OnErr result (Refuses (Set to) pass.old.knows pass.new.knows result) }
-        ensures told { Hears pass.old.knows pass.new.knows }
-        ensures known { Knows pass.new.knows }
+        ensures heard { Hears pass.old.knows pass.new.knows }
+        ensures known { KnowsClock pass.new.knows }
     {
         self.write(rt, pass, Write::Set { to })
     }
@@ -97,12 +97,12 @@ impl SharedClock {
         pass: &mut ClockPass,
         by: u64,
     ) -> Result<Reading, ClockFault>
-        requires pass { IsPassOf self.now pass.old }
-        ensures pass { IsPassOf self.now pass.new }
-        ensures ok { IfOk result (λ r. Takes (Suspend by) pass.old.knows pass.new.knows r) }
+        requires pass { IsPassOfClock self.now pass.old }
+        ensures pass { IsPassOfClock self.now pass.new }
+        ensures ok { IfOk result (λ r. Accepts (Suspend by) pass.old.knows pass.new.knows r) }
         ensures err { OnErr result (Refuses (Suspend by) pass.old.knows pass.new.knows result) }
-        ensures told { Hears pass.old.knows pass.new.knows }
-        ensures known { Knows pass.new.knows }
+        ensures heard { Hears pass.old.knows pass.new.knows }
+        ensures known { KnowsClock pass.new.knows }
     {
         self.write(rt, pass, Write::Suspend { by })
     }
@@ -115,12 +115,12 @@ impl SharedClock {
         pass: &mut ClockPass,
         write: Write,
     ) -> Result<Reading, ClockFault>
-        requires pass { IsPassOf self.now pass.old }
-        ensures pass { IsPassOf self.now pass.new }
-        ensures ok { IfOk result (λ r. Takes write pass.old.knows pass.new.knows r) }
+        requires pass { IsPassOfClock self.now pass.old }
+        ensures pass { IsPassOfClock self.now pass.new }
+        ensures ok { IfOk result (λ r. Accepts write pass.old.knows pass.new.knows r) }
         ensures err { OnErr result (Refuses write pass.old.knows pass.new.knows result) }
-        ensures told { Hears pass.old.knows pass.new.knows }
-        ensures known { Knows pass.new.knows }
+        ensures heard { Hears pass.old.knows pass.new.knows }
+        ensures known { KnowsClock pass.new.knows }
     {
         let mut seen = self.read(rt, pass);
         for _ in rt.forever() {
@@ -142,25 +142,25 @@ impl SharedClock {
         after: &Reading,
         write: Write,
     ) -> bool
-        requires pass { IsPassOf self.now pass.old }
+        requires pass { IsPassOfClock self.now pass.old }
         requires after { after.now ≡ after_write seen.now write }
         requires accepted { IsAccepted seen.now write }
-        ensures pass { IsPassOf self.now pass.new }
-        ensures taken { MatchBool result (Takes write pass.old.knows pass.new.knows after.now) (Looks pass.old.knows.pass pass.new.knows.pass) }
-        ensures told { Hears pass.old.knows pass.new.knows }
-        ensures known { Knows pass.new.knows }
+        ensures pass { IsPassOfClock self.now pass.new }
+        ensures taken { MatchBool result (Accepts write pass.old.knows pass.new.knows after.now) (Looks pass.old.knows.pass pass.new.knows.pass) }
+        ensures heard { Hears pass.old.knows pass.new.knows }
+        ensures known { KnowsClock pass.new.knows }
     {
         enter::<Brand, R>(rt, &self.cell, &mut pass.seat, seen, after, write)
     }
 
     /// Makes one more pass, which has seen as much. It takes no memory.
     pub fn split(&self, pass: &mut ClockPass) -> ClockPass
-        requires pass { IsPassOf self.now pass.old }
-        ensures pass { IsPassOf self.now pass.new × IsPassOf self.now result }
-        ensures splitter { pass.new.knows ≡ split_view pass.old.knows }
-        ensures new { result.knows ≡ new_view pass.old.knows }
-        ensures answers { AnswersFor pass.new.knows.pass.line result.knows.pass.line }
-        ensures known { Knows pass.new.knows × Knows result.knows }
+        requires pass { IsPassOfClock self.now pass.old }
+        ensures pass { IsPassOfClock self.now pass.new × IsPassOfClock self.now result }
+        ensures splitter { pass.new.knows ≡ split_clock_view pass.old.knows }
+        ensures new { result.knows ≡ new_clock_view pass.old.knows }
+        ensures answers { AnswersFor pass.new.knows.pass.id result.knows.pass.id }
+        ensures known { KnowsClock pass.new.knows × KnowsClock result.knows }
     {
         ClockPass {
             seat: self.cell.split_pass::<Child>(&mut pass.seat),
@@ -170,10 +170,10 @@ impl SharedClock {
     /// Two passes tell each other what they have seen, which the next load of each shows. It takes no
     /// memory.
     pub fn meet(&self, a: &mut ClockPass, b: &mut ClockPass)
-        requires pass { IsPassOf self.now a.old × IsPassOf self.now b.old }
-        ensures pass { IsPassOf self.now a.new × IsPassOf self.now b.new }
-        ensures second { b.new.knows ≡ told_of b.old.knows a.old.knows }
-        ensures first { a.new.knows ≡ told_of a.old.knows b.new.knows }
+        requires pass { IsPassOfClock self.now a.old × IsPassOfClock self.now b.old }
+        ensures pass { IsPassOfClock self.now a.new × IsPassOfClock self.now b.new }
+        ensures second { b.new.knows ≡ told_clock_view b.old.knows a.old.knows }
+        ensures first { a.new.knows ≡ told_clock_view a.old.knows b.new.knows }
         ensures meets { AreOfOne (writes a.old.knows) (writes b.old.knows) → Meets a.old.knows.pass b.old.knows.pass a.new.knows.pass b.new.knows.pass }
         ensures legal { AreAccepted (at_stamp 0) (writes a.new.knows) × AreAccepted (at_stamp 0) (writes b.new.knows) }
     {
@@ -184,10 +184,10 @@ impl SharedClock {
     /// A pass takes in another, which was split off it, or off one that it took in. What the other had
     /// seen is shown by the next load.
     pub fn join(&self, main: &mut ClockPass, other: ClockPass)
-        requires pass { IsPassOf self.now main.old × IsPassOf self.now other }
-        requires answers { AnswersFor main.old.knows.pass.line other.knows.pass.line }
-        ensures pass { IsPassOf self.now main.new }
-        ensures joined { main.new.knows ≡ joined main.old.knows other.knows }
+        requires pass { IsPassOfClock self.now main.old × IsPassOfClock self.now other }
+        requires answers { AnswersFor main.old.knows.pass.id other.knows.pass.id }
+        ensures pass { IsPassOfClock self.now main.new }
+        ensures joined { main.new.knows ≡ joined_clock_view main.old.knows other.knows }
         ensures retires { AreOfOne (writes main.old.knows) (writes other.knows) → Retires main.old.knows.pass other.knows.pass main.new.knows.pass }
         ensures legal { AreAccepted (at_stamp 0) (writes main.new.knows) }
     {
@@ -196,12 +196,12 @@ impl SharedClock {
 
     /// Ends a clock with its last pass.
     pub fn close(self, pass: ClockPass)
-        requires pass { IsPassOf self pass }
-        requires last { IsLast pass.knows.pass.line }
+        requires pass { IsPassOfClock self pass }
+        requires last { IsLast pass.knows.pass.id }
 
         // Where the pass has looked since it took in another, all writes are its own, each once, and
         // it has seen them all.
-        ensures known { pass.knows.told ≡ [] → Knows pass.knows }
+        ensures known { pass.knows.heard ≡ [] → KnowsClock pass.knows }
     {
         drop(pass.into_seat());
         drop(self);

@@ -1,5 +1,5 @@
 ghost use Rattle.std.specs.Prelude.{◌≡◌, ◌+◌, ◌^◌, ◌<◌, ◌≤◌, length, IfOk};
-ghost use Rattle.clock_cell.specs.Views.{IsPassOf};
+ghost use Rattle.clock_cell.specs.Views.{IsPassOfClock};
 
 use crate::{ClockPass, SharedClock};
 use clock_model::ClockFault;
@@ -11,9 +11,9 @@ use std::thread::{Threads, join_mut};
 
 /// Advances the clock by one so many times, and answers how often it could.
 fn advance_often<R: Wait>(rt: &R, clock: &SharedClock, pass: &mut ClockPass, times: u64) -> u64
-    requires pass { IsPassOf clock.now pass.old }
-    ensures pass { IsPassOf clock.now pass.new }
-    ensures line { pass.new.knows.pass.line ≡ pass.old.knows.pass.line }
+    requires pass { IsPassOfClock clock.now pass.old }
+    ensures pass { IsPassOfClock clock.now pass.new }
+    ensures id { pass.new.knows.pass.id ≡ pass.old.knows.pass.id }
     ensures mine { length pass.new.knows.pass.mine ≡ length pass.old.knows.pass.mine + result }
     ensures most { result ≤ times }
 {
@@ -34,9 +34,9 @@ fn advance_both<R: Threads + Wait + Sync>(
     second: &mut ClockPass,
     times: u64,
 ) -> (u64, u64)
-    requires pass { IsPassOf clock.now first.old × IsPassOf clock.now second.old }
-    ensures pass { IsPassOf clock.now first.new × IsPassOf clock.now second.new }
-    ensures line { (first.new.knows.pass.line ≡ first.old.knows.pass.line) × (second.new.knows.pass.line ≡ second.old.knows.pass.line) }
+    requires pass { IsPassOfClock clock.now first.old × IsPassOfClock clock.now second.old }
+    ensures pass { IsPassOfClock clock.now first.new × IsPassOfClock clock.now second.new }
+    ensures id { (first.new.knows.pass.id ≡ first.old.knows.pass.id) × (second.new.knows.pass.id ≡ second.old.knows.pass.id) }
     ensures mine { (length first.new.knows.pass.mine ≡ length first.old.knows.pass.mine + result.0) × (length second.new.knows.pass.mine ≡ length second.old.knows.pass.mine + result.1) }
     ensures most { (result.0 ≤ times) × (result.1 ≤ times) }
 {
@@ -73,9 +73,9 @@ fn advance_and_tell<R: Wait>(
     b: &mut ClockPass,
     by: u64,
 ) -> (Result<Reading, ClockFault>, Reading)
-    requires pass { IsPassOf clock.now a.old × IsPassOf clock.now b.old }
-    ensures pass { IsPassOf clock.now a.new × IsPassOf clock.now b.new }
-    ensures line { (a.new.knows.pass.line ≡ a.old.knows.pass.line) × (b.new.knows.pass.line ≡ b.old.knows.pass.line) }
+    requires pass { IsPassOfClock clock.now a.old × IsPassOfClock clock.now b.old }
+    ensures pass { IsPassOfClock clock.now a.new × IsPassOfClock clock.now b.new }
+    ensures id { (a.new.knows.pass.id ≡ a.old.knows.pass.id) × (b.new.knows.pass.id ≡ b.old.knows.pass.id) }
     ensures later { IfOk result.0 (λ r. r.stamp ≤ result.1.stamp) }
 {
     let answer = clock.advance(rt, a, by);

@@ -8,5 +8,5 @@ pub struct ClockView {
     pub pass: Pass<Write>,
     /// Beginnings of the clock's writes that were seen with another pass, or before the pass was told
     /// of another. The next look shows that what is then seen goes on from them.
-    pub told: LinkedList<LinkedList<Write>>,
+    pub heard: LinkedList<LinkedList<Write>>,
 }

@@ -1,12 +1,12 @@
 //! A reading as the words of the clock's cell.
 ghost use Rattle.std.specs.Prelude.{◌≡◌};
 ghost use Rattle.ktime.specs.Readings.{IsTimely};
-ghost use Rattle.clock_cell.specs.Words.{words_of, reading_in};
+ghost use Rattle.clock_cell.specs.Words.{cell_words, reading_in};
 
 use ktime::Reading;
 
-pub fn words_of(reading: &Reading) -> [u64; 5]
-    ensures { result ≡ words_of reading.now }
+pub fn cell_words(reading: &Reading) -> [u64; 5]
+    ensures { result ≡ cell_words reading.now }
 {
     [
         reading.stamp,

@@ -1,6 +1,6 @@
 //! What the threads do: one or two read a new clock, and one writes.
 ghost use Rattle.std.specs.Prelude.{◌≡◌, ◌+◌, ◌≤◌, length, IfOk};
-ghost use Rattle.clock_cell.specs.Views.{IsPassOf};
+ghost use Rattle.clock_cell.specs.Views.{IsPassOfClock};
 ghost use Rattle.clock_cell_bench.specs.Turns.{Read, Written};
 
 use clock_cell::{ClockPass, SharedClock};
@@ -27,8 +27,8 @@ pub struct Done {
 }
 
 fn read_often<R: Wait>(rt: &R, clock: &SharedClock, pass: &mut ClockPass, times: u64)
-    requires pass { IsPassOf clock.now pass.old }
-    ensures pass { IsPassOf clock.now pass.new }
+    requires pass { IsPassOfClock clock.now pass.old }
+    ensures pass { IsPassOfClock clock.now pass.new }
     ensures read { Read pass.old.knows pass.new.knows }
 {
     for _ in 0..times {
@@ -44,8 +44,8 @@ fn write_often<R: Wait>(
     times: u64,
     stop: &AtomicBool,
 ) -> u64
-    requires pass { IsPassOf clock.now pass.old }
-    ensures pass { IsPassOf clock.now pass.new }
+    requires pass { IsPassOfClock clock.now pass.old }
+    ensures pass { IsPassOfClock clock.now pass.new }
     ensures written { Written result pass.old.knows pass.new.knows }
     ensures most { result ≤ times }
 {
@@ -68,8 +68,8 @@ fn read_by_one<R: Wait>(
     load: Load,
     stop: &AtomicBool,
 )
-    requires pass { IsPassOf clock.now pass.old }
-    ensures pass { IsPassOf clock.now pass.new }
+    requires pass { IsPassOfClock clock.now pass.old }
+    ensures pass { IsPassOfClock clock.now pass.new }
     ensures read { Read pass.old.knows pass.new.knows }
 {
     read_often(rt, clock, pass, load.reads);
@@ -84,10 +84,10 @@ fn read_by_two<R: Threads + Wait + Sync>(
     load: Load,
     stop: &AtomicBool,
 )
-    requires first { IsPassOf clock.now first.old }
-    requires second { IsPassOf clock.now second.old }
-    ensures first { IsPassOf clock.now first.new × Read first.old.knows first.new.knows }
-    ensures second { IsPassOf clock.now second.new × Read second.old.knows second.new.knows }
+    requires first { IsPassOfClock clock.now first.old }
+    requires second { IsPassOfClock clock.now second.old }
+    ensures first { IsPassOfClock clock.now first.new × Read first.old.knows first.new.knows }
+    ensures second { IsPassOfClock clock.now second.new × Read second.old.knows second.new.knows }
 {
     join_mut(
         rt,
@@ -104,8 +104,8 @@ fn one_beside<R: Threads + Wait + Sync>(
     writer: &mut ClockPass,
     load: Load,
 ) -> u64
-    requires pass { IsPassOf clock.now reader.old × IsPassOf clock.now writer.old }
-    ensures pass { IsPassOf clock.now reader.new × IsPassOf clock.now writer.new }
+    requires pass { IsPassOfClock clock.now reader.old × IsPassOfClock clock.now writer.old }
+    ensures pass { IsPassOfClock clock.now reader.new × IsPassOfClock clock.now writer.new }
     ensures read { Read reader.old.knows reader.new.knows }
     ensures written { Written result writer.old.knows writer.new.knows }
     ensures most { result ≤ load.writes }
@@ -127,8 +127,8 @@ fn two_beside<R: Threads + Wait + Sync>(
     writer: &mut ClockPass,
     load: Load,
 ) -> u64
-    requires pass { IsPassOf clock.now first.old × IsPassOf clock.now second.old × IsPassOf clock.now writer.old }
-    ensures pass { IsPassOf clock.now first.new × IsPassOf clock.now second.new × IsPassOf clock.now writer.new }
+    requires pass { IsPassOfClock clock.now first.old × IsPassOfClock clock.now second.old × IsPassOfClock clock.now writer.old }
+    ensures pass { IsPassOfClock clock.now first.new × IsPassOfClock clock.now second.new × IsPassOfClock clock.now writer.new }
     ensures read { Read first.old.knows first.new.knows × Read second.old.knows second.new.knows }
     ensures written { Written result writer.old.knows writer.new.knows }
     ensures most { result ≤ load.writes }
@@ -137,7 +137,7 @@ fn two_beside<R: Threads + Wait + Sync>(
     let (_, made) = join_mut(
         rt,
         &mut ||
-            requires { IsPassOf clock.now first.now × IsPassOf clock.now second.now }
+            requires { IsPassOfClock clock.now first.now × IsPassOfClock clock.now second.now }
         { read_by_two(rt, clock, first, second, load, &stop) },
         &mut || write_often(rt, clock, writer, load.writes, &stop),
     );

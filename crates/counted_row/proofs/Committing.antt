@@ -7,7 +7,7 @@ use mathlib.Core.Option.{some, none}
 use lib.ListN.{get_elem?}
 use Rattle.atomic_table.specs.Table.{State, step, gives, Allows}
 use Rattle.pass_names.specs.Counts.{one_if, total, count}
-use Rattle.pass_names.specs.Names.{times}
+use Rattle.pass_names.specs.Names.{occurrences}
 use Rattle.pass_names.specs.Passes.{Begins, entries, GoesOn, within}
 use Rattle.pass_names.proofs.Counts.{total_set, total_at}
 use Rattle.pass_names.proofs.Passes.{begins_refl, begins_nil, begins_length}
@@ -16,16 +16,16 @@ use Rattle.counted_row.specs.declared.view.Locked.{Locked}
 use Rattle.counted_row.specs.declared.view.View.{View}
 use Rattle.counted_row.specs.Meaning.{Meaning}
 use Rattle.counted_row.specs.Views.{HasClaim, is_claim, StateAfter, Knows}
-use Rattle.counted_row.specs.Rules.{places_at, claims_at, Cell, Holds, Fits, Home}
+use Rattle.counted_row.specs.Rules.{row_places, claims_at, Cell, HoldsValue, RowAgrees, RowInvariant}
 use Rattle.counted_row.proofs.Frames.{moved}
 use Rattle.counted_row.proofs.Knowing.{set_there, knows_of}
 use Rattle.std.proofs.lemmas.Bool.{and_parts, cases_lt, ne_eqb, eq-eqb}
 use Rattle.pass_names.specs.Names.{same}
 use Rattle.pass_names.specs.Passes.{Adds}
 use Rattle.pass_names.proofs.Names.{same_eq}
-use Rattle.pass_names.proofs.Counts.{met, total-append, count-without}
+use Rattle.pass_names.proofs.Counts.{met, total-append, count-without_first}
 use Rattle.pass_names.proofs.Passes.{begins_whole, entries_here, entries_else, count_place, within_more, adds_added}
-use Rattle.counted_row.specs.Meaning.{Effect, plain, opens, uses, ends, Counts, opened, ended}
+use Rattle.counted_row.specs.Meaning.{Effect, plain, opens, uses, ends, Counts, times_opened, times_ended}
 use Rattle.counted_row.specs.Views.{Permits, claims_after, committed}
 use Rattle.counted_row.specs.Plays.{Enters}
 use Rattle.counted_row.proofs.Histories.{after_one, after_push}
@@ -49,20 +49,20 @@ claims_else claims i (opens claim) ok k name apart =
     omega (arith, total-append (λ (c : ℕ × List ℕ). one_if (is_claim k name c)) claims ((i, claim) ∷ []), ap (λ b. one_if (b && same name claim)) (ne_eqb i k (λ t. apart (sym t))))
 claims_else claims i (uses claim) ok k name apart = refl
 claims_else claims i (ends claim) ok k name apart =
-    omega (arith, count-without (is_claim i claim) (is_claim k name) false (other_value i k claim name apart) claims ok)
+    omega (arith, count-without_first (is_claim i claim) (is_claim k name) false (other_value i k claim name apart) claims ok)
 
 -- the claims on the value change as the effect says
-pub claims_here : (claims : List (ℕ × List ℕ)) (i : ℕ) (e : Effect) → Permits claims i e → (name : List ℕ) → count (is_claim i name) (claims_after claims i e) + ended name e ≡ count (is_claim i name) claims + opened name e
+pub claims_here : (claims : List (ℕ × List ℕ)) (i : ℕ) (e : Effect) → Permits claims i e → (name : List ℕ) → count (is_claim i name) (claims_after claims i e) + times_ended name e ≡ count (is_claim i name) claims + times_opened name e
 claims_here claims i plain ok name = refl
 claims_here claims i (opens claim) ok name =
     omega (arith, total-append (λ (c : ℕ × List ℕ). one_if (is_claim i name c)) claims ((i, claim) ∷ []), ap (λ b. one_if (b && same name claim)) (eq-eqb i i refl))
 claims_here claims i (uses claim) ok name = refl
 claims_here claims i (ends claim) ok name =
-    omega (arith, count-without (is_claim i claim) (is_claim i name) (same name claim) (same_value i claim name) claims ok)
+    omega (arith, count-without_first (is_claim i claim) (is_claim i name) (same name claim) (same_value i claim name) claims ok)
 
 module _ {S C R : Type 0} (m : Meaning S C R) (counts : Counts m) (made : List S) (slots id : ℕ) (v : View S C R) (h : Locked S) (c : C)
-    (live : v.pass.line.live ≡ true) (heard : v.heard ≡ []) (held : v.held ≡ Some h) (may : m.may h.state c) (permits : Permits v.claims h.index (m.effect h.state c)) (low : h.stamp < 2 ^ 48)
-    (s : State (Option S) (View S C R)) (home : Home m made s) (at : get_elem? s.views id ≡ some v) where
+    (live : v.pass.id.live ≡ true) (heard : v.heard ≡ []) (held : v.held ≡ Some h) (may : m.may h.state c) (permits : Permits v.claims h.index (m.effect h.state c)) (low : h.stamp < 2 ^ 48)
+    (s : State (Option S) (View S C R)) (inv : RowInvariant m made s) (at : get_elem? s.views id ≡ some v) where
   abbrev i : ℕ
   i = h.index
 
@@ -70,28 +70,28 @@ module _ {S C R : Type 0} (m : Meaning S C R) (counts : Counts m) (made : List S
   entry = record { call = c; reply = m.reply h.state c }
 
   abbrev log : List (Entry C R)
-  log = entries i home.logs
+  log = entries i inv.logs
 
   abbrev longer : List (Entry C R)
   longer = log ++ entry ∷ []
 
   abbrev logs' : List (List (Entry C R))
-  logs' = set home.logs i longer
+  logs' = set inv.logs i longer
 
   abbrev v' : View S C R
   v' = committed m h c v
 
-  fits : Fits m made home.logs home.holders id v
-  fits = home.each_view id v at
+  agrees : RowAgrees m made inv.logs inv.holders id v
+  agrees = inv.each_view id v at
 
-  holds : Holds m made home.logs home.holders id v h
-  holds = fits.held h held
+  holds : HoldsValue m made inv.logs inv.holders id v h
+  holds = agrees.held h held
 
   wide : length v.pass.seen ≡ length made
-  wide = fits.wide live
+  wide = agrees.wide live
 
-  in_logs : i < length home.logs
-  in_logs = omega (arith, home.logs_len, holds.within)
+  in_logs : i < length inv.logs
+  in_logs = omega (arith, inv.logs_len, holds.within)
 
   in_seen : i < length v.pass.seen
   in_seen = omega (arith, wide, holds.within)
@@ -103,31 +103,31 @@ module _ {S C R : Type 0} (m : Meaning S C R) (counts : Counts m) (made : List S
   seen_else k n = entries_else v.pass.seen i k (entries i v.pass.seen ++ entry ∷ []) n
 
   logs_here : entries i logs' ≡ longer
-  logs_here = entries_here home.logs i longer in_logs
+  logs_here = entries_here inv.logs i longer in_logs
 
-  logs_else : (k : ℕ) → k ≢ i → entries k logs' ≡ entries k home.logs
-  logs_else k n = entries_else home.logs i k longer n
+  logs_else : (k : ℕ) → k ≢ i → entries k logs' ≡ entries k inv.logs
+  logs_else k n = entries_else inv.logs i k longer n
 
   next_state : StateAfter m made i longer (m.next h.state c)
   next_state = after_push m made i log entry h.state holds.state may refl
 
   -- the claims of all seats on the value are the open ones after the call
-  open_here : (name : List ℕ) (x : S) → StateAfter m made i longer x → total (claims_at i name) (set s.views id v') ≡ times name (m.claims x)
+  open_here : (name : List ℕ) (x : S) → StateAfter m made i longer x → total (claims_at i name) (set s.views id v') ≡ occurrences name (m.claims x)
   open_here name x after =
       omega (
         arith,
         total_set (claims_at i name) s.views id v v' at,
         claims_here v.claims i (m.effect h.state c) permits name,
         counts h.state c name may,
-        home.claims i name h.state holds.state,
-        ap (λ (y : S). times name (m.claims y)) (after_one m made i longer x (m.next h.state c) after next_state),
+        inv.claims i name h.state holds.state,
+        ap (λ (y : S). occurrences name (m.claims y)) (after_one m made i longer x (m.next h.state c) after next_state),
       )
 
-  seen_fits : GoesOn v'.pass.seen logs'
-  seen_fits = record {
+  seen_agrees : GoesOn v'.pass.seen logs'
+  seen_agrees = record {
     each = λ k. ⊎_elim
         (λ e. subst (λ q. Begins (entries q v'.pass.seen) (entries q logs')) (sym e) (subst (λ l. Begins l (entries i logs')) (sym seen_here) (subst (λ l. Begins longer l) (sym logs_here) (begins_refl longer))))
-        (λ n. subst (λ l. Begins l (entries k logs')) (sym (seen_else k n)) (subst (λ l. Begins (entries k v.pass.seen) l) (sym (logs_else k n)) (fits.seen.each k)))
+        (λ n. subst (λ l. Begins l (entries k logs')) (sym (seen_else k n)) (subst (λ l. Begins (entries k v.pass.seen) l) (sym (logs_else k n)) (agrees.seen.each k)))
         (cases_eq k i);
   }
 
@@ -138,24 +138,24 @@ module _ {S C R : Type 0} (m : Meaning S C R) (counts : Counts m) (made : List S
       (λ n. omega (arith, ap length (seen_else k n)))
       (cases_eq k i)
 
-  place_more : (k n : ℕ) → places_at k n v' ≡ places_at k n v + one_if (eqb i k && eqb (length (entries i v.pass.seen) + 1) n)
+  place_more : (k n : ℕ) → row_places k n v' ≡ row_places k n v + one_if (eqb i k && eqb (length (entries i v.pass.seen) + 1) n)
   place_more k n = count_place i k n (length (entries i v.pass.seen) + 1) v.pass.mine
 
   -- the pass's places are within what it has seen
-  own_places : (k n : ℕ) → 0 < places_at k n v' → (n ≤ length (entries k v'.pass.seen)) ⊎ (n ≤ length (entries k v'.heard))
+  own_places : (k n : ℕ) → 0 < row_places k n v' → (n ≤ length (entries k v'.pass.seen)) ⊎ (n ≤ length (entries k v'.heard))
   own_places k n some_one =
       ⊎_elim
-      (λ old. ⊎_elim (λ t. inl (omega (arith, longer_seen k))) (λ t. inr t) (fits.mine k n old))
+      (λ old. ⊎_elim (λ t. inl (omega (arith, longer_seen k))) (λ t. inr t) (agrees.mine k n old))
       (λ none.
       let t = and_parts (eqb i k) (eqb (length (entries i v.pass.seen) + 1) n) (met (eqb i k && eqb (length (entries i v.pass.seen) + 1) n) (omega (arith, place_more k n))) in
       inl (subst (λ q. n ≤ length (entries q v'.pass.seen)) (eqb-true i k t.0)
       (omega (arith, eqb-true (length (entries i v.pass.seen) + 1) n t.1, ap length seen_here, length-append log (entry ∷ []), ap length holds.seen))))
-      (cases_lt 0 (places_at k n v))
+      (cases_lt 0 (row_places k n v))
 
-  same_places : (k n : ℕ) → places_at k n v' + one_if (within n (length (entries k home.logs))) ≡ places_at k n v + one_if (within n (length (entries k logs')))
+  same_places : (k n : ℕ) → row_places k n v' + one_if (within n (length (entries k inv.logs))) ≡ row_places k n v + one_if (within n (length (entries k logs')))
   same_places k n =
       ⊎_elim
-      (λ e. subst (λ q. places_at q n v' + one_if (within n (length (entries q home.logs))) ≡ places_at q n v + one_if (within n (length (entries q logs')))) (sym e)
+      (λ e. subst (λ q. row_places q n v' + one_if (within n (length (entries q inv.logs))) ≡ row_places q n v + one_if (within n (length (entries q logs')))) (sym e)
       (omega (
         arith,
         place_more i n,
@@ -174,7 +174,7 @@ module _ {S C R : Type 0} (m : Meaning S C R) (counts : Counts m) (made : List S
       (cases_eq k i)
 
   own_claims : (k : ℕ) (name : List ℕ) (past : List (Entry C R)) (x : S) → HasClaim k name v'.claims → Begins (entries k v'.pass.seen) past → Begins (entries k v'.heard) past
-      → Begins past (entries k logs') → StateAfter m made k past x → 0 < times name (m.claims x)
+      → Begins past (entries k logs') → StateAfter m made k past x → 0 < occurrences name (m.claims x)
   own_claims k name past x has a b d after =
       ⊎_elim
       (λ e.
@@ -184,14 +184,14 @@ module _ {S C R : Type 0} (m : Meaning S C R) (counts : Counts m) (made : List S
       let whole : past ≡ longer = begins_whole d' (begins_length a') in
       let after' : StateAfter m made i longer x = subst (λ l. StateAfter m made i l x) whole (subst (λ q. StateAfter m made q past x) e after) in
       omega (arith, open_here name x after', total_at (claims_at i name) (set s.views id v') id v' (set_there s.views id v v' at)))
-      (λ n. fits.claims k name past x (omega (arith, claims_else v.claims i (m.effect h.state c) permits k name n)) (subst (λ l. Begins l past) (seen_else k n) a) b (subst (λ l. Begins past l) (logs_else k n) d) after)
+      (λ n. agrees.claims k name past x (omega (arith, claims_else v.claims i (m.effect h.state c) permits k name n)) (subst (λ l. Begins l past) (seen_else k n) a) b (subst (λ l. Begins past l) (logs_else k n) d) after)
       (cases_eq k i)
 
-  fits_after : Fits m made logs' (set home.holders i 0) id v'
-  fits_after = record {
-    opening = fits.opening;
+  agrees_after : RowAgrees m made logs' (set inv.holders i 0) id v'
+  agrees_after = record {
+    opening = agrees.opening;
     wide = λ alive. length-set v.pass.seen i (entries i v.pass.seen ++ entry ∷ []) ∙ wide;
-    seen = seen_fits;
+    seen = seen_agrees;
     heard = record { each = λ k. subst (λ l. Begins (entries k l) (entries k logs')) (sym heard) (begins_nil (entries k logs')) };
     held = λ g e. absurd (no_lock g e);
     mine = own_places;
@@ -217,33 +217,33 @@ module _ {S C R : Type 0} (m : Meaning S C R) (counts : Counts m) (made : List S
   pub enters_count : length (entries i v'.pass.seen) ≡ h.stamp + 1
   enters_count = omega (arith, ap length seen_here, length-append log (entry ∷ []), holds.stamp)
 
-  pub enters_home : Home m made record { words = slice_set s.words (i + 1) (h.stamp + 1); homes = slice_set s.homes i (some (Some (m.next h.state c))); views = slice_set s.views id v' }
-  enters_home =
-      moved m made s home i id v v' longer (h.stamp + 1) 0 (some (Some (m.next h.state c))) at holds.within (inr (entry, refl)) (inr holds.holder) cell fits_after refl same_places
+  pub enters_inv : RowInvariant m made record { words = slice_set s.words (i + 1) (h.stamp + 1); homes = slice_set s.homes i (some (Some (m.next h.state c))); views = slice_set s.views id v' }
+  enters_inv =
+      moved m made s inv i id v v' longer (h.stamp + 1) 0 (some (Some (m.next h.state c))) at holds.within (inr (entry, refl)) (inr holds.holder) cell agrees_after refl same_places
       (λ k name n. claims_else v.claims i (m.effect h.state c) permits k name n) open_here
 
   pub enters_knows : Knows m v'
   enters_knows =
-      knows_of m made record { words = slice_set s.words (i + 1) (h.stamp + 1); homes = slice_set s.homes i (some (Some (m.next h.state c))); views = slice_set s.views id v' } enters_home id v' (set_there s.views id v v' at) live heard
+      knows_of m made record { words = slice_set s.words (i + 1) (h.stamp + 1); homes = slice_set s.homes i (some (Some (m.next h.state c))); views = slice_set s.views id v' } enters_inv id v' (set_there s.views id v v' at) live heard
 
 module _ {S C R : Type 0} (m : Meaning S C R) (counts : Counts m) (made : List S) where
   pub enters : (slots id : ℕ) (v : View S C R) (h : Locked S) (c : C) (asks : C → Type 0) → asks c
-      → v.pass.line.live ≡ true → v.heard ≡ [] → v.held ≡ Some h → m.may h.state c → Permits v.claims h.index (m.effect h.state c) → h.stamp < 2 ^ 48
-      → Allows (Home m made) slots id (v, (h.index, Some (m.next h.state c)) ∷ []) (h.index + 1) (λ _. h.stamp + 1)
+      → v.pass.id.live ≡ true → v.heard ≡ [] → v.held ≡ Some h → m.may h.state c → Permits v.claims h.index (m.effect h.state c) → h.stamp < 2 ^ 48
+      → Allows (RowInvariant m made) slots id (v, (h.index, Some (m.next h.state c)) ∷ []) (h.index + 1) (λ _. h.stamp + 1)
       (λ _. Enters m asks (step slots (h.index + 1) (h.stamp + 1) 0 none) (v, (h.index, Some (m.next h.state c)) ∷ []) (h.stamp + 1))
-  enters slots id v h c asks asked live heard held may permits low s home many at small = (
+  enters slots id v h c asks asked live heard held may permits low s inv many at small = (
     committed m h c v,
     gives,
     tt,
-    enters_home m counts made slots id v h c live heard held may permits low s home at,
+    enters_inv m counts made slots id v h c live heard held may permits low s inv at,
     λ g e.
         let t : h ≡ g = cc in
         record {
           call = c;
           asked = asked;
           after = ap (λ q. (committed m q c v, [])) t;
-          adds = subst (λ q. Adds v.pass (committed m h c v).pass q.index (record { call = c; reply = m.reply q.state c } ∷ [])) t (enters_adds m counts made slots id v h c live heard held may permits low s home at);
-          count = subst (λ q. length (entries q.index (committed m h c v).pass.seen) ≡ q.stamp + 1) t (enters_count m counts made slots id v h c live heard held may permits low s home at);
-          knows = enters_knows m counts made slots id v h c live heard held may permits low s home at;
+          adds = subst (λ q. Adds v.pass (committed m h c v).pass q.index (record { call = c; reply = m.reply q.state c } ∷ [])) t (enters_adds m counts made slots id v h c live heard held may permits low s inv at);
+          count = subst (λ q. length (entries q.index (committed m h c v).pass.seen) ≡ q.stamp + 1) t (enters_count m counts made slots id v h c live heard held may permits low s inv at);
+          knows = enters_knows m counts made slots id v h c live heard held may permits low s inv at;
         },
   )

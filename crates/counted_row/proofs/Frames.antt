@@ -8,7 +8,7 @@ use lib.ListN.{get_elem?}
 use Rattle.atomic_table.specs.Table.{State}
 use Rattle.atomic_table.proofs.Lists.{at_set, at_snoc, set_here, set_else}
 use Rattle.pass_names.specs.Counts.{one_if, total}
-use Rattle.pass_names.specs.Names.{Tree, times}
+use Rattle.pass_names.specs.Names.{IsPassTree, occurrences}
 use Rattle.pass_names.specs.Passes.{Begins, entries, GoesOn, within}
 use Rattle.pass_names.proofs.Counts.{total-append, total_set, total_at, map_kept}
 use Rattle.pass_names.proofs.Passes.{begins_refl, begins_trans, begins_push, begins_more, goes_set, entries_here, entries_else}
@@ -17,7 +17,7 @@ use Rattle.counted_row.specs.declared.view.Locked.{Locked}
 use Rattle.counted_row.specs.declared.view.View.{View}
 use Rattle.counted_row.specs.Meaning.{Meaning}
 use Rattle.counted_row.specs.Views.{HasClaim, StateAfter}
-use Rattle.counted_row.specs.Rules.{line_of, places_at, claims_at, Cell, Holds, Fits, Home}
+use Rattle.counted_row.specs.Rules.{row_pass_id, row_places, claims_at, Cell, HoldsValue, RowAgrees, RowInvariant}
 
 module _ {S C R : Type 0} (m : Meaning S C R) (made : List S) where
   -- the history of value i stays, or gets one entry
@@ -41,12 +41,12 @@ module _ {S C R : Type 0} (m : Meaning S C R) (made : List S) where
     goes_on : (seen : List (List (Entry C R))) → GoesOn seen logs → GoesOn seen logs'
     goes_on seen g = goes_set seen logs i new inside g (begins_trans (g.each i) (grows_begins (entries i logs) new grows))
 
-    apart : (j : ℕ) (v : View S C R) (h : Locked S) → j ≢ id → Holds m made logs holders j v h → h.index ≢ i
+    apart : (j : ℕ) (v : View S C R) (h : Locked S) → j ≢ id → HoldsValue m made logs holders j v h → h.index ≢ i
     apart j v h n holds e =
         let t : slice_index holders i ≡ j + 1 = ap (λ k. slice_index holders k) (sym e) ∙ holds.holder in
         ⊎_elim (λ u. omega arith) (λ u. n (omega arith)) idle
 
-    holds_on : (j : ℕ) (v : View S C R) (h : Locked S) → j ≢ id → Holds m made logs holders j v h → Holds m made logs' (set holders i holder) j v h
+    holds_on : (j : ℕ) (v : View S C R) (h : Locked S) → j ≢ id → HoldsValue m made logs holders j v h → HoldsValue m made logs' (set holders i holder) j v h
     holds_on j v h n holds =
         let out = apart j v h n holds in
         let same : entries h.index logs' ≡ entries h.index logs = entries_else logs i h.index new out in
@@ -60,10 +60,10 @@ module _ {S C R : Type 0} (m : Meaning S C R) (made : List S) where
 
     -- a claim is open after what was seen and ever after, where it is open after the new history
     open_on : (v : View S C R) → ((k : ℕ) (name : List ℕ) (log : List (Entry C R)) (x : S) → HasClaim k name v.claims → Begins (entries k v.pass.seen) log → Begins (entries k v.heard) log
-        → Begins log (entries k logs) → StateAfter m made k log x → 0 < times name (m.claims x))
-        → ((name : List ℕ) (x : S) → HasClaim i name v.claims → StateAfter m made i new x → 0 < times name (m.claims x))
+        → Begins log (entries k logs) → StateAfter m made k log x → 0 < occurrences name (m.claims x))
+        → ((name : List ℕ) (x : S) → HasClaim i name v.claims → StateAfter m made i new x → 0 < occurrences name (m.claims x))
         → (k : ℕ) (name : List ℕ) (log : List (Entry C R)) (x : S) → HasClaim k name v.claims → Begins (entries k v.pass.seen) log → Begins (entries k v.heard) log
-        → Begins log (entries k logs') → StateAfter m made k log x → 0 < times name (m.claims x)
+        → Begins log (entries k logs') → StateAfter m made k log x → 0 < occurrences name (m.claims x)
     open_on v old last k name log x has a b c after =
         ⊎_elim
         (λ e.
@@ -75,159 +75,159 @@ module _ {S C R : Type 0} (m : Meaning S C R) (made : List S) where
         (λ n. old k name log x has a b (subst (λ l. Begins log l) (entries_else logs i k new n) c) after)
         (cases_eq k i)
 
-    fits_on : (j : ℕ) (v : View S C R) → j ≢ id → Fits m made logs holders j v → ((name : List ℕ) (x : S) → HasClaim i name v.claims → StateAfter m made i new x → 0 < times name (m.claims x))
-        → Fits m made logs' (set holders i holder) j v
-    fits_on j v n fits last = record {
-      opening = fits.opening;
-      wide = fits.wide;
-      seen = goes_on v.pass.seen fits.seen;
-      heard = goes_on v.heard fits.heard;
-      held = λ h e. holds_on j v h n (fits.held h e);
-      mine = fits.mine;
-      claims = open_on v fits.claims last;
-      gone = fits.gone;
+    agrees_on : (j : ℕ) (v : View S C R) → j ≢ id → RowAgrees m made logs holders j v → ((name : List ℕ) (x : S) → HasClaim i name v.claims → StateAfter m made i new x → 0 < occurrences name (m.claims x))
+        → RowAgrees m made logs' (set holders i holder) j v
+    agrees_on j v n agrees last = record {
+      opening = agrees.opening;
+      wide = agrees.wide;
+      seen = goes_on v.pass.seen agrees.seen;
+      heard = goes_on v.heard agrees.heard;
+      held = λ h e. holds_on j v h n (agrees.held h e);
+      mine = agrees.mine;
+      claims = open_on v agrees.claims last;
+      gone = agrees.gone;
     }
 
-  module _ (s : State (Option S) (View S C R)) (home : Home m made s) where
+  module _ (s : State (Option S) (View S C R)) (inv : RowInvariant m made s) where
     abbrev Views : Type 0
     Views = List (View S C R)
 
     -- One value and one seat are other than before.
     module _ (i id : ℕ) (v v' : View S C R) (new : List (Entry C R)) (word holder : ℕ) (slot : mathlib.Core.Option.Option (Option S))
         (at : get_elem? s.views id ≡ some v) (inside : i < length made)
-        (grows : Grows (entries i home.logs) new) (idle : (slice_index home.holders i ≡ 0) ⊎ (slice_index home.holders i ≡ id + 1))
+        (grows : Grows (entries i inv.logs) new) (idle : (slice_index inv.holders i ≡ 0) ⊎ (slice_index inv.holders i ≡ id + 1))
         (cell : Cell m made i new (some slot) word holder)
-        (fits : Fits m made (set home.logs i new) (set home.holders i holder) id v')
-        (line : line_of v' ≡ line_of v)
-        (places : (k n : ℕ) → places_at k n v' + one_if (within n (length (entries k home.logs))) ≡ places_at k n v + one_if (within n (length (entries k (set home.logs i new)))))
+        (agrees : RowAgrees m made (set inv.logs i new) (set inv.holders i holder) id v')
+        (same_id : row_pass_id v' ≡ row_pass_id v)
+        (places : (k n : ℕ) → row_places k n v' + one_if (within n (length (entries k inv.logs))) ≡ row_places k n v + one_if (within n (length (entries k (set inv.logs i new)))))
         (claims_else : (k : ℕ) (name : List ℕ) → k ≢ i → claims_at k name v' ≡ claims_at k name v)
-        (claims_here : (name : List ℕ) (x : S) → StateAfter m made i new x → total (claims_at i name) (set s.views id v') ≡ times name (m.claims x)) where
-      in_logs : i < length home.logs
-      in_logs = omega (arith, home.logs_len)
+        (claims_here : (name : List ℕ) (x : S) → StateAfter m made i new x → total (claims_at i name) (set s.views id v') ≡ occurrences name (m.claims x)) where
+      in_logs : i < length inv.logs
+      in_logs = omega (arith, inv.logs_len)
 
-      in_holders : i < length home.holders
-      in_holders = omega (arith, home.holders_len)
+      in_holders : i < length inv.holders
+      in_holders = omega (arith, inv.holders_len)
 
-      others : (j : ℕ) (u : View S C R) → j ≢ id → get_elem? s.views j ≡ some u → Fits m made (set home.logs i new) (set home.holders i holder) j u
+      others : (j : ℕ) (u : View S C R) → j ≢ id → get_elem? s.views j ≡ some u → RowAgrees m made (set inv.logs i new) (set inv.holders i holder) j u
       others j u n at_u =
-          fits_on home.logs home.holders i id new holder in_logs in_holders grows idle j u n (home.each_view j u at_u)
+          agrees_on inv.logs inv.holders i id new holder in_logs in_holders grows idle j u n (inv.each_view j u at_u)
           (λ name x has after. omega (arith, claims_here name x after, total_at (claims_at i name) (set s.views id v') j u (set_else s.views id j v' n ∙ at_u)))
 
       cells : (k : ℕ) → k < length made
-          → Cell m made k (entries k (set home.logs i new)) (get_elem? (set s.homes i slot) k) (slice_index (set s.words (i + 1) word) (k + 1)) (slice_index (set home.holders i holder) k)
+          → Cell m made k (entries k (set inv.logs i new)) (get_elem? (set s.homes i slot) k) (slice_index (set s.words (i + 1) word) (k + 1)) (slice_index (set inv.holders i holder) k)
       cells k h =
           ⊎_elim
-          (λ e. subst (λ q. Cell m made q (entries q (set home.logs i new)) (get_elem? (set s.homes i slot) q) (slice_index (set s.words (i + 1) word) (q + 1)) (slice_index (set home.holders i holder) q)) (sym e)
-          (rw (entries_here home.logs i new in_logs, set_here s.homes i slot (omega (arith, home.homes_len)), get_or-set_same s.words (i + 1) word 0 (omega (arith, home.words_len)), get_or-set_same home.holders i holder 0 in_holders) cell))
+          (λ e. subst (λ q. Cell m made q (entries q (set inv.logs i new)) (get_elem? (set s.homes i slot) q) (slice_index (set s.words (i + 1) word) (q + 1)) (slice_index (set inv.holders i holder) q)) (sym e)
+          (rw (entries_here inv.logs i new in_logs, set_here s.homes i slot (omega (arith, inv.homes_len)), get_or-set_same s.words (i + 1) word 0 (omega (arith, inv.words_len)), get_or-set_same inv.holders i holder 0 in_holders) cell))
           (λ n.
-          rw (entries_else home.logs i k new n, set_else s.homes i k slot n, get_or-set_other s.words (i + 1) (k + 1) word 0 (λ e. n (omega arith)), get_or-set_other home.holders i k holder 0 n) (home.each_cell k h))
+          rw (entries_else inv.logs i k new n, set_else s.homes i k slot n, get_or-set_other s.words (i + 1) (k + 1) word 0 (λ e. n (omega arith)), get_or-set_other inv.holders i k holder 0 n) (inv.each_cell k h))
           (cases_eq k i)
 
-      claims : (k : ℕ) (name : List ℕ) (x : S) → StateAfter m made k (entries k (set home.logs i new)) x → total (claims_at k name) (set s.views id v') ≡ times name (m.claims x)
+      claims : (k : ℕ) (name : List ℕ) (x : S) → StateAfter m made k (entries k (set inv.logs i new)) x → total (claims_at k name) (set s.views id v') ≡ occurrences name (m.claims x)
       claims k name x after =
           ⊎_elim
-          (λ e. subst (λ q. total (claims_at q name) (set s.views id v') ≡ times name (m.claims x)) (sym e)
-          (claims_here name x (subst (λ l. StateAfter m made i l x) (entries_here home.logs i new in_logs) (subst (λ q. StateAfter m made q (entries q (set home.logs i new)) x) e after))))
-          (λ n. omega (arith, total_set (claims_at k name) s.views id v v' at, claims_else k name n, home.claims k name x (subst (λ l. StateAfter m made k l x) (entries_else home.logs i k new n) after)))
+          (λ e. subst (λ q. total (claims_at q name) (set s.views id v') ≡ occurrences name (m.claims x)) (sym e)
+          (claims_here name x (subst (λ l. StateAfter m made i l x) (entries_here inv.logs i new in_logs) (subst (λ q. StateAfter m made q (entries q (set inv.logs i new)) x) e after))))
+          (λ n. omega (arith, total_set (claims_at k name) s.views id v v' at, claims_else k name n, inv.claims k name x (subst (λ l. StateAfter m made k l x) (entries_else inv.logs i k new n) after)))
           (cases_eq k i)
 
-      pub moved : Home m made record { words = slice_set s.words (i + 1) word; homes = slice_set s.homes i slot; views = slice_set s.views id v' }
+      pub moved : RowInvariant m made record { words = slice_set s.words (i + 1) word; homes = slice_set s.homes i slot; views = slice_set s.views id v' }
       moved = record {
-        logs = set home.logs i new;
-        holders = set home.holders i holder;
-        words_len = length-set s.words (i + 1) word ∙ home.words_len;
-        homes_len = length-set s.homes i slot ∙ home.homes_len;
-        logs_len = length-set home.logs i new ∙ home.logs_len;
-        holders_len = length-set home.holders i holder ∙ home.holders_len;
+        logs = set inv.logs i new;
+        holders = set inv.holders i holder;
+        words_len = length-set s.words (i + 1) word ∙ inv.words_len;
+        homes_len = length-set s.homes i slot ∙ inv.homes_len;
+        logs_len = length-set inv.logs i new ∙ inv.logs_len;
+        holders_len = length-set inv.holders i holder ∙ inv.holders_len;
         each_cell = cells;
-        each_view = λ j u e. ⊎_elim (λ t. subst (λ w. Fits m made (set home.logs i new) (set home.holders i holder) j w) t.1 (subst (λ q. Fits m made (set home.logs i new) (set home.holders i holder) q v') (sym t.0) fits)) (λ t. others j u t.0 t.1) (at_set s.views id j v' u e);
-        tree = subst (λ ls. Tree ls) (sym (map_kept line_of s.views id v v' at line)) home.tree;
-        tally = λ k n. omega (arith, total_set (places_at k n) s.views id v v' at, places k n, home.tally k n);
+        each_view = λ j u e. ⊎_elim (λ t. subst (λ w. RowAgrees m made (set inv.logs i new) (set inv.holders i holder) j w) t.1 (subst (λ q. RowAgrees m made (set inv.logs i new) (set inv.holders i holder) q v') (sym t.0) agrees)) (λ t. others j u t.0 t.1) (at_set s.views id j v' u e);
+        tree = subst (λ ls. IsPassTree ls) (sym (map_kept row_pass_id s.views id v v' at same_id)) inv.tree;
+        tally = λ k n. omega (arith, total_set (row_places k n) s.views id v v' at, places k n, inv.tally k n);
         claims = claims;
       }
 
     -- One seat alone is other than before.
     module _ (id : ℕ) (v v' : View S C R) (at : get_elem? s.views id ≡ some v)
-        (fits : Fits m made home.logs home.holders id v') (line : line_of v' ≡ line_of v)
-        (places : (k n : ℕ) → places_at k n v' ≡ places_at k n v) (claims : (k : ℕ) (name : List ℕ) → claims_at k name v' ≡ claims_at k name v) where
-      pub turned : Home m made record { words = s.words; homes = s.homes; views = slice_set s.views id v' }
+        (agrees : RowAgrees m made inv.logs inv.holders id v') (same_id : row_pass_id v' ≡ row_pass_id v)
+        (places : (k n : ℕ) → row_places k n v' ≡ row_places k n v) (claims : (k : ℕ) (name : List ℕ) → claims_at k name v' ≡ claims_at k name v) where
+      pub turned : RowInvariant m made record { words = s.words; homes = s.homes; views = slice_set s.views id v' }
       turned = record {
-        logs = home.logs;
-        holders = home.holders;
-        words_len = home.words_len;
-        homes_len = home.homes_len;
-        logs_len = home.logs_len;
-        holders_len = home.holders_len;
-        each_cell = home.each_cell;
-        each_view = λ j u e. ⊎_elim (λ t. subst (λ w. Fits m made home.logs home.holders j w) t.1 (subst (λ q. Fits m made home.logs home.holders q v') (sym t.0) fits)) (λ t. home.each_view j u t.1) (at_set s.views id j v' u e);
-        tree = subst (λ ls. Tree ls) (sym (map_kept line_of s.views id v v' at line)) home.tree;
-        tally = λ k n. omega (arith, total_set (places_at k n) s.views id v v' at, places k n, home.tally k n);
-        claims = λ k name x after. omega (arith, total_set (claims_at k name) s.views id v v' at, claims k name, home.claims k name x after);
+        logs = inv.logs;
+        holders = inv.holders;
+        words_len = inv.words_len;
+        homes_len = inv.homes_len;
+        logs_len = inv.logs_len;
+        holders_len = inv.holders_len;
+        each_cell = inv.each_cell;
+        each_view = λ j u e. ⊎_elim (λ t. subst (λ w. RowAgrees m made inv.logs inv.holders j w) t.1 (subst (λ q. RowAgrees m made inv.logs inv.holders q v') (sym t.0) agrees)) (λ t. inv.each_view j u t.1) (at_set s.views id j v' u e);
+        tree = subst (λ ls. IsPassTree ls) (sym (map_kept row_pass_id s.views id v v' at same_id)) inv.tree;
+        tally = λ k n. omega (arith, total_set (row_places k n) s.views id v v' at, places k n, inv.tally k n);
+        claims = λ k name x after. omega (arith, total_set (claims_at k name) s.views id v v' at, claims k name, inv.claims k name x after);
       }
 
     -- One seat is other than before, and one came.
     module _ (id : ℕ) (v v' w : View S C R) (at : get_elem? s.views id ≡ some v)
-        (fits : Fits m made home.logs home.holders id v') (fits_new : (j : ℕ) → Fits m made home.logs home.holders j w)
-        (tree : Tree (set (map line_of s.views) id (line_of v') ++ line_of w ∷ []))
-        (places : (k n : ℕ) → places_at k n v' + places_at k n w ≡ places_at k n v) (claims : (k : ℕ) (name : List ℕ) → claims_at k name v' + claims_at k name w ≡ claims_at k name v) where
-      pub grown : Home m made record { words = s.words; homes = s.homes; views = slice_set s.views id v' ++ w ∷ [] }
+        (agrees : RowAgrees m made inv.logs inv.holders id v') (agrees_new : (j : ℕ) → RowAgrees m made inv.logs inv.holders j w)
+        (tree : IsPassTree (set (map row_pass_id s.views) id (row_pass_id v') ++ row_pass_id w ∷ []))
+        (places : (k n : ℕ) → row_places k n v' + row_places k n w ≡ row_places k n v) (claims : (k : ℕ) (name : List ℕ) → claims_at k name v' + claims_at k name w ≡ claims_at k name v) where
+      pub grown : RowInvariant m made record { words = s.words; homes = s.homes; views = slice_set s.views id v' ++ w ∷ [] }
       grown = record {
-        logs = home.logs;
-        holders = home.holders;
-        words_len = home.words_len;
-        homes_len = home.homes_len;
-        logs_len = home.logs_len;
-        holders_len = home.holders_len;
-        each_cell = home.each_cell;
+        logs = inv.logs;
+        holders = inv.holders;
+        words_len = inv.words_len;
+        homes_len = inv.homes_len;
+        logs_len = inv.logs_len;
+        holders_len = inv.holders_len;
+        each_cell = inv.each_cell;
         each_view = λ j u e. ⊎_elim
-            (λ t. ⊎_elim (λ h. subst (λ x. Fits m made home.logs home.holders j x) h.1 (subst (λ q. Fits m made home.logs home.holders q v') (sym h.0) fits)) (λ h. home.each_view j u h.1) (at_set s.views id j v' u t))
-            (λ t. subst (λ x. Fits m made home.logs home.holders j x) t (fits_new j))
+            (λ t. ⊎_elim (λ h. subst (λ x. RowAgrees m made inv.logs inv.holders j x) h.1 (subst (λ q. RowAgrees m made inv.logs inv.holders q v') (sym h.0) agrees)) (λ h. inv.each_view j u h.1) (at_set s.views id j v' u t))
+            (λ t. subst (λ x. RowAgrees m made inv.logs inv.holders j x) t (agrees_new j))
             (at_snoc (set s.views id v') w u j e);
-        tree = subst (λ ls. Tree ls) (sym (map-append line_of (set s.views id v') (w ∷ []) ∙ ap (λ ls. ls ++ line_of w ∷ []) (map-set line_of s.views id v'))) tree;
-        tally = λ k n. omega (arith, total_set (places_at k n) s.views id v v' at, total-append (places_at k n) (set s.views id v') (w ∷ []), places k n, home.tally k n);
-        claims = λ k name x after. omega (arith, total_set (claims_at k name) s.views id v v' at, total-append (claims_at k name) (set s.views id v') (w ∷ []), claims k name, home.claims k name x after);
+        tree = subst (λ ls. IsPassTree ls) (sym (map-append row_pass_id (set s.views id v') (w ∷ []) ∙ ap (λ ls. ls ++ row_pass_id w ∷ []) (map-set row_pass_id s.views id v'))) tree;
+        tally = λ k n. omega (arith, total_set (row_places k n) s.views id v v' at, total-append (row_places k n) (set s.views id v') (w ∷ []), places k n, inv.tally k n);
+        claims = λ k name x after. omega (arith, total_set (claims_at k name) s.views id v v' at, total-append (claims_at k name) (set s.views id v') (w ∷ []), claims k name, inv.claims k name x after);
       }
 
     -- One seat has taken in another.
     module _ (id other : ℕ) (v v' w w' : View S C R) (at : get_elem? s.views id ≡ some v) (at_other : get_elem? (set s.views id v') other ≡ some w)
-        (fits : Fits m made home.logs home.holders id v') (fits_left : (j : ℕ) → Fits m made home.logs home.holders j w')
-        (tree : Tree (set (set (map line_of s.views) id (line_of v')) other (line_of w')))
-        (places : (k n : ℕ) → places_at k n v' + places_at k n w' ≡ places_at k n v + places_at k n w) (claims : (k : ℕ) (name : List ℕ) → claims_at k name v' + claims_at k name w' ≡ claims_at k name v + claims_at k name w) where
-      pub merged : Home m made record { words = s.words; homes = s.homes; views = slice_set (slice_set s.views id v') other w' }
+        (agrees : RowAgrees m made inv.logs inv.holders id v') (agrees_left : (j : ℕ) → RowAgrees m made inv.logs inv.holders j w')
+        (tree : IsPassTree (set (set (map row_pass_id s.views) id (row_pass_id v')) other (row_pass_id w')))
+        (places : (k n : ℕ) → row_places k n v' + row_places k n w' ≡ row_places k n v + row_places k n w) (claims : (k : ℕ) (name : List ℕ) → claims_at k name v' + claims_at k name w' ≡ claims_at k name v + claims_at k name w) where
+      pub merged : RowInvariant m made record { words = s.words; homes = s.homes; views = slice_set (slice_set s.views id v') other w' }
       merged = record {
-        logs = home.logs;
-        holders = home.holders;
-        words_len = home.words_len;
-        homes_len = home.homes_len;
-        logs_len = home.logs_len;
-        holders_len = home.holders_len;
-        each_cell = home.each_cell;
+        logs = inv.logs;
+        holders = inv.holders;
+        words_len = inv.words_len;
+        homes_len = inv.homes_len;
+        logs_len = inv.logs_len;
+        holders_len = inv.holders_len;
+        each_cell = inv.each_cell;
         each_view = λ j u e. ⊎_elim
-            (λ t. subst (λ x. Fits m made home.logs home.holders j x) t.1 (fits_left j))
-            (λ t. ⊎_elim (λ h. subst (λ x. Fits m made home.logs home.holders j x) h.1 (subst (λ q. Fits m made home.logs home.holders q v') (sym h.0) fits)) (λ h. home.each_view j u h.1) (at_set s.views id j v' u t.1))
+            (λ t. subst (λ x. RowAgrees m made inv.logs inv.holders j x) t.1 (agrees_left j))
+            (λ t. ⊎_elim (λ h. subst (λ x. RowAgrees m made inv.logs inv.holders j x) h.1 (subst (λ q. RowAgrees m made inv.logs inv.holders q v') (sym h.0) agrees)) (λ h. inv.each_view j u h.1) (at_set s.views id j v' u t.1))
             (at_set (set s.views id v') other j w' u e);
-        tree = subst (λ ls. Tree ls) (sym (map-set line_of (set s.views id v') other w' ∙ ap (λ ls. set ls other (line_of w')) (map-set line_of s.views id v'))) tree;
-        tally = λ k n. omega (arith, total_set (places_at k n) s.views id v v' at, total_set (places_at k n) (set s.views id v') other w w' at_other, places k n, home.tally k n);
-        claims = λ k name x after. omega (arith, total_set (claims_at k name) s.views id v v' at, total_set (claims_at k name) (set s.views id v') other w w' at_other, claims k name, home.claims k name x after);
+        tree = subst (λ ls. IsPassTree ls) (sym (map-set row_pass_id (set s.views id v') other w' ∙ ap (λ ls. set ls other (row_pass_id w')) (map-set row_pass_id s.views id v'))) tree;
+        tally = λ k n. omega (arith, total_set (row_places k n) s.views id v v' at, total_set (row_places k n) (set s.views id v') other w w' at_other, places k n, inv.tally k n);
+        claims = λ k name x after. omega (arith, total_set (claims_at k name) s.views id v v' at, total_set (claims_at k name) (set s.views id v') other w w' at_other, claims k name, inv.claims k name x after);
       }
 
     -- One value's lock and one seat are other than before, and no history is.
     module _ (i id : ℕ) (v v' : View S C R) (word holder : ℕ) (slot : mathlib.Core.Option.Option (Option S))
         (at : get_elem? s.views id ≡ some v) (inside : i < length made)
-        (idle : (slice_index home.holders i ≡ 0) ⊎ (slice_index home.holders i ≡ id + 1))
-        (cell : Cell m made i (entries i home.logs) (some slot) word holder)
-        (fits : Fits m made home.logs (set home.holders i holder) id v')
-        (line : line_of v' ≡ line_of v)
-        (places : (k n : ℕ) → places_at k n v' ≡ places_at k n v)
+        (idle : (slice_index inv.holders i ≡ 0) ⊎ (slice_index inv.holders i ≡ id + 1))
+        (cell : Cell m made i (entries i inv.logs) (some slot) word holder)
+        (agrees : RowAgrees m made inv.logs (set inv.holders i holder) id v')
+        (same_id : row_pass_id v' ≡ row_pass_id v)
+        (places : (k n : ℕ) → row_places k n v' ≡ row_places k n v)
         (claims : (k : ℕ) (name : List ℕ) → claims_at k name v' ≡ claims_at k name v) where
-      unchanged : set home.logs i (entries i home.logs) ≡ home.logs
-      unchanged = set-get_or home.logs i []
+      unchanged : set inv.logs i (entries i inv.logs) ≡ inv.logs
+      unchanged = set-get_or inv.logs i []
 
-      pub shifted : Home m made record { words = slice_set s.words (i + 1) word; homes = slice_set s.homes i slot; views = slice_set s.views id v' }
+      pub shifted : RowInvariant m made record { words = slice_set s.words (i + 1) word; homes = slice_set s.homes i slot; views = slice_set s.views id v' }
       shifted =
-          moved i id v v' (entries i home.logs) word holder slot at inside (inl refl) idle cell
-          (subst (λ ls. Fits m made ls (set home.holders i holder) id v') (sym unchanged) fits)
-          line
+          moved i id v v' (entries i inv.logs) word holder slot at inside (inl refl) idle cell
+          (subst (λ ls. RowAgrees m made ls (set inv.holders i holder) id v') (sym unchanged) agrees)
+          same_id
           (λ k n. omega (arith, places k n, ap (λ (ls : List (List (Entry C R))). one_if (within n (length (entries k ls)))) unchanged))
           (λ k name apart. claims k name)
-          (λ name x after. omega (arith, total_set (claims_at i name) s.views id v v' at, claims i name, home.claims i name x after))
+          (λ name x after. omega (arith, total_set (claims_at i name) s.views id v v' at, claims i name, inv.claims i name x after))

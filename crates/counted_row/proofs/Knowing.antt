@@ -8,8 +8,8 @@ use lib.ListN.{get_elem?}
 use Rattle.atomic_table.specs.Table.{State}
 use Rattle.atomic_table.proofs.Lists.{at_map}
 use Rattle.pass_names.specs.Counts.{one_if, count}
-use Rattle.pass_names.specs.declared.Line.{Line}
-use Rattle.pass_names.specs.Names.{IsLast, times, next_name, after_split, child_of}
+use Rattle.pass_names.specs.declared.PassId.{PassId}
+use Rattle.pass_names.specs.Names.{IsLast, occurrences, next_name, after_split, child_of}
 use Rattle.pass_names.specs.Passes.{Begins, entries, HasEach, within, is_place}
 use Rattle.pass_names.proofs.Names.{last_alone}
 use Rattle.pass_names.proofs.Counts.{total_only}
@@ -17,8 +17,8 @@ use Rattle.pass_names.proofs.Passes.{begins_refl, begins_nil, begins_whole}
 use Rattle.counted_row.specs.declared.view.Locked.{Locked}
 use Rattle.counted_row.specs.declared.view.View.{View}
 use Rattle.counted_row.specs.Meaning.{Meaning}
-use Rattle.counted_row.specs.Views.{is_claim, StateAfter, IsNow, Knows, PassOf, Locks, HasClaim, split_view, new_view}
-use Rattle.counted_row.specs.Rules.{line_of, places_at, claims_at, Fits, Home}
+use Rattle.counted_row.specs.Views.{is_claim, StateAfter, IsNow, Knows, PassOfRow, Locks, HasClaim, split_view, new_view}
+use Rattle.counted_row.specs.Rules.{row_pass_id, row_places, claims_at, RowAgrees, RowInvariant}
 use Rattle.counted_row.proofs.Histories.{after_part}
 
 pub set_there : {A : Type 0} (l : List A) (i : ℕ) (a b : A) → get_elem? l i ≡ some a → get_elem? (set l i b) i ≡ some b
@@ -29,63 +29,63 @@ set_there (x ∷ xs) (suc i) a b e = set_there xs i a b e
 in_range : (n : ℕ) → 0 < n → one_if (within n n) ≡ 1
 in_range n h = grind (arith, nat_tests)
 
-module _ {S C R : Type 0} (m : Meaning S C R) (made : List S) (s : State (Option S) (View S C R)) (home : Home m made s)
-    (id : ℕ) (v : View S C R) (at : get_elem? s.views id ≡ some v) (live : v.pass.line.live ≡ true) (heard : v.heard ≡ []) where
-  fits : Fits m made home.logs home.holders id v
-  fits = home.each_view id v at
+module _ {S C R : Type 0} (m : Meaning S C R) (made : List S) (s : State (Option S) (View S C R)) (inv : RowInvariant m made s)
+    (id : ℕ) (v : View S C R) (at : get_elem? s.views id ≡ some v) (live : v.pass.id.live ≡ true) (heard : v.heard ≡ []) where
+  agrees : RowAgrees m made inv.logs inv.holders id v
+  agrees = inv.each_view id v at
 
   made_it : v.opening ≡ made
-  made_it = fits.opening live
+  made_it = agrees.opening live
 
   begins_seen : (i : ℕ) → Begins (entries i v.heard) (entries i v.pass.seen)
   begins_seen i = subst (λ h. Begins (entries i h) (entries i v.pass.seen)) (sym heard) (begins_nil (entries i v.pass.seen))
 
   -- where the pass is the last, all others are gone
-  module _ (last : IsLast v.pass.line) where
-    others_gone : (j : ℕ) (u : View S C R) → j ≢ id → get_elem? s.views j ≡ some u → u.pass.line.live ≡ false
+  module _ (last : IsLast v.pass.id) where
+    others_gone : (j : ℕ) (u : View S C R) → j ≢ id → get_elem? s.views j ≡ some u → u.pass.id.live ≡ false
     others_gone j u apart at_u =
         ⊎_elim
-        (λ t. absurd (apart (last_alone (map line_of s.views) home.tree id j (line_of v) (line_of u) (at_map line_of s.views id v at) live last (at_map line_of s.views j u at_u) t)))
+        (λ t. absurd (apart (last_alone (map row_pass_id s.views) inv.tree id j (row_pass_id v) (row_pass_id u) (at_map row_pass_id s.views id v at) live last (at_map row_pass_id s.views j u at_u) t)))
         (λ f. f)
-        (cases_Bool u.pass.line.live)
+        (cases_Bool u.pass.id.live)
 
-    all_places : (i k : ℕ) → places_at i k v ≡ one_if (within k (length (entries i home.logs)))
+    all_places : (i k : ℕ) → row_places i k v ≡ one_if (within k (length (entries i inv.logs)))
     all_places i k =
-        sym (total_only (places_at i k) s.views id v at (λ j u apart at_u. ap (count (is_place i k)) ((home.each_view j u at_u).gone (others_gone j u apart at_u)).0)) ∙ home.tally i k
+        sym (total_only (row_places i k) s.views id v at (λ j u apart at_u. ap (count (is_place i k)) ((inv.each_view j u at_u).gone (others_gone j u apart at_u)).0)) ∙ inv.tally i k
 
-    all_claims : (i : ℕ) (name : List ℕ) (x : S) → StateAfter m made i (entries i home.logs) x → claims_at i name v ≡ times name (m.claims x)
+    all_claims : (i : ℕ) (name : List ℕ) (x : S) → StateAfter m made i (entries i inv.logs) x → claims_at i name v ≡ occurrences name (m.claims x)
     all_claims i name x after =
-        sym (total_only (claims_at i name) s.views id v at (λ j u apart at_u. ap (count (is_claim i name)) ((home.each_view j u at_u).gone (others_gone j u apart at_u)).1)) ∙ home.claims i name x after
+        sym (total_only (claims_at i name) s.views id v at (λ j u apart at_u. ap (count (is_claim i name)) ((inv.each_view j u at_u).gone (others_gone j u apart at_u)).1)) ∙ inv.claims i name x after
 
     heard_none : (i : ℕ) → length (entries i v.heard) ≡ 0
     heard_none i = ap (λ h. length (entries i h)) heard
 
-    as_long : (i : ℕ) → length (entries i home.logs) ≤ length (entries i v.pass.seen)
+    as_long : (i : ℕ) → length (entries i inv.logs) ≤ length (entries i v.pass.seen)
     as_long i =
         ⊎_elim
         (λ some_one. ⊎_elim
         (λ t. t)
         (λ t. omega (arith, heard_none i))
-        (fits.mine i (length (entries i home.logs)) (omega (arith, all_places i (length (entries i home.logs)), in_range (length (entries i home.logs)) some_one))))
+        (agrees.mine i (length (entries i inv.logs)) (omega (arith, all_places i (length (entries i inv.logs)), in_range (length (entries i inv.logs)) some_one))))
         (λ none. omega arith)
-        (cases_lt 0 (length (entries i home.logs)))
+        (cases_lt 0 (length (entries i inv.logs)))
 
-    seen_all : (i : ℕ) → entries i v.pass.seen ≡ entries i home.logs
-    seen_all i = begins_whole (fits.seen.each i) (as_long i)
+    seen_all : (i : ℕ) → entries i v.pass.seen ≡ entries i inv.logs
+    seen_all i = begins_whole (agrees.seen.each i) (as_long i)
 
     pub last_has_each : HasEach v.pass.seen v.pass.mine
     last_has_each = record { once = λ i k. all_places i k ∙ ap (λ l. one_if (within k (length l))) (sym (seen_all i)) }
 
   is_now : (h : Locked S) → v.held ≡ Some h → IsNow m v h
   is_now h e =
-      let t = fits.held h e in
+      let t = agrees.held h e in
       record {
         state = subst (λ o. StateAfter m o h.index (entries h.index v.pass.seen) h.state) (sym made_it) (subst (λ l. StateAfter m made h.index l h.state) (sym t.seen) t.state);
         stamp = t.stamp ∙ ap length (sym t.seen);
       }
 
   legal : (i : ℕ) → i < length made → (x : S) × StateAfter m made i (entries i v.pass.seen) x
-  legal i h = let c = home.each_cell i h in after_part m made i (entries i v.pass.seen) (entries i home.logs) c.state (fits.seen.each i) c.after
+  legal i h = let c = inv.each_cell i h in after_part m made i (entries i v.pass.seen) (entries i inv.logs) c.state (agrees.seen.each i) c.after
 
   pub knows_of : Knows m v
   knows_of =
@@ -93,7 +93,7 @@ module _ {S C R : Type 0} (m : Meaning S C R) (made : List S) (s : State (Option
       record {
         legal = subst P (sym made_it) legal;
         open_claims = λ i name x has after.
-            fits.claims i name (entries i v.pass.seen) x has (begins_refl (entries i v.pass.seen)) (begins_seen i) (fits.seen.each i)
+            agrees.claims i name (entries i v.pass.seen) x has (begins_refl (entries i v.pass.seen)) (begins_seen i) (agrees.seen.each i)
             (subst (λ o. StateAfter m o i (entries i v.pass.seen) x) made_it after);
         held = is_now;
         all_entries = last_has_each;
@@ -102,7 +102,7 @@ module _ {S C R : Type 0} (m : Meaning S C R) (made : List S) (s : State (Option
       }
 
 -- under the lock, the pass's claims on the value are open
-pub open_now : {S C R : Type 0} (m : Meaning S C R) (old new : PassOf S C R) (i : ℕ) (name : List ℕ) (h : Locked S) → Locks m old new i h → HasClaim i name old.knows.claims → 0 < times name (m.claims h.state)
+pub open_now : {S C R : Type 0} (m : Meaning S C R) (old new : PassOfRow S C R) (i : ℕ) (name : List ℕ) (h : Locked S) → Locks m old new i h → HasClaim i name old.knows.claims → 0 < occurrences name (m.claims h.state)
 open_now m old new i name h locks has =
     locks.knows.open_claims h.index name h.state (subst (λ cs. HasClaim h.index name cs) (sym locks.claims) (subst (λ k. HasClaim k name old.knows.claims) (sym locks.index) has)) locks.now.state
 
@@ -116,11 +116,11 @@ module _ {S C R : Type 0} (m : Meaning S C R) where
     legal = knows.legal;
     open_claims = knows.open_claims;
     held = λ h e. let t = knows.held h e in record { state = t.state; stamp = t.stamp };
-    all_entries = λ last. absurd (not_last v.pass.line last);
-    all_claims = λ last. absurd (not_last v.pass.line last);
+    all_entries = λ last. absurd (not_last v.pass.id last);
+    all_claims = λ last. absurd (not_last v.pass.id last);
   }
     where
-      not_last : (l : Line) → IsLast (after_split l) → ⊥
+      not_last : (l : PassId) → IsLast (after_split l) → ⊥
       not_last l last = omega (arith, ap length last.alone, length-append l.split (next_name l ∷ []))
 
   -- a pass that was split off knows as much, and isn't the last
@@ -129,9 +129,9 @@ module _ {S C R : Type 0} (m : Meaning S C R) where
     legal = knows.legal;
     open_claims = λ i name x has. absurd (omega arith);
     held = λ h e. absurd (no_lock h e);
-    all_entries = λ last. absurd (not_last v.pass.line last);
-    all_claims = λ last. absurd (not_last v.pass.line last);
+    all_entries = λ last. absurd (not_last v.pass.id last);
+    all_claims = λ last. absurd (not_last v.pass.id last);
   }
     where
-      not_last : (l : Line) → IsLast (child_of l) → ⊥
+      not_last : (l : PassId) → IsLast (child_of l) → ⊥
       not_last l last = omega (arith, ap length last.first, length-append l.name ((l.made + 1) ∷ []))

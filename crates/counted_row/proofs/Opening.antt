@@ -7,7 +7,7 @@ use mathlib.Core.Option.{some, some-injective, some-ne-none}
 use lib.ListN.{get_elem?}
 use Rattle.atomic_table.specs.Table.{opening}
 use Rattle.pass_names.specs.Counts.{one_if}
-use Rattle.pass_names.specs.Names.{times}
+use Rattle.pass_names.specs.Names.{occurrences}
 use Rattle.pass_names.specs.Passes.{entries, within}
 use Rattle.pass_names.proofs.Names.{first_tree}
 use Rattle.pass_names.proofs.Passes.{goes_nil, goes_refl, entries_replicate}
@@ -16,7 +16,7 @@ use Rattle.counted_row.specs.declared.view.Locked.{Locked}
 use Rattle.counted_row.specs.declared.view.View.{View}
 use Rattle.counted_row.specs.Meaning.{Meaning}
 use Rattle.counted_row.specs.Views.{StateAfter, Knows, first_view}
-use Rattle.counted_row.specs.Rules.{Cell, Fits, Home}
+use Rattle.counted_row.specs.Rules.{Cell, RowAgrees, RowInvariant}
 use Rattle.counted_row.proofs.Knowing.{knows_of}
 
 value_at : {A : Type 0} (xs : List A) (i : ℕ) → i < length xs → (x : A) × (get_elem? xs i ≡ some x)
@@ -45,8 +45,8 @@ module _ {S C R : Type 0} (m : Meaning S C R) (made : List S) where
   empty : (i : ℕ) → length (entries i logs) ≡ 0
   empty i = ap length (entries_replicate (length made) i)
 
-  fits_first : (j : ℕ) → Fits m made logs holders j first
-  fits_first j = record {
+  agrees_first : (j : ℕ) → RowAgrees m made logs holders j first
+  agrees_first j = record {
     opening = λ live. refl;
     wide = λ live. length-replicate (length made) [];
     seen = goes_refl logs;
@@ -80,8 +80,8 @@ module _ {S C R : Type 0} (m : Meaning S C R) (made : List S) where
       none : (k : ℕ) → one_if (within k 0) ≡ 0
       none k = grind (arith, nat_tests)
 
-  pub opens_home : ((i : ℕ) (x : S) → get_elem? made i ≡ some x → m.claims x ≡ []) → Home m made (opening (replicate (length made + 1) 0) (map Some made) first)
-  opens_home unclaimed = record {
+  pub opens_inv : ((i : ℕ) (x : S) → get_elem? made i ≡ some x → m.claims x ≡ []) → RowInvariant m made (opening (replicate (length made + 1) 0) (map Some made) first)
+  opens_inv unclaimed = record {
     logs = logs;
     holders = holders;
     words_len = length-replicate (length made + 1) 0;
@@ -95,24 +95,24 @@ module _ {S C R : Type 0} (m : Meaning S C R) (made : List S) where
     claims = λ i name x after. omega (arith, no_claim i name x after);
   }
     where
-      here : (j : ℕ) (v : View S C R) → get_elem? (first ∷ []) j ≡ some v → Fits m made logs holders j v
-      here zero v e = subst (λ w. Fits m made logs holders 0 w) (some-injective first v e) (fits_first 0)
+      here : (j : ℕ) (v : View S C R) → get_elem? (first ∷ []) j ≡ some v → RowAgrees m made logs holders j v
+      here zero v e = subst (λ w. RowAgrees m made logs holders 0 w) (some-injective first v e) (agrees_first 0)
       here (suc j) v e = absurd (some-ne-none v (sym e))
 
-      no_claim : (i : ℕ) (name : List ℕ) (x : S) → StateAfter m made i (entries i logs) x → times name (m.claims x) ≡ 0
+      no_claim : (i : ℕ) (name : List ℕ) (x : S) → StateAfter m made i (entries i logs) x → occurrences name (m.claims x) ≡ 0
       no_claim i name x after =
           let begins : StateAfter m made i [] x = subst (λ l. StateAfter m made i l x) (entries_replicate (length made) i) after in
-          ap (times name) (ap m.claims begins.leads ∙ unclaimed i begins.from begins.at)
+          ap (occurrences name) (ap m.claims begins.leads ∙ unclaimed i begins.from begins.at)
 
   all_at : (P : S → Type 0) (xs : List S) → All P xs → (i : ℕ) (x : S) → get_elem? xs i ≡ some x → P x
   all_at P [] all i x e = absurd (some-ne-none x (sym e))
   all_at P (y ∷ ys) all zero x e = subst P (some-injective y x e) (all 0 y (omega arith))
   all_at P (y ∷ ys) all (suc i) x e = all_at P ys (λ k d h. all (suc k) d (omega arith)) i x e
 
-  pub opens : (words : List ℕ) (slots : List (Option S)) → All (λ x. m.claims x ≡ []) made → words ≡ replicate (length made + 1) 0 → slots ≡ map Some made → Home m made (opening words slots first)
+  pub opens : (words : List ℕ) (slots : List (Option S)) → All (λ x. m.claims x ≡ []) made → words ≡ replicate (length made + 1) 0 → slots ≡ map Some made → RowInvariant m made (opening words slots first)
   opens words slots unclaimed is_words is_slots =
-      subst (λ ws. Home m made (opening ws slots first)) (sym is_words)
-      (subst (λ ss. Home m made (opening (replicate (length made + 1) 0) ss first)) (sym is_slots) (opens_home (λ i x e. all_at (λ y. m.claims y ≡ []) made unclaimed i x e)))
+      subst (λ ws. RowInvariant m made (opening ws slots first)) (sym is_words)
+      (subst (λ ss. RowInvariant m made (opening (replicate (length made + 1) 0) ss first)) (sym is_slots) (opens_inv (λ i x e. all_at (λ y. m.claims y ≡ []) made unclaimed i x e)))
 
   -- the first pass knows that it is the last
   pub knows_first : All (λ x. m.claims x ≡ []) made → Knows m first

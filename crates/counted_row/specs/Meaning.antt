@@ -1,7 +1,7 @@
 -- What an object's calls mean.
 use Rattle.std.specs.Prelude.{◌≡◌, ℕ, ◌+◌, List, [], ◌∷◌}
 use Rattle.pass_names.specs.Counts.{one_if}
-use Rattle.pass_names.specs.Names.{same, times}
+use Rattle.pass_names.specs.Names.{same, occurrences}
 use Rattle.counted_row.specs.declared.view.Entry.{Entry}
 
 -- what a call does to claims, each of which is named by numbers
@@ -20,23 +20,23 @@ pub record Meaning (S C R : Type 0) : Type 1 where
   pub effect : S → C → Effect
 
 -- how often the claim is opened
-abbrev pub opened : List ℕ → Effect → ℕ
-opened name plain = 0
-opened name (opens claim) = one_if (same name claim)
-opened name (uses claim) = 0
-opened name (ends claim) = 0
+abbrev pub times_opened : List ℕ → Effect → ℕ
+times_opened name plain = 0
+times_opened name (opens claim) = one_if (same name claim)
+times_opened name (uses claim) = 0
+times_opened name (ends claim) = 0
 
 -- how often the claim is ended
-abbrev pub ended : List ℕ → Effect → ℕ
-ended name plain = 0
-ended name (opens claim) = 0
-ended name (uses claim) = 0
-ended name (ends claim) = one_if (same name claim)
+abbrev pub times_ended : List ℕ → Effect → ℕ
+times_ended name plain = 0
+times_ended name (opens claim) = 0
+times_ended name (uses claim) = 0
+times_ended name (ends claim) = one_if (same name claim)
 
 module _ {S C R : Type 0} where
   -- a call opens and ends the claims that its effect says, and no others
   abbrev pub Counts : Meaning S C R → Type 0
-  Counts m = (s : S) (c : C) (name : List ℕ) → m.may s c → times name (m.claims (m.next s c)) + ended name (m.effect s c) ≡ times name (m.claims s) + opened name (m.effect s c)
+  Counts m = (s : S) (c : C) (name : List ℕ) → m.may s c → occurrences name (m.claims (m.next s c)) + times_ended name (m.effect s c) ≡ occurrences name (m.claims s) + times_opened name (m.effect s c)
 
   -- from the first state the calls of the history may be made in turn, with these replies, and lead to the second
   abbrev pub Leads : Meaning S C R → S → List (Entry C R) → S → Type 0

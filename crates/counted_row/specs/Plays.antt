@@ -1,7 +1,7 @@
 -- What each step on a row's table tells the caller, and how views are cut and put together.
 use Rattle.std.specs.Prelude.{◌≡◌, ℕ, ◌+◌, ◌^◌, ◌<◌, ◌≤◌, ◌⊎◌, ◌==◌, true, List, [], ◌∷◌, ◌++◌, length, Option, Some, None, MatchBool}
 use Rattle.atomic_table.specs.Table.{Me, Step, rest}
-use Rattle.pass_names.specs.Names.{after_retire, gone_line}
+use Rattle.pass_names.specs.Names.{after_retire, gone_pass_id}
 use Rattle.pass_names.specs.Passes.{entries, GoesOn, Adds}
 use Rattle.counted_row.specs.declared.view.Entry.{Entry}
 use Rattle.counted_row.specs.declared.view.Locked.{Locked}
@@ -73,16 +73,16 @@ module _ {S C R : Type 0} where
 
   -- a note of what a pass has seen, which is no pass
   abbrev pub note_of : View S C R → View S C R
-  note_of v = record { pass = record { line = gone_line; seen = v.pass.seen; mine = [] }; opening = []; heard = []; claims = []; held = None }
+  note_of v = record { pass = record { id = gone_pass_id; seen = v.pass.seen; mine = [] }; opening = []; heard = []; claims = []; held = None }
 
   -- what is left of a pass that was taken in
   abbrev pub gone_view : View S C R
-  gone_view = record { pass = record { line = gone_line; seen = []; mine = [] }; opening = []; heard = []; claims = []; held = None }
+  gone_view = record { pass = record { id = gone_pass_id; seen = []; mine = [] }; opening = []; heard = []; claims = []; held = None }
 
   -- a pass that has taken in another
   abbrev pub joined_view : View S C R → View S C R → View S C R
   joined_view v w = record v {
-    pass = record v.pass { line = after_retire v.pass.line w.pass.line; mine = v.pass.mine ++ w.pass.mine };
+    pass = record v.pass { id = after_retire v.pass.id w.pass.id; mine = v.pass.mine ++ w.pass.mine };
     heard = w.pass.seen;
     claims = v.claims ++ w.claims;
   }
@@ -92,14 +92,14 @@ module _ {S C R : Type 0} where
   told_view v w = record v { heard = w.pass.seen }
 
   -- what a seat of a pass is like between calls
-  pub record IsResting (slots : ℕ) (me : Me (Option S) (View S C R)) : Type 0 where
-    pub live : me.0.pass.line.live ≡ true
+  pub record IsRestingSeat (slots : ℕ) (me : Me (Option S) (View S C R)) : Type 0 where
+    pub live : me.0.pass.id.live ≡ true
     pub heard : me.0.heard ≡ []
     pub carried : me.1 ≡ slots_of me.0.held
     pub within : (h : Locked S) → me.0.held ≡ Some h → h.index < slots
 
   -- a seat has looked, and nothing else
-  pub record Saw (m : Meaning S C R) (me new : Me (Option S) (View S C R)) : Type 0 where
+  pub record HasLooked (m : Meaning S C R) (me new : Me (Option S) (View S C R)) : Type 0 where
     pub rest : new ≡ (having_seen new.0.pass.seen me.0, me.1)
     pub seen : GoesOn me.0.pass.seen new.0.pass.seen
     pub knows : Knows m new.0

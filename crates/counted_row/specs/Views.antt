@@ -3,8 +3,8 @@ use Rattle.std.specs.Prelude.{◌≡◌, ℕ, ◌<◌, Bool, ◌==◌, ◌&&◌,
 use mathlib.Core.Option.{some}
 use lib.ListN.{get_elem?}
 use Rattle.atomic_table.specs.Seated.{TableId}
-use Rattle.pass_names.specs.Counts.{count, without}
-use Rattle.pass_names.specs.Names.{same, times, IsLast}
+use Rattle.pass_names.specs.Counts.{count, without_first}
+use Rattle.pass_names.specs.Names.{same, occurrences, IsLast}
 use Rattle.pass_names.specs.Passes.{entries, HasEach, Looks, first_pass, splitter, split_off, added}
 use Rattle.counted_row.specs.declared.view.Entry.{Entry}
 use Rattle.counted_row.specs.declared.view.Locked.{Locked}
@@ -31,7 +31,7 @@ abbrev pub claims_after : List (ℕ × List ℕ) → ℕ → Effect → List (�
 claims_after claims i plain = claims
 claims_after claims i (opens name) = claims ++ (i, name) ∷ []
 claims_after claims i (uses name) = claims
-claims_after claims i (ends name) = without (is_claim i name) claims
+claims_after claims i (ends name) = without_first (is_claim i name) claims
 
 -- a row, and the values that it was made of
 pub record RowOf (S : Type 0) : Type 0 where
@@ -39,12 +39,12 @@ pub record RowOf (S : Type 0) : Type 0 where
   pub made : List S
 
 -- a pass of a row, and what it knows
-pub record PassOf (S C R : Type 0) : Type 0 where
+pub record PassOfRow (S C R : Type 0) : Type 0 where
   pub row : TableId
   pub knows : View S C R
 
 -- the pass is one of this row, and knows what the row was made of
-pub record IsPassOf {S C R : Type 0} (r : RowOf S) (p : PassOf S C R) : Type 0 where
+pub record IsPassOfRow {S C R : Type 0} (r : RowOf S) (p : PassOfRow S C R) : Type 0 where
   pub row : p.row ≡ r.id
   pub made : p.knows.opening ≡ r.made
 
@@ -65,12 +65,12 @@ module _ {S C R : Type 0} where
     -- each history that was seen leads to a state
     pub legal : (i : ℕ) → i < length v.opening → (x : S) × StateAfter m v.opening i (entries i v.pass.seen) x
     -- in which the pass's own claims are open
-    pub open_claims : (i : ℕ) (name : List ℕ) (x : S) → HasClaim i name v.claims → StateAfter m v.opening i (entries i v.pass.seen) x → 0 < times name (m.claims x)
+    pub open_claims : (i : ℕ) (name : List ℕ) (x : S) → HasClaim i name v.claims → StateAfter m v.opening i (entries i v.pass.seen) x → 0 < occurrences name (m.claims x)
     pub held : (h : Locked S) → v.held ≡ Some h → IsNow m v h
     -- the last pass has made each entry, each once, and has seen them all
-    pub all_entries : IsLast v.pass.line → HasEach v.pass.seen v.pass.mine
+    pub all_entries : IsLast v.pass.id → HasEach v.pass.seen v.pass.mine
     -- and the open claims are its claims, each once
-    pub all_claims : IsLast v.pass.line → (i : ℕ) (name : List ℕ) (x : S) → StateAfter m v.opening i (entries i v.pass.seen) x → count (is_claim i name) v.claims ≡ times name (m.claims x)
+    pub all_claims : IsLast v.pass.id → (i : ℕ) (name : List ℕ) (x : S) → StateAfter m v.opening i (entries i v.pass.seen) x → count (is_claim i name) v.claims ≡ occurrences name (m.claims x)
 
   -- the first pass of a row of these values
   abbrev pub first_view : List S → View S C R
@@ -101,7 +101,7 @@ module _ {S C R : Type 0} where
   new_view v = record { pass = split_off v.pass; opening = v.opening; heard = []; claims = []; held = None }
 
   -- nothing but what the pass has seen is other than before
-  pub record Sees (old new : PassOf S C R) : Type 0 where
+  pub record Sees (old new : PassOfRow S C R) : Type 0 where
     pub row : new.row ≡ old.row
     pub pass : Looks old.knows.pass new.knows.pass
     pub opening : new.knows.opening ≡ old.knows.opening
@@ -109,7 +109,7 @@ module _ {S C R : Type 0} where
     pub held : new.knows.held ≡ old.knows.held
 
   -- value i is held, and no entry was added
-  pub record Locks (m : Meaning S C R) (old new : PassOf S C R) (i : ℕ) (h : Locked S) : Type 0 where
+  pub record Locks (m : Meaning S C R) (old new : PassOfRow S C R) (i : ℕ) (h : Locked S) : Type 0 where
     pub row : new.row ≡ old.row
     pub pass : Looks old.knows.pass new.knows.pass
     pub opening : new.knows.opening ≡ old.knows.opening

@@ -1,6 +1,6 @@
 //! What a caller holds: a pass, and a value whose lock it has.
 ghost use Rattle.std.specs.Prelude.{◌≡◌};
-ghost use Rattle.counted_row.specs.Plays.{IsResting, slots_of};
+ghost use Rattle.counted_row.specs.Plays.{IsRestingSeat, slots_of};
 
 use crate::object::Object;
 use crate::steps::RowSeat;
@@ -13,21 +13,21 @@ pub struct RowPass<O: Object> {
 }
 
 impl<O: Object> Model for RowPass<O> {
-    ghost use Rattle.counted_row.specs.Views.{PassOf};
-    ghost use Rattle.counted_row.specs.Plays.{IsResting};
+    ghost use Rattle.counted_row.specs.Views.{PassOfRow};
+    ghost use Rattle.counted_row.specs.Plays.{IsRestingSeat};
 
-    ghost Value = { PassOf O O.Call O.Reply };
+    ghost Value = { PassOfRow O O.Call O.Reply };
 
     ghost view = { λ p. record { row = p.seat.table_id; knows = p.seat.me.0 } };
 
-    ghost invariant = { λ p. IsResting p.seat.table_id.slots p.seat.me };
+    ghost invariant = { λ p. IsRestingSeat p.seat.table_id.slots p.seat.me };
 }
 
 impl<O: Object> RowPass<O> {
     pub(crate) fn into_seat(self) -> RowSeat<O>
         ensures row { result.table_id ≡ self.row }
         ensures knows { result.me ≡ (self.knows, slots_of self.knows.held) }
-        ensures known { IsResting result.table_id.slots result.me }
+        ensures known { IsRestingSeat result.table_id.slots result.me }
     {
         let RowPass { seat } = self;
         seat

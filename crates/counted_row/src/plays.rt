@@ -5,13 +5,13 @@ use atomic_table::{Join, Play, Split, TableRule};
 use std::marker::{Brand, PhantomData};
 use std::snapshot::Snapshot;
 
-pub struct Law;
+pub struct RowRule;
 
-impl<O: Object> TableRule<Option<O>, View<O, O::Call, O::Reply>, Snapshot<Vec<O>>> for Law {
-    ghost use Rattle.counted_row.specs.Rules.{Home};
+impl<O: Object> TableRule<Option<O>, View<O, O::Call, O::Reply>, Snapshot<Vec<O>>> for RowRule {
+    ghost use Rattle.counted_row.specs.Rules.{RowInvariant};
     ghost use Rattle.counted_row.specs.Views.{first_view};
 
-    ghost holds = { λ k s. Home O.meaning k.value.items s };
+    ghost holds = { λ k s. RowInvariant O.meaning k.value.items s };
 
     ghost first = { λ k. first_view k.value.items };
 }

@@ -2,12 +2,12 @@
 ghost use Rattle.std.specs.Prelude.{◌≡◌, ℕ, ◌+◌, ◌^◌, ◌<◌, Some, None, [], ◌∷◌, ◌++◌, length, All, IfOk, MatchOption};
 ghost use Rattle.pass_names.specs.Names.{AnswersFor, IsLast};
 ghost use Rattle.pass_names.specs.Passes.{Adds, Looks, Retires, Meets, HasEach, entries};
-ghost use Rattle.counted_row.specs.Views.{IsPassOf, Sees, Locks, Knows, Permits, claims_after, first_view, committed, released, split_view, new_view};
+ghost use Rattle.counted_row.specs.Views.{IsPassOfRow, Sees, Locks, Knows, Permits, claims_after, first_view, committed, released, split_view, new_view};
 
 use crate::handles::{Held, RowPass};
 use crate::object::Object;
 use crate::parts::{filled, zeros};
-use crate::plays::{Child, Law};
+use crate::plays::{Child, RowRule};
 use crate::slots::{attempt, put_back};
 use crate::steps::{Known, TAKEN, absorb, check, enter, free, look, tell};
 use atomic_table::{Refused, Table};
@@ -21,7 +21,7 @@ use std::sync::Wait;
 /// has one history of calls. Value i has word i + 1 and slot i of a table; word 0 stays 0.
 #[derive(Drop)]
 pub struct Row<O: Object> {
-    table: Table<Option<O>, Known<O>, Snapshot<Vec<O>>, Law, Global>,
+    table: Table<Option<O>, Known<O>, Snapshot<Vec<O>>, RowRule, Global>,
 }
 
 impl<O: Object> Model for Row<O> {
@@ -47,7 +47,7 @@ impl<O: Object> Row<O> {
     pub fn make(alloc: Global, values: Vec<O>) -> Result<(Row<O>, RowPass<O>), AllocError>
         requires unclaimed { All (λ x. O.meaning.claims x ≡ []) values.items }
         ensures made { IfOk result (λ r. r.0.made ≡ values.items) }
-        ensures row { IfOk result (λ r. IsPassOf r.0 r.1) }
+        ensures row { IfOk result (λ r. IsPassOfRow r.0 r.1) }
         ensures first { IfOk result (λ r. r.1.knows ≡ first_view values.items) }
         ensures known { IfOk result (λ r. Knows O.meaning r.1.knows) }
     {
@@ -71,10 +71,10 @@ impl<O: Object> Row<O> {
 
     /// Waits until the lock of a value is free, and takes it.
     pub fn lock<R: Wait>(&self, rt: &R, pass: &mut RowPass<O>, index: usize) -> Held<O>
-        requires row { IsPassOf self.now pass.old }
+        requires row { IsPassOfRow self.now pass.old }
         requires within { index < length self.now.made }
         requires idle { pass.old.knows.held ≡ None }
-        ensures row { IsPassOf self.now pass.new }
+        ensures row { IsPassOfRow self.now pass.new }
         ensures locks { Locks O.meaning pass.old pass.new index result }
     {
         let backoff = Backoff::new();
@@ -88,7 +88,7 @@ impl<O: Object> Row<O> {
     }
 
     fn attempt(&self, pass: &mut RowPass<O>, index: usize) -> Option<Held<O>>
-        requires row { IsPassOf self.now pass.old }
+        requires row { IsPassOfRow self.now pass.old }
         requires within { index < length self.now.made }
         requires idle { pass.old.knows.held ≡ None }
         ensures taken { MatchOption result (Sees pass.old pass.new) (λ h. Locks O.meaning pass.old pass.new index h) }
@@ -100,7 +100,7 @@ impl<O: Object> Row<O> {
     /// Makes a call on a held value, and lets its lock go. It answers the number of the call in the
     /// value's history, and its reply.
     pub fn commit(&self, pass: &mut RowPass<O>, held: Held<O>, call: O::Call) -> (u64, O::Reply)
-        requires row { IsPassOf self.now pass.old }
+        requires row { IsPassOfRow self.now pass.old }
         requires held { pass.old.knows.held ≡ Some held }
         requires short { held.stamp < 2 ^ 48 }
         requires may { O.meaning.may held.state call }
@@ -110,7 +110,7 @@ impl<O: Object> Row<O> {
         ensures reply { result.1 ≡ O.meaning.reply held.state call }
         ensures adds { Adds pass.old.knows.pass pass.new.knows.pass held.index (record { call = call; reply = O.meaning.reply held.state call } ∷ []) }
         ensures claims { pass.new.knows.claims ≡ claims_after pass.old.knows.claims held.index (O.meaning.effect held.state call) }
-        ensures row { IsPassOf self.now pass.new }
+        ensures row { IsPassOfRow self.now pass.new }
         ensures idle { pass.new.knows.held ≡ None }
 
         // Nothing else is other than before.
@@ -132,11 +132,11 @@ impl<O: Object> Row<O> {
 
     /// Lets the lock of a held value go, and answers how many calls were made on the value.
     pub fn release(&self, pass: &mut RowPass<O>, held: Held<O>) -> u64
-        requires row { IsPassOf self.now pass.old }
+        requires row { IsPassOfRow self.now pass.old }
         requires held { pass.old.knows.held ≡ Some held }
         ensures stamp { result ≡ held.stamp }
         ensures count { result ≡ length (entries held.index pass.new.knows.pass.seen) }
-        ensures row { IsPassOf self.now pass.new }
+        ensures row { IsPassOfRow self.now pass.new }
         ensures idle { pass.new.knows.held ≡ None }
 
         // Nothing else is other than before.
@@ -157,9 +157,9 @@ impl<O: Object> Row<O> {
 
     /// How many calls were made on a value so far. It waits for nobody.
     pub fn peek_stamp(&self, pass: &mut RowPass<O>, index: usize) -> u64
-        requires row { IsPassOf self.now pass.old }
+        requires row { IsPassOfRow self.now pass.old }
         requires within { index < length self.now.made }
-        ensures row { IsPassOf self.now pass.new }
+        ensures row { IsPassOfRow self.now pass.new }
         ensures stamp { result ≡ length (entries index pass.new.knows.pass.seen) }
         ensures sees { Sees pass.old pass.new }
         ensures known { Knows O.meaning pass.new.knows }
@@ -170,11 +170,11 @@ impl<O: Object> Row<O> {
 
     /// Makes one more pass, which has seen as much. It takes no memory.
     pub fn split(&self, pass: &mut RowPass<O>) -> RowPass<O>
-        requires row { IsPassOf self.now pass.old }
-        ensures row { IsPassOf self.now pass.new × IsPassOf self.now result }
+        requires row { IsPassOfRow self.now pass.old }
+        ensures row { IsPassOfRow self.now pass.new × IsPassOfRow self.now result }
         ensures splitter { pass.new.knows ≡ split_view pass.old.knows }
         ensures new { result.knows ≡ new_view pass.old.knows }
-        ensures answers { AnswersFor pass.new.knows.pass.line result.knows.pass.line }
+        ensures answers { AnswersFor pass.new.knows.pass.id result.knows.pass.id }
         ensures known { Knows O.meaning pass.new.knows × Knows O.meaning result.knows }
     {
         check(&self.table.shared, &mut pass.seat, 0);
@@ -185,8 +185,8 @@ impl<O: Object> Row<O> {
 
     /// Two passes tell each other what they have seen. It takes no memory.
     pub fn meet(&self, a: &mut RowPass<O>, b: &mut RowPass<O>)
-        requires row { IsPassOf self.now a.old × IsPassOf self.now b.old }
-        ensures row { IsPassOf self.now a.new × IsPassOf self.now b.new }
+        requires row { IsPassOfRow self.now a.old × IsPassOfRow self.now b.old }
+        ensures row { IsPassOfRow self.now a.new × IsPassOfRow self.now b.new }
         ensures meets { Meets a.old.knows.pass b.old.knows.pass a.new.knows.pass b.new.knows.pass }
         ensures first { Sees a.old a.new }
         ensures second { Sees b.old b.new }
@@ -199,10 +199,10 @@ impl<O: Object> Row<O> {
 
     /// A pass takes in another, which was split off it, or off one that it took in.
     pub fn join(&self, main: &mut RowPass<O>, other: RowPass<O>)
-        requires row { IsPassOf self.now main.old × IsPassOf self.now other }
+        requires row { IsPassOfRow self.now main.old × IsPassOfRow self.now other }
         requires idle { (main.old.knows.held ≡ None) × (other.knows.held ≡ None) }
-        requires answers { AnswersFor main.old.knows.pass.line other.knows.pass.line }
-        ensures row { IsPassOf self.now main.new }
+        requires answers { AnswersFor main.old.knows.pass.id other.knows.pass.id }
+        ensures row { IsPassOfRow self.now main.new }
         ensures retires { Retires main.old.knows.pass other.knows.pass main.new.knows.pass }
         ensures claims { main.new.knows.claims ≡ main.old.knows.claims ++ other.knows.claims }
         ensures idle { main.new.knows.held ≡ None }
@@ -213,8 +213,8 @@ impl<O: Object> Row<O> {
 
     /// Ends a row with its last pass, which has no claims. Its values are dropped.
     pub fn close(self, pass: RowPass<O>)
-        requires row { IsPassOf self pass }
-        requires last { IsLast pass.knows.pass.line }
+        requires row { IsPassOfRow self pass }
+        requires last { IsLast pass.knows.pass.id }
         requires idle { pass.knows.held ≡ None }
         requires unclaimed { pass.knows.claims ≡ [] }
 

@@ -1,7 +1,7 @@
 //! Getting a value out of its slot, and putting it back.
 ghost use Rattle.std.specs.Prelude.{◌≡◌, ◌+◌, ◌<◌, true, None, Some, [], ◌∷◌, MatchOption};
 ghost use Rattle.atomic_table.specs.Table.{rest};
-ghost use Rattle.counted_row.specs.Plays.{Saw, Caught};
+ghost use Rattle.counted_row.specs.Plays.{HasLooked, Caught};
 ghost use Rattle.counted_row.specs.Rules.{taken_mark};
 
 use crate::handles::Held;
@@ -43,10 +43,10 @@ fn take_free<O: Object>(
     requires same { seat.old.table_id ≡ cells.now.table_id }
     requires word { (word ≡ index + 1) × (word < cells.now.table_id.words) × (index < cells.now.table_id.slots) }
     requires free { stamp < taken_mark }
-    requires live { seat.old.me.0.pass.line.live ≡ true }
+    requires live { seat.old.me.0.pass.id.live ≡ true }
     requires idle { (seat.old.me.0.held ≡ None) × (seat.old.me.1 ≡ []) }
     ensures same { seat.new.table_id ≡ seat.old.table_id }
-    ensures taken { MatchOption result (Saw O.meaning seat.old.me seat.new.me) (λ h. Caught O.meaning seat.old.me index seat.new.me h) }
+    ensures taken { MatchOption result (HasLooked O.meaning seat.old.me seat.new.me) (λ h. Caught O.meaning seat.old.me index seat.new.me h) }
 {
     if take(cells, seat, index, word, stamp) {
         let object = take_out(cells, seat, index);
@@ -69,10 +69,10 @@ pub fn attempt<O: Object>(
 ) -> Option<Held<O>>
     requires same { seat.old.table_id ≡ cells.now.table_id }
     requires word { (word ≡ index + 1) × (word < cells.now.table_id.words) × (index < cells.now.table_id.slots) }
-    requires live { seat.old.me.0.pass.line.live ≡ true }
+    requires live { seat.old.me.0.pass.id.live ≡ true }
     requires idle { (seat.old.me.0.held ≡ None) × (seat.old.me.1 ≡ []) }
     ensures same { seat.new.table_id ≡ seat.old.table_id }
-    ensures taken { MatchOption result (Saw O.meaning seat.old.me seat.new.me) (λ h. Caught O.meaning seat.old.me index seat.new.me h) }
+    ensures taken { MatchOption result (HasLooked O.meaning seat.old.me seat.new.me) (λ h. Caught O.meaning seat.old.me index seat.new.me h) }
 {
     let found = look(cells, seat, word);
     if found < TAKEN {

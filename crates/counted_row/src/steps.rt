@@ -10,7 +10,7 @@ ghost use Rattle.counted_row.specs.declared.view.Locked.{Locked};
 ghost use Rattle.counted_row.specs.Views.{Knows, having_seen, committed, released};
 
 use crate::object::Object;
-use crate::plays::{Asked, Check, Child, Enter, Free, Law, Look, Note, Take};
+use crate::plays::{Asked, Check, Child, Enter, Free, RowRule, Look, Note, Take};
 use crate::view::View;
 use atomic_table::{Seat, Shared};
 use std::snapshot::Snapshot;
@@ -20,7 +20,7 @@ pub const TAKEN: u64 = 1 << 63;
 
 pub type Known<O> = View<O, <O as Object>::Call, <O as Object>::Reply>;
 
-pub type Cells<O> = Shared<Option<O>, Known<O>, Snapshot<Vec<O>>, Law>;
+pub type Cells<O> = Shared<Option<O>, Known<O>, Snapshot<Vec<O>>, RowRule>;
 
 pub type RowSeat<O> = Seat<Option<O>, Known<O>>;
 
@@ -28,7 +28,7 @@ pub type RowSeat<O> = Seat<Option<O>, Known<O>>;
 pub fn look<O: Object>(cells: &Cells<O>, seat: &mut RowSeat<O>, word: usize) -> u64
     requires same { seat.old.table_id ≡ cells.now.table_id }
     requires word { word < cells.now.table_id.words }
-    requires live { seat.old.me.0.pass.line.live ≡ true }
+    requires live { seat.old.me.0.pass.id.live ≡ true }
     ensures same { seat.new.table_id ≡ seat.old.table_id }
     ensures looked { Looked O.meaning (step cells.now.table_id.slots word 0 0 none) seat.old.me result seat.new.me }
 {
@@ -39,7 +39,7 @@ pub fn look<O: Object>(cells: &Cells<O>, seat: &mut RowSeat<O>, word: usize) -> 
 pub fn check<O: Object>(cells: &Cells<O>, seat: &mut RowSeat<O>, word: usize)
     requires same { seat.old.table_id ≡ cells.now.table_id }
     requires word { word < cells.now.table_id.words }
-    requires known { (seat.old.me.0.pass.line.live ≡ true) × (seat.old.me.0.heard ≡ []) }
+    requires known { (seat.old.me.0.pass.id.live ≡ true) × (seat.old.me.0.heard ≡ []) }
     ensures same { (seat.new.table_id ≡ seat.old.table_id) × (seat.new.me ≡ seat.old.me) }
     ensures knows { Knows O.meaning seat.old.me.0 }
 {
@@ -57,7 +57,7 @@ pub fn take<O: Object>(
     requires same { seat.old.table_id ≡ cells.now.table_id }
     requires word { (word ≡ index + 1) × (word < cells.now.table_id.words) × (index < cells.now.table_id.slots) }
     requires free { stamp < taken_mark }
-    requires live { seat.old.me.0.pass.line.live ≡ true }
+    requires live { seat.old.me.0.pass.id.live ≡ true }
     requires idle { (seat.old.me.0.held ≡ None) × (seat.old.me.1 ≡ []) }
     ensures same { seat.new.table_id ≡ seat.old.table_id }
     ensures took { MatchBool result
@@ -80,7 +80,7 @@ pub fn enter<O: Object, K: Asked>(
     requires word { (word ≡ index + 1) × (word < cells.now.table_id.words) }
     requires short { stamp < 2 ^ 48 }
     requires asked { K.code ≡ O.Call.row.coded.code call.now }
-    requires known { (seat.old.me.0.pass.line.live ≡ true) × (seat.old.me.0.heard ≡ []) }
+    requires known { (seat.old.me.0.pass.id.live ≡ true) × (seat.old.me.0.heard ≡ []) }
     requires ready { (x : O) × Ready O.meaning seat.old.me (record { index = index; stamp = stamp; state = x }) call.now }
     ensures same { seat.new.table_id ≡ seat.old.table_id }
     ensures entered { (h : Locked O) → seat.old.me.0.held ≡ Some h → seat.new.me ≡ (committed O.meaning h call.now seat.old.me.0, rest seat.old.me.1) }
@@ -101,7 +101,7 @@ pub fn free<O: Object>(
 )
     requires same { seat.old.table_id ≡ cells.now.table_id }
     requires word { (word ≡ index + 1) × (word < cells.now.table_id.words) }
-    requires known { (seat.old.me.0.pass.line.live ≡ true) × (seat.old.me.0.heard ≡ []) }
+    requires known { (seat.old.me.0.pass.id.live ≡ true) × (seat.old.me.0.heard ≡ []) }
     requires held { (x : O) × (seat.old.me.0.held ≡ Some (record { index = index; stamp = stamp; state = x })) × (seat.old.me.1 ≡ (index, Some x) ∷ []) }
     ensures same { seat.new.table_id ≡ seat.old.table_id }
     ensures freed { seat.new.me ≡ (released seat.old.me.0, rest seat.old.me.1) }
@@ -115,7 +115,7 @@ pub fn free<O: Object>(
 pub fn tell<O: Object>(cells: &Cells<O>, from: &mut RowSeat<O>, to: &mut RowSeat<O>)
     requires same { (from.old.table_id ≡ cells.now.table_id) × (to.old.table_id ≡ cells.now.table_id) }
     requires words { 0 < cells.now.table_id.words }
-    requires known { (to.old.me.0.pass.line.live ≡ true) × (to.old.me.0.heard ≡ []) }
+    requires known { (to.old.me.0.pass.id.live ≡ true) × (to.old.me.0.heard ≡ []) }
     ensures same { (from.new.table_id ≡ from.old.table_id) × (to.new.table_id ≡ to.old.table_id) }
     ensures from { from.new.me ≡ from.old.me }
     ensures to { to.new.me ≡ (having_seen to.new.me.0.pass.seen to.old.me.0, to.old.me.1) }
@@ -132,9 +132,9 @@ pub fn tell<O: Object>(cells: &Cells<O>, from: &mut RowSeat<O>, to: &mut RowSeat
 pub fn absorb<O: Object>(cells: &Cells<O>, main: &mut RowSeat<O>, other: RowSeat<O>)
     requires same { (main.old.table_id ≡ cells.now.table_id) × (other.table_id ≡ cells.now.table_id) }
     requires words { 0 < cells.now.table_id.words }
-    requires main { (main.old.me.0.pass.line.live ≡ true) × (main.old.me.0.heard ≡ []) × (main.old.me.0.held ≡ None) }
-    requires other { (other.me.0.pass.line.live ≡ true) × (other.me.0.heard ≡ []) × (other.me.1 ≡ []) }
-    requires answers { AnswersFor main.old.me.0.pass.line other.me.0.pass.line }
+    requires main { (main.old.me.0.pass.id.live ≡ true) × (main.old.me.0.heard ≡ []) × (main.old.me.0.held ≡ None) }
+    requires other { (other.me.0.pass.id.live ≡ true) × (other.me.0.heard ≡ []) × (other.me.1 ≡ []) }
+    requires answers { AnswersFor main.old.me.0.pass.id other.me.0.pass.id }
     ensures same { main.new.table_id ≡ main.old.table_id }
     ensures joined { main.new.me ≡ (having_seen main.new.me.0.pass.seen (joined_view main.old.me.0 other.me.0), main.old.me.1) }
     ensures seen { GoesOn main.old.me.0.pass.seen main.new.me.0.pass.seen }

@@ -1,6 +1,6 @@
 //! What the threads do: the lock of a value, then a commit or a release, so many times.
 ghost use Rattle.std.specs.Prelude.{◌≡◌, ◌<◌, ◌≤◌, None, length, IfSome};
-ghost use Rattle.counted_row.specs.Views.{IsPassOf};
+ghost use Rattle.counted_row.specs.Views.{IsPassOfRow};
 ghost use Rattle.counted_row_uses.specs.Counters.{Made};
 ghost use Rattle.counted_row_bench.specs.Alone.{IsAlone};
 
@@ -18,10 +18,10 @@ pub enum Ending {
 
 /// Takes the lock and lets it go, with no call.
 fn look<R: Wait>(rt: &R, row: &Row<Counter>, pass: &mut RowPass<Counter>, index: usize, times: u64)
-    requires row { IsPassOf row.now pass.old }
+    requires row { IsPassOfRow row.now pass.old }
     requires within { index < length row.now.made }
     requires idle { pass.old.knows.held ≡ None }
-    ensures row { IsPassOf row.now pass.new }
+    ensures row { IsPassOfRow row.now pass.new }
     ensures none { Made index 0 pass.old pass.new }
 {
     for _ in 0..times {
@@ -39,10 +39,10 @@ fn turn<R: Wait>(
     ending: Ending,
     times: u64,
 ) -> u64
-    requires row { IsPassOf row.now pass.old }
+    requires row { IsPassOfRow row.now pass.old }
     requires within { index < length row.now.made }
     requires idle { pass.old.knows.held ≡ None }
-    ensures row { IsPassOf row.now pass.new }
+    ensures row { IsPassOfRow row.now pass.new }
     ensures made { Made index result pass.old pass.new }
     ensures most { result ≤ times }
     ensures none { ending ≡ Ending.Release → result ≡ 0 }
@@ -66,10 +66,10 @@ fn turn_both<R: Threads + Wait + Sync>(
     ending: Ending,
     times: u64,
 ) -> (u64, u64)
-    requires row { IsPassOf row.now first.old × IsPassOf row.now second.old }
+    requires row { IsPassOfRow row.now first.old × IsPassOfRow row.now second.old }
     requires within { index < length row.now.made }
     requires idle { (first.old.knows.held ≡ None) × (second.old.knows.held ≡ None) }
-    ensures row { IsPassOf row.now first.new × IsPassOf row.now second.new }
+    ensures row { IsPassOfRow row.now first.new × IsPassOfRow row.now second.new }
     ensures made { Made 0 result.0 first.old first.new × Made index result.1 second.old second.new }
 {
     join_mut(

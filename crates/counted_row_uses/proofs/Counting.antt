@@ -10,14 +10,14 @@ use Rattle.pass_names.proofs.Passes.{goes_refl, goes_trans, count_place, places_
 use Rattle.counted_row.specs.declared.view.Entry.{Entry}
 use Rattle.counted_row.specs.declared.view.Locked.{Locked}
 use Rattle.counted_row.specs.declared.view.View.{View}
-use Rattle.counted_row.specs.Views.{PassOf, Locks, Knows, first_view, committed}
+use Rattle.counted_row.specs.Views.{PassOfRow, Locks, Knows, first_view, committed}
 use Rattle.counted_row_uses.specs.declared.counter.Counter.{Counter}
 use Rattle.counted_row_uses.specs.Counters.{adding, Made}
 
 -- a pass that holds nothing has made no call yet
-pub made_none : (index : ℕ) (p : PassOf Counter ℕ ℕ) → p.knows.held ≡ None → Made index 0 p p
+pub made_none : (index : ℕ) (p : PassOfRow Counter ℕ ℕ) → p.knows.held ≡ None → Made index 0 p p
 made_none index p idle = record {
-  line = refl;
+  id = refl;
   seen = goes_refl p.knows.pass.seen;
   mine = omega arith;
   elsewhere = λ i k apart. refl;
@@ -25,9 +25,9 @@ made_none index p idle = record {
   held = idle;
 }
 
-pub made_more : (index m n : ℕ) (p q r : PassOf Counter ℕ ℕ) → Made index m p q → Made index n q r → Made index (m + n) p r
+pub made_more : (index m n : ℕ) (p q r : PassOfRow Counter ℕ ℕ) → Made index m p q → Made index n q r → Made index (m + n) p r
 made_more index m n p q r a b = record {
-  line = b.line ∙ a.line;
+  id = b.id ∙ a.id;
   seen = goes_trans a.seen b.seen;
   mine = omega (arith, a.mine, b.mine);
   elsewhere = λ i k apart. b.elsewhere i k apart ∙ a.elsewhere i k apart;
@@ -36,10 +36,10 @@ made_more index m n p q r a b = record {
 }
 
 -- a call was made under the lock
-pub made_one : (index call : ℕ) (p q r : PassOf Counter ℕ ℕ) (h : Locked Counter) (e : Entry ℕ ℕ) → Locks adding p q index h → Adds q.knows.pass r.knows.pass h.index (e ∷ [])
+pub made_one : (index call : ℕ) (p q r : PassOfRow Counter ℕ ℕ) (h : Locked Counter) (e : Entry ℕ ℕ) → Locks adding p q index h → Adds q.knows.pass r.knows.pass h.index (e ∷ [])
     → r.knows ≡ committed adding h call q.knows → Made index 1 p r
 made_one index call p q r h e locks adds is = record {
-  line = adds.line ∙ locks.pass.line;
+  id = adds.id ∙ locks.pass.id;
   seen = goes_trans locks.pass.seen adds.seen;
   mine = omega (arith, ap length adds.mine, length-append q.knows.pass.mine ((h.index, length adds.before + 1) ∷ []), ap length locks.pass.mine);
   elsewhere = λ i k apart.
@@ -60,14 +60,14 @@ in_range n h = grind (arith, nat_tests)
 
 -- the last pass, and all its places are on value 0
 pub record IsOnOne (p : Pass (Entry ℕ ℕ)) : Type 0 where
-  pub last : IsLast p.line
+  pub last : IsLast p.id
   pub elsewhere : (i k : ℕ) → i ≢ 0 → count (is_place i k) p.mine ≡ 0
 
 pub first_on_one : (made : List Counter) → IsOnOne (first_view made).pass
 first_on_one made = record { last = record { first = refl; alone = refl }; elsewhere = λ i k apart. refl }
 
-pub still_on_one : (p q : Pass (Entry ℕ ℕ)) → IsOnOne p → q.line ≡ p.line → q.mine ≡ p.mine → IsOnOne q
-still_on_one p q one line mine = record { last = subst IsLast (sym line) one.last; elsewhere = λ i k apart. ap (count (is_place i k)) mine ∙ one.elsewhere i k apart }
+pub still_on_one : (p q : Pass (Entry ℕ ℕ)) → IsOnOne p → q.id ≡ p.id → q.mine ≡ p.mine → IsOnOne q
+still_on_one p q one id mine = record { last = subst IsLast (sym id) one.last; elsewhere = λ i k apart. ap (count (is_place i k)) mine ∙ one.elsewhere i k apart }
 
 -- then that value's history has just so many entries, and the others have none
 pub all_on_one : (v : View Counter ℕ ℕ) → Knows adding v → IsOnOne v.pass → length (entries 0 v.pass.seen) ≡ length v.pass.mine

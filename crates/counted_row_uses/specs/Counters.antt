@@ -3,7 +3,7 @@ use Rattle.std.specs.Prelude.{◌≡◌, ◌≢◌, ℕ, ◌+◌, ◌^◌, ◌<�
 use Rattle.pass_names.specs.Counts.{count}
 use Rattle.pass_names.specs.Passes.{GoesOn, is_place}
 use Rattle.counted_row.specs.Meaning.{Meaning, Counts, plain}
-use Rattle.counted_row.specs.Views.{PassOf}
+use Rattle.counted_row.specs.Views.{PassOfRow}
 use Rattle.counted_row_uses.specs.declared.counter.Counter.{Counter}
 
 -- the call n adds n and replies the total; there are no claims
@@ -20,8 +20,8 @@ pub adding_counts : Counts adding
 adding_counts s c name may = refl
 
 -- the pass has made so many calls on the value, and holds nothing
-pub record Made (index calls : ℕ) (old new : PassOf Counter ℕ ℕ) : Type 0 where
-  pub line : new.knows.pass.line ≡ old.knows.pass.line
+pub record Made (index calls : ℕ) (old new : PassOfRow Counter ℕ ℕ) : Type 0 where
+  pub id : new.knows.pass.id ≡ old.knows.pass.id
   pub seen : GoesOn old.knows.pass.seen new.knows.pass.seen
   pub mine : length new.knows.pass.mine ≡ length old.knows.pass.mine + calls
   pub elsewhere : (i k : ℕ) → i ≢ index → count (is_place i k) new.knows.pass.mine ≡ count (is_place i k) old.knows.pass.mine

@@ -3,7 +3,7 @@ use Rattle.std.specs.Prelude.{◌≡◌, ℕ, ◌+◌, ◌^◌, ◌<◌, Bool, t
 use Rattle.std.proofs.Common.{subst, sym, ◌∙◌}
 use Rattle.std.proofs.Math.Nat.{add-zero, zero-add}
 use Rattle.pass_names.specs.Counts.{one_if}
-use Rattle.pass_names.specs.Names.{same, times}
+use Rattle.pass_names.specs.Names.{same, occurrences}
 use Rattle.counted_row.specs.Meaning.{Meaning, Effect, Counts, opens, ends}
 use Rattle.counted_row_uses.specs.declared.gate.Gate.{Gate}
 use Rattle.counted_row_uses.specs.declared.gate.Turn.{Turn}
@@ -40,7 +40,7 @@ gating = record {
 pub gating_counts : Counts gating
 gating_counts s Enter name may =
     let one : ℕ = one_if (same name ((s.entries + 1) ∷ [])) in
-    subst (λ b. (one + 0) + 0 ≡ times name (claims_of b s.entries) + one) (sym may.0) (add-zero (one + 0) ∙ (add-zero one ∙ sym (zero-add one)))
+    subst (λ b. (one + 0) + 0 ≡ occurrences name (claims_of b s.entries) + one) (sym may.0) (add-zero (one + 0) ∙ (add-zero one ∙ sym (zero-add one)))
 gating_counts s Leave name may =
     let one : ℕ = one_if (same name (s.entries ∷ [])) in
-    subst (λ b. 0 + one ≡ times name (claims_of b s.entries) + 0) (sym may) (zero-add one ∙ (sym (add-zero one) ∙ sym (add-zero (one + 0))))
+    subst (λ b. 0 + one ≡ occurrences name (claims_of b s.entries) + 0) (sym may) (zero-add one ∙ (sym (add-zero one) ∙ sym (add-zero (one + 0))))

@@ -1,5 +1,5 @@
 ghost use Rattle.std.specs.Prelude.{◌≡◌, ◌+◌, ◌<◌, ◌≤◌, None, length, MatchBool};
-ghost use Rattle.counted_row.specs.Views.{IsPassOf};
+ghost use Rattle.counted_row.specs.Views.{IsPassOfRow};
 ghost use Rattle.counted_row_uses.specs.Counters.{Made};
 
 use counted_row::{Object, Row, RowPass};
@@ -38,10 +38,10 @@ pub fn add_one<R: Wait>(
     pass: &mut RowPass<Counter>,
     index: usize,
 ) -> bool
-    requires row { IsPassOf row.now pass.old }
+    requires row { IsPassOfRow row.now pass.old }
     requires within { index < length row.now.made }
     requires idle { pass.old.knows.held ≡ None }
-    ensures row { IsPassOf row.now pass.new }
+    ensures row { IsPassOfRow row.now pass.new }
     ensures made { MatchBool result (Made index 1 pass.old pass.new) (Made index 0 pass.old pass.new) }
 {
     let held = row.lock(rt, pass, index);
@@ -62,10 +62,10 @@ pub fn count<R: Wait>(
     index: usize,
     times: u64,
 ) -> u64
-    requires row { IsPassOf row.now pass.old }
+    requires row { IsPassOfRow row.now pass.old }
     requires within { index < length row.now.made }
     requires idle { pass.old.knows.held ≡ None }
-    ensures row { IsPassOf row.now pass.new }
+    ensures row { IsPassOfRow row.now pass.new }
     ensures made { Made index result pass.old pass.new }
     ensures most { result ≤ times }
 {

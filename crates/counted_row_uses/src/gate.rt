@@ -1,6 +1,6 @@
 ghost use Rattle.std.specs.Prelude.{◌≡◌, ℕ, ◌<◌, [], ◌∷◌, ◌++◌, None, length, IfSome, MatchOption, MatchBool};
-ghost use Rattle.counted_row.specs.Views.{IsPassOf, HasClaim, is_claim};
-ghost use Rattle.pass_names.specs.Counts.{without};
+ghost use Rattle.counted_row.specs.Views.{IsPassOfRow, HasClaim, is_claim};
+ghost use Rattle.pass_names.specs.Counts.{without_first};
 
 use counted_row::{Object, Row, RowPass};
 use std::sync::Wait;
@@ -51,12 +51,12 @@ pub fn enter<R: Wait>(
     pass: &mut RowPass<Gate>,
     index: usize,
 ) -> Option<u64>
-    requires row { IsPassOf row.now pass.old }
+    requires row { IsPassOfRow row.now pass.old }
     requires within { index < length row.now.made }
     requires idle { pass.old.knows.held ≡ None }
-    ensures row { IsPassOf row.now pass.new }
+    ensures row { IsPassOfRow row.now pass.new }
     ensures idle { pass.new.knows.held ≡ None }
-    ensures line { pass.new.knows.pass.line ≡ pass.old.knows.pass.line }
+    ensures id { pass.new.knows.pass.id ≡ pass.old.knows.pass.id }
     ensures claim { IfSome result (λ n. HasClaim index (n ∷ []) pass.new.knows.claims) }
     ensures claims { MatchOption result
         (pass.new.knows.claims ≡ pass.old.knows.claims)
@@ -81,15 +81,15 @@ pub fn leave<R: Wait>(
     index: usize,
     number: u64,
 ) -> bool
-    requires row { IsPassOf row.now pass.old }
+    requires row { IsPassOfRow row.now pass.old }
     requires within { index < length row.now.made }
     requires idle { pass.old.knows.held ≡ None }
     requires claim { HasClaim index (number ∷ []) pass.old.knows.claims }
-    ensures row { IsPassOf row.now pass.new }
-    ensures line { pass.new.knows.pass.line ≡ pass.old.knows.pass.line }
+    ensures row { IsPassOfRow row.now pass.new }
+    ensures id { pass.new.knows.pass.id ≡ pass.old.knows.pass.id }
     ensures idle { pass.new.knows.held ≡ None }
     ensures claim { MatchBool result
-        (pass.new.knows.claims ≡ without (is_claim index (number ∷ [])) pass.old.knows.claims)
+        (pass.new.knows.claims ≡ without_first (is_claim index (number ∷ [])) pass.old.knows.claims)
         (pass.new.knows.claims ≡ pass.old.knows.claims) }
 {
     let held = row.lock(rt, pass, index);

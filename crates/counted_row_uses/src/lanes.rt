@@ -1,8 +1,8 @@
 ghost use Rattle.std.specs.Prelude.{◌≡◌, ℕ, ◌+◌, ◌<◌, ◌≤◌, List, [], None, length, All, IfOk, OnErr};
 ghost use Rattle.pass_names.specs.Names.{IsLast};
-ghost use Rattle.counted_row.specs.Views.{PassOf};
+ghost use Rattle.counted_row.specs.Views.{PassOfRow};
 ghost use Rattle.counted_row_uses.specs.declared.counter.Counter.{Counter};
-ghost use Rattle.counted_row_uses.specs.Lanes.{IsIdle, IsMain, name_of};
+ghost use Rattle.counted_row_uses.specs.Lanes.{IsIdleLane, IsMain, name_of};
 
 use crate::counter::{Counter, count};
 use counted_row::{Row, RowPass};
@@ -19,9 +19,9 @@ pub struct Lane {
 
 /// Counts in one lane.
 fn turn<R: Wait>(rt: &R, row: &Row<Counter>, lane: &mut Lane, index: usize, times: u64)
-    requires row { IsIdle row.now lane.old }
+    requires row { IsIdleLane row.now lane.old }
     requires within { index < length row.now.made }
-    ensures row { IsIdle row.now lane.new }
+    ensures row { IsIdleLane row.now lane.new }
     ensures name { name_of lane.new ≡ name_of lane.old }
     ensures most { lane.new.made ≤ times }
     ensures mine { length lane.new.pass.knows.pass.mine ≡ length lane.old.pass.knows.pass.mine + lane.new.made }
@@ -37,10 +37,10 @@ pub fn count_in_lanes<R: Threads + Wait + Sync>(
     index: usize,
     times: u64,
 )
-    requires row { All (λ lane. IsIdle row.now lane) lanes.old.items }
+    requires row { All (λ lane. IsIdleLane row.now lane) lanes.old.items }
     requires within { index < length row.now.made }
-    ensures row { All (λ lane. IsIdle row.now lane) lanes.new.items }
-    ensures main { (main : PassOf Counter ℕ ℕ) → IsMain row.now main lanes.old.items → IsMain row.now main lanes.new.items }
+    ensures row { All (λ lane. IsIdleLane row.now lane) lanes.new.items }
+    ensures main { (main : PassOfRow Counter ℕ ℕ) → IsMain row.now main lanes.old.items → IsMain row.now main lanes.new.items }
 {
     thread::for_each_mut(rt, lanes, 16, &|_, lane| turn(rt, row, lane, index, times));
 }
@@ -53,9 +53,9 @@ pub fn lanes_of(
     lanes: usize,
 ) -> Result<Vec<Lane>, AllocError>
     requires main { IsMain row.now main.old [] }
-    ensures lanes { IfOk result (λ v. (length v.items ≡ lanes) × All (λ lane. IsIdle row.now lane) v.items) }
+    ensures lanes { IfOk result (λ v. (length v.items ≡ lanes) × All (λ lane. IsIdleLane row.now lane) v.items) }
     ensures main { IfOk result (λ v. IsMain row.now main.new v.items) }
-    ensures err { OnErr result (IsMain row.now main.new [] × IsLast main.new.knows.pass.line) }
+    ensures err { OnErr result (IsMain row.now main.new [] × IsLast main.new.knows.pass.id) }
 {
     let mut all = Vec::new(alloc);
     for _ in 0..lanes {
@@ -72,10 +72,10 @@ pub fn lanes_of(
 
 /// Takes all lanes' passes in. The first pass is then the last.
 pub fn retire_all(row: &Row<Counter>, main: &mut RowPass<Counter>, mut lanes: Vec<Lane>)
-    requires lanes { All (λ lane. IsIdle row.now lane) lanes.items }
+    requires lanes { All (λ lane. IsIdleLane row.now lane) lanes.items }
     requires main { IsMain row.now main.old lanes.items }
     ensures main { IsMain row.now main.new [] }
-    ensures last { IsLast main.new.knows.pass.line }
+    ensures last { IsLast main.new.knows.pass.id }
 {
     while let Some(lane) = lanes.pop() {
         let Lane { pass, made: _ } = lane;

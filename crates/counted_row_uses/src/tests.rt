@@ -12,7 +12,7 @@ use std::test::Fail;
 use std::thread::Threads;
 
 fn one_counter(alloc: Global) -> Result<(Row<Counter>, RowPass<Counter>), AllocError>
-    ensures { IfOk result (λ r. IsMain r.0 r.1 [] × IsLast r.1.knows.pass.line × (length r.0.made ≡ 1)) }
+    ensures { IfOk result (λ r. IsMain r.0 r.1 [] × IsLast r.1.knows.pass.id × (length r.0.made ≡ 1)) }
 {
     let mut values = Vec::new(alloc);
     values.push(Counter { total: 5 })?;

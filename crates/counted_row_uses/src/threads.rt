@@ -2,7 +2,7 @@ ghost use Rattle.std.specs.Prelude.{◌≡◌, ◌≢◌, ℕ, ◌^◌, ◌+◌,
 ghost use Rattle.pass_names.specs.Counts.{count};
 ghost use Rattle.pass_names.specs.Names.{IsLast};
 ghost use Rattle.pass_names.specs.Passes.{is_place};
-ghost use Rattle.counted_row.specs.Views.{IsPassOf, Knows};
+ghost use Rattle.counted_row.specs.Views.{IsPassOfRow, Knows};
 ghost use Rattle.counted_row_uses.specs.Counters.{adding, Made};
 
 use crate::counter::{Counter, count};
@@ -20,10 +20,10 @@ fn count_both<R: Threads + Wait + Sync>(
     index: usize,
     times: u64,
 ) -> (u64, u64)
-    requires row { IsPassOf row.now first.old × IsPassOf row.now second.old }
+    requires row { IsPassOfRow row.now first.old × IsPassOfRow row.now second.old }
     requires within { index < length row.now.made }
     requires idle { (first.old.knows.held ≡ None) × (second.old.knows.held ≡ None) }
-    ensures row { IsPassOf row.now first.new × IsPassOf row.now second.new }
+    ensures row { IsPassOfRow row.now first.new × IsPassOfRow row.now second.new }
     ensures made { Made index result.0 first.old first.new × Made index result.1 second.old second.new }
     ensures most { (result.0 ≤ times) × (result.1 ≤ times) }
 {
@@ -42,14 +42,14 @@ pub fn count_by_two<R: Threads + Wait + Sync>(
     index: usize,
     times: u64,
 ) -> (u64, u64)
-    requires row { IsPassOf row.now main.old }
+    requires row { IsPassOfRow row.now main.old }
     requires within { index < length row.now.made }
     requires idle { main.old.knows.held ≡ None }
-    ensures row { IsPassOf row.now main.new }
+    ensures row { IsPassOfRow row.now main.new }
     ensures idle { main.new.knows.held ≡ None }
     ensures mine { length main.new.knows.pass.mine ≡ length main.old.knows.pass.mine + result.0 + result.1 }
     ensures elsewhere { (i k : ℕ) → i ≢ index → count (is_place i k) main.new.knows.pass.mine ≡ count (is_place i k) main.old.knows.pass.mine }
-    ensures last { IsLast main.old.knows.pass.line → IsLast main.new.knows.pass.line }
+    ensures last { IsLast main.old.knows.pass.id → IsLast main.new.knows.pass.id }
     ensures claims { main.new.knows.claims ≡ main.old.knows.claims }
     ensures known { Knows adding main.new.knows }
     ensures most { (result.0 ≤ times) × (result.1 ≤ times) }

@@ -3,7 +3,7 @@ use Rattle.std.proofs.Common.{◌≡◌, ℕ, zero, suc, ◌+◌, ◌<◌, ◌�
 use Rattle.std.proofs.lemmas.Bool.{cases_lt}
 use mathlib.Core.Option.{some, some-injective, some-ne-none}
 use lib.ListN.{get_elem?}
-use Rattle.pass_names.specs.Counts.{one_if, total, count, unless, without}
+use Rattle.pass_names.specs.Counts.{one_if, total, count, drop_if, without_first}
 
 -- a test that counts is met
 pub met : (b : Bool) → 0 < one_if b → b ≡ true
@@ -67,23 +67,23 @@ module _ {A : Type 0} where
   map_kept f (z ∷ zs) (suc i) x y e h = λ k. f z ∷ map_kept f zs i x y e h k
 
   abbrev Taken : (p q : A → Bool) (b : Bool) (xs : List A) → Type 0
-  Taken p q b xs = count q (without p xs) + one_if b ≡ count q xs
+  Taken p q b xs = count q (without_first p xs) + one_if b ≡ count q xs
 
   taken_in : (p q : A → Bool) (b : Bool) (x : A) (xs : List A) (t : Bool) → p x ≡ t → (p x ≡ true → q x ≡ b) → (0 < count p xs → Taken p q b xs) → 0 < one_if (p x) + count p xs
-      → count q (unless t x xs (without p xs)) + one_if b ≡ one_if (q x) + count q xs
+      → count q (drop_if t x xs (without_first p xs)) + one_if b ≡ one_if (q x) + count q xs
   taken_in p q b x xs true e same rec h = let t = ap one_if (same e) in omega arith
   taken_in p q b x xs false e same rec h = let t : one_if (p x) ≡ 0 = ap one_if e in let r = rec (omega arith) in omega arith
 
   -- Where q answers alike of all that p is met by, taking one out by p takes as many from the count by q.
-  pub count-without : (p q : A → Bool) (b : Bool) → ((x : A) → p x ≡ true → q x ≡ b) → (xs : List A) → 0 < count p xs → count q (without p xs) + one_if b ≡ count q xs
-  count-without p q b same [] h = absurd (omega arith)
-  count-without p q b same (x ∷ xs) h = taken_in p q b x xs (p x) refl (same x) (λ t. count-without p q b same xs t) h
+  pub count-without_first : (p q : A → Bool) (b : Bool) → ((x : A) → p x ≡ true → q x ≡ b) → (xs : List A) → 0 < count p xs → count q (without_first p xs) + one_if b ≡ count q xs
+  count-without_first p q b same [] h = absurd (omega arith)
+  count-without_first p q b same (x ∷ xs) h = taken_in p q b x xs (p x) refl (same x) (λ t. count-without_first p q b same xs t) h
 
   -- a count is no more than before once one is taken out
-  pub count-without-le : (p q : A → Bool) (xs : List A) → count q (without p xs) ≤ count q xs
-  count-without-le p q [] = omega arith
-  count-without-le p q (x ∷ xs) = less p q x xs (p x) (count-without-le p q xs)
+  pub count-without_first-le : (p q : A → Bool) (xs : List A) → count q (without_first p xs) ≤ count q xs
+  count-without_first-le p q [] = omega arith
+  count-without_first-le p q (x ∷ xs) = less p q x xs (p x) (count-without_first-le p q xs)
     where
-      less : (p q : A → Bool) (x : A) (xs : List A) (t : Bool) → count q (without p xs) ≤ count q xs → count q (unless t x xs (without p xs)) ≤ one_if (q x) + count q xs
+      less : (p q : A → Bool) (x : A) (xs : List A) (t : Bool) → count q (without_first p xs) ≤ count q xs → count q (drop_if t x xs (without_first p xs)) ≤ one_if (q x) + count q xs
       less p q x xs true h = omega arith
       less p q x xs false h = omega arith

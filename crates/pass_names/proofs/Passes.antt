@@ -4,9 +4,9 @@ use Rattle.std.proofs.lemmas.Bool.{cases_eq, and_parts, eqb-true, eq-eqb}
 use Rattle.std.proofs.lemmas.Bool.Decides.{nat_tests}
 use Rattle.std.proofs.lemmas.List.{append-nil, get_or-set_same, get_or-set_other}
 use Rattle.pass_names.specs.declared.Pass.{Pass}
-use Rattle.pass_names.specs.Counts.{one_if, count, without}
+use Rattle.pass_names.specs.Counts.{one_if, count, without_first}
 use Rattle.pass_names.specs.Passes.{is_place, within, Begins, entries, GoesOn, Adds, added}
-use Rattle.pass_names.proofs.Counts.{total-append, count-without, count-without-le}
+use Rattle.pass_names.proofs.Counts.{total-append, count-without_first, count-without_first-le}
 
 -- one entry more is one place more
 pub within_more : (k n : ℕ) → one_if (within k (n + 1)) ≡ one_if (within k n) + one_if (eqb (n + 1) k)
@@ -39,16 +39,16 @@ places_of_one i zero (p ∷ ps) here else =
 places_of_one i (suc n) mine here else =
     let last : ℕ = suc n in
     let stands : 0 < count (is_place i last) mine = omega (arith, here last, in_range n) in
-    let less : List (ℕ × ℕ) = without (is_place i last) mine in
-    let shorter : count (λ (p : ℕ × ℕ). true) less + 1 ≡ count (λ (p : ℕ × ℕ). true) mine = count-without (is_place i last) (λ p. true) true (λ p e. refl) mine stands in
+    let less : List (ℕ × ℕ) = without_first (is_place i last) mine in
+    let shorter : count (λ (p : ℕ × ℕ). true) less + 1 ≡ count (λ (p : ℕ × ℕ). true) mine = count-without_first (is_place i last) (λ p. true) true (λ p e. refl) mine stands in
     omega (
       arith,
       shorter,
       count_all less,
       count_all mine,
       places_of_one i n less
-          (λ k. omega (arith, here k, range_less k n, count-without (is_place i last) (is_place i k) (eqb last k) (λ p e. let t = place_is i last p e in rw (t.0, t.1, eq-eqb i i refl) refl) mine stands))
-          (λ j k apart. omega (arith, else j k apart, count-without-le (is_place i last) (is_place j k) mine)),
+          (λ k. omega (arith, here k, range_less k n, count-without_first (is_place i last) (is_place i k) (eqb last k) (λ p e. let t = place_is i last p e in rw (t.0, t.1, eq-eqb i i refl) refl) mine stands))
+          (λ j k apart. omega (arith, else j k apart, count-without_first-le (is_place i last) (is_place j k) mine)),
     )
   where
     in_range : (n : ℕ) → one_if (within (suc n) (suc n)) ≡ 1
@@ -140,5 +140,5 @@ module _ {E : Type 0} where
     begins = begins_refl (entries i p.seen);
     last = entries_here p.seen i (entries i p.seen ++ e ∷ []) h;
     mine = refl;
-    line = refl;
+    id = refl;
   }

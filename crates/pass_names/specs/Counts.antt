@@ -17,11 +17,11 @@ module _ {A : Type 0} where
   count p xs = total (λ x. one_if (p x)) xs
 
   -- the rest where the test is met, else the element before what is left of it
-  abbrev pub unless : Bool → A → List A → List A → List A
-  unless true x xs rest = xs
-  unless false x xs rest = x ∷ rest
+  abbrev pub drop_if : Bool → A → List A → List A → List A
+  drop_if true x xs rest = xs
+  drop_if false x xs rest = x ∷ rest
 
   -- the list without the first element that meets the test
-  abbrev pub without : (A → Bool) → List A → List A
-  without p [] = []
-  without p (x ∷ xs) = unless (p x) x xs (without p xs)
+  abbrev pub without_first : (A → Bool) → List A → List A
+  without_first p [] = []
+  without_first p (x ∷ xs) = drop_if (p x) x xs (without_first p xs)

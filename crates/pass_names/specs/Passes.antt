@@ -2,7 +2,7 @@
 use Rattle.std.specs.Prelude.{◌≡◌, ℕ, ◌+◌, Bool, ◌==◌, ◌&&◌, nat_lt, nat_le, List, [], ◌∷◌, ◌++◌, length, get_or, set, replicate}
 use Rattle.pass_names.specs.declared.Pass.{Pass}
 use Rattle.pass_names.specs.Counts.{one_if, count}
-use Rattle.pass_names.specs.Names.{first_line, child_of, after_split, after_retire}
+use Rattle.pass_names.specs.Names.{first_pass_id, child_of, after_split, after_retire}
 
 -- whether a place is this one
 abbrev pub is_place : ℕ → ℕ → ℕ × ℕ → Bool
@@ -37,15 +37,15 @@ module _ {E : Type 0} where
 
   -- the first pass of so many values
   abbrev pub first_pass : ℕ → Pass E
-  first_pass n = record { line = first_line; seen = replicate n []; mine = [] }
+  first_pass n = record { id = first_pass_id; seen = replicate n []; mine = [] }
 
   -- a pass after it has split one off
   abbrev pub splitter : Pass E → Pass E
-  splitter p = record p { line = after_split p.line }
+  splitter p = record p { id = after_split p.id }
 
   -- the pass that was split off: it has seen as much
   abbrev pub split_off : Pass E → Pass E
-  split_off p = record { line = child_of p.line; seen = p.seen; mine = [] }
+  split_off p = record { id = child_of p.id; seen = p.seen; mine = [] }
 
   -- a pass after it has added an entry to a history that it has seen whole
   abbrev pub added : ℕ → E → Pass E → Pass E
@@ -58,20 +58,20 @@ module _ {E : Type 0} where
     pub begins : Begins (entries i old.seen) before
     pub last : entries i new.seen ≡ before ++ es
     pub mine : new.mine ≡ old.mine ++ places i (length before) es
-    pub line : new.line ≡ old.line
+    pub id : new.id ≡ old.id
 
   -- no entry was added, and what was seen goes on
   pub record Looks (old new : Pass E) : Type 0 where
     pub seen : GoesOn old.seen new.seen
     pub mine : new.mine ≡ old.mine
-    pub line : new.line ≡ old.line
+    pub id : new.id ≡ old.id
 
   -- a pass has taken in another, for which it answered
   pub record Retires (main other new : Pass E) : Type 0 where
     pub seen : GoesOn main.seen new.seen
     pub heard : GoesOn other.seen new.seen
     pub mine : new.mine ≡ main.mine ++ other.mine
-    pub line : new.line ≡ after_retire main.line other.line
+    pub id : new.id ≡ after_retire main.id other.id
 
   -- two passes have told each other what they had seen; the first has seen as much as the second
   pub record Meets (a b new_a new_b : Pass E) : Type 0 where

@@ -6,7 +6,7 @@
 use std::collections::LinkedList;
 
 /// A pass's name and the passes that it answers for.
-pub struct Line {
+pub struct PassId {
     /// Whether a pass bears this name.
     pub live: bool,
     /// Empty for the first pass. The k-th pass split off another has that one's name, then k.
@@ -20,7 +20,7 @@ pub struct Line {
 
 /// What a pass knows of the histories of the values 0, 1, .., each a list of entries.
 pub struct Pass<E> {
-    pub line: Line,
+    pub id: PassId,
     /// The beginning of each history that was seen.
     pub seen: LinkedList<LinkedList<E>>,
     /// The places of the pass's own entries: a value, and the entry's number from 1.

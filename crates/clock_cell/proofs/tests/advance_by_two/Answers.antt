@@ -8,7 +8,7 @@ pub returns : goal.returns
 returns g c =
     let read = c.read-reading.ensures in
     let both = c.advance_both-first in
-    let last : IsLast c.read-reading.new.pass.knows.pass.line = search rules in
+    let last : IsLast c.read-reading.new.pass.knows.pass.id = search rules in
     omega (
       arith,
       read.count,

@@ -8,7 +8,7 @@ pub returns-clause-made : goal.returns-clause-made
 returns-clause-made g c =
     let read = c.read.ensures in
     let both = c.one_beside-made in
-    let last : IsLast c.read.new.pass.knows.pass.line = search rules in
+    let last : IsLast c.read.new.pass.knows.pass.id = search rules in
     ap (λ r. r.stamp) c.stamp.view_is
     ∙ omega (
       arith,

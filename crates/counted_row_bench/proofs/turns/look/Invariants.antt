@@ -1,9 +1,9 @@
-use Rattle.counted_row.specs.Views.{IsPassOf}
+use Rattle.counted_row.specs.Views.{IsPassOfRow}
 use Rattle.counted_row_uses.specs.Counters.{Made}
 use Rattle.counted_row_bench.proofs.turns.look.Given as goal
 
 abbrev pub invariant-loop : goal.invariant-loop
 invariant-loop g l = record {
-  row : IsPassOf l.row l.pass;
+  row : IsPassOfRow l.row l.pass;
   none : Made l.index 0 l.fn.pass l.pass;
 }

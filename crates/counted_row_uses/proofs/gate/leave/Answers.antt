@@ -1,5 +1,5 @@
 use Rattle.std.proofs.Common.{[], ◌∷◌, ap, sym, ◌∙◌, subst}
-use Rattle.pass_names.specs.Counts.{without}
+use Rattle.pass_names.specs.Counts.{without_first}
 use Rattle.counted_row.specs.Views.{HasClaim, is_claim}
 use Rattle.counted_row_uses.proofs.Gating.{held_claim}
 use Rattle.counted_row_uses.proofs.gate.leave.Goals as goal
@@ -20,6 +20,6 @@ returns-clause-claim g c =
     let locks = c.lock-held.ensures.locks in
     let claim = held_claim c.args.pass.now c.lock-held.new.pass c.args.index c.args.number c.lock-held.result locks c.requires.claim in
     c.commit.ensures.claims
-    ∙ (ap (λ cs. without (is_claim c.lock-held.result.index (c.lock-held.result.state.entries ∷ [])) cs) locks.claims
-    ∙ (ap (λ i. without (is_claim i (c.lock-held.result.state.entries ∷ [])) c.args.pass.now.knows.claims) locks.index
-    ∙ ap (λ n. without (is_claim c.args.index (n ∷ [])) c.args.pass.now.knows.claims) (sym claim.1)))
+    ∙ (ap (λ cs. without_first (is_claim c.lock-held.result.index (c.lock-held.result.state.entries ∷ [])) cs) locks.claims
+    ∙ (ap (λ i. without_first (is_claim i (c.lock-held.result.state.entries ∷ [])) c.args.pass.now.knows.claims) locks.index
+    ∙ ap (λ n. without_first (is_claim c.args.index (n ∷ [])) c.args.pass.now.knows.claims) (sym claim.1)))

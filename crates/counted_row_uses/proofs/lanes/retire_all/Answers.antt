@@ -1,7 +1,7 @@
 use Rattle.std.proofs.Common.{[], rules, subst}
 use Rattle.std.specs.Prelude.{IfSome}
 use Rattle.std.proofs.lemmas.List.Elements.{All-pop}
-use Rattle.counted_row_uses.specs.Lanes.{IsIdle, IsMain}
+use Rattle.counted_row_uses.specs.Lanes.{IsIdleLane, IsMain}
 use Rattle.counted_row_uses.proofs.Covering.{answers_last, main_joins, main_last}
 use Rattle.counted_row_uses.proofs.lanes.retire_all.Goals as goal
 
@@ -11,13 +11,13 @@ join-requires-clause-answers c =
 
 pub loop-lane-preserved : goal.loop-lane-preserved
 loop-lane-preserved c =
-    let lanes = All-pop (λ lane. IsIdle c.args.row.now lane) c.loop-lane.lanes.items c.pop.new.self.items c.pop.result c.pop.ensures.items c.loop-lane.invariant.lanes in
+    let lanes = All-pop (λ lane. IsIdleLane c.args.row.now lane) c.loop-lane.lanes.items c.pop.new.self.items c.pop.result c.pop.ensures.items c.loop-lane.invariant.lanes in
     record {
       lanes = lanes.0;
       main =
           main_joins c.args.row.now c.loop-lane.main c.join.new.main c.pop.new.self.items c.in-Some.lane
           (subst (λ lanes. IsMain c.args.row.now c.loop-lane.main lanes) c.in-Some.ensures.items c.loop-lane.invariant.main)
-          (subst (λ r. IfSome r (λ lane. IsIdle c.args.row.now lane)) c.in-Some.is lanes.1) c.join.ensures.row c.join.ensures.idle c.join.ensures.claims c.join.ensures.retires.line;
+          (subst (λ r. IfSome r (λ lane. IsIdleLane c.args.row.now lane)) c.in-Some.is lanes.1) c.join.ensures.row c.join.ensures.idle c.join.ensures.claims c.join.ensures.retires.id;
     }
 
 pub returns-clause-last : goal.returns-clause-last

@@ -17,6 +17,6 @@ pub returns-then-exchange-clause-ok : goal.returns-then-exchange-clause-ok
 returns-then-exchange-clause-ok g c =
     takes_again _ _ _ c.args.write c.in_ok-after.after c.loop.invariant.looks (made c.exchange.result _ _ c.if-exchange.true c.exchange.ensures.taken)
 
-pub returns-then-exchange-clause-told : goal.returns-then-exchange-clause-told
-returns-then-exchange-clause-told g c =
-    hears_again _ _ _ c.loop.invariant.told ((made c.exchange.result _ _ c.if-exchange.true c.exchange.ensures.taken).adds.seen.each 0) c.exchange.ensures.told.none
+pub returns-then-exchange-clause-heard : goal.returns-then-exchange-clause-heard
+returns-then-exchange-clause-heard g c =
+    hears_again _ _ _ c.loop.invariant.heard ((made c.exchange.result _ _ c.if-exchange.true c.exchange.ensures.taken).adds.seen.each 0) c.exchange.ensures.heard.none
