@@ -1,3 +1,4 @@
+//! A queue that is a plain list of pairs.
 ghost use Rattle.std.specs.Prelude.{◌≡◌, ℕ, ◌≤◌, List, vec_capacity};
 ghost use Rattle.timer_queue.specs.Pairs.{IsQueue, place_of};
 
@@ -13,9 +14,9 @@ pub struct ListQueue {
 }
 
 impl Model for ListQueue {
-    ghost Value = { List (ℕ × ℕ) × ℕ };
+    ghost Value = { List (ℕ × ℕ) × ℕ × ℕ };
 
-    ghost view = { λ q. (q.list.items, q.room) };
+    ghost view = { λ q. (q.list.items, q.room, vec_capacity q.list) };
 
     ghost invariant = { λ q. IsQueue q.room q.list.items × (q.room ≤ vec_capacity q.list) };
 }
@@ -24,6 +25,8 @@ impl Queue for ListQueue {
     ghost pairs = { λ q. q.0 };
 
     ghost bound = { λ q. q.1 };
+
+    ghost capacity = { λ q. q.2 };
 
     fn make(alloc: Global, room: u32) -> Result<ListQueue, AllocError> {
         let list = Vec::with_capacity(alloc, room as usize)?;

@@ -1,4 +1,5 @@
-ghost use Rattle.std.specs.Prelude.{◌≡◌, ℕ, ◌<◌, List, [], IfOk, IsTrue, false};
+//! What a queue of timers does, whatever it is made of.
+ghost use Rattle.std.specs.Prelude.{◌≡◌, ℕ, ◌<◌, ◌≤◌, List, [], IfOk, IsTrue, false};
 ghost use Rattle.timer_queue.specs.Pairs.{put, without, first_of, has_id, IsQueue};
 
 use std::alloc::{AllocError, Global};
@@ -12,10 +13,14 @@ pub trait Queue {
     /// The room: each timer number is below it.
     ghost bound: { Self → ℕ };
 
+    /// For how many pairs the queue holds memory.
+    ghost capacity: { Self → ℕ };
+
     /// Makes an empty queue for the timer numbers below `room`.
     fn make(alloc: Global, room: u32) -> Result<Self, AllocError>
         ensures pairs { IfOk result (λ q. pairs q ≡ []) }
-        ensures bound { IfOk result (λ q. bound q ≡ room) };
+        ensures bound { IfOk result (λ q. bound q ≡ room) }
+        ensures capacity { IfOk result (λ q. room ≤ capacity q) };
 
     /// Adds a timer behind all that expire as early or earlier. It takes no memory. `expires` is in nanoseconds.
     fn add(&mut self, expires: u64, id: u32)
@@ -23,6 +28,7 @@ pub trait Queue {
         requires below { id < bound self.old }
         ensures pairs { pairs self.new ≡ put expires id (pairs self.old) }
         ensures bound { bound self.new ≡ bound self.old }
+        ensures capacity { capacity self.new ≡ capacity self.old }
         ensures kept { IsQueue (bound self.new) (pairs self.new) };
 
     /// Takes a timer out. The others keep their order.
@@ -30,6 +36,7 @@ pub trait Queue {
         requires present { IsTrue (has_id id (pairs self.old)) }
         ensures pairs { pairs self.new ≡ without id (pairs self.old) }
         ensures bound { bound self.new ≡ bound self.old }
+        ensures capacity { capacity self.new ≡ capacity self.old }
         ensures kept { IsQueue (bound self.new) (pairs self.new) };
 
     /// The timer that is due first.

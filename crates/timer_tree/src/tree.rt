@@ -129,6 +129,9 @@ impl Queue for TimerTree {
 
     ghost bound = { λ t. t.1 };
 
+    // The block's room.
+    ghost capacity = { λ t. t.1 };
+
     fn make(alloc: Global, room: u32) -> Result<TimerTree, AllocError> {
         let block = Block::make(alloc, room)?;
         Ok(TimerTree {
