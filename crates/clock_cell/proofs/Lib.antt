@@ -5,4 +5,3 @@ pub mod Looking
 pub mod Opening
 pub mod Splitting
 pub mod Taking
-pub mod Writes

@@ -1,50 +1,37 @@
 -- A load and an exchange keep the rule.
-use Rattle.std.proofs.Common.{◌≡◌, ℕ, zero, suc, ◌+◌, ◌≢◌, Bool, true, false, if◌then◌else◌, nat_eq, eqb, ne_eqb, ◌&&◌, List, [], ◌∷◌, ◌++◌, length, map, set, refl, ap, sym, ◌∙◌, subst, ⊎_elim, length-append, arith}
+use Rattle.std.proofs.Common.{◌≡◌, ℕ, zero, suc, ◌+◌, Bool, true, false, if◌then◌else◌, nat_eq, eqb, ne_eqb, ◌&&◌, List, [], ◌∷◌, ◌++◌, length, refl, ap, sym, ◌∙◌, subst, length-append, arith}
 use Rattle.std.specs.Prelude.{slice_index, slice_set}
-use Rattle.std.proofs.lemmas.Bool.{cases_Bool, true≢false}
+use Rattle.std.proofs.lemmas.Bool.{true≢false}
 use Rattle.std.proofs.lemmas.List.Elements.{All-nil, All-weaker}
-use mathlib.Core.Option.{some, some-ne-none}
+use mathlib.Core.Option.{some}
 use lib.ListN.{get_elem?}
 use lib.Pointwise.{pointwise, bytes_decides}
 use Rattle.crossbeam_utils.specs.Register.{Turns}
-use Rattle.atomic_table.proofs.Lists.{at_map}
 use Rattle.clock_model.specs.Clocks.{at_stamp, after_write, IsAccepted, AreAccepted}
 use Rattle.clock_model.specs.declared.write.Write.{Write}
 use Rattle.ktime.specs.Readings.{ClockReading}
 use Rattle.pass_names.specs.Counts.{one_if, count}
 use Rattle.pass_names.specs.Names.{IsLast}
 use Rattle.pass_names.specs.Passes.{Begins, entries, HasEach, within, is_place}
-use Rattle.pass_names.proofs.Names.{last_alone}
-use Rattle.pass_names.proofs.Counts.{total_only}
+use Rattle.pass_names.proofs.Counts.{set_there}
+use Rattle.pass_names.proofs.Last.{total_last}
 use Rattle.pass_names.proofs.Passes.{within_more, count_place, begins_refl, begins_trans, begins_more, goes_refl, goes_trans}
 use Rattle.clock_cell.specs.declared.view.ClockView.{ClockView}
 use Rattle.clock_cell.specs.Views.{reading_after, KnowsClock, having_read}
 use Rattle.clock_cell.specs.Words.{cell_words, reading_in}
 use Rattle.clock_cell.specs.Rules.{clock_pass_id, clock_places, ClockInvariant}
 use Rattle.clock_cell.specs.Plays.{IsRestingView, Loaded, Exchanged}
-use Rattle.clock_cell.proofs.Writes.{counted_one, after_push, accepted_push}
+use Rattle.clock_model.proofs.Writes.{after_write_counts, clock_after-append, accepted_push}
 use Rattle.clock_cell.proofs.Frames.{goes_one, turned}
-
-set_there : {A : Type 0} (l : List A) (i : ℕ) (a b : A) → get_elem? l i ≡ some a → get_elem? (set l i b) i ≡ some b
-set_there [] i a b e = absurd (some-ne-none a (sym e))
-set_there (x ∷ xs) zero a b e = refl
-set_there (x ∷ xs) (suc i) a b e = set_there xs i a b e
 
 -- what is known of a pass that has seen all writes
 module _ (words : List ℕ) (views : List ClockView) (inv : ClockInvariant words views)
     (id : ℕ) (v : ClockView) (at : get_elem? views id ≡ some v) (live : v.pass.id.live ≡ true) (all : v.pass.seen ≡ inv.log ∷ []) where
   -- where the pass is the last, all others are gone
-  others_gone : IsLast v.pass.id → (j : ℕ) (u : ClockView) → j ≢ id → get_elem? views j ≡ some u → u.pass.id.live ≡ false
-  others_gone last j u apart at_u =
-      ⊎_elim
-      (λ t. absurd (apart (last_alone (map clock_pass_id views) inv.tree id j (clock_pass_id v) (clock_pass_id u) (at_map clock_pass_id views id v at) live last (at_map clock_pass_id views j u at_u) t)))
-      (λ f. f)
-      (cases_Bool u.pass.id.live)
-
   has_each : IsLast v.pass.id → HasEach v.pass.seen v.pass.mine
   has_each last = record {
     once = λ i k.
-        sym (total_only (clock_places i k) views id v at (λ j u apart at_u. ap (count (is_place i k)) ((inv.each_view j u at_u).gone (others_gone last j u apart at_u))))
+        sym (total_last clock_pass_id views inv.tree id v at live last (clock_places i k) (λ j u at_u off. ap (count (is_place i k)) ((inv.each_view j u at_u).gone off)))
         ∙ (inv.tally i k ∙ ap (λ seen. one_if (within k (length (entries i seen)))) (sym all));
   }
 
@@ -107,13 +94,13 @@ module _ (id : ℕ) (v : ClockView) (live : v.pass.id.live ≡ true) where
         let log = inv.log ++ w ∷ [] in
         let now : r ≡ reading_after inv.log = ap reading_in (sym same ∙ inv.shows) in
         let accepted : IsAccepted (reading_after inv.log) w = subst (λ x. IsAccepted x w) now ok in
-        let shows : cell_words (after_write r w) ≡ cell_words (reading_after log) = ap cell_words (ap (λ x. after_write x w) now ∙ sym (after_push (at_stamp 0) inv.log w)) in
+        let shows : cell_words (after_write r w) ≡ cell_words (reading_after log) = ap cell_words (ap (λ x. after_write x w) now ∙ sym (clock_after-append (at_stamp 0) inv.log (w ∷ []))) in
         let more : Begins inv.log log = begins_more inv.log (w ∷ []) in
         let agrees = inv.each_view id v at in
         let u : ClockView = record { pass = record v.pass { seen = log ∷ []; mine = v.pass.mine ++ (0, length inv.log + 1) ∷ [] }; heard = [] } in
         let next = turned words views inv id v u (cell_words (after_write r w)) log at more shows (accepted_push (at_stamp 0) inv.log w inv.legal accepted)
         (record { seen = goes_refl (log ∷ []); heard = All-nil (λ ws. Begins ws log); gone = no_gone }) refl (one_place inv.log) in
-        let stamp : slice_index (cell_words (after_write r w)) 0 ≡ slice_index words 0 + 1 = counted_one r w ∙ ap (λ ws. slice_index ws 0 + 1) (sym same) in (
+        let stamp : slice_index (cell_words (after_write r w)) 0 ≡ slice_index words 0 + 1 = after_write_counts r w ∙ ap (λ ws. slice_index ws 0 + 1) (sym same) in (
           u,
           next.0,
           record {

@@ -10,7 +10,7 @@ use Rattle.clock_cell.specs.declared.view.ClockView.{ClockView}
 use Rattle.clock_cell.specs.Views.{writes, seen_reading, Hears, Accepts}
 use Rattle.clock_cell.specs.Words.{cell_words, reading_in}
 use Rattle.clock_cell.specs.Plays.{Loaded, MadeWrite}
-use Rattle.clock_cell.proofs.Writes.{stamp_after}
+use Rattle.clock_model.proofs.Writes.{stamp_after}
 
 module _ (w : Write) (old new : ClockView) (r : ClockReading) where
   -- the stamp of the reading after the write is its place

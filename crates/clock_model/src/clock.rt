@@ -1,3 +1,4 @@
+//! The clock as a value: three times and a count of writes, each write checked before it is made.
 ghost use Rattle.std.specs.Prelude.{◌≡◌, ◌+◌, ◌≤◌, if◌then◌else◌, IfOk, OnErr};
 ghost use Rattle.ktime.specs.Readings.{ClockReading, latest};
 ghost use Rattle.clock_model.specs.Clocks.{after_write, at_stamp, greatest, last_stamp, IsRefusedAs};

@@ -1,3 +1,4 @@
+//! The writes of a clock, and why one is refused.
 /// A write of the clock. Times are nanoseconds.
 #[derive(Clone, Copy, Debug, PartialEq, Eq)]
 pub enum Write {

@@ -18,7 +18,8 @@ use Rattle.counted_row.specs.Meaning.{Meaning}
 use Rattle.counted_row.specs.Views.{HasClaim, is_claim, StateAfter, Knows}
 use Rattle.counted_row.specs.Rules.{row_places, claims_at, Cell, HoldsValue, RowAgrees, RowInvariant}
 use Rattle.counted_row.proofs.Frames.{moved}
-use Rattle.counted_row.proofs.Knowing.{set_there, knows_of}
+use Rattle.pass_names.proofs.Counts.{set_there}
+use Rattle.counted_row.proofs.Knowing.{knows_of}
 use Rattle.std.proofs.lemmas.Bool.{and_parts, cases_lt, ne_eqb, eq-eqb}
 use Rattle.pass_names.specs.Names.{same}
 use Rattle.pass_names.specs.Passes.{Adds}

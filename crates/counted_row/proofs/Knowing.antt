@@ -1,30 +1,25 @@
 -- What the rule tells of what a pass knows.
-use Rattle.std.proofs.Common.{◌≡◌, ℕ, zero, suc, ◌<◌, ◌≤◌, ◌≢◌, true, false, List, [], ◌∷◌, length, map, set, refl, ap, sym, ◌∙◌, subst, ⊎_elim, length-append, arith}
-use Rattle.std.specs.Prelude.{◌+◌, Option, Some, None}
-use Rattle.std.proofs.lemmas.Bool.{cases_Bool, cases_lt}
+use Rattle.std.proofs.Common.{◌≡◌, ℕ, ◌<◌, ◌≤◌, true, false, List, [], length, ap, sym, ◌∙◌, subst, ⊎_elim, arith}
+use Rattle.std.specs.Prelude.{Option, Some, None}
+use Rattle.std.proofs.lemmas.Bool.{cases_lt}
 use Rattle.std.proofs.lemmas.Bool.Decides.{nat_tests}
-use mathlib.Core.Option.{some, some-ne-none}
+use mathlib.Core.Option.{some}
 use lib.ListN.{get_elem?}
 use Rattle.atomic_table.specs.Table.{State}
-use Rattle.atomic_table.proofs.Lists.{at_map}
-use Rattle.pass_names.specs.Counts.{one_if, count}
+use Rattle.pass_names.specs.Counts.{one_if, total, count}
 use Rattle.pass_names.specs.declared.PassId.{PassId}
-use Rattle.pass_names.specs.Names.{IsLast, occurrences, next_name, after_split, child_of}
+use Rattle.pass_names.specs.Names.{IsLast, occurrences, after_split, child_of}
 use Rattle.pass_names.specs.Passes.{Begins, entries, HasEach, within, is_place}
-use Rattle.pass_names.proofs.Names.{last_alone}
-use Rattle.pass_names.proofs.Counts.{total_only}
+use Rattle.pass_names.proofs.Names.{splitter_not_last, child_not_last}
+use Rattle.pass_names.proofs.Last.{total_last}
 use Rattle.pass_names.proofs.Passes.{begins_refl, begins_nil, begins_whole}
+use Rattle.counted_row.specs.declared.view.Entry.{Entry}
 use Rattle.counted_row.specs.declared.view.Locked.{Locked}
 use Rattle.counted_row.specs.declared.view.View.{View}
 use Rattle.counted_row.specs.Meaning.{Meaning}
 use Rattle.counted_row.specs.Views.{is_claim, StateAfter, IsNow, Knows, PassOfRow, Locks, HasClaim, split_view, new_view}
 use Rattle.counted_row.specs.Rules.{row_pass_id, row_places, claims_at, RowAgrees, RowInvariant}
 use Rattle.counted_row.proofs.Histories.{after_part}
-
-pub set_there : {A : Type 0} (l : List A) (i : ℕ) (a b : A) → get_elem? l i ≡ some a → get_elem? (set l i b) i ≡ some b
-set_there [] i a b e = absurd (some-ne-none a (sym e))
-set_there (x ∷ xs) zero a b e = refl
-set_there (x ∷ xs) (suc i) a b e = set_there xs i a b e
 
 in_range : (n : ℕ) → 0 < n → one_if (within n n) ≡ 1
 in_range n h = grind (arith, nat_tests)
@@ -40,22 +35,17 @@ module _ {S C R : Type 0} (m : Meaning S C R) (made : List S) (s : State (Option
   begins_seen : (i : ℕ) → Begins (entries i v.heard) (entries i v.pass.seen)
   begins_seen i = subst (λ h. Begins (entries i h) (entries i v.pass.seen)) (sym heard) (begins_nil (entries i v.pass.seen))
 
-  -- where the pass is the last, all others are gone
+  -- where the pass is the last, all places and claims are its own
   module _ (last : IsLast v.pass.id) where
-    others_gone : (j : ℕ) (u : View S C R) → j ≢ id → get_elem? s.views j ≡ some u → u.pass.id.live ≡ false
-    others_gone j u apart at_u =
-        ⊎_elim
-        (λ t. absurd (apart (last_alone (map row_pass_id s.views) inv.tree id j (row_pass_id v) (row_pass_id u) (at_map row_pass_id s.views id v at) live last (at_map row_pass_id s.views j u at_u) t)))
-        (λ f. f)
-        (cases_Bool u.pass.id.live)
+    one_alone : (f : View S C R → ℕ) → ((j : ℕ) (u : View S C R) → get_elem? s.views j ≡ some u → u.pass.id.live ≡ false → f u ≡ 0) → total f s.views ≡ f v
+    one_alone f gone = total_last row_pass_id s.views inv.tree id v at live last f gone
 
     all_places : (i k : ℕ) → row_places i k v ≡ one_if (within k (length (entries i inv.logs)))
-    all_places i k =
-        sym (total_only (row_places i k) s.views id v at (λ j u apart at_u. ap (count (is_place i k)) ((inv.each_view j u at_u).gone (others_gone j u apart at_u)).0)) ∙ inv.tally i k
+    all_places i k = sym (one_alone (row_places i k) (λ j u at_u off. ap (count (is_place i k)) ((inv.each_view j u at_u).gone off).0)) ∙ inv.tally i k
 
     all_claims : (i : ℕ) (name : List ℕ) (x : S) → StateAfter m made i (entries i inv.logs) x → claims_at i name v ≡ occurrences name (m.claims x)
     all_claims i name x after =
-        sym (total_only (claims_at i name) s.views id v at (λ j u apart at_u. ap (count (is_claim i name)) ((inv.each_view j u at_u).gone (others_gone j u apart at_u)).1)) ∙ inv.claims i name x after
+        sym (one_alone (claims_at i name) (λ j u at_u off. ap (count (is_claim i name)) ((inv.each_view j u at_u).gone off).1)) ∙ inv.claims i name x after
 
     heard_none : (i : ℕ) → length (entries i v.heard) ≡ 0
     heard_none i = ap (λ h. length (entries i h)) heard
@@ -106,32 +96,24 @@ pub open_now : {S C R : Type 0} (m : Meaning S C R) (old new : PassOfRow S C R) 
 open_now m old new i name h locks has =
     locks.knows.open_claims h.index name h.state (subst (λ cs. HasClaim h.index name cs) (sym locks.claims) (subst (λ k. HasClaim k name old.knows.claims) (sym locks.index) has)) locks.now.state
 
-no_lock : {S : Type 0} (h : Locked S) → None ≡ Some h → ⊥
-no_lock h e = cc
-
-module _ {S C R : Type 0} (m : Meaning S C R) where
-  -- who has split a pass off knows as much as before, and isn't the last
-  pub knows_split : (v : View S C R) → Knows m v → Knows m (split_view v)
-  knows_split v knows = record {
+module _ {S C R : Type 0} (m : Meaning S C R) (v : View S C R) (knows : Knows m v) where
+  -- who has seen as much and has no claim and no lock that v hasn't knows as much, and isn't the last
+  knows_less : (id : PassId) (mine : List (ℕ × ℕ)) (heard : List (List (Entry C R))) (claims : List (ℕ × List ℕ)) (held : Option (Locked S)) → (IsLast id → ⊥)
+      → ((i : ℕ) (name : List ℕ) → HasClaim i name claims → HasClaim i name v.claims) → ((h : Locked S) → held ≡ Some h → v.held ≡ Some h)
+      → Knows m record { pass = record { id = id; seen = v.pass.seen; mine = mine }; opening = v.opening; heard = heard; claims = claims; held = held }
+  knows_less id mine heard claims held not_last has locked = record {
     legal = knows.legal;
-    open_claims = knows.open_claims;
-    held = λ h e. let t = knows.held h e in record { state = t.state; stamp = t.stamp };
-    all_entries = λ last. absurd (not_last v.pass.id last);
-    all_claims = λ last. absurd (not_last v.pass.id last);
+    open_claims = λ i name x one after. knows.open_claims i name x (has i name one) after;
+    held = λ h e. let t = knows.held h (locked h e) in record { state = t.state; stamp = t.stamp };
+    all_entries = λ last. absurd (not_last last);
+    all_claims = λ last. absurd (not_last last);
   }
-    where
-      not_last : (l : PassId) → IsLast (after_split l) → ⊥
-      not_last l last = omega (arith, ap length last.alone, length-append l.split (next_name l ∷ []))
 
-  -- a pass that was split off knows as much, and isn't the last
-  pub knows_new : (v : View S C R) → Knows m v → Knows m (new_view v)
-  knows_new v knows = record {
-    legal = knows.legal;
-    open_claims = λ i name x has. absurd (omega arith);
-    held = λ h e. absurd (no_lock h e);
-    all_entries = λ last. absurd (not_last v.pass.id last);
-    all_claims = λ last. absurd (not_last v.pass.id last);
-  }
+  pub knows_split : Knows m (split_view v)
+  knows_split = knows_less (after_split v.pass.id) v.pass.mine v.heard v.claims v.held (splitter_not_last v.pass.id) (λ i name one. one) (λ h e. e)
+
+  pub knows_new : Knows m (new_view v)
+  knows_new = knows_less (child_of v.pass.id) [] [] [] None (child_not_last v.pass.id) (λ i name one. absurd (omega arith)) (λ h e. absurd (no_lock h e))
     where
-      not_last : (l : PassId) → IsLast (child_of l) → ⊥
-      not_last l last = omega (arith, ap length last.first, length-append l.name ((l.made + 1) ∷ []))
+      no_lock : (h : Locked S) → None ≡ Some h → ⊥
+      no_lock h e = cc

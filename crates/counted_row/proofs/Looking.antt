@@ -15,7 +15,8 @@ use Rattle.counted_row.specs.Views.{having_seen}
 use Rattle.counted_row.specs.Rules.{Cell, RowAgrees, RowInvariant}
 use Rattle.counted_row.specs.Plays.{IsWord, Looked, Checked}
 use Rattle.counted_row.proofs.Frames.{turned}
-use Rattle.counted_row.proofs.Knowing.{set_there, knows_of}
+use Rattle.pass_names.proofs.Counts.{set_there}
+use Rattle.counted_row.proofs.Knowing.{knows_of}
 
 module _ {S C R : Type 0} (m : Meaning S C R) (made : List S) where
   -- what a seat knows stays true once it has seen all histories

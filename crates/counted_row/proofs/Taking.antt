@@ -15,7 +15,8 @@ use Rattle.counted_row.specs.Meaning.{Meaning}
 use Rattle.counted_row.specs.Views.{having_seen}
 use Rattle.counted_row.specs.Rules.{taken_mark, Cell, HoldsValue, RowAgrees, RowInvariant}
 use Rattle.counted_row.specs.Plays.{Looked, Hit, Took}
-use Rattle.counted_row.proofs.Knowing.{set_there, knows_of}
+use Rattle.pass_names.proofs.Counts.{set_there}
+use Rattle.counted_row.proofs.Knowing.{knows_of}
 use Rattle.counted_row.specs.Views.{released}
 use Rattle.counted_row.specs.Plays.{Freed}
 use Rattle.counted_row.proofs.Frames.{shifted}

@@ -1,6 +1,7 @@
 //! Getting a value out of its slot, and putting it back.
-ghost use Rattle.std.specs.Prelude.{◌≡◌, ◌+◌, ◌<◌, true, None, Some, [], ◌∷◌, MatchOption};
+ghost use Rattle.std.specs.Prelude.{◌≡◌, ◌+◌, ◌<◌, true, None, Some, [], ◌∷◌, MatchOption, length};
 ghost use Rattle.atomic_table.specs.Table.{rest};
+ghost use Rattle.pass_names.specs.Passes.{entries};
 ghost use Rattle.counted_row.specs.Plays.{HasLooked, Caught};
 ghost use Rattle.counted_row.specs.Rules.{taken_mark};
 
@@ -43,6 +44,7 @@ fn take_free<O: Object>(
     requires same { seat.old.table_id ≡ cells.now.table_id }
     requires word { (word ≡ index + 1) × (word < cells.now.table_id.words) × (index < cells.now.table_id.slots) }
     requires free { stamp < taken_mark }
+    requires seen { stamp ≡ length (entries index seat.old.me.0.pass.seen) }
     requires live { seat.old.me.0.pass.id.live ≡ true }
     requires idle { (seat.old.me.0.held ≡ None) × (seat.old.me.1 ≡ []) }
     ensures same { seat.new.table_id ≡ seat.old.table_id }

@@ -57,6 +57,7 @@ pub fn take<O: Object>(
     requires same { seat.old.table_id ≡ cells.now.table_id }
     requires word { (word ≡ index + 1) × (word < cells.now.table_id.words) × (index < cells.now.table_id.slots) }
     requires free { stamp < taken_mark }
+    requires seen { stamp ≡ length (entries index seat.old.me.0.pass.seen) }
     requires live { seat.old.me.0.pass.id.live ≡ true }
     requires idle { (seat.old.me.0.held ≡ None) × (seat.old.me.1 ≡ []) }
     ensures same { seat.new.table_id ≡ seat.old.table_id }

@@ -11,6 +11,12 @@ met true h = refl
 met false h = absurd (omega arith)
 
 module _ {A : Type 0} where
+  -- an element that was written over is the new one
+  pub set_there : (l : List A) (i : ℕ) (a b : A) → get_elem? l i ≡ some a → get_elem? (set l i b) i ≡ some b
+  set_there [] i a b e = absurd (some-ne-none a (sym e))
+  set_there (x ∷ xs) zero a b e = refl
+  set_there (x ∷ xs) (suc i) a b e = set_there xs i a b e
+
   pub total-append : (f : A → ℕ) (xs ys : List A) → total f (xs ++ ys) ≡ total f xs + total f ys
   total-append f [] ys = omega arith
   total-append f (x ∷ xs) ys = omega (arith, total-append f xs ys)

@@ -1,3 +1,4 @@
 pub mod Counts
+pub mod Last
 pub mod Names
 pub mod Passes

@@ -28,6 +28,18 @@ occurrences_push n m ns = omega (arith, total-append (λ k. one_if (same n k)) n
 pub child_listed : (l : PassId) → 0 < occurrences (next_name l) (l.split ++ next_name l ∷ [])
 child_listed l = omega (arith, occurrences_push (next_name l) (next_name l) l.split, ap one_if (same-refl (next_name l)))
 
+-- the splitter answers for the pass that it split off
+pub answers_split : (l m n : PassId) → m ≡ after_split l → n ≡ child_of l → AnswersFor m n
+answers_split l m n splitter child =
+    subst (λ x. AnswersFor x n) (sym splitter) (subst (λ x. AnswersFor (after_split l) x) (sym child) (child_listed l))
+
+-- neither of the two is the last pass
+pub splitter_not_last : (l : PassId) → IsLast (after_split l) → ⊥
+splitter_not_last l last = omega (arith, ap length last.alone, length-append l.split (next_name l ∷ []))
+
+pub child_not_last : (l : PassId) → IsLast (child_of l) → ⊥
+child_not_last l last = omega (arith, ap length last.first, length-append l.name ((l.made + 1) ∷ []))
+
 longer_name : (a : List ℕ) (k : ℕ) (n : List ℕ) → Extends a k n → length a < length n
 longer_name a k n e = omega (arith, ap length e.whole, length-append a (k ∷ e.rest))
 

@@ -1,6 +1,6 @@
 use Rattle.std.proofs.Common.{◌≡◌, Bool, true, subst}
 use Rattle.std.specs.Prelude.{MatchBool}
-use Rattle.clock_cell.proofs.Writes.{shown_by}
+use Rattle.clock_model.proofs.Writes.{shown_by}
 use Rattle.clock_cell.proofs.Taking.{hears_again, takes_again}
 use Rattle.clock_cell.proofs.shared.SharedClock.write.Goals as goal
 

@@ -1,7 +1,5 @@
-use Rattle.std.proofs.Common.{◌≡◌, ◌∙◌, ap, sym, subst, arith}
-use Rattle.pass_names.specs.declared.PassId.{PassId}
-use Rattle.pass_names.specs.Names.{AnswersFor, after_split, child_of}
-use Rattle.pass_names.proofs.Names.{child_listed}
+use Rattle.std.proofs.Common.{◌∙◌, ap, sym, subst, arith}
+use Rattle.pass_names.proofs.Names.{answers_split}
 use Rattle.counted_row.specs.Views.{Knows}
 use Rattle.counted_row.proofs.Knowing.{knows_split, knows_new}
 use Rattle.counted_row.proofs.Splitting.{splits}
@@ -17,14 +15,10 @@ split_seat-requires g c =
       splits g.O.Object.meaning shared.key.value.items seat.id seat.me.0 (ap (λ m. m.0.pass.id.live) same.1 ∙ c.pass.invariant.live),
     )
 
-answers_at : (l m n : PassId) → m ≡ after_split l → n ≡ child_of l → AnswersFor m n
-answers_at l m n left right =
-    subst (λ x. AnswersFor x n) (sym left) (subst (λ x. AnswersFor (after_split l) x) (sym right) (child_listed l))
-
 pub returns-clause-answers : goal.returns-clause-answers
 returns-clause-answers g c =
     let told = c.split_seat.ensures in
-    answers_at c.check.new.seat.me.0.pass.id _ _ (ap (λ m. m.0.pass.id) told.2) (ap (λ m. m.0.pass.id) told.4)
+    answers_split c.check.new.seat.me.0.pass.id _ _ (ap (λ m. m.0.pass.id) told.2) (ap (λ m. m.0.pass.id) told.4)
 
 pub returns-clause-known : goal.returns-clause-known
 returns-clause-known g c =

@@ -1,4 +1,4 @@
--- The clock after a list of writes.
+-- The clock after a list of writes that it took: its stamp counts them, and it shows a reading within its limits.
 use Rattle.std.proofs.Common.{◌≡◌, ℕ, ◌+◌, ◌≤◌, Bool, true, false, if◌then◌else◌, nat_eq, List, [], ◌∷◌, ◌++◌, length, refl, sym, subst, arith}
 use Rattle.ktime.specs.Readings.{ClockReading, IsTimely, latest}
 use Rattle.clock_model.specs.Clocks.{last_stamp, at_stamp, moved_to, after_write, greatest, IsAccepted, clock_after, AreAccepted}
@@ -11,7 +11,8 @@ pub record IsShown (r : ClockReading) : Type 0 where
   pub changes : r.changes ≤ r.stamp
   pub timely : IsTimely r
 
-moved : (r : ClockReading) (mono real boot : ℕ) → IsShown r → r.stamp + 1 ≤ last_stamp → greatest (moved_to r mono real boot) ≤ latest → IsShown (moved_to r mono real boot)
+moved : (r : ClockReading) (mono real boot : ℕ) → IsShown r → r.stamp + 1 ≤ last_stamp → greatest (moved_to r mono real boot) ≤ latest
+    → IsShown (moved_to r mono real boot)
 moved r mono real boot is counted timely = record {
   counted = counted;
   changes = most (nat_eq (real + r.mono) (r.real + mono)) r.changes r.stamp is.changes;
@@ -33,28 +34,35 @@ shown_from r (w ∷ ws) is ok = shown_from (after_write r w) ws (shown_after r w
 
 -- the clock after writes that it took
 pub shown_by : (r : ClockReading) (ws : List Write) → r ≡ clock_after (at_stamp 0) ws → AreAccepted (at_stamp 0) ws → IsShown r
-shown_by r ws e ok =
-    subst IsShown (sym e)
-    (shown_from (at_stamp 0) ws (record { counted = omega arith; changes = omega arith; timely = record { mono = omega arith; real = omega arith; boot = omega arith } }) ok)
+shown_by r ws e ok = subst IsShown (sym e) (shown_from (at_stamp 0) ws start ok)
+  where
+    start : IsShown (at_stamp 0)
+    start = record {
+      counted = omega arith;
+      changes = omega arith;
+      timely = record { mono = omega arith; real = omega arith; boot = omega arith };
+    }
 
-pub counted_one : (r : ClockReading) (w : Write) → (after_write r w).stamp ≡ r.stamp + 1
-counted_one r (Advance by) = refl
-counted_one r (Set to) = refl
-counted_one r (Suspend by) = refl
+-- a write is counted once
+pub after_write_counts : (r : ClockReading) (w : Write) → (after_write r w).stamp ≡ r.stamp + 1
+after_write_counts r (Advance by) = refl
+after_write_counts r (Set to) = refl
+after_write_counts r (Suspend by) = refl
 
 stamp_from : (r : ClockReading) (ws : List Write) → (clock_after r ws).stamp ≡ r.stamp + length ws
 stamp_from r [] = omega arith
-stamp_from r (w ∷ ws) = omega (arith, stamp_from (after_write r w) ws, counted_one r w)
+stamp_from r (w ∷ ws) = omega (arith, stamp_from (after_write r w) ws, after_write_counts r w)
 
 -- the stamp is how many writes were made
 pub stamp_after : (ws : List Write) → (clock_after (at_stamp 0) ws).stamp ≡ length ws
 stamp_after ws = omega (arith, stamp_from (at_stamp 0) ws)
 
--- one write more
-pub after_push : (r : ClockReading) (ws : List Write) (w : Write) → clock_after r (ws ++ w ∷ []) ≡ after_write (clock_after r ws) w
-after_push r [] w = refl
-after_push r (x ∷ xs) w = after_push (after_write r x) xs w
+pub clock_after-append : (r : ClockReading) (xs ys : List Write) → clock_after r (xs ++ ys) ≡ clock_after (clock_after r xs) ys
+clock_after-append r [] ys = refl
+clock_after-append r (x ∷ xs) ys = clock_after-append (after_write r x) xs ys
 
-pub accepted_push : (r : ClockReading) (ws : List Write) (w : Write) → AreAccepted r ws → IsAccepted (clock_after r ws) w → AreAccepted r (ws ++ w ∷ [])
+-- one write more
+pub accepted_push : (r : ClockReading) (ws : List Write) (w : Write) → AreAccepted r ws → IsAccepted (clock_after r ws) w
+    → AreAccepted r (ws ++ w ∷ [])
 accepted_push r [] w ok one = (one, refl)
 accepted_push r (x ∷ xs) w ok one = (ok.0, accepted_push (after_write r x) xs w ok.1 one)
