@@ -15,10 +15,10 @@ use Rattle.script_text.specs.declared.script.Callback.{Callback}
 use Rattle.script_text.specs.declared.script.Callback.TheVariants as callbacks
 use Rattle.record_text.specs.declared.record.ClockLine.{ClockLine}
 use Rattle.record_text.specs.declared.record.Entry.TheVariants as entries
-use Rattle.record_text.specs.declared.record.Told.{Told}
-use Rattle.record_text.specs.declared.record.Told.TheVariants as looks
-use Rattle.script_text.specs.Histories.{reading_at, rearmed_as, shown}
-use Rattle.script_text.specs.Dids.{Did, Entered, Looked}
+use Rattle.record_text.specs.declared.record.CallbackReply.{CallbackReply}
+use Rattle.record_text.specs.declared.record.CallbackReply.TheVariants as looks
+use Rattle.script_text.specs.Histories.{reading_at, rearmed_as, entry_shown}
+use Rattle.script_text.specs.Actions.{Action, Entered, Looked}
 use Rattle.script_text.specs.Calls.{Fired, IsCallback, fires}
 use Rattle.hrt_app.specs.Progress.{Step, plain}
 use Rattle.hrt_app.specs.Callbacks.{Act, act_of, after_act, forward_act, refused, restart_of, start_line, taken}
@@ -33,7 +33,7 @@ pub record MayTake (t : Timer) (r : ClockReading) (x : Step) : Type 0 where
   pub counts : (after t x.event).stamp ≡ t.stamp + 1
   pub running : (after t x.event).running ≡ t.running
   pub bare : x.look ≡ None
-  pub shows : (clock : List ClockLine) (n : ℕ) → reading_at clock r.stamp ≡ r → shown clock n x.entry ≡ record { event = x.event; reply = reply_to t x.event }
+  pub shows : (clock : List ClockLine) (n : ℕ) → reading_at clock r.stamp ≡ r → entry_shown clock n x.entry ≡ record { event = x.event; reply = reply_to t x.event }
 
 -- so it is, where there is a step
 abbrev pub MayTakeSome : Timer → ClockReading → Option Step → Type 0
@@ -90,7 +90,7 @@ act_allowed limit (callbacks.Starts ns asked) t r g armed running =
     (λ full. record { sees = (full, tt); takes = tt })
 
 -- what a callback's step did, where so many entries stand before it, and how many stand there after it
-abbrev pub act_dids : ℕ → ℕ → Option Step → List Did
+abbrev pub act_dids : ℕ → ℕ → Option Step → List Action
 act_dids t n None = []
 act_dids t n (Some x) = dids_of_step t n x
 
@@ -127,7 +127,7 @@ is_body (callbacks.Starts ns asked) running r seen t n g armed runs =
     (λ room. (inl (record { out = None; number = n + 1 + 1; base = now.base; clock = now.clock; expires = now.expires; was_armed = is_some running.armed }, refl), refl))
     (λ full. (inr (n + 1, refl), refl))
 
-in_turn : (t n : ℕ) (look : Option Told) (step : Option Step) (x : Step) → x.look ≡ None
+in_turn : (t n : ℕ) (look : Option CallbackReply) (step : Option Step) (x : Step) → x.look ≡ None
     → (looked_at t n look ++ act_dids t n step) ++ Entered t (act_count n step + 1) x.entry ∷ [] ≡ looked_at t n look ++ dids_of t n (act_then step (x ∷ []))
 in_turn t n look None x bare =
     append_assoc (looked_at t n look) [] (Entered t (n + 1) x.entry ∷ [])

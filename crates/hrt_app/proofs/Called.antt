@@ -1,5 +1,5 @@
 -- What a call did on one lane fits, whatever the run still adds.
-use Rattle.script_text.specs.Objects.{object_lines}
+use Rattle.script_text.specs.Objects.{lines_of_object}
 use Rattle.std.proofs.Common.{arith, refl, sym, ap, ◌∙◌, subst, ◌≡◌, ◌≤◌, ◌<◌, ℕ, ◌+◌, true, false, Some, is_some, nat_eq, if◌then◌else◌, List, [], ◌∷◌, length}
 use Rattle.std.proofs.lemmas.Bool.{cases_eq}
 use Rattle.std.proofs.Math.Logic.{⊎_elim}
@@ -15,12 +15,12 @@ use Rattle.record_text.specs.declared.record.Answer.{Answer}
 use Rattle.record_text.specs.declared.record.Answer.TheVariants as answers
 use Rattle.record_text.specs.declared.record.ClockLine.{ClockLine}
 use Rattle.record_text.specs.declared.record.RunRecord.{RunRecord}
-use Rattle.script_text.specs.Histories.{lines_of, timer_after}
-use Rattle.script_text.specs.Dids.{Did}
+use Rattle.script_text.specs.Histories.{lines_of_timer, timer_after}
+use Rattle.script_text.specs.Actions.{Action}
 use Rattle.script_text.specs.Order.{NeverFall}
 use Rattle.script_text.specs.Calls.{Does, IsSeen, IsTimerPoint, Saw}
 use Rattle.script_text.specs.Fits.{Seen, FitsCall, steps_on, object_steps_on}
-use Rattle.script_text.specs.Passes.{IsRightPass}
+use Rattle.script_text.specs.ExpiryRuns.{IsRightExpiryRun}
 use Rattle.ktime.specs.declared.mode.Mode.{Mode}
 use Rattle.hrt_app.specs.Progress.{Progress}
 use Rattle.hrt_app.proofs.Lists.{All-map}
@@ -32,7 +32,7 @@ use Rattle.hrt_app.proofs.Told.{tells_start, tells_end, point_of_timer, point_of
 
 -- all that a record has is seen
 abbrev pub seen_of : RunRecord → Seen
-seen_of r = record { clock = length r.clock; timers = λ t. length (lines_of r t); objects = λ i. length (object_lines r i) }
+seen_of r = record { clock = length r.clock; timers = λ t. length (lines_of_timer r t); objects = λ i. length (lines_of_object r i) }
 
 -- at the start of a call, as within it
 pub begin : (s : Script) (call : ℕ) (p : Progress) → IsRun s call call p → IsRun s call (call + 1) p
@@ -42,7 +42,7 @@ begin s call p run = record {
   lists = run.lists;
   declared = run.declared;
   object_lists = run.object_lists;
-  objects = λ i. begin_object s call i p.told.clock (object_lines p.told i) (object_at p.objects i) (run.objects i);
+  objects = λ i. begin_object s call i p.told.clock (lines_of_object p.told i) (object_at p.objects i) (run.objects i);
   clock_below = All-map (IsBelow call) (IsBelow (call + 1)) _ (below_more call) run.clock_below;
   timers_below = λ t. All-map (IsBelow call) (IsBelow (call + 1)) _ (below_more call) (run.timers_below t);
   clock_order = run.clock_order;
@@ -68,7 +68,7 @@ finish s call p run = record {
   lists = run.lists;
   declared = run.declared;
   object_lists = run.object_lists;
-  objects = λ i. finish_object s call i p.told.clock (object_lines p.told i) (object_at p.objects i) (run.objects i);
+  objects = λ i. finish_object s call i p.told.clock (lines_of_object p.told i) (object_at p.objects i) (run.objects i);
   clock_below = run.clock_below;
   timers_below = run.timers_below;
   clock_order = run.clock_order;
@@ -83,18 +83,18 @@ finish s call p run = record {
 }
 
 -- what holds of a timer as it is kept was seen at its stamp
-pub saw : (s : Script) (call : ℕ) (p : Progress) (end : RunRecord) (ds : List Did) (t : ℕ) (o : Observation) → IsRun s call (call + 1) p → Extends call p.told end → IsTimerPoint s end (on call) ds t (length (lines_of p.told t)) → t < length s.timers
+pub saw : (s : Script) (call : ℕ) (p : Progress) (end : RunRecord) (ds : List Action) (t : ℕ) (o : Observation) → IsRun s call (call + 1) p → Extends call p.told end → IsTimerPoint s end (on call) ds t (length (lines_of_timer p.told t)) → t < length s.timers
     → Holds (timer_at p.timers t) o → Saw s end (on call) ds t (timer_at p.timers t).stamp o
 saw s call p end ds t o run e point there holds =
     subst (λ n. IsTimerPoint s end (on call) ds t n × Holds (timer_after s end t n) o) (sym (run.stamps t))
     (point, subst (λ timer. Holds timer o) (sym (run.states end e t there)) holds)
 
 one_step : (s : Script) (call : ℕ) (p : Progress) (t u : ℕ) → IsRun s call (call + 1) p
-    → NeverFall (length (lines_of p.told u)) (if nat_eq t u then (timer_at p.timers t).stamp ∷ [] else []) (length (lines_of p.told u))
+    → NeverFall (length (lines_of_timer p.told u)) (if nat_eq t u then (timer_at p.timers t).stamp ∷ [] else []) (length (lines_of_timer p.told u))
 one_step s call p t u run =
     ⊎_elim (λ here. subst (λ n. NeverFall n (if nat_eq t u then (timer_at p.timers t).stamp ∷ [] else []) n) (ap (λ v. (timer_at p.timers v).stamp) (sym here) ∙ run.stamps u)
     (elim (nat_eq t u) as (λ b. NeverFall (timer_at p.timers t).stamp (if b then (timer_at p.timers t).stamp ∷ [] else []) (timer_at p.timers t).stamp) [ true ↦ (omega arith, omega arith) | false ↦ omega arith ]))
-    (λ apart. subst (λ b. NeverFall (length (lines_of p.told u)) (if b then (timer_at p.timers t).stamp ∷ [] else []) (length (lines_of p.told u))) (sym (nat_eq_apart t u apart)) (omega arith))
+    (λ apart. subst (λ b. NeverFall (length (lines_of_timer p.told u)) (if b then (timer_at p.timers t).stamp ∷ [] else []) (length (lines_of_timer p.told u))) (sym (nat_eq_apart t u apart)) (omega arith))
     (cases_eq u t)
 
 -- a call that makes no entry, and is told what holds of one timer
@@ -102,7 +102,7 @@ pub quiet_called : (s : Script) (number : ℕ) (p : Progress) (t : ℕ) (end : R
     → Holds (timer_at p.timers t) o
     → Does s (length p.told.clock) call answer [] []
     → (Saw s end (on number) [] t (timer_at p.timers t).stamp o → timer_after s end t (timer_at p.timers t).stamp ≡ timer_at p.timers t → IsSeen s end (on number) (length p.told.clock) [] call answer)
-    → IsRightPass s end (on number) (length p.told.clock) call answer [] [] (λ u. 0)
+    → IsRightExpiryRun s end (on number) (length p.told.clock) call answer [] [] (λ u. 0)
     → ((u : ℕ) → steps_on u (length p.told.clock) call answer [] [] (λ u. 0) ≡ (if nat_eq t u then (timer_at p.timers t).stamp ∷ [] else []))
     → ((i : ℕ) → object_steps_on i call answer [] ≡ [])
     → FitsCall s end (on number) call answer (seen_of p.told) (seen_of p.told)
@@ -113,7 +113,7 @@ quiet_called s number p t end call answer o run there e holds does seen pass ste
     record {
       at = length p.told.clock;
       fired = [];
-      dids = [];
+      actions = [];
       last = λ u. 0;
       tells = tells_end number p.told end [] e told;
       does = does;
@@ -121,10 +121,10 @@ quiet_called s number p t end call answer o run there e holds does seen pass ste
       looks = tt;
       seen = seen (saw s number p end [] t o inside so_far (point_of_timer s number p end [] inside so_far told t) there holds)
           (subst (λ n. timer_after s end t n ≡ timer_at p.timers t) (sym (inside.stamps t)) (inside.states end so_far t there));
-      pass = pass;
+      expiry_run = pass;
       clock_steps = (omega arith, omega arith);
-      timer_steps = λ u. subst (λ ns. NeverFall (length (lines_of p.told u)) ns (length (lines_of p.told u))) (sym (steps u)) (one_step s number p t u inside);
-      object_steps = λ i. subst (λ ns. NeverFall (length (object_lines p.told i)) ns (length (object_lines p.told i))) (sym (objects i)) (omega arith);
+      timer_steps = λ u. subst (λ ns. NeverFall (length (lines_of_timer p.told u)) ns (length (lines_of_timer p.told u))) (sym (steps u)) (one_step s number p t u inside);
+      object_steps = λ i. subst (λ ns. NeverFall (length (lines_of_object p.told i)) ns (length (lines_of_object p.told i))) (sym (objects i)) (omega arith);
     }
 
 -- a peek, and a start and a try to cancel that change nothing

@@ -21,7 +21,7 @@ use Rattle.hrt_app.specs.Objects.{ObjectStep, after_call, callback_of, object_at
 use Rattle.record_text.specs.declared.record.Entry.{Entry}
 use Rattle.record_text.specs.declared.record.Entry.TheVariants as entries
 use Rattle.record_text.specs.declared.record.Restart.{Restart}
-use Rattle.record_text.specs.declared.record.Told.{Told}
+use Rattle.record_text.specs.declared.record.CallbackReply.{CallbackReply}
 use Rattle.hrt_app.specs.declared.callbacks.Work.{Work}
 use Rattle.hrt_app.specs.Progress.{Progress, Step, line_of, plain, with_step, with_steps, with_trigger}
 use Rattle.hrt_app.specs.Callbacks.{act_of, after_act, entry_of, restart_of, start_line}
@@ -162,7 +162,7 @@ started_turn r k c t mode ns asked was generation on outs clock some e makes =
     is_either false = inr refl
 
 -- the run after a claim, the work of its callback and the finish have entered their lines
-abbrev pub fired_told : RunState → Kept → Object → Label → ℕ → ℕ → ℕ → Option Told → Option Entry → Bool → Restart → RunState
+abbrev pub fired_told : RunState → Kept → Object → Label → ℕ → ℕ → ℕ → Option CallbackReply → Option Entry → Bool → Restart → RunState
 fired_told r k o c base t generation look entry again rearmed =
     with_line (with_expiry_line (with_some (with_look (record r { core = k }) c t (entries.Claim base r.reading.stamp generation) look) c t entry) c t generation r.reading o) c t (entries.Finish again generation rearmed)
 
@@ -171,7 +171,7 @@ abbrev pub fired_timers : List Timer → ℕ → Timer → Option Step → Bool 
 fired_timers ts t running step again = set (with_act (set ts t running) t step) t (after (timer_at (with_act (set ts t running) t step) t) (events.Finish again))
 
 -- the run after these steps
-told_steps : (r : RunState) (k : Kept) (callback : Callback) (c : Label) (base t generation : ℕ) (look : Option Told) (step : Option Step) (again : Bool) (rearmed : Restart)
+told_steps : (r : RunState) (k : Kept) (callback : Callback) (c : Label) (base t generation : ℕ) (look : Option CallbackReply) (step : Option Step) (again : Bool) (rearmed : Restart)
     → k.timers ≡ fired_timers r.core.timers t (after (timer_at r.core.timers t) (events.Claim base r.reading)) step again
     → MayTakeSome (after (timer_at r.core.timers t) (events.Claim base r.reading)) r.reading step
     → progress (fired_told r k (Raw callback) c base t generation look (entry_of step) again rearmed)

@@ -14,11 +14,11 @@ use Rattle.script_text.specs.declared.script.Script.{Script}
 use Rattle.record_text.specs.declared.record.Label.{Label}
 use Rattle.record_text.specs.declared.record.ObjectLine.{ObjectLine}
 use Rattle.record_text.specs.declared.record.RunRecord.{RunRecord}
-use Rattle.record_text.specs.declared.record.Told.{Told}
+use Rattle.record_text.specs.declared.record.CallbackReply.{CallbackReply}
 use Rattle.script_text.specs.Order.{NeverFall}
-use Rattle.script_text.specs.Histories.{lines_of, rearmed_as}
-use Rattle.script_text.specs.Objects.{kind_of, object_lines}
-use Rattle.script_text.specs.Dids.{Did, Tells, numbers_on, wrote, numbers_of_object}
+use Rattle.script_text.specs.Histories.{lines_of_timer, rearmed_as}
+use Rattle.script_text.specs.Objects.{kind_of, lines_of_object}
+use Rattle.script_text.specs.Actions.{Action, Tells, numbers_on, wrote, numbers_of_object}
 use Rattle.script_text.specs.Calls.{Fired, fires, IsBody, AreTrue}
 use Rattle.hrt_app.specs.declared.objects.Object.TheVariants.{Raw}
 use Rattle.hrt_app.specs.Objects.{entries_of, object_at}
@@ -46,7 +46,7 @@ fire_steps callback p base t generation = act_steps (running_timer p base t) p.r
 pub finish_taken : (s : Script) (p : Progress) (call t generation : ℕ) (now : Timer) (again : Bool) → IsRun s call (call + 1) p → t < length s.timers → timer_at p.timers t ≡ now → now.running ≡ Some generation
     → IsStep s p call t (finish_step now generation again)
 finish_taken s p call t generation now again run there is runs =
-    let stamp : length (lines_of p.told t) ≡ now.stamp = sym (run.stamps t) ∙ ap (λ (x : Timer). x.stamp) is in
+    let stamp : length (lines_of_timer p.told t) ≡ now.stamp = sym (run.stamps t) ∙ ap (λ (x : Timer). x.stamp) is in
     record {
       there = there;
       needs = ap (λ (x : Timer). is_some x.running) is ∙ ap is_some runs;
@@ -69,7 +69,7 @@ act_taken s p call t generation now (Some x) again run there is runs takes =
       counts = subst (λ (u : Timer). (after u x.event).stamp ≡ u.stamp + 1) (sym is) takes.counts;
       sees = subst (Sees s.limit (after (timer_at p.timers t) x.event)) (sym takes.bare) tt;
       shows = λ end e.
-          takes.shows end.clock (length (lines_of p.told t)) (reading_shown s p call end run e)
+          takes.shows end.clock (length (lines_of_timer p.told t)) (reading_shown s p call end run e)
           ∙ ap (λ (u : Timer). record { event = x.event; reply = reply_to u x.event }) (sym is);
     } in (
       step,
@@ -81,7 +81,7 @@ act_taken s p call t generation now (Some x) again run there is runs takes =
     )
 
 -- the claim is a step that the timer takes
-pub claim_taken : (s : Script) (p : Progress) (call base t generation : ℕ) (look : Option Told) → IsRun s call (call + 1) p → IsNext p base t generation → Sees s.limit (running_timer p base t) look → IsStep s p call t (claim_step base p.reading generation look)
+pub claim_taken : (s : Script) (p : Progress) (call base t generation : ℕ) (look : Option CallbackReply) → IsRun s call (call + 1) p → IsNext p base t generation → Sees s.limit (running_timer p base t) look → IsStep s p call t (claim_step base p.reading generation look)
 claim_taken s p call base t generation look run next sees = record {
   there = subst (λ n. t < n) run.timers next.there;
   needs = next.needs;
@@ -107,7 +107,7 @@ fire_taken s callback p call base t generation run next =
 
 -- no refused expiry of an object is of this call, or its timer isn't armed
 abbrev pub IsFresh : ℕ → Progress → ℕ → Type 0
-IsFresh call p i = AllByRecursion (λ (l : ObjectLine). AreBelow call l.skips) (object_lines p.told i) ⊎ ((timer_at p.timers i).armed ≡ None)
+IsFresh call p i = AllByRecursion (λ (l : ObjectLine). AreBelow call l.skips) (lines_of_object p.told i) ⊎ ((timer_at p.timers i).armed ≡ None)
 
 -- what the claim of one timer led to, up to its finish: the record tells these things, and the run goes on
 pub record FireMade (s : Script) (call base at : ℕ) (p next : Progress) (this : Fired) : Type 0 where
@@ -115,12 +115,12 @@ pub record FireMade (s : Script) (call base at : ℕ) (p next : Progress) (this 
   pub same_clock : next.told.clock ≡ p.told.clock
   pub same_reading : next.reading ≡ p.reading
   pub back : (end : RunRecord) → Extends call next.told end → Extends call p.told end
-  pub tells : (before : List Did) → Tells p.told (on call) before → Tells next.told (on call) (before ++ fires base at this)
+  pub tells : (before : List Action) → Tells p.told (on call) before → Tells next.told (on call) (before ++ fires base at this)
   pub writes_none : wrote (fires base at this) ≡ []
-  pub looks : (end : RunRecord) (before rest : List Did) → Tells p.told (on call) before → Extends call next.told end → AreTrue s end (on call) (before ++ fires base at this) rest
+  pub looks : (end : RunRecord) (before rest : List Action) → Tells p.told (on call) before → Extends call next.told end → AreTrue s end (on call) (before ++ fires base at this) rest
       → AreTrue s end (on call) before (fires base at this ++ rest)
-  pub steps : (u : ℕ) → NeverFall (length (lines_of p.told u)) (numbers_on u (fires base at this)) (length (lines_of next.told u))
-  pub object_steps : (i : ℕ) → NeverFall (length (object_lines p.told i)) (numbers_of_object i (fires base at this)) (length (object_lines next.told i))
+  pub steps : (u : ℕ) → NeverFall (length (lines_of_timer p.told u)) (numbers_on u (fires base at this)) (length (lines_of_timer next.told u))
+  pub object_steps : (i : ℕ) → NeverFall (length (lines_of_object p.told i)) (numbers_of_object i (fires base at this)) (length (lines_of_object next.told i))
   pub fresh : (i : ℕ) → IsFresh call p i → IsFresh call next i
   pub body : IsBody (kind_of s this.timer) at this
 
@@ -129,7 +129,7 @@ pub steps_others : (p : Progress) (c : Label) (t u : ℕ) (xs : List Step) → u
 steps_others p c t u [] apart = refl
 steps_others p c t u (x ∷ xs) apart = steps_others (with_step p c t x) c t u xs apart ∙ get_or-set_other p.timers t u (after (timer_at p.timers t) x.event) no_timer apart
 
-pub steps_objects : (p : Progress) (c : Label) (t : ℕ) (xs : List Step) (i : ℕ) → object_lines (with_steps p c t xs).told i ≡ object_lines p.told i
+pub steps_objects : (p : Progress) (c : Label) (t : ℕ) (xs : List Step) (i : ℕ) → lines_of_object (with_steps p c t xs).told i ≡ lines_of_object p.told i
 steps_objects p c t [] i = refl
 steps_objects p c t (x ∷ xs) i = steps_objects (with_step p c t x) c t xs i
 
@@ -139,17 +139,17 @@ no_lines (l ∷ ls) e = absurd (omega (arith, e))
 
 -- a raw timer's
 pub raw_made : (s : Script) (callback : Callback) (call base at t generation : ℕ) (p : Progress) → object_at p.objects t ≡ Raw callback → p.reading.stamp ≡ at → IsRun s call (call + 1) p → IsNext p base t generation
-    → FireMade s call base at p (with_steps p (on call) t (fire_steps callback p base t generation)) (firing_as (λ u. length (lines_of p.told u)) t (length (lines_of p.told t)) generation (running_timer p base t) (act_at callback p base t))
+    → FireMade s call base at p (with_steps p (on call) t (fire_steps callback p base t generation)) (firing_as (λ u. length (lines_of_timer p.told u)) t (length (lines_of_timer p.told t)) generation (running_timer p base t) (act_at callback p base t))
 raw_made s callback call base at t generation p raw same run next =
-    let n = length (lines_of p.told t) in
+    let n = length (lines_of_timer p.told t) in
     let xs = fire_steps callback p base t generation in
     let q = with_steps p (on call) t xs in
     let taken = fire_taken s callback p call base t generation run next in
-    let this = firing_as (λ u. length (lines_of p.told u)) t n generation (running_timer p base t) (act_at callback p base t) in
+    let this = firing_as (λ u. length (lines_of_timer p.told u)) t n generation (running_timer p base t) (act_at callback p base t) in
     let mine = fires base at this in
-    let is : dids_of t n xs ≡ mine = sym (fires_are p.reading base (λ u. length (lines_of p.told u)) t n generation (running_timer p base t) (act_at callback p base t)) ∙ ap (λ m. fires base m this) same in
+    let is : dids_of t n xs ≡ mine = sym (fires_are p.reading base (λ u. length (lines_of_timer p.told u)) t n generation (running_timer p base t) (act_at callback p base t)) ∙ ap (λ m. fires base m this) same in
     let own = run.objects t in
-    let bare : object_lines p.told t ≡ [] = no_lines (object_lines p.told t) (ap entries_of (sym raw) ∙ own.counted) in
+    let bare : lines_of_object p.told t ≡ [] = no_lines (lines_of_object p.told t) (ap entries_of (sym raw) ∙ own.counted) in
     let kind : kind_of s t ≡ kinds.Raw callback = subst (IsMadeAs s t) raw own.made in
     record {
       run = steps_run s call t xs p run taken;
@@ -160,14 +160,14 @@ raw_made s callback call base at t generation p raw same run next =
       writes_none = ap wrote (sym is) ∙ wrote_steps t n xs;
       looks = λ end before rest told e later. subst (λ ds. AreTrue s end (on call) before (ds ++ rest)) is
           (steps_true s call t xs p before rest end run taken told e (subst (λ ds. AreTrue s end (on call) (before ++ ds) rest) (sym is) later));
-      steps = λ u. subst (λ ds. NeverFall (length (lines_of p.told u)) (numbers_on u ds) (length (lines_of q.told u))) is (steps_numbers s call t xs p run taken u);
-      object_steps = λ i. subst (λ ns. NeverFall (length (object_lines p.told i)) ns (length (object_lines q.told i))) (sym (ap (numbers_of_object i) (sym is) ∙ steps_object i t n xs))
+      steps = λ u. subst (λ ds. NeverFall (length (lines_of_timer p.told u)) (numbers_on u ds) (length (lines_of_timer q.told u))) is (steps_numbers s call t xs p run taken u);
+      object_steps = λ i. subst (λ ns. NeverFall (length (lines_of_object p.told i)) ns (length (lines_of_object q.told i))) (sym (ap (numbers_of_object i) (sym is) ∙ steps_object i t n xs))
           (omega (arith, ap length (steps_objects p (on call) t xs i)));
       fresh = λ i fresh. ⊎_elim
-          (λ here. inl (subst (AllByRecursion (λ (l : ObjectLine). AreBelow call l.skips)) (sym (steps_objects p (on call) t xs i ∙ ap (object_lines p.told) here ∙ bare)) tt))
+          (λ here. inl (subst (AllByRecursion (λ (l : ObjectLine). AreBelow call l.skips)) (sym (steps_objects p (on call) t xs i ∙ ap (lines_of_object p.told) here ∙ bare)) tt))
           (λ apart. subst (λ ls. AllByRecursion (λ (l : ObjectLine). AreBelow call l.skips) ls ⊎ ((timer_at q.timers i).armed ≡ None)) (sym (steps_objects p (on call) t xs i))
-          (subst (λ (x : Timer). AllByRecursion (λ (l : ObjectLine). AreBelow call l.skips) (object_lines p.told i) ⊎ (x.armed ≡ None)) (sym (steps_others p (on call) t i xs apart)) fresh))
+          (subst (λ (x : Timer). AllByRecursion (λ (l : ObjectLine). AreBelow call l.skips) (lines_of_object p.told i) ⊎ (x.armed ≡ None)) (sym (steps_others p (on call) t i xs apart)) fresh))
           (cases_eq i t);
       body = subst (λ m. IsBody (kind_of s t) m this) same (subst (λ k. IsBody k p.reading.stamp this) (sym kind)
-          (is_body callback (running_timer p base t) p.reading (λ u. length (lines_of p.told u)) t n generation refl next.armed));
+          (is_body callback (running_timer p base t) p.reading (λ u. length (lines_of_timer p.told u)) t n generation refl next.armed));
     }

@@ -7,7 +7,7 @@ use Rattle.record_text.specs.declared.record.ObjectEntry.{ObjectEntry}
 use Rattle.record_text.specs.declared.record.ObjectLine.{ObjectLine}
 use Rattle.record_text.specs.declared.record.Skip.{Skip}
 use Rattle.script_text.specs.Order.{is_label}
-use Rattle.script_text.specs.Dids.{also, own, own_skips, skips_under}
+use Rattle.script_text.specs.Actions.{also, own, own_skips, skips_under}
 use Rattle.hrt_app.specs.Progress.{under_last}
 use Rattle.hrt_app.proofs.Lists.{All-map, All-to_map}
 use Rattle.hrt_app.proofs.Labels.{IsUpTo}

@@ -8,7 +8,7 @@ use Rattle.record_text.specs.declared.record.Label.{Label}
 use Rattle.script_text.specs.declared.script.LaneCall.{LaneCall}
 use Rattle.script_text.specs.declared.script.Round.{Round}
 use Rattle.script_text.specs.declared.script.Script.{Script}
-use Rattle.script_text.specs.Order.{Placed, calls_from, calls_of, round_of, is_before, IsPoint, IsInOrder, made_by}
+use Rattle.script_text.specs.Order.{CallInRound, calls_from, calls_of, round_of, is_before, IsPoint, IsInOrder, made_by}
 use Rattle.hrt_app.proofs.Lists.{All-map, All-append}
 
 -- numbers that start at least so high and never fall, and go on like that past the end of the list
@@ -28,7 +28,7 @@ Rises-cons least past ns r = record { from = low; rise = up }
     up (suc a) zero le = absurd (omega (arith, le))
     up (suc a) (suc b) le = r.rise a b (omega (arith, le))
 
-pub Rises-round : (least past : ℕ) (cs : List LaneCall) (ns : List ℕ) → Rises least past ns → Rises least past (map (λ (c : Placed). c.round) (map (λ (c : LaneCall). record { round = least; call = c.call }) cs) ++ ns)
+pub Rises-round : (least past : ℕ) (cs : List LaneCall) (ns : List ℕ) → Rises least past ns → Rises least past (map (λ (c : CallInRound). c.round) (map (λ (c : LaneCall). record { round = least; call = c.call }) cs) ++ ns)
 Rises-round least past [] ns r = r
 Rises-round least past (c ∷ cs) ns r = Rises-cons least past _ (Rises-round least past cs ns r)
 
@@ -45,7 +45,7 @@ Rises-rounds lane round (r ∷ rs) =
     let rest = subst (λ past. Rises (round + 1) past (map (λ c. c.round) (calls_from lane (round + 1) rs))) (add_one_in round (length rs)) (Rises-rounds lane (round + 1) rs) in
     let here = filter (λ (c : LaneCall). nat_eq c.lane lane) r.calls in
     subst (λ ns. Rises round (round + suc (length rs)) ns)
-    (sym (map-append (λ (c : Placed). c.round) (map (λ (c : LaneCall). record { round = round; call = c.call }) here) (calls_from lane (round + 1) rs)))
+    (sym (map-append (λ (c : CallInRound). c.round) (map (λ (c : LaneCall). record { round = round; call = c.call }) here) (calls_from lane (round + 1) rs)))
     (Rises-round round (round + suc (length rs)) here _ (Rises-later round (round + suc (length rs)) _ rest))
 
 none_more : (n : ℕ) → 0 + n ≡ n
@@ -54,7 +54,7 @@ none_more n = omega arith
 -- a lane's calls are made round by round
 pub rounds_rise : (s : Script) (lane a b : ℕ) → a ≤ b → round_of s (record { lane = lane; call = a }) ≤ round_of s (record { lane = lane; call = b })
 rounds_rise s lane a b le =
-    subst (λ past. get_or (map (λ (c : Placed). c.round) (calls_of s lane)) a past ≤ get_or (map (λ (c : Placed). c.round) (calls_of s lane)) b past)
+    subst (λ past. get_or (map (λ (c : CallInRound). c.round) (calls_of s lane)) a past ≤ get_or (map (λ (c : CallInRound). c.round) (calls_of s lane)) b past)
     (none_more (length s.rounds)) ((Rises-rounds lane 0 s.rounds).rise a b le)
 
 not_either : (w x y z m n : ℕ) → x ≤ w → z ≤ y → (nat_lt w x || (nat_eq m n && nat_lt y z)) ≡ false

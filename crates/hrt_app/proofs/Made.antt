@@ -1,5 +1,5 @@
 -- A call that makes entries on one lane fits, whatever the run still adds.
-use Rattle.script_text.specs.Objects.{object_lines}
+use Rattle.script_text.specs.Objects.{lines_of_object}
 use Rattle.std.proofs.Common.{arith, refl, sym, ap, ◌∙◌, subst, ◌≡◌, ◌<◌, ℕ, ◌+◌, Bool, true, false, Some, None, is_some, nat_eq, if◌then◌else◌, List, [], ◌∷◌, ◌++◌, length, map, unwrap_or}
 use Rattle.ktime.specs.declared.mode.Mode.{Mode}
 use Rattle.clock_model.specs.declared.write.Write.{Write}
@@ -18,10 +18,10 @@ use Rattle.record_text.specs.declared.record.Answer.{Answer}
 use Rattle.record_text.specs.declared.record.Answer.TheVariants as answers
 use Rattle.record_text.specs.declared.record.RunRecord.{RunRecord}
 use Rattle.script_text.specs.Order.{NeverFall}
-use Rattle.script_text.specs.Histories.{lines_of, reading_at}
-use Rattle.script_text.specs.Dids.{Did, Entered, Tells, numbers_on, wrote}
+use Rattle.script_text.specs.Histories.{lines_of_timer, reading_at}
+use Rattle.script_text.specs.Actions.{Action, Entered, Tells, numbers_on, wrote}
 use Rattle.script_text.specs.Calls.{Fired, Does, IsSeen, AreTrue}
-use Rattle.script_text.specs.Passes.{IsRightPass}
+use Rattle.script_text.specs.ExpiryRuns.{IsRightExpiryRun}
 use Rattle.script_text.specs.Fits.{FitsCall, steps_on, object_steps_on}
 use Rattle.hrt_app.specs.Progress.{Progress, plain, with_entry}
 use Rattle.hrt_app.specs.Callbacks.{start_line}
@@ -33,25 +33,25 @@ use Rattle.hrt_app.proofs.Called.{seen_of, begin, within}
 use Rattle.hrt_app.proofs.Taken.{append_nothing, step_numbers}
 
 -- a call that makes entries, by the record that it leaves
-pub made_called : (s : Script) (number : ℕ) (p next : Progress) (end : RunRecord) (call : Call) (answer : Answer) (fired : List Fired) (ds : List Did) (last : ℕ → ℕ)
+pub made_called : (s : Script) (number : ℕ) (p next : Progress) (end : RunRecord) (call : Call) (answer : Answer) (fired : List Fired) (ds : List Action) (last : ℕ → ℕ)
     → IsRun s number number p → IsRun s number (number + 1) next → Extends (number + 1) next.told end → Extends number p.told end
     → next.told.clock ≡ p.told.clock → wrote ds ≡ []
     → Tells next.told (on number) ds → Does s (length p.told.clock) call answer fired ds → AreTrue s end (on number) [] ds
-    → IsSeen s end (on number) (length p.told.clock) ds call answer → IsRightPass s end (on number) (length p.told.clock) call answer fired ds last
-    → ((u : ℕ) → NeverFall (length (lines_of p.told u)) (steps_on u (length p.told.clock) call answer fired ds last) (length (lines_of next.told u)))
-    → ((i : ℕ) → NeverFall (length (object_lines p.told i)) (object_steps_on i call answer ds) (length (object_lines next.told i)))
+    → IsSeen s end (on number) (length p.told.clock) ds call answer → IsRightExpiryRun s end (on number) (length p.told.clock) call answer fired ds last
+    → ((u : ℕ) → NeverFall (length (lines_of_timer p.told u)) (steps_on u (length p.told.clock) call answer fired ds last) (length (lines_of_timer next.told u)))
+    → ((i : ℕ) → NeverFall (length (lines_of_object p.told i)) (object_steps_on i call answer ds) (length (lines_of_object next.told i)))
     → FitsCall s end (on number) call answer (seen_of p.told) (seen_of next.told)
 made_called s number p next end call answer fired ds last run run_after e back same none tells does looks seen pass steps objects = record {
   at = length p.told.clock;
   fired = fired;
-  dids = ds;
+  actions = ds;
   last = last;
   tells = tells_end number next.told end ds e tells;
   does = does;
   reading = point_of_clock s number p end [] (begin s number p run) back (tells_start s number p run);
   looks = looks;
   seen = seen;
-  pass = pass;
+  expiry_run = pass;
   clock_steps = subst (λ ws. NeverFall (length p.told.clock) (length p.told.clock ∷ map (λ (w : ℕ × Write). w.0) ws) (length next.told.clock)) (sym none) (omega arith, omega (arith, ap length same));
   timer_steps = steps;
   object_steps = objects;
@@ -60,20 +60,20 @@ made_called s number p next end call answer fired ds last run run_after e back s
 -- a call that makes one entry
 pub entry_called : (s : Script) (number : ℕ) (p : Progress) (t : ℕ) (event : Event) (entry : Entry) (end : RunRecord) (call : Call) (answer : Answer)
     → IsRun s number number p → IsStep s p number t (plain event entry) → Extends (number + 1) (with_entry p (on number) t event entry).told end
-    → Does s (length p.told.clock) call answer [] (Entered t (length (lines_of p.told t) + 1) entry ∷ [])
-    → IsSeen s end (on number) (length p.told.clock) (Entered t (length (lines_of p.told t) + 1) entry ∷ []) call answer
-    → IsRightPass s end (on number) (length p.told.clock) call answer [] (Entered t (length (lines_of p.told t) + 1) entry ∷ []) (λ u. 0)
-    → ((u : ℕ) → steps_on u (length p.told.clock) call answer [] (Entered t (length (lines_of p.told t) + 1) entry ∷ []) (λ u. 0) ≡ numbers_on u (Entered t (length (lines_of p.told t) + 1) entry ∷ []))
-    → ((i : ℕ) → object_steps_on i call answer (Entered t (length (lines_of p.told t) + 1) entry ∷ []) ≡ [])
+    → Does s (length p.told.clock) call answer [] (Entered t (length (lines_of_timer p.told t) + 1) entry ∷ [])
+    → IsSeen s end (on number) (length p.told.clock) (Entered t (length (lines_of_timer p.told t) + 1) entry ∷ []) call answer
+    → IsRightExpiryRun s end (on number) (length p.told.clock) call answer [] (Entered t (length (lines_of_timer p.told t) + 1) entry ∷ []) (λ u. 0)
+    → ((u : ℕ) → steps_on u (length p.told.clock) call answer [] (Entered t (length (lines_of_timer p.told t) + 1) entry ∷ []) (λ u. 0) ≡ numbers_on u (Entered t (length (lines_of_timer p.told t) + 1) entry ∷ []))
+    → ((i : ℕ) → object_steps_on i call answer (Entered t (length (lines_of_timer p.told t) + 1) entry ∷ []) ≡ [])
     → FitsCall s end (on number) call answer (seen_of p.told) (seen_of (with_entry p (on number) t event entry).told)
 entry_called s number p t event entry end call answer run step e does seen pass steps objects =
     let inside = begin s number p run in
     let x = plain event entry in
-    made_called s number p (with_entry p (on number) t event entry) end call answer [] (Entered t (length (lines_of p.told t) + 1) entry ∷ []) (λ u. 0) run (push_step s p number t x inside step) e
+    made_called s number p (with_entry p (on number) t event entry) end call answer [] (Entered t (length (lines_of_timer p.told t) + 1) entry ∷ []) (λ u. 0) run (push_step s p number t x inside step) e
     (before_step p number t x end (subst (λ n. t < n) (sym run.timers) step.there) (subst (λ n. t < n) (sym run.lists) step.there) (within number _ end e))
     refl refl (tells_step s number p [] t x inside step.there (tells_start s number p run)) does (tt, tt) seen pass
-    (λ u. subst (λ ns. NeverFall (length (lines_of p.told u)) ns (length (lines_of (with_entry p (on number) t event entry).told u))) (sym (steps u)) (step_numbers s p number t x inside step.there u))
-    (λ i. subst (λ ns. NeverFall (length (object_lines p.told i)) ns (length (object_lines p.told i))) (sym (objects i)) (omega arith))
+    (λ u. subst (λ ns. NeverFall (length (lines_of_timer p.told u)) ns (length (lines_of_timer (with_entry p (on number) t event entry).told u))) (sym (steps u)) (step_numbers s p number t x inside step.there u))
+    (λ i. subst (λ ns. NeverFall (length (lines_of_object p.told i)) ns (length (lines_of_object p.told i))) (sym (objects i)) (omega arith))
 
 -- an answer that tells of no state adds no stamp
 pub no_stamp : (b : Bool) (ns : List ℕ) → ns ++ (if b then [] else []) ≡ ns
@@ -97,7 +97,7 @@ pub cancelled_called : (s : Script) (call : ℕ) (p : Progress) (t generation : 
     → FitsCall s end (on call) (calls.Cancel t) (answers.Cancelled generation) (seen_of p.told) (seen_of (with_entry p (on call) t events.Cancel (entries.Cancel generation)).told)
 cancelled_called s call p t generation end run there armed needs e =
     entry_called s call p t events.Cancel (entries.Cancel generation) end (calls.Cancel t) (answers.Cancelled generation) run (cancel_step s p call t generation there armed needs) e
-    (length (lines_of p.told t) + 1, refl) tt tt (λ u. no_stamp (nat_eq t u) (numbers_on u (Entered t (length (lines_of p.told t) + 1) (entries.Cancel generation) ∷ []))) (λ i. refl)
+    (length (lines_of_timer p.told t) + 1, refl) tt tt (λ u. no_stamp (nat_eq t u) (numbers_on u (Entered t (length (lines_of_timer p.told t) + 1) (entries.Cancel generation) ∷ []))) (λ i. refl)
 
 -- the stamp of the reading names it in every record that the run can end in
 pub reading_of_clock : (s : Script) (p : Progress) (call : ℕ) (clock : List ClockLine) → IsRun s call (call + 1) p → Continues (λ (l : ClockLine). l.label) call p.told.clock clock → reading_at clock p.reading.stamp ≡ p.reading
@@ -123,7 +123,7 @@ pub started_called : (s : Script) (call : ℕ) (p : Progress) (t : ℕ) (mode : 
 started_called s call p t mode ns asked generation base was next end run there starts e =
     let timer = timer_at p.timers t in
     let line = start_line timer p.reading mode ns asked in
-    let number = length (lines_of p.told t) + 1 in
+    let number = length (lines_of_timer p.told t) + 1 in
     let step = start_step s p call t mode ns asked (begin s call p run) there starts.needs in
     subst (λ (q : Progress). FitsCall s end (on call) (calls.Start t mode ns asked) (answers.Started generation base was) (seen_of p.told) (seen_of q.told)) (sym starts.goes_on)
     (entry_called s call p t (events.Start mode ns p.reading asked) line end (calls.Start t mode ns asked) (answers.Started generation base was) run step

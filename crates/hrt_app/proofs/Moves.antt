@@ -14,8 +14,8 @@ use Rattle.record_text.specs.declared.record.Entry.TheVariants as entries
 use Rattle.record_text.specs.declared.record.Answer.TheVariants as answers
 use Rattle.record_text.specs.declared.record.RunRecord.{RunRecord}
 use Rattle.script_text.specs.Order.{NeverFall}
-use Rattle.script_text.specs.Histories.{lines_of}
-use Rattle.script_text.specs.Dids.{Wrote, Entered, numbers_on}
+use Rattle.script_text.specs.Histories.{lines_of_timer}
+use Rattle.script_text.specs.Actions.{Wrote, Entered, numbers_on}
 use Rattle.script_text.specs.Fits.{FitsCall}
 use Rattle.record_text.specs.declared.record.Label.{Label}
 use Rattle.hrt_app.specs.Progress.{Progress, Step, clock_line, plain, with_entry, with_step, with_steps, with_write}
@@ -68,7 +68,7 @@ moved_called s call p t mode ns asked generation base was next end run there sta
     let line = start_line moved p.reading mode ns asked in
     let xs = move_steps timer p.reading mode ns asked in
     let taken = move_taken s p call t mode ns asked inside there starts.needs_out starts.needs in
-    let n = length (lines_of p.told t) in
+    let n = length (lines_of_timer p.told t) in
     let goes_on = moved_on p next (on call) t mode ns asked generation base was (subst (λ n. t < n) (sym run.timers) there) starts in
     let ends = subst (λ (q : Progress). Extends (call + 1) q.told end) goes_on e in
     subst (λ (q : Progress). FitsCall s end (on call) (calls.Start t mode ns asked) (answers.Started generation base was) (seen_of p.told) (seen_of q.told)) (sym goes_on)
@@ -83,7 +83,7 @@ moved_called s call p t mode ns asked generation base was next end run there sta
       refl,
     )
     (tt, (tt, tt)) tt tt
-    (λ u. subst (λ ns'. NeverFall (length (lines_of p.told u)) ns' (length (lines_of (with_steps p (on call) t xs).told u))) (sym (no_stamp (nat_eq t u) (numbers_on u (Entered t (n + 1) out ∷ Entered t (n + 1 + 1) line ∷ []))))
+    (λ u. subst (λ ns'. NeverFall (length (lines_of_timer p.told u)) ns' (length (lines_of_timer (with_steps p (on call) t xs).told u))) (sym (no_stamp (nat_eq t u) (numbers_on u (Entered t (n + 1) out ∷ Entered t (n + 1 + 1) line ∷ []))))
     (steps_numbers s call t xs p inside taken u))
     (λ i. omega arith))
   where
@@ -101,14 +101,14 @@ wrote_called s call p w end run accepted e =
     record {
       at = length p.told.clock;
       fired = [];
-      dids = Wrote (length p.told.clock + 1) w ∷ [];
+      actions = Wrote (length p.told.clock + 1) w ∷ [];
       last = λ u. 0;
       tells = tells_end call next.told end _ e (tells_write call p [] w told);
       does = refl;
       reading = point_of_clock s call p end [] inside back told;
       looks = (tt, tt);
       seen = tt;
-      pass = tt;
+      expiry_run = tt;
       clock_steps = (omega arith, (omega arith, omega (arith, length-append p.told.clock (clock_line (on call) w (after_write p.reading w) ∷ []))));
       timer_steps = λ u. omega arith;
       object_steps = λ i. omega arith;
@@ -125,14 +125,14 @@ range_called s call p w would_be end run counted late same e =
     record {
       at = length p.told.clock;
       fired = [];
-      dids = [];
+      actions = [];
       last = λ u. 0;
       tells = tells_end call p.told end [] e told;
       does = refl;
       reading = point_of_clock s call p end [] inside back told;
       looks = tt;
       seen = record { counted = subst (λ n. n < last_stamp) run.stamp counted; late = late; greatest = same ∙ ap (λ r. greatest (after_write r w)) (sym (run.reading_now end.clock back.clock)) };
-      pass = tt;
+      expiry_run = tt;
       clock_steps = (omega arith, omega arith);
       timer_steps = λ u. omega arith;
       object_steps = λ i. omega arith;

@@ -35,15 +35,15 @@ IsMadeAs s i (Fd t) = (kind_of s i ≡ kinds.Fd t.base) × (t.clock ≡ clock_of
 
 -- entries, read with these writes of the clock, are a POSIX timer's history, and leave it so
 pub record IsPosixLed (s : Script) (clock : List ClockLine) (i : ℕ) (es : List ObjectEntry) (t : PosixTimer) : Type 0 where
-  pub all : AllByRecursion (λ e. is_some (posix_lines.entry_of clock e) ≡ true) es
-  pub legal : posix.IsLegal (clock_of s i) t.base s.limit (present (map (posix_lines.entry_of clock) es))
-  pub state : posix.state_after (clock_of s i) t.base s.limit (present (map (posix_lines.entry_of clock) es)) ≡ t
+  pub all : AllByRecursion (λ e. is_some (posix_lines.posix_entry clock e) ≡ true) es
+  pub legal : posix.IsLegal (clock_of s i) t.base s.limit (present (map (posix_lines.posix_entry clock) es))
+  pub state : posix.state_after (clock_of s i) t.base s.limit (present (map (posix_lines.posix_entry clock) es)) ≡ t
 
 -- a descriptor's
 pub record IsFdLed (s : Script) (clock : List ClockLine) (i : ℕ) (es : List ObjectEntry) (t : Descriptor) : Type 0 where
-  pub all : AllByRecursion (λ e. is_some (fd_lines.entry_of clock e) ≡ true) es
-  pub legal : fd.IsLegal (clock_of s i) t.base s.limit (present (map (fd_lines.entry_of clock) es))
-  pub state : fd.state_after (clock_of s i) t.base s.limit (present (map (fd_lines.entry_of clock) es)) ≡ t
+  pub all : AllByRecursion (λ e. is_some (fd_lines.fd_entry clock e) ≡ true) es
+  pub legal : fd.IsLegal (clock_of s i) t.base s.limit (present (map (fd_lines.fd_entry clock) es))
+  pub state : fd.state_after (clock_of s i) t.base s.limit (present (map (fd_lines.fd_entry clock) es)) ≡ t
 
 -- those of an object; a timer by itself has none
 abbrev pub IsLed : Script → List ClockLine → ℕ → List ObjectEntry → Object → Type 0
@@ -59,8 +59,8 @@ Allows o call = ⊥
 
 -- an entry, read with these writes of the clock, is this call on the object, with its answer
 abbrev pub ShowsCall : List ClockLine → Object → ObjectCall → ObjectEntry → Type 0
-ShowsCall clock (Posix t) (OfPosix call) e = posix_lines.entry_of clock e ≡ Some (record { call = call; reply = posix_steps.reply_to t call })
-ShowsCall clock (Fd t) (OfFd call) e = fd_lines.entry_of clock e ≡ Some (record { call = call; reply = fd_steps.reply_to t call })
+ShowsCall clock (Posix t) (OfPosix call) e = posix_lines.posix_entry clock e ≡ Some (record { call = call; reply = posix_steps.reply_to t call })
+ShowsCall clock (Fd t) (OfFd call) e = fd_lines.fd_entry clock e ≡ Some (record { call = call; reply = fd_steps.reply_to t call })
 ShowsCall clock o call e = ⊥
 
 pub either : {A : Type 0} (P : A → Type 0) (b : Bool) (x y : A) → P x → P y → P (if b then x else y)
@@ -122,15 +122,15 @@ fd_steps-append t [] ys a b = b
 fd_steps-append t (x ∷ xs) ys a b = (a.0, a.1, fd_steps-append (fd_steps.after t x.call) xs ys a.2 b)
 
 posix_led : (s : Script) (clock : List ClockLine) (i : ℕ) (es : List ObjectEntry) (t : PosixTimer) (call : posix_calls.Call) (e : ObjectEntry) → IsPosixLed s clock i es t
-    → posix_steps.Needs t call → posix_lines.entry_of clock e ≡ Some (record { call = call; reply = posix_steps.reply_to t call }) → IsPosixLed s clock i (es ++ e ∷ []) (posix_steps.after t call)
+    → posix_steps.Needs t call → posix_lines.posix_entry clock e ≡ Some (record { call = call; reply = posix_steps.reply_to t call }) → IsPosixLed s clock i (es ++ e ∷ []) (posix_steps.after t call)
 posix_led s clock i es t call e led needs shows =
     let next = posix_next t call in
     let x : posix.Entry = record { call = call; reply = posix_steps.reply_to t call } in
-    let now = present (map (posix_lines.entry_of clock) es) in
-    let more = present_push (posix_lines.entry_of clock) es e x shows in
+    let now = present (map (posix_lines.posix_entry clock) es) in
+    let more = present_push (posix_lines.posix_entry clock) es e x shows in
     let opening = posix_states.opening (clock_of s i) t.base s.limit in
     record {
-      all = All-append (λ o. is_some (posix_lines.entry_of clock o) ≡ true) es (e ∷ []) led.all (ap is_some shows, tt);
+      all = All-append (λ o. is_some (posix_lines.posix_entry clock o) ≡ true) es (e ∷ []) led.all (ap is_some shows, tt);
       legal = subst (λ xs. posix.IsLegal (clock_of s i) (posix_steps.after t call).base s.limit xs) (sym more)
           (subst (λ b. posix.IsLegal (clock_of s i) b s.limit (now ++ x ∷ [])) (sym next.base)
           (posix_steps-append opening now (x ∷ []) led.legal (subst (λ u. posix.AreSteps u (x ∷ [])) (sym led.state) (needs, refl, tt))));
@@ -140,15 +140,15 @@ posix_led s clock i es t call e led needs shows =
     }
 
 fd_led : (s : Script) (clock : List ClockLine) (i : ℕ) (es : List ObjectEntry) (t : Descriptor) (call : fd_calls.Call) (e : ObjectEntry) → IsFdLed s clock i es t
-    → fd_steps.Needs t call → fd_lines.entry_of clock e ≡ Some (record { call = call; reply = fd_steps.reply_to t call }) → IsFdLed s clock i (es ++ e ∷ []) (fd_steps.after t call)
+    → fd_steps.Needs t call → fd_lines.fd_entry clock e ≡ Some (record { call = call; reply = fd_steps.reply_to t call }) → IsFdLed s clock i (es ++ e ∷ []) (fd_steps.after t call)
 fd_led s clock i es t call e led needs shows =
     let next = fd_next t call in
     let x : fd.Entry = record { call = call; reply = fd_steps.reply_to t call } in
-    let now = present (map (fd_lines.entry_of clock) es) in
-    let more = present_push (fd_lines.entry_of clock) es e x shows in
+    let now = present (map (fd_lines.fd_entry clock) es) in
+    let more = present_push (fd_lines.fd_entry clock) es e x shows in
     let opening = fd_states.opening (clock_of s i) t.base s.limit in
     record {
-      all = All-append (λ o. is_some (fd_lines.entry_of clock o) ≡ true) es (e ∷ []) led.all (ap is_some shows, tt);
+      all = All-append (λ o. is_some (fd_lines.fd_entry clock o) ≡ true) es (e ∷ []) led.all (ap is_some shows, tt);
       legal = subst (λ xs. fd.IsLegal (clock_of s i) (fd_steps.after t call).base s.limit xs) (sym more)
           (subst (λ b. fd.IsLegal (clock_of s i) b s.limit (now ++ x ∷ [])) (sym next.base)
           (fd_steps-append opening now (x ∷ []) led.legal (subst (λ u. fd.AreSteps u (x ∷ [])) (sym led.state) (needs, refl, tt))));

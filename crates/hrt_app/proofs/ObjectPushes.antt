@@ -11,8 +11,8 @@ use Rattle.record_text.specs.declared.record.ObjectLine.{ObjectLine}
 use Rattle.record_text.specs.declared.record.RunRecord.{RunRecord}
 use Rattle.record_text.specs.declared.record.Skip.{Skip}
 use Rattle.script_text.specs.Calls.{IsObjectPoint}
-use Rattle.script_text.specs.Dids.{Did, Made, Skipped, Tells, also, entered, looked, made, own, own_skips, skipped, skips_under, wrote}
-use Rattle.script_text.specs.Objects.{object_lines}
+use Rattle.script_text.specs.Actions.{Action, Made, Skipped, Tells, also, entered, looked, made, own, own_skips, skipped, skips_under, wrote}
+use Rattle.script_text.specs.Objects.{lines_of_object}
 use Rattle.script_text.specs.Order.{IsPoint, is_label}
 use Rattle.hrt_app.specs.declared.objects.Object.{Object}
 use Rattle.hrt_app.specs.Objects.{ObjectStep, after_call, object_at}
@@ -38,7 +38,7 @@ pub record IsObjectStep (s : Script) (p : Progress) (call i : ℕ) (x : ObjectSt
   pub shows : (clock : List ClockLine) → Continues (λ (l : ClockLine). l.label) call p.told.clock clock → ShowsCall clock (object_at p.objects i) x.call x.entry
 
 -- what holds of every object's lines still holds where one of them has new lines, if it holds of these
-pub at_lines : (P : ℕ → List ObjectLine → Type 0) (p : Progress) (i : ℕ) (new : List ObjectLine) → i < length p.told.objects → P i new → ((u : ℕ) → u ≢ i → P u (object_lines p.told u))
+pub at_lines : (P : ℕ → List ObjectLine → Type 0) (p : Progress) (i : ℕ) (new : List ObjectLine) → i < length p.told.objects → P i new → ((u : ℕ) → u ≢ i → P u (lines_of_object p.told u))
     → (u : ℕ) → P u (get_or (set p.told.objects i new) u [])
 at_lines P p i new some here others u =
     ⊎_elim (λ same. subst (λ v. P v (get_or (set p.told.objects i new) v [])) (sym same) (subst (P i) (sym (get_or-set_same p.told.objects i new [] some)) here))
@@ -47,14 +47,14 @@ at_lines P p i new some here others u =
 
 -- the same, of every object's lines and state
 pub at_object : (P : ℕ → List ObjectLine → Object → Type 0) (p : Progress) (c : Label) (i : ℕ) (x : ObjectStep) → i < length p.objects → i < length p.told.objects
-    → P i (object_lines p.told i ++ object_line c x.entry ∷ []) (after_call (object_at p.objects i) x.call)
-    → ((u : ℕ) → u ≢ i → P u (object_lines p.told u) (object_at p.objects u))
-    → (u : ℕ) → P u (object_lines (with_object p c i x).told u) (object_at (with_object p c i x).objects u)
+    → P i (lines_of_object p.told i ++ object_line c x.entry ∷ []) (after_call (object_at p.objects i) x.call)
+    → ((u : ℕ) → u ≢ i → P u (lines_of_object p.told u) (object_at p.objects u))
+    → (u : ℕ) → P u (lines_of_object (with_object p c i x).told u) (object_at (with_object p c i x).objects u)
 at_object P p c i x some_object some here others =
     let now = after_call (object_at p.objects i) x.call in
-    at_lines (λ u ls. P u ls (object_at (set p.objects i now) u)) p i (object_lines p.told i ++ object_line c x.entry ∷ []) some
-    (subst (P i (object_lines p.told i ++ object_line c x.entry ∷ [])) (sym (get_or-set_same p.objects i now (Raw callbacks.Once) some_object)) here)
-    (λ u apart. subst (P u (object_lines p.told u)) (sym (get_or-set_other p.objects i u now (Raw callbacks.Once) apart)) (others u apart))
+    at_lines (λ u ls. P u ls (object_at (set p.objects i now) u)) p i (lines_of_object p.told i ++ object_line c x.entry ∷ []) some
+    (subst (P i (lines_of_object p.told i ++ object_line c x.entry ∷ [])) (sym (get_or-set_same p.objects i now (Raw callbacks.Once) some_object)) here)
+    (λ u apart. subst (P u (lines_of_object p.told u)) (sym (get_or-set_other p.objects i u now (Raw callbacks.Once) apart)) (others u apart))
 
 -- a record that goes on from one with one more entry goes on from the one without it
 pub before_object : (p : Progress) (call i : ℕ) (x : ObjectStep) (end : RunRecord) → i < length p.told.objects → Extends call (with_object p (on call) i x).told end → Extends call p.told end
@@ -62,8 +62,8 @@ before_object p call i x end some e = record {
   clock = e.clock;
   timers = e.timers;
   looks = e.looks;
-  objects = λ u. at_lines (λ v ls. Grows call ls (object_lines end v) → Grows call (object_lines p.told v) (object_lines end v)) p i (object_lines p.told i ++ object_line (on call) x.entry ∷ []) some
-      (Grows-line call (object_lines p.told i) (object_line (on call) x.entry) (object_lines end i) (refl, omega arith) refl)
+  objects = λ u. at_lines (λ v ls. Grows call ls (lines_of_object end v) → Grows call (lines_of_object p.told v) (lines_of_object end v)) p i (lines_of_object p.told i ++ object_line (on call) x.entry ∷ []) some
+      (Grows-line call (lines_of_object p.told i) (object_line (on call) x.entry) (lines_of_object end i) (refl, omega arith) refl)
       (λ v apart grows. grows) u (e.objects u);
 }
 
@@ -79,7 +79,7 @@ push_object s p call i x run step =
       declared = length-set p.objects i _ ∙ run.declared;
       object_lists = length-set p.told.objects i _ ∙ run.object_lists;
       objects = at_object (λ u ls o. IsObjectRun s call (call + 1) u p.told.clock ls o) p (on call) i x some_object some
-          (object_entered s call i p.told.clock (object_lines p.told i) (object_at p.objects i) x (run.objects i) step.allows step.shows)
+          (object_entered s call i p.told.clock (lines_of_object p.told i) (object_at p.objects i) x (run.objects i) step.allows step.shows)
           (λ u apart. run.objects u);
       clock_below = run.clock_below;
       timers_below = run.timers_below;
@@ -99,12 +99,12 @@ before_skip p call i generation end some e = record {
   clock = e.clock;
   timers = e.timers;
   looks = e.looks;
-  objects = λ u. at_lines (λ v ls. Grows call ls (object_lines end v) → Grows call (object_lines p.told v) (object_lines end v)) p i (under_last (object_lines p.told i) (record { label = on call; generation = generation })) some
-      (Grows-under call (object_lines p.told i) (record { label = on call; generation = generation }) (object_lines end i) (refl, omega arith))
+  objects = λ u. at_lines (λ v ls. Grows call ls (lines_of_object end v) → Grows call (lines_of_object p.told v) (lines_of_object end v)) p i (under_last (lines_of_object p.told i) (record { label = on call; generation = generation })) some
+      (Grows-under call (lines_of_object p.told i) (record { label = on call; generation = generation }) (lines_of_object end i) (refl, omega arith))
       (λ v apart grows. grows) u (e.objects u);
 }
 
-pub push_skip : (s : Script) (p : Progress) (call i generation : ℕ) → IsRun s call (call + 1) p → i < length s.timers → AllByRecursion (λ (l : ObjectLine). AreBelow call l.skips) (object_lines p.told i)
+pub push_skip : (s : Script) (p : Progress) (call i generation : ℕ) → IsRun s call (call + 1) p → i < length s.timers → AllByRecursion (λ (l : ObjectLine). AreBelow call l.skips) (lines_of_object p.told i)
     → IsRun s call (call + 1) (with_skip p (on call) i generation)
 push_skip s p call i generation run there fresh =
     let some : i < length p.told.objects = subst (λ n. i < n) (sym run.object_lists) there in
@@ -115,8 +115,8 @@ push_skip s p call i generation run there fresh =
       lists = run.lists;
       declared = run.declared;
       object_lists = length-set p.told.objects i _ ∙ run.object_lists;
-      objects = at_lines (λ u ls. IsObjectRun s call (call + 1) u p.told.clock ls (object_at p.objects u)) p i (under_last (object_lines p.told i) (record { label = on call; generation = generation })) some
-          (object_skipped s call i generation p.told.clock (object_lines p.told i) (object_at p.objects i) (run.objects i) fresh)
+      objects = at_lines (λ u ls. IsObjectRun s call (call + 1) u p.told.clock ls (object_at p.objects u)) p i (under_last (lines_of_object p.told i) (record { label = on call; generation = generation })) some
+          (object_skipped s call i generation p.told.clock (lines_of_object p.told i) (object_at p.objects i) (run.objects i) fresh)
           (λ u apart. run.objects u);
       clock_below = run.clock_below;
       timers_below = run.timers_below;
@@ -139,26 +139,26 @@ one_first : (n : ℕ) → 1 + n ≡ n + 1
 one_first n = omega arith
 
 -- one more entry of an object is told
-pub tells_object : (s : Script) (call : ℕ) (p : Progress) (ds : List Did) (i : ℕ) (x : ObjectStep) → IsRun s call (call + 1) p → i < length s.timers → Tells p.told (on call) ds
-    → Tells (with_object p (on call) i x).told (on call) (ds ++ Made i (length (object_lines p.told i) + 1) x.entry ∷ [])
+pub tells_object : (s : Script) (call : ℕ) (p : Progress) (ds : List Action) (i : ℕ) (x : ObjectStep) → IsRun s call (call + 1) p → i < length s.timers → Tells p.told (on call) ds
+    → Tells (with_object p (on call) i x).told (on call) (ds ++ Made i (length (lines_of_object p.told i) + 1) x.entry ∷ [])
 tells_object s call p ds i x run there tells =
     let some : i < length p.told.objects = subst (λ n. i < n) (sym run.object_lists) there in
-    let n = length (object_lines p.told i) in
+    let n = length (lines_of_object p.told i) in
     let more = Made i (n + 1) x.entry ∷ [] in
     let line = object_line (on call) x.entry in
     record {
       clock = tells.clock ∙ sym (append_nothing (wrote ds)) ∙ sym (wrote_append ds more);
       timers = λ u. tells.timers u ∙ sym (append_nothing (entered u ds)) ∙ sym (entered_append u ds more);
       looks = λ u. tells.looks u ∙ sym (append_nothing (looked u ds)) ∙ sym (looked_append u ds more);
-      objects = at_lines (λ u ls. own (λ (l : ObjectLine). l.label) (λ (l : ObjectLine). l.entry) (on call) 1 ls ≡ made u (ds ++ more)) p i (object_lines p.told i ++ line ∷ []) some
-          (own_push _ _ (on call) 1 (object_lines p.told i) line refl
-          ∙ ap (λ m. own (λ (l : ObjectLine). l.label) (λ (l : ObjectLine). l.entry) (on call) 1 (object_lines p.told i) ++ (m, x.entry) ∷ []) (one_first n)
+      objects = at_lines (λ u ls. own (λ (l : ObjectLine). l.label) (λ (l : ObjectLine). l.entry) (on call) 1 ls ≡ made u (ds ++ more)) p i (lines_of_object p.told i ++ line ∷ []) some
+          (own_push _ _ (on call) 1 (lines_of_object p.told i) line refl
+          ∙ ap (λ m. own (λ (l : ObjectLine). l.label) (λ (l : ObjectLine). l.entry) (on call) 1 (lines_of_object p.told i) ++ (m, x.entry) ∷ []) (one_first n)
           ∙ ap (λ ps. ps ++ (n + 1, x.entry) ∷ []) (tells.objects i)
           ∙ ap (λ b. made i ds ++ also b (n + 1, x.entry) []) (sym (nat_eq_same i))
           ∙ sym (made_append i ds more))
           (λ u apart. tells.objects u ∙ sym (append_nothing (made u ds)) ∙ ap (λ b. made u ds ++ also b (n + 1, x.entry) []) (sym (nat_eq_apart i u apart)) ∙ sym (made_append u ds more));
-      skips = at_lines (λ u ls. own_skips (on call) 1 ls ≡ skipped u (ds ++ more)) p i (object_lines p.told i ++ line ∷ []) some
-          (skips_push (on call) 1 (object_lines p.told i) line refl ∙ tells.skips i ∙ sym (append_nothing (skipped i ds)) ∙ sym (skipped_append i ds more))
+      skips = at_lines (λ u ls. own_skips (on call) 1 ls ≡ skipped u (ds ++ more)) p i (lines_of_object p.told i ++ line ∷ []) some
+          (skips_push (on call) 1 (lines_of_object p.told i) line refl ∙ tells.skips i ∙ sym (append_nothing (skipped i ds)) ∙ sym (skipped_append i ds more))
           (λ u apart. tells.skips u ∙ sym (append_nothing (skipped u ds)) ∙ sym (skipped_append u ds more));
     }
 
@@ -193,32 +193,32 @@ skips_of_last call (l ∷ ls) generation some =
     one_more n = omega arith
 
 -- one more expiry that an object refused is told
-pub tells_skip : (s : Script) (call : ℕ) (p : Progress) (ds : List Did) (i generation : ℕ) → IsRun s call (call + 1) p → i < length s.timers → 0 < length (object_lines p.told i) → Tells p.told (on call) ds
-    → Tells (with_skip p (on call) i generation).told (on call) (ds ++ Skipped i (length (object_lines p.told i)) generation ∷ [])
+pub tells_skip : (s : Script) (call : ℕ) (p : Progress) (ds : List Action) (i generation : ℕ) → IsRun s call (call + 1) p → i < length s.timers → 0 < length (lines_of_object p.told i) → Tells p.told (on call) ds
+    → Tells (with_skip p (on call) i generation).told (on call) (ds ++ Skipped i (length (lines_of_object p.told i)) generation ∷ [])
 tells_skip s call p ds i generation run there filled tells =
     let some : i < length p.told.objects = subst (λ n. i < n) (sym run.object_lists) there in
-    let n = length (object_lines p.told i) in
+    let n = length (lines_of_object p.told i) in
     let more = Skipped i n generation ∷ [] in
-    let new = under_last (object_lines p.told i) (record { label = on call; generation = generation }) in
+    let new = under_last (lines_of_object p.told i) (record { label = on call; generation = generation }) in
     record {
       clock = tells.clock ∙ sym (append_nothing (wrote ds)) ∙ sym (wrote_append ds more);
       timers = λ u. tells.timers u ∙ sym (append_nothing (entered u ds)) ∙ sym (entered_append u ds more);
       looks = λ u. tells.looks u ∙ sym (append_nothing (looked u ds)) ∙ sym (looked_append u ds more);
       objects = at_lines (λ u ls. own (λ (l : ObjectLine). l.label) (λ (l : ObjectLine). l.entry) (on call) 1 ls ≡ made u (ds ++ more)) p i new some
-          (own_under (on call) 1 (object_lines p.told i) (record { label = on call; generation = generation }) ∙ tells.objects i ∙ sym (append_nothing (made i ds)) ∙ sym (made_append i ds more))
+          (own_under (on call) 1 (lines_of_object p.told i) (record { label = on call; generation = generation }) ∙ tells.objects i ∙ sym (append_nothing (made i ds)) ∙ sym (made_append i ds more))
           (λ u apart. tells.objects u ∙ sym (append_nothing (made u ds)) ∙ sym (made_append u ds more));
       skips = at_lines (λ u ls. own_skips (on call) 1 ls ≡ skipped u (ds ++ more)) p i new some
-          (skips_of_last call (object_lines p.told i) generation filled ∙ ap (λ ps. ps ++ (n, generation) ∷ []) (tells.skips i)
+          (skips_of_last call (lines_of_object p.told i) generation filled ∙ ap (λ ps. ps ++ (n, generation) ∷ []) (tells.skips i)
           ∙ ap (λ b. skipped i ds ++ also b (n, generation) []) (sym (nat_eq_same i)) ∙ sym (skipped_append i ds more))
           (λ u apart. tells.skips u ∙ sym (append_nothing (skipped u ds)) ∙ ap (λ b. skipped u ds ++ also b (n, generation) []) (sym (nat_eq_apart i u apart)) ∙ sym (skipped_append u ds more));
     }
 
 -- at each moment of a call, what an object's list then had is a point of the call
-pub point_of_object : (s : Script) (call : ℕ) (p : Progress) (end : RunRecord) (ds : List Did) → IsRun s call (call + 1) p → Extends call p.told end → Tells p.told (on call) ds
-    → (i : ℕ) → IsObjectPoint s end (on call) ds i (length (object_lines p.told i))
+pub point_of_object : (s : Script) (call : ℕ) (p : Progress) (end : RunRecord) (ds : List Action) → IsRun s call (call + 1) p → Extends call p.told end → Tells p.told (on call) ds
+    → (i : ℕ) → IsObjectPoint s end (on call) ds i (length (lines_of_object p.told i))
 point_of_object s call p end ds run e tells i =
-    let now = object_lines p.told i in
-    let more = grown_labels call now (object_lines end i) (e.objects i) in
+    let now = lines_of_object p.told i in
+    let more = grown_labels call now (lines_of_object end i) (e.objects i) in
     subst (λ labels. IsPoint s (on call) (length (made i ds)) (length now) labels) (sym more.more)
     (subst (λ n. IsPoint s (on call) (length (made i ds)) n (map (λ (l : ObjectLine). l.label) now ++ more.rest)) (length-map now (λ (l : ObjectLine). l.label))
     (point_at_seam s (on call) (length (made i ds)) (map (λ (l : ObjectLine). l.label) now) more.rest (up_to call _ (run.objects i).labels_below) more.later

@@ -15,7 +15,7 @@ use Rattle.script_text.specs.Fits.{FitsCall}
 use Rattle.script_text.specs.Forms.{suits}
 use Rattle.script_text.specs.Histories.{reading_at}
 use Rattle.script_text.specs.ObjectCalls.{DoesGettime, base_of}
-use Rattle.script_text.specs.Objects.{fd_after, kind_of, object_lines, posix_after}
+use Rattle.script_text.specs.Objects.{fd_after, kind_of, lines_of_object, posix_after}
 use Rattle.hrt_app.specs.declared.objects.Object.{Object}
 use Rattle.hrt_app.specs.declared.objects.Object.TheVariants.{Raw, Posix, Fd}
 use Rattle.hrt_app.specs.declared.renewals.Renewal.TheVariants as renewals
@@ -48,13 +48,13 @@ suited_limit s number p t form run never suit =
 posix_kept : (s : Script) (number t : ℕ) (p : Progress) (end : RunRecord) (x : PosixTimer) → IsRun s number number p → Extends number p.told end → Posix x ≡ object_at p.objects t
     → posix_after s end t (base_of (kind_of s t)) (entries_of (object_at p.objects t)) ≡ x
 posix_kept s number t p end x run e is =
-    let own : IsObjectRun s number number t p.told.clock (object_lines p.told t) (Posix x) = subst (λ o. IsObjectRun s number number t p.told.clock (object_lines p.told t) o) (sym is) (run.objects t) in
+    let own : IsObjectRun s number number t p.told.clock (lines_of_object p.told t) (Posix x) = subst (λ o. IsObjectRun s number number t p.told.clock (lines_of_object p.told t) o) (sym is) (run.objects t) in
     ap (λ k. posix_after s end t (base_of k) (entries_of (object_at p.objects t))) own.made.0 ∙ ap (posix_after s end t x.base) (run.objects t).counted ∙ posix_is s number number t p.told end x own e
 
 fd_kept : (s : Script) (number t : ℕ) (p : Progress) (end : RunRecord) (x : Descriptor) → IsRun s number number p → Extends number p.told end → Fd x ≡ object_at p.objects t
     → fd_after s end t (base_of (kind_of s t)) (entries_of (object_at p.objects t)) ≡ x
 fd_kept s number t p end x run e is =
-    let own : IsObjectRun s number number t p.told.clock (object_lines p.told t) (Fd x) = subst (λ o. IsObjectRun s number number t p.told.clock (object_lines p.told t) o) (sym is) (run.objects t) in
+    let own : IsObjectRun s number number t p.told.clock (lines_of_object p.told t) (Fd x) = subst (λ o. IsObjectRun s number number t p.told.clock (lines_of_object p.told t) o) (sym is) (run.objects t) in
     ap (λ k. fd_after s end t (base_of k) (entries_of (object_at p.objects t))) own.made.0 ∙ ap (fd_after s end t x.base) (run.objects t).counted ∙ fd_is s number number t p.told end x own e
 
 made_as : (s : Script) (number t : ℕ) (p : Progress) (o : Object) → IsRun s number number p → o ≡ object_at p.objects t → kind_of s t ≡ kind_in o

@@ -4,7 +4,7 @@ use Rattle.std.proofs.lemmas.Bool.Decides.{nat_tests}
 use Rattle.std.specs.List.{AllByRecursion}
 use Rattle.record_text.specs.declared.record.Label.{Label}
 use Rattle.script_text.specs.Order.{is_label, made_by}
-use Rattle.script_text.specs.Dids.{own, also}
+use Rattle.script_text.specs.Actions.{own, also}
 
 also_append : {A : Type 0} (b : Bool) (x : A) (xs ys : List A) → also b x (xs ++ ys) ≡ also b x xs ++ ys
 also_append true x xs ys = refl

@@ -14,11 +14,11 @@ use Rattle.record_text.specs.declared.record.Restart.{Restart}
 use Rattle.record_text.specs.declared.record.Restart.TheVariants as restarts
 use Rattle.record_text.specs.declared.record.RunRecord.{RunRecord}
 use Rattle.script_text.specs.Order.{NeverFall}
-use Rattle.script_text.specs.Histories.{clock_of, lines_of, reading_at, timer_after}
-use Rattle.script_text.specs.Objects.{kind_of, object_lines}
-use Rattle.script_text.specs.Dids.{Did, Tells, numbers_on, numbers_of_object, wrote}
+use Rattle.script_text.specs.Histories.{clock_of, lines_of_timer, reading_at, timer_after}
+use Rattle.script_text.specs.Objects.{kind_of, lines_of_object}
+use Rattle.script_text.specs.Actions.{Action, Tells, numbers_on, numbers_of_object, wrote}
 use Rattle.script_text.specs.Calls.{Fired, fires, IsBody, AreTrue}
-use Rattle.script_text.specs.Passes.{IsRightClaim, AreRightClaims}
+use Rattle.script_text.specs.ExpiryRuns.{IsFirstDueClaim, AreFirstDueClaims}
 use Rattle.hrt_app.specs.declared.objects.Object.{Object}
 use Rattle.hrt_app.specs.declared.objects.Object.TheVariants.{Raw, Posix, Fd}
 use Rattle.hrt_app.specs.Objects.{object_at, trigger_counts}
@@ -36,14 +36,14 @@ use Rattle.hrt_app.proofs.Triggers.{trigger_dids, trigger_made}
 
 -- what happens between a claim and its finish, the number of the finish, whether a restart was asked for, and what came of it
 pub record Came : Type 0 where
-  pub body : List Did
+  pub body : List Action
   pub finish : ℕ
   pub restart : Bool
   pub rearmed : Restart
 
 abbrev pub came : Object → Progress → ℕ → ℕ → ℕ → Came
 came (Raw callback) p base t generation =
-    let n = length (lines_of p.told t) in
+    let n = length (lines_of_timer p.told t) in
     let act = act_at callback p base t in
     record {
       body = looked_at t (n + 1) act.look ++ act_dids t (n + 1) act.step;
@@ -52,14 +52,14 @@ came (Raw callback) p base t generation =
       rearmed = restart_of (rearmed_by (after_act (running_timer p base t) act.step) act.again);
     }
 came o p base t generation =
-    record { body = trigger_dids t (length (object_lines p.told t)) generation p.reading.stamp (trigger_counts o generation p.reading); finish = length (lines_of p.told t) + 1 + 1; restart = false; rearmed = restarts.None }
+    record { body = trigger_dids t (length (lines_of_object p.told t)) generation p.reading.stamp (trigger_counts o generation p.reading); finish = length (lines_of_timer p.told t) + 1 + 1; restart = false; rearmed = restarts.None }
 
 -- a claimed timer, as the record has it
 abbrev pub firing_of : Object → Progress → ℕ → ℕ → ℕ → Fired
 firing_of o p base t generation = record {
-  seen = λ u. length (lines_of p.told u);
+  seen = λ u. length (lines_of_timer p.told u);
   timer = t;
-  claim = length (lines_of p.told t) + 1;
+  claim = length (lines_of_timer p.told t) + 1;
   generation = generation;
   body = (came o p base t generation).body;
   finish = (came o p base t generation).finish;
@@ -89,7 +89,7 @@ firings p call base (f ∷ fs) = firing p base f.0 f.1 ∷ firings (fired p (on 
 -- a test of a timer, as it was seen at the end of its lines so far
 pub test_seen : (s : Script) (p : Progress) (call : ℕ) (end : RunRecord) (test : Timer → Bool) (u : ℕ) → IsRun s call (call + 1) p → Extends call p.told end
     → ((timer : Timer) → timer.armed ≡ None → timer.running ≡ None → test timer ≡ false)
-    → test (timer_at p.timers u) ≡ false → test (timer_after s end u (length (lines_of p.told u))) ≡ false
+    → test (timer_at p.timers u) ≡ false → test (timer_after s end u (length (lines_of_timer p.told u))) ≡ false
 test_seen s p call end test u run e never now =
     ⊎_elim (λ there. ap test (run.states end e u there) ∙ now)
     (λ past. subst (λ ls. test (timer_after s end u (length ls)) ≡ false) (sym (get_or_past p.told.timers u [] (subst (λ n. n ≤ u) (sym run.lists) past))) (never (opening (clock_of s u) s.limit) refl refl))
@@ -110,36 +110,36 @@ never_smaller base clock expires timer armed running =
     ap (λ g. is_some g && not timer.moving && nat_eq timer.base base && nat_eq (rank timer.clock) (rank clock) && nat_lt timer.expires expires) armed
 
 -- what a pass did, by the record that it leaves
-pub record PassMade (s : Script) (call base at : ℕ) (p next : Progress) (fs : List (ℕ × ℕ)) (before : List Did) : Type 0 where
+pub record PassMade (s : Script) (call base at : ℕ) (p next : Progress) (fs : List (ℕ × ℕ)) (before : List Action) : Type 0 where
   pub run : IsRun s call (call + 1) next
   pub same_clock : next.told.clock ≡ p.told.clock
   pub same_reading : next.reading ≡ p.reading
   pub back : (end : RunRecord) → Extends call next.told end → Extends call p.told end
   pub tells : Tells next.told (on call) (before ++ flat_map (fires base at) (firings p call base fs))
   pub writes_none : wrote (flat_map (fires base at) (firings p call base fs)) ≡ []
-  pub claims : (end : RunRecord) → Extends call next.told end → AreRightClaims s end (on call) at base before (firings p call base fs)
+  pub claims : (end : RunRecord) → Extends call next.told end → AreFirstDueClaims s end (on call) at base before (firings p call base fs)
   pub looks : (end : RunRecord) → Extends call next.told end → AreTrue s end (on call) before (flat_map (fires base at) (firings p call base fs))
-  pub steps : (u : ℕ) → NeverFall (length (lines_of p.told u)) (flat_map (λ f. f.seen u ∷ numbers_on u (fires base at f)) (firings p call base fs)) (length (lines_of next.told u))
-  pub object_steps : (i : ℕ) → NeverFall (length (object_lines p.told i)) (numbers_of_object i (flat_map (fires base at) (firings p call base fs))) (length (object_lines next.told i))
+  pub steps : (u : ℕ) → NeverFall (length (lines_of_timer p.told u)) (flat_map (λ f. f.seen u ∷ numbers_on u (fires base at f)) (firings p call base fs)) (length (lines_of_timer next.told u))
+  pub object_steps : (i : ℕ) → NeverFall (length (lines_of_object p.told i)) (numbers_of_object i (flat_map (fires base at) (firings p call base fs))) (length (lines_of_object next.told i))
   pub timers : map (λ f. f.0) fs ≡ map (λ (f : Fired). f.timer) (firings p call base fs)
   pub bodies : AllByRecursion (λ f. IsBody (kind_of s f.timer) at f) (firings p call base fs)
 
-right_claim : (s : Script) (call base at t generation : ℕ) (p : Progress) (before : List Did) (end : RunRecord) → p.reading.stamp ≡ at → IsRun s call (call + 1) p → IsNext p base t generation → Tells p.told (on call) before → Extends call p.told end
-    → IsRightClaim s end (on call) (reading_at end.clock at) base before (firing p base t generation) (timer_after s end t (length (lines_of p.told t)))
+right_claim : (s : Script) (call base at t generation : ℕ) (p : Progress) (before : List Action) (end : RunRecord) → p.reading.stamp ≡ at → IsRun s call (call + 1) p → IsNext p base t generation → Tells p.told (on call) before → Extends call p.told end
+    → IsFirstDueClaim s end (on call) (reading_at end.clock at) base before (firing p base t generation) (timer_after s end t (length (lines_of_timer p.told t)))
 right_claim s call base at t generation p before end same run next told e =
     let there : t < length s.timers = subst (λ n. t < n) run.timers next.there in
-    let right : IsRightClaim s end (on call) p.reading base before (firing p base t generation) (timer_at p.timers t) = record {
+    let right : IsFirstDueClaim s end (on call) p.reading base before (firing p base t generation) (timer_at p.timers t) = record {
       points = point_of_timer s call p end before run e told;
       next = refl;
       free = λ u. test_seen s p call end (runs_on base) u run e (never_runs base) (next.free u);
       first = λ u. test_seen s p call end (is_ahead base p.reading (timer_at p.timers t).clock) u run e (never_ahead base p.reading (timer_at p.timers t).clock) (next.first u);
       earliest = λ u. test_seen s p call end (is_smaller base (timer_at p.timers t).clock (timer_at p.timers t).expires) u run e (never_smaller base (timer_at p.timers t).clock (timer_at p.timers t).expires) (next.earliest u);
     } in
-    subst (λ r. IsRightClaim s end (on call) r base before (firing p base t generation) (timer_after s end t (length (lines_of p.told t))))
+    subst (λ r. IsFirstDueClaim s end (on call) r base before (firing p base t generation) (timer_after s end t (length (lines_of_timer p.told t))))
     (sym (subst (λ n. reading_at end.clock n ≡ p.reading) same (reading_shown s p call end run e)))
-    (subst (λ timer. IsRightClaim s end (on call) p.reading base before (firing p base t generation) timer) (sym (run.states end e t there)) right)
+    (subst (λ timer. IsFirstDueClaim s end (on call) p.reading base before (firing p base t generation) timer) (sym (run.states end e t there)) right)
 
-pub pass_made : (s : Script) (call base at : ℕ) (fs : List (ℕ × ℕ)) (p next : Progress) (before : List Did) → p.reading.stamp ≡ at → IsRun s call (call + 1) p → ((i : ℕ) → IsFresh call p i)
+pub pass_made : (s : Script) (call base at : ℕ) (fs : List (ℕ × ℕ)) (p next : Progress) (before : List Action) → p.reading.stamp ≡ at → IsRun s call (call + 1) p → ((i : ℕ) → IsFresh call p i)
     → Claims (on call) base p fs next → Tells p.told (on call) before → PassMade s call base at p next fs before
 pass_made s call base at [] p next before same run fresh claims told =
     subst (λ (q : Progress). PassMade s call base at p q [] before) (sym claims) (record {
@@ -174,7 +174,7 @@ pass_made s call base at (f ∷ fs) p next before same run fresh claims told =
       claims = λ end e. (right_claim s call base at f.0 f.1 p before end same run claims.0 told (back end e), rest.claims end e);
       looks = λ end e. made.looks end before more told (rest.back end e) (rest.looks end e);
       steps = λ u. (omega arith, NeverFall-append _ _ _ (numbers_on u mine) _ (made.steps u) (rest.steps u));
-      object_steps = λ i. subst (λ ns. NeverFall (length (object_lines p.told i)) ns (length (object_lines next.told i))) (sym (object_numbers_append i mine more))
+      object_steps = λ i. subst (λ ns. NeverFall (length (lines_of_object p.told i)) ns (length (lines_of_object next.told i))) (sym (object_numbers_append i mine more))
           (NeverFall-append _ _ _ (numbers_of_object i mine) _ (made.object_steps i) (rest.object_steps i));
       timers = ap (λ ts. f.0 ∷ ts) rest.timers;
       bodies = (made.body, rest.bodies);

@@ -15,8 +15,8 @@ use Rattle.record_text.specs.declared.record.Armed.TheVariants as armings
 use Rattle.record_text.specs.declared.record.Entry.TheVariants as entries
 use Rattle.record_text.specs.declared.record.RunRecord.{RunRecord}
 use Rattle.script_text.specs.Calls.{AreTrue, DisarmedFirst, Saw}
-use Rattle.script_text.specs.Dids.{Did, Entered, Looked, Made, Skipped, Tells, Wrote, numbers_of_object, numbers_on, wrote}
-use Rattle.script_text.specs.Histories.{lines_of}
+use Rattle.script_text.specs.Actions.{Action, Entered, Looked, Made, Skipped, Tells, Wrote, numbers_of_object, numbers_on, wrote}
+use Rattle.script_text.specs.Histories.{lines_of_timer}
 use Rattle.script_text.specs.ObjectCalls.{Arms, cancels}
 use Rattle.script_text.specs.Order.{NeverFall}
 use Rattle.hrt_app.specs.Callbacks.{start_line}
@@ -31,18 +31,18 @@ use Rattle.hrt_app.proofs.Called.{saw}
 use Rattle.hrt_app.proofs.Told.{point_of_timer, wrote_append}
 
 -- part of a call: the run goes on, the record tells what was done, and no object has changed
-pub record Phase (s : Script) (call : ℕ) (p next : Progress) (ds : List Did) : Type 0 where
+pub record Phase (s : Script) (call : ℕ) (p next : Progress) (ds : List Action) : Type 0 where
   pub run : IsRun s call (call + 1) next
   pub back : (end : RunRecord) → Extends call next.told end → Extends call p.told end
-  pub tells : (before : List Did) → Tells p.told (on call) before → Tells next.told (on call) (before ++ ds)
-  pub looks : (end : RunRecord) (before rest : List Did) → Tells p.told (on call) before → Extends call next.told end → AreTrue s end (on call) (before ++ ds) rest → AreTrue s end (on call) before (ds ++ rest)
+  pub tells : (before : List Action) → Tells p.told (on call) before → Tells next.told (on call) (before ++ ds)
+  pub looks : (end : RunRecord) (before rest : List Action) → Tells p.told (on call) before → Extends call next.told end → AreTrue s end (on call) (before ++ ds) rest → AreTrue s end (on call) before (ds ++ rest)
   pub clock : next.told.clock ≡ p.told.clock
   pub reading : next.reading ≡ p.reading
   pub objects : next.objects ≡ p.objects
   pub object_lines : next.told.objects ≡ p.told.objects
   pub writes_none : wrote ds ≡ []
   pub objects_none : (i : ℕ) → numbers_of_object i ds ≡ []
-  pub numbers : (u : ℕ) → NeverFall (length (lines_of p.told u)) (numbers_on u ds) (length (lines_of next.told u))
+  pub numbers : (u : ℕ) → NeverFall (length (lines_of_timer p.told u)) (numbers_on u ds) (length (lines_of_timer next.told u))
 
 pub phase_none : (s : Script) (call : ℕ) (p : Progress) → IsRun s call (call + 1) p → Phase s call p p []
 phase_none s call p run = record {
@@ -63,7 +63,7 @@ steps_kept : (p : Progress) (call t : ℕ) (xs : List Step) → ((with_steps p (
 steps_kept p call t [] = (refl, refl)
 steps_kept p call t (x ∷ xs) = steps_kept (with_steps p (on call) t (x ∷ [])) call t xs
 
-pub phase_steps : (s : Script) (call t : ℕ) (xs : List Step) (p : Progress) → IsRun s call (call + 1) p → AreTaken s call t p xs → Phase s call p (with_steps p (on call) t xs) (dids_of t (length (lines_of p.told t)) xs)
+pub phase_steps : (s : Script) (call t : ℕ) (xs : List Step) (p : Progress) → IsRun s call (call + 1) p → AreTaken s call t p xs → Phase s call p (with_steps p (on call) t xs) (dids_of t (length (lines_of_timer p.told t)) xs)
 phase_steps s call t xs p run taken = record {
   run = steps_run s call t xs p run taken;
   back = λ end e. steps_back s call t xs p end run taken e;
@@ -73,13 +73,13 @@ phase_steps s call t xs p run taken = record {
   reading = steps_reading p (on call) t xs;
   objects = (steps_kept p call t xs).0;
   object_lines = (steps_kept p call t xs).1;
-  writes_none = wrote_steps t (length (lines_of p.told t)) xs;
-  objects_none = λ i. steps_object i t (length (lines_of p.told t)) xs;
+  writes_none = wrote_steps t (length (lines_of_timer p.told t)) xs;
+  objects_none = λ i. steps_object i t (length (lines_of_timer p.told t)) xs;
   numbers = λ u. steps_numbers s call t xs p run taken u;
 }
 
 -- one part, and another
-pub phase_then : (s : Script) (call : ℕ) (p q next : Progress) (ds es : List Did) → Phase s call p q ds → Phase s call q next es → Phase s call p next (ds ++ es)
+pub phase_then : (s : Script) (call : ℕ) (p q next : Progress) (ds es : List Action) → Phase s call p q ds → Phase s call q next es → Phase s call p next (ds ++ es)
 phase_then s call p q next ds es one two = record {
   run = two.run;
   back = λ end e. one.back end (two.back end e);
@@ -93,14 +93,14 @@ phase_then s call p q next ds es one two = record {
   object_lines = two.object_lines ∙ one.object_lines;
   writes_none = wrote_append ds es ∙ ap (λ ws. ws ++ wrote es) one.writes_none ∙ two.writes_none;
   objects_none = λ i. object_numbers_append i ds es ∙ ap (λ ns. ns ++ numbers_of_object i es) (one.objects_none i) ∙ two.objects_none i;
-  numbers = λ u. subst (λ ns. NeverFall (length (lines_of p.told u)) ns (length (lines_of next.told u))) (sym (numbers_on_append u ds es)) (NeverFall-append _ _ _ (numbers_on u ds) (numbers_on u es) (one.numbers u) (two.numbers u));
+  numbers = λ u. subst (λ ns. NeverFall (length (lines_of_timer p.told u)) ns (length (lines_of_timer next.told u))) (sym (numbers_on_append u ds es)) (NeverFall-append _ _ _ (numbers_on u ds) (numbers_on u es) (one.numbers u) (two.numbers u));
 }
 
 -- how a timer was disarmed, with its number where there is an entry
 pub record DisarmMade (s : Script) (call t : ℕ) (p next : Progress) : Type 0 where
   pub cancel : Option (ℕ × ℕ)
   pub phase : Phase s call p next (cancels t cancel)
-  pub first : (end : RunRecord) → Extends call p.told end → Tells p.told (on call) [] → (rest : List Did) → DisarmedFirst s end (on call) t (cancels t cancel ++ rest)
+  pub first : (end : RunRecord) → Extends call p.told end → Tells p.told (on call) [] → (rest : List Action) → DisarmedFirst s end (on call) t (cancels t cancel ++ rest)
 
 -- the start that an object wanted is one of this mode and time
 abbrev pub IsWant : Option (Mode × ℕ) → Mode → ℕ → Type 0
@@ -112,13 +112,13 @@ abbrev pub IsArmed : Progress → Progress → ℕ → Option (Mode × ℕ) → 
 IsArmed p next t None arm refused = arm ≡ armings.None
 IsArmed p next t (Some w) armings.None refused = ⊥
 IsArmed p next t (Some w) (armings.Generation generation) refused =
-    (generation ≡ length (lines_of next.told t)) × ((timer_at next.timers t).expires ≡ expiry_from w.0 w.1 (timer_at next.timers t).clock p.reading)
+    (generation ≡ length (lines_of_timer next.told t)) × ((timer_at next.timers t).expires ≡ expiry_from w.0 w.1 (timer_at next.timers t).clock p.reading)
     × ((timer_at next.timers t).clock ≡ effective_clock (timer_at p.timers t).declared w.0 (timer_at p.timers t).clock)
 IsArmed p next t (Some w) armings.Unarmed refused =
     ((timer_at p.timers t).limit ≤ (timer_at p.timers t).stamp) × (refused ≡ (timer_at p.timers t).stamp) × ((timer_at p.timers t).moving ≡ false) × (next ≡ p)
 
 pub record ArmMade (s : Script) (call t base : ℕ) (want : Option (Mode × ℕ)) (arm : Armed) (refused : ℕ) (p next : Progress) : Type 0 where
-  pub ds : List Did
+  pub ds : List Action
   pub phase : Phase s call p next ds
   pub does : (mode : Mode) (ns : ℕ) → IsWant want mode ns → Arms t mode ns p.reading.stamp base arm ds
   pub armed : IsArmed p next t want arm refused
@@ -130,7 +130,7 @@ here_armed s call t base mode ns generation on_base was refused p next run there
     let now = started timer mode ns p.reading in
     let x = plain (events.Start mode ns p.reading base) (start_line timer p.reading mode ns base) in
     let taken = start_step s p call t mode ns base run there starts.needs in
-    let n = length (lines_of p.told t) in
+    let n = length (lines_of_timer p.told t) in
     let q = with_steps p (on call) t (x ∷ []) in
     let is_now = timer_with p (on call) t x (subst (λ k. t < k) (sym run.timers) there) in
     subst (λ (r : Progress). ArmMade s call t base (Some (mode, ns)) (armings.Generation generation) refused p r) (sym starts.goes_on) (record {
@@ -160,7 +160,7 @@ there_armed s call t base mode ns generation on_base was refused p next run ther
     let start = plain (events.Start mode ns p.reading base) (start_line moved p.reading mode ns base) in
     let xs = move_steps timer p.reading mode ns base in
     let taken = move_taken s p call t mode ns base run there starts.needs_out starts.needs in
-    let n = length (lines_of p.told t) in
+    let n = length (lines_of_timer p.told t) in
     let one = with_steps p (on call) t (out ∷ []) in
     let some : t < length p.timers = subst (λ k. t < k) (sym run.timers) there in
     let phase = phase_steps s call t xs p run taken in
@@ -202,7 +202,7 @@ arm_made s call t base (Some w) armings.Unarmed refused p next run there arms =
 arm_made s call t base want arm refused p next run there arms = absurd arms
 
 -- a timer that was seen idle was disarmed first, whatever was done
-idle_first : (s : Script) (r : RunRecord) (c : Label) (t : ℕ) → (stamp : ℕ) × Saw s r c [] t stamp observations.Idle → (ds : List Did) → DisarmedFirst s r c t ds
+idle_first : (s : Script) (r : RunRecord) (c : Label) (t : ℕ) → (stamp : ℕ) × Saw s r c [] t stamp observations.Idle → (ds : List Action) → DisarmedFirst s r c t ds
 idle_first s r c t seen [] = seen
 idle_first s r c t seen (Entered u n (entries.Cancel generation) ∷ ds) = tt
 idle_first s r c t seen (Entered u n (entries.Out base was) ∷ ds) = seen
@@ -220,7 +220,7 @@ pub disarm_made : (s : Script) (call t : ℕ) (cancel : Option ℕ) (p next : Pr
 disarm_made s call t (Some generation) p next run there disarms =
     let x = plain events.Cancel (entries.Cancel generation) in
     subst (λ (r : Progress). DisarmMade s call t p r) (sym disarms.2) (record {
-      cancel = Some (length (lines_of p.told t) + 1, generation);
+      cancel = Some (length (lines_of_timer p.told t) + 1, generation);
       phase = phase_steps s call t (x ∷ []) p run (cancel_step s p call t generation there disarms.0 disarms.1, tt);
       first = λ end e told rest. tt;
     })

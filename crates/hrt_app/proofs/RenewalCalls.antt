@@ -46,7 +46,7 @@ use Rattle.hrt_app.proofs.Phases.{IsArmed, IsWant}
 use Rattle.hrt_app.proofs.SettimeCalls.{fd_told, object_armed, posix_told}
 
 -- no step looks at the stamp of a refused start
-posix_any : (arm : Armed) (refused : ℕ) (w : Option posix_wanted.Wanted) → posix.IsToldOf (posix_lines.arm_of arm refused) w → posix.IsToldOf (posix_lines.arm_of arm 0) w
+posix_any : (arm : Armed) (refused : ℕ) (w : Option posix_wanted.Wanted) → posix.IsToldOf (posix_lines.posix_arm arm refused) w → posix.IsToldOf (posix_lines.posix_arm arm 0) w
 posix_any armings.None refused w told = told
 posix_any (armings.Generation generation) refused w told = told
 posix_any armings.Unarmed refused w told = (λ e. absurd (never 0 e), λ none. absurd (never refused (told.1 none)))
@@ -54,7 +54,7 @@ posix_any armings.Unarmed refused w told = (λ e. absurd (never 0 e), λ none. a
     never : (n : ℕ) → posix_arms.Unarmed n ≡ posix_arms.NotAsked → ⊥
     never n e = absurd cc
 
-fd_any : (arm : Armed) (refused : ℕ) (w : Option fd_wanted.Wanted) → fd.IsToldOf (fd_lines.arm_of arm refused) w → fd.IsToldOf (fd_lines.arm_of arm 0) w
+fd_any : (arm : Armed) (refused : ℕ) (w : Option fd_wanted.Wanted) → fd.IsToldOf (fd_lines.fd_arm arm refused) w → fd.IsToldOf (fd_lines.fd_arm arm 0) w
 fd_any armings.None refused w told = told
 fd_any (armings.Generation generation) refused w told = told
 fd_any armings.Unarmed refused w told = (λ e. absurd (never 0 e), λ none. absurd (never refused (told.1 none)))
@@ -141,12 +141,12 @@ pub renewal_allows : (p next : Progress) (i : ℕ) (call : Renewal) (o : Object)
 renewal_allows p next i renewals.Accept (Posix t) reading arm refused reply room replies armed = (room, posix_any arm refused (posix.accept_wanted t reading) (posix_told p next i refused (posix.accept_wanted t reading) arm armed))
 renewal_allows p next i renewals.Read (Fd t) reading arm refused reply room replies armed = (
   room,
-  subst (λ b. fd.IsToldOf (fd_lines.arm_of arm 0) (if b then fd.next_to_read t reading else None)) (has_room t.stamp t.limit room)
+  subst (λ b. fd.IsToldOf (fd_lines.fd_arm arm 0) (if b then fd.next_to_read t reading else None)) (has_room t.stamp t.limit room)
       (fd_any arm refused (fd.read_wanted t fd.count_length reading) (fd_told p next i refused (fd.read_wanted t fd.count_length reading) arm armed)),
 )
 renewal_allows p next i renewals.Gettime (Fd t) reading arm refused reply room replies armed = (
   room,
-  subst (λ b. fd.IsToldOf (fd_lines.arm_of arm 0) (if b then fd.next_of t.phase t.interval reading else None)) (has_room t.stamp t.limit room)
+  subst (λ b. fd.IsToldOf (fd_lines.fd_arm arm 0) (if b then fd.next_of t.phase t.interval reading else None)) (has_room t.stamp t.limit room)
       (fd_any arm refused (fd.gettime_wanted t reading) (fd_told p next i refused (fd.gettime_wanted t reading) arm armed)),
 )
 renewal_allows p next i call o reading arm refused reply room replies armed = absurd replies
@@ -155,12 +155,12 @@ renewal_allows p next i call o reading arm refused reply room replies armed = ab
 pub renewal_shows : (clock : List ClockLine) (call : Renewal) (o : Object) (reading : ClockReading) (arm : Armed) (reply : Renewed) → RenewalReplies call o reading arm reply → reading_at clock reading.stamp ≡ reading
     → ShowsCall clock o (renewal_call call reading arm) (renewed_entry reply reading.stamp arm)
 renewal_shows clock renewals.Accept (Posix t) reading arm (renewed.Accept reply) replies shown =
-    ap (λ r. Some (record { call = posix_calls.Accept r (posix_lines.arm_of arm 0); reply = posix_replies.Accept (posix_lines.accept_answer_of reply) })) shown
-    ∙ ap (λ x. Some (record { call = posix_calls.Accept reading (posix_lines.arm_of arm 0); reply = x })) replies
+    ap (λ r. Some (record { call = posix_calls.Accept r (posix_lines.posix_arm arm 0); reply = posix_replies.Accept (posix_lines.accept_answer_of reply) })) shown
+    ∙ ap (λ x. Some (record { call = posix_calls.Accept reading (posix_lines.posix_arm arm 0); reply = x })) replies
 renewal_shows clock renewals.Read (Fd t) reading arm (renewed.Read reply) replies shown =
-    ap (λ r. Some (record { call = fd_calls.Read r (fd_lines.arm_of arm 0); reply = fd_replies.Read (fd_lines.read_answer_of reply) })) shown
-    ∙ ap (λ x. Some (record { call = fd_calls.Read reading (fd_lines.arm_of arm 0); reply = x })) replies
+    ap (λ r. Some (record { call = fd_calls.Read r (fd_lines.fd_arm arm 0); reply = fd_replies.Read (fd_lines.read_answer_of reply) })) shown
+    ∙ ap (λ x. Some (record { call = fd_calls.Read reading (fd_lines.fd_arm arm 0); reply = x })) replies
 renewal_shows clock renewals.Gettime (Fd t) reading arm (renewed.Gettime left interval) replies shown =
-    ap (λ r. Some (record { call = fd_calls.Gettime r (fd_lines.arm_of arm 0); reply = fd_replies.Gettime (lefts.Left left interval) })) shown
-    ∙ ap (λ x. Some (record { call = fd_calls.Gettime reading (fd_lines.arm_of arm 0); reply = x })) replies
+    ap (λ r. Some (record { call = fd_calls.Gettime r (fd_lines.fd_arm arm 0); reply = fd_replies.Gettime (lefts.Left left interval) })) shown
+    ∙ ap (λ x. Some (record { call = fd_calls.Gettime reading (fd_lines.fd_arm arm 0); reply = x })) replies
 renewal_shows clock call o reading arm reply replies shown = absurd replies

@@ -22,14 +22,14 @@ use Rattle.script_text.specs.declared.script.Callback.TheVariants as callbacks
 use Rattle.script_text.specs.declared.script.Kind.TheVariants as kinds
 use Rattle.script_text.specs.declared.script.Script.{Script}
 use Rattle.script_text.specs.Calls.{Does, IsArmedLike, IsSeen, IsTrueEntry, IsTrueStart}
-use Rattle.script_text.specs.Dids.{Did, Made, Tells, numbers_of_object, numbers_on}
+use Rattle.script_text.specs.Actions.{Action, Made, Tells, numbers_of_object, numbers_on}
 use Rattle.script_text.specs.Fits.{object_steps_on, steps_on}
-use Rattle.script_text.specs.Histories.{lines_of, reading_at, timer_after}
+use Rattle.script_text.specs.Histories.{lines_of_timer, reading_at, timer_after}
 use Rattle.script_text.specs.ObjectCalls.{DoesGettime, base_of}
 use Rattle.script_text.specs.ObjectCalls as object_calls
-use Rattle.script_text.specs.Objects.{armed_after, kind_of, object_lines}
+use Rattle.script_text.specs.Objects.{armed_after, kind_of, lines_of_object}
 use Rattle.script_text.specs.Order.{NeverFall}
-use Rattle.script_text.specs.Passes.{IsRightPass}
+use Rattle.script_text.specs.ExpiryRuns.{IsRightExpiryRun}
 use Rattle.hrt_app.specs.declared.objects.Object.{Object}
 use Rattle.hrt_app.specs.declared.objects.Object.TheVariants.{Raw, Posix, Fd}
 use Rattle.hrt_app.specs.declared.renewals.Renewal.{Renewal}
@@ -55,11 +55,11 @@ use Rattle.hrt_app.proofs.Told.{point_of_timer, tells_start}
 
 -- what makes a call of a script fit, which was answered so by an object that it renews
 pub record IsRenewing (s : Script) (t : ℕ) (call : Call) (reply : Renewed) : Type 0 where
-  pub does : (at : ℕ) (ds : List Did) → object_calls.Renews (kind_of s t) t at (renewed_entry reply at) ds → Does s at call (renewed_answer reply) [] ds
-  pub seen : (end : RunRecord) (number at : ℕ) (ds : List Did) → IsSeen s end (on number) at ds call (renewed_answer reply)
-  pub pass : (end : RunRecord) (number at : ℕ) (ds : List Did) → IsRightPass s end (on number) at call (renewed_answer reply) [] ds (λ u. 0)
-  pub steps : (u at : ℕ) (ds : List Did) → steps_on u at call (renewed_answer reply) [] ds (λ v. 0) ≡ numbers_on u ds
-  pub objects : (i : ℕ) (ds : List Did) → object_steps_on i call (renewed_answer reply) ds ≡ numbers_of_object i ds
+  pub does : (at : ℕ) (ds : List Action) → object_calls.MakesRearming (kind_of s t) t at (renewed_entry reply at) ds → Does s at call (renewed_answer reply) [] ds
+  pub seen : (end : RunRecord) (number at : ℕ) (ds : List Action) → IsSeen s end (on number) at ds call (renewed_answer reply)
+  pub pass : (end : RunRecord) (number at : ℕ) (ds : List Action) → IsRightExpiryRun s end (on number) at call (renewed_answer reply) [] ds (λ u. 0)
+  pub steps : (u at : ℕ) (ds : List Action) → steps_on u at call (renewed_answer reply) [] ds (λ v. 0) ≡ numbers_on u ds
+  pub objects : (i : ℕ) (ds : List Action) → object_steps_on i call (renewed_answer reply) ds ≡ numbers_of_object i ds
 
 accept_renewing : (s : Script) (t : ℕ) (reply : AcceptReply) → IsRenewing s t (calls.Accept t) (renewed.Accept reply)
 accept_renewing s t (acceptances.Accepted overrun) =
@@ -77,7 +77,7 @@ read_renewing s t len reads.Canceled long =
 
 gettime_renewing : (s : Script) (t base left interval : ℕ) → kind_of s t ≡ kinds.Fd base → IsRenewing s t (calls.Gettime t) (renewed.Gettime left interval)
 gettime_renewing s t base left interval kind = record {
-  does = λ at ds r. subst (λ k. DoesGettime k t at (renewed_answer (renewed.Gettime left interval)) ds) (sym kind) (subst (λ k. object_calls.Renews k t at (renewed_entry (renewed.Gettime left interval) at) ds) kind r);
+  does = λ at ds r. subst (λ k. DoesGettime k t at (renewed_answer (renewed.Gettime left interval)) ds) (sym kind) (subst (λ k. object_calls.MakesRearming k t at (renewed_entry (renewed.Gettime left interval) at) ds) kind r);
   seen = λ end number at ds. tt;
   pass = λ end number at ds. tt;
   steps = λ u at ds. no_stamp (nat_eq t u) (numbers_on u ds);
@@ -85,10 +85,10 @@ gettime_renewing s t base left interval kind = record {
 }
 
 -- what the entry tells of the timer's start is true
-renewal_told : (s : Script) (number t : ℕ) (q w : Progress) (ds : List Did) (o : Object) (call : Renewal) (reading : ClockReading) (arm : Armed) (refused : ℕ) (reply : Renewed) (end : RunRecord)
+renewal_told : (s : Script) (number t : ℕ) (q w : Progress) (ds : List Action) (o : Object) (call : Renewal) (reading : ClockReading) (arm : Armed) (refused : ℕ) (reply : Renewed) (end : RunRecord)
     → IsRun s number (number + 1) w → IsObjectStep s w number t (renewal_step call reading arm reply) → Extends number (with_object w (on number) t (renewal_step call reading arm reply)).told end
     → object_at w.objects t ≡ o → IsArmed q w t (renewal_want call o reading) arm refused → Tells w.told (on number) ds
-    → IsTrueStart s end (on number) ds t (length (object_lines w.told t) + 1) false arm
+    → IsTrueStart s end (on number) ds t (length (lines_of_object w.told t) + 1) false arm
 renewal_told s number t q w ds o call reading armings.None refused reply end run step e is armed tells = tt
 renewal_told s number t q w ds o call reading (armings.Generation generation) refused reply end run step e is armed tells =
     let want = renewal_want call o reading in
@@ -100,8 +100,8 @@ renewal_told s number t q w ds o call reading (armings.Generation generation) re
     let some_object : t < length w.objects = subst (λ n. t < n) (sym run.declared) step.there in
     let some : t < length w.told.objects = subst (λ n. t < n) (sym run.object_lists) step.there in
     let state : timer_after s end t generation ≡ timer_at w.timers t = ap (timer_after s end t) so.0 ∙ run_next.states end e t step.there in
-    let armed_as : armed_after s end t (length (object_lines w.told t) + 1) (kind_of s t) ≡ object_armed (after_call o x.call) =
-    ap (λ n. armed_after s end t n (kind_of s t)) (sym (ap length (get_or-set_same w.told.objects t (object_lines w.told t ++ object_line (on number) x.entry ∷ []) [] some) ∙ length-append (object_lines w.told t) (object_line (on number) x.entry ∷ [])))
+    let armed_as : armed_after s end t (length (lines_of_object w.told t) + 1) (kind_of s t) ≡ object_armed (after_call o x.call) =
+    ap (λ n. armed_after s end t n (kind_of s t)) (sym (ap length (get_or-set_same w.told.objects t (lines_of_object w.told t ++ object_line (on number) x.entry ∷ []) [] some) ∙ length-append (lines_of_object w.told t) (object_line (on number) x.entry ∷ [])))
     ∙ armed_is s number (number + 1) t next.told end (object_at next.objects t) (run_next.objects t) e
     ∙ ap object_armed (get_or-set_same w.objects t (after_call (object_at w.objects t) x.call) (Raw callbacks.Once) some_object ∙ ap (λ y. after_call y x.call) is) in
     subst (λ y. IsArmedLike false y generation (timer_after s end t generation)) (sym armed_as)
@@ -116,7 +116,7 @@ renewal_told s number t q w ds o call reading armings.Unarmed refused reply end 
           (ap (λ (y : Progress). (timer_at y.timers t).moving) so.3 ∙ so.2),
     )
 
-true_entry : (s : Script) (end : RunRecord) (number t n at : ℕ) (ds : List Did) (reply : Renewed) (arm : Armed) → IsTrueStart s end (on number) ds t n false arm → IsTrueEntry s end (on number) ds t n (renewed_entry reply at arm)
+true_entry : (s : Script) (end : RunRecord) (number t n at : ℕ) (ds : List Action) (reply : Renewed) (arm : Armed) → IsTrueStart s end (on number) ds t n false arm → IsTrueEntry s end (on number) ds t n (renewed_entry reply at arm)
 true_entry s end number t n at ds (renewed.Accept reply) arm told = told
 true_entry s end number t n at ds (renewed.Read reply) arm told = told
 true_entry s end number t n at ds (renewed.Gettime left interval) arm told = told
@@ -135,9 +135,9 @@ renewal_made s number p next t renewal call answer run there renews fits =
     let x = renewal_step renewal p.reading renews.arm renews.reply in
     let is : object_at w.objects t ≡ o = ap (λ os. object_at os t) phase.objects in
     let made = (run.objects t).made in
-    let m = length (object_lines p.told t) in
+    let m = length (lines_of_object p.told t) in
     let mine = Made t (m + 1) x.entry in
-    let same_lines : object_lines w.told t ≡ object_lines p.told t = ap (λ os. get_or os t []) phase.object_lines in
+    let same_lines : lines_of_object w.told t ≡ lines_of_object p.told t = ap (λ os. get_or os t []) phase.object_lines in
     let shown = λ (clock : List ClockLine) (c : Continues (λ (l : ClockLine). l.label) number w.told.clock clock). subst (λ r. reading_at clock r.stamp ≡ r) phase.reading (reading_of_clock s w number clock phase.run c) in
     let step : IsObjectStep s w number t x = record {
       there = there;
@@ -145,7 +145,7 @@ renewal_made s number p next t renewal call answer run there renews fits =
       shows = λ clock c. subst (λ y. ShowsCall clock y x.call x.entry) (sym is) (renewal_shows clock renewal o p.reading renews.arm renews.reply renews.replies (shown clock c));
     } in
     let time = renewed_time want _ 0 (renewal_armed renewal o p.reading 0) in
-    let does : object_calls.Renews (kind_of s t) t at (renewed_entry renews.reply at) (ds ++ mine ∷ []) = record {
+    let does : object_calls.MakesRearming (kind_of s t) t at (renewed_entry renews.reply at) (ds ++ mine ∷ []) = record {
       arm = renews.arm;
       ns = wanted_time want;
       start = ds;
@@ -164,7 +164,7 @@ renewal_made s number p next t renewal call answer run there renews fits =
     (subst (λ ls. IsTrueStart s end (on number) ds t (length ls + 1) false renews.arm) same_lines (renewal_told s number t p w ds o renewal p.reading renews.arm renews.refused renews.reply end phase.run step e is made_arm.armed (phase.tells [] start))))
     (λ end e. fits.seen end number at (ds ++ mine ∷ []))
     (λ end. fits.pass end number at (ds ++ mine ∷ []))
-    (λ u. subst (λ ns. NeverFall (length (lines_of p.told u)) ns (length (lines_of w.told u))) (sym (fits.steps u at (ds ++ mine ∷ []) ∙ numbers_on_append u ds (mine ∷ []) ∙ append_nothing (numbers_on u ds))) (phase.numbers u))
+    (λ u. subst (λ ns. NeverFall (length (lines_of_timer p.told u)) ns (length (lines_of_timer w.told u))) (sym (fits.steps u at (ds ++ mine ∷ []) ∙ numbers_on_append u ds (mine ∷ []) ∙ append_nothing (numbers_on u ds))) (phase.numbers u))
     (λ i. fits.objects i (ds ++ mine ∷ []))))
 
 -- what each such call is answered

@@ -31,7 +31,7 @@ use Rattle.record_text.specs.declared.record.ObjectEntry.TheVariants as object_e
 use Rattle.record_text.specs.declared.record.SettimeReply.{SettimeReply}
 use Rattle.record_text.specs.declared.record.SettimeReply.TheVariants as settings
 use Rattle.script_text.specs.Histories.{reading_at}
-use Rattle.script_text.specs.ObjectCalls.{AreTaken, mode_by, time_of}
+use Rattle.script_text.specs.ObjectCalls.{AreValidFor, start_mode, nanoseconds_of}
 use Rattle.script_text.specs.Objects.{ArmedAs, fd_armed, posix_armed}
 use Rattle.script_text.specs.PosixHistories as posix_lines
 use Rattle.script_text.specs.FdHistories as fd_lines
@@ -47,8 +47,8 @@ something : true ≡ false → ⊥
 something e = absurd cc
 
 -- an object is told of no start exactly where it wanted none
-pub posix_told : (p next : Progress) (t refused : ℕ) (w : Option posix_wanted.Wanted) (arm : Armed) → IsArmed p next t (option_map (λ x. (x.mode, x.ns)) w) arm refused → posix.IsToldOf (posix_lines.arm_of arm refused) w
-posix_told p next t refused None arm armed = (λ e. refl, λ none. ap (λ a. posix_lines.arm_of a refused) armed)
+pub posix_told : (p next : Progress) (t refused : ℕ) (w : Option posix_wanted.Wanted) (arm : Armed) → IsArmed p next t (option_map (λ x. (x.mode, x.ns)) w) arm refused → posix.IsToldOf (posix_lines.posix_arm arm refused) w
+posix_told p next t refused None arm armed = (λ e. refl, λ none. ap (λ a. posix_lines.posix_arm a refused) armed)
 posix_told p next t refused (Some x) armings.None armed = absurd armed
 posix_told p next t refused (Some x) (armings.Generation generation) armed = (λ e. absurd (never e), λ none. absurd (something none))
   where
@@ -59,8 +59,8 @@ posix_told p next t refused (Some x) armings.Unarmed armed = (λ e. absurd (neve
     never : posix_arms.Unarmed refused ≡ posix_arms.NotAsked → ⊥
     never e = absurd cc
 
-pub fd_told : (p next : Progress) (t refused : ℕ) (w : Option fd_wanted.Wanted) (arm : Armed) → IsArmed p next t (option_map (λ x. (x.mode, x.ns)) w) arm refused → fd.IsToldOf (fd_lines.arm_of arm refused) w
-fd_told p next t refused None arm armed = (λ e. refl, λ none. ap (λ a. fd_lines.arm_of a refused) armed)
+pub fd_told : (p next : Progress) (t refused : ℕ) (w : Option fd_wanted.Wanted) (arm : Armed) → IsArmed p next t (option_map (λ x. (x.mode, x.ns)) w) arm refused → fd.IsToldOf (fd_lines.fd_arm arm refused) w
+fd_told p next t refused None arm armed = (λ e. refl, λ none. ap (λ a. fd_lines.fd_arm a refused) armed)
 fd_told p next t refused (Some x) armings.None armed = absurd armed
 fd_told p next t refused (Some x) (armings.Generation generation) armed = (λ e. absurd (never e), λ none. absurd (something none))
   where
@@ -75,19 +75,19 @@ all_tests : (a b c d e f g h : ℕ) → a ≤ b → c < d → e < f → g < h �
 all_tests a b c d e f g h one two three four = grind (arith, nat_tests, one, two, three, four)
 
 -- the start that is wanted where the arguments are taken and the history has room
-posix_want : (t : PosixTimer) (flags : ℕ) (value interval : TimeSpec) → posix_requests.AreTaken flags value interval → t.stamp < t.limit → posix.settime_wanted t flags value interval ≡ posix_requests.start_by flags (time_of value)
+posix_want : (t : PosixTimer) (flags : ℕ) (value interval : TimeSpec) → posix_requests.AreTaken flags value interval → t.stamp < t.limit → posix.settime_wanted t flags value interval ≡ posix_requests.start_by flags (nanoseconds_of value)
 posix_want t flags value interval taken room =
-    ap (λ b. if b then posix_requests.start_by flags (time_of value) else None) (all_tests flags posix_requests.absolute value.nsec second interval.nsec second t.stamp t.limit taken.known taken.good_value taken.good_interval room)
+    ap (λ b. if b then posix_requests.start_by flags (nanoseconds_of value) else None) (all_tests flags posix_requests.absolute value.nsec second interval.nsec second t.stamp t.limit taken.known taken.good_value taken.good_interval room)
 
-fd_want : (t : Descriptor) (flags : ℕ) (value interval : TimeSpec) → fd_requests.AreTaken flags value interval → t.stamp < t.limit → fd.settime_wanted t flags value interval ≡ fd_requests.start_by flags (time_of value)
+fd_want : (t : Descriptor) (flags : ℕ) (value interval : TimeSpec) → fd_requests.AreTaken flags value interval → t.stamp < t.limit → fd.settime_wanted t flags value interval ≡ fd_requests.start_by flags (nanoseconds_of value)
 fd_want t flags value interval taken room =
-    ap (λ b. if b then fd_requests.start_by flags (time_of value) else None) (all_tests flags fd_requests.all_flags value.nsec second interval.nsec second t.stamp t.limit taken.known taken.good_value taken.good_interval room)
+    ap (λ b. if b then fd_requests.start_by flags (nanoseconds_of value) else None) (all_tests flags fd_requests.all_flags value.nsec second interval.nsec second t.stamp t.limit taken.known taken.good_value taken.good_interval room)
 
-timely : (time : TimeSpec) → time_of time ≤ last_time
+timely : (time : TimeSpec) → nanoseconds_of time ≤ last_time
 timely time = omega arith
 
 -- the object takes the settime
-pub settime_allows : (p next : Progress) (i : ℕ) (o : Object) (flags : ℕ) (value interval : TimeSpec) (reading : ClockReading) (arm : Armed) (refused : ℕ) → AreTaken (kind_in o) flags value interval → entries_of o < limit_of o
+pub settime_allows : (p next : Progress) (i : ℕ) (o : Object) (flags : ℕ) (value interval : TimeSpec) (reading : ClockReading) (arm : Armed) (refused : ℕ) → AreValidFor (kind_in o) flags value interval → entries_of o < limit_of o
     → IsArmed p next i (settime_want o flags value interval) arm refused → Allows o (settime_call o flags value interval reading arm refused)
 settime_allows p next i (Raw callback) flags value interval reading arm refused taken room armed = absurd taken
 settime_allows p next i (Posix t) flags value interval reading arm refused taken room armed = (
@@ -95,26 +95,26 @@ settime_allows p next i (Posix t) flags value interval reading arm refused taken
   taken.known,
   timely value,
   timely interval,
-  posix_told p next i refused (posix_requests.start_by flags (time_of value)) arm (subst (λ w. IsArmed p next i (option_map (λ x. (x.mode, x.ns)) w) arm refused) (posix_want t flags value interval taken room) armed),
+  posix_told p next i refused (posix_requests.start_by flags (nanoseconds_of value)) arm (subst (λ w. IsArmed p next i (option_map (λ x. (x.mode, x.ns)) w) arm refused) (posix_want t flags value interval taken room) armed),
 )
 settime_allows p next i (Fd t) flags value interval reading arm refused taken room armed = (
   room,
   taken.known,
   timely value,
   timely interval,
-  fd_told p next i refused (fd_requests.start_by flags (time_of value)) arm (subst (λ w. IsArmed p next i (option_map (λ x. (x.mode, x.ns)) w) arm refused) (fd_want t flags value interval taken room) armed),
+  fd_told p next i refused (fd_requests.start_by flags (nanoseconds_of value)) arm (subst (λ w. IsArmed p next i (option_map (λ x. (x.mode, x.ns)) w) arm refused) (fd_want t flags value interval taken room) armed),
 )
 
-posix_refused : (t : PosixTimer) (reading : ClockReading) (arm : Armed) (refused : ℕ) (reply : SettimeReply) → posix_lines.set_answer_of reply ≡ Some (posix.set_answer t reading (posix_lines.arm_of arm refused))
-    → posix_lines.arm_of arm (posix_lines.refused_at reply) ≡ posix_lines.arm_of arm refused
+posix_refused : (t : PosixTimer) (reading : ClockReading) (arm : Armed) (refused : ℕ) (reply : SettimeReply) → posix_lines.posix_set_answer reply ≡ Some (posix.set_answer t reading (posix_lines.posix_arm arm refused))
+    → posix_lines.posix_arm arm (posix_lines.refused_at reply) ≡ posix_lines.posix_arm arm refused
 posix_refused t reading armings.None refused reply e = refl
 posix_refused t reading (armings.Generation generation) refused reply e = refl
 posix_refused t reading armings.Unarmed refused (settings.Old left old) e = absurd cc
 posix_refused t reading armings.Unarmed refused settings.Canceled e = absurd cc
 posix_refused t reading armings.Unarmed refused (settings.Unarmed stamp) e = cc
 
-fd_refused : (t : Descriptor) (flags ns : ℕ) (reading : ClockReading) (arm : Armed) (refused : ℕ) (reply : SettimeReply) → fd_lines.set_answer_of reply ≡ fd.set_answer t flags ns reading (fd_lines.arm_of arm refused)
-    → fd_lines.arm_of arm (posix_lines.refused_at reply) ≡ fd_lines.arm_of arm refused
+fd_refused : (t : Descriptor) (flags ns : ℕ) (reading : ClockReading) (arm : Armed) (refused : ℕ) (reply : SettimeReply) → fd_lines.fd_set_answer reply ≡ fd.set_answer t flags ns reading (fd_lines.fd_arm arm refused)
+    → fd_lines.fd_arm arm (posix_lines.refused_at reply) ≡ fd_lines.fd_arm arm refused
 fd_refused t flags ns reading armings.None refused reply e = refl
 fd_refused t flags ns reading (armings.Generation generation) refused reply e = refl
 fd_refused t flags ns reading armings.Unarmed refused (settings.Old left old) e = absurd cc
@@ -122,18 +122,18 @@ fd_refused t flags ns reading armings.Unarmed refused settings.Canceled e = absu
 fd_refused t flags ns reading armings.Unarmed refused (settings.Unarmed stamp) e = cc
 
 -- its line shows the settime with its answer
-pub settime_shows : (clock : List ClockLine) (o : Object) (flags : ℕ) (value interval : TimeSpec) (reading : ClockReading) (arm : Armed) (refused : ℕ) (reply : SettimeReply) → AreTaken (kind_in o) flags value interval → SettimeReplies o flags value reading arm refused reply
+pub settime_shows : (clock : List ClockLine) (o : Object) (flags : ℕ) (value interval : TimeSpec) (reading : ClockReading) (arm : Armed) (refused : ℕ) (reply : SettimeReply) → AreValidFor (kind_in o) flags value interval → SettimeReplies o flags value reading arm refused reply
     → reading_at clock reading.stamp ≡ reading
-    → ShowsCall clock o (settime_call o flags value interval reading arm refused) (object_entries.Settime flags (time_of value) (time_of interval) reading.stamp arm reply)
+    → ShowsCall clock o (settime_call o flags value interval reading arm refused) (object_entries.Settime flags (nanoseconds_of value) (nanoseconds_of interval) reading.stamp arm reply)
 settime_shows clock (Raw callback) flags value interval reading arm refused reply taken replies shown = absurd taken
 settime_shows clock (Posix t) flags value interval reading arm refused reply taken replies shown =
-    ap (λ r. option_map (λ answer. record { call = posix_calls.Settime flags (time_of value) (time_of interval) r (posix_lines.arm_of arm (posix_lines.refused_at reply)); reply = posix_replies.Settime answer }) (posix_lines.set_answer_of reply)) shown
-    ∙ ap (λ a. option_map (λ answer. record { call = posix_calls.Settime flags (time_of value) (time_of interval) reading a; reply = posix_replies.Settime answer }) (posix_lines.set_answer_of reply)) (posix_refused t reading arm refused reply replies)
-    ∙ ap (λ x. option_map (λ answer. record { call = posix_calls.Settime flags (time_of value) (time_of interval) reading (posix_lines.arm_of arm refused); reply = posix_replies.Settime answer }) x) replies
+    ap (λ r. option_map (λ answer. record { call = posix_calls.Settime flags (nanoseconds_of value) (nanoseconds_of interval) r (posix_lines.posix_arm arm (posix_lines.refused_at reply)); reply = posix_replies.Settime answer }) (posix_lines.posix_set_answer reply)) shown
+    ∙ ap (λ a. option_map (λ answer. record { call = posix_calls.Settime flags (nanoseconds_of value) (nanoseconds_of interval) reading a; reply = posix_replies.Settime answer }) (posix_lines.posix_set_answer reply)) (posix_refused t reading arm refused reply replies)
+    ∙ ap (λ x. option_map (λ answer. record { call = posix_calls.Settime flags (nanoseconds_of value) (nanoseconds_of interval) reading (posix_lines.posix_arm arm refused); reply = posix_replies.Settime answer }) x) replies
 settime_shows clock (Fd t) flags value interval reading arm refused reply taken replies shown =
-    ap (λ r. Some (record { call = fd_calls.Settime flags (time_of value) (time_of interval) r (fd_lines.arm_of arm (posix_lines.refused_at reply)); reply = fd_replies.Settime (fd_lines.set_answer_of reply) })) shown
-    ∙ ap (λ a. Some (record { call = fd_calls.Settime flags (time_of value) (time_of interval) reading a; reply = fd_replies.Settime (fd_lines.set_answer_of reply) })) (fd_refused t flags (time_of value) reading arm refused reply replies)
-    ∙ ap (λ x. Some (record { call = fd_calls.Settime flags (time_of value) (time_of interval) reading (fd_lines.arm_of arm refused); reply = fd_replies.Settime x })) replies
+    ap (λ r. Some (record { call = fd_calls.Settime flags (nanoseconds_of value) (nanoseconds_of interval) r (fd_lines.fd_arm arm (posix_lines.refused_at reply)); reply = fd_replies.Settime (fd_lines.fd_set_answer reply) })) shown
+    ∙ ap (λ a. Some (record { call = fd_calls.Settime flags (nanoseconds_of value) (nanoseconds_of interval) reading a; reply = fd_replies.Settime (fd_lines.fd_set_answer reply) })) (fd_refused t flags (nanoseconds_of value) reading arm refused reply replies)
+    ∙ ap (λ x. Some (record { call = fd_calls.Settime flags (nanoseconds_of value) (nanoseconds_of interval) reading (fd_lines.fd_arm arm refused); reply = fd_replies.Settime x })) replies
 
 -- the clock of an object
 abbrev pub clock_in : Object → ClockId
@@ -148,17 +148,17 @@ object_armed (Posix t) = posix_armed t.phase
 object_armed (Fd t) = fd_armed t.phase
 
 -- the mode of a settime is that of its flags, and its time the value
-pub settime_is : (o : Object) (flags : ℕ) (value interval : TimeSpec) → AreTaken (kind_in o) flags value interval → entries_of o < limit_of o → IsWant (settime_want o flags value interval) (mode_by (kind_in o) flags) (time_of value)
+pub settime_is : (o : Object) (flags : ℕ) (value interval : TimeSpec) → AreValidFor (kind_in o) flags value interval → entries_of o < limit_of o → IsWant (settime_want o flags value interval) (start_mode (kind_in o) flags) (nanoseconds_of value)
 settime_is (Raw callback) flags value interval taken room = tt
 settime_is (Posix t) flags value interval taken room =
-    subst (λ w. IsWant (option_map (λ (x : posix_wanted.Wanted). (x.mode, x.ns)) w) (posix_requests.mode_by flags) (time_of value)) (sym (posix_want t flags value interval taken room))
-    (elim (nat_eq (time_of value) 0) as (λ b. IsWant (option_map (λ (x : posix_wanted.Wanted). (x.mode, x.ns)) (if b then None else Some (record { mode = posix_requests.mode_by flags; ns = time_of value }))) (posix_requests.mode_by flags) (time_of value)) [
+    subst (λ w. IsWant (option_map (λ (x : posix_wanted.Wanted). (x.mode, x.ns)) w) (posix_requests.mode_by flags) (nanoseconds_of value)) (sym (posix_want t flags value interval taken room))
+    (elim (nat_eq (nanoseconds_of value) 0) as (λ b. IsWant (option_map (λ (x : posix_wanted.Wanted). (x.mode, x.ns)) (if b then None else Some (record { mode = posix_requests.mode_by flags; ns = nanoseconds_of value }))) (posix_requests.mode_by flags) (nanoseconds_of value)) [
       | true ↦ tt
       | false ↦ (refl, refl)
     ])
 settime_is (Fd t) flags value interval taken room =
-    subst (λ w. IsWant (option_map (λ (x : fd_wanted.Wanted). (x.mode, x.ns)) w) (fd_requests.mode_by flags) (time_of value)) (sym (fd_want t flags value interval taken room))
-    (elim (nat_eq (time_of value) 0) as (λ b. IsWant (option_map (λ (x : fd_wanted.Wanted). (x.mode, x.ns)) (if b then None else Some (record { mode = fd_requests.mode_by flags; ns = time_of value }))) (fd_requests.mode_by flags) (time_of value)) [
+    subst (λ w. IsWant (option_map (λ (x : fd_wanted.Wanted). (x.mode, x.ns)) w) (fd_requests.mode_by flags) (nanoseconds_of value)) (sym (fd_want t flags value interval taken room))
+    (elim (nat_eq (nanoseconds_of value) 0) as (λ b. IsWant (option_map (λ (x : fd_wanted.Wanted). (x.mode, x.ns)) (if b then None else Some (record { mode = fd_requests.mode_by flags; ns = nanoseconds_of value }))) (fd_requests.mode_by flags) (nanoseconds_of value)) [
       | true ↦ tt
       | false ↦ (refl, refl)
     ])
@@ -172,26 +172,26 @@ same_clock clocks.Monotonic one two false = refl
 same_clock clocks.Boottime one two true = refl
 same_clock clocks.Boottime one two false = refl
 
-sat_twice : (time : TimeSpec) → sat (time_of time) ≡ time_of time
+sat_twice : (time : TimeSpec) → sat (nanoseconds_of time) ≡ nanoseconds_of time
 sat_twice time = omega arith
 
-same_expiry : (time : TimeSpec) (clock : ClockId) (reading : ClockReading) (b : Bool) → (if b then time_of time else sat (value_of clock reading + time_of time)) ≡ expiry_from (if b then modes.Abs else modes.Rel) (time_of time) clock reading
+same_expiry : (time : TimeSpec) (clock : ClockId) (reading : ClockReading) (b : Bool) → (if b then nanoseconds_of time else sat (value_of clock reading + nanoseconds_of time)) ≡ expiry_from (if b then modes.Abs else modes.Rel) (nanoseconds_of time) clock reading
 same_expiry time clock reading true = sym (sat_twice time)
 same_expiry time clock reading false = refl
 
 -- an armed object has the generation, and the expiry and the clock of a timer that was started so
-pub settime_armed : (o : Object) (flags : ℕ) (value interval : TimeSpec) (reading : ClockReading) (generation refused : ℕ) (declared present : ClockId) → AreTaken (kind_in o) flags value interval
+pub settime_armed : (o : Object) (flags : ℕ) (value interval : TimeSpec) (reading : ClockReading) (generation refused : ℕ) (declared present : ClockId) → AreValidFor (kind_in o) flags value interval
     → (a : ArmedAs) × (object_armed (after_call o (settime_call o flags value interval reading (armings.Generation generation) refused)) ≡ Some a) × (a.generation ≡ generation)
-    × (clock_in o ≡ declared → (a.clock ≡ effective_clock declared (mode_by (kind_in o) flags) present) × (a.expires ≡ expiry_from (mode_by (kind_in o) flags) (time_of value) a.clock reading))
+    × (clock_in o ≡ declared → (a.clock ≡ effective_clock declared (start_mode (kind_in o) flags) present) × (a.expires ≡ expiry_from (start_mode (kind_in o) flags) (nanoseconds_of value) a.clock reading))
 settime_armed (Raw callback) flags value interval reading generation refused declared present taken = absurd taken
 settime_armed (Posix t) flags value interval reading generation refused declared present taken = (
-  record { generation = generation; clock = posix.clock_by t flags; expires = posix.expiry_by t flags (time_of value) reading },
+  record { generation = generation; clock = posix.clock_by t flags; expires = posix.expiry_by t flags (nanoseconds_of value) reading },
   refl,
   refl,
   λ on. (same_clock t.clock t.clock present (nat_eq flags posix_requests.absolute) ∙ ap (λ d. effective_clock d (posix_requests.mode_by flags) present) on, same_expiry value (posix.clock_by t flags) reading (nat_eq flags posix_requests.absolute)),
 )
 settime_armed (Fd t) flags value interval reading generation refused declared present taken = (
-  record { generation = generation; clock = fd.clock_by t.clock flags; expires = fd.expiry_by t.clock flags (time_of value) reading },
+  record { generation = generation; clock = fd.clock_by t.clock flags; expires = fd.expiry_by t.clock flags (nanoseconds_of value) reading },
   refl,
   refl,
   λ on. (same_clock t.clock t.clock present (fd_requests.is_absolute flags) ∙ ap (λ d. effective_clock d (fd_requests.mode_by flags) present) on, same_expiry value (fd.clock_by t.clock flags) reading (fd_requests.is_absolute flags)),
@@ -203,12 +203,12 @@ settime_unarmed (Raw callback) flags value reading arm refused stamp replies = a
 settime_unarmed (Posix t) flags value reading armings.None refused stamp replies = absurd cc
 settime_unarmed (Posix t) flags value reading (armings.Generation generation) refused stamp replies = absurd cc
 settime_unarmed (Posix t) flags value reading armings.Unarmed refused stamp replies = (refl, cc)
-settime_unarmed (Fd t) flags value reading armings.None refused stamp replies = absurd (never (fd.is_told_canceled t flags (time_of value) reading) replies)
+settime_unarmed (Fd t) flags value reading armings.None refused stamp replies = absurd (never (fd.is_told_canceled t flags (nanoseconds_of value) reading) replies)
   where
     never : (b : Bool) → fd_answers.Unarmed stamp ≡ (if b then fd_answers.Canceled else fd_answers.Old (fd_states.left_in t.phase t.interval reading) t.interval) → ⊥
     never true e = absurd cc
     never false e = absurd cc
-settime_unarmed (Fd t) flags value reading (armings.Generation generation) refused stamp replies = absurd (never (fd.is_told_canceled t flags (time_of value) reading) replies)
+settime_unarmed (Fd t) flags value reading (armings.Generation generation) refused stamp replies = absurd (never (fd.is_told_canceled t flags (nanoseconds_of value) reading) replies)
   where
     never : (b : Bool) → fd_answers.Unarmed stamp ≡ (if b then fd_answers.Canceled else fd_answers.Old (fd_states.left_in t.phase t.interval reading) t.interval) → ⊥
     never true e = absurd cc

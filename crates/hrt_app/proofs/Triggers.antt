@@ -25,9 +25,9 @@ use Rattle.record_text.specs.declared.record.ObjectLine.{ObjectLine}
 use Rattle.record_text.specs.declared.record.Restart.TheVariants as restarts
 use Rattle.record_text.specs.declared.record.RunRecord.{RunRecord}
 use Rattle.script_text.specs.Calls.{Fired, AreTrue, IsBody, IsTrigger, IsTrue, fires}
-use Rattle.script_text.specs.Dids.{Did, Entered, Made, Skipped, Tells, also, numbers_of_object, numbers_on, wrote}
-use Rattle.script_text.specs.Histories.{lines_of, reading_at}
-use Rattle.script_text.specs.Objects.{kind_of, object_lines}
+use Rattle.script_text.specs.Actions.{Action, Entered, Made, Skipped, Tells, also, numbers_of_object, numbers_on, wrote}
+use Rattle.script_text.specs.Histories.{lines_of_timer, reading_at}
+use Rattle.script_text.specs.Objects.{kind_of, lines_of_object}
 use Rattle.script_text.specs.Order.{NeverFall}
 use Rattle.hrt_app.specs.declared.objects.Object.{Object}
 use Rattle.hrt_app.specs.declared.objects.Object.TheVariants.{Raw, Posix, Fd}
@@ -46,7 +46,7 @@ use Rattle.hrt_app.proofs.Taken.{append_nothing, length_with, numbers_on_append,
 use Rattle.hrt_app.proofs.Told.{nat_eq_apart, nat_eq_same, tells_step, wrote_append}
 
 -- what an expiry did, where so many entries of the object stand before it
-abbrev pub trigger_dids : ℕ → ℕ → ℕ → ℕ → Option Bool → List Did
+abbrev pub trigger_dids : ℕ → ℕ → ℕ → ℕ → Option Bool → List Action
 trigger_dids t m generation at None = Skipped t m generation ∷ []
 trigger_dids t m generation at (Some counted) = Made t (m + 1) (object_entries.Trigger generation at counted) ∷ []
 
@@ -108,26 +108,26 @@ refused_full s i generation (Posix t) reading object made e = subst (λ n. n ≤
 refused_full s i generation (Fd t) reading object made e = subst (λ n. n ≤ t.stamp) made.2 (none_of t.stamp t.limit (fd_steps.counts t.phase generation reading) e)
 
 -- an object's expiry, as the record has it
-pub record TriggerMade (s : Script) (call t generation : ℕ) (p next : Progress) (ds : List Did) : Type 0 where
+pub record TriggerMade (s : Script) (call t generation : ℕ) (p next : Progress) (ds : List Action) : Type 0 where
   pub run : IsRun s call (call + 1) next
   pub back : (end : RunRecord) → Extends call next.told end → Extends call p.told end
-  pub tells : (before : List Did) → Tells p.told (on call) before → Tells next.told (on call) (before ++ ds)
-  pub looks : (end : RunRecord) (before rest : List Did) → Tells p.told (on call) before → Extends call p.told end → AreTrue s end (on call) (before ++ ds) rest → AreTrue s end (on call) before (ds ++ rest)
+  pub tells : (before : List Action) → Tells p.told (on call) before → Tells next.told (on call) (before ++ ds)
+  pub looks : (end : RunRecord) (before rest : List Action) → Tells p.told (on call) before → Extends call p.told end → AreTrue s end (on call) (before ++ ds) rest → AreTrue s end (on call) before (ds ++ rest)
   pub lines : next.told.timers ≡ p.told.timers
   pub timers : next.timers ≡ p.timers
   pub reading : next.reading ≡ p.reading
   pub clock : next.told.clock ≡ p.told.clock
   pub writes_none : wrote ds ≡ []
   pub numbers_none : (u : ℕ) → numbers_on u ds ≡ []
-  pub object_steps : (i : ℕ) → NeverFall (length (object_lines p.told i)) (numbers_of_object i ds) (length (object_lines next.told i))
-  pub others : (i : ℕ) → i ≢ t → object_lines next.told i ≡ object_lines p.told i
+  pub object_steps : (i : ℕ) → NeverFall (length (lines_of_object p.told i)) (numbers_of_object i ds) (length (lines_of_object next.told i))
+  pub others : (i : ℕ) → i ≢ t → lines_of_object next.told i ≡ lines_of_object p.told i
 
 entry_made : (s : Script) (call t : ℕ) (p : Progress) (x : ObjectStep) → IsRun s call (call + 1) p → IsObjectStep s p call t x
-    → ((end : RunRecord) (before : List Did) → IsTrue s end (on call) before (Made t (length (object_lines p.told t) + 1) x.entry))
-    → (generation : ℕ) → TriggerMade s call t generation p (with_object p (on call) t x) (Made t (length (object_lines p.told t) + 1) x.entry ∷ [])
+    → ((end : RunRecord) (before : List Action) → IsTrue s end (on call) before (Made t (length (lines_of_object p.told t) + 1) x.entry))
+    → (generation : ℕ) → TriggerMade s call t generation p (with_object p (on call) t x) (Made t (length (lines_of_object p.told t) + 1) x.entry ∷ [])
 entry_made s call t p x run step true' generation =
     let some : t < length p.told.objects = subst (λ n. t < n) (sym run.object_lists) step.there in
-    let m = length (object_lines p.told t) in
+    let m = length (lines_of_object p.told t) in
     record {
       run = push_object s p call t x run step;
       back = λ end e. before_object p call t x end some e;
@@ -139,17 +139,17 @@ entry_made s call t p x run step true' generation =
       clock = refl;
       writes_none = refl;
       numbers_none = λ u. refl;
-      object_steps = at_lines (λ i ls. NeverFall (length (object_lines p.told i)) (also (nat_eq t i) (m + 1) []) (length ls)) p t (object_lines p.told t ++ object_line (on call) x.entry ∷ []) some
-          (subst (λ b. NeverFall m (also b (m + 1) []) (length (object_lines p.told t ++ object_line (on call) x.entry ∷ []))) (sym (nat_eq_same t)) (omega arith, omega (arith, length-append (object_lines p.told t) (object_line (on call) x.entry ∷ []))))
-          (λ i apart. subst (λ b. NeverFall (length (object_lines p.told i)) (also b (m + 1) []) (length (object_lines p.told i))) (sym (nat_eq_apart t i apart)) (omega arith));
+      object_steps = at_lines (λ i ls. NeverFall (length (lines_of_object p.told i)) (also (nat_eq t i) (m + 1) []) (length ls)) p t (lines_of_object p.told t ++ object_line (on call) x.entry ∷ []) some
+          (subst (λ b. NeverFall m (also b (m + 1) []) (length (lines_of_object p.told t ++ object_line (on call) x.entry ∷ []))) (sym (nat_eq_same t)) (omega arith, omega (arith, length-append (lines_of_object p.told t) (object_line (on call) x.entry ∷ []))))
+          (λ i apart. subst (λ b. NeverFall (length (lines_of_object p.told i)) (also b (m + 1) []) (length (lines_of_object p.told i))) (sym (nat_eq_apart t i apart)) (omega arith));
       others = λ i apart. get_or-set_other p.told.objects t i _ [] apart;
     }
 
-skip_made : (s : Script) (call t generation : ℕ) (p : Progress) → IsRun s call (call + 1) p → t < length s.timers → s.limit ≤ length (object_lines p.told t) → AllByRecursion (λ (l : ObjectLine). AreBelow call l.skips) (object_lines p.told t)
-    → TriggerMade s call t generation p (with_skip p (on call) t generation) (Skipped t (length (object_lines p.told t)) generation ∷ [])
+skip_made : (s : Script) (call t generation : ℕ) (p : Progress) → IsRun s call (call + 1) p → t < length s.timers → s.limit ≤ length (lines_of_object p.told t) → AllByRecursion (λ (l : ObjectLine). AreBelow call l.skips) (lines_of_object p.told t)
+    → TriggerMade s call t generation p (with_skip p (on call) t generation) (Skipped t (length (lines_of_object p.told t)) generation ∷ [])
 skip_made s call t generation p run there full fresh =
     let some : t < length p.told.objects = subst (λ n. t < n) (sym run.object_lists) there in
-    let m = length (object_lines p.told t) in
+    let m = length (lines_of_object p.told t) in
     record {
       run = push_skip s p call t generation run there fresh;
       back = λ end e. before_skip p call t generation end some e;
@@ -161,17 +161,17 @@ skip_made s call t generation p run there full fresh =
       clock = refl;
       writes_none = refl;
       numbers_none = λ u. refl;
-      object_steps = at_lines (λ i ls. NeverFall (length (object_lines p.told i)) (also (nat_eq t i) m []) (length ls)) p t (under_last (object_lines p.told t) (record { label = on call; generation = generation })) some
-          (subst (λ b. NeverFall m (also b m []) (length (under_last (object_lines p.told t) (record { label = on call; generation = generation })))) (sym (nat_eq_same t))
-          (omega arith, omega (arith, under_length (object_lines p.told t) (record { label = on call; generation = generation }))))
-          (λ i apart. subst (λ b. NeverFall (length (object_lines p.told i)) (also b m []) (length (object_lines p.told i))) (sym (nat_eq_apart t i apart)) (omega arith));
+      object_steps = at_lines (λ i ls. NeverFall (length (lines_of_object p.told i)) (also (nat_eq t i) m []) (length ls)) p t (under_last (lines_of_object p.told t) (record { label = on call; generation = generation })) some
+          (subst (λ b. NeverFall m (also b m []) (length (under_last (lines_of_object p.told t) (record { label = on call; generation = generation })))) (sym (nat_eq_same t))
+          (omega arith, omega (arith, under_length (lines_of_object p.told t) (record { label = on call; generation = generation }))))
+          (λ i apart. subst (λ b. NeverFall (length (lines_of_object p.told i)) (also b m []) (length (lines_of_object p.told i))) (sym (nat_eq_apart t i apart)) (omega arith));
       others = λ i apart. get_or-set_other p.told.objects t i _ [] apart;
     }
 
 -- an expiry of an object, by whether it counts
 expiry_made : (s : Script) (o : Object) (call t generation : ℕ) (p : Progress) (counts : Option Bool) → IsObject o → object_at p.objects t ≡ o → trigger_counts o generation p.reading ≡ counts → IsRun s call (call + 1) p → t < length s.timers
-    → AllByRecursion (λ (l : ObjectLine). AreBelow call l.skips) (object_lines p.told t)
-    → TriggerMade s call t generation p (with_trigger p (on call) t generation (option_map (λ c. trigger_as o generation p.reading c) counts)) (trigger_dids t (length (object_lines p.told t)) generation p.reading.stamp counts)
+    → AllByRecursion (λ (l : ObjectLine). AreBelow call l.skips) (lines_of_object p.told t)
+    → TriggerMade s call t generation p (with_trigger p (on call) t generation (option_map (λ c. trigger_as o generation p.reading c) counts)) (trigger_dids t (length (lines_of_object p.told t)) generation p.reading.stamp counts)
 expiry_made s o call t generation p None object is counts run there fresh =
     skip_made s call t generation p run there (omega (arith, refused_full s t generation o p.reading object (subst (IsMadeAs s t) is (run.objects t).made) counts, ap entries_of (sym is), (run.objects t).counted)) fresh
 expiry_made s o call t generation p (Some counted) object is counts run there fresh =
@@ -198,12 +198,12 @@ body_of_object s t at (Fd x) f object made trigger = subst (λ k. IsBody k at f)
 -- a claim of an object's timer, as the record has it
 abbrev pub object_firing : Object → Progress → ℕ → ℕ → Fired
 object_firing o p t generation = record {
-  seen = λ u. length (lines_of p.told u);
+  seen = λ u. length (lines_of_timer p.told u);
   timer = t;
-  claim = length (lines_of p.told t) + 1;
+  claim = length (lines_of_timer p.told t) + 1;
   generation = generation;
-  body = trigger_dids t (length (object_lines p.told t)) generation p.reading.stamp (trigger_counts o generation p.reading);
-  finish = length (lines_of p.told t) + 1 + 1;
+  body = trigger_dids t (length (lines_of_object p.told t)) generation p.reading.stamp (trigger_counts o generation p.reading);
+  finish = length (lines_of_timer p.told t) + 1 + 1;
   restart = false;
   rearmed = restarts.None;
 }
@@ -214,7 +214,7 @@ object_fired o p c base t generation =
     with_step (with_trigger (with_step p c t (claim_step base p.reading generation None)) c t generation (option_map (λ counted. trigger_as o generation p.reading counted) (trigger_counts o generation p.reading))) c t
     (finish_step (running_timer p base t) generation false)
 
-regroup : (before ds : List Did) (a b : Did) → ((before ++ a ∷ []) ++ ds) ++ b ∷ [] ≡ before ++ (a ∷ ds ++ b ∷ [])
+regroup : (before ds : List Action) (a b : Action) → ((before ++ a ∷ []) ++ ds) ++ b ∷ [] ≡ before ++ (a ∷ ds ++ b ∷ [])
 regroup before ds a b = append_assoc (before ++ a ∷ []) ds (b ∷ []) ∙ append_assoc before (a ∷ []) (ds ++ b ∷ [])
 
 -- an object's timer that a pass claims
@@ -224,14 +224,14 @@ trigger_made s o call base at t generation p is same run next fresh object =
     let there : t < length s.timers = subst (λ n. t < n) run.timers next.there in
     let some_timer : t < length p.timers = next.there in
     let some_list : t < length p.told.timers = subst (λ n. t < n) (sym run.lists) there in
-    let n = length (lines_of p.told t) in
-    let m = length (object_lines p.told t) in
+    let n = length (lines_of_timer p.told t) in
+    let m = length (lines_of_object p.told t) in
     let claim = claim_step base p.reading generation None in
     let one = with_step p (on call) t claim in
     let step = claim_taken s p call base t generation None run next tt in
     let run_one = push_step s p call t claim run step in
     let counts = trigger_counts o generation p.reading in
-    let clear : AllByRecursion (λ (l : ObjectLine). AreBelow call l.skips) (object_lines p.told t) = ⊎_elim (λ below. below) (λ none. absurd (unequal generation (sym next.armed ∙ none))) fresh in
+    let clear : AllByRecursion (λ (l : ObjectLine). AreBelow call l.skips) (lines_of_object p.told t) = ⊎_elim (λ below. below) (λ none. absurd (unequal generation (sym next.armed ∙ none))) fresh in
     let made = expiry_made s o call t generation one counts object is refl run_one there clear in
     let ds = trigger_dids t m generation p.reading.stamp counts in
     let two = with_trigger one (on call) t generation (option_map (λ counted. trigger_as o generation p.reading counted) counts) in
@@ -242,12 +242,12 @@ trigger_made s o call base at t generation p is same run next fresh object =
     let some_two : t < length two.timers = subst (λ k. t < k) (sym made.run.timers) there in
     let some_list_two : t < length two.told.timers = subst (λ k. t < k) (sym made.run.lists) there in
     let three = with_step two (on call) t finish in
-    let lines_two : length (lines_of two.told t) ≡ n + 1 = ap (λ ls. length (get_or ls t [])) made.lines ∙ length_with p (on call) t claim some_list in
+    let lines_two : length (lines_of_timer two.told t) ≡ n + 1 = ap (λ ls. length (get_or ls t [])) made.lines ∙ length_with p (on call) t claim some_list in
     let a = Entered t (n + 1) (entries.Claim base p.reading.stamp generation) in
     let b = Entered t (n + 1 + 1) (entries.Finish false generation restarts.None) in
     let whole : a ∷ ds ++ b ∷ [] ≡ fires base at (object_firing o p t generation) = ap (λ k. Entered t (n + 1) (entries.Claim base k generation) ∷ ds ++ b ∷ []) same in
-    let tells_two = λ (before : List Did) (told : Tells p.told (on call) before). made.tells (before ++ a ∷ []) (tells_step s call p before t claim run there told) in
-    let tells_three = λ (before : List Did) (told : Tells p.told (on call) before).
+    let tells_two = λ (before : List Action) (told : Tells p.told (on call) before). made.tells (before ++ a ∷ []) (tells_step s call p before t claim run there told) in
+    let tells_three = λ (before : List Action) (told : Tells p.told (on call) before).
     subst (λ k. Tells three.told (on call) (((before ++ a ∷ []) ++ ds) ++ Entered t (k + 1) (entries.Finish false generation restarts.None) ∷ [])) lines_two
     (tells_step s call two ((before ++ a ∷ []) ++ ds) t finish made.run there (tells_two before told)) in
     let to_two = λ (end : RunRecord) (e : Extends call three.told end). before_step two call t finish end some_two some_list_two e in
@@ -267,18 +267,18 @@ trigger_made s o call base at t generation p is same run next fresh object =
             subst (λ xs. AreTrue s end (on call) (before ++ a ∷ []) xs) (sym (append_assoc ds (b ∷ []) rest))
                 (made.looks end (before ++ a ∷ []) (b ∷ rest) (tells_step s call p before t claim run there told) (to_one end e) inner),
           );
-      steps = λ u. subst (λ ds'. NeverFall (length (lines_of p.told u)) (numbers_on u ds') (length (lines_of three.told u))) whole
-          (subst (λ ns. NeverFall (length (lines_of p.told u)) ns (length (lines_of three.told u))) (sym (numbers_on_append u (a ∷ []) (ds ++ b ∷ []) ∙ ap (λ ns. numbers_on u (a ∷ []) ++ ns) (numbers_on_append u ds (b ∷ []) ∙ ap (λ ns. ns ++ numbers_on u (b ∷ [])) (made.numbers_none u))))
+      steps = λ u. subst (λ ds'. NeverFall (length (lines_of_timer p.told u)) (numbers_on u ds') (length (lines_of_timer three.told u))) whole
+          (subst (λ ns. NeverFall (length (lines_of_timer p.told u)) ns (length (lines_of_timer three.told u))) (sym (numbers_on_append u (a ∷ []) (ds ++ b ∷ []) ∙ ap (λ ns. numbers_on u (a ∷ []) ++ ns) (numbers_on_append u ds (b ∷ []) ∙ ap (λ ns. ns ++ numbers_on u (b ∷ [])) (made.numbers_none u))))
           (NeverFall-append _ _ _ (numbers_on u (a ∷ [])) (numbers_on u (b ∷ [])) (step_numbers s p call t claim run there u)
-          (subst (λ k. NeverFall (length (lines_of one.told u)) (numbers_on u (Entered t (k + 1) (entries.Finish false generation restarts.None) ∷ [])) (length (lines_of three.told u))) lines_two
-          (subst (λ ls. NeverFall (length (get_or ls u [])) (numbers_on u (Entered t (length (lines_of two.told t) + 1) (entries.Finish false generation restarts.None) ∷ [])) (length (lines_of three.told u))) made.lines
+          (subst (λ k. NeverFall (length (lines_of_timer one.told u)) (numbers_on u (Entered t (k + 1) (entries.Finish false generation restarts.None) ∷ [])) (length (lines_of_timer three.told u))) lines_two
+          (subst (λ ls. NeverFall (length (get_or ls u [])) (numbers_on u (Entered t (length (lines_of_timer two.told t) + 1) (entries.Finish false generation restarts.None) ∷ [])) (length (lines_of_timer three.told u))) made.lines
           (step_numbers s two call t finish made.run there u)))));
-      object_steps = λ i. subst (λ ds'. NeverFall (length (object_lines p.told i)) (numbers_of_object i ds') (length (object_lines three.told i))) whole
-          (subst (λ ns. NeverFall (length (object_lines p.told i)) ns (length (object_lines three.told i))) (sym (object_numbers_append i ds (b ∷ []) ∙ append_nothing (numbers_of_object i ds))) (made.object_steps i));
+      object_steps = λ i. subst (λ ds'. NeverFall (length (lines_of_object p.told i)) (numbers_of_object i ds') (length (lines_of_object three.told i))) whole
+          (subst (λ ns. NeverFall (length (lines_of_object p.told i)) ns (length (lines_of_object three.told i))) (sym (object_numbers_append i ds (b ∷ []) ∙ append_nothing (numbers_of_object i ds))) (made.object_steps i));
       fresh = λ i before. ⊎_elim
           (λ here. inr (ap (λ v. (timer_at three.timers v).armed) here ∙ ap (λ (x : Timer). x.armed) (timer_with two (on call) t finish some_two ∙ ap (λ (x : Timer). after x (events.Finish false)) is_running)))
           (λ apart. subst (λ ls. AllByRecursion (λ (l : ObjectLine). AreBelow call l.skips) ls ⊎ ((timer_at three.timers i).armed ≡ None)) (sym (made.others i apart))
-          (subst (λ (x : Timer). AllByRecursion (λ (l : ObjectLine). AreBelow call l.skips) (object_lines p.told i) ⊎ (x.armed ≡ None))
+          (subst (λ (x : Timer). AllByRecursion (λ (l : ObjectLine). AreBelow call l.skips) (lines_of_object p.told i) ⊎ (x.armed ≡ None))
           (sym (get_or-set_other two.timers t i (after (timer_at two.timers t) (events.Finish false)) no_timer apart ∙ ap (λ ts. timer_at ts i) made.timers ∙ get_or-set_other p.timers t i running no_timer apart)) before))
           (cases_eq i t);
       body = body_of_object s t at o (object_firing o p t generation) object (subst (IsMadeAs s t) is (run.objects t).made)

@@ -16,10 +16,10 @@ use Rattle.record_text.specs.declared.record.Entry.TheVariants as entries
 use Rattle.record_text.specs.declared.record.Answer.{Answer}
 use Rattle.record_text.specs.declared.record.Answer.TheVariants as answers
 use Rattle.record_text.specs.declared.record.RunRecord.{RunRecord}
-use Rattle.script_text.specs.Histories.{lines_of, reading_at, timer_after}
-use Rattle.script_text.specs.Dids.{Did}
-use Rattle.script_text.specs.Calls.{Fired, Does, IsPass, IsSeen, fires}
-use Rattle.script_text.specs.Passes.{IsRightPass}
+use Rattle.script_text.specs.Histories.{lines_of_timer, reading_at, timer_after}
+use Rattle.script_text.specs.Actions.{Action}
+use Rattle.script_text.specs.Calls.{Fired, Does, IsExpiryRun, IsSeen, fires}
+use Rattle.script_text.specs.ExpiryRuns.{IsRightExpiryRun}
 use Rattle.script_text.specs.Fits.{FitsCall}
 use Rattle.hrt_app.specs.Progress.{Progress, plain, with_entry, with_steps, with_write}
 use Rattle.hrt_app.specs.ObjectTurns.{StartsHere, StartsThere, start_here}
@@ -44,25 +44,25 @@ use Rattle.hrt_app.proofs.SettimeMade.{full_called, invalid_called, settime_made
 use Rattle.hrt_app.proofs.Passes.{PassMade, firings, never_due, never_runs, pass_made, test_seen}
 
 -- how many timers a pass claimed
-count : (s : Script) (number base at : ℕ) (p next : Progress) (fs : List (ℕ × ℕ)) (before : List Did) (timers : List ℕ) → PassMade s number base at p next fs before → timers ≡ map (λ f. f.0) fs
+count : (s : Script) (number base at : ℕ) (p next : Progress) (fs : List (ℕ × ℕ)) (before : List Action) (timers : List ℕ) → PassMade s number base at p next fs before → timers ≡ map (λ f. f.0) fs
     → length (firings p number base fs) ≡ length timers
 count s number base at p next fs before timers made same =
     sym (length-map (firings p number base fs) (λ (f : Fired). f.timer)) ∙ ap length (sym made.timers ∙ sym same)
 
 -- a pass that ends as it should
 pub passed : (s : Script) (number base budget : ℕ) (p next : Progress) (timers : List ℕ) (shown : ℕ) (answer : Answer) → IsRun s number number p → (passes : Passes (on number) base p timers shown next)
-    → ((fired : List Fired) (dids : List Did) → IsPass s (length p.told.clock) base fired shown timers dids → length fired ≡ length timers → Does s (length p.told.clock) (calls.Expire base budget) answer fired dids)
+    → ((fired : List Fired) (actions : List Action) → IsExpiryRun s (length p.told.clock) base fired shown timers actions → length fired ≡ length timers → Does s (length p.told.clock) (calls.Expire base budget) answer fired actions)
     → ((end : RunRecord) → (made : PassMade s number base (length p.told.clock) p next passes.fired []) → Extends number next.told end
-    → IsRightPass s end (on number) (length p.told.clock) (calls.Expire base budget) answer (firings p number base passes.fired) (flat_map (fires base (length p.told.clock)) (firings p number base passes.fired)) (λ u. length (lines_of next.told u)))
-    → ((end : RunRecord) (dids : List Did) → IsSeen s end (on number) (length p.told.clock) dids (calls.Expire base budget) answer)
+    → IsRightExpiryRun s end (on number) (length p.told.clock) (calls.Expire base budget) answer (firings p number base passes.fired) (flat_map (fires base (length p.told.clock)) (firings p number base passes.fired)) (λ u. length (lines_of_timer next.told u)))
+    → ((end : RunRecord) (actions : List Action) → IsSeen s end (on number) (length p.told.clock) actions (calls.Expire base budget) answer)
     → TurnMade s number p (calls.Expire base budget) answer next
 passed s number base budget p next timers shown answer run passes does right seen =
     let at = length p.told.clock in
     let inside = begin s number p run in
     let made = pass_made s number base at passes.fired p next [] run.stamp inside (λ i. inl (run.objects i).skips_below) passes.claims (tells_start s number p run) in
     let fired = firings p number base passes.fired in
-    let dids = flat_map (fires base at) fired in
-    let is_pass : IsPass s at base fired shown timers dids = record {
+    let actions = flat_map (fires base at) fired in
+    let is_pass : IsExpiryRun s at base fired shown timers actions = record {
       one_reading = passes.one_reading ∙ run.stamp;
       claimed = passes.in_order ∙ made.timers;
       done = refl;
@@ -73,9 +73,9 @@ passed s number base budget p next timers shown answer run passes does right see
       back = λ end e. made.back end (within number next.told end e);
       fits = λ end e.
           let inner = within number next.told end e in
-          made_called s number p next end (calls.Expire base budget) answer fired dids (λ u. length (lines_of next.told u)) run made.run e (made.back end inner) made.same_clock made.writes_none
-          made.tells (does fired dids is_pass (count s number base at p next passes.fired [] timers made passes.in_order)) (made.looks end inner) (seen end dids) (right end made inner)
-          (λ u. NeverFall-append _ _ _ _ (length (lines_of next.told u) ∷ []) (made.steps u) (omega arith, omega arith))
+          made_called s number p next end (calls.Expire base budget) answer fired actions (λ u. length (lines_of_timer next.told u)) run made.run e (made.back end inner) made.same_clock made.writes_none
+          made.tells (does fired actions is_pass (count s number base at p next passes.fired [] timers made passes.in_order)) (made.looks end inner) (seen end actions) (right end made inner)
+          (λ u. NeverFall-append _ _ _ _ (length (lines_of_timer next.told u) ∷ []) (made.steps u) (omega arith, omega arith))
           (λ i. NeverFall-append _ _ _ _ [] (made.object_steps i) (omega arith));
     }
 
@@ -139,26 +139,26 @@ turn_made s number p next (calls.Peek t) (answers.Peek stamp base enqueued runni
     (peek_called s number p t end run there e))))))
 turn_made s number p next (calls.Expire base budget) (answers.Done shown timers) run there suit turns =
     passed s number base budget p next timers shown (answers.Done shown timers) run turns.0
-    (λ fired dids pass counted. (pass, subst (λ n. n < budget) (sym counted) turns.1))
+    (λ fired actions pass counted. (pass, subst (λ n. n < budget) (sym counted) turns.1))
     (λ end made e.
     let reading : reading_at end.clock (length p.told.clock) ≡ next.reading = run.reading_now end.clock (made.back end e).clock ∙ sym made.same_reading in (
       made.claims end e,
       record {
         points = point_of_timer s number next end _ made.run e made.tells;
         free = λ u. test_seen s next number end (runs_on base) u made.run e (never_runs base) (turns.2.free u);
-        none_due = λ u. subst (λ r. is_due_on base r (timer_after s end u (length (lines_of next.told u))) ≡ false) (sym reading)
+        none_due = λ u. subst (λ r. is_due_on base r (timer_after s end u (length (lines_of_timer next.told u))) ≡ false) (sym reading)
             (test_seen s next number end (is_due_on base next.reading) u made.run e (never_due base next.reading) (turns.2.none_due u));
       },
     ))
-    (λ end dids. tt)
+    (λ end actions. tt)
 turn_made s number p next (calls.Expire base budget) (answers.More shown timers) run there suit turns =
     passed s number base budget p next timers shown (answers.More shown timers) run turns.0
-    (λ fired dids pass counted. (pass, counted ∙ turns.1))
+    (λ fired actions pass counted. (pass, counted ∙ turns.1))
     (λ end made e. made.claims end e)
-    (λ end dids. tt)
+    (λ end actions. tt)
 turn_made s number p next (calls.Expire base budget) (answers.Busy shown timers t generation) run there suit turns =
     passed s number base budget p next timers shown (answers.Busy shown timers t generation) run turns.0
-    (λ fired dids pass counted. (pass, subst (λ n. n < budget) (sym counted) turns.1))
+    (λ fired actions pass counted. (pass, subst (λ n. n < budget) (sym counted) turns.1))
     (λ end made e.
     let state = made.run.states end e t (subst (λ n. t < n) made.run.timers turns.2.there) in (
       made.claims end e,
@@ -168,7 +168,7 @@ turn_made s number p next (calls.Expire base budget) (answers.Busy shown timers 
         there = ap (λ (x : Timer). x.base) state ∙ turns.2.on;
       },
     ))
-    (λ end dids. tt)
+    (λ end actions. tt)
 turn_made s number p next (calls.Clock write) (answers.Clock stamp) run there suit turns =
     subst (λ (q : Progress). TurnMade s number p (calls.Clock write) (answers.Clock stamp) q) (sym turns.2) (record {
       run = finish s number (with_write p (on number) write) (push_write s p number write (begin s number p run) turns.0);

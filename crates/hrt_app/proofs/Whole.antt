@@ -2,7 +2,7 @@
 use Rattle.hrt_app.specs.declared.objects.Object.{Object}
 use Rattle.hrt_app.specs.declared.objects.Object.TheVariants.{Raw, Posix, Fd}
 use Rattle.hrt_app.specs.Objects.{object_at, object_in, opened_object}
-use Rattle.script_text.specs.Objects.{IsLegalObject, kind_of, object_lines}
+use Rattle.script_text.specs.Objects.{IsLegalObject, kind_of, lines_of_object}
 use Rattle.posix_timer.specs.States as posix_states
 use Rattle.timer_fd.specs.States as fd_states
 use Rattle.record_text.specs.declared.record.ClockLine.{ClockLine}
@@ -33,8 +33,8 @@ use Rattle.record_text.specs.declared.record.Look.{Look}
 use Rattle.record_text.specs.declared.record.TimerLine.{TimerLine}
 use Rattle.record_text.specs.declared.record.Answer.{Answer}
 use Rattle.record_text.specs.declared.record.RunRecord.{RunRecord}
-use Rattle.script_text.specs.Order.{Placed, calls_from, calls_of, IsInOrder, IsLabel, NeverFall}
-use Rattle.script_text.specs.Histories.{clock_of, history_of, lines_of, timer_after}
+use Rattle.script_text.specs.Order.{CallInRound, calls_from, calls_of, IsInOrder, IsLabel, NeverFall}
+use Rattle.script_text.specs.Histories.{clock_of, history_of, lines_of_timer, timer_after}
 use Rattle.script_text.specs.Fits.{AreSorted, AreUnder, Fits, FitsLane, Seen, answers_of, unseen}
 use Rattle.hrt_app.specs.Progress.{Progress}
 use Rattle.hrt_app.specs.Turns.{IsOneLane, NamesTimer, Suits, TurnsAll, calls_in, opened}
@@ -49,13 +49,13 @@ use Rattle.hrt_app.proofs.Called.{seen_of}
 use Rattle.hrt_app.proofs.Turned.{turn_made}
 
 -- what turns come to: the run goes on, and the lane's calls fit
-pub record TurnsMade (s : Script) (number : ℕ) (p : Progress) (placed : List Placed) (given : List Answer) (next : Progress) : Type 0 where
+pub record TurnsMade (s : Script) (number : ℕ) (p : Progress) (placed : List CallInRound) (given : List Answer) (next : Progress) : Type 0 where
   pub run : IsRun s (number + length placed) (number + length placed) next
   pub back : (end : RunRecord) → Extends (number + length placed) next.told end → Extends number p.told end
   pub fits : (end : RunRecord) → Extends (number + length placed) next.told end → FitsLane s end 0 number (seen_of p.told) placed given
 
-pub turns_made : (s : Script) (placed : List Placed) (number : ℕ) (p next : Progress) (given : List Answer) → IsRun s number number p → AllByRecursion (λ (c : Placed). NamesTimer (length s.timers) c.call) placed
-    → AllByRecursion (λ (c : Placed). Suits (kind_of s) c.call) placed → TurnsAll number p (map (λ (c : Placed). c.call) placed) given next → TurnsMade s number p placed given next
+pub turns_made : (s : Script) (placed : List CallInRound) (number : ℕ) (p next : Progress) (given : List Answer) → IsRun s number number p → AllByRecursion (λ (c : CallInRound). NamesTimer (length s.timers) c.call) placed
+    → AllByRecursion (λ (c : CallInRound). Suits (kind_of s) c.call) placed → TurnsAll number p (map (λ (c : CallInRound). c.call) placed) given next → TurnsMade s number p placed given next
 turns_made s [] number p next [] run named suited turns =
     subst (λ (q : Progress). TurnsMade s number p [] [] q) (sym turns) (record {
       run = subst (λ n. IsRun s n n p) (none_more number) run;
@@ -93,16 +93,16 @@ dropped lane (c ∷ cs) zeros = ap (λ n. if nat_eq n (suc lane) then c ∷ filt
     ∙ ap (λ b. if b then c ∷ filter (λ (x : LaneCall). nat_eq x.lane (suc lane)) cs else filter (λ (x : LaneCall). nat_eq x.lane (suc lane)) cs) (nat_eq_apart 0 (suc lane) (λ e. absurd (omega (arith, e))))
     ∙ dropped lane cs zeros.1
 
-placed_calls : (round : ℕ) (cs : List LaneCall) → map (λ (c : Placed). c.call) (map (λ (c : LaneCall). record { round = round; call = c.call }) cs) ≡ map (λ (c : LaneCall). c.call) cs
+placed_calls : (round : ℕ) (cs : List LaneCall) → map (λ (c : CallInRound). c.call) (map (λ (c : LaneCall). record { round = round; call = c.call }) cs) ≡ map (λ (c : LaneCall). c.call) cs
 placed_calls round [] = refl
 placed_calls round (c ∷ cs) = ap (λ xs. c.call ∷ xs) (placed_calls round cs)
 
-pub all_calls : (round : ℕ) (rs : List Round) → AllByRecursion (λ (r : Round). AllByRecursion (λ (c : LaneCall). c.lane ≡ 0) r.calls) rs → map (λ (c : Placed). c.call) (calls_from 0 round rs) ≡ calls_in rs
+pub all_calls : (round : ℕ) (rs : List Round) → AllByRecursion (λ (r : Round). AllByRecursion (λ (c : LaneCall). c.lane ≡ 0) r.calls) rs → map (λ (c : CallInRound). c.call) (calls_from 0 round rs) ≡ calls_in rs
 all_calls round [] zeros = refl
 all_calls round (r ∷ rs) zeros =
-    map-append (λ (c : Placed). c.call) (map (λ (c : LaneCall). record { round = round; call = c.call }) (filter (λ (c : LaneCall). nat_eq c.lane 0) r.calls)) (calls_from 0 (round + 1) rs)
-    ∙ ap (λ xs. xs ++ map (λ (c : Placed). c.call) (calls_from 0 (round + 1) rs))
-    (ap (λ xs. map (λ (c : Placed). c.call) (map (λ (c : LaneCall). record { round = round; call = c.call }) xs)) (kept r.calls zeros.0) ∙ placed_calls round r.calls)
+    map-append (λ (c : CallInRound). c.call) (map (λ (c : LaneCall). record { round = round; call = c.call }) (filter (λ (c : LaneCall). nat_eq c.lane 0) r.calls)) (calls_from 0 (round + 1) rs)
+    ∙ ap (λ xs. xs ++ map (λ (c : CallInRound). c.call) (calls_from 0 (round + 1) rs))
+    (ap (λ xs. map (λ (c : CallInRound). c.call) (map (λ (c : LaneCall). record { round = round; call = c.call }) xs)) (kept r.calls zeros.0) ∙ placed_calls round r.calls)
     ∙ ap (λ xs. map (λ (c : LaneCall). c.call) r.calls ++ xs) (all_calls (round + 1) rs zeros.1)
 
 pub no_calls : (lane round : ℕ) (rs : List Round) → AllByRecursion (λ (r : Round). AllByRecursion (λ (c : LaneCall). c.lane ≡ 0) r.calls) rs → calls_from (suc lane) round rs ≡ []
@@ -112,17 +112,17 @@ no_calls lane round (r ∷ rs) zeros =
 
 -- the calls of the lane name timers
 placed_named : (P : Call → Type 0) (round : ℕ) (cs : List LaneCall) → AllByRecursion (λ (c : LaneCall). P c.call) cs
-    → AllByRecursion (λ (c : Placed). P c.call) (map (λ (c : LaneCall). record { round = round; call = c.call }) (filter (λ (c : LaneCall). nat_eq c.lane 0) cs))
+    → AllByRecursion (λ (c : CallInRound). P c.call) (map (λ (c : LaneCall). record { round = round; call = c.call }) (filter (λ (c : LaneCall). nat_eq c.lane 0) cs))
 placed_named P round [] named = tt
 placed_named P round (c ∷ cs) named =
-    elim (nat_eq c.lane 0) as (λ b. AllByRecursion (λ (x : Placed). P x.call) (map (λ (x : LaneCall). record { round = round; call = x.call }) (if b then c ∷ filter (λ (x : LaneCall). nat_eq x.lane 0) cs else filter (λ (x : LaneCall). nat_eq x.lane 0) cs))) [
+    elim (nat_eq c.lane 0) as (λ b. AllByRecursion (λ (x : CallInRound). P x.call) (map (λ (x : LaneCall). record { round = round; call = x.call }) (if b then c ∷ filter (λ (x : LaneCall). nat_eq x.lane 0) cs else filter (λ (x : LaneCall). nat_eq x.lane 0) cs))) [
       | true ↦ (named.0, placed_named P round cs named.1)
       | false ↦ placed_named P round cs named.1
     ]
 
-pub all_named : (P : Call → Type 0) (round : ℕ) (rs : List Round) → AllByRecursion (λ (r : Round). AllByRecursion (λ (c : LaneCall). P c.call) r.calls) rs → AllByRecursion (λ (c : Placed). P c.call) (calls_from 0 round rs)
+pub all_named : (P : Call → Type 0) (round : ℕ) (rs : List Round) → AllByRecursion (λ (r : Round). AllByRecursion (λ (c : LaneCall). P c.call) r.calls) rs → AllByRecursion (λ (c : CallInRound). P c.call) (calls_from 0 round rs)
 all_named P round [] named = tt
-all_named P round (r ∷ rs) named = All-append (λ (c : Placed). P c.call) _ _ (placed_named P round r.calls named.0) (all_named P (round + 1) rs named.1)
+all_named P round (r ∷ rs) named = All-append (λ (c : CallInRound). P c.call) _ _ (placed_named P round r.calls named.0) (all_named P (round + 1) rs named.1)
 
 -- the whole record of a run
 abbrev pub record_of : Progress → List Answer → RunRecord
@@ -155,9 +155,9 @@ bare_of [] e = refl
 bare_of (l ∷ ls) e = absurd (omega (arith, ap length e))
 
 -- an object's lines are a history that one such object gives
-legal_object : (s : Script) (i count : ℕ) (next : Progress) (given : List Answer) (o : Object) → IsObjectRun s count count i next.told.clock (object_lines next.told i) o → IsLegalObject s (record_of next given) i (kind_of s i)
+legal_object : (s : Script) (i count : ℕ) (next : Progress) (given : List Answer) (o : Object) → IsObjectRun s count count i next.told.clock (lines_of_object next.told i) o → IsLegalObject s (record_of next given) i (kind_of s i)
 legal_object s i count next given (Raw callback) run =
-    subst (IsLegalObject s (record_of next given) i) (sym run.made) (bare_of (object_lines next.told i) (run.led next.told.clock (Continues-self (λ (l : ClockLine). l.label) count next.told.clock)))
+    subst (IsLegalObject s (record_of next given) i) (sym run.made) (bare_of (lines_of_object next.told i) (run.led next.told.clock (Continues-self (λ (l : ClockLine). l.label) count next.told.clock)))
 legal_object s i count next given (Posix t) run =
     let led = run.led next.told.clock (Continues-self (λ (l : ClockLine). l.label) count next.told.clock) in
     subst (IsLegalObject s (record_of next given) i) (sym run.made.0) (led.all, led.legal)
@@ -168,16 +168,16 @@ legal_object s i count next given (Fd t) run =
 again : (s : Script) (from : ℕ) (next : Progress) (given : List Answer) → IsRun s from from next → Extends from next.told (record_of next given)
 again s from next given run = let e = Extends-self s from from next run in record { clock = e.clock; timers = e.timers; looks = e.looks; objects = e.objects }
 
-whole_history : (next : Progress) (given : List Answer) (t : ℕ) → take (length (lines_of next.told t)) (history_of (record_of next given) t) ≡ history_of (record_of next given) t
+whole_history : (next : Progress) (given : List Answer) (t : ℕ) → take (length (lines_of_timer next.told t)) (history_of (record_of next given) t) ≡ history_of (record_of next given) t
 whole_history next given t =
-    subst (λ n. take n (history_of (record_of next given) t) ≡ history_of (record_of next given) t) (length-history next.told.clock 0 (lines_of next.told t)) (take-length (history_of (record_of next given) t))
+    subst (λ n. take n (history_of (record_of next given) t) ≡ history_of (record_of next given) t) (length-history next.told.clock 0 (lines_of_timer next.told t)) (take-length (history_of (record_of next given) t))
 
 lower : (a b c : ℕ) (ns : List ℕ) → a ≤ b → NeverFall b ns c → NeverFall a ns c
 lower a b c [] le rise = omega (arith, le, rise)
 lower a b c (n ∷ ns) le rise = (omega (arith, le, rise.0), rise.1)
 
 -- what fits a lane that has seen something fits one that has seen nothing
-from_unseen : (s : Script) (r : RunRecord) (lane number : ℕ) (before : Seen) (placed : List Placed) (given : List Answer) → FitsLane s r lane number before placed given → FitsLane s r lane number unseen placed given
+from_unseen : (s : Script) (r : RunRecord) (lane number : ℕ) (before : Seen) (placed : List CallInRound) (given : List Answer) → FitsLane s r lane number before placed given → FitsLane s r lane number unseen placed given
 from_unseen s r lane number before [] [] fits = tt
 from_unseen s r lane number before (c ∷ cs) (a ∷ given) fits =
     let call = fits.1 in (
@@ -185,14 +185,14 @@ from_unseen s r lane number before (c ∷ cs) (a ∷ given) fits =
       record {
         at = call.at;
         fired = call.fired;
-        dids = call.dids;
+        actions = call.actions;
         last = call.last;
         tells = call.tells;
         does = call.does;
         reading = call.reading;
         looks = call.looks;
         seen = call.seen;
-        pass = call.pass;
+        expiry_run = call.expiry_run;
         clock_steps = (omega arith, call.clock_steps.1);
         timer_steps = λ t. lower 0 (before.timers t) (fits.0.timers t) _ (omega arith) (call.timer_steps t);
         object_steps = λ i. lower 0 (before.objects i) (fits.0.objects i) _ (omega arith) (call.object_steps i);
@@ -221,9 +221,9 @@ whole s first next given one run turns =
       lanes = sym one.lanes;
       clock_calls = All-map (IsBelow count) (IsLabel s) _ (label_of s) run_end.clock_below;
       timer_calls = λ t. All-map (IsBelow count) (IsLabel s) _ (label_of s) (run_end.timers_below t);
-      looks = λ t. looks_of_lines s (lines_of next.told t) (run_end.timers_below t) (run_end.looks t);
+      looks = λ t. looks_of_lines s (lines_of_timer next.told t) (run_end.timers_below t) (run_end.looks t);
       object_calls = λ i. All-map (IsBelow count) (IsLabel s) _ (label_of s) (run_end.objects i).labels_below;
-      skips = λ i. skips_of_lines s (object_lines next.told i) (run_end.objects i).skips_below (run_end.objects i).sorted;
+      skips = λ i. skips_of_lines s (lines_of_object next.told i) (run_end.objects i).skips_below (run_end.objects i).sorted;
       object_histories = λ i. legal_object s i count next given (object_at next.objects i) (run_end.objects i);
       object_order = λ i. (run_end.objects i).order;
       writes = run_end.writes;

@@ -13,11 +13,11 @@ use Rattle.record_text.specs.declared.record.ClockLine.{ClockLine}
 use Rattle.record_text.specs.declared.record.TimerLine.{TimerLine}
 use Rattle.record_text.specs.declared.record.RunRecord.{RunRecord}
 use Rattle.script_text.specs.Order.{IsInOrder}
-use Rattle.script_text.specs.Histories.{AreWrites, reading_at, lines_of}
+use Rattle.script_text.specs.Histories.{AreWrites, reading_at, lines_of_timer}
 use Rattle.hrt_app.specs.Progress.{Progress, with_write, clock_line}
 use Rattle.hrt_app.proofs.Lists.{All-append}
 use Rattle.hrt_app.proofs.Labels.{in_order_push}
-use Rattle.script_text.specs.Objects.{object_lines}
+use Rattle.script_text.specs.Objects.{lines_of_object}
 use Rattle.hrt_app.specs.Objects.{object_at}
 use Rattle.hrt_app.proofs.Grown.{on, up_to, before_line, Continues-self, Grows-self, IsBelow}
 use Rattle.hrt_app.proofs.ObjectRuns.{from_fewer}
@@ -27,9 +27,9 @@ use Rattle.hrt_app.proofs.Runs.{Extends, IsRun}
 pub Extends-self : (s : Script) (from below : ℕ) (p : Progress) → IsRun s from below p → Extends from p.told p.told
 Extends-self s from below p run = record {
   clock = Continues-self (λ (l : ClockLine). l.label) from p.told.clock;
-  timers = λ t. Continues-self (λ (l : TimerLine). l.label) from (lines_of p.told t);
+  timers = λ t. Continues-self (λ (l : TimerLine). l.label) from (lines_of_timer p.told t);
   looks = run.looks;
-  objects = λ i. Grows-self from (object_lines p.told i);
+  objects = λ i. Grows-self from (lines_of_object p.told i);
 }
 
 pub clock_after-append : (r : ClockReading) (xs ys : List Write) → clock_after r (xs ++ ys) ≡ clock_after (clock_after r xs) ys
@@ -69,7 +69,7 @@ push_write s p call w run accepted =
       lists = run.lists;
       declared = run.declared;
       object_lists = run.object_lists;
-      objects = λ i. from_fewer s call call (call + 1) i p.told.clock (p.told.clock ++ line ∷ []) (object_lines p.told i) (object_at p.objects i)
+      objects = λ i. from_fewer s call call (call + 1) i p.told.clock (p.told.clock ++ line ∷ []) (lines_of_object p.told i) (object_at p.objects i)
           (λ clock c. before_line (λ (l : ClockLine). l.label) call p.told.clock clock line (refl, omega arith) c) (run.objects i);
       clock_below = subst (AllByRecursion (IsBelow (call + 1))) (sym (map-append (λ (l : ClockLine). l.label) p.told.clock (line ∷ []))) (All-append (IsBelow (call + 1)) _ _ run.clock_below ((refl, omega arith), tt));
       timers_below = run.timers_below;

@@ -16,8 +16,8 @@ use Rattle.record_text.specs.declared.record.Restart.{Restart}
 use Rattle.record_text.specs.declared.record.Restart.TheVariants as restarts
 use Rattle.record_text.specs.declared.record.Entry.{Entry}
 use Rattle.record_text.specs.declared.record.Entry.TheVariants as entries
-use Rattle.record_text.specs.declared.record.Told.{Told}
-use Rattle.record_text.specs.declared.record.Told.TheVariants as looks
+use Rattle.record_text.specs.declared.record.CallbackReply.{CallbackReply}
+use Rattle.record_text.specs.declared.record.CallbackReply.TheVariants as looks
 use Rattle.hrt_app.specs.Progress.{Step, plain}
 
 -- a callback starts its timer on a base that there is
@@ -26,7 +26,7 @@ IsCallbackInRange bases callback = IsKindInRange bases (kinds.Raw callback)
 
 -- what a callback comes to: what it was told in place of a step, the step that it made, and whether it asks for a restart
 pub record Act : Type 0 where
-  pub look : Option Told
+  pub look : Option CallbackReply
   pub step : Option Step
   pub again : Bool
 
@@ -35,7 +35,7 @@ abbrev pub taken : Step → Act
 taken step = record { look = None; step = Some step; again = true }
 
 -- a step that was refused
-abbrev pub refused : Told → Act
+abbrev pub refused : CallbackReply → Act
 refused look = record { look = Some look; step = None; again = true }
 
 -- the line of a start of this timer

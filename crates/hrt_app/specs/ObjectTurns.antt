@@ -20,7 +20,7 @@ use Rattle.record_text.specs.declared.record.Label.{Label}
 use Rattle.record_text.specs.declared.record.ObjectEntry.TheVariants as object_entries
 use Rattle.record_text.specs.declared.record.SettimeReply.{SettimeReply}
 use Rattle.record_text.specs.declared.record.SettimeReply.TheVariants as settings
-use Rattle.script_text.specs.ObjectCalls.{AreTaken, time_of}
+use Rattle.script_text.specs.ObjectCalls.{AreValidFor, nanoseconds_of}
 use Rattle.script_text.specs.PosixHistories as posix_lines
 use Rattle.script_text.specs.FdHistories as fd_lines
 use Rattle.hrt_app.specs.declared.objects.Object.{Object}
@@ -82,15 +82,15 @@ settime_want (Fd t) flags value interval = option_map (λ w. (w.mode, w.ns)) (fd
 
 -- a settime, as a call on this object that was told of its start
 abbrev pub settime_call : Object → ℕ → TimeSpec → TimeSpec → ClockReading → Armed → ℕ → ObjectCall
-settime_call (Raw callback) flags value interval reading arm refused = OfPosix (posix_calls.Settime flags (time_of value) (time_of interval) reading (posix_lines.arm_of arm refused))
-settime_call (Posix t) flags value interval reading arm refused = OfPosix (posix_calls.Settime flags (time_of value) (time_of interval) reading (posix_lines.arm_of arm refused))
-settime_call (Fd t) flags value interval reading arm refused = OfFd (fd_calls.Settime flags (time_of value) (time_of interval) reading (fd_lines.arm_of arm refused))
+settime_call (Raw callback) flags value interval reading arm refused = OfPosix (posix_calls.Settime flags (nanoseconds_of value) (nanoseconds_of interval) reading (posix_lines.posix_arm arm refused))
+settime_call (Posix t) flags value interval reading arm refused = OfPosix (posix_calls.Settime flags (nanoseconds_of value) (nanoseconds_of interval) reading (posix_lines.posix_arm arm refused))
+settime_call (Fd t) flags value interval reading arm refused = OfFd (fd_calls.Settime flags (nanoseconds_of value) (nanoseconds_of interval) reading (fd_lines.fd_arm arm refused))
 
 -- a settime's reply is the one of the object's step
 abbrev pub SettimeReplies : Object → ℕ → TimeSpec → ClockReading → Armed → ℕ → SettimeReply → Type 0
 SettimeReplies (Raw callback) flags value reading arm refused reply = ⊥
-SettimeReplies (Posix t) flags value reading arm refused reply = posix_lines.set_answer_of reply ≡ Some (posix.set_answer t reading (posix_lines.arm_of arm refused))
-SettimeReplies (Fd t) flags value reading arm refused reply = fd_lines.set_answer_of reply ≡ fd.set_answer t flags (time_of value) reading (fd_lines.arm_of arm refused)
+SettimeReplies (Posix t) flags value reading arm refused reply = posix_lines.posix_set_answer reply ≡ Some (posix.set_answer t reading (posix_lines.posix_arm arm refused))
+SettimeReplies (Fd t) flags value reading arm refused reply = fd_lines.fd_set_answer reply ≡ fd.set_answer t flags (nanoseconds_of value) reading (fd_lines.fd_arm arm refused)
 
 -- an object is told of no start exactly where it wants none
 abbrev pub IsToldOf : Armed → Option (Mode × ℕ) → Type 0
@@ -100,12 +100,12 @@ IsToldOf arm want = (arm ≡ armings.None) ↔ IsNone want
 abbrev pub settime_step : Object → ℕ → TimeSpec → TimeSpec → ClockReading → Armed → ℕ → SettimeReply → ObjectStep
 settime_step o flags value interval reading arm refused reply = record {
   call = settime_call o flags value interval reading arm refused;
-  entry = object_entries.Settime flags (time_of value) (time_of interval) reading.stamp arm reply;
+  entry = object_entries.Settime flags (nanoseconds_of value) (nanoseconds_of interval) reading.stamp arm reply;
 }
 
 -- a settime that makes an entry: the timer is disarmed, and started where the object wants that; then the object's entry
 pub record Sets (c : Label) (p : Progress) (timer flags : ℕ) (value interval : TimeSpec) (reply : SettimeReply) (next : Progress) : Type 0 where
-  pub taken : AreTaken (kind_in (object_at p.objects timer)) flags value interval
+  pub taken : AreValidFor (kind_in (object_at p.objects timer)) flags value interval
   pub room : entries_of (object_at p.objects timer) < limit_of (object_at p.objects timer)
   pub cancel : Option ℕ
   pub disarmed : Progress
@@ -119,9 +119,9 @@ pub record Sets (c : Label) (p : Progress) (timer flags : ℕ) (value interval :
 
 -- a settime, with its answer
 abbrev pub SettimeTurn : Label → Progress → ℕ → ℕ → TimeSpec → TimeSpec → Answer → Progress → Type 0
-SettimeTurn c p timer flags value interval answers.Invalid next = (AreTaken (kind_in (object_at p.objects timer)) flags value interval → ⊥) × (next ≡ p)
+SettimeTurn c p timer flags value interval answers.Invalid next = (AreValidFor (kind_in (object_at p.objects timer)) flags value interval → ⊥) × (next ≡ p)
 SettimeTurn c p timer flags value interval (answers.Spent stamp) next =
-    AreTaken (kind_in (object_at p.objects timer)) flags value interval × (limit_of (object_at p.objects timer) ≤ stamp) × (stamp ≡ entries_of (object_at p.objects timer)) × (next ≡ p)
+    AreValidFor (kind_in (object_at p.objects timer)) flags value interval × (limit_of (object_at p.objects timer) ≤ stamp) × (stamp ≡ entries_of (object_at p.objects timer)) × (next ≡ p)
 SettimeTurn c p timer flags value interval (answers.Old left old) next = Sets c p timer flags value interval (settings.Old left old) next
 SettimeTurn c p timer flags value interval answers.Canceled next = Sets c p timer flags value interval settings.Canceled next
 SettimeTurn c p timer flags value interval (answers.Unarmed stamp) next = Sets c p timer flags value interval (settings.Unarmed stamp) next

@@ -9,7 +9,7 @@ use Rattle.seq_timer.specs.Tables.{timer_at}
 use Rattle.record_text.specs.declared.record.Label.{Label}
 use Rattle.record_text.specs.declared.record.ClockLine.{ClockLine}
 use Rattle.record_text.specs.declared.record.Entry.{Entry}
-use Rattle.record_text.specs.declared.record.Told.{Told}
+use Rattle.record_text.specs.declared.record.CallbackReply.{CallbackReply}
 use Rattle.record_text.specs.declared.record.Look.{Look}
 use Rattle.record_text.specs.declared.record.TimerLine.{TimerLine}
 use Rattle.record_text.specs.declared.record.ObjectEntry.{ObjectEntry}
@@ -30,19 +30,19 @@ pub record Progress : Type 0 where
 pub record Step : Type 0 where
   pub event : Event
   pub entry : Entry
-  pub look : Option Told
+  pub look : Option CallbackReply
 
 -- a step after which no callback was told anything
 abbrev pub plain : Event → Entry → Step
 plain event entry = record { event = event; entry = entry; look = None }
 
 -- what a callback was told, with its label
-abbrev pub looks_of : Label → Option Told → List Look
+abbrev pub looks_of : Label → Option CallbackReply → List Look
 looks_of c None = []
-looks_of c (Some told) = record { label = c; told = told } ∷ []
+looks_of c (Some reply) = record { label = c; reply = reply } ∷ []
 
 -- the line of an entry, with what a callback was told after it
-abbrev pub line_of : Label → Entry → Option Told → TimerLine
+abbrev pub line_of : Label → Entry → Option CallbackReply → TimerLine
 line_of c entry look = record { label = c; entry = entry; looks = looks_of c look }
 
 -- one more step of a timer

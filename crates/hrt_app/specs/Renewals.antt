@@ -9,7 +9,7 @@ use Rattle.timer_fd.specs.Steps as fd
 use Rattle.timer_fd.specs.declared.answers.GettimeAnswer.TheVariants as lefts
 use Rattle.timer_fd.specs.declared.calls.Call.TheVariants as fd_calls
 use Rattle.timer_fd.specs.declared.calls.Reply.TheVariants as fd_replies
-use Rattle.record_text.specs.Replies.{accept_answer, read_answer}
+use Rattle.record_text.specs.Replies.{answer_of_accept, answer_of_read}
 use Rattle.record_text.specs.declared.record.Answer.{Answer}
 use Rattle.record_text.specs.declared.record.Answer.TheVariants as answers
 use Rattle.record_text.specs.declared.record.Armed.{Armed}
@@ -44,24 +44,24 @@ renewal_want call o reading = None
 
 -- the call on the object, told of its start; no answer depends on the stamp of a refused one
 abbrev pub renewal_call : Renewal → ClockReading → Armed → ObjectCall
-renewal_call renewals.Accept reading arm = OfPosix (posix_calls.Accept reading (posix_lines.arm_of arm 0))
-renewal_call renewals.Read reading arm = OfFd (fd_calls.Read reading (fd_lines.arm_of arm 0))
-renewal_call renewals.Gettime reading arm = OfFd (fd_calls.Gettime reading (fd_lines.arm_of arm 0))
+renewal_call renewals.Accept reading arm = OfPosix (posix_calls.Accept reading (posix_lines.posix_arm arm 0))
+renewal_call renewals.Read reading arm = OfFd (fd_calls.Read reading (fd_lines.fd_arm arm 0))
+renewal_call renewals.Gettime reading arm = OfFd (fd_calls.Gettime reading (fd_lines.fd_arm arm 0))
 
 -- the reply is the one of the object's step
 abbrev pub RenewalReplies : Renewal → Object → ClockReading → Armed → Renewed → Type 0
 RenewalReplies renewals.Accept (Posix t) reading arm (renewed.Accept reply) =
-    posix_replies.Accept (posix_lines.accept_answer_of reply) ≡ posix.reply_to t (posix_calls.Accept reading (posix_lines.arm_of arm 0))
+    posix_replies.Accept (posix_lines.accept_answer_of reply) ≡ posix.reply_to t (posix_calls.Accept reading (posix_lines.posix_arm arm 0))
 RenewalReplies renewals.Read (Fd t) reading arm (renewed.Read reply) =
-    fd_replies.Read (fd_lines.read_answer_of reply) ≡ fd.reply_to t (fd_calls.Read reading (fd_lines.arm_of arm 0))
+    fd_replies.Read (fd_lines.read_answer_of reply) ≡ fd.reply_to t (fd_calls.Read reading (fd_lines.fd_arm arm 0))
 RenewalReplies renewals.Gettime (Fd t) reading arm (renewed.Gettime left interval) =
-    fd_replies.Gettime (lefts.Left left interval) ≡ fd.reply_to t (fd_calls.Gettime reading (fd_lines.arm_of arm 0))
+    fd_replies.Gettime (lefts.Left left interval) ≡ fd.reply_to t (fd_calls.Gettime reading (fd_lines.fd_arm arm 0))
 RenewalReplies call o reading arm reply = ⊥
 
 -- the call's answer
 abbrev pub renewed_answer : Renewed → Answer
-renewed_answer (renewed.Accept reply) = accept_answer reply
-renewed_answer (renewed.Read reply) = read_answer reply
+renewed_answer (renewed.Accept reply) = answer_of_accept reply
+renewed_answer (renewed.Read reply) = answer_of_read reply
 renewed_answer (renewed.Gettime left interval) = answers.Left left interval
 
 -- the call's entry, which names the reading by its stamp

@@ -12,7 +12,7 @@ use Rattle.record_text.specs.declared.record.Answer.{Answer}
 use Rattle.record_text.specs.declared.record.Label.{Label}
 use Rattle.record_text.specs.declared.record.Entry.{Entry}
 use Rattle.record_text.specs.declared.record.Entry.TheVariants as entries
-use Rattle.record_text.specs.declared.record.Told.{Told}
+use Rattle.record_text.specs.declared.record.CallbackReply.{CallbackReply}
 use Rattle.record_text.specs.declared.record.ClockLine.{ClockLine}
 use Rattle.record_text.specs.declared.record.TimerLine.{TimerLine}
 use Rattle.hrt_app.specs.Progress.{Progress, Step, line_of, object_line, under_last}
@@ -41,7 +41,7 @@ abbrev pub progress : RunState → Progress
 progress r = record { timers = r.core.timers; objects = r.objects; reading = r.reading; told = record { clock = r.clock; timers = r.lines; objects = r.object_lines; answers = [] } }
 
 -- one more line of a timer, with what a callback was told after it
-abbrev pub with_look : RunState → Label → ℕ → Entry → Option Told → RunState
+abbrev pub with_look : RunState → Label → ℕ → Entry → Option CallbackReply → RunState
 with_look r c timer entry look = record r { lines = set r.lines timer (get_or r.lines timer [] ++ line_of c entry look ∷ []) }
 
 -- one more line of a timer

@@ -14,7 +14,7 @@ use Rattle.script_text.specs.declared.script.Call.TheVariants as calls
 use Rattle.script_text.specs.declared.script.Round.{Round}
 use Rattle.script_text.specs.declared.script.Script.{Script}
 use Rattle.record_text.specs.declared.record.Label.{Label}
-use Rattle.record_text.specs.declared.record.Told.{Told}
+use Rattle.record_text.specs.declared.record.CallbackReply.{CallbackReply}
 use Rattle.record_text.specs.declared.record.Entry.TheVariants as entries
 use Rattle.record_text.specs.declared.record.Answer.{Answer}
 use Rattle.record_text.specs.declared.record.Answer.TheVariants as answers
@@ -43,7 +43,7 @@ pub record IsNext (p : Progress) (base timer generation : ℕ) : Type 0 where
   pub earliest : (u : ℕ) → is_smaller base (timer_at p.timers timer).clock (timer_at p.timers timer).expires (timer_at p.timers u) ≡ false
 
 -- the claim of a timer, with what its callback was told before it made any entry
-abbrev pub claim_step : ℕ → ClockReading → ℕ → Option Told → Step
+abbrev pub claim_step : ℕ → ClockReading → ℕ → Option CallbackReply → Step
 claim_step base reading generation look = record { event = events.Claim base reading; entry = entries.Claim base reading.stamp generation; look = look }
 
 -- the finish of a timer in this state

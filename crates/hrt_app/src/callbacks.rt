@@ -5,7 +5,7 @@ ghost use Rattle.hrt_app.specs.Callbacks.{IsCallbackInRange, act_of, cancel_act,
 ghost use Rattle.hrt_app.specs.Runs.{Acts};
 
 use ktime::{Mode, Reading};
-use record_text::{Entry, Restart, Told};
+use record_text::{Entry, Restart, CallbackReply};
 use script_text::Callback;
 use seq_timer::Rearmed;
 use timer_core::{CancelAnswer, Core, ForwardAnswer, StartAnswer};
@@ -15,7 +15,7 @@ use timer_queue::ListQueue;
 /// whether it asks for a restart.
 #[derive(Clone, Copy, Debug, PartialEq, Eq)]
 pub struct Work {
-    pub told: Option<Told>,
+    pub told: Option<CallbackReply>,
     pub entry: Option<Entry>,
     pub again: bool,
 }
@@ -61,8 +61,8 @@ fn forward(core: &mut Core<ListQueue>, timer: u32, reading: Reading, interval: u
             }),
             again: true,
         },
-        ForwardAnswer::Spent { .. } => refused(Told::Spent),
-        ForwardAnswer::Armed { generation, .. } => refused(Told::Armed { generation }),
+        ForwardAnswer::Spent { .. } => refused(CallbackReply::Spent),
+        ForwardAnswer::Armed { generation, .. } => refused(CallbackReply::Armed { generation }),
     }
 }
 
@@ -74,7 +74,7 @@ fn cancel(core: &mut Core<ListQueue>, timer: u32) -> Work
 {
     match core.try_to_cancel(timer) {
         CancelAnswer::Running { generation, .. } => Work {
-            told: Some(Told::Running { generation }),
+            told: Some(CallbackReply::Running { generation }),
             entry: None,
             again: false,
         },
@@ -90,7 +90,7 @@ fn start(core: &mut Core<ListQueue>, timer: u32, reading: Reading, ns: u64, aske
     ensures { Acts core.old timer (start_act (timer_in core.old timer) reading ns asked) result core.new }
 {
     match core.start(timer, Mode::Rel, ns, asked, reading) {
-        StartAnswer::Spent { .. } => refused(Told::Spent),
+        StartAnswer::Spent { .. } => refused(CallbackReply::Spent),
         StartAnswer::Started {
             was_armed,
             base,
@@ -114,7 +114,7 @@ fn start(core: &mut Core<ListQueue>, timer: u32, reading: Reading, ns: u64, aske
 }
 
 /// What a callback comes to that was told this in place of an entry, and still asks for a restart.
-fn refused(told: Told) -> Work
+fn refused(told: CallbackReply) -> Work
     ensures { result ≡ record { told = Some told; entry = None; again = true } }
 {
     Work {

@@ -13,7 +13,7 @@ use crate::renewals::Renewal;
 use crate::run::Run;
 use clock_model::{ClockFault, Write};
 use ktime::{Mode, Reading, TimeSpec};
-use record_text::{Answer, Armed, ClockLine, Entry, Items, Label, ObjectEntry};
+use record_text::{Answer, Armed, ClockLine, Entry, ItemList, Label, ObjectEntry};
 use script_text::Call;
 use std::alloc::{AllocError, Global};
 use timer_core::{CancelAnswer, ClaimAnswer, StartAnswer};
@@ -305,7 +305,7 @@ impl Run {
         ensures kept { OnOk result (Keeps self.old self.new) }
     {
         let reading = self.clock.reading();
-        let mut fired = Items::new(self.alloc);
+        let mut fired = ItemList::new(self.alloc);
         for _claim in 0..budget {
             match self.fire_next(gate, label, base, reading)? {
                 Next::Fired { timer } => fired.push(timer)?,

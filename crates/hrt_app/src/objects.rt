@@ -1,7 +1,7 @@
 //! What a timer is declared with: a callback, or the object whose timer it is.
 ghost use Rattle.std.specs.Prelude.{◌≡◌, ◌≤◌, ◌<◌, ◌↔◌, ℕ, IfNone, IfOk, IsSome, IsTrue, MatchOption, map};
 ghost use Rattle.seq_timer.specs.Steps.{greatest_limit};
-ghost use Rattle.script_text.specs.ObjectCalls.{AreTaken, time_of};
+ghost use Rattle.script_text.specs.ObjectCalls.{AreValidFor, nanoseconds_of};
 ghost use Rattle.script_text.specs.PosixHistories as posix_lines;
 ghost use Rattle.script_text.specs.FdHistories as fd_lines;
 ghost use Rattle.hrt_app.specs.Objects.{IsObjectInRange, after_call, base_in, callback_of, entries_of, kind_in, limit_of, object_in, trigger_call, trigger_counts};
@@ -68,7 +68,7 @@ impl Object {
 
     /// A settime's value and interval in nanoseconds, where the object takes its arguments.
     pub fn times(self, flags: u64, value: TimeSpec, interval: TimeSpec) -> Option<(u64, u64)>
-        ensures { MatchOption result (AreTaken (kind_in self) flags value interval → ⊥) (λ times. AreTaken (kind_in self) flags value interval × (times.0 ≡ time_of value) × (times.1 ≡ time_of interval)) }
+        ensures { MatchOption result (AreValidFor (kind_in self) flags value interval → ⊥) (λ times. AreValidFor (kind_in self) flags value interval × (times.0 ≡ nanoseconds_of value) × (times.1 ≡ nanoseconds_of interval)) }
     {
         match self {
             Object::Raw { .. } => None,
@@ -110,7 +110,7 @@ impl Object {
         arm: Armed,
         refused: u64,
     ) -> SettimeReply
-        requires taken { AreTaken (kind_in self.old) flags value interval }
+        requires taken { AreValidFor (kind_in self.old) flags value interval }
         requires room { entries_of self.old < limit_of self.old }
         requires told { IsToldOf arm (settime_want self.old flags value interval) }
         ensures state { self.new ≡ after_call self.old (settime_call self.old flags value interval reading arm refused) }
@@ -172,7 +172,7 @@ impl Object {
 
 /// What a POSIX timer is told of its start.
 pub(crate) fn posix_arm(arm: Armed, refused: u64) -> posix_timer::Arm
-    ensures { result ≡ posix_lines.arm_of arm refused }
+    ensures { result ≡ posix_lines.posix_arm arm refused }
 {
     match arm {
         Armed::None => posix_timer::Arm::NotAsked,
@@ -183,7 +183,7 @@ pub(crate) fn posix_arm(arm: Armed, refused: u64) -> posix_timer::Arm
 
 /// What a descriptor is told of its start.
 pub(crate) fn fd_arm(arm: Armed, refused: u64) -> timer_fd::Arm
-    ensures { result ≡ fd_lines.arm_of arm refused }
+    ensures { result ≡ fd_lines.fd_arm arm refused }
 {
     match arm {
         Armed::None => timer_fd::Arm::NotAsked,

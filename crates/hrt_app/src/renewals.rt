@@ -139,9 +139,9 @@ impl Object {
 /// A read of a descriptor into a buffer that is long enough, and what it answers.
 fn read(state: &mut FdState, reading: Reading, arm: Armed) -> ReadReply
     requires room { HasRoom state.old }
-    requires told { fd.IsToldOf (fd_lines.arm_of arm 0) (fd.read_wanted state.old fd.count_length reading) }
-    ensures state { state.new ≡ fd.after state.old (fd_calls.Read reading (fd_lines.arm_of arm 0)) }
-    ensures reply { fd_replies.Read (fd_lines.read_answer_of result) ≡ fd.reply_to state.old (fd_calls.Read reading (fd_lines.arm_of arm 0)) }
+    requires told { fd.IsToldOf (fd_lines.fd_arm arm 0) (fd.read_wanted state.old fd.count_length reading) }
+    ensures state { state.new ≡ fd.after state.old (fd_calls.Read reading (fd_lines.fd_arm arm 0)) }
+    ensures reply { fd_replies.Read (fd_lines.read_answer_of result) ≡ fd.reply_to state.old (fd_calls.Read reading (fd_lines.fd_arm arm 0)) }
 {
     match state.read(COUNT_LENGTH, reading, fd_arm(arm, 0)) {
         ReadAnswer::Count { total } => ReadReply::Count { total },

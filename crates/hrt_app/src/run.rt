@@ -8,8 +8,8 @@ use crate::objects::{Object, objects_of};
 use clock_model::Clock;
 use ktime::{ClockId, Reading};
 use record_text::{
-    Answer, ClockLine, Entry, Items, Label, Look, ObjectEntry, ObjectLine, RunRecord, Skip,
-    TimerLine, Told,
+    Answer, ClockLine, Entry, ItemList, Label, Look, ObjectEntry, ObjectLine, RunRecord, Skip,
+    TimerLine, CallbackReply,
 };
 use script_text::{Declaration, Script};
 use std::alloc::{AllocError, Global};
@@ -25,8 +25,8 @@ pub struct Run {
     pub(crate) objects: Vec<Object>,
     pub(crate) clock: Clock,
     pub(crate) clock_lines: Vec<ClockLine>,
-    timer_lines: Vec<Items<TimerLine>>,
-    object_lines: Vec<Items<ObjectLine>>,
+    timer_lines: Vec<ItemList<TimerLine>>,
+    object_lines: Vec<ItemList<ObjectLine>>,
 }
 
 impl Model for Run {
@@ -86,7 +86,7 @@ impl Run {
         label: Label,
         timer: u32,
         entry: Entry,
-        told: Option<Told>,
+        told: Option<CallbackReply>,
     ) -> Result<(), AllocError>
         requires { timer < length self.old.core.timers }
         ensures { OnOk result (self.new ≡ with_look self.old label timer entry told) }
@@ -117,7 +117,7 @@ impl Run {
         let line = ObjectLine {
             label,
             entry,
-            skips: Items::new(self.alloc),
+            skips: ItemList::new(self.alloc),
         };
         let lines = &mut self.object_lines[timer as usize];
         lines.push(line)?;
@@ -174,34 +174,34 @@ impl Run {
         ensures { IfOk result (λ r. r ≡ record { clock = self.clock; timers = self.lines; objects = self.object_lines; answers = answers.items ∷ [] }) }
     {
         let mut lanes = Vec::new(self.alloc);
-        lanes.push(Items::from_vec(answers))?;
+        lanes.push(ItemList::from_vec(answers))?;
         Ok(RunRecord {
-            clock: Items::from_vec(self.clock_lines),
-            timers: Items::from_vec(self.timer_lines),
-            objects: Items::from_vec(self.object_lines),
-            answers: Items::from_vec(lanes),
+            clock: ItemList::from_vec(self.clock_lines),
+            timers: ItemList::from_vec(self.timer_lines),
+            objects: ItemList::from_vec(self.object_lines),
+            answers: ItemList::from_vec(lanes),
         })
     }
 }
 
 /// So many empty lists of lines.
-fn empty_lists<T: Drop>(alloc: Global, count: usize) -> Result<Vec<Items<T>>, AllocError>
+fn empty_lists<T: Drop>(alloc: Global, count: usize) -> Result<Vec<ItemList<T>>, AllocError>
     ensures { IfOk result (λ lists. lists.items ≡ replicate count []) }
 {
     let mut lists = Vec::new(alloc);
     for _made in 0..count {
-        lists.push(Items::new(alloc))?;
+        lists.push(ItemList::new(alloc))?;
     }
     Ok(lists)
 }
 
 /// What a callback was told, with its label.
-fn looks_of(alloc: Global, label: Label, told: Option<Told>) -> Result<Items<Look>, AllocError>
-    ensures { IfOk result (λ looks. looks ≡ looks_of label told) }
+fn looks_of(alloc: Global, label: Label, reply: Option<CallbackReply>) -> Result<ItemList<Look>, AllocError>
+    ensures { IfOk result (λ looks. looks ≡ looks_of label reply) }
 {
-    let mut looks = Items::new(alloc);
-    if let Some(told) = told {
-        looks.push(Look { label, told })?;
+    let mut looks = ItemList::new(alloc);
+    if let Some(reply) = reply {
+        looks.push(Look { label, reply })?;
     }
     Ok(looks)
 }

@@ -2,8 +2,8 @@
 use Rattle.std.proofs.Common.{◌≡◌, ◌∷◌, [], ℕ, List, true, if◌then◌else◌, map, length, codes, refl}
 use Rattle.record_text.specs.declared.record.Entry.{Entry}
 use Rattle.record_text.specs.declared.record.Entry.TheVariants as entries
-use Rattle.record_text.specs.declared.record.Told.{Told}
-use Rattle.record_text.specs.declared.record.Told.TheVariants as tolds
+use Rattle.record_text.specs.declared.record.CallbackReply.{CallbackReply}
+use Rattle.record_text.specs.declared.record.CallbackReply.TheVariants as replies
 use Rattle.record_text.specs.declared.record.SettimeReply.{SettimeReply}
 use Rattle.record_text.specs.declared.record.SettimeReply.TheVariants as settimes
 use Rattle.record_text.specs.declared.record.AcceptReply.{AcceptReply}
@@ -14,9 +14,9 @@ use Rattle.record_text.specs.declared.record.ObjectEntry.{ObjectEntry}
 use Rattle.record_text.specs.declared.record.ObjectEntry.TheVariants as steps
 use Rattle.record_text.specs.declared.record.Answer.{Answer}
 use Rattle.record_text.specs.declared.record.Answer.TheVariants as answers
-use Rattle.record_text.specs.Replies.{settime_answer, accept_answer, read_answer}
-use Rattle.record_text.specs.Text.{entry_words, told_words, answer_words, step_words}
-use Rattle.record_text.specs.Numbers.{AreMachineNumbers, entry_numbers, told_numbers, answer_numbers, step_numbers}
+use Rattle.record_text.specs.Replies.{answer_of_settime, answer_of_accept, answer_of_read}
+use Rattle.record_text.specs.Text.{entry_words, reply_words, answer_words, step_words}
+use Rattle.record_text.specs.Numbers.{AreMachineNumbers, entry_numbers, reply_numbers, answer_numbers, step_numbers}
 use Rattle.record_text.proofs.Words.{are_words}
 use Rattle.record_text.proofs.Spelling.{value, value_again, word_decimal, words_decimals, values_again, nth, number, after, is_key, flag_of, flag_again, word_flag, clock_of, clock_again, word_clock, mode_of, mode_again, word_mode, restart_of, restart_again, word_restart, rearmed_of, rearmed_again, word_rearmed, armed_of, armed_again, word_armed, counted_of, counted_again, word_counted}
 
@@ -50,22 +50,22 @@ words_entry (entries.Forward reading interval count expires) h =
     rw (word_decimal reading h.0, word_decimal interval h.1.0, word_decimal count h.1.1.0, word_decimal expires h.1.1.1.0) refl
 words_entry (entries.Finish restart generation rearmed) h = rw (word_restart restart, word_decimal generation h.0, word_rearmed rearmed h.1) refl
 
-pub told_of : List (List ℕ) → Told
-told_of ws =
-    if is_key ws (codes "running") then tolds.Running (number 1 ws)
-    else if is_key ws (codes "armed") then tolds.Armed (number 1 ws)
-    else tolds.Spent
+pub reply_of : List (List ℕ) → CallbackReply
+reply_of ws =
+    if is_key ws (codes "running") then replies.Running (number 1 ws)
+    else if is_key ws (codes "armed") then replies.Armed (number 1 ws)
+    else replies.Spent
 
-pub told_again : (t : Told) → AreMachineNumbers (told_numbers t) → told_of (told_words t) ≡ t
-unfolding told_of
-told_again (tolds.Running generation) h = rw (value_again generation h.0) refl
-told_again (tolds.Armed generation) h = rw (value_again generation h.0) refl
-told_again tolds.Spent h = refl
+pub reply_again : (t : CallbackReply) → AreMachineNumbers (reply_numbers t) → reply_of (reply_words t) ≡ t
+unfolding reply_of
+reply_again (replies.Running generation) h = rw (value_again generation h.0) refl
+reply_again (replies.Armed generation) h = rw (value_again generation h.0) refl
+reply_again replies.Spent h = refl
 
-pub words_told : (t : Told) → AreMachineNumbers (told_numbers t) → are_words (told_words t) ≡ true
-words_told (tolds.Running generation) h = rw (word_decimal generation h.0) refl
-words_told (tolds.Armed generation) h = rw (word_decimal generation h.0) refl
-words_told tolds.Spent h = refl
+pub words_reply : (t : CallbackReply) → AreMachineNumbers (reply_numbers t) → are_words (reply_words t) ≡ true
+words_reply (replies.Running generation) h = rw (word_decimal generation h.0) refl
+words_reply (replies.Armed generation) h = rw (word_decimal generation h.0) refl
+words_reply replies.Spent h = refl
 
 -- a time left with its interval: a POSIX timer's has the reading and the stamp behind it
 pub left_of : ℕ → ℕ → List (List ℕ) → Answer
@@ -163,7 +163,7 @@ settime_of (answers.Old left interval) = settimes.Old left interval
 settime_of (answers.Unarmed stamp) = settimes.Unarmed stamp
 settime_of other = settimes.Canceled
 
-pub settime_again : (r : SettimeReply) → settime_of (settime_answer r) ≡ r
+pub settime_again : (r : SettimeReply) → settime_of (answer_of_settime r) ≡ r
 unfolding settime_of
 settime_again (settimes.Old left interval) = refl
 settime_again settimes.Canceled = refl
@@ -173,7 +173,7 @@ pub accept_of : Answer → AcceptReply
 accept_of (answers.Accepted overrun) = accepts.Accepted overrun
 accept_of other = accepts.NoSignal
 
-pub accept_again : (r : AcceptReply) → accept_of (accept_answer r) ≡ r
+pub accept_again : (r : AcceptReply) → accept_of (answer_of_accept r) ≡ r
 unfolding accept_of
 accept_again (accepts.Accepted overrun) = refl
 accept_again accepts.NoSignal = refl
@@ -183,7 +183,7 @@ read_of (answers.Count total) = reads.Count total
 read_of answers.Again = reads.Again
 read_of other = reads.Canceled
 
-pub read_again : (r : ReadReply) → read_of (read_answer r) ≡ r
+pub read_again : (r : ReadReply) → read_of (answer_of_read r) ≡ r
 unfolding read_of
 read_again (reads.Count total) = refl
 read_again reads.Again = refl
@@ -200,16 +200,16 @@ step_of ws =
 pub step_again : (e : ObjectEntry) → AreMachineNumbers (step_numbers e) → step_of (step_words e) ≡ e
 unfolding step_of
 step_again (steps.Settime flags value interval reading arm reply) h =
-    rw (value_again flags h.0, value_again value h.1.0, value_again interval h.1.1.0, value_again reading h.1.1.1.0, armed_again arm h.1.1.1.1.0, answer_again (settime_answer reply) h.1.1.1.1.1, settime_again reply) refl
+    rw (value_again flags h.0, value_again value h.1.0, value_again interval h.1.1.0, value_again reading h.1.1.1.0, armed_again arm h.1.1.1.1.0, answer_again (answer_of_settime reply) h.1.1.1.1.1, settime_again reply) refl
 step_again (steps.Trigger generation reading counted) h = rw (value_again generation h.0, value_again reading h.1.0, counted_again counted) refl
-step_again (steps.Accept reading arm reply) h = rw (value_again reading h.0, armed_again arm h.1.0, answer_again (accept_answer reply) h.1.1, accept_again reply) refl
-step_again (steps.Read reading arm reply) h = rw (value_again reading h.0, armed_again arm h.1.0, answer_again (read_answer reply) h.1.1, read_again reply) refl
+step_again (steps.Accept reading arm reply) h = rw (value_again reading h.0, armed_again arm h.1.0, answer_again (answer_of_accept reply) h.1.1, accept_again reply) refl
+step_again (steps.Read reading arm reply) h = rw (value_again reading h.0, armed_again arm h.1.0, answer_again (answer_of_read reply) h.1.1, read_again reply) refl
 step_again (steps.Gettime reading arm left interval) h = rw (value_again reading h.0, armed_again arm h.1.0, value_again left h.1.1.0, value_again interval h.1.1.1.0) refl
 
 pub words_step : (e : ObjectEntry) → AreMachineNumbers (step_numbers e) → are_words (step_words e) ≡ true
 words_step (steps.Settime flags value interval reading arm reply) h =
-    rw (word_decimal flags h.0, word_decimal value h.1.0, word_decimal interval h.1.1.0, word_decimal reading h.1.1.1.0, word_armed arm h.1.1.1.1.0) (words_answer (settime_answer reply) h.1.1.1.1.1)
+    rw (word_decimal flags h.0, word_decimal value h.1.0, word_decimal interval h.1.1.0, word_decimal reading h.1.1.1.0, word_armed arm h.1.1.1.1.0) (words_answer (answer_of_settime reply) h.1.1.1.1.1)
 words_step (steps.Trigger generation reading counted) h = rw (word_decimal generation h.0, word_decimal reading h.1.0, word_counted counted) refl
-words_step (steps.Accept reading arm reply) h = rw (word_decimal reading h.0, word_armed arm h.1.0) (words_answer (accept_answer reply) h.1.1)
-words_step (steps.Read reading arm reply) h = rw (word_decimal reading h.0, word_armed arm h.1.0) (words_answer (read_answer reply) h.1.1)
+words_step (steps.Accept reading arm reply) h = rw (word_decimal reading h.0, word_armed arm h.1.0) (words_answer (answer_of_accept reply) h.1.1)
+words_step (steps.Read reading arm reply) h = rw (word_decimal reading h.0, word_armed arm h.1.0) (words_answer (answer_of_read reply) h.1.1)
 words_step (steps.Gettime reading arm left interval) h = rw (word_decimal reading h.0, word_armed arm h.1.0, word_decimal left h.1.1.0, word_decimal interval h.1.1.1.0) refl

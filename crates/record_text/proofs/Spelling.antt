@@ -18,7 +18,7 @@ use Rattle.record_text.specs.declared.record.Restart.TheVariants as restarts
 use Rattle.record_text.specs.declared.record.Armed.{Armed}
 use Rattle.record_text.specs.declared.record.Armed.TheVariants as arms
 use Rattle.record_text.specs.Words.{clock_word, mode_word}
-use Rattle.record_text.specs.Text.{flag, write_word, write_time, restart_word, rearmed_word, armed_word, counted_word}
+use Rattle.record_text.specs.Text.{flag, write_name, write_ns, restart_word, rearmed_word, armed_word, counted_word}
 use Rattle.record_text.specs.Numbers.{AreMachineNumbers, rearmed_numbers, armed_number}
 use Rattle.record_text.proofs.Words.{is_word, are_words}
 
@@ -108,13 +108,13 @@ word_mode modes.Keep = refl
 pub write_of : List ℕ → ℕ → Write
 write_of w time = if bytes_eq w (codes "advance") then writes.Advance time else if bytes_eq w (codes "set") then writes.Set time else writes.Suspend time
 
-pub write_again : (w : Write) → write_of (write_word w) (write_time w) ≡ w
+pub write_again : (w : Write) → write_of (write_name w) (write_ns w) ≡ w
 unfolding write_of
 write_again (writes.Advance by) = refl
 write_again (writes.Set to) = refl
 write_again (writes.Suspend by) = refl
 
-pub word_write : (w : Write) → is_word (write_word w) ≡ true
+pub word_write : (w : Write) → is_word (write_name w) ≡ true
 word_write (writes.Advance by) = refl
 word_write (writes.Set to) = refl
 word_write (writes.Suspend by) = refl

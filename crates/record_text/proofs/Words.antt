@@ -7,7 +7,7 @@ use Rattle.std.proofs.lemmas.List.Elements.{All-nil, All-cons, All-append}
 use Rattle.std.proofs.lemmas.List.Splits.{slice_split_none, slice_split_at}
 use Rattle.std.proofs.lemmas.Bool.{and_parts}
 use Rattle.std.proofs.lemmas.Bool.Decides.{nat_tests}
-use Rattle.record_text.specs.Text.{spaced, joined}
+use Rattle.record_text.specs.Text.{spaced, join_words}
 
 -- bytes past the space
 abbrev pub is_word : List ℕ → Bool
@@ -36,7 +36,7 @@ spaced_apart (w ∷ ws) h =
     All-cons (IsNot 10) 32 (w ++ spaced ws) space
     (All-append (IsNot 10) w (spaced ws) (apart 10 w (omega arith) (and_parts _ _ h).0) (spaced_apart ws (and_parts _ _ h).1))
 
-joined_apart : (ws : List (List ℕ)) → are_words ws ≡ true → All (IsNot 10) (joined ws)
+joined_apart : (ws : List (List ℕ)) → are_words ws ≡ true → All (IsNot 10) (join_words ws)
 joined_apart [] h = All-nil (IsNot 10)
 joined_apart (w ∷ ws) h =
     All-append (IsNot 10) w (spaced ws) (apart 10 w (omega arith) (and_parts _ _ h).0) (spaced_apart ws (and_parts _ _ h).1)
@@ -49,5 +49,5 @@ words_again w (v ∷ ws) h hs =
     ∙ ap (λ r. w ∷ r) (words_again v ws (and_parts _ _ hs).0 (and_parts _ _ hs).1)
 
 -- the first line of a text
-pub line_again : (ws : List (List ℕ)) (text : List ℕ) → are_words ws ≡ true → parts 10 ((joined ws ++ 10 ∷ []) ++ text) ≡ joined ws ∷ parts 10 text
-line_again ws text h = ap (parts 10) (append_assoc (joined ws) (10 ∷ []) text) ∙ slice_split_at (λ b. eqb b 10) (joined ws) 10 text (joined_apart ws h) refl
+pub line_again : (ws : List (List ℕ)) (text : List ℕ) → are_words ws ≡ true → parts 10 ((join_words ws ++ 10 ∷ []) ++ text) ≡ join_words ws ∷ parts 10 text
+line_again ws text h = ap (parts 10) (append_assoc (join_words ws) (10 ∷ []) text) ∙ slice_split_at (λ b. eqb b 10) (join_words ws) 10 text (joined_apart ws h) refl

@@ -5,8 +5,8 @@ use Rattle.record_text.specs.declared.record.Restart.{Restart}
 use Rattle.record_text.specs.declared.record.Restart.TheVariants as restarts
 use Rattle.record_text.specs.declared.record.Entry.{Entry}
 use Rattle.record_text.specs.declared.record.Entry.TheVariants as entries
-use Rattle.record_text.specs.declared.record.Told.{Told}
-use Rattle.record_text.specs.declared.record.Told.TheVariants as tolds
+use Rattle.record_text.specs.declared.record.CallbackReply.{CallbackReply}
+use Rattle.record_text.specs.declared.record.CallbackReply.TheVariants as replies
 use Rattle.record_text.specs.declared.record.Armed.{Armed}
 use Rattle.record_text.specs.declared.record.Armed.TheVariants as arms
 use Rattle.record_text.specs.declared.record.ObjectEntry.{ObjectEntry}
@@ -14,8 +14,8 @@ use Rattle.record_text.specs.declared.record.ObjectEntry.TheVariants as steps
 use Rattle.record_text.specs.declared.record.Answer.{Answer}
 use Rattle.record_text.specs.declared.record.Answer.TheVariants as answers
 use Rattle.record_text.specs.declared.record.RunRecord.{RunRecord}
-use Rattle.record_text.specs.Replies.{accept_answer, read_answer, settime_answer}
-use Rattle.record_text.specs.Text.{RecordLine, Version, OfClock, OfTimer, OfLook, OfObject, OfSkip, OfCall, End, write_time, record_lines}
+use Rattle.record_text.specs.Replies.{answer_of_accept, answer_of_read, answer_of_settime}
+use Rattle.record_text.specs.Text.{RecordLine, Version, OfClock, OfTimer, OfLook, OfObject, OfSkip, OfCall, End, write_ns, record_lines}
 
 -- the numbers that tell what came of a restart
 abbrev pub rearmed_numbers : Restart → List ℕ
@@ -33,10 +33,10 @@ entry_numbers (entries.Forward reading interval count expires) = reading ∷ int
 entry_numbers (entries.Finish restart generation rearmed) = generation ∷ rearmed_numbers rearmed
 
 -- the numbers of what a callback was told
-abbrev pub told_numbers : Told → List ℕ
-told_numbers (tolds.Running generation) = generation ∷ []
-told_numbers (tolds.Armed generation) = generation ∷ []
-told_numbers tolds.Spent = []
+abbrev pub reply_numbers : CallbackReply → List ℕ
+reply_numbers (replies.Running generation) = generation ∷ []
+reply_numbers (replies.Armed generation) = generation ∷ []
+reply_numbers replies.Spent = []
 
 -- the numbers of what an object's call alone is answered, and none for another answer
 abbrev pub object_answer_numbers : Answer → List ℕ
@@ -79,18 +79,18 @@ armed_number arms.Unarmed = 0
 -- the numbers of an object's entry
 abbrev pub step_numbers : ObjectEntry → List ℕ
 step_numbers (steps.Settime flags value interval reading arm reply) =
-    flags ∷ value ∷ interval ∷ reading ∷ armed_number arm ∷ answer_numbers (settime_answer reply)
+    flags ∷ value ∷ interval ∷ reading ∷ armed_number arm ∷ answer_numbers (answer_of_settime reply)
 step_numbers (steps.Trigger generation reading counted) = generation ∷ reading ∷ []
-step_numbers (steps.Accept reading arm reply) = reading ∷ armed_number arm ∷ answer_numbers (accept_answer reply)
-step_numbers (steps.Read reading arm reply) = reading ∷ armed_number arm ∷ answer_numbers (read_answer reply)
+step_numbers (steps.Accept reading arm reply) = reading ∷ armed_number arm ∷ answer_numbers (answer_of_accept reply)
+step_numbers (steps.Read reading arm reply) = reading ∷ armed_number arm ∷ answer_numbers (answer_of_read reply)
 step_numbers (steps.Gettime reading arm left interval) = reading ∷ armed_number arm ∷ left ∷ interval ∷ []
 
 -- the numbers of a line
 abbrev pub numbers_of : RecordLine → List ℕ
 numbers_of Version = []
-numbers_of (OfClock number w) = number ∷ w.label.lane ∷ w.label.call ∷ write_time w.write ∷ w.mono ∷ w.real ∷ w.boot ∷ w.changes ∷ []
+numbers_of (OfClock number w) = number ∷ w.label.lane ∷ w.label.call ∷ write_ns w.write ∷ w.mono ∷ w.real ∷ w.boot ∷ w.changes ∷ []
 numbers_of (OfTimer timer number label entry) = timer ∷ number ∷ label.lane ∷ label.call ∷ entry_numbers entry
-numbers_of (OfLook timer number look) = timer ∷ number ∷ look.label.lane ∷ look.label.call ∷ told_numbers look.told
+numbers_of (OfLook timer number look) = timer ∷ number ∷ look.label.lane ∷ look.label.call ∷ reply_numbers look.reply
 numbers_of (OfObject object number label entry) = object ∷ number ∷ label.lane ∷ label.call ∷ step_numbers entry
 numbers_of (OfSkip object number skip) = object ∷ number ∷ skip.label.lane ∷ skip.label.call ∷ skip.generation ∷ []
 numbers_of (OfCall lane call answer) = lane ∷ call ∷ answer_numbers answer

@@ -9,18 +9,18 @@ use Rattle.record_text.specs.declared.record.Answer.{Answer}
 use Rattle.record_text.specs.declared.record.Answer.TheVariants as answers
 
 -- the answer of a settime that made an entry
-abbrev pub settime_answer : SettimeReply → Answer
-settime_answer (settimes.Old left interval) = answers.Old left interval
-settime_answer settimes.Canceled = answers.Canceled
-settime_answer (settimes.Unarmed stamp) = answers.Unarmed stamp
+abbrev pub answer_of_settime : SettimeReply → Answer
+answer_of_settime (settimes.Old left interval) = answers.Old left interval
+answer_of_settime settimes.Canceled = answers.Canceled
+answer_of_settime (settimes.Unarmed stamp) = answers.Unarmed stamp
 
 -- the answer of an acceptance that made an entry
-abbrev pub accept_answer : AcceptReply → Answer
-accept_answer (accepts.Accepted overrun) = answers.Accepted overrun
-accept_answer accepts.NoSignal = answers.NoSignal
+abbrev pub answer_of_accept : AcceptReply → Answer
+answer_of_accept (accepts.Accepted overrun) = answers.Accepted overrun
+answer_of_accept accepts.NoSignal = answers.NoSignal
 
 -- the answer of a read that made an entry
-abbrev pub read_answer : ReadReply → Answer
-read_answer (reads.Count total) = answers.Count total
-read_answer reads.Again = answers.Again
-read_answer reads.Canceled = answers.Canceled
+abbrev pub answer_of_read : ReadReply → Answer
+answer_of_read (reads.Count total) = answers.Count total
+answer_of_read reads.Again = answers.Again
+answer_of_read reads.Canceled = answers.Canceled

@@ -9,8 +9,8 @@ use Rattle.record_text.specs.declared.record.Restart.{Restart}
 use Rattle.record_text.specs.declared.record.Restart.TheVariants as restarts
 use Rattle.record_text.specs.declared.record.Entry.{Entry}
 use Rattle.record_text.specs.declared.record.Entry.TheVariants as entries
-use Rattle.record_text.specs.declared.record.Told.{Told}
-use Rattle.record_text.specs.declared.record.Told.TheVariants as tolds
+use Rattle.record_text.specs.declared.record.CallbackReply.{CallbackReply}
+use Rattle.record_text.specs.declared.record.CallbackReply.TheVariants as replies
 use Rattle.record_text.specs.declared.record.Look.{Look}
 use Rattle.record_text.specs.declared.record.TimerLine.{TimerLine}
 use Rattle.record_text.specs.declared.record.Armed.{Armed}
@@ -22,7 +22,7 @@ use Rattle.record_text.specs.declared.record.ObjectLine.{ObjectLine}
 use Rattle.record_text.specs.declared.record.Answer.{Answer}
 use Rattle.record_text.specs.declared.record.Answer.TheVariants as answers
 use Rattle.record_text.specs.declared.record.RunRecord.{RunRecord}
-use Rattle.record_text.specs.Replies.{accept_answer, read_answer, settime_answer}
+use Rattle.record_text.specs.Replies.{answer_of_accept, answer_of_read, answer_of_settime}
 use Rattle.record_text.specs.Words.{clock_word, mode_word}
 
 -- a line of a record's text, with the numbers that it begins with: of a write, of a timer or an object and its entry, of a lane and its call
@@ -86,16 +86,16 @@ abbrev pub flag : Bool → List ℕ
 flag b = decimal (if b then 1 else 0)
 
 -- the kind of a write
-abbrev pub write_word : Write → List ℕ
-write_word (writes.Advance by) = codes "advance"
-write_word (writes.Set to) = codes "set"
-write_word (writes.Suspend by) = codes "suspend"
+abbrev pub write_name : Write → List ℕ
+write_name (writes.Advance by) = codes "advance"
+write_name (writes.Set to) = codes "set"
+write_name (writes.Suspend by) = codes "suspend"
 
 -- the time that a write is made with
-abbrev pub write_time : Write → ℕ
-write_time (writes.Advance by) = by
-write_time (writes.Set to) = to
-write_time (writes.Suspend by) = by
+abbrev pub write_ns : Write → ℕ
+write_ns (writes.Advance by) = by
+write_ns (writes.Set to) = to
+write_ns (writes.Suspend by) = by
 
 -- whether a callback asked for a restart
 abbrev pub restart_word : Bool → List ℕ
@@ -130,10 +130,10 @@ entry_words (entries.Finish restart generation rearmed) =
     codes "finish" ∷ restart_word restart ∷ decimal generation ∷ rearmed_word rearmed ∷ []
 
 -- the words of what a callback was told in place of an entry
-abbrev pub told_words : Told → List (List ℕ)
-told_words (tolds.Running generation) = codes "running" ∷ decimal generation ∷ []
-told_words (tolds.Armed generation) = codes "armed" ∷ decimal generation ∷ []
-told_words tolds.Spent = codes "spent" ∷ []
+abbrev pub reply_words : CallbackReply → List (List ℕ)
+reply_words (replies.Running generation) = codes "running" ∷ decimal generation ∷ []
+reply_words (replies.Armed generation) = codes "armed" ∷ decimal generation ∷ []
+reply_words replies.Spent = codes "spent" ∷ []
 
 -- the words of what an object's call alone is answered, and none for another answer
 abbrev pub object_answer_words : Answer → List (List ℕ)
@@ -172,27 +172,27 @@ answer_words other = object_answer_words other
 -- the words of an object's entry
 abbrev pub step_words : ObjectEntry → List (List ℕ)
 step_words (steps.Settime flags value interval reading arm reply) =
-    codes "settime" ∷ decimal flags ∷ decimal value ∷ decimal interval ∷ decimal reading ∷ armed_word arm ∷ answer_words (settime_answer reply)
+    codes "settime" ∷ decimal flags ∷ decimal value ∷ decimal interval ∷ decimal reading ∷ armed_word arm ∷ answer_words (answer_of_settime reply)
 step_words (steps.Trigger generation reading counted) = codes "trigger" ∷ decimal generation ∷ decimal reading ∷ counted_word counted ∷ []
-step_words (steps.Accept reading arm reply) = codes "accept" ∷ decimal reading ∷ armed_word arm ∷ answer_words (accept_answer reply)
-step_words (steps.Read reading arm reply) = codes "read" ∷ decimal reading ∷ armed_word arm ∷ answer_words (read_answer reply)
+step_words (steps.Accept reading arm reply) = codes "accept" ∷ decimal reading ∷ armed_word arm ∷ answer_words (answer_of_accept reply)
+step_words (steps.Read reading arm reply) = codes "read" ∷ decimal reading ∷ armed_word arm ∷ answer_words (answer_of_read reply)
 step_words (steps.Gettime reading arm left interval) = codes "gettime" ∷ decimal reading ∷ armed_word arm ∷ decimal left ∷ decimal interval ∷ []
 
 -- the words of a line
-abbrev pub words_of : RecordLine → List (List ℕ)
-words_of Version = codes "record" ∷ codes "1" ∷ []
-words_of (OfClock number w) =
-    codes "clock" ∷ decimal number ∷ decimal w.label.lane ∷ decimal w.label.call ∷ write_word w.write ∷ decimal (write_time w.write) ∷ decimal w.mono ∷ decimal w.real ∷ decimal w.boot ∷ decimal w.changes ∷ []
-words_of (OfTimer timer number label entry) =
+abbrev pub line_words : RecordLine → List (List ℕ)
+line_words Version = codes "record" ∷ codes "1" ∷ []
+line_words (OfClock number w) =
+    codes "clock" ∷ decimal number ∷ decimal w.label.lane ∷ decimal w.label.call ∷ write_name w.write ∷ decimal (write_ns w.write) ∷ decimal w.mono ∷ decimal w.real ∷ decimal w.boot ∷ decimal w.changes ∷ []
+line_words (OfTimer timer number label entry) =
     codes "timer" ∷ decimal timer ∷ decimal number ∷ decimal label.lane ∷ decimal label.call ∷ entry_words entry
-words_of (OfLook timer number look) =
-    codes "look" ∷ decimal timer ∷ decimal number ∷ decimal look.label.lane ∷ decimal look.label.call ∷ told_words look.told
-words_of (OfObject object number label entry) =
+line_words (OfLook timer number look) =
+    codes "look" ∷ decimal timer ∷ decimal number ∷ decimal look.label.lane ∷ decimal look.label.call ∷ reply_words look.reply
+line_words (OfObject object number label entry) =
     codes "object" ∷ decimal object ∷ decimal number ∷ decimal label.lane ∷ decimal label.call ∷ step_words entry
-words_of (OfSkip object number skip) =
+line_words (OfSkip object number skip) =
     codes "skip" ∷ decimal object ∷ decimal number ∷ decimal skip.label.lane ∷ decimal skip.label.call ∷ decimal skip.generation ∷ []
-words_of (OfCall lane call answer) = codes "call" ∷ decimal lane ∷ decimal call ∷ answer_words answer
-words_of End = codes "end" ∷ []
+line_words (OfCall lane call answer) = codes "call" ∷ decimal lane ∷ decimal call ∷ answer_words answer
+line_words End = codes "end" ∷ []
 
 -- each word after a space
 abbrev pub spaced : List (List ℕ) → List ℕ
@@ -200,13 +200,13 @@ spaced [] = []
 spaced (w ∷ ws) = 32 ∷ (w ++ spaced ws)
 
 -- words with a space between each two
-abbrev pub joined : List (List ℕ) → List ℕ
-joined [] = []
-joined (w ∷ ws) = w ++ spaced ws
+abbrev pub join_words : List (List ℕ) → List ℕ
+join_words [] = []
+join_words (w ∷ ws) = w ++ spaced ws
 
 -- the bytes of a line: its words, and a newline
 abbrev pub line_text : RecordLine → List ℕ
-line_text l = joined (words_of l) ++ 10 ∷ []
+line_text l = join_words (line_words l) ++ 10 ∷ []
 
 -- the bytes of lines
 abbrev pub lines_text : List RecordLine → List ℕ

@@ -1,13 +1,13 @@
 //! The record that a run leaves, and its text.
 #![tactic(auto)]
 
-pub use items::Items;
+pub use item_list::ItemList;
 pub use record::{
     AcceptReply, Answer, Armed, ClockLine, Entry, Label, Look, ObjectEntry, ObjectLine, ReadReply,
-    Restart, RunRecord, SettimeReply, Skip, TimerLine, Told,
+    Restart, RunRecord, SettimeReply, Skip, TimerLine, CallbackReply,
 };
 pub use writing::{text, text_determines_the_record};
 
-mod items;
+mod item_list;
 mod record;
 mod writing;

@@ -1,7 +1,7 @@
 ghost use Rattle.std.specs.Prelude.{◌≡◌};
-ghost use Rattle.record_text.specs.Replies.{accept_answer, read_answer, settime_answer};
+ghost use Rattle.record_text.specs.Replies.{answer_of_accept, answer_of_read, answer_of_settime};
 
-use crate::items::Items;
+use crate::item_list::ItemList;
 use clock_model::Write;
 use ktime::{ClockId, Mode};
 
@@ -74,7 +74,7 @@ pub enum Entry {
 
 /// What a callback was told of its timer in place of an entry.
 #[derive(Clone, Copy, Debug, PartialEq, Eq)]
-pub enum Told {
+pub enum CallbackReply {
     Running { generation: u64 },
     Armed { generation: u64 },
     Spent,
@@ -84,7 +84,7 @@ pub enum Told {
 #[derive(Clone, Copy, Debug, PartialEq, Eq)]
 pub struct Look {
     pub label: Label,
-    pub told: Told,
+    pub reply: CallbackReply,
 }
 
 /// An entry of a timer's history, and what callbacks were told after it.
@@ -92,7 +92,7 @@ pub struct Look {
 pub struct TimerLine {
     pub label: Label,
     pub entry: Entry,
-    pub looks: Items<Look>,
+    pub looks: ItemList<Look>,
 }
 
 /// What a call made of the timer that it wanted to start for its object.
@@ -120,7 +120,7 @@ pub enum SettimeReply {
 impl SettimeReply {
     /// The call's answer.
     pub fn answer(self) -> Answer
-        ensures { result ≡ settime_answer self }
+        ensures { result ≡ answer_of_settime self }
     {
         match self {
             SettimeReply::Old { left, interval } => Answer::Old { left, interval },
@@ -142,7 +142,7 @@ pub enum AcceptReply {
 impl AcceptReply {
     /// The call's answer.
     pub fn answer(self) -> Answer
-        ensures { result ≡ accept_answer self }
+        ensures { result ≡ answer_of_accept self }
     {
         match self {
             AcceptReply::Accepted { overrun } => Answer::Accepted { overrun },
@@ -165,7 +165,7 @@ pub enum ReadReply {
 impl ReadReply {
     /// The call's answer.
     pub fn answer(self) -> Answer
-        ensures { result ≡ read_answer self }
+        ensures { result ≡ answer_of_read self }
     {
         match self {
             ReadReply::Count { total } => Answer::Count { total },
@@ -224,7 +224,7 @@ pub struct Skip {
 pub struct ObjectLine {
     pub label: Label,
     pub entry: ObjectEntry,
-    pub skips: Items<Skip>,
+    pub skips: ItemList<Skip>,
 }
 
 /// What a call was answered. A stamp is the number of entries after which the answer holds; a reading is named by its
@@ -258,15 +258,15 @@ pub enum Answer {
     },
     Done {
         reading: u64,
-        fired: Items<u32>,
+        fired: ItemList<u32>,
     },
     More {
         reading: u64,
-        fired: Items<u32>,
+        fired: ItemList<u32>,
     },
     Busy {
         reading: u64,
-        fired: Items<u32>,
+        fired: ItemList<u32>,
         timer: u32,
         generation: u64,
     },
@@ -330,8 +330,8 @@ pub enum Answer {
 /// a list of objects' lines for each timer, which stays empty for a raw timer.
 #[derive(Drop)]
 pub struct RunRecord {
-    pub clock: Items<ClockLine>,
-    pub timers: Items<Items<TimerLine>>,
-    pub objects: Items<Items<ObjectLine>>,
-    pub answers: Items<Items<Answer>>,
+    pub clock: ItemList<ClockLine>,
+    pub timers: ItemList<ItemList<TimerLine>>,
+    pub objects: ItemList<ItemList<ObjectLine>>,
+    pub answers: ItemList<ItemList<Answer>>,
 }

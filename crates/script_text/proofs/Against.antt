@@ -1,4 +1,4 @@
--- What it takes that nothing is said against a line.
+-- What it takes that nothing is said check_line a line.
 use Rattle.std.proofs.Common.{◌≡◌, ℕ, Bool, true, false, List, [], ◌∷◌, length, Option, Some, None, refl, arith}
 use Rattle.std.specs.Option.{option_or}
 use Rattle.std.proofs.lemmas.Bool.{and_parts, ltb-true, leb-true}
@@ -11,8 +11,8 @@ use Rattle.script_text.specs.declared.reading.drafts.Draft.{Draft}
 use Rattle.script_text.specs.declared.refusal.Cause.{Cause}
 use Rattle.script_text.specs.Forms.{Spot, Key, At, row, part}
 use Rattle.script_text.specs.Scripts.{most_bases, most_lanes}
-use Rattle.script_text.specs.Drafts.{HasRoom, IsShort, AreShort}
-use Rattle.script_text.specs.Refusals.{unless, is_placed, against_count, against_number, against_values, against_kind, against}
+use Rattle.script_text.specs.Drafts.{IsWithinLimits, IsShort, AreShort}
+use Rattle.script_text.specs.Refusals.{unless, is_placed, check_count, check_number, check_values, check_kind, check_line}
 
 pub neither : (a b : Option Cause) → option_or a b ≡ None → (a ≡ None) × (b ≡ None)
 neither None b e = (refl, e)
@@ -22,30 +22,30 @@ pub holds : (b : Bool) (cause : Cause) → unless b cause ≡ None → b ≡ tru
 holds true cause e = refl
 holds false cause e = absurd cc
 
--- nothing is said against a line, part by part
+-- nothing is said check_line a line, part by part
 pub record Accepts (d : Draft) (l : Line) : Type 0 where
   pub placed : is_placed d (part l.form) ≡ true
-  pub count : against_count d (part l.form) ≡ None
-  pub values : against_values d (row l.form) l.values ≡ None
-  pub kind : against_kind d l.form (row l.form) l.values ≡ None
+  pub count : check_count d (part l.form) ≡ None
+  pub values : check_values d (row l.form) l.values ≡ None
+  pub kind : check_kind d l.form (row l.form) l.values ≡ None
 
-pub accepts : (d : Draft) (l : Line) → against d l ≡ None → Accepts d l
-unfolding against
+pub accepts : (d : Draft) (l : Line) → check_line d l ≡ None → Accepts d l
+unfolding check_line
 accepts d l e =
     let placed = neither _ _ e in
     let count = neither _ _ placed.1 in
     let values = neither _ _ count.1 in
     record { placed = holds _ _ placed.0; count = count.0; values = values.0; kind = values.1 }
 
-pub accepted_none : (d : Draft) (l : Line) → Accepts d l → against d l ≡ None
-unfolding against
+pub accepted_none : (d : Draft) (l : Line) → Accepts d l → check_line d l ≡ None
+unfolding check_line
 accepted_none d l a = rw (a.placed, a.count, a.values, a.kind) refl
 
--- ---- numbers that nothing is said against are short
+-- ---- numbers that nothing is said check_line are short
 
-module _ (d : Draft) (room : HasRoom d) where
-  short_number : (place : Place) (n : ℕ) → against_number d place n ≡ None → IsShort place n
-  unfolding against_number
+module _ (d : Draft) (room : IsWithinLimits d) where
+  short_number : (place : Place) (n : ℕ) → check_number d place n ≡ None → IsShort place n
+  unfolding check_number
   short_number places.Bases n e = omega (arith, leb-true n most_bases (and_parts _ _ (holds _ _ e)).1)
   short_number places.Lanes n e = omega (arith, leb-true n most_lanes (and_parts _ _ (holds _ _ e)).1)
   short_number places.Lane n e = omega (arith, ltb-true n d.lanes (holds _ _ e), room.lanes)
@@ -53,8 +53,8 @@ module _ (d : Draft) (room : HasRoom d) where
   short_number places.Base n e = omega (arith, ltb-true n d.bases (holds _ _ e), room.bases)
   short_number _ n e = tt
 
-  pub short_numbers : (spots : List Spot) (vs : List Value) → against_values d spots vs ≡ None → AreShort spots vs
-  unfolding against_values
+  pub short_numbers : (spots : List Spot) (vs : List Value) → check_values d spots vs ≡ None → AreShort spots vs
+  unfolding check_values
   short_numbers [] vs e = tt
   short_numbers (Key word ∷ spots) vs e = short_numbers spots vs e
   short_numbers (At place ∷ spots) [] e = tt

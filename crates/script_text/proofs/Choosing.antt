@@ -14,8 +14,8 @@ use Rattle.script_text.specs.declared.form.Form.TheVariants as forms
 use Rattle.script_text.specs.declared.form.Value.{Value}
 use Rattle.script_text.specs.declared.form.Value.TheVariants as values
 use Rattle.script_text.specs.Forms.{Spot, Key, At, call_forms, called, plain_forms, raw, raw_forms, row}
-use Rattle.script_text.specs.Grammar.{Fills, filled}
-use Rattle.script_text.specs.Reading.{begins_with_digit, first_named, form_in, named}
+use Rattle.script_text.specs.Grammar.{Fills, fill_form}
+use Rattle.script_text.specs.Reading.{begins_with_digit, find_form_by_first, form_in, find_form}
 use Rattle.script_text.proofs.Numbers.{own}
 use Rattle.script_text.proofs.Rows.{HasKeys, is_row, same_Ok}
 
@@ -33,24 +33,24 @@ decimal_begins n small = begins (decimal n) (digits_decimal own n (omega arith))
 
 -- the words that fill this row choose this form, whatever fills it
 abbrev Chooses : List Spot → Form → Type 0
-Chooses spots form = (vs : List Value) → Fills spots vs → form_in (filled spots vs) ≡ Ok form
+Chooses spots form = (vs : List Value) → Fills spots vs → form_in (fill_form spots vs) ≡ Ok form
 
-call : (name : List ℕ) (more : List Spot) (form : Form) → named call_forms name ≡ Ok form → Chooses (called name more) form
-unfolding form_in first_named
+call : (name : List ℕ) (more : List Spot) (form : Form) → find_form call_forms name ≡ Ok form → Chooses (called name more) form
+unfolding form_in find_form_by_first
 call name more form e [] h = absurd h
 call name more form e (values.Clock c ∷ vs) h = absurd h.0
 call name more form e (values.Mode m ∷ vs) h = absurd h.0
 call name more form e (values.Number n ∷ vs) h = rw (decimal_begins n h.0) e
 
-callback : (key : List ℕ) (more : List Spot) (form : Form) → named raw_forms key ≡ Ok form → Chooses (raw key more) form
-unfolding form_in first_named begins_with_digit
+callback : (key : List ℕ) (more : List Spot) (form : Form) → find_form raw_forms key ≡ Ok form → Chooses (raw key more) form
+unfolding form_in find_form_by_first begins_with_digit
 callback key more form e [] h = absurd h
 callback key more form e (v ∷ []) h = absurd h.1
 callback key more form e (v ∷ w ∷ vs) h = e
 
 -- the form of a row is the one that its words choose; its words are words of a line
 pub form_again : (form : Form) → Chooses (row form) form × (is_row (row form) ≡ true)
-unfolding form_in first_named begins_with_digit named
+unfolding form_in find_form_by_first begins_with_digit find_form
 form_again forms.Version = (λ vs h. refl, refl)
 form_again forms.Bases = (λ vs h. refl, refl)
 form_again forms.Lanes = (λ vs h. refl, refl)
@@ -79,11 +79,11 @@ form_again forms.Readable = (call (codes "readable") (drop 2 (row forms.Readable
 -- ---- the form that words choose has their key words
 
 -- what holds of each row of a table holds of the word and the form that it names
-named_holds : (P : List ℕ → Form → Type 0) (table : List (List ℕ × Form)) (word : List ℕ) (form : Form) → AllByRecursion (λ f. P f.0 f.1) table → named table word ≡ Ok form → P word form
-unfolding named
+named_holds : (P : List ℕ → Form → Type 0) (table : List (List ℕ × Form)) (word : List ℕ) (form : Form) → AllByRecursion (λ f. P f.0 f.1) table → find_form table word ≡ Ok form → P word form
+unfolding find_form
 named_holds P [] word form all e = absurd cc
 named_holds P (f ∷ table) word form all e =
-    let go : (b : Bool) → bytes_eq word f.0 ≡ b → (if b then Ok f.1 else named table word) ≡ Ok form → P word form = λ b. elim b as (λ b. bytes_eq word f.0 ≡ b → (if b then Ok f.1 else named table word) ≡ Ok form → P word form) [
+    let go : (b : Bool) → bytes_eq word f.0 ≡ b → (if b then Ok f.1 else find_form table word) ≡ Ok form → P word form = λ b. elim b as (λ b. bytes_eq word f.0 ≡ b → (if b then Ok f.1 else find_form table word) ≡ Ok form → P word form) [
       | true ↦ λ is k. subst (λ form. P word form) (same_Ok f.1 form k) (subst (λ w. P w f.1) (sym ((bytes_eq-Decides word f.0).0 is)) all.0)
       | false ↦ λ is k. named_holds P table word form all.1 k
     ] in
@@ -113,21 +113,21 @@ chosen begin n key form words is has = subst (λ spots. HasKeys spots words) (sy
 abbrev plain_begin : List ℕ → List Spot → List Spot
 plain_begin key more = Key key ∷ more
 
-plain_chosen : (word : List ℕ) (words : List (List ℕ)) (form : Form) → named plain_forms word ≡ Ok form → HasKeys (row form) (word ∷ words)
+plain_chosen : (word : List ℕ) (words : List (List ℕ)) (form : Form) → find_form plain_forms word ≡ Ok form → HasKeys (row form) (word ∷ words)
 plain_chosen word words form e =
     chosen plain_begin 1 word form (word ∷ words) (named_holds (Begins plain_begin 1) plain_forms word form ((refl, refl), ((refl, refl), ((refl, refl), ((refl, refl), ((refl, refl), ((refl, refl), ((refl, refl), tt))))))) e)
     (λ more none. (refl, no_keys more words none))
 
-callback_chosen : (words : List (List ℕ)) (form : Form) → first_named raw_forms (drop 2 words) ≡ Ok form → HasKeys (row form) (codes "raw" ∷ words)
-unfolding first_named
+callback_chosen : (words : List (List ℕ)) (form : Form) → find_form_by_first raw_forms (drop 2 words) ≡ Ok form → HasKeys (row form) (codes "raw" ∷ words)
+unfolding find_form_by_first
 callback_chosen [] form e = absurd cc
 callback_chosen (timer ∷ []) form e = absurd cc
 callback_chosen (timer ∷ clock ∷ []) form e = absurd cc
 callback_chosen (timer ∷ clock ∷ key ∷ words) form e =
     chosen raw 4 key form _ (named_holds (Begins raw 4) raw_forms key form ((refl, refl), ((refl, refl), ((refl, refl), ((refl, refl), tt)))) e) (λ more none. (refl, (refl, no_keys more words none)))
 
-call_chosen : (lane : List ℕ) (words : List (List ℕ)) (form : Form) → first_named call_forms words ≡ Ok form → HasKeys (row form) (lane ∷ words)
-unfolding first_named
+call_chosen : (lane : List ℕ) (words : List (List ℕ)) (form : Form) → find_form_by_first call_forms words ≡ Ok form → HasKeys (row form) (lane ∷ words)
+unfolding find_form_by_first
 call_chosen lane [] form e = absurd cc
 call_chosen lane (name ∷ words) form e =
     chosen called 2 name form _ (named_holds (Begins called 2) call_forms name form ((refl, refl), ((refl, refl), ((refl, refl), ((refl, refl), ((refl, refl), ((refl, refl), ((refl, refl), ((refl, refl), ((refl, refl), ((refl, refl), ((refl, refl), ((refl, refl), ((refl, refl), tt))))))))))))) e)
@@ -137,11 +137,11 @@ pub form_spells : (words : List (List ℕ)) (form : Form) → form_in words ≡ 
 unfolding form_in
 form_spells [] form e = absurd cc
 form_spells (word ∷ words) form e =
-    let raw_or_plain : (b : Bool) → bytes_eq word (codes "raw") ≡ b → (if b then first_named raw_forms (drop 2 words) else named plain_forms word) ≡ Ok form → HasKeys (row form) (word ∷ words) = λ b. elim b as (λ b. bytes_eq word (codes "raw") ≡ b → (if b then first_named raw_forms (drop 2 words) else named plain_forms word) ≡ Ok form → HasKeys (row form) (word ∷ words)) [
+    let raw_or_plain : (b : Bool) → bytes_eq word (codes "raw") ≡ b → (if b then find_form_by_first raw_forms (drop 2 words) else find_form plain_forms word) ≡ Ok form → HasKeys (row form) (word ∷ words) = λ b. elim b as (λ b. bytes_eq word (codes "raw") ≡ b → (if b then find_form_by_first raw_forms (drop 2 words) else find_form plain_forms word) ≡ Ok form → HasKeys (row form) (word ∷ words)) [
       | true ↦ λ is k. subst (λ w. HasKeys (row form) (w ∷ words)) (sym ((bytes_eq-Decides word (codes "raw")).0 is)) (callback_chosen words form k)
       | false ↦ λ is k. plain_chosen word words form k
     ] in
-    let go : (b : Bool) → (if b then first_named call_forms words else (if bytes_eq word (codes "raw") then first_named raw_forms (drop 2 words) else named plain_forms word)) ≡ Ok form → HasKeys (row form) (word ∷ words) = λ b. elim b as (λ b. (if b then first_named call_forms words else (if bytes_eq word (codes "raw") then first_named raw_forms (drop 2 words) else named plain_forms word)) ≡ Ok form → HasKeys (row form) (word ∷ words)) [
+    let go : (b : Bool) → (if b then find_form_by_first call_forms words else (if bytes_eq word (codes "raw") then find_form_by_first raw_forms (drop 2 words) else find_form plain_forms word)) ≡ Ok form → HasKeys (row form) (word ∷ words) = λ b. elim b as (λ b. (if b then find_form_by_first call_forms words else (if bytes_eq word (codes "raw") then find_form_by_first raw_forms (drop 2 words) else find_form plain_forms word)) ≡ Ok form → HasKeys (row form) (word ∷ words)) [
       | true ↦ λ k. call_chosen word words form k
       | false ↦ λ k. raw_or_plain (bytes_eq word (codes "raw")) refl k
     ] in

@@ -4,17 +4,17 @@ use Rattle.std.specs.List.{slice_split}
 use Rattle.std.proofs.lemmas.List.{take_more, take_all, map-append, length-map}
 use Rattle.std.proofs.lemmas.List.Splits.{length-slice_split}
 use Rattle.std.proofs.lemmas.List.Sums.{count_by-le-length}
-use Rattle.script_text.specs.Scripts.{closed}
+use Rattle.script_text.specs.Scripts.{without_empty_tail}
 
 if_cons : (b : Bool) (p : List ℕ) (xs ys : List (List ℕ)) → p ∷ (if b then xs else ys) ≡ (if b then p ∷ xs else p ∷ ys)
 if_cons true p xs ys = refl
 if_cons false p xs ys = refl
 
-closed-cons : (p : List ℕ) (ps : List (List ℕ)) (last : List ℕ) → closed (p ∷ ps ++ last ∷ []) ≡ p ∷ closed (ps ++ last ∷ [])
+closed-cons : (p : List ℕ) (ps : List (List ℕ)) (last : List ℕ) → without_empty_tail (p ∷ ps ++ last ∷ []) ≡ p ∷ without_empty_tail (ps ++ last ∷ [])
 closed-cons p [] last = refl
 closed-cons p (q ∷ qs) last = refl
 
-closed-push : (ps : List (List ℕ)) (last : List ℕ) → closed (ps ++ last ∷ []) ≡ (if length last == 0 then ps else ps ++ last ∷ [])
+closed-push : (ps : List (List ℕ)) (last : List ℕ) → without_empty_tail (ps ++ last ∷ []) ≡ (if length last == 0 then ps else ps ++ last ∷ [])
 closed-push [] last = refl
 closed-push (p ∷ ps) last = closed-cons p ps last ∙ ap (λ (qs : List (List ℕ)). p ∷ qs) (closed-push ps last) ∙ if_cons (length last == 0) p ps (ps ++ last ∷ [])
 
@@ -28,20 +28,20 @@ module _ {X : Type 0} (f : X → List ℕ) (xs : List X) (d : X) (some : 1 ≤ l
   joined : map f xs ≡ map f (take (length xs - 1) xs) ++ f (get_or xs (length xs - 1) d) ∷ []
   joined = ap (λ (ys : List X). map f ys) (sym (last_item xs d some)) ∙ map-append f (take (length xs - 1) xs) (get_or xs (length xs - 1) d ∷ [])
 
-  pub closed_off : (length (f (get_or xs (length xs - 1) d)) == 0) ≡ true → map f (take (length xs - 1) xs) ≡ closed (map f xs)
-  closed_off none = sym (ap closed joined ∙ closed-push (map f (take (length xs - 1) xs)) (f (get_or xs (length xs - 1) d)) ∙ rw none refl)
+  pub closed_off : (length (f (get_or xs (length xs - 1) d)) == 0) ≡ true → map f (take (length xs - 1) xs) ≡ without_empty_tail (map f xs)
+  closed_off none = sym (ap without_empty_tail joined ∙ closed-push (map f (take (length xs - 1) xs)) (f (get_or xs (length xs - 1) d)) ∙ rw none refl)
 
-  pub closed_all : (length (f (get_or xs (length xs - 1) d)) == 0) ≡ false → map f xs ≡ closed (map f xs)
-  closed_all none = joined ∙ sym (ap closed joined ∙ closed-push (map f (take (length xs - 1) xs)) (f (get_or xs (length xs - 1) d)) ∙ rw none refl)
+  pub closed_all : (length (f (get_or xs (length xs - 1) d)) == 0) ≡ false → map f xs ≡ without_empty_tail (map f xs)
+  closed_all none = joined ∙ sym (ap without_empty_tail joined ∙ closed-push (map f (take (length xs - 1) xs)) (f (get_or xs (length xs - 1) d)) ∙ rw none refl)
 
-closed_few : (ps : List (List ℕ)) → length (closed ps) ≤ length ps
+closed_few : (ps : List (List ℕ)) → length (without_empty_tail ps) ≤ length ps
 closed_few [] = omega arith
 closed_few (p ∷ []) = elim (length p == 0) as (λ b. length (if b then [] else p ∷ []) ≤ 1) [ true ↦ omega arith | false ↦ omega arith ]
 closed_few (p ∷ q ∷ ps) = omega (arith, closed_few (q ∷ ps))
 
 -- bytes have no more lines than newlines, and one
-pub few_lines : {X : Type 0} (f : X → List ℕ) (lines parts : List X) (bytes : List ℕ) → map f lines ≡ closed (map f parts) → map f parts ≡ slice_split (λ b. b == 10) bytes → length lines ≤ length bytes + 1
+pub few_lines : {X : Type 0} (f : X → List ℕ) (lines parts : List X) (bytes : List ℕ) → map f lines ≡ without_empty_tail (map f parts) → map f parts ≡ slice_split (λ b. b == 10) bytes → length lines ≤ length bytes + 1
 few_lines f lines parts bytes is cut =
     let one : length (map f lines) ≡ length lines = length-map _ _ in
-    let all : length (map f lines) ≡ length (closed (slice_split (λ b. b == 10) bytes)) = ap (λ (ps : List (List ℕ)). length ps) (is ∙ ap closed cut) in
+    let all : length (map f lines) ≡ length (without_empty_tail (slice_split (λ b. b == 10) bytes)) = ap (λ (ps : List (List ℕ)). length ps) (is ∙ ap without_empty_tail cut) in
     omega (arith, one, all, closed_few (slice_split (λ b. b == 10) bytes), length-slice_split (λ b. b == 10) bytes, count_by-le-length (λ b. b == 10) bytes)

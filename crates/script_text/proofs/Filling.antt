@@ -10,7 +10,7 @@ use Rattle.script_text.specs.declared.form.Value.{Value}
 use Rattle.script_text.specs.declared.refusal.Cause.{Cause}
 use Rattle.script_text.specs.declared.refusal.Cause.TheVariants as causes
 use Rattle.script_text.specs.Forms.{Spot, Key, At, place_at, row}
-use Rattle.script_text.specs.Reading.{◌>>=◌, filled_by, form_in, is_bad_byte, is_empty_word, line_in, value_in, values_in, words_of}
+use Rattle.script_text.specs.Reading.{◌>>=◌, filled_by, form_in, is_bad_byte, is_empty_word, line_in, value_in, values_in, words_in}
 
 -- a spot with this place, or with some key word
 abbrev pub spot_of : Option Place → Spot
@@ -97,11 +97,11 @@ pub line_in-byte : (line : List ℕ) → list_any is_bad_byte line ≡ true → 
 unfolding line_in
 line_in-byte line bad = rw bad refl
 
-pub line_in-space : (line : List ℕ) (words : List (List ℕ)) → words ≡ words_of line → list_any is_bad_byte line ≡ false → list_any is_empty_word words ≡ true → line_in line ≡ Err causes.BadSpace
+pub line_in-space : (line : List ℕ) (words : List (List ℕ)) → words ≡ words_in line → list_any is_bad_byte line ≡ false → list_any is_empty_word words ≡ true → line_in line ≡ Err causes.BadSpace
 unfolding line_in
 line_in-space line words is good empty = rw (good, ← is, empty) refl
 
-pub line_in-words : (line : List ℕ) (words : List (List ℕ)) → words ≡ words_of line → list_any is_bad_byte line ≡ false → list_any is_empty_word words ≡ false
+pub line_in-words : (line : List ℕ) (words : List (List ℕ)) → words ≡ words_in line → list_any is_bad_byte line ≡ false → list_any is_empty_word words ≡ false
     → line_in line ≡ (form_in words >>= λ form. filled_by form words)
 unfolding line_in
 line_in-words line words is good full = rw (good, ← is, full) refl

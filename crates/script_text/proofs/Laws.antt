@@ -7,14 +7,14 @@ use Rattle.script_text.specs.declared.reading.drafts.Draft.{Draft}
 use Rattle.script_text.specs.declared.refusal.Refused.{Refused}
 use Rattle.script_text.specs.declared.script.Script.{Script}
 use Rattle.script_text.specs.Grammar.{IsLine, spelled}
-use Rattle.script_text.specs.Scripts.{Reads, most_bytes, is_skipped, lines_of, script_lines}
-use Rattle.script_text.specs.Drafts.{empty, script_of, with_line}
-use Rattle.script_text.specs.Refusals.{IsRefused, against, with_line_in, behind, script_from, script_in}
+use Rattle.script_text.specs.Scripts.{Reads, most_script_bytes, is_skipped, lines_of, script_lines}
+use Rattle.script_text.specs.Drafts.{empty, script_of, draft_with_line}
+use Rattle.script_text.specs.Refusals.{IsRefused, check_line, with_line_in, continue_after, script_from, script_in}
 use Rattle.script_text.proofs.Lines.{line_again}
 use Rattle.script_text.proofs.Scripts.{kept, kept_skipped, kept_more, read_from}
 use Rattle.script_text.proofs.Steps.{Steps, script_steps}
 
-line_taken : (d : Draft) (part : List ℕ) (l : Line) → part ≡ spelled l → IsLine l → against d l ≡ None → with_line_in d part ≡ Ok (with_line d l)
+line_taken : (d : Draft) (part : List ℕ) (l : Line) → part ≡ spelled l → IsLine l → check_line d l ≡ None → with_line_in d part ≡ Ok (draft_with_line d l)
 unfolding with_line_in
 line_taken d part l is line none = rw (is, line_again l line, none) refl
 
@@ -26,7 +26,7 @@ taken number d e [] [] spelling lines steps four =
 taken number d e [] (l ∷ ls) spelling lines steps four = absurd cc
 taken number d e (part ∷ parts) ls spelling lines steps four =
     let rest : Result Script Refused = script_from (number + 1) d parts in
-    let read : Result Script Refused = behind number (with_line_in d part) (λ now. script_from (number + 1) now parts) in
+    let read : Result Script Refused = continue_after number (with_line_in d part) (λ now. script_from (number + 1) now parts) in
     let go : (b : Bool) → is_skipped part ≡ b → (if b then rest else read) ≡ Ok (script_of e) = λ b. elim b as (λ b. is_skipped part ≡ b → (if b then rest else read) ≡ Ok (script_of e)) [
       | true ↦ λ skipped. taken (number + 1) d e parts ls (sym (kept_skipped part parts skipped) ∙ spelling) lines steps four
       | false ↦ λ here. (elim ls as (λ ls. part ∷ kept parts ≡ map spelled ls → AllByRecursion IsLine ls → Steps d ls e → read ≡ Ok (script_of e)) [
@@ -34,7 +34,7 @@ taken number d e (part ∷ parts) ls spelling lines steps four =
         | l ∷ ls ↦ λ spelling lines steps.
             let first : part ≡ spelled l = cc in
             let others : kept parts ≡ map spelled ls = cc in
-            rw (line_taken d part l first lines.0 steps.0) (taken (number + 1) (with_line d l) e parts ls others lines.1 steps.1 four)
+            rw (line_taken d part l first lines.0 steps.0) (taken (number + 1) (draft_with_line d l) e parts ls others lines.1 steps.1 four)
       ]) (sym (kept_more part parts here) ∙ spelling) lines steps
     ] in
     go (is_skipped part) refl
@@ -44,7 +44,7 @@ pub read_again : (bytes : List ℕ) (s : Script) → Reads bytes s → script_in
 unfolding script_in
 read_again bytes s reads =
     let all = script_steps s reads.ranges in
-    let few : nat_lt most_bytes (length bytes) ≡ false = false_from_ne_true _ (λ long. omega (arith, ltb-true most_bytes (length bytes) long, reads.few)) in
+    let few : nat_lt most_script_bytes (length bytes) ≡ false = false_from_ne_true _ (λ long. omega (arith, ltb-true most_script_bytes (length bytes) long, reads.few)) in
     rw few (taken 1 empty all.0 (lines_of bytes) (script_lines s) reads.spelling reads.lines all.1 all.2 ∙ ap (λ (s : Script). Ok s) all.3)
 
 pub one_script : (bytes : List ℕ) (s t : Script) → Reads bytes s → Reads bytes t → s ≡ t

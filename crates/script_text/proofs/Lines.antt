@@ -9,8 +9,8 @@ use Rattle.script_text.specs.declared.form.Line.{Line}
 use Rattle.script_text.specs.declared.refusal.Cause.{Cause}
 use Rattle.script_text.specs.declared.refusal.Cause.TheVariants as causes
 use Rattle.script_text.specs.Forms.{row}
-use Rattle.script_text.specs.Grammar.{IsLine, filled, spelled}
-use Rattle.script_text.specs.Reading.{◌>>=◌, filled_by, is_bad_byte, is_empty_word, line_in, values_in, words_of}
+use Rattle.script_text.specs.Grammar.{IsLine, fill_form, spelled}
+use Rattle.script_text.specs.Reading.{◌>>=◌, filled_by, is_bad_byte, is_empty_word, line_in, values_in, words_in}
 use Rattle.script_text.specs.Scripts.{is_skipped}
 use Rattle.script_text.proofs.Cutting.{Without, split_joined}
 use Rattle.script_text.proofs.Choosing.{form_again, form_spells}
@@ -34,7 +34,7 @@ words_without_space [] h = tt
 words_without_space ([] ∷ words) h = absurd cc
 words_without_space ((b ∷ bs) ∷ words) h = (without_space (b ∷ bs) h.0, words_without_space words h.1)
 
-words_again : (words : List (List ℕ)) → AreWords words → words_of (join_with_byte 32 words) ≡ words
+words_again : (words : List (List ℕ)) → AreWords words → words_in (join_with_byte 32 words) ≡ words
 words_again [] h = absurd (omega (arith, h.0))
 words_again (w ∷ ws) h = split_joined 32 w ws (words_without_space (w ∷ ws) h.1)
 
@@ -71,17 +71,17 @@ kept ((b ∷ bs) ∷ w ∷ ws) h = ne_eqb b 35 (λ same. omega (arith, same, fir
 
 -- ---- a line
 
-line_words : (l : Line) → IsLine l → AreWords (filled (row l.form) l.values)
+line_words : (l : Line) → IsLine l → AreWords (fill_form (row l.form) l.values)
 line_words l h = row_words (row l.form) l.values h (form_again l.form).1
 
 -- a line that can be spelled isn't skipped
 pub spelled_kept : (l : Line) → IsLine l → is_skipped (spelled l) ≡ false
-spelled_kept l h = kept (filled (row l.form) l.values) (line_words l h)
+spelled_kept l h = kept (fill_form (row l.form) l.values) (line_words l h)
 
 pub line_again : (l : Line) → IsLine l → line_in (spelled l) ≡ Ok l
 unfolding filled_by
 line_again l h =
-    let words = filled (row l.form) l.values in
+    let words = fill_form (row l.form) l.values in
     let are = line_words l h in
     let form = (form_again l.form).0 l.values h in
     line_in-words (spelled l) words (sym (words_again words are)) (good_bytes words are.1) (no_empty_word words are.1)
@@ -91,14 +91,14 @@ unless_refused : (b : Bool) (cause : Cause) (r : Result Line Cause) (l : Line) �
 unless_refused true cause r l e = absurd cc
 unless_refused false cause r l e = e
 
-filled_spells : (form : Form) (words : List (List ℕ)) (l : Line) → HasKeys (row form) words → filled_by form words ≡ Ok l → (words ≡ filled (row l.form) l.values) × IsLine l
+filled_spells : (form : Form) (words : List (List ℕ)) (l : Line) → HasKeys (row form) words → filled_by form words ≡ Ok l → (words ≡ fill_form (row l.form) l.values) × IsLine l
 unfolding filled_by
 filled_spells form words l keys e =
-    let go : (b : Bool) → (length words == length (row form)) ≡ b → (if b then (values_in (row form) words >>= λ vs. Ok (record { form = form; values = vs })) else Err causes.WordCount) ≡ Ok l → (words ≡ filled (row l.form) l.values) × IsLine l = λ b. elim b as (λ b. (length words == length (row form)) ≡ b → (if b then (values_in (row form) words >>= λ vs. Ok (record { form = form; values = vs })) else Err causes.WordCount) ≡ Ok l → (words ≡ filled (row l.form) l.values) × IsLine l) [
+    let go : (b : Bool) → (length words == length (row form)) ≡ b → (if b then (values_in (row form) words >>= λ vs. Ok (record { form = form; values = vs })) else Err causes.WordCount) ≡ Ok l → (words ≡ fill_form (row l.form) l.values) × IsLine l = λ b. elim b as (λ b. (length words == length (row form)) ≡ b → (if b then (values_in (row form) words >>= λ vs. Ok (record { form = form; values = vs })) else Err causes.WordCount) ≡ Ok l → (words ≡ fill_form (row l.form) l.values) × IsLine l) [
       | true ↦ λ is k.
           let vs = bind_ok _ _ l k in
           let s = values_spell (row form) words vs.0 (eqb-true _ _ is) keys vs.1 in
-          subst (λ l. (words ≡ filled (row l.form) l.values) × IsLine l) (same_Ok _ l vs.2) (s.0, s.1)
+          subst (λ l. (words ≡ fill_form (row l.form) l.values) × IsLine l) (same_Ok _ l vs.2) (s.0, s.1)
       | false ↦ λ is k. absurd cc
     ] in
     go (length words == length (row form)) refl e
@@ -107,7 +107,7 @@ pub line_spells : (bytes : List ℕ) (l : Line) → line_in bytes ≡ Ok l → (
 unfolding line_in
 line_spells bytes l e =
     let full = unless_refused (list_any is_bad_byte bytes) causes.BadByte _ l e in
-    let form = bind_ok _ _ l (unless_refused (list_any is_empty_word (words_of bytes)) causes.BadSpace _ l full) in
-    let keys = form_spells (words_of bytes) form.0 form.1 in
-    let s = filled_spells form.0 (words_of bytes) l keys form.2 in
+    let form = bind_ok _ _ l (unless_refused (list_any is_empty_word (words_in bytes)) causes.BadSpace _ l full) in
+    let keys = form_spells (words_in bytes) form.0 form.1 in
+    let s = filled_spells form.0 (words_in bytes) l keys form.2 in
     (sym (join_with_byte-slice_split 32 bytes) ∙ ap (λ (words : List (List ℕ)). join_with_byte 32 words) s.0, s.1)

@@ -21,9 +21,9 @@ use Rattle.script_text.specs.declared.script.Kind.TheVariants as kinds
 use Rattle.script_text.specs.declared.script.LaneCall.{LaneCall}
 use Rattle.script_text.specs.Forms.{Spot, Key, At, Sort, ClockName, ModeName, Numeral, sort, row, called, part}
 use Rattle.script_text.specs.Grammar.{IsOfSort, Fills}
-use Rattle.script_text.specs.Scripts.{most_budget, declaration_line, call_line, IsKindInRange, IsCallInRange, Suits}
+use Rattle.script_text.specs.Scripts.{most_budget, declaration_line, call_line, IsKindInRange, IsCallInRange, HasTimerFor}
 use Rattle.script_text.specs.Drafts.{declaration_of, plain_call_of, object_call_of, call_of}
-use Rattle.script_text.specs.Refusals.{against_number, against_values, against_kind}
+use Rattle.script_text.specs.Refusals.{check_number, check_values, check_kind}
 use Rattle.script_text.proofs.Against.{neither, holds}
 
 -- ---- the shapes of values that fill a row
@@ -67,13 +67,13 @@ pub record Declares (d : Draft) (f : Form) (vs : List Value) (t : Declaration) :
   pub range : IsKindInRange d.bases t.kind
 
 -- an object's number is the next, and its base exists
-object_on : (d : Draft) (i b : ℕ) → option_or (against_number d places.NewTimer i) (option_or (against_number d places.Base b) None) ≡ None → (i ≡ length d.timers) × (b < d.bases)
-unfolding against_number
+object_on : (d : Draft) (i b : ℕ) → option_or (check_number d places.NewTimer i) (option_or (check_number d places.Base b) None) ≡ None → (i ≡ length d.timers) × (b < d.bases)
+unfolding check_number
 object_on d i b e = let both = neither _ _ e in (eqb-true i (length d.timers) (holds _ _ both.0), ltb-true b d.bases (holds _ _ (neither _ _ both.1).0))
 
-pub declares : (d : Draft) (f : Form) (vs : List Value) → part f ≡ parts.Declaration → fits (row f) vs ≡ true → against_values d (row f) vs ≡ None
+pub declares : (d : Draft) (f : Form) (vs : List Value) → part f ≡ parts.Declaration → fits (row f) vs ≡ true → check_values d (row f) vs ≡ None
     → (t : Declaration) × Declares d f vs t
-unfolding declaration_of against_values against_number
+unfolding declaration_of check_values check_number
 declares d forms.RawOnce (values.Number i ∷ values.Clock c ∷ []) is fit e =
     let same = eqb-true i (length d.timers) (holds _ _ (neither _ _ e).0) in
     (record { clock = c; kind = kinds.Raw callbacks.Once }, record { means = refl; line = rw same refl; range = tt })
@@ -100,12 +100,12 @@ declares d _ _ is fit e = absurd cc
 pub record IsDeclarationOf (d : Draft) (f : Form) (vs : List Value) (t : Declaration) : Type 0 where
   pub means : declaration_of f vs ≡ Some t
   pub part : part f ≡ parts.Declaration
-  pub values : against_values d (row f) vs ≡ None
-  pub kind : against_kind d f (row f) vs ≡ None
+  pub values : check_values d (row f) vs ≡ None
+  pub kind : check_kind d f (row f) vs ≡ None
 
 pub declaration_again : (d : Draft) (clock : ClockId) (kind : Kind) → IsKindInRange d.bases kind
     → IsDeclarationOf d (declaration_line (length d.timers) clock kind).form (declaration_line (length d.timers) clock kind).values (record { clock = clock; kind = kind })
-unfolding declaration_of against_values against_number against_kind
+unfolding declaration_of check_values check_number check_kind
 declaration_again d clock (kinds.Raw callbacks.Once) range = record { means = refl; part = refl; values = rw (eq-eqb (length d.timers) (length d.timers) refl) refl; kind = refl }
 declaration_again d clock (kinds.Raw (callbacks.Every n)) range = record { means = refl; part = refl; values = rw (eq-eqb (length d.timers) (length d.timers) refl) refl; kind = refl }
 declaration_again d clock (kinds.Raw callbacks.Cancels) range = record { means = refl; part = refl; values = rw (eq-eqb (length d.timers) (length d.timers) refl) refl; kind = refl }
@@ -126,26 +126,26 @@ pub record Calls (d : Draft) (f : Form) (vs : List Value) (c : LaneCall) : Type 
 pub record IsCallOf (d : Draft) (f : Form) (vs : List Value) (c : LaneCall) : Type 0 where
   pub means : call_of f vs ≡ Some c
   pub part : part f ≡ parts.Call
-  pub values : against_values d (row f) vs ≡ None
-  pub kind : against_kind d f (row f) vs ≡ None
+  pub values : check_values d (row f) vs ≡ None
+  pub kind : check_kind d f (row f) vs ≡ None
 
 -- a call on a timer: behind its lane and its timer stand other values
 module _ (d : Draft) (f : Form) (name : List ℕ) (spots : List Spot) (k i : ℕ) (more : List Value) (call : Call) (is : row f ≡ called name (At places.Timer ∷ spots)) where
   timer_call : call_of f (values.Number k ∷ values.Number i ∷ more) ≡ Some (record { lane = k; call = call }) → record { form = f; values = values.Number k ∷ values.Number i ∷ more } ≡ call_line k call
-      → (against_values d spots more ≡ None → Suits d.timers i f → IsCallInRange d.bases d.timers call)
-      → against_values d (row f) (values.Number k ∷ values.Number i ∷ more) ≡ None → against_kind d f (row f) (values.Number k ∷ values.Number i ∷ more) ≡ None
+      → (check_values d spots more ≡ None → HasTimerFor d.timers i f → IsCallInRange d.bases d.timers call)
+      → check_values d (row f) (values.Number k ∷ values.Number i ∷ more) ≡ None → check_kind d f (row f) (values.Number k ∷ values.Number i ∷ more) ≡ None
       → (c : LaneCall) × Calls d f (values.Number k ∷ values.Number i ∷ more) c
-  unfolding against_values against_number against_kind
+  unfolding check_values check_number check_kind
   timer_call means line range none kind =
       let vs : List Value = values.Number k ∷ values.Number i ∷ more in
-      let lane = neither _ _ (subst (λ spots. against_values d spots vs ≡ None) is none) in
+      let lane = neither _ _ (subst (λ spots. check_values d spots vs ≡ None) is none) in
       let timer = neither _ _ lane.1 in
-      let suit = holds _ _ (subst (λ spots. against_kind d f spots vs ≡ None) is kind) in
+      let suit = holds _ _ (subst (λ spots. check_kind d f spots vs ≡ None) is kind) in
       (record { lane = k; call = call }, record { means = means; line = line; lane = ltb-true k d.lanes (holds _ _ lane.0); range = range timer.1 (ltb-true i (length d.timers) (holds _ _ timer.0), suit) })
 
-  timer_call_again : call_of f (values.Number k ∷ values.Number i ∷ more) ≡ Some (record { lane = k; call = call }) → part f ≡ parts.Call → k < d.lanes → Suits d.timers i f → against_values d spots more ≡ None
+  timer_call_again : call_of f (values.Number k ∷ values.Number i ∷ more) ≡ Some (record { lane = k; call = call }) → part f ≡ parts.Call → k < d.lanes → HasTimerFor d.timers i f → check_values d spots more ≡ None
       → IsCallOf d f (values.Number k ∷ values.Number i ∷ more) (record { lane = k; call = call })
-  unfolding against_values against_number against_kind
+  unfolding check_values check_number check_kind
   timer_call_again means call_part lane suit none = record {
     means = means;
     part = call_part;
@@ -153,9 +153,9 @@ module _ (d : Draft) (f : Form) (name : List ℕ) (spots : List Spot) (k i : ℕ
     kind = rw (is, suit.1) refl;
   }
 
-pub calls_for : (d : Draft) (f : Form) (vs : List Value) → part f ≡ parts.Call → fits (row f) vs ≡ true → against_values d (row f) vs ≡ None → against_kind d f (row f) vs ≡ None
+pub calls_for : (d : Draft) (f : Form) (vs : List Value) → part f ≡ parts.Call → fits (row f) vs ≡ true → check_values d (row f) vs ≡ None → check_kind d f (row f) vs ≡ None
     → (c : LaneCall) × Calls d f vs c
-unfolding call_of plain_call_of object_call_of against_values against_number against_kind
+unfolding call_of plain_call_of object_call_of check_values check_number check_kind
 calls_for d forms.Start (values.Number k ∷ values.Number i ∷ values.Mode modes.Rel ∷ values.Number n ∷ values.Number b ∷ []) is fit e kind =
     timer_call d forms.Start _ _ k i _ (calls.Start i modes.Rel n b) refl refl refl (λ none suit. (suit, ltb-true b d.bases (holds _ _ (neither _ _ none).0))) e kind
 calls_for d forms.Start (values.Number k ∷ values.Number i ∷ values.Mode modes.Abs ∷ values.Number n ∷ values.Number b ∷ []) is fit e kind =
@@ -184,7 +184,7 @@ calls_for d _ _ is fit e kind = absurd cc
 
 pub call_again : (d : Draft) (lane : ℕ) (call : Call) → lane < d.lanes → IsCallInRange d.bases d.timers call
     → IsCallOf d (call_line lane call).form (call_line lane call).values (record { lane = lane; call = call })
-unfolding call_of plain_call_of object_call_of against_values against_number against_kind
+unfolding call_of plain_call_of object_call_of check_values check_number check_kind
 call_again d lane (calls.Start timer modes.Rel ns base) own range =
     timer_call_again d forms.Start _ _ lane timer _ (calls.Start timer modes.Rel ns base) refl refl refl own range.0 (rw (lt-ltb base d.bases range.1) refl)
 call_again d lane (calls.Start timer modes.Abs ns base) own range =

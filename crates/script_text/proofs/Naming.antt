@@ -6,24 +6,24 @@ use Rattle.script_text.specs.declared.form.Form.{Form}
 use Rattle.script_text.specs.declared.refusal.Cause.{Cause}
 use Rattle.script_text.specs.declared.refusal.Cause.TheVariants as causes
 use Rattle.script_text.specs.Forms.{call_forms, plain_forms, raw_forms}
-use Rattle.script_text.specs.Reading.{begins_with_digit, first_named, form_in, named}
+use Rattle.script_text.specs.Reading.{begins_with_digit, find_form_by_first, form_in, find_form}
 
 -- what a word names among the rows of a slice from one on
 abbrev pub named_from : List (Bor (List ℕ) × Form) → ℕ → List ℕ → Result Form Cause
-named_from forms i word = named (map (λ f. (f.0.now, f.1)) (drop i forms)) word
+named_from forms i word = find_form (map (λ f. (f.0.now, f.1)) (drop i forms)) word
 
 pub named_here : (forms : List (Bor (List ℕ) × Form)) (i : ℕ) (d : Bor (List ℕ) × Form) (word : List ℕ) → i < length forms
     → bytes_eq word (get_or forms i d).0.now ≡ true → named_from forms i word ≡ Ok (get_or forms i d).1
-unfolding named
+unfolding find_form
 named_here forms i d word inside same = rw (drop_more forms i d inside, same) refl
 
 pub named_past : (forms : List (Bor (List ℕ) × Form)) (i : ℕ) (d : Bor (List ℕ) × Form) (word : List ℕ) → i < length forms
     → bytes_eq word (get_or forms i d).0.now ≡ false → named_from forms i word ≡ named_from forms (i + 1) word
-unfolding named
+unfolding find_form
 named_past forms i d word inside other = rw (drop_more forms i d inside, other) refl
 
 pub named_end : (forms : List (Bor (List ℕ) × Form)) (i : ℕ) (word : List ℕ) → length forms ≤ i → named_from forms i word ≡ Err causes.UnknownWord
-unfolding named
+unfolding find_form
 named_end forms i word past = rw (drop_all i forms past) refl
 
 -- ---- the word that names the form of a line
@@ -33,12 +33,12 @@ abbrev pub read : List (Bor (List ℕ)) → List (List ℕ)
 read words = map (λ w. w.now) words
 
 pub first_named_some : (forms : List (List ℕ × Form)) (words : List (Bor (List ℕ))) (at : ℕ) (word : Bor (List ℕ)) → at < length words → word ≡ get_or words at word
-    → first_named forms (drop at (read words)) ≡ named forms word.now
-unfolding first_named
+    → find_form_by_first forms (drop at (read words)) ≡ find_form forms word.now
+unfolding find_form_by_first
 first_named_some forms words at word inside is = rw (drop-map _ at words, drop_more words at word inside, ← is) refl
 
-pub first_named_none : (forms : List (List ℕ × Form)) (words : List (Bor (List ℕ))) (at : ℕ) → length words ≤ at → first_named forms (drop at (read words)) ≡ Err causes.WordCount
-unfolding first_named
+pub first_named_none : (forms : List (List ℕ × Form)) (words : List (Bor (List ℕ))) (at : ℕ) → length words ≤ at → find_form_by_first forms (drop at (read words)) ≡ Err causes.WordCount
+unfolding find_form_by_first
 first_named_none forms words at past = rw (drop-map _ at words, drop_all at words past) refl
 
 pub form_none : (words : List (Bor (List ℕ))) → length words ≤ 0 → form_in (read words) ≡ Err causes.WordCount
@@ -47,19 +47,19 @@ form_none [] none = refl
 form_none (w ∷ ws) none = absurd (omega (arith, none))
 
 pub form_of_call : (words : List (Bor (List ℕ))) (first : Bor (List ℕ)) → 0 < length words → first ≡ get_or words 0 first → begins_with_digit first.now ≡ true
-    → form_in (read words) ≡ first_named call_forms (drop 1 (read words))
+    → form_in (read words) ≡ find_form_by_first call_forms (drop 1 (read words))
 unfolding form_in
 form_of_call [] first some is digit = absurd (omega (arith, some))
 form_of_call (w ∷ ws) first some is digit = rw (← is, digit) refl
 
 pub form_of_raw : (words : List (Bor (List ℕ))) (first : Bor (List ℕ)) → 0 < length words → first ≡ get_or words 0 first → begins_with_digit first.now ≡ false → bytes_eq first.now (codes "raw") ≡ true
-    → form_in (read words) ≡ first_named raw_forms (drop 3 (read words))
+    → form_in (read words) ≡ find_form_by_first raw_forms (drop 3 (read words))
 unfolding form_in
 form_of_raw [] first some is other raw = absurd (omega (arith, some))
 form_of_raw (w ∷ ws) first some is other raw = rw (← is, other, raw) refl
 
 pub form_of_plain : (words : List (Bor (List ℕ))) (first : Bor (List ℕ)) → 0 < length words → first ≡ get_or words 0 first → begins_with_digit first.now ≡ false → bytes_eq first.now (codes "raw") ≡ false
-    → form_in (read words) ≡ first_named plain_forms (drop 0 (read words))
-unfolding form_in first_named
+    → form_in (read words) ≡ find_form_by_first plain_forms (drop 0 (read words))
+unfolding form_in find_form_by_first
 form_of_plain [] first some is other plain = absurd (omega (arith, some))
 form_of_plain (w ∷ ws) first some is other plain = rw (← is, other, plain) refl

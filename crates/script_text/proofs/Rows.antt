@@ -1,4 +1,4 @@
--- Rows, and the words that they are filled to: such words give the values back, and what words give fills the row to them again.
+-- Rows, and the words that they are fill_form to: such words give the values back, and what words give fills the row to them again.
 use Rattle.std.proofs.Common.{arith, codes, ◌≡◌, ℕ, ◌<◌, Bool, true, false, List, [], ◌∷◌, length, Option, Some, None, Result, Ok, Err, refl, ap, subst, ◌∙◌, nat_lt, if◌then◌else◌, ◌&&◌}
 use Rattle.std.specs.Prelude.{bytes_eq}
 use Rattle.std.specs.Fmt.{decimal}
@@ -18,7 +18,7 @@ use Rattle.script_text.specs.declared.form.Value.{Value}
 use Rattle.script_text.specs.declared.form.Value.TheVariants as values
 use Rattle.script_text.specs.declared.refusal.Cause.{Cause}
 use Rattle.script_text.specs.Forms.{Spot, Key, At, Sort, ClockName, ModeName, Numeral, sort}
-use Rattle.script_text.specs.Grammar.{Fills, IsOfSort, filled, value_word}
+use Rattle.script_text.specs.Grammar.{Fills, IsOfSort, fill_form, value_word}
 use Rattle.script_text.specs.Reading.{◌>>=◌, clock_in, mode_in, or_cause, values_in, word_in}
 use Rattle.script_text.proofs.Numbers.{number_again, number_spells, own}
 
@@ -97,7 +97,7 @@ word_spells Numeral word v e =
 
 -- ---- the words of a row
 
-pub values_again : (spots : List Spot) (vs : List Value) → Fills spots vs → values_in spots (filled spots vs) ≡ Ok vs
+pub values_again : (spots : List Spot) (vs : List Value) → Fills spots vs → values_in spots (fill_form spots vs) ≡ Ok vs
 unfolding values_in
 values_again [] [] h = refl
 values_again [] (v ∷ vs) h = absurd h
@@ -105,7 +105,7 @@ values_again (Key key ∷ spots) vs h = values_again spots vs h
 values_again (At place ∷ spots) [] h = absurd h
 values_again (At place ∷ spots) (v ∷ vs) h = rw (word_again (sort place) v h.0, values_again spots vs h.1) refl
 
-pub length-filled : (spots : List Spot) (vs : List Value) → Fills spots vs → length (filled spots vs) ≡ length spots
+pub length-filled : (spots : List Spot) (vs : List Value) → Fills spots vs → length (fill_form spots vs) ≡ length spots
 length-filled [] [] h = refl
 length-filled [] (v ∷ vs) h = absurd h
 length-filled (Key key ∷ spots) vs h = omega (arith, length-filled spots vs h)
@@ -118,9 +118,9 @@ HasKeys (Key key ∷ spots) (word ∷ words) = (word ≡ key) × HasKeys spots w
 HasKeys (At place ∷ spots) (word ∷ words) = HasKeys spots words
 HasKeys spots words = Unit
 
-pub values_spell : (spots : List Spot) (words : List (List ℕ)) (vs : List Value) → length words ≡ length spots → HasKeys spots words → values_in spots words ≡ Ok vs → (words ≡ filled spots vs) × Fills spots vs
+pub values_spell : (spots : List Spot) (words : List (List ℕ)) (vs : List Value) → length words ≡ length spots → HasKeys spots words → values_in spots words ≡ Ok vs → (words ≡ fill_form spots vs) × Fills spots vs
 unfolding values_in
-values_spell [] [] vs long keys e = subst (λ vs. ([] ≡ filled [] vs) × Fills [] vs) (same_Ok [] vs e) (refl, tt)
+values_spell [] [] vs long keys e = subst (λ vs. ([] ≡ fill_form [] vs) × Fills [] vs) (same_Ok [] vs e) (refl, tt)
 values_spell [] (word ∷ words) vs long keys e = absurd (omega (arith, long))
 values_spell (spot ∷ spots) [] vs long keys e = absurd (omega (arith, long))
 values_spell (Key key ∷ spots) (word ∷ words) vs long keys e =
@@ -131,7 +131,7 @@ values_spell (At place ∷ spots) (word ∷ words) vs long keys e =
     let more = bind_ok _ _ vs v.2 in
     let said = word_spells (sort place) word v.0 v.1 in
     let rest = values_spell spots words more.0 (omega (arith, long)) keys more.1 in
-    subst (λ vs. (word ∷ words ≡ filled (At place ∷ spots) vs) × Fills (At place ∷ spots) vs) (same_Ok _ vs more.2) (cc (said.0, rest.0), (said.1, rest.1))
+    subst (λ vs. (word ∷ words ≡ fill_form (At place ∷ spots) vs) × Fills (At place ∷ spots) vs) (same_Ok _ vs more.2) (cc (said.0, rest.0), (said.1, rest.1))
 
 -- ---- words of letters and digits
 
@@ -179,12 +179,12 @@ is_row (spot ∷ spots) = has_words (spot ∷ spots)
 abbrev pub AreWords : List (List ℕ) → Type 0
 AreWords words = (0 < length words) × AllByRecursion (λ w. is_word w ≡ true) words
 
-filled_words : (spots : List Spot) (vs : List Value) → Fills spots vs → has_words spots ≡ true → AllByRecursion (λ w. is_word w ≡ true) (filled spots vs)
+filled_words : (spots : List Spot) (vs : List Value) → Fills spots vs → has_words spots ≡ true → AllByRecursion (λ w. is_word w ≡ true) (fill_form spots vs)
 filled_words [] vs h keys = tt
 filled_words (Key key ∷ spots) vs h keys = let both = and_parts (is_word key) (has_words spots) keys in (both.0, filled_words spots vs h both.1)
 filled_words (At place ∷ spots) [] h keys = tt
 filled_words (At place ∷ spots) (v ∷ vs) h keys = (value_is_word (sort place) v h.0, filled_words spots vs h.1 keys)
 
-pub row_words : (spots : List Spot) (vs : List Value) → Fills spots vs → is_row spots ≡ true → AreWords (filled spots vs)
+pub row_words : (spots : List Spot) (vs : List Value) → Fills spots vs → is_row spots ≡ true → AreWords (fill_form spots vs)
 row_words [] vs h row = absurd cc
 row_words (spot ∷ spots) vs h row = (omega (arith, length-filled (spot ∷ spots) vs h), filled_words (spot ∷ spots) vs h row)

@@ -11,9 +11,9 @@ use Rattle.script_text.specs.declared.refusal.Refused.{Refused}
 use Rattle.script_text.specs.declared.script.Script.{Script}
 use Rattle.script_text.specs.Grammar.{IsLine, spelled}
 use Rattle.script_text.specs.Reading.{◌>>=◌, line_in}
-use Rattle.script_text.specs.Scripts.{Reads, most_bytes, is_skipped, lines_of, script_lines, IsInRange}
-use Rattle.script_text.specs.Drafts.{empty, script_of, with_line}
-use Rattle.script_text.specs.Refusals.{against, accepted, with_line_in, behind, script_from, script_in}
+use Rattle.script_text.specs.Scripts.{Reads, most_script_bytes, is_skipped, lines_of, script_lines, IsInRange}
+use Rattle.script_text.specs.Drafts.{empty, script_of, draft_with_line}
+use Rattle.script_text.specs.Refusals.{check_line, unless_refused, with_line_in, continue_after, script_from, script_in}
 use Rattle.script_text.proofs.Lists.{All-append}
 use Rattle.script_text.proofs.Lines.{line_spells}
 use Rattle.script_text.proofs.Told.{Told, at_start, told_line, told_script}
@@ -29,27 +29,27 @@ pub record Tells (ls : List Line) (parts : List (List ℕ)) (s : Script) (ms : L
 record IsRead (d : Draft) (part : List ℕ) (e : Draft) (l : Line) : Type 0 where
   spelling : part ≡ spelled l
   line : IsLine l
-  none : against d l ≡ None
-  told : with_line d l ≡ e
+  none : check_line d l ≡ None
+  told : draft_with_line d l ≡ e
 
-accepted_is : (d e x : Draft) (o : Option Cause) → accepted o x ≡ Ok e → (o ≡ None) × (x ≡ e)
+accepted_is : (d e x : Draft) (o : Option Cause) → unless_refused o x ≡ Ok e → (o ≡ None) × (x ≡ e)
 accepted_is d e x None is = (refl, cc)
 accepted_is d e x (Some cause) is = absurd cc
 
 line_read : (d : Draft) (part : List ℕ) (e : Draft) → with_line_in d part ≡ Ok e → (l : Line) × IsRead d part e l
 unfolding with_line_in
 line_read d part e is =
-    let go : (r : Result Line Cause) → line_in part ≡ r → (r >>= λ l. accepted (against d l) (with_line d l)) ≡ Ok e → (l : Line) × IsRead d part e l =
-    λ r. elim r as (λ r. line_in part ≡ r → (r >>= λ l. accepted (against d l) (with_line d l)) ≡ Ok e → (l : Line) × IsRead d part e l) [
+    let go : (r : Result Line Cause) → line_in part ≡ r → (r >>= λ l. unless_refused (check_line d l) (draft_with_line d l)) ≡ Ok e → (l : Line) × IsRead d part e l =
+    λ r. elim r as (λ r. line_in part ≡ r → (r >>= λ l. unless_refused (check_line d l) (draft_with_line d l)) ≡ Ok e → (l : Line) × IsRead d part e l) [
       | Ok l ↦ λ read is.
           let spells = line_spells part l read in
-          let both = accepted_is d e (with_line d l) (against d l) is in
+          let both = accepted_is d e (draft_with_line d l) (check_line d l) is in
           (l, record { spelling = spells.0; line = spells.1; none = both.0; told = both.1 })
       | Err cause ↦ λ read is. absurd cc
     ] in
     go (line_in part) refl is
 
-behind_is : (number : ℕ) (r : Result Draft Cause) (next : Draft → Result Script Refused) (s : Script) → behind number r next ≡ Ok s → (e : Draft) × (r ≡ Ok e) × (next e ≡ Ok s)
+behind_is : (number : ℕ) (r : Result Draft Cause) (next : Draft → Result Script Refused) (s : Script) → continue_after number r next ≡ Ok s → (e : Draft) × (r ≡ Ok e) × (next e ≡ Ok s)
 behind_is number (Ok e) next s is = (e, refl, is)
 behind_is number (Err cause) next s is = absurd cc
 
@@ -97,7 +97,7 @@ unfolding script_from
 tells number d [] ls s told lines is = ends number d ls s told lines is
 tells number d (part ∷ parts) ls s told lines is =
     let rest : Result Script Refused = script_from (number + 1) d parts in
-    let read : Result Script Refused = behind number (with_line_in d part) (λ now. script_from (number + 1) now parts) in
+    let read : Result Script Refused = continue_after number (with_line_in d part) (λ now. script_from (number + 1) now parts) in
     let go : (b : Bool) → is_skipped part ≡ b → (if b then rest else read) ≡ Ok s → (ms : List Line) × Tells ls (part ∷ parts) s ms =
     λ b. elim b as (λ b. is_skipped part ≡ b → (if b then rest else read) ≡ Ok s → (ms : List Line) × Tells ls (part ∷ parts) s ms) [
       | true ↦ λ skipped is.
@@ -117,16 +117,16 @@ pub read_from : (bytes : List ℕ) (s : Script) → script_in bytes ≡ Ok s →
 unfolding script_in
 read_from bytes s is =
     let why : Refused = record { line = 0; cause = causes.TooLong } in
-    let go : (b : Bool) → nat_lt most_bytes (length bytes) ≡ b → (if b then Err why else script_from 1 empty (lines_of bytes)) ≡ Ok s → Reads bytes s =
-    λ b. elim b as (λ b. nat_lt most_bytes (length bytes) ≡ b → (if b then Err why else script_from 1 empty (lines_of bytes)) ≡ Ok s → Reads bytes s) [
+    let go : (b : Bool) → nat_lt most_script_bytes (length bytes) ≡ b → (if b then Err why else script_from 1 empty (lines_of bytes)) ≡ Ok s → Reads bytes s =
+    λ b. elim b as (λ b. nat_lt most_script_bytes (length bytes) ≡ b → (if b then Err why else script_from 1 empty (lines_of bytes)) ≡ Ok s → Reads bytes s) [
       | true ↦ λ long is. absurd cc
       | false ↦ λ few is.
           let all = tells 1 empty (lines_of bytes) [] s at_start tt is in
           record {
-            few = ltb-false most_bytes (length bytes) few;
+            few = ltb-false most_script_bytes (length bytes) few;
             spelling = all.1.spelling ∙ ap (λ (ls : List Line). map spelled ls) all.1.all;
             lines = subst (λ ls. AllByRecursion IsLine ls) all.1.all all.1.lines;
             ranges = all.1.ranges;
           }
     ] in
-    go (nat_lt most_bytes (length bytes)) refl is
+    go (nat_lt most_script_bytes (length bytes)) refl is

@@ -13,29 +13,29 @@ use Rattle.script_text.specs.declared.script.LaneCall.{LaneCall}
 use Rattle.script_text.specs.declared.script.Round.{Round}
 use Rattle.script_text.specs.declared.script.Script.{Script}
 use Rattle.script_text.specs.Scripts.{of_numbers, most_bases, most_lanes, most_timers, most_events, most_calls, declaration_line, declaration_lines, call_line, round_lines, header_lines, script_lines, all_calls, IsInRange, IsKindInRange, IsCallInRange}
-use Rattle.script_text.specs.Drafts.{empty, last_round, script_of, with_header, with_timer, with_round, with_call, with_part, with_line}
-use Rattle.script_text.specs.Refusals.{is_placed, against_count, against_number, against_values, against_kind, against}
+use Rattle.script_text.specs.Drafts.{empty, last_round, script_of, with_header, with_timer, with_round, with_call, with_part, draft_with_line}
+use Rattle.script_text.specs.Refusals.{is_placed, check_count, check_number, check_values, check_kind, check_line}
 use Rattle.script_text.proofs.Against.{Accepts, accepted_none}
 use Rattle.script_text.proofs.Lists.{All-front, All-back}
 use Rattle.script_text.proofs.Meaning.{declaration_again, call_again}
 use Rattle.script_text.proofs.Told.{full}
 
--- nothing is said against each of these lines, and they make one draft of another
+-- nothing is said check_line each of these lines, and they make one draft of another
 abbrev pub Steps : Draft → List Line → Draft → Type 0
 Steps d [] e = d ≡ e
-Steps d (l ∷ ls) e = (against d l ≡ None) × Steps (with_line d l) ls e
+Steps d (l ∷ ls) e = (check_line d l ≡ None) × Steps (draft_with_line d l) ls e
 
 Steps-append : (d e f : Draft) (ls ms : List Line) → Steps d ls e → Steps e ms f → Steps d (ls ++ ms) f
 Steps-append d e f [] ms here there = subst (λ x. Steps x ms f) (sym here) there
-Steps-append d e f (l ∷ ls) ms here there = (here.0, Steps-append (with_line d l) e f ls ms here.1 there)
+Steps-append d e f (l ∷ ls) ms here there = (here.0, Steps-append (draft_with_line d l) e f ls ms here.1 there)
 
-one_step : (d e f : Draft) (l : Line) (ls : List Line) → Accepts d l → with_line d l ≡ e → Steps e ls f → Steps d (l ∷ ls) f
+one_step : (d e f : Draft) (l : Line) (ls : List Line) → Accepts d l → draft_with_line d l ≡ e → Steps e ls f → Steps d (l ∷ ls) f
 one_step d e f l ls a is rest = (accepted_none d l a, subst (λ x. Steps x ls f) (sym is) rest)
 
 -- ---- the header
 
 header_steps : (b l m : ℕ) → (1 ≤ b) × (b ≤ most_bases) → (1 ≤ l) × (l ≤ most_lanes) → (1 ≤ m) × (m ≤ most_events) → Steps empty (header_lines b l m) (full b l m [] [] None 0)
-unfolding against is_placed against_count against_values against_number against_kind with_line with_part with_header
+unfolding check_line is_placed check_count check_values check_number check_kind draft_with_line with_part with_header
 header_steps b l m bases lanes limit = (
   refl,
   (
@@ -51,14 +51,14 @@ header_steps b l m bases lanes limit = (
 
 declaration_step : (b l m : ℕ) (ts : List Declaration) (clock : ClockId) (kind : Kind) (f : Draft) (ls : List Line) → length ts < most_timers → IsKindInRange b kind
     → Steps (full b l m (ts ++ record { clock = clock; kind = kind } ∷ []) [] None 0) ls f → Steps (full b l m ts [] None 0) (declaration_line (length ts) clock kind ∷ ls) f
-unfolding is_placed against_count with_line with_part with_timer
+unfolding is_placed check_count draft_with_line with_part with_timer
 declaration_step b l m ts clock kind f ls few range rest =
     let d : Draft = full b l m ts [] None 0 in
     let line : Line = declaration_line (length ts) clock kind in
     let is = declaration_again d clock kind range in
     let a : Accepts d line = record {
       placed = subst (λ p. is_placed d p ≡ true) (sym is.part) refl;
-      count = subst (λ p. against_count d p ≡ None) (sym is.part) (rw (lt-ltb (length ts) most_timers few) refl);
+      count = subst (λ p. check_count d p ≡ None) (sym is.part) (rw (lt-ltb (length ts) most_timers few) refl);
       values = is.values;
       kind = is.kind;
     } in
@@ -81,14 +81,14 @@ declaration_steps b l m ts (d ∷ ds) few ranges n is =
 module _ (b l m : ℕ) (ts : List Declaration) where
   call_step : (ended : List Round) (cs : List LaneCall) (n : ℕ) (c : LaneCall) (f : Draft) (ls : List Line) → n < most_calls → c.lane < l → IsCallInRange b ts c.call
       → Steps (full b l m ts ended (Some (cs ++ c ∷ [])) (n + 1)) ls f → Steps (full b l m ts ended (Some cs) n) (call_line c.lane c.call ∷ ls) f
-  unfolding is_placed against_count with_line with_part with_call
+  unfolding is_placed check_count draft_with_line with_part with_call
   call_step ended cs n c f ls few lane range rest =
       let d : Draft = full b l m ts ended (Some cs) n in
       let line : Line = call_line c.lane c.call in
       let is = call_again d c.lane c.call lane range in
       let a : Accepts d line = record {
         placed = subst (λ p. is_placed d p ≡ true) (sym is.part) refl;
-        count = subst (λ p. against_count d p ≡ None) (sym is.part) (rw (lt-ltb n most_calls few) refl);
+        count = subst (λ p. check_count d p ≡ None) (sym is.part) (rw (lt-ltb n most_calls few) refl);
         values = is.values;
         kind = is.kind;
       } in
@@ -109,7 +109,7 @@ module _ (b l m : ℕ) (ts : List Declaration) where
 
   round_step : (ended : List Round) (begun : Option (List LaneCall)) (n : ℕ) (f : Draft) (ls : List Line)
       → Steps (full b l m ts (ended ++ last_round begun) (Some []) n) ls f → Steps (full b l m ts ended begun n) (of_numbers forms.Round [] ∷ ls) f
-  unfolding against is_placed against_count against_values against_kind with_line with_part with_round
+  unfolding check_line is_placed check_count check_values check_kind draft_with_line with_part with_round
   round_step ended begun n f ls rest = (refl, rest)
 
   -- a draft behind all rounds, and its script

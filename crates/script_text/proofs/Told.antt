@@ -1,4 +1,4 @@
--- What lines have told when they were read one after the other, each with nothing said against it.
+-- What lines have told when they were read one after the other, each with nothing said check_line it.
 use Rattle.std.proofs.Common.{◌≡◌, ℕ, ◌+◌, ◌<◌, ◌≤◌, true, false, List, [], ◌∷◌, ◌++◌, length, take, Option, Some, None, refl, sym, ap, subst, ◌∙◌, arith, append_assoc, nat_lt}
 use Rattle.std.specs.List.{AllByRecursion, flat_map}
 use Rattle.std.proofs.lemmas.Bool.{and_parts, ltb-true, leb-true, eqb-true}
@@ -17,8 +17,8 @@ use Rattle.script_text.specs.declared.script.Round.{Round}
 use Rattle.script_text.specs.Forms.{row, part}
 use Rattle.script_text.specs.Grammar.{IsLine}
 use Rattle.script_text.specs.Scripts.{of_numbers, most_bases, most_lanes, most_timers, most_events, most_calls, declaration_line, declaration_lines, call_line, round_lines, header_lines, script_lines, all_calls, IsInRange, IsKindInRange, IsCallInRange}
-use Rattle.script_text.specs.Drafts.{last_round, script_of, with_header, with_timer, with_round, with_call, with_part, with_line}
-use Rattle.script_text.specs.Refusals.{is_placed, against_count, against_number, against_values, against}
+use Rattle.script_text.specs.Drafts.{last_round, script_of, with_header, with_timer, with_round, with_call, with_part, draft_with_line}
+use Rattle.script_text.specs.Refusals.{is_placed, check_count, check_number, check_values, check_line}
 use Rattle.script_text.proofs.Against.{Accepts, accepts, neither, holds}
 use Rattle.script_text.proofs.Lists.{All-append, flat_map-push}
 use Rattle.script_text.proofs.Room.{header_number}
@@ -49,39 +49,39 @@ pub data Told : Draft → List Line → Type 0 where
 
 -- ---- one more header line
 
--- what is known of a line that nothing was said against
+-- what is known of a line that nothing was said check_line
 pub record IsAccepted (d : Draft) (f : Form) (vs : List Value) : Type 0 where
   pub line : fits (row f) vs ≡ true
   pub accepts : Accepts d (record { form = f; values = vs })
 
 -- these lines and this one make the draft with this one
 abbrev Goes : Draft → List Line → Form → List Value → Type 0
-Goes d ls f vs = Told (with_line d (record { form = f; values = vs })) (ls ++ record { form = f; values = vs } ∷ [])
+Goes d ls f vs = Told (draft_with_line d (record { form = f; values = vs })) (ls ++ record { form = f; values = vs } ∷ [])
 
-from_start : (f : Form) (vs : List Value) → fits (row f) vs ≡ true → is_placed (early 0 0 0 0) (part f) ≡ true → against_values (early 0 0 0 0) (row f) vs ≡ None → Goes (early 0 0 0 0) [] f vs
-unfolding is_placed against_values against_number with_line with_part with_header
+from_start : (f : Form) (vs : List Value) → fits (row f) vs ≡ true → is_placed (early 0 0 0 0) (part f) ≡ true → check_values (early 0 0 0 0) (row f) vs ≡ None → Goes (early 0 0 0 0) [] f vs
+unfolding is_placed check_values check_number draft_with_line with_part with_header
 from_start forms.Version (values.Number n ∷ []) fit placed e =
     subst (λ n. Goes (early 0 0 0 0) [] forms.Version (values.Number n ∷ [])) (sym (eqb-true n 1 (holds _ _ (neither _ _ e).0))) at_version
 from_start _ _ fit placed e = absurd cc
 
-from_version : (f : Form) (vs : List Value) → fits (row f) vs ≡ true → is_placed (early 1 0 0 0) (part f) ≡ true → against_values (early 1 0 0 0) (row f) vs ≡ None → Goes (early 1 0 0 0) (take 1 (header_lines 0 0 0)) f vs
-unfolding is_placed against_values against_number with_line with_part with_header
+from_version : (f : Form) (vs : List Value) → fits (row f) vs ≡ true → is_placed (early 1 0 0 0) (part f) ≡ true → check_values (early 1 0 0 0) (row f) vs ≡ None → Goes (early 1 0 0 0) (take 1 (header_lines 0 0 0)) f vs
+unfolding is_placed check_values check_number draft_with_line with_part with_header
 from_version forms.Bases (values.Number b ∷ []) fit placed e =
     let both = and_parts _ _ (holds _ _ (neither _ _ e).0) in
     at_bases b (leb-true 1 b both.0) (leb-true b most_bases both.1)
 from_version _ _ fit placed e = absurd cc
 
-from_bases : (b : ℕ) → 1 ≤ b → b ≤ most_bases → (f : Form) (vs : List Value) → fits (row f) vs ≡ true → is_placed (early 2 b 0 0) (part f) ≡ true → against_values (early 2 b 0 0) (row f) vs ≡ None
+from_bases : (b : ℕ) → 1 ≤ b → b ≤ most_bases → (f : Form) (vs : List Value) → fits (row f) vs ≡ true → is_placed (early 2 b 0 0) (part f) ≡ true → check_values (early 2 b 0 0) (row f) vs ≡ None
     → Goes (early 2 b 0 0) (take 2 (header_lines b 0 0)) f vs
-unfolding is_placed against_values against_number with_line with_part with_header
+unfolding is_placed check_values check_number draft_with_line with_part with_header
 from_bases b some few forms.Lanes (values.Number l ∷ []) fit placed e =
     let both = and_parts _ _ (holds _ _ (neither _ _ e).0) in
     at_lanes b l some few (leb-true 1 l both.0) (leb-true l most_lanes both.1)
 from_bases b some few _ _ fit placed e = absurd cc
 
-from_lanes : (b l : ℕ) → 1 ≤ b → b ≤ most_bases → 1 ≤ l → l ≤ most_lanes → (f : Form) (vs : List Value) → fits (row f) vs ≡ true → is_placed (early 3 b l 0) (part f) ≡ true → against_values (early 3 b l 0) (row f) vs ≡ None
+from_lanes : (b l : ℕ) → 1 ≤ b → b ≤ most_bases → 1 ≤ l → l ≤ most_lanes → (f : Form) (vs : List Value) → fits (row f) vs ≡ true → is_placed (early 3 b l 0) (part f) ≡ true → check_values (early 3 b l 0) (row f) vs ≡ None
     → Goes (early 3 b l 0) (take 3 (header_lines b l 0)) f vs
-unfolding is_placed against_values against_number with_line with_part with_header
+unfolding is_placed check_values check_number draft_with_line with_part with_header
 from_lanes b l some few any only forms.Limit (values.Number m ∷ []) fit placed e =
     let both = and_parts _ _ (holds _ _ (neither _ _ e).0) in
     behind_header b l m [] [] None 0 (record {
@@ -102,8 +102,8 @@ from_lanes b l some few any only _ _ fit placed e = absurd cc
 
 -- ---- one more line behind the header
 
-goes_from : (d : Draft) (ls : List Line) (f : Form) (vs : List Value) (e : Draft) (l : Line) → with_line d (record { form = f; values = vs }) ≡ e → record { form = f; values = vs } ≡ l → Told e (ls ++ l ∷ []) → Goes d ls f vs
-goes_from d ls f vs e l told is so = subst (λ l. Told (with_line d (record { form = f; values = vs })) (ls ++ l ∷ [])) (sym is) (subst (λ e. Told e (ls ++ l ∷ [])) (sym told) so)
+goes_from : (d : Draft) (ls : List Line) (f : Form) (vs : List Value) (e : Draft) (l : Line) → draft_with_line d (record { form = f; values = vs }) ≡ e → record { form = f; values = vs } ≡ l → Told e (ls ++ l ∷ []) → Goes d ls f vs
+goes_from d ls f vs e l told is so = subst (λ l. Told (draft_with_line d (record { form = f; values = vs })) (ls ++ l ∷ [])) (sym is) (subst (λ e. Told e (ls ++ l ∷ [])) (sym told) so)
 
 declarations-push : (n k : ℕ) (ts : List Declaration) (t : Declaration) → k ≡ n + length ts → declaration_lines n (ts ++ t ∷ []) ≡ declaration_lines n ts ++ declaration_line k t.clock t.kind ∷ []
 declarations-push n k [] t is = let same : k ≡ n = omega (arith, is) in rw same refl
@@ -211,13 +211,13 @@ module _ (b l m calls : ℕ) (ts : List Declaration) (f : Form) (vs : List Value
 
   next_timer : (ended : List Round) (begun : Option (List LaneCall)) → Stands (now ended begun) → IsAccepted (now ended begun) f vs → part f ≡ parts.Declaration
       → Goes (now ended begun) (so_far ended begun) f vs
-  unfolding is_placed against_count with_line with_part with_timer
+  unfolding is_placed check_count draft_with_line with_part with_timer
   next_timer ended None stands a is =
       let none : ended ≡ [] = stands.unbegun refl in
-      let count : against_count (now ended None) parts.Declaration ≡ None = subst (λ p. against_count (now ended None) p ≡ None) is a.accepts.count in
+      let count : check_count (now ended None) parts.Declaration ≡ None = subst (λ p. check_count (now ended None) p ≡ None) is a.accepts.count in
       let t = declares (now ended None) f vs is a.line a.accepts.values in
       let few : length ts < most_timers = ltb-true (length ts) most_timers (holds _ _ count) in
-      let told : with_line (now ended None) (record { form = f; values = vs }) ≡ full b l m (ts ++ t.0 ∷ []) ended None calls = rw (is, t.1.means) refl in
+      let told : draft_with_line (now ended None) (record { form = f; values = vs }) ≡ full b l m (ts ++ t.0 ∷ []) ended None calls = rw (is, t.1.means) refl in
       goes_from _ (so_far ended None) f vs _ _ told t.1.line
       (subst (λ ended. Told (full b l m (ts ++ t.0 ∷ []) ended None calls) (so_far ended None ++ declaration_line (length ts) t.0.clock t.0.kind ∷ [])) (sym none)
       (one_timer b l m calls ts t.0 (subst (λ ended. Stands (now ended None)) none stands) few t.1.range))
@@ -227,22 +227,22 @@ module _ (b l m calls : ℕ) (ts : List Declaration) (f : Form) (vs : List Value
 
   next_call : (ended : List Round) (begun : Option (List LaneCall)) → Stands (now ended begun) → IsAccepted (now ended begun) f vs → part f ≡ parts.Call
       → Goes (now ended begun) (so_far ended begun) f vs
-  unfolding is_placed against_count with_line with_part with_call
+  unfolding is_placed check_count draft_with_line with_part with_call
   next_call ended None stands a is =
       let placed : is_placed (now ended None) parts.Call ≡ true = subst (λ p. is_placed (now ended None) p ≡ true) is a.accepts.placed in
       absurd cc
   next_call ended (Some cs) stands a is =
-      let count : against_count (now ended (Some cs)) parts.Call ≡ None = subst (λ p. against_count (now ended (Some cs)) p ≡ None) is a.accepts.count in
+      let count : check_count (now ended (Some cs)) parts.Call ≡ None = subst (λ p. check_count (now ended (Some cs)) p ≡ None) is a.accepts.count in
       let c = calls_for (now ended (Some cs)) f vs is a.line a.accepts.values a.accepts.kind in
       let few : calls < most_calls = ltb-true calls most_calls (holds _ _ count) in
-      let told : with_line (now ended (Some cs)) (record { form = f; values = vs }) ≡ full b l m ts ended (Some (cs ++ c.0 ∷ [])) (calls + 1) = rw (is, c.1.means) refl in
+      let told : draft_with_line (now ended (Some cs)) (record { form = f; values = vs }) ≡ full b l m ts ended (Some (cs ++ c.0 ∷ [])) (calls + 1) = rw (is, c.1.means) refl in
       goes_from _ (so_far ended (Some cs)) f vs _ _ told c.1.line (one_call b l m calls ts ended cs c.0 stands few c.1.lane c.1.range)
 
   next_round : (ended : List Round) (begun : Option (List LaneCall)) → Stands (now ended begun) → IsAccepted (now ended begun) f vs → part f ≡ parts.Round
       → Goes (now ended begun) (so_far ended begun) f vs
-  unfolding with_line with_part with_round
+  unfolding draft_with_line with_part with_round
   next_round ended begun stands a is =
-      let told : with_line (now ended begun) (record { form = f; values = vs }) ≡ full b l m ts (ended ++ last_round begun) (Some []) calls = rw is refl in
+      let told : draft_with_line (now ended begun) (record { form = f; values = vs }) ≡ full b l m ts (ended ++ last_round begun) (Some []) calls = rw is refl in
       goes_from _ (so_far ended begun) f vs _ _ told (round_line f vs is a.line) (one_round b l m calls ts ended begun stands)
 
   no_header : (ended : List Round) (begun : Option (List LaneCall)) (n : ℕ) → IsAccepted (now ended begun) f vs → part f ≡ parts.Header n → ⊥
@@ -266,7 +266,7 @@ told_more d ls f vs (at_lanes b l some few any only) a = from_lanes b l some few
 told_more d ls f vs (behind_header b l m ts ended begun calls stands) a = next_line b l m calls ts f vs ended begun stands a (part f) refl
 
 -- the draft with a line that can be spelled and is accepted
-pub told_line : (d : Draft) (ls : List Line) (l : Line) → Told d ls → IsLine l → against d l ≡ None → Told (with_line d l) (ls ++ l ∷ [])
+pub told_line : (d : Draft) (ls : List Line) (l : Line) → Told d ls → IsLine l → check_line d l ≡ None → Told (draft_with_line d l) (ls ++ l ∷ [])
 told_line d ls l told line none = told_more d ls l.form l.values told (record { line = fits_from (row l.form) l.values line; accepts = accepts d l none })
 
 -- behind the header the lines are all of the script, and it keeps to the limits

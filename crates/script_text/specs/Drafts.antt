@@ -102,13 +102,13 @@ with_part d parts.Round form vs = with_round d
 with_part d parts.Call form vs = with_call d (call_of form vs)
 
 -- what the lines have told after one more
-unfoldable pub with_line : Draft → Line → Draft
-with_line d l = with_part d (part l.form) l.form l.values
+unfoldable pub draft_with_line : Draft → Line → Draft
+draft_with_line d l = with_part d (part l.form) l.form l.values
 
 -- ---- room
 
 -- the header lines are at most four, and there are no more bases, lanes, timers and calls than there may be
-pub record HasRoom (d : Draft) : Type 0 where
+pub record IsWithinLimits (d : Draft) : Type 0 where
   pub headers : d.headers ≤ 4
   pub bases : d.bases ≤ most_bases
   pub lanes : d.lanes ≤ most_lanes

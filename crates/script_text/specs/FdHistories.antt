@@ -24,16 +24,16 @@ use Rattle.script_text.specs.Histories.{reading_at}
 use Rattle.script_text.specs.PosixHistories.{refused_at}
 
 -- what became of the start that a call wanted; a refused one has the stamp that the timer had
-abbrev pub arm_of : Armed → ℕ → Arm
-arm_of armings.None stamp = arms.NotAsked
-arm_of (armings.Generation generation) stamp = arms.Armed generation
-arm_of armings.Unarmed stamp = arms.Unarmed stamp
+abbrev pub fd_arm : Armed → ℕ → Arm
+fd_arm armings.None stamp = arms.NotAsked
+fd_arm (armings.Generation generation) stamp = arms.Armed generation
+fd_arm armings.Unarmed stamp = arms.Unarmed stamp
 
 -- what a settime answered
-abbrev pub set_answer_of : SettimeReply → SettimeAnswer
-set_answer_of (settings.Old left interval) = set_answers.Old left interval
-set_answer_of settings.Canceled = set_answers.Canceled
-set_answer_of (settings.Unarmed stamp) = set_answers.Unarmed stamp
+abbrev pub fd_set_answer : SettimeReply → SettimeAnswer
+fd_set_answer (settings.Old left interval) = set_answers.Old left interval
+fd_set_answer settings.Canceled = set_answers.Canceled
+fd_set_answer (settings.Unarmed stamp) = set_answers.Unarmed stamp
 
 -- what a read answered
 abbrev pub read_answer_of : ReadReply → ReadAnswer
@@ -42,12 +42,12 @@ read_answer_of reads.Again = read_answers.Again
 read_answer_of reads.Canceled = read_answers.Canceled
 
 -- the entry that a line shows, where it is one of a descriptor
-abbrev pub entry_of : List ClockLine → ObjectEntry → Option Entry
-entry_of clock (entries.Settime flags value interval reading arm reply) =
-    Some (record { call = calls.Settime flags value interval (reading_at clock reading) (arm_of arm (refused_at reply)); reply = replies.Settime (set_answer_of reply) })
-entry_of clock (entries.Trigger generation reading counted) =
+abbrev pub fd_entry : List ClockLine → ObjectEntry → Option Entry
+fd_entry clock (entries.Settime flags value interval reading arm reply) =
+    Some (record { call = calls.Settime flags value interval (reading_at clock reading) (fd_arm arm (refused_at reply)); reply = replies.Settime (fd_set_answer reply) })
+fd_entry clock (entries.Trigger generation reading counted) =
     Some (record { call = calls.Trigger generation (reading_at clock reading); reply = replies.Trigger (if counted then triggers.Counted else triggers.Stale) })
-entry_of clock (entries.Accept reading arm reply) = None
-entry_of clock (entries.Read reading arm reply) = Some (record { call = calls.Read (reading_at clock reading) (arm_of arm 0); reply = replies.Read (read_answer_of reply) })
-entry_of clock (entries.Gettime reading arm left interval) =
-    Some (record { call = calls.Gettime (reading_at clock reading) (arm_of arm 0); reply = replies.Gettime (lefts.Left left interval) })
+fd_entry clock (entries.Accept reading arm reply) = None
+fd_entry clock (entries.Read reading arm reply) = Some (record { call = calls.Read (reading_at clock reading) (fd_arm arm 0); reply = replies.Read (read_answer_of reply) })
+fd_entry clock (entries.Gettime reading arm left interval) =
+    Some (record { call = calls.Gettime (reading_at clock reading) (fd_arm arm 0); reply = replies.Gettime (lefts.Left left interval) })

@@ -10,12 +10,12 @@ use Rattle.record_text.specs.declared.record.Label.{Label}
 use Rattle.record_text.specs.declared.record.Answer.{Answer}
 use Rattle.record_text.specs.declared.record.Answer.TheVariants as answers
 use Rattle.record_text.specs.declared.record.RunRecord.{RunRecord}
-use Rattle.script_text.specs.Order.{Placed, calls_of, IsLabel, IsPoint, IsInOrder, NeverFall}
-use Rattle.script_text.specs.Histories.{AreWrites, clock_labels, clock_of, history_of, lines_of, timer_labels}
-use Rattle.script_text.specs.Objects.{IsLegalObject, kind_of, object_labels, object_lines}
-use Rattle.script_text.specs.Dids.{Did, Tells, numbers_of_object, numbers_on, wrote}
+use Rattle.script_text.specs.Order.{CallInRound, calls_of, IsLabel, IsPoint, IsInOrder, NeverFall}
+use Rattle.script_text.specs.Histories.{AreWrites, clock_labels, clock_of, history_of, lines_of_timer, timer_labels}
+use Rattle.script_text.specs.Objects.{IsLegalObject, kind_of, object_labels, lines_of_object}
+use Rattle.script_text.specs.Actions.{Action, Tells, numbers_of_object, numbers_on, wrote}
 use Rattle.script_text.specs.Calls.{Fired, Does, AreTrue, IsSeen, fires}
-use Rattle.script_text.specs.Passes.{IsRightPass}
+use Rattle.script_text.specs.ExpiryRuns.{IsRightExpiryRun}
 
 -- how many of the clock's writes, and of each timer's and object's entries, a lane has seen
 pub record Seen : Type 0 where
@@ -49,14 +49,14 @@ object_stamp_in (answers.Readable ready reading stamp) = stamp ∷ []
 object_stamp_in answer = []
 
 -- the object that a call is made on, where it is one on an object
-abbrev pub object_in : Call → Option ℕ
-object_in (calls.Settime timer flags value interval) = Some timer
-object_in (calls.Gettime timer) = Some timer
-object_in (calls.Accept timer) = Some timer
-object_in (calls.Overrun timer) = Some timer
-object_in (calls.Read timer len) = Some timer
-object_in (calls.Readable timer) = Some timer
-object_in call = None
+abbrev pub object_called : Call → Option ℕ
+object_called (calls.Settime timer flags value interval) = Some timer
+object_called (calls.Gettime timer) = Some timer
+object_called (calls.Accept timer) = Some timer
+object_called (calls.Overrun timer) = Some timer
+object_called (calls.Read timer len) = Some timer
+object_called (calls.Readable timer) = Some timer
+object_called call = None
 
 -- these stamps, where the call is made on this object
 abbrev pub stamps_on : ℕ → Option ℕ → List ℕ → List ℕ
@@ -64,37 +64,37 @@ stamps_on i None stamps = []
 stamps_on i (Some on) stamps = if nat_eq on i then stamps else []
 
 -- the numbers of an object's entries that a call had seen, in the order of what it did and was told
-abbrev pub object_steps_on : ℕ → Call → Answer → List Did → List ℕ
-object_steps_on i call answer dids = numbers_of_object i dids ++ stamps_on i (object_in call) (object_stamp_in answer)
+abbrev pub object_steps_on : ℕ → Call → Answer → List Action → List ℕ
+object_steps_on i call answer actions = numbers_of_object i actions ++ stamps_on i (object_called call) (object_stamp_in answer)
 
 -- the numbers of a timer's entries that a call had seen, in the order of what it did and was told
-abbrev pub steps_on : ℕ → ℕ → Call → Answer → List Fired → List Did → (ℕ → ℕ) → List ℕ
-steps_on t reading (calls.Start timer mode ns base) answer fired dids last = numbers_on t dids ++ (if nat_eq timer t then stamp_in answer else [])
-steps_on t reading (calls.Cancel timer) answer fired dids last = numbers_on t dids ++ (if nat_eq timer t then stamp_in answer else [])
-steps_on t reading (calls.Peek timer) answer fired dids last = if nat_eq timer t then stamp_in answer else []
-steps_on t reading (calls.Expire base budget) answer fired dids last = flat_map (λ f. f.seen t ∷ numbers_on t (fires base reading f)) fired ++ last t ∷ []
-steps_on t reading (calls.Clock write) answer fired dids last = []
-steps_on t reading call answer fired dids last = numbers_on t dids ++ stamps_on t (object_in call) (refused_in answer)
+abbrev pub steps_on : ℕ → ℕ → Call → Answer → List Fired → List Action → (ℕ → ℕ) → List ℕ
+steps_on t reading (calls.Start timer mode ns base) answer fired actions last = numbers_on t actions ++ (if nat_eq timer t then stamp_in answer else [])
+steps_on t reading (calls.Cancel timer) answer fired actions last = numbers_on t actions ++ (if nat_eq timer t then stamp_in answer else [])
+steps_on t reading (calls.Peek timer) answer fired actions last = if nat_eq timer t then stamp_in answer else []
+steps_on t reading (calls.Expire base budget) answer fired actions last = flat_map (λ f. f.seen t ∷ numbers_on t (fires base reading f)) fired ++ last t ∷ []
+steps_on t reading (calls.Clock write) answer fired actions last = []
+steps_on t reading call answer fired actions last = numbers_on t actions ++ stamps_on t (object_called call) (refused_in answer)
 
 -- one call with its answer: there is a list of what it did, with one reading, that the record shows and that makes the answer right;
 -- it saw no less than its lane had seen before, and no more than its lane has seen after it
 pub record FitsCall (s : Script) (r : RunRecord) (c : Label) (call : Call) (answer : Answer) (before after : Seen) : Type 0 where
   pub at : ℕ
   pub fired : List Fired
-  pub dids : List Did
+  pub actions : List Action
   pub last : ℕ → ℕ
-  pub tells : Tells r c dids
-  pub does : Does s at call answer fired dids
+  pub tells : Tells r c actions
+  pub does : Does s at call answer fired actions
   pub reading : IsPoint s c 0 at (clock_labels r)
-  pub looks : AreTrue s r c [] dids
-  pub seen : IsSeen s r c at dids call answer
-  pub pass : IsRightPass s r c at call answer fired dids last
-  pub clock_steps : NeverFall before.clock (at ∷ map (λ w. w.0) (wrote dids)) after.clock
-  pub timer_steps : (t : ℕ) → NeverFall (before.timers t) (steps_on t at call answer fired dids last) (after.timers t)
-  pub object_steps : (i : ℕ) → NeverFall (before.objects i) (object_steps_on i call answer dids) (after.objects i)
+  pub looks : AreTrue s r c [] actions
+  pub seen : IsSeen s r c at actions call answer
+  pub expiry_run : IsRightExpiryRun s r c at call answer fired actions last
+  pub clock_steps : NeverFall before.clock (at ∷ map (λ w. w.0) (wrote actions)) after.clock
+  pub timer_steps : (t : ℕ) → NeverFall (before.timers t) (steps_on t at call answer fired actions last) (after.timers t)
+  pub object_steps : (i : ℕ) → NeverFall (before.objects i) (object_steps_on i call answer actions) (after.objects i)
 
 -- the calls of a lane from one of them on, each with its answer
-abbrev pub FitsLane : Script → RunRecord → ℕ → ℕ → Seen → List Placed → List Answer → Type 0
+abbrev pub FitsLane : Script → RunRecord → ℕ → ℕ → Seen → List CallInRound → List Answer → Type 0
 FitsLane s r lane index before [] [] = Unit
 FitsLane s r lane index before (p ∷ ps) (a ∷ more) =
     (after : Seen) × FitsCall s r (record { lane = lane; call = index }) p.call a before after × FitsLane s r lane (index + 1) after ps more
@@ -128,9 +128,9 @@ pub record Fits (s : Script) (r : RunRecord) : Type 0 where
   -- no line bears another label than that of a call
   pub clock_calls : AllByRecursion (IsLabel s) (clock_labels r)
   pub timer_calls : (t : ℕ) → AllByRecursion (IsLabel s) (timer_labels r t)
-  pub looks : (t : ℕ) → AllByRecursion (λ line. AreUnder s (map (λ look. look.label) line.looks)) (lines_of r t)
+  pub looks : (t : ℕ) → AllByRecursion (λ line. AreUnder s (map (λ look. look.label) line.looks)) (lines_of_timer r t)
   pub object_calls : (i : ℕ) → AllByRecursion (IsLabel s) (object_labels r i)
-  pub skips : (i : ℕ) → AllByRecursion (λ line. AreUnder s (map (λ skip. skip.label) line.skips)) (object_lines r i)
+  pub skips : (i : ℕ) → AllByRecursion (λ line. AreUnder s (map (λ skip. skip.label) line.skips)) (lines_of_object r i)
   -- the clock's lines are writes that it took, each timer's entries are a history that one timer gives, and each object's one that
   -- such an object gives
   pub writes : AreWrites (at_stamp 0) r.clock

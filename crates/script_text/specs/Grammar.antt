@@ -11,18 +11,18 @@ use Rattle.script_text.specs.declared.form.Value.{Value}
 use Rattle.script_text.specs.declared.form.Value.TheVariants as values
 use Rattle.script_text.specs.Forms.{Spot, Key, At, Sort, ClockName, ModeName, Numeral, row, sort}
 
--- the word that a place is filled with: a number in decimal, a clock or a mode by its name
+-- the word that a place is fill_form with: a number in decimal, a clock or a mode by its name
 abbrev pub value_word : Value → List ℕ
 value_word (values.Clock clock) = clock_word clock
 value_word (values.Mode mode) = mode_word mode
 value_word (values.Number n) = decimal n
 
--- a row's words, its places filled from left to right
-abbrev pub filled : List Spot → List Value → List (List ℕ)
-filled [] vs = []
-filled (Key word ∷ spots) vs = word ∷ filled spots vs
-filled (At place ∷ spots) (v ∷ vs) = value_word v ∷ filled spots vs
-filled (At place ∷ spots) [] = []
+-- a row's words, its places fill_form from left to right
+abbrev pub fill_form : List Spot → List Value → List (List ℕ)
+fill_form [] vs = []
+fill_form (Key word ∷ spots) vs = word ∷ fill_form spots vs
+fill_form (At place ∷ spots) (v ∷ vs) = value_word v ∷ fill_form spots vs
+fill_form (At place ∷ spots) [] = []
 
 -- it may be the name of a clock, a mode that a script can give, or a number up to the end of time
 abbrev pub IsOfSort : Sort → Value → Type 0
@@ -33,15 +33,15 @@ IsOfSort Numeral (values.Number n) = n ≤ last_time
 IsOfSort sort v = ⊥
 
 -- a place takes what is of its sort
-abbrev pub Takes : Place → Value → Type 0
-Takes place v = IsOfSort (sort place) v
+abbrev pub CanFill : Place → Value → Type 0
+CanFill place v = IsOfSort (sort place) v
 
--- each place of a row is filled with what it takes, and nothing is left over
+-- each place of a row is fill_form with what it takes, and nothing is left over
 abbrev pub Fills : List Spot → List Value → Type 0
 Fills [] [] = Unit
 Fills [] (v ∷ vs) = ⊥
 Fills (Key word ∷ spots) vs = Fills spots vs
-Fills (At place ∷ spots) (v ∷ vs) = Takes place v × Fills spots vs
+Fills (At place ∷ spots) (v ∷ vs) = CanFill place v × Fills spots vs
 Fills (At place ∷ spots) [] = ⊥
 
 -- a line can be spelled
@@ -50,4 +50,4 @@ IsLine l = Fills (row l.form) l.values
 
 -- a line in bytes: its words with single spaces between them
 abbrev pub spelled : Line → List ℕ
-spelled l = join_with_byte 32 (filled (row l.form) l.values)
+spelled l = join_with_byte 32 (fill_form (row l.form) l.values)

@@ -42,12 +42,12 @@ abbrev pub clock_labels : RunRecord → List Label
 clock_labels r = map (λ line. line.label) r.clock
 
 -- a timer's lines; none for a timer that isn't there
-abbrev pub lines_of : RunRecord → ℕ → List TimerLine
-lines_of r timer = get_or r.timers timer []
+abbrev pub lines_of_timer : RunRecord → ℕ → List TimerLine
+lines_of_timer r timer = get_or r.timers timer []
 
 -- the labels along a timer's entries
 abbrev pub timer_labels : RunRecord → ℕ → List Label
-timer_labels r timer = map (λ line. line.label) (lines_of r timer)
+timer_labels r timer = map (λ line. line.label) (lines_of_timer r timer)
 
 -- what a finish answered, where so many entries stand before it
 abbrev pub rearmed_as : ℕ → Restart → Rearmed
@@ -56,26 +56,26 @@ rearmed_as stamp (restarts.Again generation) = rearmings.Again generation
 rearmed_as stamp restarts.Spent = rearmings.Spent stamp
 
 -- the entry of a history that a line shows, with the readings that its stamps name
-abbrev pub shown : List ClockLine → ℕ → Entry → histories.Entry
-shown clock stamp (entries.Out base was_armed) = record { event = events.Out base; reply = replies.Out was_armed }
-shown clock stamp (entries.Start mode ns reading asked base on expires was_armed) =
+abbrev pub entry_shown : List ClockLine → ℕ → Entry → histories.Entry
+entry_shown clock stamp (entries.Out base was_armed) = record { event = events.Out base; reply = replies.Out was_armed }
+entry_shown clock stamp (entries.Start mode ns reading asked base on expires was_armed) =
     record { event = events.Start mode ns (reading_at clock reading) asked; reply = replies.Start base on expires was_armed }
-shown clock stamp (entries.Cancel generation) = record { event = events.Cancel; reply = replies.Cancel generation }
-shown clock stamp (entries.Claim base reading generation) =
+entry_shown clock stamp (entries.Cancel generation) = record { event = events.Cancel; reply = replies.Cancel generation }
+entry_shown clock stamp (entries.Claim base reading generation) =
     record { event = events.Claim base (reading_at clock reading); reply = replies.Claim generation }
-shown clock stamp (entries.Forward reading interval count expires) =
+entry_shown clock stamp (entries.Forward reading interval count expires) =
     record { event = events.Forward (reading_at clock reading) interval; reply = replies.Forward count expires }
-shown clock stamp (entries.Finish restart generation rearmed) =
+entry_shown clock stamp (entries.Finish restart generation rearmed) =
     record { event = events.Finish restart; reply = replies.Finish generation (rearmed_as stamp rearmed) }
 
 -- the history that lines show, where so many entries stand before them
 abbrev pub history_from : List ClockLine → ℕ → List TimerLine → List histories.Entry
 history_from clock stamp [] = []
-history_from clock stamp (line ∷ lines) = shown clock stamp line.entry ∷ history_from clock (stamp + 1) lines
+history_from clock stamp (line ∷ lines) = entry_shown clock stamp line.entry ∷ history_from clock (stamp + 1) lines
 
 -- a timer's history
 abbrev pub history_of : RunRecord → ℕ → List histories.Entry
-history_of r timer = history_from r.clock 0 (lines_of r timer)
+history_of r timer = history_from r.clock 0 (lines_of_timer r timer)
 
 -- the clock that a timer is declared on
 abbrev pub clock_of : Script → ℕ → ClockId

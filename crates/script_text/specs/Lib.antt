@@ -9,9 +9,9 @@ pub mod Histories
 pub mod PosixHistories
 pub mod FdHistories
 pub mod Objects
-pub mod Dids
+pub mod Actions
 pub mod Starts
 pub mod ObjectCalls
 pub mod Calls
-pub mod Passes
+pub mod ExpiryRuns
 pub mod Fits

@@ -24,16 +24,16 @@ use Rattle.script_text.specs.PosixHistories as posix_lines
 use Rattle.script_text.specs.FdHistories as fd_lines
 
 -- an object's lines; none for a timer by itself, and for one that isn't there
-abbrev pub object_lines : RunRecord → ℕ → List ObjectLine
-object_lines r i = get_or r.objects i []
+abbrev pub lines_of_object : RunRecord → ℕ → List ObjectLine
+lines_of_object r i = get_or r.objects i []
 
 -- the labels along an object's entries
 abbrev pub object_labels : RunRecord → ℕ → List Label
-object_labels r i = map (λ line. line.label) (object_lines r i)
+object_labels r i = map (λ line. line.label) (lines_of_object r i)
 
 -- an object's entries
 abbrev pub object_entries : RunRecord → ℕ → List ObjectEntry
-object_entries r i = map (λ line. line.entry) (object_lines r i)
+object_entries r i = map (λ line. line.entry) (lines_of_object r i)
 
 -- the kind of a declared timer
 abbrev pub kind_of : Script → ℕ → Kind
@@ -47,19 +47,19 @@ present (Some x ∷ xs) = x ∷ present xs
 
 -- an object's history, as a POSIX timer's
 abbrev pub posix_history : RunRecord → ℕ → List posix.Entry
-posix_history r i = present (map (posix_lines.entry_of r.clock) (object_entries r i))
+posix_history r i = present (map (posix_lines.posix_entry r.clock) (object_entries r i))
 
 -- an object's history, as a descriptor's
 abbrev pub fd_history : RunRecord → ℕ → List fd.Entry
-fd_history r i = present (map (fd_lines.entry_of r.clock) (object_entries r i))
+fd_history r i = present (map (fd_lines.fd_entry r.clock) (object_entries r i))
 
 -- a timer by itself has no object's entries; those of an object are all of its kind, and make a history that one such object gives
 abbrev pub IsLegalObject : Script → RunRecord → ℕ → Kind → Type 0
-IsLegalObject s r i (kinds.Raw callback) = object_lines r i ≡ []
+IsLegalObject s r i (kinds.Raw callback) = lines_of_object r i ≡ []
 IsLegalObject s r i (kinds.Posix base) =
-    AllByRecursion (λ e. is_some (posix_lines.entry_of r.clock e) ≡ true) (object_entries r i) × posix.IsLegal (clock_of s i) base s.limit (posix_history r i)
+    AllByRecursion (λ e. is_some (posix_lines.posix_entry r.clock e) ≡ true) (object_entries r i) × posix.IsLegal (clock_of s i) base s.limit (posix_history r i)
 IsLegalObject s r i (kinds.Fd base) =
-    AllByRecursion (λ e. is_some (fd_lines.entry_of r.clock e) ≡ true) (object_entries r i) × fd.IsLegal (clock_of s i) base s.limit (fd_history r i)
+    AllByRecursion (λ e. is_some (fd_lines.fd_entry r.clock e) ≡ true) (object_entries r i) × fd.IsLegal (clock_of s i) base s.limit (fd_history r i)
 
 -- a POSIX timer after its first so many entries
 abbrev pub posix_after : Script → RunRecord → ℕ → ℕ → ℕ → PosixTimer

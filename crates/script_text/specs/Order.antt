@@ -7,18 +7,18 @@ use Rattle.script_text.specs.declared.script.Script.{Script}
 use Rattle.record_text.specs.declared.record.Label.{Label}
 
 -- a call of a lane, with the number of its round
-pub record Placed : Type 0 where
+pub record CallInRound : Type 0 where
   pub round : ℕ
   pub call : Call
 
 -- the calls that a lane makes in rounds that are numbered from here
-abbrev pub calls_from : ℕ → ℕ → List Round → List Placed
+abbrev pub calls_from : ℕ → ℕ → List Round → List CallInRound
 calls_from lane round [] = []
 calls_from lane round (r ∷ rs) =
     map (λ c. record { round = round; call = c.call }) (filter (λ c. nat_eq c.lane lane) r.calls) ++ calls_from lane (round + 1) rs
 
 -- the calls that a lane makes, in their order
-abbrev pub calls_of : Script → ℕ → List Placed
+abbrev pub calls_of : Script → ℕ → List CallInRound
 calls_of s lane = calls_from lane 0 s.rounds
 
 -- the label is that of a call of the script

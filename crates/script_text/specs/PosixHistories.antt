@@ -22,10 +22,10 @@ use Rattle.posix_timer.specs.Histories.{Entry}
 use Rattle.script_text.specs.Histories.{reading_at}
 
 -- what became of the start that a call wanted; a refused one has the stamp that the timer had
-abbrev pub arm_of : Armed → ℕ → Arm
-arm_of armings.None stamp = arms.NotAsked
-arm_of (armings.Generation generation) stamp = arms.Armed generation
-arm_of armings.Unarmed stamp = arms.Unarmed stamp
+abbrev pub posix_arm : Armed → ℕ → Arm
+posix_arm armings.None stamp = arms.NotAsked
+posix_arm (armings.Generation generation) stamp = arms.Armed generation
+posix_arm armings.Unarmed stamp = arms.Unarmed stamp
 
 -- the stamp of a refused start, which a settime's answer tells; no other answer depends on it
 abbrev pub refused_at : SettimeReply → ℕ
@@ -34,10 +34,10 @@ refused_at settings.Canceled = 0
 refused_at (settings.Unarmed stamp) = stamp
 
 -- what a settime answered; a POSIX timer is never canceled by a clock that is set
-abbrev pub set_answer_of : SettimeReply → Option SettimeAnswer
-set_answer_of (settings.Old left interval) = Some (set_answers.Old left interval)
-set_answer_of settings.Canceled = None
-set_answer_of (settings.Unarmed stamp) = Some (set_answers.Unarmed stamp)
+abbrev pub posix_set_answer : SettimeReply → Option SettimeAnswer
+posix_set_answer (settings.Old left interval) = Some (set_answers.Old left interval)
+posix_set_answer settings.Canceled = None
+posix_set_answer (settings.Unarmed stamp) = Some (set_answers.Unarmed stamp)
 
 -- what an acceptance answered
 abbrev pub accept_answer_of : AcceptReply → AcceptAnswer
@@ -45,11 +45,11 @@ accept_answer_of (acceptances.Accepted overrun) = accept_answers.Accepted overru
 accept_answer_of acceptances.NoSignal = accept_answers.NoSignal
 
 -- the entry that a line shows, where it is one of a POSIX timer
-abbrev pub entry_of : List ClockLine → ObjectEntry → Option Entry
-entry_of clock (entries.Settime flags value interval reading arm reply) =
-    option_map (λ answer. record { call = calls.Settime flags value interval (reading_at clock reading) (arm_of arm (refused_at reply)); reply = replies.Settime answer }) (set_answer_of reply)
-entry_of clock (entries.Trigger generation reading counted) =
+abbrev pub posix_entry : List ClockLine → ObjectEntry → Option Entry
+posix_entry clock (entries.Settime flags value interval reading arm reply) =
+    option_map (λ answer. record { call = calls.Settime flags value interval (reading_at clock reading) (posix_arm arm (refused_at reply)); reply = replies.Settime answer }) (posix_set_answer reply)
+posix_entry clock (entries.Trigger generation reading counted) =
     Some (record { call = calls.Trigger generation (reading_at clock reading); reply = replies.Trigger (if counted then triggers.Counted else triggers.Stale) })
-entry_of clock (entries.Accept reading arm reply) = Some (record { call = calls.Accept (reading_at clock reading) (arm_of arm 0); reply = replies.Accept (accept_answer_of reply) })
-entry_of clock (entries.Read reading arm reply) = None
-entry_of clock (entries.Gettime reading arm left interval) = None
+posix_entry clock (entries.Accept reading arm reply) = Some (record { call = calls.Accept (reading_at clock reading) (posix_arm arm 0); reply = replies.Accept (accept_answer_of reply) })
+posix_entry clock (entries.Read reading arm reply) = None
+posix_entry clock (entries.Gettime reading arm left interval) = None

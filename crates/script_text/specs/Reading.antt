@@ -67,14 +67,14 @@ values_in spots words = Ok []
 -- ---- forms
 
 -- the form that a word names among these
-unfoldable pub named : List (List ℕ × Form) → List ℕ → Result Form Cause
-named [] word = Err causes.UnknownWord
-named (f ∷ fs) word = if bytes_eq word f.0 then Ok f.1 else named fs word
+unfoldable pub find_form : List (List ℕ × Form) → List ℕ → Result Form Cause
+find_form [] word = Err causes.UnknownWord
+find_form (f ∷ fs) word = if bytes_eq word f.0 then Ok f.1 else find_form fs word
 
 -- the form that the first of these words names
-unfoldable pub first_named : List (List ℕ × Form) → List (List ℕ) → Result Form Cause
-first_named forms [] = Err causes.WordCount
-first_named forms (word ∷ words) = named forms word
+unfoldable pub find_form_by_first : List (List ℕ × Form) → List (List ℕ) → Result Form Cause
+find_form_by_first forms [] = Err causes.WordCount
+find_form_by_first forms (word ∷ words) = find_form forms word
 
 -- a call line begins with a digit
 unfoldable pub begins_with_digit : List ℕ → Bool
@@ -85,15 +85,15 @@ begins_with_digit (b ∷ bs) = nat_le 48 b && nat_le b 57
 unfoldable pub form_in : List (List ℕ) → Result Form Cause
 form_in [] = Err causes.WordCount
 form_in (word ∷ words) =
-    if begins_with_digit word then first_named call_forms words
-    else if bytes_eq word (codes "raw") then first_named raw_forms (drop 2 words)
-    else named plain_forms word
+    if begins_with_digit word then find_form_by_first call_forms words
+    else if bytes_eq word (codes "raw") then find_form_by_first raw_forms (drop 2 words)
+    else find_form plain_forms word
 
 -- ---- lines
 
 -- the words of a line: it is cut at spaces
-abbrev pub words_of : List ℕ → List (List ℕ)
-words_of line = slice_split (λ b. b == 32) line
+abbrev pub words_in : List ℕ → List (List ℕ)
+words_in line = slice_split (λ b. b == 32) line
 
 -- no letter, digit, sign or space
 abbrev pub is_bad_byte : ℕ → Bool
@@ -113,5 +113,5 @@ filled_by form words =
 unfoldable pub line_in : List ℕ → Result Line Cause
 line_in line =
     if list_any is_bad_byte line then Err causes.BadByte
-    else if list_any is_empty_word (words_of line) then Err causes.BadSpace
-    else form_in (words_of line) >>= λ form. filled_by form (words_of line)
+    else if list_any is_empty_word (words_in line) then Err causes.BadSpace
+    else form_in (words_in line) >>= λ form. filled_by form (words_in line)

@@ -22,8 +22,8 @@ use Rattle.script_text.specs.declared.refusal.ParseError.TheVariants as errors
 use Rattle.script_text.specs.Forms.{Spot, Key, At, row, part, suits}
 use Rattle.script_text.specs.Reading.{◌>>=◌, line_in}
 use Rattle.script_text.specs.declared.reading.drafts.Draft.{Draft}
-use Rattle.script_text.specs.Drafts.{empty, script_of, with_line}
-use Rattle.script_text.specs.Scripts.{most_bytes, most_bases, most_lanes, most_timers, most_events, most_calls, most_budget, lines_of, is_skipped}
+use Rattle.script_text.specs.Drafts.{empty, script_of, draft_with_line}
+use Rattle.script_text.specs.Scripts.{most_script_bytes, most_bases, most_lanes, most_timers, most_events, most_calls, most_budget, lines_of, is_skipped}
 
 -- ---- causes that need the lines before
 
@@ -39,77 +39,77 @@ is_placed d parts.Declaration = nat_eq d.headers 4 && not (is_some d.begun)
 is_placed d parts.Round = nat_eq d.headers 4
 is_placed d parts.Call = is_some d.begun
 
--- what is said against one more line of this part
-unfoldable pub against_count : Draft → Part → Option Cause
-against_count d parts.Declaration = unless (nat_lt (length d.timers) most_timers) causes.TimerLimit
-against_count d parts.Call = unless (nat_lt d.calls most_calls) causes.CallLimit
-against_count d part = None
+-- what is said check_line one more line of this part
+unfoldable pub check_count : Draft → Part → Option Cause
+check_count d parts.Declaration = unless (nat_lt (length d.timers) most_timers) causes.TimerLimit
+check_count d parts.Call = unless (nat_lt d.calls most_calls) causes.CallLimit
+check_count d part = None
 
--- what is said against a number in its place
-unfoldable pub against_number : Draft → Place → ℕ → Option Cause
-against_number d places.Version n = unless (nat_eq n 1) causes.Version
-against_number d places.Bases n = unless (nat_le 1 n && nat_le n most_bases) causes.BaseLimit
-against_number d places.Base n = unless (nat_lt n d.bases) causes.BaseLimit
-against_number d places.Lanes n = unless (nat_le 1 n && nat_le n most_lanes) causes.LaneLimit
-against_number d places.Lane n = unless (nat_lt n d.lanes) causes.LaneLimit
-against_number d places.Limit n = unless (nat_le 1 n && nat_le n most_events) causes.EventLimit
-against_number d places.NewTimer n = unless (nat_eq n (length d.timers)) causes.BadId
-against_number d places.Timer n = unless (nat_lt n (length d.timers)) causes.NoTimer
-against_number d places.Budget n = unless (nat_le n most_budget) causes.BudgetLimit
-against_number d place n = None
+-- what is said check_line a number in its place
+unfoldable pub check_number : Draft → Place → ℕ → Option Cause
+check_number d places.Version n = unless (nat_eq n 1) causes.Version
+check_number d places.Bases n = unless (nat_le 1 n && nat_le n most_bases) causes.BaseLimit
+check_number d places.Base n = unless (nat_lt n d.bases) causes.BaseLimit
+check_number d places.Lanes n = unless (nat_le 1 n && nat_le n most_lanes) causes.LaneLimit
+check_number d places.Lane n = unless (nat_lt n d.lanes) causes.LaneLimit
+check_number d places.Limit n = unless (nat_le 1 n && nat_le n most_events) causes.EventLimit
+check_number d places.NewTimer n = unless (nat_eq n (length d.timers)) causes.BadId
+check_number d places.Timer n = unless (nat_lt n (length d.timers)) causes.NoTimer
+check_number d places.Budget n = unless (nat_le n most_budget) causes.BudgetLimit
+check_number d place n = None
 
--- what is said against what fills a place
-abbrev pub against_value : Draft → Place → Value → Option Cause
-against_value d place (values.Number n) = against_number d place n
-against_value d place v = None
+-- what is said check_line what fills a place
+abbrev pub check_value : Draft → Place → Value → Option Cause
+check_value d place (values.Number n) = check_number d place n
+check_value d place v = None
 
--- what is said first against what fills the places of a row
-unfoldable pub against_values : Draft → List Spot → List Value → Option Cause
-against_values d (Key word ∷ spots) vs = against_values d spots vs
-against_values d (At place ∷ spots) (v ∷ vs) = option_or (against_value d place v) (against_values d spots vs)
-against_values d spots vs = None
+-- what is said first check_line what fills the places of a row
+unfoldable pub check_values : Draft → List Spot → List Value → Option Cause
+check_values d (Key word ∷ spots) vs = check_values d spots vs
+check_values d (At place ∷ spots) (v ∷ vs) = option_or (check_value d place v) (check_values d spots vs)
+check_values d spots vs = None
 
 -- the kind of the timer of a number
-abbrev pub kind_of : Draft → ℕ → Kind
-kind_of d n = get_or (map (λ t. t.kind) d.timers) n (kinds.Raw callbacks.Once)
+abbrev pub drafted_kind : Draft → ℕ → Kind
+drafted_kind d n = get_or (map (λ t. t.kind) d.timers) n (kinds.Raw callbacks.Once)
 
--- what is said against a call on a timer whose kind it doesn't suit; the timer stands behind the call's name
-unfoldable pub against_kind : Draft → Form → List Spot → List Value → Option Cause
-against_kind d form (At k ∷ Key name ∷ At places.Timer ∷ spots) (lane ∷ values.Number n ∷ vs) = unless (suits form (kind_of d n)) causes.WrongKind
-against_kind d form spots vs = None
+-- what is said check_line a call on a timer whose kind it doesn't suit; the timer stands continue_after the call's name
+unfoldable pub check_kind : Draft → Form → List Spot → List Value → Option Cause
+check_kind d form (At k ∷ Key name ∷ At places.Timer ∷ spots) (lane ∷ values.Number n ∷ vs) = unless (suits form (drafted_kind d n)) causes.WrongKind
+check_kind d form spots vs = None
 
--- what is said first against a line that was read by itself: its place, the count of its like, its numbers, its timer's kind
-unfoldable pub against : Draft → Line → Option Cause
-against d l =
+-- what is said first check_line a line that was read by itself: its place, the count of its like, its numbers, its timer's kind
+unfoldable pub check_line : Draft → Line → Option Cause
+check_line d l =
     option_or (unless (is_placed d (part l.form)) causes.BadPlace)
-    (option_or (against_count d (part l.form)) (option_or (against_values d (row l.form) l.values) (against_kind d l.form (row l.form) l.values)))
+    (option_or (check_count d (part l.form)) (option_or (check_values d (row l.form) l.values) (check_kind d l.form (row l.form) l.values)))
 
--- this, where nothing is said against it
-abbrev pub accepted : {A : Type 0} → Option Cause → A → Result A Cause
-accepted None x = Ok x
-accepted (Some cause) x = Err cause
+-- this, where nothing is said check_line it
+abbrev pub unless_refused : {A : Type 0} → Option Cause → A → Result A Cause
+unless_refused None x = Ok x
+unless_refused (Some cause) x = Err cause
 
--- what the lines have told after one more, or the first cause against it
+-- what the lines have told after one more, or the first cause check_line it
 unfoldable pub with_line_in : Draft → List ℕ → Result Draft Cause
-with_line_in d line = line_in line >>= λ l. accepted (against d l) (with_line d l)
+with_line_in d line = line_in line >>= λ l. unless_refused (check_line d l) (draft_with_line d l)
 
 -- ---- scripts
 
--- what comes behind a line of this number, or its refusal
-abbrev pub behind : {A : Type 0} → ℕ → Result Draft Cause → (Draft → Result A Refused) → Result A Refused
-behind number (Ok d) next = next d
-behind number (Err cause) next = Err (record { line = number; cause = cause })
+-- what comes continue_after a line of this number, or its refusal
+abbrev pub continue_after : {A : Type 0} → ℕ → Result Draft Cause → (Draft → Result A Refused) → Result A Refused
+continue_after number (Ok d) next = next d
+continue_after number (Err cause) next = Err (record { line = number; cause = cause })
 
 -- the script of lines that are numbered from here, after those before; or the first line that is refused, and its cause
 unfoldable pub script_from : ℕ → Draft → List (List ℕ) → Result Script Refused
 script_from number d [] = if nat_lt d.headers 4 then Err (record { line = number; cause = causes.Unfinished }) else Ok (script_of d)
 script_from number d (line ∷ lines) =
     if is_skipped line then script_from (number + 1) d lines
-    else behind number (with_line_in d line) (λ now. script_from (number + 1) now lines)
+    else continue_after number (with_line_in d line) (λ now. script_from (number + 1) now lines)
 
 -- the script of bytes, or why they are refused
 unfoldable pub script_in : List ℕ → Result Script Refused
-script_in bytes = if nat_lt most_bytes (length bytes) then Err (record { line = 0; cause = causes.TooLong }) else script_from 1 empty (lines_of bytes)
+script_in bytes = if nat_lt most_script_bytes (length bytes) then Err (record { line = 0; cause = causes.TooLong }) else script_from 1 empty (lines_of bytes)
 
 -- these bytes are refused, at this line and for this cause
 abbrev pub IsRefused : List ℕ → Refused → Type 0

@@ -23,8 +23,8 @@ use Rattle.script_text.specs.Grammar.{IsLine, spelled}
 -- ---- limits
 
 -- how many bytes a script may have
-abbrev pub most_bytes : ℕ
-most_bytes = 1048576
+abbrev pub most_script_bytes : ℕ
+most_script_bytes = 1048576
 
 -- how many bases a script may have
 abbrev pub most_bases : ℕ
@@ -115,23 +115,23 @@ IsKindInRange bases (kinds.Posix base) = base < bases
 IsKindInRange bases (kinds.Fd base) = base < bases
 
 -- there is a timer of this number, and its kind suits calls of this form
-abbrev pub Suits : List Declaration → ℕ → Form → Type 0
-Suits timers timer form = (timer < length timers) × (suits form (get_or (map (λ d. d.kind) timers) timer (kinds.Raw callbacks.Once)) ≡ true)
+abbrev pub HasTimerFor : List Declaration → ℕ → Form → Type 0
+HasTimerFor timers timer form = (timer < length timers) × (suits form (get_or (map (λ d. d.kind) timers) timer (kinds.Raw callbacks.Once)) ≡ true)
 
 -- a call is of a timer and on a base that exist, and suits the timer's kind
 abbrev pub IsCallInRange : ℕ → List Declaration → Call → Type 0
 IsCallInRange bases timers (calls.Start timer modes.Keep ns base) = ⊥
-IsCallInRange bases timers (calls.Start timer mode ns base) = Suits timers timer forms.Start × (base < bases)
-IsCallInRange bases timers (calls.Cancel timer) = Suits timers timer forms.Cancel
-IsCallInRange bases timers (calls.Peek timer) = Suits timers timer forms.Peek
+IsCallInRange bases timers (calls.Start timer mode ns base) = HasTimerFor timers timer forms.Start × (base < bases)
+IsCallInRange bases timers (calls.Cancel timer) = HasTimerFor timers timer forms.Cancel
+IsCallInRange bases timers (calls.Peek timer) = HasTimerFor timers timer forms.Peek
 IsCallInRange bases timers (calls.Expire base budget) = (base < bases) × (budget ≤ most_budget)
 IsCallInRange bases timers (calls.Clock write) = Unit
-IsCallInRange bases timers (calls.Settime timer flags value interval) = Suits timers timer forms.Settime
-IsCallInRange bases timers (calls.Gettime timer) = Suits timers timer forms.Gettime
-IsCallInRange bases timers (calls.Accept timer) = Suits timers timer forms.Accept
-IsCallInRange bases timers (calls.Overrun timer) = Suits timers timer forms.Overrun
-IsCallInRange bases timers (calls.Read timer len) = Suits timers timer forms.Read
-IsCallInRange bases timers (calls.Readable timer) = Suits timers timer forms.Readable
+IsCallInRange bases timers (calls.Settime timer flags value interval) = HasTimerFor timers timer forms.Settime
+IsCallInRange bases timers (calls.Gettime timer) = HasTimerFor timers timer forms.Gettime
+IsCallInRange bases timers (calls.Accept timer) = HasTimerFor timers timer forms.Accept
+IsCallInRange bases timers (calls.Overrun timer) = HasTimerFor timers timer forms.Overrun
+IsCallInRange bases timers (calls.Read timer len) = HasTimerFor timers timer forms.Read
+IsCallInRange bases timers (calls.Readable timer) = HasTimerFor timers timer forms.Readable
 
 -- a script keeps to the limits
 pub record IsInRange (s : Script) : Type 0 where
@@ -147,14 +147,14 @@ pub record IsInRange (s : Script) : Type 0 where
 -- ---- reading
 
 -- the parts of a cut, the last one only if it isn't empty
-abbrev pub closed : List (List ℕ) → List (List ℕ)
-closed [] = []
-closed (last ∷ []) = if length last == 0 then [] else last ∷ []
-closed (part ∷ parts) = part ∷ closed parts
+abbrev pub without_empty_tail : List (List ℕ) → List (List ℕ)
+without_empty_tail [] = []
+without_empty_tail (last ∷ []) = if length last == 0 then [] else last ∷ []
+without_empty_tail (part ∷ parts) = part ∷ without_empty_tail parts
 
 -- the lines of bytes: they are cut at newlines, and what stands after the last newline is a line if it isn't empty
 abbrev pub lines_of : List ℕ → List (List ℕ)
-lines_of bytes = closed (slice_split (λ b. b == 10) bytes)
+lines_of bytes = without_empty_tail (slice_split (λ b. b == 10) bytes)
 
 -- an empty line, and one that begins with `#`, are skipped
 abbrev pub is_skipped : List ℕ → Bool
@@ -163,7 +163,7 @@ is_skipped (b ∷ bs) = b == 35
 
 -- these bytes are read as this script: the lines that aren't skipped are spelled as the script's lines
 pub record Reads (bytes : List ℕ) (s : Script) : Type 0 where
-  pub few : length bytes ≤ most_bytes
+  pub few : length bytes ≤ most_script_bytes
   pub spelling : filter (λ l. not (is_skipped l)) (lines_of bytes) ≡ map spelled (script_lines s)
   pub lines : AllByRecursion IsLine (script_lines s)
   pub ranges : IsInRange s

@@ -3,7 +3,7 @@ use Rattle.std.specs.Prelude.{ℕ, ◌≡◌, ◌+◌, Bool, Option, Some, None,
 use Rattle.ktime.specs.declared.clock_id.ClockId.{ClockId}
 use Rattle.ktime.specs.declared.mode.Mode.{Mode}
 use Rattle.record_text.specs.declared.record.Entry.TheVariants as entries
-use Rattle.script_text.specs.Dids.{Did, Entered}
+use Rattle.script_text.specs.Actions.{Action, Entered}
 
 -- a start that is made: the number of its Out and whether the timer was armed before it, where the base changes; then the Start's
 -- number, base, clock and expiry, and whether the timer was armed before it
@@ -21,12 +21,12 @@ was_armed_before None was_armed = was_armed
 was_armed_before (Some out) was_armed = out.1
 
 -- the Out of a start, where there is one
-abbrev pub moves : ℕ → ℕ → Option (ℕ × Bool) → List Did
+abbrev pub moves : ℕ → ℕ → Option (ℕ × Bool) → List Action
 moves timer asked None = []
 moves timer asked (Some out) = Entered timer out.0 (entries.Out asked out.1) ∷ []
 
 -- the entries of a start
-abbrev pub arms : ℕ → Mode → ℕ → ℕ → ℕ → Arming → List Did
+abbrev pub arms : ℕ → Mode → ℕ → ℕ → ℕ → Arming → List Action
 arms timer mode ns reading asked a =
     moves timer asked a.out ++ Entered timer a.number (entries.Start mode ns reading asked a.base a.clock a.expires a.was_armed) ∷ []
 

@@ -3,7 +3,7 @@ ghost use Rattle.script_text.specs.Forms.{part, place_at, row, suits};
 
 use crate::script::Kind;
 use ktime::{ClockId, Mode};
-use record_text::Items;
+use record_text::ItemList;
 
 /// A form of line: what a line's words are, and what it does. The forms are the rows of one table.
 #[derive(Clone, Copy, Debug, PartialEq, Eq)]
@@ -76,7 +76,7 @@ pub enum Part {
 #[derive(Drop)]
 pub struct Line {
     pub form: Form,
-    pub values: Items<Value>,
+    pub values: ItemList<Value>,
 }
 
 // The words of a form's row: a key word, or a place.

@@ -1,6 +1,6 @@
 use clock_model::Write;
 use ktime::{ClockId, Mode, TimeSpec};
-use record_text::Items;
+use record_text::ItemList;
 
 /// What a raw timer's callback does when it runs.
 #[derive(Clone, Copy, Debug, PartialEq, Eq)]
@@ -88,7 +88,7 @@ pub struct LaneCall {
 /// The call lines of one round, in their order.
 #[derive(Drop)]
 pub struct Round {
-    pub calls: Items<LaneCall>,
+    pub calls: ItemList<LaneCall>,
 }
 
 /// A script: how many bases and lanes there are, how many entries a timer's history may have
@@ -98,6 +98,6 @@ pub struct Script {
     pub bases: u32,
     pub lanes: u32,
     pub limit: u64,
-    pub timers: Items<Declaration>,
-    pub rounds: Items<Round>,
+    pub timers: ItemList<Declaration>,
+    pub rounds: ItemList<Round>,
 }

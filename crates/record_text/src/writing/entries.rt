@@ -1,8 +1,8 @@
 ghost use Rattle.std.specs.Prelude.{◌≡◌, ◌++◌, OnOk, string_bytes};
-ghost use Rattle.record_text.specs.Numbers.{entry_numbers, rearmed_numbers, told_numbers, AreMachineNumbers};
-ghost use Rattle.record_text.specs.Text.{entry_words, rearmed_word, spaced, told_words};
+ghost use Rattle.record_text.specs.Numbers.{entry_numbers, rearmed_numbers, reply_numbers, AreMachineNumbers};
+ghost use Rattle.record_text.specs.Text.{entry_words, rearmed_word, spaced, reply_words};
 
-use crate::record::{Entry, Restart, Told};
+use crate::record::{Entry, Restart, CallbackReply};
 use crate::writing::words::{clock_word, mode_word, restart_word};
 use std::alloc::AllocError;
 
@@ -72,14 +72,14 @@ fn write_rearmed(out: &mut String, rearmed: Restart) -> Result<(), AllocError>
 }
 
 /// Writes the words of what a callback was told, each after a space.
-pub(crate) fn write_told(out: &mut String, told: Told) -> Result<(), AllocError>
-    ensures text { OnOk result (string_bytes out.new ≡ string_bytes out.old ++ spaced (told_words told)) }
-    ensures numbers { OnOk result (AreMachineNumbers (told_numbers told)) }
+pub(crate) fn write_reply(out: &mut String, reply: CallbackReply) -> Result<(), AllocError>
+    ensures text { OnOk result (string_bytes out.new ≡ string_bytes out.old ++ spaced (reply_words reply)) }
+    ensures numbers { OnOk result (AreMachineNumbers (reply_numbers reply)) }
 {
-    match told {
-        Told::Running { generation } => write!(out, " running {generation}")?,
-        Told::Armed { generation } => write!(out, " armed {generation}")?,
-        Told::Spent => out.push_str(" spent")?,
+    match reply {
+        CallbackReply::Running { generation } => write!(out, " running {generation}")?,
+        CallbackReply::Armed { generation } => write!(out, " armed {generation}")?,
+        CallbackReply::Spent => out.push_str(" spent")?,
     }
     Ok(())
 }

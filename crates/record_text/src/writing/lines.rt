@@ -2,12 +2,12 @@ ghost use Rattle.std.specs.Prelude.{◌≡◌, ◌++◌, ◌∷◌, [], ℕ, OnO
 ghost use Rattle.record_text.specs.Numbers.{numbers_of, AreMachineNumbers, HaveMachineNumbers, HasMachineNumbers};
 ghost use Rattle.record_text.specs.Text.{answer_lines, clock_lines, entry_and_looks, entry_lines, lane_lines, line_text, lines_text, text_of, timer_lines, OfCall, OfClock, OfLook, OfTimer};
 
-use crate::items::Items;
+use crate::item_list::ItemList;
 use crate::record::{Answer, ClockLine, Look, RunRecord, TimerLine};
 use crate::writing::answers::write_answer;
-use crate::writing::entries::{write_entry, write_told};
+use crate::writing::entries::{write_entry, write_reply};
 use crate::writing::objects::write_objects;
-use crate::writing::words::{write_time, write_word};
+use crate::writing::words::{write_name, write_ns};
 use std::alloc::{AllocError, Global};
 
 /// The text of a record: a line for each write of the clock, then for each entry of each timer with what
@@ -43,18 +43,18 @@ fn write_clock_line(out: &mut String, number: usize, line: &ClockLine) -> Result
     ensures numbers { OnOk result (AreMachineNumbers (numbers_of (OfClock number line.now))) }
 {
     let (lane, call) = (line.label.lane, line.label.call);
-    let word = write_word(line.write);
-    let time = write_time(line.write);
+    let name = write_name(line.write);
+    let ns = write_ns(line.write);
     let (mono, real, boot, changes) = (line.mono, line.real, line.boot, line.changes);
     writeln!(
         out,
-        "clock {number} {lane} {call} {word} {time} {mono} {real} {boot} {changes}"
+        "clock {number} {lane} {call} {name} {ns} {mono} {real} {boot} {changes}"
     )?;
     Ok(())
 }
 
 #[tactic(auto, using(crate::proofs::RecordTexts::lines_text_both, crate::proofs::RecordTexts::numbers_both))]
-fn write_timers(out: &mut String, timers: &[Items<TimerLine>]) -> Result<(), AllocError>
+fn write_timers(out: &mut String, timers: &[ItemList<TimerLine>]) -> Result<(), AllocError>
     ensures text { OnOk result (string_bytes out.new ≡ string_bytes out.old ++ lines_text (timer_lines 0 timers.now)) }
     ensures numbers { OnOk result (HaveMachineNumbers (timer_lines 0 timers.now)) }
 {
@@ -126,13 +126,13 @@ fn write_look(out: &mut String, timer: usize, number: usize, look: &Look) -> Res
 {
     let (lane, call) = (look.label.lane, look.label.call);
     write!(out, "look {timer} {number} {lane} {call}")?;
-    write_told(out, look.told)?;
+    write_reply(out, look.reply)?;
     out.push_str("\n")?;
     Ok(())
 }
 
 #[tactic(auto, using(crate::proofs::RecordTexts::lines_text_both, crate::proofs::RecordTexts::numbers_both))]
-fn write_lanes(out: &mut String, lanes: &[Items<Answer>]) -> Result<(), AllocError>
+fn write_lanes(out: &mut String, lanes: &[ItemList<Answer>]) -> Result<(), AllocError>
     ensures text { OnOk result (string_bytes out.new ≡ string_bytes out.old ++ lines_text (lane_lines 0 lanes.now)) }
     ensures numbers { OnOk result (HaveMachineNumbers (lane_lines 0 lanes.now)) }
 {

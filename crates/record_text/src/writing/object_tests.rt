@@ -1,4 +1,4 @@
-use crate::items::Items;
+use crate::item_list::ItemList;
 use crate::record::{
     AcceptReply, Answer, Armed, ClockLine, Entry, Label, ObjectEntry, ObjectLine, ReadReply,
     Restart, RunRecord, SettimeReply, Skip, TimerLine,
@@ -48,8 +48,8 @@ fn settime(flags: u64, value: u64, reading: u64, arm: Armed, reply: SettimeReply
 fn clock(
     alloc: Global,
     writes: &[(u32, Write, u64, u64, u64)],
-) -> Result<Items<ClockLine>, AllocError> {
-    let mut clock = Items::new(alloc);
+) -> Result<ItemList<ClockLine>, AllocError> {
+    let mut clock = ItemList::new(alloc);
     for (call, write, mono, real, changes) in writes {
         clock.push(ClockLine {
             label: on(*call),
@@ -63,12 +63,12 @@ fn clock(
     Ok(clock)
 }
 
-fn timer(alloc: Global, entries: &[(u32, Entry)]) -> Result<Items<Items<TimerLine>>, AllocError> {
-    let mut lines = Items::new(alloc);
+fn timer(alloc: Global, entries: &[(u32, Entry)]) -> Result<ItemList<ItemList<TimerLine>>, AllocError> {
+    let mut lines = ItemList::new(alloc);
     for (call, entry) in entries {
         lines.push(timer_line(alloc, on(*call), *entry))?;
     }
-    let mut timers = Items::new(alloc);
+    let mut timers = ItemList::new(alloc);
     timers.push(lines)?;
     Ok(timers)
 }
@@ -76,23 +76,23 @@ fn timer(alloc: Global, entries: &[(u32, Entry)]) -> Result<Items<Items<TimerLin
 fn object(
     alloc: Global,
     entries: &[(u32, ObjectEntry)],
-) -> Result<Items<Items<ObjectLine>>, AllocError> {
-    let mut lines = Items::new(alloc);
+) -> Result<ItemList<ItemList<ObjectLine>>, AllocError> {
+    let mut lines = ItemList::new(alloc);
     for (call, entry) in entries {
         lines.push(ObjectLine {
             label: on(*call),
             entry: *entry,
-            skips: Items::new(alloc),
+            skips: ItemList::new(alloc),
         })?;
     }
-    let mut objects = Items::new(alloc);
+    let mut objects = ItemList::new(alloc);
     objects.push(lines)?;
     Ok(objects)
 }
 
-fn lane(alloc: Global, answers: Vec<Answer>) -> Result<Items<Items<Answer>>, AllocError> {
-    let mut lanes = Items::new(alloc);
-    lanes.push(Items::from_vec(answers))?;
+fn lane(alloc: Global, answers: Vec<Answer>) -> Result<ItemList<ItemList<Answer>>, AllocError> {
+    let mut lanes = ItemList::new(alloc);
+    lanes.push(ItemList::from_vec(answers))?;
     Ok(lanes)
 }
 
@@ -380,7 +380,7 @@ call 0 3 spent 3
 end
 ";
     let record = RunRecord {
-        clock: Items::new(alloc),
+        clock: ItemList::new(alloc),
         timers: timer(alloc, &entries)?,
         objects: object(alloc, &steps)?,
         answers: lane(alloc, answers)?,
@@ -403,7 +403,7 @@ fn skips_follow_their_entry(rt: HostRuntime) -> Result<(), AllocError> {
         left: 5,
         interval: 10,
     };
-    let mut skips = Items::new(alloc);
+    let mut skips = ItemList::new(alloc);
     skips.push(Skip {
         label: on(6),
         generation: 7,
@@ -412,7 +412,7 @@ fn skips_follow_their_entry(rt: HostRuntime) -> Result<(), AllocError> {
         label: Label { lane: 1, call: 0 },
         generation: 8,
     })?;
-    let mut lines = Items::new(alloc);
+    let mut lines = ItemList::new(alloc);
     lines.push(ObjectLine {
         label: on(3),
         entry: trigger,
@@ -421,10 +421,10 @@ fn skips_follow_their_entry(rt: HostRuntime) -> Result<(), AllocError> {
     lines.push(ObjectLine {
         label: on(4),
         entry: gettime,
-        skips: Items::new(alloc),
+        skips: ItemList::new(alloc),
     })?;
-    let mut objects = Items::new(alloc);
-    objects.push(Items::new(alloc))?;
+    let mut objects = ItemList::new(alloc);
+    objects.push(ItemList::new(alloc))?;
     objects.push(lines)?;
     let answers = vec![in alloc;
         Answer::LeftAt {
@@ -454,8 +454,8 @@ call 0 2 readable 1 1 2
 end
 ";
     let record = RunRecord {
-        clock: Items::new(alloc),
-        timers: Items::new(alloc),
+        clock: ItemList::new(alloc),
+        timers: ItemList::new(alloc),
         objects,
         answers: lane(alloc, answers)?,
     };

@@ -2,7 +2,7 @@ ghost use Rattle.std.specs.Prelude.{◌≡◌, ◌++◌, OnOk, string_bytes, map
 ghost use Rattle.record_text.specs.Numbers.{numbers_of, AreMachineNumbers, HaveMachineNumbers};
 ghost use Rattle.record_text.specs.Text.{line_text, lines_text, object_lines, step_and_skips, step_lines, OfObject, OfSkip};
 
-use crate::items::Items;
+use crate::item_list::ItemList;
 use crate::record::{ObjectLine, Skip};
 use crate::writing::steps::write_step;
 use std::alloc::AllocError;
@@ -11,7 +11,7 @@ use std::alloc::AllocError;
 #[tactic(auto, using(crate::proofs::RecordTexts::lines_text_both, crate::proofs::RecordTexts::numbers_both))]
 pub(crate) fn write_objects(
     out: &mut String,
-    objects: &[Items<ObjectLine>],
+    objects: &[ItemList<ObjectLine>],
 ) -> Result<(), AllocError>
     ensures text { OnOk result (string_bytes out.new ≡ string_bytes out.old ++ lines_text (object_lines 0 objects.now)) }
     ensures numbers { OnOk result (HaveMachineNumbers (object_lines 0 objects.now)) }

@@ -1,5 +1,5 @@
-use crate::items::Items;
-use crate::record::{Answer, ClockLine, Entry, Label, Look, Restart, RunRecord, TimerLine, Told};
+use crate::item_list::ItemList;
+use crate::record::{Answer, ClockLine, Entry, Label, Look, Restart, RunRecord, TimerLine, CallbackReply};
 use crate::writing::{text, text_determines_the_record};
 use clock_model::Write;
 use ktime::{ClockId, Mode};
@@ -8,23 +8,23 @@ use std::alloc::{AllocError, Global};
 const FIRST: Label = Label { lane: 0, call: 0 };
 
 fn no_timers(alloc: Global, answers: Vec<Answer>) -> Result<RunRecord, AllocError> {
-    let mut lane = Items::new(alloc);
+    let mut lane = ItemList::new(alloc);
     for answer in answers {
         lane.push(answer)?;
     }
-    let mut lanes = Items::new(alloc);
-    lanes.push(Items::new(alloc))?;
+    let mut lanes = ItemList::new(alloc);
+    lanes.push(ItemList::new(alloc))?;
     lanes.push(lane)?;
     Ok(RunRecord {
-        clock: Items::new(alloc),
-        timers: Items::new(alloc),
-        objects: Items::new(alloc),
+        clock: ItemList::new(alloc),
+        timers: ItemList::new(alloc),
+        objects: ItemList::new(alloc),
         answers: lanes,
     })
 }
 
-pub(crate) fn fired(alloc: Global, timers: &[u32]) -> Result<Items<u32>, AllocError> {
-    let mut fired = Items::new(alloc);
+pub(crate) fn fired(alloc: Global, timers: &[u32]) -> Result<ItemList<u32>, AllocError> {
+    let mut fired = ItemList::new(alloc);
     for timer in timers {
         fired.push(*timer)?;
     }
@@ -35,11 +35,11 @@ pub(crate) fn timer_line(alloc: Global, label: Label, entry: Entry) -> TimerLine
     TimerLine {
         label,
         entry,
-        looks: Items::new(alloc),
+        looks: ItemList::new(alloc),
     }
 }
 
-fn one_shot(alloc: Global) -> Result<Items<TimerLine>, AllocError> {
+fn one_shot(alloc: Global) -> Result<ItemList<TimerLine>, AllocError> {
     let expire = Label { lane: 0, call: 2 };
     let entries = [
         (
@@ -72,7 +72,7 @@ fn one_shot(alloc: Global) -> Result<Items<TimerLine>, AllocError> {
             },
         ),
     ];
-    let mut lines = Items::new(alloc);
+    let mut lines = ItemList::new(alloc);
     for (label, entry) in entries {
         lines.push(timer_line(alloc, label, entry))?;
     }
@@ -82,7 +82,7 @@ fn one_shot(alloc: Global) -> Result<Items<TimerLine>, AllocError> {
 #[test]
 fn a_one_shot_timer_expires_once(rt: HostRuntime) -> Result<(), AllocError> {
     let alloc = rt.alloc();
-    let mut clock = Items::new(alloc);
+    let mut clock = ItemList::new(alloc);
     clock.push(ClockLine {
         label: Label { lane: 0, call: 1 },
         write: Write::Advance { by: 100 },
@@ -91,9 +91,9 @@ fn a_one_shot_timer_expires_once(rt: HostRuntime) -> Result<(), AllocError> {
         boot: 100,
         changes: 0,
     })?;
-    let mut timers = Items::new(alloc);
+    let mut timers = ItemList::new(alloc);
     timers.push(one_shot(alloc)?)?;
-    let mut lane = Items::new(alloc);
+    let mut lane = ItemList::new(alloc);
     lane.push(Answer::Started {
         generation: 1,
         base: 0,
@@ -112,12 +112,12 @@ fn a_one_shot_timer_expires_once(rt: HostRuntime) -> Result<(), AllocError> {
         running: false,
         moving: false,
     })?;
-    let mut answers = Items::new(alloc);
+    let mut answers = ItemList::new(alloc);
     answers.push(lane)?;
     let record = RunRecord {
         clock,
         timers,
-        objects: Items::new(alloc),
+        objects: ItemList::new(alloc),
         answers,
     };
     let want = b"record 1
@@ -136,9 +136,9 @@ end
     Ok(())
 }
 
-fn busy_timer(alloc: Global) -> Result<Items<TimerLine>, AllocError> {
+fn busy_timer(alloc: Global) -> Result<ItemList<TimerLine>, AllocError> {
     let label = Label { lane: 3, call: 7 };
-    let mut lines = Items::new(alloc);
+    let mut lines = ItemList::new(alloc);
     lines.push(timer_line(
         alloc,
         label,
@@ -147,18 +147,18 @@ fn busy_timer(alloc: Global) -> Result<Items<TimerLine>, AllocError> {
             was_armed: true,
         },
     ))?;
-    let mut looks = Items::new(alloc);
+    let mut looks = ItemList::new(alloc);
     looks.push(Look {
         label: FIRST,
-        told: Told::Running { generation: 4 },
+        reply: CallbackReply::Running { generation: 4 },
     })?;
     looks.push(Look {
         label,
-        told: Told::Armed { generation: 5 },
+        reply: CallbackReply::Armed { generation: 5 },
     })?;
     looks.push(Look {
         label,
-        told: Told::Spent,
+        reply: CallbackReply::Spent,
     })?;
     lines.push(TimerLine {
         label,
@@ -202,7 +202,7 @@ fn busy_timer(alloc: Global) -> Result<Items<TimerLine>, AllocError> {
 #[test]
 fn looks_follow_their_entry(rt: HostRuntime) -> Result<(), AllocError> {
     let alloc = rt.alloc();
-    let mut clock = Items::new(alloc);
+    let mut clock = ItemList::new(alloc);
     let writes = [Write::Set { to: 50 }, Write::Suspend { by: 7 }];
     for write in writes {
         clock.push(ClockLine {
@@ -214,14 +214,14 @@ fn looks_follow_their_entry(rt: HostRuntime) -> Result<(), AllocError> {
             changes: 4,
         })?;
     }
-    let mut timers = Items::new(alloc);
-    timers.push(Items::new(alloc))?;
+    let mut timers = ItemList::new(alloc);
+    timers.push(ItemList::new(alloc))?;
     timers.push(busy_timer(alloc)?)?;
     let record = RunRecord {
         clock,
         timers,
-        objects: Items::new(alloc),
-        answers: Items::new(alloc),
+        objects: ItemList::new(alloc),
+        answers: ItemList::new(alloc),
     };
     let want = b"record 1
 clock 1 0 0 set 50 1 2 3 4
@@ -260,7 +260,7 @@ fn each_answer_has_its_own_line(rt: HostRuntime) -> Result<(), AllocError> {
         },
         Answer::Done {
             reading: 4,
-            fired: Items::new(alloc)
+            fired: ItemList::new(alloc)
         },
         Answer::More {
             reading: 4,

@@ -1,5 +1,5 @@
 ghost use Rattle.std.specs.Prelude.{◌≡◌};
-ghost use Rattle.record_text.specs.Text.{counted_word, restart_word, write_time, write_word};
+ghost use Rattle.record_text.specs.Text.{counted_word, restart_word, write_ns, write_name};
 ghost use Rattle.record_text.specs.Words.{clock_word, mode_word};
 
 use clock_model::Write;
@@ -25,8 +25,8 @@ pub(crate) fn mode_word(mode: Mode) -> &'static str
     }
 }
 
-pub(crate) fn write_word(write: Write) -> &'static str
-    ensures { result.now ≡ write_word write }
+pub(crate) fn write_name(write: Write) -> &'static str
+    ensures { result.now ≡ write_name write }
 {
     match write {
         Write::Advance { .. } => "advance",
@@ -35,8 +35,8 @@ pub(crate) fn write_word(write: Write) -> &'static str
     }
 }
 
-pub(crate) fn write_time(write: Write) -> u64
-    ensures { result ≡ write_time write }
+pub(crate) fn write_ns(write: Write) -> u64
+    ensures { result ≡ write_ns write }
 {
     match write {
         Write::Advance { by } | Write::Suspend { by } => by,

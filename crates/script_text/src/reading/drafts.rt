@@ -1,12 +1,12 @@
 ghost use Rattle.std.specs.Prelude.{◌≡◌, ◌≤◌, OnOk, IfOk};
 ghost use Rattle.script_text.specs.Forms.{row};
 ghost use Rattle.script_text.specs.Scripts.{most_calls};
-ghost use Rattle.script_text.specs.Drafts.{AreShort, HasRoom, empty, script_of, with_call, with_header, with_line, with_round, with_timer};
+ghost use Rattle.script_text.specs.Drafts.{AreShort, IsWithinLimits, empty, script_of, with_call, with_header, draft_with_line, with_round, with_timer};
 
 use crate::form::{Form, Line, Part, Value};
 use crate::reading::meaning::{call, declaration};
 use crate::script::{Declaration, LaneCall, Round, Script};
-use record_text::Items;
+use record_text::ItemList;
 use std::alloc::{AllocError, Global};
 
 /// What the lines so far have told: how many header lines there were and their numbers, the
@@ -18,9 +18,9 @@ pub struct Draft {
     pub bases: u32,
     pub lanes: u32,
     pub limit: u64,
-    pub timers: Items<Declaration>,
-    pub ended: Items<Round>,
-    pub begun: Option<Items<LaneCall>>,
+    pub timers: ItemList<Declaration>,
+    pub ended: ItemList<Round>,
+    pub begun: Option<ItemList<LaneCall>>,
     pub calls: u64,
 }
 
@@ -34,19 +34,19 @@ impl Draft {
             bases: 0,
             lanes: 0,
             limit: 0,
-            timers: Items::new(alloc),
-            ended: Items::new(alloc),
+            timers: ItemList::new(alloc),
+            ended: ItemList::new(alloc),
             begun: None,
             calls: 0,
         }
     }
 
     /// Adds what a line tells that was read and that nothing is said against.
-    #[tactic(auto, unfolding(crate::specs::Drafts::with_line, crate::specs::Drafts::with_part))]
+    #[tactic(auto, unfolding(crate::specs::Drafts::draft_with_line, crate::specs::Drafts::with_part))]
     pub fn add(&mut self, alloc: Global, line: &Line) -> Result<(), AllocError>
-        requires room { HasRoom self.old }
+        requires room { IsWithinLimits self.old }
         requires short { AreShort (row line.now.form) line.now.values }
-        ensures { OnOk result (self.new ≡ with_line self.old line.now) }
+        ensures { OnOk result (self.new ≡ draft_with_line self.old line.now) }
     {
         let form = line.form;
         let values = line.values.as_slice();
@@ -114,7 +114,7 @@ impl Draft {
     fn add_round(&mut self, alloc: Global) -> Result<(), AllocError>
         ensures { OnOk result (self.new ≡ with_round self.old) }
     {
-        if let Some(calls) = self.begun.replace(Items::new(alloc)) {
+        if let Some(calls) = self.begun.replace(ItemList::new(alloc)) {
             self.ended.push(Round { calls })?;
         }
         Ok(())

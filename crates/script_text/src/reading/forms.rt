@@ -1,5 +1,5 @@
 ghost use Rattle.std.specs.Prelude.{◌≡◌, drop, map};
-ghost use Rattle.script_text.specs.Reading.{begins_with_digit, first_named, form_in, named};
+ghost use Rattle.script_text.specs.Reading.{begins_with_digit, find_form_by_first, form_in, find_form};
 
 use crate::form::Form;
 use crate::refusal::Cause;
@@ -41,8 +41,8 @@ const CALLS: &[(&[u8], Form)] = &[
 ];
 
 /// The form that a word names among these.
-fn named(forms: &[(&[u8], Form)], word: &[u8]) -> Result<Form, Cause>
-    ensures { result ≡ named (map (λ f. (f.0.now, f.1)) forms.now) word.now }
+fn find_form(forms: &[(&[u8], Form)], word: &[u8]) -> Result<Form, Cause>
+    ensures { result ≡ find_form (map (λ f. (f.0.now, f.1)) forms.now) word.now }
 {
     for (name, form) in forms {
         if word == *name {
@@ -55,10 +55,10 @@ fn named(forms: &[(&[u8], Form)], word: &[u8]) -> Result<Form, Cause>
 /// The form that the word at a place of a line names among these.
 fn named_at(forms: &[(&[u8], Form)], words: &[&[u8]], at: usize) -> Result<Form, Cause>
     ensures { result
-        ≡ first_named (map (λ f. (f.0.now, f.1)) forms.now) (drop at (map (λ w. w.now) words.now)) }
+        ≡ find_form_by_first (map (λ f. (f.0.now, f.1)) forms.now) (drop at (map (λ w. w.now) words.now)) }
 {
     match words.get(at) {
-        Some(word) => named(forms, word),
+        Some(word) => find_form(forms, word),
         None => Err(Cause::WordCount),
     }
 }

@@ -8,7 +8,7 @@ use crate::reading::cutting::cut;
 use crate::reading::forms::form;
 use crate::reading::words::value;
 use crate::refusal::Cause;
-use record_text::Items;
+use record_text::ItemList;
 use std::alloc::{AllocError, Global};
 
 /// What these words fill the places of a form with.
@@ -16,10 +16,10 @@ fn values(
     alloc: Global,
     form: Form,
     words: &[&[u8]],
-) -> Result<Result<Items<Value>, Cause>, AllocError>
+) -> Result<Result<ItemList<Value>, Cause>, AllocError>
     ensures { IfOk result (λ r. r ≡ values_in (row form) (map (λ w. w.now) words.now)) }
 {
-    let mut values = Items::new(alloc);
+    let mut values = ItemList::new(alloc);
     for (place, word) in form.places().iter().zip(words) {
         let Some(place) = place else {
             continue;

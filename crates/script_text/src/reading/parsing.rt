@@ -1,6 +1,6 @@
 ghost use Rattle.std.specs.Prelude.{◌≡◌, ◌<◌, ◌^◌, IfOk, IfErr, Ok, Err, map, length};
-ghost use Rattle.script_text.specs.Scripts.{Reads, closed, is_skipped};
-ghost use Rattle.script_text.specs.Drafts.{HasRoom, empty};
+ghost use Rattle.script_text.specs.Scripts.{Reads, without_empty_tail, is_skipped};
+ghost use Rattle.script_text.specs.Drafts.{IsWithinLimits, empty};
 ghost use Rattle.script_text.specs.Refusals.{Gives, IsReason, IsRefused, script_from, script_in, with_line_in};
 ghost use Rattle.script_text.specs.declared.refusal.Refused.{Refused};
 ghost use Rattle.script_text.specs.declared.script.Script.{Script};
@@ -8,7 +8,7 @@ ghost use Rattle.script_text.specs.declared.script.Script.{Script};
 use crate::reading::cutting::cut;
 use crate::reading::drafts::Draft;
 use crate::reading::lines::read_line;
-use crate::reading::placing::against;
+use crate::reading::placing::check_line;
 use crate::refusal::{Cause, ParseError, Refused};
 use crate::script::Script;
 use std::alloc::{AllocError, Global};
@@ -42,12 +42,12 @@ fn read_script(alloc: Global, bytes: &[u8]) -> Result<Result<Script, Refused>, A
         }));
     }
     let parts = cut(alloc, bytes, b'\n')?;
-    read_lines(alloc, closed(&parts))
+    read_lines(alloc, without_empty_tail(&parts))
 }
 
 /// The lines among the parts between newlines: the last part is none if it is empty.
-fn closed<'a, 'b>(parts: &'a [&'b [u8]]) -> &'a [&'b [u8]]
-    ensures { map (λ l. l.now) result.now ≡ closed (map (λ p. p.now) parts.now) }
+fn without_empty_tail<'a, 'b>(parts: &'a [&'b [u8]]) -> &'a [&'b [u8]]
+    ensures { map (λ l. l.now) result.now ≡ without_empty_tail (map (λ p. p.now) parts.now) }
 {
     let [lines @ .., last] = parts else {
         return parts;
@@ -106,15 +106,15 @@ fn with_line(
     mut draft: Draft,
     line: &[u8],
 ) -> Result<Result<Draft, Cause>, AllocError>
-    requires { HasRoom draft }
+    requires { IsWithinLimits draft }
     ensures read { IfOk result (λ r. r ≡ with_line_in draft line.now) }
-    ensures room { IfOk result (λ r. IfOk r (λ d. HasRoom d)) }
+    ensures room { IfOk result (λ r. IfOk r (λ d. IsWithinLimits d)) }
 {
     let line = match read_line(alloc, line)? {
         Ok(line) => line,
         Err(cause) => return Ok(Err(cause)),
     };
-    if let Some(cause) = against(&draft, &line) {
+    if let Some(cause) = check_line(&draft, &line) {
         return Ok(Err(cause));
     }
     draft.add(alloc, &line)?;

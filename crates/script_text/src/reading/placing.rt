@@ -1,6 +1,6 @@
 ghost use Rattle.std.specs.Prelude.{◌≡◌};
 ghost use Rattle.script_text.specs.Forms.{row};
-ghost use Rattle.script_text.specs.Refusals.{against, against_count, against_kind, against_number, against_value, against_values, is_placed, kind_of};
+ghost use Rattle.script_text.specs.Refusals.{check_line, check_count, check_kind, check_number, check_value, check_values, is_placed, drafted_kind};
 
 use crate::form::{Form, Line, Part, Place, Value};
 use crate::reading::drafts::Draft;
@@ -25,23 +25,23 @@ const MOST_EVENTS: u64 = (1 << 40) - 4;
 /// How many timers one expire may claim.
 const MOST_BUDGET: u64 = 4096;
 
-/// What is said first against a line that was read by itself.
-#[tactic(auto, unfolding(crate::specs::Refusals::against))]
-pub fn against(draft: &Draft, line: &Line) -> Option<Cause>
-    ensures { result ≡ against draft.now line.now }
+/// What is said first check_line a line that was read by itself.
+#[tactic(auto, unfolding(crate::specs::Refusals::check_line))]
+pub fn check_line(draft: &Draft, line: &Line) -> Option<Cause>
+    ensures { result ≡ check_line draft.now line.now }
 {
     let part = line.form.part();
     let values = line.values.as_slice();
     if !is_placed(draft, part) {
         return Some(Cause::BadPlace);
     }
-    if let Some(cause) = against_count(draft, part) {
+    if let Some(cause) = check_count(draft, part) {
         return Some(cause);
     }
-    if let Some(cause) = against_values(draft, line.form, values) {
+    if let Some(cause) = check_values(draft, line.form, values) {
         return Some(cause);
     }
-    against_kind(draft, line.form, values)
+    check_kind(draft, line.form, values)
 }
 
 /// A line of this part may stand here.
@@ -57,10 +57,10 @@ fn is_placed(draft: &Draft, part: Part) -> bool
     }
 }
 
-/// What is said against one more line of this part.
-#[tactic(auto, unfolding(crate::specs::Refusals::against_count))]
-fn against_count(draft: &Draft, part: Part) -> Option<Cause>
-    ensures { result ≡ against_count draft.now part }
+/// What is said check_line one more line of this part.
+#[tactic(auto, unfolding(crate::specs::Refusals::check_count))]
+fn check_count(draft: &Draft, part: Part) -> Option<Cause>
+    ensures { result ≡ check_count draft.now part }
 {
     match part {
         Part::Declaration if draft.timers.as_slice().len() >= MOST_TIMERS => {
@@ -71,10 +71,10 @@ fn against_count(draft: &Draft, part: Part) -> Option<Cause>
     }
 }
 
-/// What is said against a number in its place.
-#[tactic(auto, unfolding(crate::specs::Refusals::against_number))]
-fn against_number(draft: &Draft, place: Place, n: u64) -> Option<Cause>
-    ensures { result ≡ against_number draft.now place n }
+/// What is said check_line a number in its place.
+#[tactic(auto, unfolding(crate::specs::Refusals::check_number))]
+fn check_number(draft: &Draft, place: Place, n: u64) -> Option<Cause>
+    ensures { result ≡ check_number draft.now place n }
 {
     let timers = draft.timers.as_slice().len() as u64;
     match place {
@@ -91,19 +91,19 @@ fn against_number(draft: &Draft, place: Place, n: u64) -> Option<Cause>
     }
 }
 
-/// What is said against what fills a place.
-fn against_value(draft: &Draft, place: Place, value: Value) -> Option<Cause>
-    ensures { result ≡ against_value draft.now place value }
+/// What is said check_line what fills a place.
+fn check_value(draft: &Draft, place: Place, value: Value) -> Option<Cause>
+    ensures { result ≡ check_value draft.now place value }
 {
     match value {
-        Value::Number(n) => against_number(draft, place, n),
+        Value::Number(n) => check_number(draft, place, n),
         _ => None,
     }
 }
 
-/// What is said first against what fills the places of a form.
-fn against_values(draft: &Draft, form: Form, values: &[Value]) -> Option<Cause>
-    ensures { result ≡ against_values draft.now (row form) values.now }
+/// What is said first check_line what fills the places of a form.
+fn check_values(draft: &Draft, form: Form, values: &[Value]) -> Option<Cause>
+    ensures { result ≡ check_values draft.now (row form) values.now }
 {
     let mut rest = values;
     for place in form.places() {
@@ -113,7 +113,7 @@ fn against_values(draft: &Draft, form: Form, values: &[Value]) -> Option<Cause>
         let Some((value, more)) = rest.split_first() else {
             return None;
         };
-        if let Some(cause) = against_value(draft, *place, *value) {
+        if let Some(cause) = check_value(draft, *place, *value) {
             return Some(cause);
         }
         rest = more;
@@ -122,8 +122,8 @@ fn against_values(draft: &Draft, form: Form, values: &[Value]) -> Option<Cause>
 }
 
 /// The kind of the timer of a number.
-fn kind_of(draft: &Draft, timer: u64) -> Kind
-    ensures { result ≡ kind_of draft.now timer }
+fn drafted_kind(draft: &Draft, timer: u64) -> Kind
+    ensures { result ≡ drafted_kind draft.now timer }
 {
     match draft.timers.as_slice().get(timer as usize) {
         Some(declared) => declared.kind,
@@ -133,16 +133,16 @@ fn kind_of(draft: &Draft, timer: u64) -> Kind
     }
 }
 
-/// What is said against a call on a timer whose kind it doesn't suit.
-#[tactic(auto, unfolding(crate::specs::Refusals::against_kind))]
-fn against_kind(draft: &Draft, form: Form, values: &[Value]) -> Option<Cause>
-    ensures { result ≡ against_kind draft.now form (row form) values.now }
+/// What is said check_line a call on a timer whose kind it doesn't suit.
+#[tactic(auto, unfolding(crate::specs::Refusals::check_kind))]
+fn check_kind(draft: &Draft, form: Form, values: &[Value]) -> Option<Cause>
+    ensures { result ≡ check_kind draft.now form (row form) values.now }
 {
     let ([_, None, Some(Place::Timer), ..], [_, Value::Number(timer), ..]) = (form.places(), values)
     else {
         return None;
     };
-    if form.suits(kind_of(draft, *timer)) {
+    if form.suits(drafted_kind(draft, *timer)) {
         return None;
     }
     Some(Cause::WrongKind)

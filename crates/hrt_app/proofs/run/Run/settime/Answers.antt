@@ -6,7 +6,7 @@ use Rattle.ktime.specs.Readings.{ClockReading}
 use Rattle.record_text.specs.declared.record.Answer.{Answer}
 use Rattle.record_text.specs.declared.record.ObjectEntry.TheVariants as object_entries
 use Rattle.script_text.specs.declared.script.Callback.TheVariants.{Once}
-use Rattle.script_text.specs.ObjectCalls.{time_of}
+use Rattle.script_text.specs.ObjectCalls.{nanoseconds_of}
 use Rattle.hrt_app.specs.declared.objects.Object.TheVariants.{Raw}
 use Rattle.hrt_app.specs.Objects.{after_call, entries_of, limit_of, object_at}
 use Rattle.hrt_app.specs.ObjectTurns.{ArmsBy, SettimeReplies, SettimeTurn, settime_call}
@@ -28,11 +28,11 @@ returns-clause-turn c =
     let room : entries_of o < limit_of o = ⊎_elim (λ room. room) (λ full. let e : true ≡ false = sym (c.is_spent.ensures.1 full) ∙ c.if-is_spent.false in absurd cc) (cases_lt (entries_of o) (limit_of o)) in
     let reading : c.reading-reading.result ≡ r.reading = c.reading-reading.ensures ∙ ap (λ (x : RunState). x.reading) c.self.view_is in
     let stamp = ap (λ (x : ClockReading). x.stamp) (c.reading.view_is ∙ reading) in
-    let entered : c.enter_object.new.self ≡ with_object_line c.arm.new.self c.args.label t c.settime-reply.new.self (object_entries.Settime c.args.flags (time_of c.args.value) (time_of c.args.interval) r.reading.stamp arm reply) =
+    let entered : c.enter_object.new.self ≡ with_object_line c.arm.new.self c.args.label t c.settime-reply.new.self (object_entries.Settime c.args.flags (nanoseconds_of c.args.value) (nanoseconds_of c.args.interval) r.reading.stamp arm reply) =
     c.in_ok-enter_object.ensures
     ∙ ap (λ n. with_object_line c.arm.new.self c.args.label t c.settime-reply.new.self (object_entries.Settime c.args.flags n c.in-Some.times.1 c.reading.inside.stamp arm reply)) c.in-Some.ensures.1
-    ∙ ap (λ n. with_object_line c.arm.new.self c.args.label t c.settime-reply.new.self (object_entries.Settime c.args.flags (time_of c.args.value) n c.reading.inside.stamp arm reply)) c.in-Some.ensures.2
-    ∙ ap (λ n. with_object_line c.arm.new.self c.args.label t c.settime-reply.new.self (object_entries.Settime c.args.flags (time_of c.args.value) (time_of c.args.interval) n arm reply)) stamp in
+    ∙ ap (λ n. with_object_line c.arm.new.self c.args.label t c.settime-reply.new.self (object_entries.Settime c.args.flags (nanoseconds_of c.args.value) n c.reading.inside.stamp arm reply)) c.in-Some.ensures.2
+    ∙ ap (λ n. with_object_line c.arm.new.self c.args.label t c.settime-reply.new.self (object_entries.Settime c.args.flags (nanoseconds_of c.args.value) (nanoseconds_of c.args.interval) n arm reply)) stamp in
     let turn = settime_turn r c.disarm.new.self c.arm.new.self c.enter_object.new.self c.args.label t c.args.flags c.args.value c.args.interval o c.settime-reply.new.self c.in_ok-disarm.field-0 c.settime_wants-wanted.result arm refused reply
     is c.in-Some.ensures.0 room c.in_ok-disarm.ensures.turn c.in_ok-disarm.ensures.objects c.settime_wants-wanted.ensures
     (subst (λ b. ArmsBy c.args.label (progress c.disarm.new.self) t b c.settime_wants-wanted.result arm refused (progress c.arm.new.self)) c.base.ensures c.in_ok-arm.ensures.turn) c.in_ok-arm.ensures.objects

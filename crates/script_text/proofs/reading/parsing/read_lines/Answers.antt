@@ -3,7 +3,7 @@ use Rattle.script_text.specs.declared.refusal.Cause.{Cause}
 use Rattle.script_text.specs.declared.refusal.Cause.TheVariants as causes
 use Rattle.script_text.specs.declared.refusal.Refused.{Refused}
 use Rattle.script_text.specs.declared.script.Script.{Script}
-use Rattle.script_text.specs.Drafts.{HasRoom}
+use Rattle.script_text.specs.Drafts.{IsWithinLimits}
 use Rattle.script_text.proofs.Loop.{line_skipped, line_refused, line_taken, lines_end_early, lines_end}
 use Rattle.script_text.proofs.reading.parsing.read_lines.Goals as goal
 
@@ -27,7 +27,7 @@ pub loop-line-preserved : goal.loop-line-preserved
 loop-line-preserved c = record {
   number = omega (arith, c.loop-line.invariant.number);
   so_far = line_taken (λ p. p.now) c.args.lines.now c.loop-line.line-index c.loop-line.draft _ c.loop-line.invariant.so_far _ c.in-Ok.draft c.loop-line-test.true (sym c.is_skipped.ensures ∙ c.if-is_skipped.false) (sym c.in_ok-draft.ensures.read ∙ c.in-Ok.is);
-  room = subst (λ r. IfOk r (λ d. HasRoom d)) c.in-Ok.is c.in_ok-draft.ensures.room;
+  room = subst (λ r. IfOk r (λ d. IsWithinLimits d)) c.in-Ok.is c.in_ok-draft.ensures.room;
 }
 
 pub returns-then-draft-lt4 : goal.returns-then-draft-lt4

@@ -3,7 +3,7 @@ use Rattle.std.specs.Prelude.{ℕ, ◌≡◌, ◌+◌, Bool, true, false, nat_eq
 use Rattle.clock_model.specs.declared.write.Write.{Write}
 use Rattle.record_text.specs.declared.record.Label.{Label}
 use Rattle.record_text.specs.declared.record.Entry.{Entry}
-use Rattle.record_text.specs.declared.record.Told.{Told}
+use Rattle.record_text.specs.declared.record.CallbackReply.{CallbackReply}
 use Rattle.record_text.specs.declared.record.Look.{Look}
 use Rattle.record_text.specs.declared.record.TimerLine.{TimerLine}
 use Rattle.record_text.specs.declared.record.ObjectEntry.{ObjectEntry}
@@ -11,17 +11,17 @@ use Rattle.record_text.specs.declared.record.ObjectLine.{ObjectLine}
 use Rattle.record_text.specs.declared.record.Skip.{Skip}
 use Rattle.record_text.specs.declared.record.RunRecord.{RunRecord}
 use Rattle.script_text.specs.Order.{is_label}
-use Rattle.script_text.specs.Histories.{lines_of}
-use Rattle.script_text.specs.Objects.{object_lines}
+use Rattle.script_text.specs.Histories.{lines_of_timer}
+use Rattle.script_text.specs.Objects.{lines_of_object}
 
 -- one thing that a call did, with its number in its list: a write of the clock; an entry of a timer, or a look that holds after that
 -- entry; an entry of an object, or an expiry of a generation that the object refused after that entry, its history being full
-pub data Did : Type 0 where
-  Wrote : ℕ → Write → Did
-  Entered : ℕ → ℕ → Entry → Did
-  Looked : ℕ → ℕ → Told → Did
-  Made : ℕ → ℕ → ObjectEntry → Did
-  Skipped : ℕ → ℕ → ℕ → Did
+pub data Action : Type 0 where
+  Wrote : ℕ → Write → Action
+  Entered : ℕ → ℕ → Entry → Action
+  Looked : ℕ → ℕ → CallbackReply → Action
+  Made : ℕ → ℕ → ObjectEntry → Action
+  Skipped : ℕ → ℕ → ℕ → Action
 
 -- one more item where a test holds
 abbrev pub also : {A : Type 0} → Bool → A → List A → List A
@@ -29,65 +29,65 @@ also true x xs = x ∷ xs
 also false x xs = xs
 
 -- the writes among these, each with its number
-abbrev pub wrote : List Did → List (ℕ × Write)
+abbrev pub wrote : List Action → List (ℕ × Write)
 wrote [] = []
 wrote (Wrote number write ∷ ds) = (number, write) ∷ wrote ds
 wrote (Entered timer number entry ∷ ds) = wrote ds
-wrote (Looked timer number told ∷ ds) = wrote ds
+wrote (Looked timer number reply ∷ ds) = wrote ds
 wrote (Made i number entry ∷ ds) = wrote ds
 wrote (Skipped i number generation ∷ ds) = wrote ds
 
 -- the entries of a timer among these, each with its number
-abbrev pub entered : ℕ → List Did → List (ℕ × Entry)
+abbrev pub entered : ℕ → List Action → List (ℕ × Entry)
 entered t [] = []
 entered t (Wrote number write ∷ ds) = entered t ds
 entered t (Entered timer number entry ∷ ds) = also (nat_eq timer t) (number, entry) (entered t ds)
-entered t (Looked timer number told ∷ ds) = entered t ds
+entered t (Looked timer number reply ∷ ds) = entered t ds
 entered t (Made i number entry ∷ ds) = entered t ds
 entered t (Skipped i number generation ∷ ds) = entered t ds
 
 -- the looks at a timer among these, each with the number of the entry after which it holds
-abbrev pub looked : ℕ → List Did → List (ℕ × Told)
+abbrev pub looked : ℕ → List Action → List (ℕ × CallbackReply)
 looked t [] = []
 looked t (Wrote number write ∷ ds) = looked t ds
 looked t (Entered timer number entry ∷ ds) = looked t ds
-looked t (Looked timer number told ∷ ds) = also (nat_eq timer t) (number, told) (looked t ds)
+looked t (Looked timer number reply ∷ ds) = also (nat_eq timer t) (number, reply) (looked t ds)
 looked t (Made i number entry ∷ ds) = looked t ds
 looked t (Skipped i number generation ∷ ds) = looked t ds
 
 -- the numbers of a timer's entries and looks among these, in their order
-abbrev pub numbers_on : ℕ → List Did → List ℕ
+abbrev pub numbers_on : ℕ → List Action → List ℕ
 numbers_on t [] = []
 numbers_on t (Wrote number write ∷ ds) = numbers_on t ds
 numbers_on t (Entered timer number entry ∷ ds) = also (nat_eq timer t) number (numbers_on t ds)
-numbers_on t (Looked timer number told ∷ ds) = also (nat_eq timer t) number (numbers_on t ds)
+numbers_on t (Looked timer number reply ∷ ds) = also (nat_eq timer t) number (numbers_on t ds)
 numbers_on t (Made i number entry ∷ ds) = numbers_on t ds
 numbers_on t (Skipped i number generation ∷ ds) = numbers_on t ds
 
 -- the entries of an object among these, each with its number
-abbrev pub made : ℕ → List Did → List (ℕ × ObjectEntry)
+abbrev pub made : ℕ → List Action → List (ℕ × ObjectEntry)
 made t [] = []
 made t (Wrote number write ∷ ds) = made t ds
 made t (Entered timer number entry ∷ ds) = made t ds
-made t (Looked timer number told ∷ ds) = made t ds
+made t (Looked timer number reply ∷ ds) = made t ds
 made t (Made i number entry ∷ ds) = also (nat_eq i t) (number, entry) (made t ds)
 made t (Skipped i number generation ∷ ds) = made t ds
 
 -- the refused expiries of an object among these, each with the number of the entry after which it came
-abbrev pub skipped : ℕ → List Did → List (ℕ × ℕ)
+abbrev pub skipped : ℕ → List Action → List (ℕ × ℕ)
 skipped t [] = []
 skipped t (Wrote number write ∷ ds) = skipped t ds
 skipped t (Entered timer number entry ∷ ds) = skipped t ds
-skipped t (Looked timer number told ∷ ds) = skipped t ds
+skipped t (Looked timer number reply ∷ ds) = skipped t ds
 skipped t (Made i number entry ∷ ds) = skipped t ds
 skipped t (Skipped i number generation ∷ ds) = also (nat_eq i t) (number, generation) (skipped t ds)
 
 -- the numbers of an object's entries and refused expiries among these, in their order
-abbrev pub numbers_of_object : ℕ → List Did → List ℕ
+abbrev pub numbers_of_object : ℕ → List Action → List ℕ
 numbers_of_object t [] = []
 numbers_of_object t (Wrote number write ∷ ds) = numbers_of_object t ds
 numbers_of_object t (Entered timer number entry ∷ ds) = numbers_of_object t ds
-numbers_of_object t (Looked timer number told ∷ ds) = numbers_of_object t ds
+numbers_of_object t (Looked timer number reply ∷ ds) = numbers_of_object t ds
 numbers_of_object t (Made i number entry ∷ ds) = also (nat_eq i t) number (numbers_of_object t ds)
 numbers_of_object t (Skipped i number generation ∷ ds) = also (nat_eq i t) number (numbers_of_object t ds)
 
@@ -97,12 +97,12 @@ own label thing c number [] = []
 own label thing c number (x ∷ xs) = also (is_label c (label x)) (number, thing x) (own label thing c (number + 1) xs)
 
 -- the looks of a label under one entry
-abbrev pub looks_under : Label → ℕ → List Look → List (ℕ × Told)
+abbrev pub looks_under : Label → ℕ → List Look → List (ℕ × CallbackReply)
 looks_under c number [] = []
-looks_under c number (look ∷ looks) = also (is_label c look.label) (number, look.told) (looks_under c number looks)
+looks_under c number (look ∷ looks) = also (is_label c look.label) (number, look.reply) (looks_under c number looks)
 
 -- the looks of a label under entries that are numbered from here
-abbrev pub own_looks : Label → ℕ → List TimerLine → List (ℕ × Told)
+abbrev pub own_looks : Label → ℕ → List TimerLine → List (ℕ × CallbackReply)
 own_looks c number [] = []
 own_looks c number (line ∷ lines) = looks_under c number line.looks ++ own_looks c (number + 1) lines
 
@@ -117,9 +117,9 @@ own_skips c number [] = []
 own_skips c number (line ∷ lines) = skips_under c number line.skips ++ own_skips c (number + 1) lines
 
 -- the record has these things under the label, and no others
-pub record Tells (r : RunRecord) (c : Label) (dids : List Did) : Type 0 where
-  pub clock : own (λ line. line.label) (λ line. line.write) c 1 r.clock ≡ wrote dids
-  pub timers : (t : ℕ) → own (λ line. line.label) (λ line. line.entry) c 1 (lines_of r t) ≡ entered t dids
-  pub looks : (t : ℕ) → own_looks c 1 (lines_of r t) ≡ looked t dids
-  pub objects : (i : ℕ) → own (λ line. line.label) (λ line. line.entry) c 1 (object_lines r i) ≡ made i dids
-  pub skips : (i : ℕ) → own_skips c 1 (object_lines r i) ≡ skipped i dids
+pub record Tells (r : RunRecord) (c : Label) (actions : List Action) : Type 0 where
+  pub clock : own (λ line. line.label) (λ line. line.write) c 1 r.clock ≡ wrote actions
+  pub timers : (t : ℕ) → own (λ line. line.label) (λ line. line.entry) c 1 (lines_of_timer r t) ≡ entered t actions
+  pub looks : (t : ℕ) → own_looks c 1 (lines_of_timer r t) ≡ looked t actions
+  pub objects : (i : ℕ) → own (λ line. line.label) (λ line. line.entry) c 1 (lines_of_object r i) ≡ made i actions
+  pub skips : (i : ℕ) → own_skips c 1 (lines_of_object r i) ≡ skipped i actions

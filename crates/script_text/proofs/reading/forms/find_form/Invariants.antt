@@ -1,6 +1,6 @@
 use Rattle.std.proofs.Common.{◌≡◌}
 use Rattle.script_text.proofs.Naming.{named_from}
-use Rattle.script_text.proofs.reading.forms.named.Given as goal
+use Rattle.script_text.proofs.reading.forms.find_form.Given as goal
 
 -- the word names among the rest what it names among all
 abbrev pub invariant-loop-name : goal.invariant-loop-name

@@ -11,12 +11,12 @@ use Rattle.record_text.specs.declared.record.Answer.{Answer}
 use Rattle.record_text.specs.declared.record.Answer.TheVariants as answers
 use Rattle.record_text.specs.declared.record.RunRecord.{RunRecord}
 use Rattle.script_text.specs.Histories.{reading_at, timer_after}
-use Rattle.script_text.specs.Dids.{Did}
+use Rattle.script_text.specs.Actions.{Action}
 use Rattle.script_text.specs.Calls.{Fired, fires, IsTimerPoint}
 
 -- the timers as a pass had seen them when it claimed one: no function ran on the base, no timer was due whose clock is
 -- looked at before the claimed one's, and none on that clock had an earlier expiry
-pub record IsRightClaim (s : Script) (r : RunRecord) (c : Label) (reading : ClockReading) (base : ℕ) (before : List Did) (f : Fired) (claimed : Timer) : Type 0 where
+pub record IsFirstDueClaim (s : Script) (r : RunRecord) (c : Label) (reading : ClockReading) (base : ℕ) (before : List Action) (f : Fired) (claimed : Timer) : Type 0 where
   pub points : (t : ℕ) → IsTimerPoint s r c before t (f.seen t)
   pub next : f.seen f.timer + 1 ≡ f.claim
   pub free : (t : ℕ) → runs_on base (timer_after s r t (f.seen t)) ≡ false
@@ -24,29 +24,29 @@ pub record IsRightClaim (s : Script) (r : RunRecord) (c : Label) (reading : Cloc
   pub earliest : (t : ℕ) → is_smaller base claimed.clock claimed.expires (timer_after s r t (f.seen t)) ≡ false
 
 -- each claim of a pass took the right timer
-abbrev pub AreRightClaims : Script → RunRecord → Label → ℕ → ℕ → List Did → List Fired → Type 0
-AreRightClaims s r c reading base before [] = Unit
-AreRightClaims s r c reading base before (f ∷ fs) =
-    IsRightClaim s r c (reading_at r.clock reading) base before f (timer_after s r f.timer (f.seen f.timer))
-    × AreRightClaims s r c reading base (before ++ fires base reading f) fs
+abbrev pub AreFirstDueClaims : Script → RunRecord → Label → ℕ → ℕ → List Action → List Fired → Type 0
+AreFirstDueClaims s r c reading base before [] = Unit
+AreFirstDueClaims s r c reading base before (f ∷ fs) =
+    IsFirstDueClaim s r c (reading_at r.clock reading) base before f (timer_after s r f.timer (f.seen f.timer))
+    × AreFirstDueClaims s r c reading base (before ++ fires base reading f) fs
 
 -- nothing was left to do: no function ran on the base, and no timer was due there
-pub record IsDone (s : Script) (r : RunRecord) (c : Label) (reading : ClockReading) (base : ℕ) (dids : List Did) (seen : ℕ → ℕ) : Type 0 where
-  pub points : (t : ℕ) → IsTimerPoint s r c dids t (seen t)
+pub record IsDone (s : Script) (r : RunRecord) (c : Label) (reading : ClockReading) (base : ℕ) (actions : List Action) (seen : ℕ → ℕ) : Type 0 where
+  pub points : (t : ℕ) → IsTimerPoint s r c actions t (seen t)
   pub free : (t : ℕ) → runs_on base (timer_after s r t (seen t)) ≡ false
   pub none_due : (t : ℕ) → is_due_on base reading (timer_after s r t (seen t)) ≡ false
 
 -- a function ran on the base: this timer's, of this generation
-pub record IsBusy (s : Script) (r : RunRecord) (c : Label) (base : ℕ) (dids : List Did) (timer generation : ℕ) (seen : ℕ → ℕ) : Type 0 where
-  pub points : (t : ℕ) → IsTimerPoint s r c dids t (seen t)
+pub record IsBusy (s : Script) (r : RunRecord) (c : Label) (base : ℕ) (actions : List Action) (timer generation : ℕ) (seen : ℕ → ℕ) : Type 0 where
+  pub points : (t : ℕ) → IsTimerPoint s r c actions t (seen t)
   pub running : (timer_after s r timer (seen timer)).running ≡ Some generation
   pub there : (timer_after s r timer (seen timer)).base ≡ base
 
 -- an expiry pass is right in each claim and in how it ended; the last numbers are how many entries of each timer it had seen then
-abbrev pub IsRightPass : Script → RunRecord → Label → ℕ → Call → Answer → List Fired → List Did → (ℕ → ℕ) → Type 0
-IsRightPass s r c reading (calls.Expire base budget) (answers.Done shown timers) fired dids last =
-    AreRightClaims s r c reading base [] fired × IsDone s r c (reading_at r.clock reading) base dids last
-IsRightPass s r c reading (calls.Expire base budget) (answers.More shown timers) fired dids last = AreRightClaims s r c reading base [] fired
-IsRightPass s r c reading (calls.Expire base budget) (answers.Busy shown timers timer generation) fired dids last =
-    AreRightClaims s r c reading base [] fired × IsBusy s r c base dids timer generation last
-IsRightPass s r c reading call answer fired dids last = Unit
+abbrev pub IsRightExpiryRun : Script → RunRecord → Label → ℕ → Call → Answer → List Fired → List Action → (ℕ → ℕ) → Type 0
+IsRightExpiryRun s r c reading (calls.Expire base budget) (answers.Done shown timers) fired actions last =
+    AreFirstDueClaims s r c reading base [] fired × IsDone s r c (reading_at r.clock reading) base actions last
+IsRightExpiryRun s r c reading (calls.Expire base budget) (answers.More shown timers) fired actions last = AreFirstDueClaims s r c reading base [] fired
+IsRightExpiryRun s r c reading (calls.Expire base budget) (answers.Busy shown timers timer generation) fired actions last =
+    AreFirstDueClaims s r c reading base [] fired × IsBusy s r c base actions timer generation last
+IsRightExpiryRun s r c reading call answer fired actions last = Unit

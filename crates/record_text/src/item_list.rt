@@ -5,21 +5,21 @@ use std::marker::Model;
 
 /// A list that contracts see as its items alone, so that two values with equal items are equal.
 #[derive(Drop)]
-pub struct Items<T: Drop> {
+pub struct ItemList<T: Drop> {
     items: Vec<T>,
 }
 
-impl<T: Drop> Model for Items<T> {
+impl<T: Drop> Model for ItemList<T> {
     ghost Value = { List T };
 
     ghost view = { λ i. i.items.items };
 }
 
-impl<T: Drop> Items<T> {
+impl<T: Drop> ItemList<T> {
     pub fn new(alloc: Global) -> Self
         ensures { result ≡ [] }
     {
-        Items {
+        ItemList {
             items: Vec::new(alloc),
         }
     }
@@ -28,7 +28,7 @@ impl<T: Drop> Items<T> {
     pub fn from_vec(items: Vec<T>) -> Self
         ensures { result ≡ items.items }
     {
-        Items { items }
+        ItemList { items }
     }
 
     pub fn push(&mut self, item: T) -> Result<(), AllocError>
