@@ -1,0 +1,4 @@
+pub mod Arguments
+pub mod Phases
+pub mod Settimes
+pub mod StepTables

@@ -1,0 +1,17 @@
+//! What POSIX timers and timer descriptors share: a settime's arguments, the start that a step wants and its outcome, the timer that
+//! an object keeps, and the histories of such objects.
+#![tactic(auto)]
+
+pub use arguments::{ABSTIME, BadArgument, times_of};
+pub use arming::{Arm, Wanted};
+pub use object_timer::ObjectTimer;
+pub use phase::{Phase, phase_after};
+pub use setting::Setting;
+
+mod arguments;
+mod arming;
+mod object_timer;
+mod phase;
+mod setting;
+#[cfg(test)]
+mod tests;

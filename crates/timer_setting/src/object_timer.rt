@@ -1,0 +1,119 @@
+//! The timer that an object keeps: its setting, its phase, and how many entries the object's history has.
+ghost use Rattle.std.specs.Prelude.{◌≡◌, ◌≤◌, ◌<◌, ◌+◌, ◌↔◌, IsTrue};
+ghost use Rattle.ktime.specs.Times.{last_time};
+ghost use Rattle.timer_setting.specs.Phases.{HasTimelyExpiry, expired, is_expiry_of, left_in, next_start, periods_in, phase_by, rearmed};
+ghost use Rattle.timer_setting.specs.Settimes.{made_timer, most_entries, timer_expired};
+
+use crate::arming::{Arm, Wanted};
+use crate::phase::{Phase, phase_after, phase_set};
+use ktime::{ClockId, Forwarded, Mode, Reading, forward};
+
+/// The timer that an object keeps. `clock` is the one that it was made on, `base` that of its high-resolution timer, `stamp` how many
+/// entries the object's history has, and `limit` the limit on them.
+#[derive(Clone, Copy, Debug, PartialEq, Eq)]
+pub struct ObjectTimer {
+    pub clock: ClockId,
+    pub base: u32,
+    pub interval: u64,
+    pub phase: Phase,
+    pub stamp: u64,
+    pub limit: u64,
+}
+
+impl ObjectTimer {
+    /// A timer that is disarmed.
+    pub fn make(clock: ClockId, base: u32, max_events: u64) -> ObjectTimer
+        ensures { result ≡ made_timer clock base max_events }
+    {
+        ObjectTimer {
+            clock,
+            base,
+            interval: 0,
+            phase: Phase::Idle,
+            stamp: 0,
+            limit: max_events,
+        }
+    }
+
+    /// Whether the object's history is full.
+    pub fn is_spent(&self) -> bool
+        ensures { IsTrue result ↔ (self.now.limit ≤ self.now.stamp) }
+    {
+        self.stamp >= self.limit
+    }
+
+    /// How long until the next expiry, in nanoseconds; `overdue` where an armed timer's expiry has come.
+    pub fn left(&self, overdue: u64, reading: Reading) -> u64
+        requires expires { HasTimelyExpiry self.now.phase }
+        ensures { result ≡ left_in overdue self.now.phase self.now.interval reading }
+    {
+        match self.phase {
+            Phase::Idle => 0,
+            Phase::Armed { clock, expires, .. } => {
+                let now = reading.value(clock);
+                if now < expires { expires - now } else { overdue }
+            }
+            Phase::Expired { clock, expires } => {
+                let now = reading.value(clock);
+                forward(expires, now, self.interval).expires - now
+            }
+        }
+    }
+
+    /// The start for the next expiry, where the timer is periodic and has expired.
+    pub fn next_start(&self, reading: Reading) -> Option<Wanted>
+        requires expires { HasTimelyExpiry self.now.phase }
+        ensures { result ≡ next_start self.now.phase self.now.interval reading }
+    {
+        let Phase::Expired { clock, expires } = self.phase else {
+            return None;
+        };
+        let forwarded = forward(expires, reading.value(clock), self.interval);
+        Some(Wanted {
+            mode: Mode::Keep,
+            ns: forwarded.expires,
+        })
+    }
+
+    /// Sets the phase by a settime with valid arguments, and counts its entry.
+    pub fn set(&mut self, flags: u64, value: u64, reading: Reading, arm: Arm)
+        requires value { value ≤ last_time }
+        requires room { (self.old.stamp < self.old.limit) × (self.old.limit ≤ most_entries) }
+        ensures { self.new ≡ record self.old { phase = phase_by self.old.clock flags value reading arm; stamp = self.old.stamp + 1 } }
+    {
+        self.phase = phase_set(self.clock, flags, value, reading, arm);
+        self.stamp += 1;
+    }
+
+    /// The high-resolution timer's function runs for this generation, which counts as an entry. Whether it is the expiry that is armed.
+    pub fn expire(&mut self, generation: u64, reading: Reading) -> bool
+        requires room { (self.old.stamp < self.old.limit) × (self.old.limit ≤ most_entries) }
+        ensures timer { self.new ≡ timer_expired self.old generation reading }
+        ensures expired { result ≡ is_expiry_of self.old.phase generation reading }
+    {
+        self.stamp += 1;
+        if !self.phase.is_expiry(generation, reading) {
+            return false;
+        }
+        self.phase = self.phase.after_expiry(self.interval);
+        true
+    }
+
+    /// Moves a periodic timer that has expired past now, where the start for its next expiry had this outcome. It answers how many
+    /// periods have passed; nothing where the timer isn't one that has expired.
+    pub fn rearm(&mut self, reading: Reading, arm: Arm) -> Option<u64>
+        requires expires { HasTimelyExpiry self.old.phase }
+        ensures timer { self.new ≡ record self.old { phase = rearmed self.old.phase self.old.interval reading arm } }
+        ensures periods { result ≡ periods_in self.old.phase self.old.interval reading }
+    {
+        let Phase::Expired { clock, expires } = self.phase else {
+            return None;
+        };
+        let Forwarded {
+            count,
+            expires: next,
+        } = forward(expires, reading.value(clock), self.interval);
+        self.phase = phase_after(arm, clock, next);
+        Some(count)
+    }
+}

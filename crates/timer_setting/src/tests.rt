@@ -1,0 +1,16 @@
+//! Tests of what both kinds of object share.
+use crate::{BadArgument, times_of};
+use ktime::TimeSpec;
+
+#[test]
+fn flags_are_looked_at_before_times(rt: HostRuntime) {
+    let good = TimeSpec { sec: 1, nsec: 10 };
+    let bad = TimeSpec {
+        sec: 0,
+        nsec: 1_000_000_000,
+    };
+    assert_eq!(rt; times_of(0, good, good), Ok((1_000_000_010, 1_000_000_010)));
+    assert_eq!(rt; times_of(2, bad, good), Err(BadArgument::Flags));
+    assert_eq!(rt; times_of(0, bad, good), Err(BadArgument::Time));
+    assert_eq!(rt; times_of(0, good, bad), Err(BadArgument::Time));
+}
