@@ -1,43 +1,25 @@
-use Rattle.std.proofs.Common.{arith, refl, ◌≡◌, ◌≤◌, ◌+◌, List, [], ◌∷◌, ◌++◌, length}
+-- Each call of a POSIX timer needs room for its entry, adds one, and leaves the limit.
+use Rattle.std.proofs.Common.{arith, refl, ◌≡◌, ◌<◌, ◌+◌}
+use Rattle.timer_setting.specs.StepTables.{CountsCalls}
 use Rattle.posix_timer.specs.declared.calls.Call.{Call}
 use Rattle.posix_timer.specs.declared.calls.Call.TheVariants as calls
 use Rattle.posix_timer.specs.States.{PosixTimer}
-use Rattle.posix_timer.specs.Steps.{HasRoom, Needs, after, reply_to}
-use Rattle.posix_timer.specs.Histories.{Entry, AreSteps, after_all}
+use Rattle.posix_timer.specs.Steps.{PosixAllows, posix_step, posix_table}
 
--- each call needs room for its entry
-pub Needs-room : (t : PosixTimer) (call : Call) → Needs t call → HasRoom t
-Needs-room t (calls.Settime flags value interval reading arm) needs = needs.0
-Needs-room t (calls.Trigger generation reading) needs = needs
-Needs-room t (calls.Accept reading arm) needs = needs.0
+pub PosixAllows-room : (t : PosixTimer) (call : Call) → PosixAllows t call → t.stamp < t.limit
+PosixAllows-room t (calls.Settime flags value interval reading arm) allows = allows.0
+PosixAllows-room t (calls.Trigger generation reading) allows = allows
+PosixAllows-room t (calls.Accept reading arm) allows = allows.0
 
--- each call adds one entry
-pub after-stamp : (t : PosixTimer) (call : Call) → (after t call).stamp ≡ t.stamp + 1
-after-stamp t (calls.Settime flags value interval reading arm) = refl
-after-stamp t (calls.Trigger generation reading) = grind arith
-after-stamp t (calls.Accept reading arm) = grind arith
+pub posix_step-stamp : (t : PosixTimer) (call : Call) → (posix_step t call).stamp ≡ t.stamp + 1
+posix_step-stamp t (calls.Settime flags value interval reading arm) = refl
+posix_step-stamp t (calls.Trigger generation reading) = grind arith
+posix_step-stamp t (calls.Accept reading arm) = grind arith
 
--- the limit stays
-pub after-limit : (t : PosixTimer) (call : Call) → (after t call).limit ≡ t.limit
-after-limit t (calls.Settime flags value interval reading arm) = refl
-after-limit t (calls.Trigger generation reading) = grind arith
-after-limit t (calls.Accept reading arm) = grind arith
+pub posix_step-limit : (t : PosixTimer) (call : Call) → (posix_step t call).limit ≡ t.limit
+posix_step-limit t (calls.Settime flags value interval reading arm) = refl
+posix_step-limit t (calls.Trigger generation reading) = grind arith
+posix_step-limit t (calls.Accept reading arm) = grind arith
 
--- so there are no more entries than the limit
-pub AreSteps-length : (t : PosixTimer) (es : List Entry) → t.stamp ≤ t.limit → AreSteps t es → t.stamp + length es ≤ t.limit
-AreSteps-length t [] within steps = omega (arith, within)
-AreSteps-length t (e ∷ es) within steps =
-    let room = Needs-room t e.call steps.0 in
-    let stamp = after-stamp t e.call in
-    let limit = after-limit t e.call in
-    let rest = AreSteps-length (after t e.call) es (omega (arith, room, stamp, limit)) steps.2 in omega (arith, rest, stamp, limit)
-
--- steps go on by one more
-pub AreSteps-append : (t : PosixTimer) (es : List Entry) (e : Entry) → AreSteps t es → Needs (after_all t es) e.call → e.reply ≡ reply_to (after_all t es) e.call → AreSteps t (es ++ e ∷ [])
-AreSteps-append t [] e steps needs reply = (needs, reply, tt)
-AreSteps-append t (x ∷ es) e steps needs reply = (steps.0, steps.1, AreSteps-append (after t x.call) es e steps.2 needs reply)
-
--- and so does the state
-pub after_all-append : (t : PosixTimer) (es : List Entry) (e : Entry) → after_all t (es ++ e ∷ []) ≡ after (after_all t es) e.call
-after_all-append t [] e = refl
-after_all-append t (x ∷ es) e = after_all-append (after t x.call) es e
+pub posix_counts : CountsCalls posix_table (λ t. t.stamp) (λ t. t.limit)
+posix_counts = record { room = PosixAllows-room; counted = posix_step-stamp; kept = posix_step-limit }

@@ -1,30 +1,16 @@
--- The history of one POSIX timer: its entries, and the state after each.
-use Rattle.std.specs.Prelude.{ℕ, ◌≡◌, List, [], ◌∷◌}
+-- The history of one POSIX timer, and the state after it.
+use Rattle.std.specs.Prelude.{ℕ, List}
 use Rattle.ktime.specs.declared.clock_id.ClockId.{ClockId}
+use Rattle.timer_setting.specs.StepTables.{AnsweredCall, AreCalls, after_calls}
 use Rattle.posix_timer.specs.declared.calls.Call.{Call}
 use Rattle.posix_timer.specs.declared.calls.Reply.{Reply}
-use Rattle.posix_timer.specs.States.{PosixTimer, opening}
-use Rattle.posix_timer.specs.Steps.{Needs, after, reply_to}
+use Rattle.posix_timer.specs.States.{PosixTimer, posix_opening}
+use Rattle.posix_timer.specs.Steps.{posix_table}
 
--- an entry of a history: the call, and what it answered
-pub record Entry : Type 0 where
-  pub call : Call
-  pub reply : Reply
+-- a history that one POSIX timer gives, made on this clock and base with this limit on entries
+abbrev pub IsPosixHistory : ClockId → ℕ → ℕ → List (AnsweredCall Call Reply) → Type 0
+IsPosixHistory clock base limit history = AreCalls posix_table (posix_opening clock base limit) history
 
--- the entries are steps in turn from this state, each with the answer of its step
-abbrev pub AreSteps : PosixTimer → List Entry → Type 0
-AreSteps t [] = Unit
-AreSteps t (e ∷ es) = Needs t e.call × (e.reply ≡ reply_to t e.call) × AreSteps (after t e.call) es
-
--- a history that one object gives, made on this clock and base with this limit on entries
-abbrev pub IsLegal : ClockId → ℕ → ℕ → List Entry → Type 0
-IsLegal clock base limit history = AreSteps (opening clock base limit) history
-
--- the state after entries
-abbrev pub after_all : PosixTimer → List Entry → PosixTimer
-after_all t [] = t
-after_all t (e ∷ es) = after_all (after t e.call) es
-
--- the state after a history
-abbrev pub state_after : ClockId → ℕ → ℕ → List Entry → PosixTimer
-state_after clock base limit history = after_all (opening clock base limit) history
+-- the state after it
+abbrev pub posix_state_after : ClockId → ℕ → ℕ → List (AnsweredCall Call Reply) → PosixTimer
+posix_state_after clock base limit history = after_calls posix_table (posix_opening clock base limit) history

@@ -1,16 +1,11 @@
-/// How long until a timer expires next, and its interval, both in nanoseconds (`struct itimerspec`).
-#[derive(Clone, Copy, Debug, PartialEq, Eq)]
-pub struct Setting {
-    pub left: u64,
-    pub interval: u64,
-}
+//! What the calls of a POSIX timer answer.
 
-/// What `timer_settime` answers.
+/// What `timer_settime` answers. A time left and an interval are in nanoseconds.
 #[derive(Clone, Copy, Debug, PartialEq, Eq)]
 pub enum SettimeAnswer {
     /// The setting before the call.
     Old { left: u64, interval: u64 },
-    /// The flags are neither 0 nor `TIMER_ABSTIME` (EINVAL).
+    /// A flag isn't `TIMER_ABSTIME` (EINVAL).
     BadFlags,
     /// The value or the interval has a second or more of nanoseconds (EINVAL).
     BadTime,

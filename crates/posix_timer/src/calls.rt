@@ -1,6 +1,7 @@
+//! The calls that make an entry in a POSIX timer's history.
 use crate::answers::{AcceptAnswer, SettimeAnswer, TriggerAnswer};
-use crate::arming::Arm;
 use ktime::Reading;
+use timer_setting::Arm;
 
 /// A call that makes an entry in an object's history. A value and an interval are in nanoseconds.
 #[derive(Clone, Copy, Debug, PartialEq, Eq)]

@@ -1,84 +1,65 @@
-ghost use Rattle.std.specs.Prelude.{◌≡◌, ◌≤◌, ◌<◌, ◌↔◌, ◌⊎◌, ℕ, IsSome, IsTrue, false};
+//! A POSIX timer: its state, and its calls.
+ghost use Rattle.std.specs.Prelude.{◌≡◌, ◌≤◌, ◌<◌, ◌↔◌, ◌⊎◌, ℕ};
 ghost use Rattle.ktime.specs.Times.{last_time, second};
-ghost use Rattle.posix_timer.specs.States.{PosixTimer, IsBounded, greatest_limit, opening, setting_of};
-ghost use Rattle.posix_timer.specs.Requests.{AreTaken, absolute, time_of};
-ghost use Rattle.posix_timer.specs.Steps.{HasRoom, IsArmedAs, IsToldOf, Needs, accept_wanted, accepted, after, counts, reply_to, set, set_answer, settime_wanted, triggered};
+ghost use Rattle.timer_setting.specs.Arguments.{abstime, bits_beyond, time_of};
+ghost use Rattle.timer_setting.specs.Phases.{IsOutcomeOf};
+ghost use Rattle.timer_setting.specs.Settimes.{most_entries};
+ghost use Rattle.posix_timer.specs.States.{PosixTimer, ArePosixArguments, PosixInvariant, posix_opening, setting_of};
+ghost use Rattle.posix_timer.specs.Steps.{PosixAllows, accept_wanted, accepted, kept_by, posix_answer, posix_set, posix_set_answer, posix_settime_wanted, posix_step, posix_triggered};
 ghost use Rattle.posix_timer.specs.declared.calls.Call.TheVariants as calls;
 ghost use Rattle.posix_timer.specs.declared.calls.Reply.TheVariants as replies;
 
-use crate::answers::{AcceptAnswer, SettimeAnswer, Setting, TriggerAnswer};
-use crate::arming::{Arm, Wanted};
+use crate::answers::{AcceptAnswer, SettimeAnswer, TriggerAnswer};
 use crate::calls::{Call, Reply};
-use crate::phase::{Phase, interval_after, phase_after};
-use crate::requests::{mode_of, start_for, times_of};
-use ktime::{ClockId, Forwarded, Mode, Reading, TimeSpec, effective, forward, sat_add};
+use crate::settime_arguments::{TIMER_ABSTIME, times_of};
+use ktime::{ClockId, Reading, TimeSpec};
 use std::marker::Model;
+use timer_setting::{Arm, BadArgument, ObjectTimer, Phase, Setting, Wanted};
 
-/// The greatest overrun that is told, `DELAYTIMER_MAX`.
+/// The greatest overrun that is answered, `DELAYTIMER_MAX`.
 const MOST_OVERRUN: u64 = i32::MAX as u64;
 
+/// The time left of an armed timer whose expiry has come: `timer_gettime` answers 0 only for a timer that is disarmed.
+const OVERDUE: u64 = 1;
+
 /// A POSIX timer. It knows nothing of the high-resolution timer below it: a step that may start that timer has a look before it,
-/// which gives the start that is wanted, and is then told what became of it.
+/// which gives the start that is wanted, and takes the outcome of that start.
 #[derive(Clone, Copy, Debug, PartialEq, Eq)]
 pub struct PosixState {
-    clock: ClockId,
-    base: u32,
-    interval: u64,
-    phase: Phase,
+    timer: ObjectTimer,
     pending: bool,
     overrun: u64,
-    stamp: u64,
-    limit: u64,
 }
 
 impl Model for PosixState {
     ghost Value = { PosixTimer };
 
-    ghost view = { λ t. record { clock = t.clock; base = t.base; interval = t.interval; phase = t.phase; pending = t.pending; overrun = t.overrun; stamp = t.stamp; limit = t.limit } };
+    ghost view = { λ t. record { clock = t.timer.clock; base = t.timer.base; interval = t.timer.interval; phase = t.timer.phase; pending = t.pending; overrun = t.overrun; stamp = t.timer.stamp; limit = t.timer.limit } };
 
-    ghost invariant = { λ t. IsBounded (record { clock = t.clock; base = t.base; interval = t.interval; phase = t.phase; pending = t.pending; overrun = t.overrun; stamp = t.stamp; limit = t.limit }) };
+    ghost invariant = { λ t. PosixInvariant (record { clock = t.timer.clock; base = t.timer.base; interval = t.timer.interval; phase = t.timer.phase; pending = t.pending; overrun = t.overrun; stamp = t.timer.stamp; limit = t.timer.limit }) };
 
-    ghost inverse = { λ v. record { clock = v.clock; base = v.base; interval = v.interval; phase = v.phase; pending = v.pending; overrun = v.overrun; stamp = v.stamp; limit = v.limit } };
+    ghost inverse = { λ v. record { timer = record { clock = v.clock; base = v.base; interval = v.interval; phase = v.phase; stamp = v.stamp; limit = v.limit }; pending = v.pending; overrun = v.overrun } };
 }
 
 impl PosixState {
-    /// A timer that is disarmed. At `max_events` entries it is spent.
+    /// A timer that is disarmed. At `max_events` entries its history is full.
     pub fn make(clock: ClockId, base: u32, max_events: u64) -> PosixState
         requires some { 0 < max_events }
-        requires few { max_events ≤ greatest_limit }
-        ensures { result ≡ opening clock base max_events }
+        requires few { max_events ≤ most_entries }
+        ensures { result ≡ posix_opening clock base max_events }
     {
         PosixState {
-            clock,
-            base,
-            interval: 0,
-            phase: Phase::Idle,
+            timer: ObjectTimer::make(clock, base, max_events),
             pending: false,
             overrun: 0,
-            stamp: 0,
-            limit: max_events,
         }
     }
 
-    /// The clock that the timer was made on.
-    pub fn clock(&self) -> ClockId
-        ensures { result ≡ self.now.clock }
+    /// The timer that it keeps: its clock and base, interval and phase, how many entries its history has, and the limit on them.
+    pub fn timer(&self) -> ObjectTimer
+        ensures { result ≡ record { clock = self.now.clock; base = self.now.base; interval = self.now.interval; phase = self.now.phase; stamp = self.now.stamp; limit = self.now.limit } }
     {
-        self.clock
-    }
-
-    /// The base of the timer's high-resolution timer.
-    pub fn base(&self) -> u32
-        ensures { result ≡ self.now.base }
-    {
-        self.base
-    }
-
-    /// Where the timer stands in its period.
-    pub fn phase(&self) -> Phase
-        ensures { result ≡ self.now.phase }
-    {
-        self.phase
+        self.timer
     }
 
     /// Whether a signal is pending.
@@ -86,20 +67,6 @@ impl PosixState {
         ensures { result ≡ self.now.pending }
     {
         self.pending
-    }
-
-    /// How many entries the timer's history has.
-    pub fn stamp(&self) -> u64
-        ensures { result ≡ self.now.stamp }
-    {
-        self.stamp
-    }
-
-    /// The limit on entries.
-    pub fn limit(&self) -> u64
-        ensures { result ≡ self.now.limit }
-    {
-        self.limit
     }
 
     /// The start that a settime wants: none where it is refused, and none where its value is zero.
@@ -110,14 +77,10 @@ impl PosixState {
         interval: TimeSpec,
         _reading: Reading,
     ) -> Option<Wanted>
-        ensures start { result ≡ settime_wanted self.now flags value interval }
-        ensures some { IsSome result ↔ (AreTaken flags value interval × HasRoom self.now × (0 < time_of value)) }
+        ensures { result ≡ posix_settime_wanted self.now flags value interval }
     {
-        let (value, _) = times_of(flags, value, interval).ok()?;
-        if self.stamp >= self.limit {
-            return None;
-        }
-        start_for(flags, value)
+        self.timer
+            .settime_start(flags & !TIMER_ABSTIME, flags, value, interval)
     }
 
     /// Arms the timer anew, or disarms it by the value 0 (`timer_settime`). A pending signal and the overrun are cleared.
@@ -129,60 +92,49 @@ impl PosixState {
         reading: Reading,
         arm: Arm,
     ) -> SettimeAnswer
-        requires asked { IsToldOf arm (settime_wanted self.old flags value interval) }
-        ensures flags { (result ≡ SettimeAnswer.BadFlags) ↔ (absolute < flags) }
-        ensures time { (result ≡ SettimeAnswer.BadTime) ↔ ((flags ≤ absolute) × ((second ≤ value.nsec) ⊎ (second ≤ interval.nsec))) }
-        ensures spent { (stamp : ℕ) → (result ≡ SettimeAnswer.Spent stamp) ↔ (AreTaken flags value interval × (self.old.limit ≤ self.old.stamp) × (stamp ≡ self.old.stamp)) }
-        ensures state { AreTaken flags value interval → HasRoom self.old → self.new ≡ after self.old (calls.Settime flags (time_of value) (time_of interval) reading arm) }
-        ensures answer { AreTaken flags value interval → HasRoom self.old → replies.Settime result ≡ reply_to self.old (calls.Settime flags (time_of value) (time_of interval) reading arm) }
-        ensures refused { (AreTaken flags value interval × HasRoom self.old) ⊎ (self.new ≡ self.old) }
-        ensures unarmed { (stamp : ℕ) → (result ≡ SettimeAnswer.Unarmed stamp) ↔ (AreTaken flags value interval × HasRoom self.old × (arm ≡ Arm.Unarmed stamp)) }
-        ensures armed { (generation : ℕ) → AreTaken flags value interval → HasRoom self.old → arm ≡ Arm.Armed generation → IsArmedAs generation self.new.phase }
-        ensures disarmed { AreTaken flags value interval → HasRoom self.old → time_of value ≡ 0 → (self.new.phase ≡ Phase.Idle) × (self.new.interval ≡ 0) }
+        requires asked { IsOutcomeOf arm (posix_settime_wanted self.old flags value interval) }
+        ensures flags { (result ≡ SettimeAnswer.BadFlags) ↔ (0 < bits_beyond abstime flags) }
+        ensures time { (result ≡ SettimeAnswer.BadTime) ↔ ((bits_beyond abstime flags ≡ 0) × ((second ≤ value.nsec) ⊎ (second ≤ interval.nsec))) }
+        ensures spent { (stamp : ℕ) → (result ≡ SettimeAnswer.Spent stamp) ↔ (ArePosixArguments flags value interval × (self.old.limit ≤ self.old.stamp) × (stamp ≡ self.old.stamp)) }
+        ensures refused { (ArePosixArguments flags value interval × (self.old.stamp < self.old.limit)) ⊎ (self.new ≡ self.old) }
+        ensures state { ArePosixArguments flags value interval → self.old.stamp < self.old.limit → self.new ≡ posix_step self.old (calls.Settime flags (time_of value) (time_of interval) reading arm) }
+        ensures answer { ArePosixArguments flags value interval → self.old.stamp < self.old.limit → replies.Settime result ≡ posix_answer self.old (calls.Settime flags (time_of value) (time_of interval) reading arm) }
     {
         let (value, interval) = match times_of(flags, value, interval) {
             Ok(times) => times,
-            Err(refusal) => return refusal,
+            Err(BadArgument::Flags) => return SettimeAnswer::BadFlags,
+            Err(BadArgument::Time) => return SettimeAnswer::BadTime,
         };
-        if self.stamp >= self.limit {
-            return SettimeAnswer::Spent { stamp: self.stamp };
+        if self.timer.is_spent() {
+            return SettimeAnswer::Spent {
+                stamp: self.timer.stamp,
+            };
         }
         self.set(flags, value, interval, reading, arm)
     }
 
-    /// How long until the next expiry, and the interval (`timer_gettime`). A timer whose expiry has come is told to have 1 ns left.
+    /// How long until the next expiry, and the interval (`timer_gettime`). An armed timer whose expiry has come has 1 ns left.
     pub fn gettime(&self, reading: Reading) -> Setting
         ensures setting { result ≡ setting_of self.now reading }
         ensures left { (result.left ≡ 0) ↔ (self.now.phase ≡ Phase.Idle) }
     {
-        let left = match self.phase {
-            Phase::Idle => 0,
-            Phase::Armed { clock, expires, .. } => {
-                let now = reading.value(clock);
-                if now < expires { expires - now } else { 1 }
-            }
-            Phase::Due { clock, expires } => {
-                let now = reading.value(clock);
-                forward(expires, now, self.interval).expires - now
-            }
-        };
         Setting {
-            left,
-            interval: self.interval,
+            left: self.timer.left(OVERDUE, reading),
+            interval: self.timer.interval,
         }
     }
 
     /// The high-resolution timer's function runs for this generation (`posix_timer_fn`).
     pub fn trigger(&mut self, generation: u64, reading: Reading) -> TriggerAnswer
         ensures spent { (stamp : ℕ) → (result ≡ TriggerAnswer.Spent stamp) ↔ ((self.old.limit ≤ self.old.stamp) × (stamp ≡ self.old.stamp)) }
-        ensures refused { HasRoom self.old ⊎ (self.new ≡ self.old) }
-        ensures state { HasRoom self.old → self.new ≡ after self.old (calls.Trigger generation reading) }
-        ensures answer { HasRoom self.old → replies.Trigger result ≡ reply_to self.old (calls.Trigger generation reading) }
-        ensures counted { (result ≡ TriggerAnswer.Counted) ↔ (HasRoom self.old × IsTrue (counts self.old.phase generation reading)) }
-        ensures stale { (result ≡ TriggerAnswer.Stale) ↔ (HasRoom self.old × (counts self.old.phase generation reading ≡ false)) }
+        ensures refused { (self.old.stamp < self.old.limit) ⊎ (self.new ≡ self.old) }
+        ensures state { self.old.stamp < self.old.limit → self.new ≡ posix_step self.old (calls.Trigger generation reading) }
+        ensures answer { self.old.stamp < self.old.limit → replies.Trigger result ≡ posix_answer self.old (calls.Trigger generation reading) }
     {
-        if self.stamp >= self.limit {
-            return TriggerAnswer::Spent { stamp: self.stamp };
+        if self.timer.is_spent() {
+            return TriggerAnswer::Spent {
+                stamp: self.timer.stamp,
+            };
         }
         self.fire(generation, reading)
     }
@@ -191,31 +143,24 @@ impl PosixState {
     pub fn accept_wants(&self, reading: Reading) -> Option<Wanted>
         ensures { result ≡ accept_wanted self.now reading }
     {
-        if !self.pending || self.stamp >= self.limit {
+        if !self.pending || self.timer.is_spent() {
             return None;
         }
-        let Phase::Due { clock, expires } = self.phase else {
-            return None;
-        };
-        let forwarded = forward(expires, reading.value(clock), self.interval);
-        Some(Wanted {
-            mode: Mode::Keep,
-            ns: forwarded.expires,
-        })
+        self.timer.next_start(reading)
     }
 
     /// Accepts the pending signal (`sigwaitinfo`). Its overrun counts the periods that have passed since it was generated.
     pub fn accept(&mut self, reading: Reading, arm: Arm) -> AcceptAnswer
-        requires asked { IsToldOf arm (accept_wanted self.old reading) }
+        requires asked { IsOutcomeOf arm (accept_wanted self.old reading) }
         ensures spent { (stamp : ℕ) → (result ≡ AcceptAnswer.Spent stamp) ↔ ((self.old.limit ≤ self.old.stamp) × (stamp ≡ self.old.stamp)) }
-        ensures refused { HasRoom self.old ⊎ (self.new ≡ self.old) }
-        ensures none { (result ≡ AcceptAnswer.NoSignal) ↔ (HasRoom self.old × (self.old.pending ≡ false)) }
-        ensures state { HasRoom self.old → self.new ≡ after self.old (calls.Accept reading arm) }
-        ensures answer { HasRoom self.old → replies.Accept result ≡ reply_to self.old (calls.Accept reading arm) }
-        ensures kept { (overrun : ℕ) → result ≡ AcceptAnswer.Accepted overrun → self.new.overrun ≡ overrun }
+        ensures refused { (self.old.stamp < self.old.limit) ⊎ (self.new ≡ self.old) }
+        ensures state { self.old.stamp < self.old.limit → self.new ≡ posix_step self.old (calls.Accept reading arm) }
+        ensures answer { self.old.stamp < self.old.limit → replies.Accept result ≡ posix_answer self.old (calls.Accept reading arm) }
     {
-        if self.stamp >= self.limit {
-            return AcceptAnswer::Spent { stamp: self.stamp };
+        if self.timer.is_spent() {
+            return AcceptAnswer::Spent {
+                stamp: self.timer.stamp,
+            };
         }
         self.take(reading, arm)
     }
@@ -227,11 +172,11 @@ impl PosixState {
         self.overrun
     }
 
-    /// Makes the entry of a call whose arguments were taken.
+    /// Makes the entry of a call with valid arguments.
     pub fn apply(&mut self, call: Call) -> Reply
-        requires allowed { Needs self.old call }
-        ensures state { self.new ≡ after self.old call }
-        ensures reply { result ≡ reply_to self.old call }
+        requires allowed { PosixAllows self.old call }
+        ensures state { self.new ≡ posix_step self.old call }
+        ensures reply { result ≡ posix_answer self.old call }
     {
         match call {
             Call::Settime {
@@ -258,24 +203,17 @@ impl PosixState {
         reading: Reading,
         arm: Arm,
     ) -> SettimeAnswer
-        requires room { HasRoom self.old }
+        requires room { self.old.stamp < self.old.limit }
         requires value { value ≤ last_time }
         requires interval { interval ≤ last_time }
-        ensures state { self.new ≡ set self.old flags value interval reading arm }
-        ensures answer { result ≡ set_answer self.old reading arm }
+        ensures state { self.new ≡ posix_set self.old flags value interval reading arm }
+        ensures answer { result ≡ posix_set_answer self.old reading arm }
     {
         let old = self.gettime(reading);
-        let mode = mode_of(flags);
-        let clock = effective(self.clock, mode, self.clock);
-        let expires = match mode {
-            Mode::Rel => sat_add(reading.value(clock), value),
-            Mode::Abs | Mode::Keep => value,
-        };
-        self.phase = phase_after(arm, clock, expires);
-        self.interval = interval_after(arm, interval);
+        self.timer.set(flags, value, reading, arm);
         self.pending = false;
         self.overrun = 0;
-        self.stamp += 1;
+        self.timer.interval = interval_after(arm, interval);
         match arm {
             Arm::Unarmed(stamp) => SettimeAnswer::Unarmed { stamp },
             Arm::NotAsked | Arm::Armed(_) => SettimeAnswer::Old {
@@ -287,51 +225,44 @@ impl PosixState {
 
     /// Makes the entry of a trigger.
     fn fire(&mut self, generation: u64, reading: Reading) -> TriggerAnswer
-        requires room { HasRoom self.old }
-        ensures state { self.new ≡ triggered self.old generation reading }
-        ensures answer { replies.Trigger result ≡ reply_to self.old (calls.Trigger generation reading) }
+        requires room { self.old.stamp < self.old.limit }
+        ensures state { self.new ≡ posix_triggered self.old generation reading }
+        ensures answer { replies.Trigger result ≡ posix_answer self.old (calls.Trigger generation reading) }
     {
-        self.stamp += 1;
-        match self.phase {
-            Phase::Armed {
-                generation: armed,
-                clock,
-                expires,
-            } if armed == generation && reading.value(clock) >= expires => {
-                self.pending = true;
-                self.phase = if self.interval == 0 {
-                    Phase::Idle
-                } else {
-                    Phase::Due { clock, expires }
-                };
-                TriggerAnswer::Counted
-            }
-            _ => TriggerAnswer::Stale,
+        if !self.timer.expire(generation, reading) {
+            return TriggerAnswer::Stale;
         }
+        self.pending = true;
+        TriggerAnswer::Counted
     }
 
     /// Makes the entry of an acceptance.
     fn take(&mut self, reading: Reading, arm: Arm) -> AcceptAnswer
-        requires room { HasRoom self.old }
+        requires room { self.old.stamp < self.old.limit }
         ensures state { self.new ≡ accepted self.old reading arm }
-        ensures answer { replies.Accept result ≡ reply_to self.old (calls.Accept reading arm) }
+        ensures answer { replies.Accept result ≡ posix_answer self.old (calls.Accept reading arm) }
     {
-        self.stamp += 1;
+        self.timer.stamp += 1;
         if !self.pending {
             return AcceptAnswer::NoSignal;
         }
         let mut overrun = 0;
-        if let Phase::Due { clock, expires } = self.phase {
-            let Forwarded {
-                count,
-                expires: next,
-            } = forward(expires, reading.value(clock), self.interval);
-            overrun = count.saturating_sub(1).min(MOST_OVERRUN);
-            self.phase = phase_after(arm, clock, next);
-            self.interval = interval_after(arm, self.interval);
+        if let Some(periods) = self.timer.rearm(reading, arm) {
+            overrun = periods.saturating_sub(1).min(MOST_OVERRUN);
+            self.timer.interval = interval_after(arm, self.timer.interval);
         }
         self.pending = false;
         self.overrun = overrun;
         AcceptAnswer::Accepted { overrun }
+    }
+}
+
+/// The interval after a start with this outcome: 0 where the timer is not armed.
+fn interval_after(arm: Arm, interval: u64) -> u64
+    ensures { result ≡ kept_by arm interval }
+{
+    match arm {
+        Arm::Armed(_) => interval,
+        Arm::NotAsked | Arm::Unarmed(_) => 0,
     }
 }

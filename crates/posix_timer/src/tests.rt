@@ -1,9 +1,10 @@
+//! Tests of a POSIX timer's calls.
 ghost use Rattle.std.specs.Prelude.{◌≡◌, ◌≤◌};
 ghost use Rattle.ktime.specs.Readings.{latest};
 
 use crate::{
-    AcceptAnswer, Arm, Call, Phase, PosixState, Reply, SettimeAnswer, Setting, TriggerAnswer,
-    Wanted, few_entries, one_more_entry, times_of,
+    AcceptAnswer, Arm, BadArgument, Call, Phase, PosixState, Reply, SettimeAnswer, Setting,
+    TriggerAnswer, Wanted, few_entries, one_more_entry, times_of,
 };
 use ktime::{ClockId, Mode, Reading, TimeSpec};
 
@@ -30,13 +31,13 @@ fn ns(nsec: u64) -> TimeSpec
 #[test]
 fn a_new_timer_is_disarmed(rt: HostRuntime) {
     let timer = PosixState::make(ClockId::Realtime, 3, 100);
-    assert_eq!(rt; timer.clock(), ClockId::Realtime);
-    assert_eq!(rt; timer.base(), 3);
-    assert_eq!(rt; timer.phase(), Phase::Idle);
+    assert_eq!(rt; timer.timer().clock, ClockId::Realtime);
+    assert_eq!(rt; timer.timer().base, 3);
+    assert_eq!(rt; timer.timer().phase, Phase::Idle);
     assert!(rt; !timer.is_pending());
     assert_eq!(rt; timer.getoverrun(), 0);
-    assert_eq!(rt; timer.stamp(), 0);
-    assert_eq!(rt; timer.limit(), 100);
+    assert_eq!(rt; timer.timer().stamp, 0);
+    assert_eq!(rt; timer.timer().limit, 100);
     let setting = Setting {
         left: 0,
         interval: 0,
@@ -78,7 +79,7 @@ fn periods_that_passed_before_the_acceptance_are_overruns(rt: HostRuntime) {
     let again = timer.accept(at(135), Arm::NotAsked);
     assert_eq!(rt; again, AcceptAnswer::NoSignal);
     assert_eq!(rt; timer.getoverrun(), 3);
-    assert_eq!(rt; timer.stamp(), 4);
+    assert_eq!(rt; timer.timer().stamp, 4);
 }
 
 #[test]
@@ -107,7 +108,7 @@ fn the_overrun_stops_at_its_greatest_value(rt: HostRuntime) {
         clock: ClockId::Monotonic,
         expires: next,
     };
-    assert_eq!(rt; timer.phase(), armed);
+    assert_eq!(rt; timer.timer().phase, armed);
 }
 
 #[test]
@@ -133,11 +134,11 @@ fn a_timer_whose_expiry_has_come_has_one_nanosecond_left(rt: HostRuntime) {
     assert_eq!(rt; timer.trigger(2, at(130)), TriggerAnswer::Stale);
     assert_eq!(rt; timer.trigger(1, at(99)), TriggerAnswer::Stale);
     assert_eq!(rt; timer.trigger(1, at(130)), TriggerAnswer::Counted);
-    let due = Phase::Due {
+    let due = Phase::Expired {
         clock: ClockId::Monotonic,
         expires: 100,
     };
-    assert_eq!(rt; timer.phase(), due);
+    assert_eq!(rt; timer.timer().phase, due);
     assert!(rt; timer.is_pending());
     assert_eq!(rt;
         timer.gettime(at(134)),
@@ -169,7 +170,7 @@ fn the_limits_disarm_and_then_refuse(rt: HostRuntime) {
     );
     let answer = timer.settime(1, ns(100), ns(0), at(0), Arm::Unarmed(4));
     assert_eq!(rt; answer, SettimeAnswer::Unarmed { stamp: 4 });
-    assert_eq!(rt; timer.phase(), Phase::Idle);
+    assert_eq!(rt; timer.timer().phase, Phase::Idle);
     let answer = timer.settime(1, ns(100), ns(0), at(0), Arm::NotAsked);
     assert_eq!(rt; answer, SettimeAnswer::Spent { stamp: 3 });
     assert_eq!(rt;
@@ -194,7 +195,7 @@ fn a_relative_time_of_day_is_kept_on_the_monotonic_clock(rt: HostRuntime) {
     assert_eq!(rt; times, Ok((1_000_000_010, 7)));
     assert_eq!(rt;
         times_of(2, ns(1_000_000_000), ns(0)),
-        Err(SettimeAnswer::BadFlags)
+        Err(BadArgument::Flags)
     );
     let call = Call::Settime {
         flags: 0,
@@ -214,7 +215,7 @@ fn a_relative_time_of_day_is_kept_on_the_monotonic_clock(rt: HostRuntime) {
         clock: ClockId::Monotonic,
         expires: 1_000_000_015,
     };
-    assert_eq!(rt; timer.phase(), armed);
+    assert_eq!(rt; timer.timer().phase, armed);
     let reply = timer.apply(Call::Trigger {
         generation: 1,
         reading: at(1_000_000_015),

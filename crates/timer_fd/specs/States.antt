@@ -1,13 +1,18 @@
--- What a timer descriptor keeps, and what can be told of it without a change.
-use Rattle.std.specs.Prelude.{ℕ, ◌-◌, ◌^◌, ◌<◌, ◌≤◌, Bool, false, not, ◌&&◌, ◌||◌, nat_eq, nat_lt, List, Option, Some, None, if◌then◌else◌}
+-- What a timer descriptor keeps, the arguments that its settime takes, and what can be said of it without a change.
+use Rattle.std.specs.Prelude.{ℕ, ◌-◌, ◌+◌, ◌^◌, ◌<◌, ◌≤◌, Bool, false, not, ◌&&◌, ◌||◌, nat_eq, nat_lt, List, Option, Some, None}
 use Rattle.std.specs.Int.{to_le_bytes, w64}
 use Rattle.ktime.specs.declared.clock_id.ClockId.{ClockId}
-use Rattle.ktime.specs.Readings.{ClockReading, value_of}
-use Rattle.ktime.specs.Times.{last_time, next_after}
+use Rattle.ktime.specs.declared.clock_id.ClockId.TheVariants as clocks
+use Rattle.ktime.specs.declared.timespec.TimeSpec.{TimeSpec}
+use Rattle.ktime.specs.Readings.{ClockReading}
+use Rattle.ktime.specs.Times.{last_time}
+use Rattle.timer_setting.specs.declared.phase.Phase.{Phase}
+use Rattle.timer_setting.specs.declared.phase.Phase.TheVariants as phases
+use Rattle.timer_setting.specs.Arguments.{AreValid, abstime, bits_beyond}
+use Rattle.timer_setting.specs.Phases.{left_in}
+use Rattle.timer_setting.specs.Settimes.{IsInLimits}
 use Rattle.timer_fd.specs.declared.answers.ReadAnswer.{ReadAnswer}
 use Rattle.timer_fd.specs.declared.answers.ReadAnswer.TheVariants as reads
-use Rattle.timer_fd.specs.declared.phase.Phase.{Phase}
-use Rattle.timer_fd.specs.declared.phase.Phase.TheVariants as phases
 
 -- a timer descriptor: the clock it was made on, the base of its high-resolution timer, the interval and the phase, how many expiries wait to
 -- be read, whether a change of the real-time clock cancels the setting, how many changes of the real offset it has taken note of,
@@ -24,13 +29,27 @@ pub record Descriptor : Type 0 where
   pub limit : ℕ
 
 -- a descriptor that was just made
-abbrev pub opening : ClockId → ℕ → ℕ → Descriptor
-opening clock base limit =
+abbrev pub fd_opening : ClockId → ℕ → ℕ → Descriptor
+fd_opening clock base limit =
     record { clock = clock; base = base; interval = 0; phase = phases.Idle; count = 0; cancelable = false; seen = 0; stamp = 0; limit = limit }
 
--- the greatest limit on entries
-abbrev pub greatest_limit : ℕ
-greatest_limit = 2 ^ 48 - 16
+-- the flag of a setting that a set clock cancels (TFD_TIMER_CANCEL_ON_SET)
+abbrev pub cancel_on_set : ℕ
+cancel_on_set = 2
+
+-- the flags of a settime, that of an absolute time (TFD_TIMER_ABSTIME) with it
+abbrev pub fd_flags : ℕ
+fd_flags = abstime + cancel_on_set
+
+-- valid arguments of a settime
+abbrev pub AreFdArguments : ℕ → TimeSpec → TimeSpec → Type 0
+AreFdArguments flags value interval = AreValid (bits_beyond fd_flags flags) value interval
+
+-- a change of the real-time clock cancels a setting: one with both flags, on that clock
+abbrev pub is_cancelable : ClockId → ℕ → Bool
+is_cancelable clocks.Realtime flags = nat_eq flags fd_flags
+is_cancelable clocks.Monotonic flags = false
+is_cancelable clocks.Boottime flags = false
 
 -- the greatest count, that of 8 bytes
 abbrev pub most_count : ℕ
@@ -44,11 +63,9 @@ is_canceled t reading = t.cancelable && nat_lt t.seen reading.changes
 abbrev pub is_readable : Descriptor → ClockReading → Bool
 is_readable t reading = not (nat_eq t.count 0) || is_canceled t reading
 
--- how long until a phase's next expiry: nothing where it has come
-abbrev pub left_in : Phase → ℕ → ClockReading → ℕ
-left_in phases.Idle interval reading = 0
-left_in (phases.Armed generation clock expires) interval reading = if nat_lt (value_of clock reading) expires then expires - value_of clock reading else 0
-left_in (phases.Expired clock expires) interval reading = next_after expires (value_of clock reading) interval - value_of clock reading
+-- how long until the next expiry: nothing where it has come
+abbrev pub fd_left : Descriptor → ClockReading → ℕ
+fd_left t reading = left_in 0 t.phase t.interval reading
 
 -- the bytes that a read puts into its buffer
 abbrev pub bytes_of : ReadAnswer → Option (List ℕ)
@@ -59,15 +76,13 @@ bytes_of reads.Canceled = None
 bytes_of reads.Again = None
 
 -- what holds of a phase: only a periodic timer waits to be armed again, and then it has an expiry to be read
-abbrev pub IsRight : Phase → ℕ → ℕ → Type 0
-IsRight phases.Idle interval count = Unit
-IsRight (phases.Armed generation clock expires) interval count = expires ≤ last_time
-IsRight (phases.Expired clock expires) interval count = (expires ≤ last_time) × (0 < interval) × (0 < count)
+abbrev pub IsFdPhase : Phase → ℕ → ℕ → Type 0
+IsFdPhase phases.Idle interval count = Unit
+IsFdPhase (phases.Armed generation clock expires) interval count = expires ≤ last_time
+IsFdPhase (phases.Expired clock expires) interval count = (expires ≤ last_time) × (0 < interval) × (0 < count)
 
 -- what holds of a descriptor at all times
-pub record IsBounded (t : Descriptor) : Type 0 where
-  pub limit : t.limit ≤ greatest_limit
-  pub stamp : t.stamp ≤ t.limit
-  pub interval : t.interval ≤ last_time
-  pub count : t.count ≤ most_count
-  pub phase : IsRight t.phase t.interval t.count
+pub record FdInvariant (t : Descriptor) : Type 0 where
+  pub limits : IsInLimits t.stamp t.limit t.interval
+  pub few : t.count ≤ most_count
+  pub phased : IsFdPhase t.phase t.interval t.count

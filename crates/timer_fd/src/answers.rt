@@ -1,3 +1,4 @@
+//! What the calls of a timer descriptor answer.
 ghost use Rattle.std.specs.Prelude.{◌≡◌};
 ghost use Rattle.timer_fd.specs.States.{bytes_of};
 

@@ -2,19 +2,16 @@
 #![tactic(auto)]
 
 pub use answers::{GettimeAnswer, ReadAnswer, SettimeAnswer, TriggerAnswer};
-pub use arming::{Arm, Wanted};
 pub use calls::{Call, Reply};
 pub use fd_state::FdState;
 pub use laws::{few_entries, one_more_entry};
-pub use phase::Phase;
-pub use requests::{LAST_FLAGS, times_of};
+pub use settime_arguments::{TFD_TIMER_ABSTIME, TFD_TIMER_CANCEL_ON_SET, times_of};
+pub use timer_setting::{Arm, BadArgument, ObjectTimer, Phase, Wanted};
 
 mod answers;
-mod arming;
 mod calls;
 mod fd_state;
 mod laws;
-mod phase;
-mod requests;
+mod settime_arguments;
 #[cfg(test)]
 mod tests;

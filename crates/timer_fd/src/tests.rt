@@ -1,8 +1,9 @@
+//! Tests of a descriptor's calls.
 ghost use Rattle.std.specs.Prelude.{◌≡◌, ◌≤◌};
 ghost use Rattle.ktime.specs.Readings.{latest};
 
 use crate::{
-    Arm, Call, FdState, GettimeAnswer, Phase, ReadAnswer, Reply, SettimeAnswer, TriggerAnswer,
+    Arm, BadArgument, Call, FdState, GettimeAnswer, Phase, ReadAnswer, Reply, SettimeAnswer, TriggerAnswer,
     Wanted, few_entries, one_more_entry, times_of,
 };
 use ktime::{ClockId, Mode, Reading, TimeSpec};
@@ -44,12 +45,12 @@ fn ns(nsec: u64) -> TimeSpec
 #[test]
 fn a_new_descriptor_is_disarmed(rt: HostRuntime) {
     let descriptor = FdState::make(ClockId::Realtime, 3, 100);
-    assert_eq!(rt; descriptor.clock(), ClockId::Realtime);
-    assert_eq!(rt; descriptor.base(), 3);
-    assert_eq!(rt; descriptor.phase(), Phase::Idle);
+    assert_eq!(rt; descriptor.timer().clock, ClockId::Realtime);
+    assert_eq!(rt; descriptor.timer().base, 3);
+    assert_eq!(rt; descriptor.timer().phase, Phase::Idle);
     assert_eq!(rt; descriptor.count(), 0);
-    assert_eq!(rt; descriptor.stamp(), 0);
-    assert_eq!(rt; descriptor.limit(), 100);
+    assert_eq!(rt; descriptor.timer().stamp, 0);
+    assert_eq!(rt; descriptor.timer().limit, 100);
     assert!(rt; !descriptor.readable(set_to(50, 1)));
 }
 
@@ -90,7 +91,7 @@ fn a_read_counts_the_periods_that_passed(rt: HostRuntime) {
     assert_eq!(rt; again.bytes(), None);
     let short = descriptor.read(7, at(135), Arm::NotAsked);
     assert_eq!(rt; short, ReadAnswer::ShortBuffer);
-    assert_eq!(rt; descriptor.stamp(), 4);
+    assert_eq!(rt; descriptor.timer().stamp, 4);
 }
 
 #[test]
@@ -106,7 +107,7 @@ fn an_overdue_timer_has_nothing_left(rt: HostRuntime) {
         }
     );
     assert!(rt; !descriptor.readable(at(130)));
-    assert_eq!(rt; descriptor.stamp(), 2);
+    assert_eq!(rt; descriptor.timer().stamp, 2);
     let bad = descriptor.settime(1, ns(1_000_000_000), ns(0), at(130), Arm::NotAsked);
     assert_eq!(rt; bad, SettimeAnswer::BadTime);
 }
@@ -122,7 +123,7 @@ fn a_gettime_arms_an_expired_timer_again(rt: HostRuntime) {
         clock: ClockId::Boottime,
         expires: 100,
     };
-    assert_eq!(rt; descriptor.phase(), expired);
+    assert_eq!(rt; descriptor.timer().phase, expired);
     let wanted = descriptor.gettime_wants(at(125));
     assert_eq!(rt;
         wanted,
@@ -139,7 +140,7 @@ fn a_gettime_arms_an_expired_timer_again(rt: HostRuntime) {
             interval: 10
         }
     );
-    assert_eq!(rt; descriptor.phase(), Phase::Idle);
+    assert_eq!(rt; descriptor.timer().phase, Phase::Idle);
     let total = descriptor.read(8, at(125), Arm::NotAsked);
     assert_eq!(rt; total, ReadAnswer::Count { total: 3 });
 }
@@ -159,7 +160,7 @@ fn a_set_clock_cancels(rt: HostRuntime) {
         clock: ClockId::Realtime,
         expires: 200,
     };
-    assert_eq!(rt; descriptor.phase(), armed);
+    assert_eq!(rt; descriptor.timer().phase, armed);
     let fourth = descriptor.settime(2, ns(10), ns(0), set_to(60, 2), Arm::Armed(5));
     assert_eq!(rt;
         fourth,
@@ -175,7 +176,7 @@ fn a_set_clock_cancels(rt: HostRuntime) {
         clock: ClockId::Monotonic,
         expires: 10,
     };
-    assert_eq!(rt; descriptor.phase(), armed);
+    assert_eq!(rt; descriptor.timer().phase, armed);
 }
 
 #[test]
@@ -201,7 +202,7 @@ fn an_expiry_that_the_set_clock_took_back_is_not_counted(rt: HostRuntime) {
         clock: ClockId::Realtime,
         expires: 1000,
     };
-    assert_eq!(rt; descriptor.phase(), armed);
+    assert_eq!(rt; descriptor.timer().phase, armed);
 }
 
 #[test]
@@ -211,7 +212,7 @@ fn a_spent_descriptor_refuses_all_but_a_look(rt: HostRuntime) {
     assert_eq!(rt; times, Ok((1_000_000_010, 7)));
     assert_eq!(rt;
         times_of(4, ns(1_000_000_000), ns(0)),
-        Err(SettimeAnswer::BadFlags)
+        Err(BadArgument::Flags)
     );
     let call = Call::Settime {
         flags: 1,

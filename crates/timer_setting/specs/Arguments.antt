@@ -12,9 +12,13 @@ use Rattle.timer_setting.specs.declared.arming.Wanted.{Wanted}
 abbrev pub bits_beyond : ℕ → ℕ → ℕ
 bits_beyond mask flags = flags / (mask + 1) * (mask + 1)
 
--- the flags have the bit of an absolute time (flags & TIMER_ABSTIME)
+-- the flag of an absolute time (TIMER_ABSTIME, TFD_TIMER_ABSTIME), the lowest bit
+abbrev pub abstime : ℕ
+abstime = 1
+
+-- the flags have it (flags & TIMER_ABSTIME)
 abbrev pub is_absolute : ℕ → Bool
-is_absolute flags = not (nat_eq (flags % 2) 0)
+is_absolute flags = not (nat_eq (flags % (abstime + 1)) 0)
 
 -- so many seconds and nanoseconds as one time
 abbrev pub time_of : TimeSpec → ℕ

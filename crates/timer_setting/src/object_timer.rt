@@ -2,11 +2,12 @@
 ghost use Rattle.std.specs.Prelude.{◌≡◌, ◌≤◌, ◌<◌, ◌+◌, ◌↔◌, IsTrue};
 ghost use Rattle.ktime.specs.Times.{last_time};
 ghost use Rattle.timer_setting.specs.Phases.{HasTimelyExpiry, expired, is_expiry_of, left_in, next_start, periods_in, phase_by, rearmed};
-ghost use Rattle.timer_setting.specs.Settimes.{made_timer, most_entries, timer_expired};
+ghost use Rattle.timer_setting.specs.Settimes.{made_timer, most_entries, start_wanted, timer_expired};
 
+use crate::arguments::{start_for, times_of};
 use crate::arming::{Arm, Wanted};
 use crate::phase::{Phase, phase_after, phase_set};
-use ktime::{ClockId, Forwarded, Mode, Reading, forward};
+use ktime::{ClockId, Forwarded, Mode, Reading, TimeSpec, forward};
 
 /// The timer that an object keeps. `clock` is the one that it was made on, `base` that of its high-resolution timer, `stamp` how many
 /// entries the object's history has, and `limit` the limit on them.
@@ -42,10 +43,29 @@ impl ObjectTimer {
         self.stamp >= self.limit
     }
 
+    /// The start that a settime with these arguments wants: none where it is refused, and none where its value is zero. `unknown` has
+    /// the bits of the flags that are none of the call's flags.
+    pub fn settime_start(
+        &self,
+        unknown: u64,
+        flags: u64,
+        value: TimeSpec,
+        interval: TimeSpec,
+    ) -> Option<Wanted>
+        ensures { result ≡ start_wanted self.now.stamp self.now.limit unknown flags value interval }
+    {
+        let (value, _) = times_of(unknown, value, interval).ok()?;
+        if self.is_spent() {
+            return None;
+        }
+        start_for(flags, value)
+    }
+
     /// How long until the next expiry, in nanoseconds; `overdue` where an armed timer's expiry has come.
     pub fn left(&self, overdue: u64, reading: Reading) -> u64
         requires expires { HasTimelyExpiry self.now.phase }
-        ensures { result ≡ left_in overdue self.now.phase self.now.interval reading }
+        ensures left { result ≡ left_in overdue self.now.phase self.now.interval reading }
+        ensures none { 0 < overdue → (result ≡ 0) ↔ (self.now.phase ≡ Phase.Idle) }
     {
         match self.phase {
             Phase::Idle => 0,
