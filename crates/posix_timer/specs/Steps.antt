@@ -6,11 +6,10 @@ use Rattle.ktime.specs.Times.{last_time}
 use Rattle.timer_setting.specs.declared.arming.Wanted.{Wanted}
 use Rattle.timer_setting.specs.declared.arming.Arm.{Arm}
 use Rattle.timer_setting.specs.declared.arming.Arm.TheVariants as arms
-use Rattle.timer_setting.specs.declared.phase.Phase.{Phase}
 use Rattle.timer_setting.specs.Arguments.{abstime, bits_beyond, start_by}
 use Rattle.timer_setting.specs.Phases.{IsOutcomeOf, expired, is_expiry_of, next_start, periods_in, phase_by, rearmed}
 use Rattle.timer_setting.specs.Settimes.{start_wanted}
-use Rattle.timer_setting.specs.StepTables.{StepTable}
+use Rattle.timer_setting.specs.StepTables.{StepTable, full_refusal, settime_refusal}
 use Rattle.posix_timer.specs.declared.answers.SettimeAnswer.{SettimeAnswer}
 use Rattle.posix_timer.specs.declared.answers.SettimeAnswer.TheVariants as settings
 use Rattle.posix_timer.specs.declared.answers.TriggerAnswer.TheVariants as triggers
@@ -95,3 +94,15 @@ posix_answer t (calls.Accept reading arm) = replies.Accept (if t.pending then ac
 -- the whole table
 abbrev pub posix_table : StepTable PosixTimer Call Reply
 posix_table = record { allows = PosixAllows; next = posix_step; answer = posix_answer }
+
+-- why a settime is refused, if it is
+abbrev pub posix_settime_refusal : PosixTimer → ℕ → TimeSpec → TimeSpec → Option Reply
+posix_settime_refusal t flags value interval =
+    settime_refusal (replies.Settime settings.BadFlags) (replies.Settime settings.BadTime) (λ stamp. replies.Settime (settings.Spent stamp)) (bits_beyond abstime flags) value interval t.stamp t.limit
+
+-- why an expiry is, and an acceptance
+abbrev pub posix_trigger_refusal : PosixTimer → Option Reply
+posix_trigger_refusal t = full_refusal (λ stamp. replies.Trigger (triggers.Spent stamp)) t.stamp t.limit
+
+abbrev pub accept_refusal : PosixTimer → Option Reply
+accept_refusal t = full_refusal (λ stamp. replies.Accept (acceptances.Spent stamp)) t.stamp t.limit

@@ -4,8 +4,9 @@ ghost use Rattle.ktime.specs.Times.{last_time, second};
 ghost use Rattle.timer_setting.specs.Arguments.{abstime, bits_beyond, time_of};
 ghost use Rattle.timer_setting.specs.Phases.{IsOutcomeOf};
 ghost use Rattle.timer_setting.specs.Settimes.{most_entries};
+ghost use Rattle.timer_setting.specs.StepTables.{IsAnswered};
 ghost use Rattle.posix_timer.specs.States.{PosixTimer, ArePosixArguments, PosixInvariant, posix_opening, setting_of};
-ghost use Rattle.posix_timer.specs.Steps.{PosixAllows, accept_wanted, accepted, kept_by, posix_answer, posix_set, posix_set_answer, posix_settime_wanted, posix_step, posix_triggered};
+ghost use Rattle.posix_timer.specs.Steps.{PosixAllows, accept_refusal, accept_wanted, accepted, kept_by, posix_answer, posix_set, posix_set_answer, posix_settime_wanted, posix_settime_refusal, posix_step, posix_table, posix_trigger_refusal, posix_triggered};
 ghost use Rattle.posix_timer.specs.declared.calls.Call.TheVariants as calls;
 ghost use Rattle.posix_timer.specs.declared.calls.Reply.TheVariants as replies;
 
@@ -93,12 +94,7 @@ impl PosixState {
         arm: Arm,
     ) -> SettimeAnswer
         requires asked { IsOutcomeOf arm (posix_settime_wanted self.old flags value interval) }
-        ensures flags { (result ≡ SettimeAnswer.BadFlags) ↔ (0 < bits_beyond abstime flags) }
-        ensures time { (result ≡ SettimeAnswer.BadTime) ↔ ((bits_beyond abstime flags ≡ 0) × ((second ≤ value.nsec) ⊎ (second ≤ interval.nsec))) }
-        ensures spent { (stamp : ℕ) → (result ≡ SettimeAnswer.Spent stamp) ↔ (ArePosixArguments flags value interval × (self.old.limit ≤ self.old.stamp) × (stamp ≡ self.old.stamp)) }
-        ensures refused { (ArePosixArguments flags value interval × (self.old.stamp < self.old.limit)) ⊎ (self.new ≡ self.old) }
-        ensures state { ArePosixArguments flags value interval → self.old.stamp < self.old.limit → self.new ≡ posix_step self.old (calls.Settime flags (time_of value) (time_of interval) reading arm) }
-        ensures answer { ArePosixArguments flags value interval → self.old.stamp < self.old.limit → replies.Settime result ≡ posix_answer self.old (calls.Settime flags (time_of value) (time_of interval) reading arm) }
+        ensures { IsAnswered posix_table (posix_settime_refusal self.old flags value interval) self.old (calls.Settime flags (time_of value) (time_of interval) reading arm) (replies.Settime result) self.new }
     {
         let (value, interval) = match times_of(flags, value, interval) {
             Ok(times) => times,
@@ -126,10 +122,7 @@ impl PosixState {
 
     /// The high-resolution timer's function runs for this generation (`posix_timer_fn`).
     pub fn trigger(&mut self, generation: u64, reading: Reading) -> TriggerAnswer
-        ensures spent { (stamp : ℕ) → (result ≡ TriggerAnswer.Spent stamp) ↔ ((self.old.limit ≤ self.old.stamp) × (stamp ≡ self.old.stamp)) }
-        ensures refused { (self.old.stamp < self.old.limit) ⊎ (self.new ≡ self.old) }
-        ensures state { self.old.stamp < self.old.limit → self.new ≡ posix_step self.old (calls.Trigger generation reading) }
-        ensures answer { self.old.stamp < self.old.limit → replies.Trigger result ≡ posix_answer self.old (calls.Trigger generation reading) }
+        ensures { IsAnswered posix_table (posix_trigger_refusal self.old) self.old (calls.Trigger generation reading) (replies.Trigger result) self.new }
     {
         if self.timer.is_spent() {
             return TriggerAnswer::Spent {
@@ -152,10 +145,7 @@ impl PosixState {
     /// Accepts the pending signal (`sigwaitinfo`). Its overrun counts the periods that have passed since it was generated.
     pub fn accept(&mut self, reading: Reading, arm: Arm) -> AcceptAnswer
         requires asked { IsOutcomeOf arm (accept_wanted self.old reading) }
-        ensures spent { (stamp : ℕ) → (result ≡ AcceptAnswer.Spent stamp) ↔ ((self.old.limit ≤ self.old.stamp) × (stamp ≡ self.old.stamp)) }
-        ensures refused { (self.old.stamp < self.old.limit) ⊎ (self.new ≡ self.old) }
-        ensures state { self.old.stamp < self.old.limit → self.new ≡ posix_step self.old (calls.Accept reading arm) }
-        ensures answer { self.old.stamp < self.old.limit → replies.Accept result ≡ posix_answer self.old (calls.Accept reading arm) }
+        ensures { IsAnswered posix_table (accept_refusal self.old) self.old (calls.Accept reading arm) (replies.Accept result) self.new }
     {
         if self.timer.is_spent() {
             return AcceptAnswer::Spent {

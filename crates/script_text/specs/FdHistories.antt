@@ -1,5 +1,5 @@
 -- The history of a timer descriptor that a record tells.
-use Rattle.std.specs.Prelude.{ℕ, if◌then◌else◌, Option, Some, None, List}
+use Rattle.std.specs.Prelude.{if◌then◌else◌, Option, Some, None, List}
 use Rattle.record_text.specs.declared.record.ClockLine.{ClockLine}
 use Rattle.record_text.specs.declared.record.Armed.{Armed}
 use Rattle.record_text.specs.declared.record.Armed.TheVariants as armings

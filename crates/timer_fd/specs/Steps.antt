@@ -11,7 +11,7 @@ use Rattle.timer_setting.specs.declared.phase.Phase.TheVariants as phases
 use Rattle.timer_setting.specs.Arguments.{bits_beyond, start_by}
 use Rattle.timer_setting.specs.Phases.{IsOutcomeOf, expired, is_expiry_of, next_start, periods_in, phase_by, rearmed}
 use Rattle.timer_setting.specs.Settimes.{start_wanted}
-use Rattle.timer_setting.specs.StepTables.{StepTable}
+use Rattle.timer_setting.specs.StepTables.{StepTable, full_refusal, settime_refusal}
 use Rattle.timer_fd.specs.declared.answers.SettimeAnswer.{SettimeAnswer}
 use Rattle.timer_fd.specs.declared.answers.SettimeAnswer.TheVariants as settings
 use Rattle.timer_fd.specs.declared.answers.TriggerAnswer.TheVariants as triggers
@@ -133,3 +133,20 @@ fd_answer t (calls.Gettime reading arm) = replies.Gettime (lefts.Left (left_by a
 -- the whole table
 abbrev pub fd_table : StepTable Descriptor Call Reply
 fd_table = record { allows = FdAllows; next = fd_step; answer = fd_answer }
+
+-- why a settime is refused, if it is
+abbrev pub fd_settime_refusal : Descriptor → ℕ → TimeSpec → TimeSpec → Option Reply
+fd_settime_refusal t flags value interval =
+    settime_refusal (replies.Settime settings.BadFlags) (replies.Settime settings.BadTime) (λ stamp. replies.Settime (settings.Spent stamp)) (bits_beyond fd_flags flags) value interval t.stamp t.limit
+
+-- why an expiry is
+abbrev pub fd_trigger_refusal : Descriptor → Option Reply
+fd_trigger_refusal t = full_refusal (λ stamp. replies.Trigger (triggers.Spent stamp)) t.stamp t.limit
+
+-- why a read into a buffer of this length is: a buffer that is too short comes first
+abbrev pub read_refusal : Descriptor → ℕ → Option Reply
+read_refusal t len = if nat_lt len count_length then Some (replies.Read reads.ShortBuffer) else full_refusal (λ stamp. replies.Read (reads.Spent stamp)) t.stamp t.limit
+
+-- why a gettime is
+abbrev pub gettime_refusal : Descriptor → Option Reply
+gettime_refusal t = full_refusal (λ stamp. replies.Gettime (lefts.Spent stamp)) t.stamp t.limit

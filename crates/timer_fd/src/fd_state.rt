@@ -4,8 +4,9 @@ ghost use Rattle.ktime.specs.Times.{last_time, second};
 ghost use Rattle.timer_setting.specs.Arguments.{bits_beyond, time_of};
 ghost use Rattle.timer_setting.specs.Phases.{IsOutcomeOf};
 ghost use Rattle.timer_setting.specs.Settimes.{most_entries};
+ghost use Rattle.timer_setting.specs.StepTables.{IsAnswered};
 ghost use Rattle.timer_fd.specs.States.{Descriptor, AreFdArguments, FdInvariant, fd_flags, fd_opening, is_canceled, is_readable};
-ghost use Rattle.timer_fd.specs.Steps.{FdAllows, count_length, fd_answer, fd_got, fd_read, fd_read_answer, fd_set, fd_set_answer, fd_settime_wanted, fd_step, fd_triggered, gettime_wanted, read_wanted, total_of};
+ghost use Rattle.timer_fd.specs.Steps.{FdAllows, count_length, fd_answer, fd_got, fd_read, fd_read_answer, fd_set, fd_set_answer, fd_settime_wanted, fd_settime_refusal, fd_step, fd_table, fd_trigger_refusal, fd_triggered, gettime_refusal, gettime_wanted, read_refusal, read_wanted, total_of};
 ghost use Rattle.timer_fd.specs.declared.calls.Call.TheVariants as calls;
 ghost use Rattle.timer_fd.specs.declared.calls.Reply.TheVariants as replies;
 
@@ -96,12 +97,7 @@ impl FdState {
         arm: Arm,
     ) -> SettimeAnswer
         requires asked { IsOutcomeOf arm (fd_settime_wanted self.old flags value interval) }
-        ensures flags { (result ≡ SettimeAnswer.BadFlags) ↔ (0 < bits_beyond fd_flags flags) }
-        ensures time { (result ≡ SettimeAnswer.BadTime) ↔ ((bits_beyond fd_flags flags ≡ 0) × ((second ≤ value.nsec) ⊎ (second ≤ interval.nsec))) }
-        ensures spent { (stamp : ℕ) → (result ≡ SettimeAnswer.Spent stamp) ↔ (AreFdArguments flags value interval × (self.old.limit ≤ self.old.stamp) × (stamp ≡ self.old.stamp)) }
-        ensures refused { (AreFdArguments flags value interval × (self.old.stamp < self.old.limit)) ⊎ (self.new ≡ self.old) }
-        ensures state { AreFdArguments flags value interval → self.old.stamp < self.old.limit → self.new ≡ fd_step self.old (calls.Settime flags (time_of value) (time_of interval) reading arm) }
-        ensures answer { AreFdArguments flags value interval → self.old.stamp < self.old.limit → replies.Settime result ≡ fd_answer self.old (calls.Settime flags (time_of value) (time_of interval) reading arm) }
+        ensures { IsAnswered fd_table (fd_settime_refusal self.old flags value interval) self.old (calls.Settime flags (time_of value) (time_of interval) reading arm) (replies.Settime result) self.new }
     {
         let (value, interval) = match times_of(flags, value, interval) {
             Ok(times) => times,
@@ -118,10 +114,7 @@ impl FdState {
 
     /// The high-resolution timer's function runs for this generation (`timerfd_tmrproc`).
     pub fn trigger(&mut self, generation: u64, reading: Reading) -> TriggerAnswer
-        ensures spent { (stamp : ℕ) → (result ≡ TriggerAnswer.Spent stamp) ↔ ((self.old.limit ≤ self.old.stamp) × (stamp ≡ self.old.stamp)) }
-        ensures refused { (self.old.stamp < self.old.limit) ⊎ (self.new ≡ self.old) }
-        ensures state { self.old.stamp < self.old.limit → self.new ≡ fd_step self.old (calls.Trigger generation reading) }
-        ensures answer { self.old.stamp < self.old.limit → replies.Trigger result ≡ fd_answer self.old (calls.Trigger generation reading) }
+        ensures { IsAnswered fd_table (fd_trigger_refusal self.old) self.old (calls.Trigger generation reading) (replies.Trigger result) self.new }
     {
         if self.timer.is_spent() {
             return TriggerAnswer::Spent {
@@ -147,11 +140,7 @@ impl FdState {
     /// Reads how often the timer has expired, and begins to count anew. `len` is the length of the buffer in bytes.
     pub fn read(&mut self, len: u64, reading: Reading, arm: Arm) -> ReadAnswer
         requires asked { IsOutcomeOf arm (read_wanted self.old len reading) }
-        ensures short { (result ≡ ReadAnswer.ShortBuffer) ↔ (len < count_length) }
-        ensures spent { (stamp : ℕ) → (result ≡ ReadAnswer.Spent stamp) ↔ ((count_length ≤ len) × (self.old.limit ≤ self.old.stamp) × (stamp ≡ self.old.stamp)) }
-        ensures refused { ((count_length ≤ len) × (self.old.stamp < self.old.limit)) ⊎ (self.new ≡ self.old) }
-        ensures state { count_length ≤ len → self.old.stamp < self.old.limit → self.new ≡ fd_step self.old (calls.Read reading arm) }
-        ensures answer { count_length ≤ len → self.old.stamp < self.old.limit → replies.Read result ≡ fd_answer self.old (calls.Read reading arm) }
+        ensures { IsAnswered fd_table (read_refusal self.old len) self.old (calls.Read reading arm) (replies.Read result) self.new }
     {
         if len < COUNT_LENGTH {
             return ReadAnswer::ShortBuffer;
@@ -178,10 +167,7 @@ impl FdState {
     /// periods that have passed are counted.
     pub fn gettime(&mut self, reading: Reading, arm: Arm) -> GettimeAnswer
         requires asked { IsOutcomeOf arm (gettime_wanted self.old reading) }
-        ensures spent { (stamp : ℕ) → (result ≡ GettimeAnswer.Spent stamp) ↔ ((self.old.limit ≤ self.old.stamp) × (stamp ≡ self.old.stamp)) }
-        ensures refused { (self.old.stamp < self.old.limit) ⊎ (self.new ≡ self.old) }
-        ensures state { self.old.stamp < self.old.limit → self.new ≡ fd_step self.old (calls.Gettime reading arm) }
-        ensures answer { self.old.stamp < self.old.limit → replies.Gettime result ≡ fd_answer self.old (calls.Gettime reading arm) }
+        ensures { IsAnswered fd_table (gettime_refusal self.old) self.old (calls.Gettime reading arm) (replies.Gettime result) self.new }
     {
         if self.timer.is_spent() {
             return GettimeAnswer::Spent {

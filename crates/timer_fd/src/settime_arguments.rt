@@ -23,11 +23,7 @@ pub(crate) fn unknown_flags(flags: u64) -> u64
 }
 
 /// A settime's value and interval in nanoseconds, or why its arguments are refused.
-pub fn times_of(
-    flags: u64,
-    value: TimeSpec,
-    interval: TimeSpec,
-) -> Result<(u64, u64), BadArgument>
+pub fn times_of(flags: u64, value: TimeSpec, interval: TimeSpec) -> Result<(u64, u64), BadArgument>
     ensures { result ≡ checked_times (bits_beyond fd_flags flags) value interval }
 {
     timer_setting::times_of(unknown_flags(flags), value, interval)

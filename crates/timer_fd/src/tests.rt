@@ -3,8 +3,8 @@ ghost use Rattle.std.specs.Prelude.{◌≡◌, ◌≤◌};
 ghost use Rattle.ktime.specs.Readings.{latest};
 
 use crate::{
-    Arm, BadArgument, Call, FdState, GettimeAnswer, Phase, ReadAnswer, Reply, SettimeAnswer, TriggerAnswer,
-    Wanted, few_entries, one_more_entry, times_of,
+    Arm, BadArgument, Call, FdState, GettimeAnswer, Phase, ReadAnswer, Reply, SettimeAnswer,
+    TriggerAnswer, Wanted, few_entries, one_more_entry, times_of,
 };
 use ktime::{ClockId, Mode, Reading, TimeSpec};
 

@@ -71,7 +71,11 @@ impl ObjectTimer {
             Phase::Idle => 0,
             Phase::Armed { clock, expires, .. } => {
                 let now = reading.value(clock);
-                if now < expires { expires - now } else { overdue }
+                if now < expires {
+                    expires - now
+                } else {
+                    overdue
+                }
             }
             Phase::Expired { clock, expires } => {
                 let now = reading.value(clock);
