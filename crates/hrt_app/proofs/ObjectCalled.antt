@@ -17,7 +17,7 @@ use Rattle.script_text.specs.Calls.{Does, IsSeen, IsTrueEntry}
 use Rattle.script_text.specs.Actions.{Action, Made, Tells, also, numbers_of_object, wrote}
 use Rattle.script_text.specs.Fits.{object_steps_on, steps_on}
 use Rattle.script_text.specs.Histories.{clock_of, lines_of_timer}
-use Rattle.script_text.specs.Objects.{armed_after, fd_after, fd_armed, posix_after, posix_armed, kind_of, object_entries, lines_of_object, present}
+use Rattle.script_text.specs.Objects.{armed_after, armed_in, fd_after, posix_after, kind_of, object_entries, lines_of_object, present}
 use Rattle.script_text.specs.PosixHistories as posix_lines
 use Rattle.script_text.specs.FdHistories as fd_lines
 use Rattle.script_text.specs.Order.{NeverFall}
@@ -60,8 +60,8 @@ posix_is s from below i now end t run e =
     let more = grown_entries from (lines_of_object now i) (lines_of_object end i) (e.objects i) in
     let es = map (λ (l : ObjectLine). l.entry) (lines_of_object now i) in
     let f = posix_lines.posix_entry end.clock in
-    ap (λ n. posix.state_after (clock_of s i) t.base s.limit (take n (present (map f (object_entries end i))))) (sym (length-map (lines_of_object now i) (λ (l : ObjectLine). l.entry)))
-    ∙ ap (λ xs. posix.state_after (clock_of s i) t.base s.limit xs) (taken_present f es more.rest (object_entries end i) more.more led.all)
+    ap (λ n. posix.posix_state_after (clock_of s i) t.base s.limit (take n (present (map f (object_entries end i))))) (sym (length-map (lines_of_object now i) (λ (l : ObjectLine). l.entry)))
+    ∙ ap (λ xs. posix.posix_state_after (clock_of s i) t.base s.limit xs) (taken_present f es more.rest (object_entries end i) more.more led.all)
     ∙ led.state
 
 pub fd_is : (s : Script) (from below i : ℕ) (now end : RunRecord) (t : Descriptor) → IsObjectRun s from below i now.clock (lines_of_object now i) (Fd t) → Extends from now end → fd_after s end i t.base (length (lines_of_object now i)) ≡ t
@@ -70,16 +70,16 @@ fd_is s from below i now end t run e =
     let more = grown_entries from (lines_of_object now i) (lines_of_object end i) (e.objects i) in
     let es = map (λ (l : ObjectLine). l.entry) (lines_of_object now i) in
     let f = fd_lines.fd_entry end.clock in
-    ap (λ n. fd.state_after (clock_of s i) t.base s.limit (take n (present (map f (object_entries end i))))) (sym (length-map (lines_of_object now i) (λ (l : ObjectLine). l.entry)))
-    ∙ ap (λ xs. fd.state_after (clock_of s i) t.base s.limit xs) (taken_present f es more.rest (object_entries end i) more.more led.all)
+    ap (λ n. fd.fd_state_after (clock_of s i) t.base s.limit (take n (present (map f (object_entries end i))))) (sym (length-map (lines_of_object now i) (λ (l : ObjectLine). l.entry)))
+    ∙ ap (λ xs. fd.fd_state_after (clock_of s i) t.base s.limit xs) (taken_present f es more.rest (object_entries end i) more.more led.all)
     ∙ led.state
 
 -- how an object has armed its timer after the entries so far
 pub armed_is : (s : Script) (from below i : ℕ) (now end : RunRecord) (o : Object) → IsObjectRun s from below i now.clock (lines_of_object now i) o → Extends from now end
     → armed_after s end i (length (lines_of_object now i)) (kind_of s i) ≡ object_armed o
 armed_is s from below i now end (Raw callback) run e = ap (armed_after s end i (length (lines_of_object now i))) run.made
-armed_is s from below i now end (Posix t) run e = ap (armed_after s end i (length (lines_of_object now i))) run.made.0 ∙ ap (λ (x : PosixTimer). posix_armed x.phase) (posix_is s from below i now end t run e)
-armed_is s from below i now end (Fd t) run e = ap (armed_after s end i (length (lines_of_object now i))) run.made.0 ∙ ap (λ (x : Descriptor). fd_armed x.phase) (fd_is s from below i now end t run e)
+armed_is s from below i now end (Posix t) run e = ap (armed_after s end i (length (lines_of_object now i))) run.made.0 ∙ ap (λ (x : PosixTimer). armed_in x.phase) (posix_is s from below i now end t run e)
+armed_is s from below i now end (Fd t) run e = ap (armed_after s end i (length (lines_of_object now i))) run.made.0 ∙ ap (λ (x : Descriptor). armed_in x.phase) (fd_is s from below i now end t run e)
 
 -- a call that makes an entry of an object, after what it did to the object's timer
 pub object_turn : (s : Script) (number t : ℕ) (p q : Progress) (ds : List Action) (x : ObjectStep) (call : Call) (answer : Answer) → IsRun s number number p → Phase s number p q ds → IsObjectStep s q number t x

@@ -2,13 +2,18 @@
 use Rattle.std.proofs.Common.{refl, sym, ap, ◌∙◌, subst, ◌≡◌, ℕ, ◌+◌, Bool, true, false, is_some, if◌then◌else◌, nat_eq, Option, Some, None, List, [], ◌∷◌, ◌++◌, map}
 use Rattle.std.proofs.lemmas.List.{map-append}
 use Rattle.std.specs.List.{AllByRecursion}
+use Rattle.timer_setting.specs.Phases as phased
+use Rattle.timer_setting.specs.StepTables.{AnsweredCall, AreCalls}
+use Rattle.timer_setting.proofs.Calls.{AreCalls-append, after_calls-append}
 use Rattle.posix_timer.specs.declared.calls.Call as posix_calls
+use Rattle.posix_timer.specs.declared.calls.Reply as posix_replies
 use Rattle.posix_timer.specs.declared.calls.Call.TheVariants as posix_variants
 use Rattle.posix_timer.specs.States.{PosixTimer}
 use Rattle.posix_timer.specs.States as posix_states
 use Rattle.posix_timer.specs.Steps as posix_steps
 use Rattle.posix_timer.specs.Histories as posix
 use Rattle.timer_fd.specs.declared.calls.Call as fd_calls
+use Rattle.timer_fd.specs.declared.calls.Reply as fd_replies
 use Rattle.timer_fd.specs.declared.calls.Call.TheVariants as fd_variants
 use Rattle.timer_fd.specs.States.{Descriptor}
 use Rattle.timer_fd.specs.States as fd_states
@@ -36,14 +41,14 @@ IsMadeAs s i (Fd t) = (kind_of s i ≡ kinds.Fd t.base) × (t.clock ≡ clock_of
 -- entries, read with these writes of the clock, are a POSIX timer's history, and leave it so
 pub record IsPosixLed (s : Script) (clock : List ClockLine) (i : ℕ) (es : List ObjectEntry) (t : PosixTimer) : Type 0 where
   pub all : AllByRecursion (λ e. is_some (posix_lines.posix_entry clock e) ≡ true) es
-  pub legal : posix.IsLegal (clock_of s i) t.base s.limit (present (map (posix_lines.posix_entry clock) es))
-  pub state : posix.state_after (clock_of s i) t.base s.limit (present (map (posix_lines.posix_entry clock) es)) ≡ t
+  pub legal : posix.IsPosixHistory (clock_of s i) t.base s.limit (present (map (posix_lines.posix_entry clock) es))
+  pub state : posix.posix_state_after (clock_of s i) t.base s.limit (present (map (posix_lines.posix_entry clock) es)) ≡ t
 
 -- a descriptor's
 pub record IsFdLed (s : Script) (clock : List ClockLine) (i : ℕ) (es : List ObjectEntry) (t : Descriptor) : Type 0 where
   pub all : AllByRecursion (λ e. is_some (fd_lines.fd_entry clock e) ≡ true) es
-  pub legal : fd.IsLegal (clock_of s i) t.base s.limit (present (map (fd_lines.fd_entry clock) es))
-  pub state : fd.state_after (clock_of s i) t.base s.limit (present (map (fd_lines.fd_entry clock) es)) ≡ t
+  pub legal : fd.IsFdHistory (clock_of s i) t.base s.limit (present (map (fd_lines.fd_entry clock) es))
+  pub state : fd.fd_state_after (clock_of s i) t.base s.limit (present (map (fd_lines.fd_entry clock) es)) ≡ t
 
 -- those of an object; a timer by itself has none
 abbrev pub IsLed : Script → List ClockLine → ℕ → List ObjectEntry → Object → Type 0
@@ -53,14 +58,14 @@ IsLed s clock i es (Fd t) = IsFdLed s clock i es t
 
 -- the object takes the call
 abbrev pub Allows : Object → ObjectCall → Type 0
-Allows (Posix t) (OfPosix call) = posix_steps.Needs t call
-Allows (Fd t) (OfFd call) = fd_steps.Needs t call
+Allows (Posix t) (OfPosix call) = posix_steps.PosixAllows t call
+Allows (Fd t) (OfFd call) = fd_steps.FdAllows t call
 Allows o call = ⊥
 
 -- an entry, read with these writes of the clock, is this call on the object, with its answer
 abbrev pub ShowsCall : List ClockLine → Object → ObjectCall → ObjectEntry → Type 0
-ShowsCall clock (Posix t) (OfPosix call) e = posix_lines.posix_entry clock e ≡ Some (record { call = call; reply = posix_steps.reply_to t call })
-ShowsCall clock (Fd t) (OfFd call) e = fd_lines.fd_entry clock e ≡ Some (record { call = call; reply = fd_steps.reply_to t call })
+ShowsCall clock (Posix t) (OfPosix call) e = posix_lines.posix_entry clock e ≡ Some (record { call = call; reply = posix_steps.posix_answer t call })
+ShowsCall clock (Fd t) (OfFd call) e = fd_lines.fd_entry clock e ≡ Some (record { call = call; reply = fd_steps.fd_answer t call })
 ShowsCall clock o call e = ⊥
 
 pub either : {A : Type 0} (P : A → Type 0) (b : Bool) (x y : A) → P x → P y → P (if b then x else y)
@@ -74,10 +79,10 @@ pub record IsPosixNext (t n : PosixTimer) : Type 0 where
   pub limit : n.limit ≡ t.limit
   pub counted : n.stamp ≡ t.stamp + 1
 
-pub posix_next : (t : PosixTimer) (call : posix_calls.Call) → IsPosixNext t (posix_steps.after t call)
+pub posix_next : (t : PosixTimer) (call : posix_calls.Call) → IsPosixNext t (posix_steps.posix_step t call)
 posix_next t (posix_variants.Settime flags value interval reading arm) = record { clock = refl; base = refl; limit = refl; counted = refl }
 posix_next t (posix_variants.Trigger generation reading) =
-    either (IsPosixNext t) (posix_steps.counts t.phase generation reading) _ _ (record { clock = refl; base = refl; limit = refl; counted = refl }) (record { clock = refl; base = refl; limit = refl; counted = refl })
+    either (IsPosixNext t) (phased.is_expiry_of t.phase generation reading) _ _ (record { clock = refl; base = refl; limit = refl; counted = refl }) (record { clock = refl; base = refl; limit = refl; counted = refl })
 posix_next t (posix_variants.Accept reading arm) =
     either (IsPosixNext t) t.pending _ _ (record { clock = refl; base = refl; limit = refl; counted = refl }) (record { clock = refl; base = refl; limit = refl; counted = refl })
 
@@ -87,10 +92,10 @@ pub record IsFdNext (t n : Descriptor) : Type 0 where
   pub limit : n.limit ≡ t.limit
   pub counted : n.stamp ≡ t.stamp + 1
 
-pub fd_next : (t : Descriptor) (call : fd_calls.Call) → IsFdNext t (fd_steps.after t call)
+pub fd_next : (t : Descriptor) (call : fd_calls.Call) → IsFdNext t (fd_steps.fd_step t call)
 fd_next t (fd_variants.Settime flags value interval reading arm) = record { clock = refl; base = refl; limit = refl; counted = refl }
 fd_next t (fd_variants.Trigger generation reading) =
-    either (IsFdNext t) (fd_steps.counts t.phase generation reading) _ _ (record { clock = refl; base = refl; limit = refl; counted = refl }) (record { clock = refl; base = refl; limit = refl; counted = refl })
+    either (IsFdNext t) (phased.is_expiry_of t.phase generation reading) _ _ (record { clock = refl; base = refl; limit = refl; counted = refl }) (record { clock = refl; base = refl; limit = refl; counted = refl })
 fd_next t (fd_variants.Read reading arm) =
     either (IsFdNext t) (fd_states.is_canceled t reading) _ _ (record { clock = refl; base = refl; limit = refl; counted = refl })
     (either (IsFdNext t) (nat_eq t.count 0) _ _ (record { clock = refl; base = refl; limit = refl; counted = refl }) (record { clock = refl; base = refl; limit = refl; counted = refl }))
@@ -105,56 +110,40 @@ present_append (Some x ∷ xs) ys = ap (λ zs. x ∷ zs) (present_append xs ys)
 present_push : {A : Type 0} (f : ObjectEntry → Option A) (es : List ObjectEntry) (e : ObjectEntry) (x : A) → f e ≡ Some x → present (map f (es ++ e ∷ [])) ≡ present (map f es) ++ x ∷ []
 present_push f es e x shows = ap present (map-append f es (e ∷ [])) ∙ present_append (map f es) (f e ∷ []) ∙ ap (λ o. present (map f es) ++ present (o ∷ [])) shows
 
-posix_after-append : (t : PosixTimer) (xs ys : List posix.Entry) → posix.after_all t (xs ++ ys) ≡ posix.after_all (posix.after_all t xs) ys
-posix_after-append t [] ys = refl
-posix_after-append t (x ∷ xs) ys = posix_after-append (posix_steps.after t x.call) xs ys
-
-posix_steps-append : (t : PosixTimer) (xs ys : List posix.Entry) → posix.AreSteps t xs → posix.AreSteps (posix.after_all t xs) ys → posix.AreSteps t (xs ++ ys)
-posix_steps-append t [] ys a b = b
-posix_steps-append t (x ∷ xs) ys a b = (a.0, a.1, posix_steps-append (posix_steps.after t x.call) xs ys a.2 b)
-
-fd_after-append : (t : Descriptor) (xs ys : List fd.Entry) → fd.after_all t (xs ++ ys) ≡ fd.after_all (fd.after_all t xs) ys
-fd_after-append t [] ys = refl
-fd_after-append t (x ∷ xs) ys = fd_after-append (fd_steps.after t x.call) xs ys
-
-fd_steps-append : (t : Descriptor) (xs ys : List fd.Entry) → fd.AreSteps t xs → fd.AreSteps (fd.after_all t xs) ys → fd.AreSteps t (xs ++ ys)
-fd_steps-append t [] ys a b = b
-fd_steps-append t (x ∷ xs) ys a b = (a.0, a.1, fd_steps-append (fd_steps.after t x.call) xs ys a.2 b)
-
 posix_led : (s : Script) (clock : List ClockLine) (i : ℕ) (es : List ObjectEntry) (t : PosixTimer) (call : posix_calls.Call) (e : ObjectEntry) → IsPosixLed s clock i es t
-    → posix_steps.Needs t call → posix_lines.posix_entry clock e ≡ Some (record { call = call; reply = posix_steps.reply_to t call }) → IsPosixLed s clock i (es ++ e ∷ []) (posix_steps.after t call)
+    → posix_steps.PosixAllows t call → posix_lines.posix_entry clock e ≡ Some (record { call = call; reply = posix_steps.posix_answer t call }) → IsPosixLed s clock i (es ++ e ∷ []) (posix_steps.posix_step t call)
 posix_led s clock i es t call e led needs shows =
     let next = posix_next t call in
-    let x : posix.Entry = record { call = call; reply = posix_steps.reply_to t call } in
+    let x : AnsweredCall posix_calls.Call posix_replies.Reply = record { call = call; reply = posix_steps.posix_answer t call } in
     let now = present (map (posix_lines.posix_entry clock) es) in
     let more = present_push (posix_lines.posix_entry clock) es e x shows in
-    let opening = posix_states.opening (clock_of s i) t.base s.limit in
+    let opening = posix_states.posix_opening (clock_of s i) t.base s.limit in
     record {
       all = All-append (λ o. is_some (posix_lines.posix_entry clock o) ≡ true) es (e ∷ []) led.all (ap is_some shows, tt);
-      legal = subst (λ xs. posix.IsLegal (clock_of s i) (posix_steps.after t call).base s.limit xs) (sym more)
-          (subst (λ b. posix.IsLegal (clock_of s i) b s.limit (now ++ x ∷ [])) (sym next.base)
-          (posix_steps-append opening now (x ∷ []) led.legal (subst (λ u. posix.AreSteps u (x ∷ [])) (sym led.state) (needs, refl, tt))));
-      state = ap (λ xs. posix.state_after (clock_of s i) (posix_steps.after t call).base s.limit xs) more
-          ∙ ap (λ b. posix.state_after (clock_of s i) b s.limit (now ++ x ∷ [])) next.base
-          ∙ posix_after-append opening now (x ∷ []) ∙ ap (λ u. posix_steps.after u call) led.state;
+      legal = subst (λ xs. posix.IsPosixHistory (clock_of s i) (posix_steps.posix_step t call).base s.limit xs) (sym more)
+          (subst (λ b. posix.IsPosixHistory (clock_of s i) b s.limit (now ++ x ∷ [])) (sym next.base)
+          (AreCalls-append posix_steps.posix_table opening now (x ∷ []) led.legal (subst (λ u. AreCalls posix_steps.posix_table u (x ∷ [])) (sym led.state) (needs, refl, tt))));
+      state = ap (λ xs. posix.posix_state_after (clock_of s i) (posix_steps.posix_step t call).base s.limit xs) more
+          ∙ ap (λ b. posix.posix_state_after (clock_of s i) b s.limit (now ++ x ∷ [])) next.base
+          ∙ after_calls-append posix_steps.posix_table opening now (x ∷ []) ∙ ap (λ u. posix_steps.posix_step u call) led.state;
     }
 
 fd_led : (s : Script) (clock : List ClockLine) (i : ℕ) (es : List ObjectEntry) (t : Descriptor) (call : fd_calls.Call) (e : ObjectEntry) → IsFdLed s clock i es t
-    → fd_steps.Needs t call → fd_lines.fd_entry clock e ≡ Some (record { call = call; reply = fd_steps.reply_to t call }) → IsFdLed s clock i (es ++ e ∷ []) (fd_steps.after t call)
+    → fd_steps.FdAllows t call → fd_lines.fd_entry clock e ≡ Some (record { call = call; reply = fd_steps.fd_answer t call }) → IsFdLed s clock i (es ++ e ∷ []) (fd_steps.fd_step t call)
 fd_led s clock i es t call e led needs shows =
     let next = fd_next t call in
-    let x : fd.Entry = record { call = call; reply = fd_steps.reply_to t call } in
+    let x : AnsweredCall fd_calls.Call fd_replies.Reply = record { call = call; reply = fd_steps.fd_answer t call } in
     let now = present (map (fd_lines.fd_entry clock) es) in
     let more = present_push (fd_lines.fd_entry clock) es e x shows in
-    let opening = fd_states.opening (clock_of s i) t.base s.limit in
+    let opening = fd_states.fd_opening (clock_of s i) t.base s.limit in
     record {
       all = All-append (λ o. is_some (fd_lines.fd_entry clock o) ≡ true) es (e ∷ []) led.all (ap is_some shows, tt);
-      legal = subst (λ xs. fd.IsLegal (clock_of s i) (fd_steps.after t call).base s.limit xs) (sym more)
-          (subst (λ b. fd.IsLegal (clock_of s i) b s.limit (now ++ x ∷ [])) (sym next.base)
-          (fd_steps-append opening now (x ∷ []) led.legal (subst (λ u. fd.AreSteps u (x ∷ [])) (sym led.state) (needs, refl, tt))));
-      state = ap (λ xs. fd.state_after (clock_of s i) (fd_steps.after t call).base s.limit xs) more
-          ∙ ap (λ b. fd.state_after (clock_of s i) b s.limit (now ++ x ∷ [])) next.base
-          ∙ fd_after-append opening now (x ∷ []) ∙ ap (λ u. fd_steps.after u call) led.state;
+      legal = subst (λ xs. fd.IsFdHistory (clock_of s i) (fd_steps.fd_step t call).base s.limit xs) (sym more)
+          (subst (λ b. fd.IsFdHistory (clock_of s i) b s.limit (now ++ x ∷ [])) (sym next.base)
+          (AreCalls-append fd_steps.fd_table opening now (x ∷ []) led.legal (subst (λ u. AreCalls fd_steps.fd_table u (x ∷ [])) (sym led.state) (needs, refl, tt))));
+      state = ap (λ xs. fd.fd_state_after (clock_of s i) (fd_steps.fd_step t call).base s.limit xs) more
+          ∙ ap (λ b. fd.fd_state_after (clock_of s i) b s.limit (now ++ x ∷ [])) next.base
+          ∙ after_calls-append fd_steps.fd_table opening now (x ∷ []) ∙ ap (λ u. fd_steps.fd_step u call) led.state;
     }
 
 -- with one more entry that the object takes

@@ -7,21 +7,18 @@ use Rattle.ktime.specs.Readings.{ClockReading}
 use Rattle.ktime.specs.Times.{last_time}
 use Rattle.seq_timer.specs.Steps.{expiry_from}
 use Rattle.seq_timer.specs.Tables.{timer_at}
-use Rattle.posix_timer.specs.declared.arming.Arm.TheVariants as posix_arms
-use Rattle.posix_timer.specs.declared.arming.Wanted as posix_wanted
+use Rattle.timer_setting.specs.Phases as phased
+use Rattle.timer_setting.specs.declared.arming.Arm.TheVariants as arms
+use Rattle.timer_setting.specs.declared.arming.Wanted as wanted
 use Rattle.posix_timer.specs.declared.calls.Call.TheVariants as posix_calls
 use Rattle.posix_timer.specs.declared.calls.Reply.TheVariants as posix_replies
-use Rattle.posix_timer.specs.declared.phase.Phase as posix_phase
-use Rattle.posix_timer.specs.declared.phase.Phase.TheVariants as posix_phases
+use Rattle.timer_setting.specs.declared.phase.Phase.{Phase}
+use Rattle.timer_setting.specs.declared.phase.Phase.TheVariants as phases
 use Rattle.posix_timer.specs.States.{PosixTimer}
 use Rattle.posix_timer.specs.Steps as posix
-use Rattle.timer_fd.specs.declared.arming.Arm.TheVariants as fd_arms
-use Rattle.timer_fd.specs.declared.arming.Wanted as fd_wanted
 use Rattle.timer_fd.specs.declared.calls.Call.TheVariants as fd_calls
 use Rattle.timer_fd.specs.declared.answers.GettimeAnswer.TheVariants as lefts
 use Rattle.timer_fd.specs.declared.calls.Reply.TheVariants as fd_replies
-use Rattle.timer_fd.specs.declared.phase.Phase as fd_phase
-use Rattle.timer_fd.specs.declared.phase.Phase.TheVariants as fd_phases
 use Rattle.timer_fd.specs.States.{Descriptor, is_canceled}
 use Rattle.timer_fd.specs.Steps as fd
 use Rattle.record_text.specs.declared.record.Armed.{Armed}
@@ -29,7 +26,7 @@ use Rattle.record_text.specs.declared.record.Armed.TheVariants as armings
 use Rattle.record_text.specs.declared.record.ClockLine.{ClockLine}
 use Rattle.script_text.specs.Calls.{IsArmedLike}
 use Rattle.script_text.specs.Histories.{reading_at}
-use Rattle.script_text.specs.Objects.{ArmedAs, fd_armed, posix_armed}
+use Rattle.script_text.specs.Objects.{ArmedAs, armed_in}
 use Rattle.script_text.specs.PosixHistories as posix_lines
 use Rattle.script_text.specs.FdHistories as fd_lines
 use Rattle.hrt_app.specs.declared.objects.Object.{Object}
@@ -46,20 +43,20 @@ use Rattle.hrt_app.proofs.Phases.{IsArmed, IsWant}
 use Rattle.hrt_app.proofs.SettimeCalls.{fd_told, object_armed, posix_told}
 
 -- no step looks at the stamp of a refused start
-posix_any : (arm : Armed) (refused : ℕ) (w : Option posix_wanted.Wanted) → posix.IsToldOf (posix_lines.posix_arm arm refused) w → posix.IsToldOf (posix_lines.posix_arm arm 0) w
+posix_any : (arm : Armed) (refused : ℕ) (w : Option wanted.Wanted) → phased.IsOutcomeOf (posix_lines.posix_arm arm refused) w → phased.IsOutcomeOf (posix_lines.posix_arm arm 0) w
 posix_any armings.None refused w told = told
 posix_any (armings.Generation generation) refused w told = told
 posix_any armings.Unarmed refused w told = (λ e. absurd (never 0 e), λ none. absurd (never refused (told.1 none)))
   where
-    never : (n : ℕ) → posix_arms.Unarmed n ≡ posix_arms.NotAsked → ⊥
+    never : (n : ℕ) → arms.Unarmed n ≡ arms.NotAsked → ⊥
     never n e = absurd cc
 
-fd_any : (arm : Armed) (refused : ℕ) (w : Option fd_wanted.Wanted) → fd.IsToldOf (fd_lines.fd_arm arm refused) w → fd.IsToldOf (fd_lines.fd_arm arm 0) w
+fd_any : (arm : Armed) (refused : ℕ) (w : Option wanted.Wanted) → phased.IsOutcomeOf (fd_lines.fd_arm arm refused) w → phased.IsOutcomeOf (fd_lines.fd_arm arm 0) w
 fd_any armings.None refused w told = told
 fd_any (armings.Generation generation) refused w told = told
 fd_any armings.Unarmed refused w told = (λ e. absurd (never 0 e), λ none. absurd (never refused (told.1 none)))
   where
-    never : (n : ℕ) → fd_arms.Unarmed n ≡ fd_arms.NotAsked → ⊥
+    never : (n : ℕ) → arms.Unarmed n ≡ arms.NotAsked → ⊥
     never n e = absurd cc
 
 -- a start that is wanted, beside how the object is armed after it: by a time of its own, on the clock that it has
@@ -94,17 +91,17 @@ renewed_like q next t (Some w) (Some a) generation refused is made =
     never : false ≡ true → ⊥
     never e = absurd cc
 
-posix_next : (phase : posix_phase.Phase) (interval generation : ℕ) (reading : ClockReading)
-    → IsRenewed (option_map (λ (w : posix_wanted.Wanted). (w.mode, w.ns)) (posix.next_of phase interval reading)) (posix_armed (posix.rearmed phase interval reading (posix_arms.Armed generation))) generation
-posix_next posix_phases.Idle interval generation reading = tt
-posix_next (posix_phases.Armed armed clock expires) interval generation reading = tt
-posix_next (posix_phases.Due clock expires) interval generation reading = (refl, omega arith, refl, refl)
+posix_next : (phase : Phase) (interval generation : ℕ) (reading : ClockReading)
+    → IsRenewed (option_map (λ (w : wanted.Wanted). (w.mode, w.ns)) (phased.next_start phase interval reading)) (armed_in (phased.rearmed phase interval reading (arms.Armed generation))) generation
+posix_next phases.Idle interval generation reading = tt
+posix_next (phases.Armed armed clock expires) interval generation reading = tt
+posix_next (phases.Expired clock expires) interval generation reading = (refl, omega arith, refl, refl)
 
-fd_next : (phase : fd_phase.Phase) (interval generation : ℕ) (reading : ClockReading)
-    → IsRenewed (option_map (λ (w : fd_wanted.Wanted). (w.mode, w.ns)) (fd.next_of phase interval reading)) (fd_armed (fd.rearmed phase interval reading (fd_arms.Armed generation))) generation
-fd_next fd_phases.Idle interval generation reading = tt
-fd_next (fd_phases.Armed armed clock expires) interval generation reading = tt
-fd_next (fd_phases.Expired clock expires) interval generation reading = (refl, omega arith, refl, refl)
+fd_next : (phase : Phase) (interval generation : ℕ) (reading : ClockReading)
+    → IsRenewed (option_map (λ (w : wanted.Wanted). (w.mode, w.ns)) (phased.next_start phase interval reading)) (armed_in (phased.rearmed phase interval reading (arms.Armed generation))) generation
+fd_next phases.Idle interval generation reading = tt
+fd_next (phases.Armed armed clock expires) interval generation reading = tt
+fd_next (phases.Expired clock expires) interval generation reading = (refl, omega arith, refl, refl)
 
 -- what is wanted under two tests, beside what comes of the first
 accept_cases : {W T : Type 0} (R : Option W → T → Type 0) (b c : Bool) (w : Option W) (x y : T) → R w x → R None x → R None y → R (if b && c then w else None) (if b then x else y)
@@ -121,14 +118,14 @@ read_cases R false false w x y z one two three = three
 -- the start that is wanted, beside how the object is armed after it
 pub renewal_armed : (call : Renewal) (o : Object) (reading : ClockReading) (generation : ℕ) → IsRenewed (renewal_want call o reading) (object_armed (after_call o (renewal_call call reading (armings.Generation generation)))) generation
 renewal_armed renewals.Accept (Posix t) reading generation =
-    accept_cases (λ w (x : PosixTimer). IsRenewed (option_map (λ (v : posix_wanted.Wanted). (v.mode, v.ns)) w) (posix_armed x.phase) generation) t.pending _ (posix.next_of t.phase t.interval reading) _ _
+    accept_cases (λ w (x : PosixTimer). IsRenewed (option_map (λ (v : wanted.Wanted). (v.mode, v.ns)) w) (armed_in x.phase) generation) t.pending _ (phased.next_start t.phase t.interval reading) _ _
     (posix_next t.phase t.interval generation reading) tt tt
 renewal_armed renewals.Read (Fd t) reading generation =
-    either (λ w. IsRenewed (option_map (λ (v : fd_wanted.Wanted). (v.mode, v.ns)) w) (fd_armed (fd.read t reading (fd_arms.Armed generation)).phase) generation) _ (fd.next_to_read t reading) None
-    (read_cases (λ w (x : Descriptor). IsRenewed (option_map (λ (v : fd_wanted.Wanted). (v.mode, v.ns)) w) (fd_armed x.phase) generation) (is_canceled t reading) _ (fd.next_of t.phase t.interval reading) _ _ _
+    either (λ w. IsRenewed (option_map (λ (v : wanted.Wanted). (v.mode, v.ns)) w) (armed_in (fd.fd_read t reading (arms.Armed generation)).phase) generation) _ (fd.next_to_read t reading) None
+    (read_cases (λ w (x : Descriptor). IsRenewed (option_map (λ (v : wanted.Wanted). (v.mode, v.ns)) w) (armed_in x.phase) generation) (is_canceled t reading) _ (phased.next_start t.phase t.interval reading) _ _ _
     tt tt (fd_next t.phase t.interval generation reading)) tt
 renewal_armed renewals.Gettime (Fd t) reading generation =
-    either (λ w. IsRenewed (option_map (λ (v : fd_wanted.Wanted). (v.mode, v.ns)) w) (fd_armed (fd.rearmed t.phase t.interval reading (fd_arms.Armed generation))) generation) _ (fd.next_of t.phase t.interval reading) None
+    either (λ w. IsRenewed (option_map (λ (v : wanted.Wanted). (v.mode, v.ns)) w) (armed_in (phased.rearmed t.phase t.interval reading (arms.Armed generation))) generation) _ (phased.next_start t.phase t.interval reading) None
     (fd_next t.phase t.interval generation reading) tt
 renewal_armed call o reading generation = tt
 
@@ -141,12 +138,12 @@ pub renewal_allows : (p next : Progress) (i : ℕ) (call : Renewal) (o : Object)
 renewal_allows p next i renewals.Accept (Posix t) reading arm refused reply room replies armed = (room, posix_any arm refused (posix.accept_wanted t reading) (posix_told p next i refused (posix.accept_wanted t reading) arm armed))
 renewal_allows p next i renewals.Read (Fd t) reading arm refused reply room replies armed = (
   room,
-  subst (λ b. fd.IsToldOf (fd_lines.fd_arm arm 0) (if b then fd.next_to_read t reading else None)) (has_room t.stamp t.limit room)
+  subst (λ b. phased.IsOutcomeOf (fd_lines.fd_arm arm 0) (if b then fd.next_to_read t reading else None)) (has_room t.stamp t.limit room)
       (fd_any arm refused (fd.read_wanted t fd.count_length reading) (fd_told p next i refused (fd.read_wanted t fd.count_length reading) arm armed)),
 )
 renewal_allows p next i renewals.Gettime (Fd t) reading arm refused reply room replies armed = (
   room,
-  subst (λ b. fd.IsToldOf (fd_lines.fd_arm arm 0) (if b then fd.next_of t.phase t.interval reading else None)) (has_room t.stamp t.limit room)
+  subst (λ b. phased.IsOutcomeOf (fd_lines.fd_arm arm 0) (if b then phased.next_start t.phase t.interval reading else None)) (has_room t.stamp t.limit room)
       (fd_any arm refused (fd.gettime_wanted t reading) (fd_told p next i refused (fd.gettime_wanted t reading) arm armed)),
 )
 renewal_allows p next i call o reading arm refused reply room replies armed = absurd replies

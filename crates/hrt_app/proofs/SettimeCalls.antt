@@ -8,21 +8,21 @@ use Rattle.ktime.specs.declared.timespec.TimeSpec.{TimeSpec}
 use Rattle.ktime.specs.Readings.{ClockReading, value_of}
 use Rattle.ktime.specs.Times.{effective_clock, last_time, sat, second}
 use Rattle.seq_timer.specs.Steps.{expiry_from}
-use Rattle.posix_timer.specs.declared.arming.Arm.TheVariants as posix_arms
+use Rattle.timer_setting.specs.Phases as phased
+use Rattle.timer_setting.specs.declared.arming.Arm.TheVariants as arms
 use Rattle.posix_timer.specs.declared.calls.Call.TheVariants as posix_calls
 use Rattle.posix_timer.specs.declared.calls.Reply.TheVariants as posix_replies
-use Rattle.posix_timer.specs.declared.arming.Wanted as posix_wanted
+use Rattle.timer_setting.specs.declared.arming.Wanted as wanted
 use Rattle.posix_timer.specs.States.{PosixTimer}
-use Rattle.posix_timer.specs.Requests as posix_requests
+use Rattle.timer_setting.specs.Arguments.{abstime, bits_beyond, is_absolute, mode_by, start_by}
+use Rattle.posix_timer.specs.States.{ArePosixArguments}
 use Rattle.posix_timer.specs.Steps as posix
 use Rattle.timer_fd.specs.declared.answers.SettimeAnswer.TheVariants as fd_answers
-use Rattle.timer_fd.specs.declared.arming.Arm.TheVariants as fd_arms
 use Rattle.timer_fd.specs.declared.calls.Call.TheVariants as fd_calls
 use Rattle.timer_fd.specs.declared.calls.Reply.TheVariants as fd_replies
-use Rattle.timer_fd.specs.declared.arming.Wanted as fd_wanted
 use Rattle.timer_fd.specs.States.{Descriptor}
 use Rattle.timer_fd.specs.States as fd_states
-use Rattle.timer_fd.specs.Requests as fd_requests
+use Rattle.timer_fd.specs.States.{AreFdArguments, fd_flags}
 use Rattle.timer_fd.specs.Steps as fd
 use Rattle.record_text.specs.declared.record.Armed.{Armed}
 use Rattle.record_text.specs.declared.record.Armed.TheVariants as armings
@@ -32,7 +32,7 @@ use Rattle.record_text.specs.declared.record.SettimeReply.{SettimeReply}
 use Rattle.record_text.specs.declared.record.SettimeReply.TheVariants as settings
 use Rattle.script_text.specs.Histories.{reading_at}
 use Rattle.script_text.specs.ObjectCalls.{AreValidFor, start_mode, nanoseconds_of}
-use Rattle.script_text.specs.Objects.{ArmedAs, fd_armed, posix_armed}
+use Rattle.script_text.specs.Objects.{ArmedAs, armed_in}
 use Rattle.script_text.specs.PosixHistories as posix_lines
 use Rattle.script_text.specs.FdHistories as fd_lines
 use Rattle.hrt_app.specs.declared.objects.Object.{Object}
@@ -47,41 +47,41 @@ something : true ≡ false → ⊥
 something e = absurd cc
 
 -- an object is told of no start exactly where it wanted none
-pub posix_told : (p next : Progress) (t refused : ℕ) (w : Option posix_wanted.Wanted) (arm : Armed) → IsArmed p next t (option_map (λ x. (x.mode, x.ns)) w) arm refused → posix.IsToldOf (posix_lines.posix_arm arm refused) w
+pub posix_told : (p next : Progress) (t refused : ℕ) (w : Option wanted.Wanted) (arm : Armed) → IsArmed p next t (option_map (λ x. (x.mode, x.ns)) w) arm refused → phased.IsOutcomeOf (posix_lines.posix_arm arm refused) w
 posix_told p next t refused None arm armed = (λ e. refl, λ none. ap (λ a. posix_lines.posix_arm a refused) armed)
 posix_told p next t refused (Some x) armings.None armed = absurd armed
 posix_told p next t refused (Some x) (armings.Generation generation) armed = (λ e. absurd (never e), λ none. absurd (something none))
   where
-    never : posix_arms.Armed generation ≡ posix_arms.NotAsked → ⊥
+    never : arms.Armed generation ≡ arms.NotAsked → ⊥
     never e = absurd cc
 posix_told p next t refused (Some x) armings.Unarmed armed = (λ e. absurd (never e), λ none. absurd (something none))
   where
-    never : posix_arms.Unarmed refused ≡ posix_arms.NotAsked → ⊥
+    never : arms.Unarmed refused ≡ arms.NotAsked → ⊥
     never e = absurd cc
 
-pub fd_told : (p next : Progress) (t refused : ℕ) (w : Option fd_wanted.Wanted) (arm : Armed) → IsArmed p next t (option_map (λ x. (x.mode, x.ns)) w) arm refused → fd.IsToldOf (fd_lines.fd_arm arm refused) w
+pub fd_told : (p next : Progress) (t refused : ℕ) (w : Option wanted.Wanted) (arm : Armed) → IsArmed p next t (option_map (λ x. (x.mode, x.ns)) w) arm refused → phased.IsOutcomeOf (fd_lines.fd_arm arm refused) w
 fd_told p next t refused None arm armed = (λ e. refl, λ none. ap (λ a. fd_lines.fd_arm a refused) armed)
 fd_told p next t refused (Some x) armings.None armed = absurd armed
 fd_told p next t refused (Some x) (armings.Generation generation) armed = (λ e. absurd (never e), λ none. absurd (something none))
   where
-    never : fd_arms.Armed generation ≡ fd_arms.NotAsked → ⊥
+    never : arms.Armed generation ≡ arms.NotAsked → ⊥
     never e = absurd cc
 fd_told p next t refused (Some x) armings.Unarmed armed = (λ e. absurd (never e), λ none. absurd (something none))
   where
-    never : fd_arms.Unarmed refused ≡ fd_arms.NotAsked → ⊥
+    never : arms.Unarmed refused ≡ arms.NotAsked → ⊥
     never e = absurd cc
 
-all_tests : (a b c d e f g h : ℕ) → a ≤ b → c < d → e < f → g < h → (nat_le a b && nat_lt c d && nat_lt e f && nat_lt g h) ≡ true
-all_tests a b c d e f g h one two three four = grind (arith, nat_tests, one, two, three, four)
+all_tests : (a c d e f g h : ℕ) → a ≡ 0 → c < d → e < f → g < h → (nat_eq a 0 && nat_lt c d && nat_lt e f && nat_lt g h) ≡ true
+all_tests a c d e f g h one two three four = grind (arith, nat_tests, one, two, three, four)
 
 -- the start that is wanted where the arguments are taken and the history has room
-posix_want : (t : PosixTimer) (flags : ℕ) (value interval : TimeSpec) → posix_requests.AreTaken flags value interval → t.stamp < t.limit → posix.settime_wanted t flags value interval ≡ posix_requests.start_by flags (nanoseconds_of value)
+posix_want : (t : PosixTimer) (flags : ℕ) (value interval : TimeSpec) → ArePosixArguments flags value interval → t.stamp < t.limit → posix.posix_settime_wanted t flags value interval ≡ start_by flags (nanoseconds_of value)
 posix_want t flags value interval taken room =
-    ap (λ b. if b then posix_requests.start_by flags (nanoseconds_of value) else None) (all_tests flags posix_requests.absolute value.nsec second interval.nsec second t.stamp t.limit taken.known taken.good_value taken.good_interval room)
+    ap (λ b. if b then start_by flags (nanoseconds_of value) else None) (all_tests (bits_beyond abstime flags) value.nsec second interval.nsec second t.stamp t.limit taken.known taken.good_value taken.good_interval room)
 
-fd_want : (t : Descriptor) (flags : ℕ) (value interval : TimeSpec) → fd_requests.AreTaken flags value interval → t.stamp < t.limit → fd.settime_wanted t flags value interval ≡ fd_requests.start_by flags (nanoseconds_of value)
+fd_want : (t : Descriptor) (flags : ℕ) (value interval : TimeSpec) → AreFdArguments flags value interval → t.stamp < t.limit → fd.fd_settime_wanted t flags value interval ≡ start_by flags (nanoseconds_of value)
 fd_want t flags value interval taken room =
-    ap (λ b. if b then fd_requests.start_by flags (nanoseconds_of value) else None) (all_tests flags fd_requests.all_flags value.nsec second interval.nsec second t.stamp t.limit taken.known taken.good_value taken.good_interval room)
+    ap (λ b. if b then start_by flags (nanoseconds_of value) else None) (all_tests (bits_beyond fd_flags flags) value.nsec second interval.nsec second t.stamp t.limit taken.known taken.good_value taken.good_interval room)
 
 timely : (time : TimeSpec) → nanoseconds_of time ≤ last_time
 timely time = omega arith
@@ -95,17 +95,17 @@ settime_allows p next i (Posix t) flags value interval reading arm refused taken
   taken.known,
   timely value,
   timely interval,
-  posix_told p next i refused (posix_requests.start_by flags (nanoseconds_of value)) arm (subst (λ w. IsArmed p next i (option_map (λ x. (x.mode, x.ns)) w) arm refused) (posix_want t flags value interval taken room) armed),
+  posix_told p next i refused (start_by flags (nanoseconds_of value)) arm (subst (λ w. IsArmed p next i (option_map (λ x. (x.mode, x.ns)) w) arm refused) (posix_want t flags value interval taken room) armed),
 )
 settime_allows p next i (Fd t) flags value interval reading arm refused taken room armed = (
   room,
   taken.known,
   timely value,
   timely interval,
-  fd_told p next i refused (fd_requests.start_by flags (nanoseconds_of value)) arm (subst (λ w. IsArmed p next i (option_map (λ x. (x.mode, x.ns)) w) arm refused) (fd_want t flags value interval taken room) armed),
+  fd_told p next i refused (start_by flags (nanoseconds_of value)) arm (subst (λ w. IsArmed p next i (option_map (λ x. (x.mode, x.ns)) w) arm refused) (fd_want t flags value interval taken room) armed),
 )
 
-posix_refused : (t : PosixTimer) (reading : ClockReading) (arm : Armed) (refused : ℕ) (reply : SettimeReply) → posix_lines.posix_set_answer reply ≡ Some (posix.set_answer t reading (posix_lines.posix_arm arm refused))
+posix_refused : (t : PosixTimer) (reading : ClockReading) (arm : Armed) (refused : ℕ) (reply : SettimeReply) → posix_lines.posix_set_answer reply ≡ Some (posix.posix_settime_answer t reading (posix_lines.posix_arm arm refused))
     → posix_lines.posix_arm arm (posix_lines.refused_at reply) ≡ posix_lines.posix_arm arm refused
 posix_refused t reading armings.None refused reply e = refl
 posix_refused t reading (armings.Generation generation) refused reply e = refl
@@ -113,7 +113,7 @@ posix_refused t reading armings.Unarmed refused (settings.Old left old) e = absu
 posix_refused t reading armings.Unarmed refused settings.Canceled e = absurd cc
 posix_refused t reading armings.Unarmed refused (settings.Unarmed stamp) e = cc
 
-fd_refused : (t : Descriptor) (flags ns : ℕ) (reading : ClockReading) (arm : Armed) (refused : ℕ) (reply : SettimeReply) → fd_lines.fd_set_answer reply ≡ fd.set_answer t flags ns reading (fd_lines.fd_arm arm refused)
+fd_refused : (t : Descriptor) (flags ns : ℕ) (reading : ClockReading) (arm : Armed) (refused : ℕ) (reply : SettimeReply) → fd_lines.fd_set_answer reply ≡ fd.fd_settime_answer t flags ns reading (fd_lines.fd_arm arm refused)
     → fd_lines.fd_arm arm (posix_lines.refused_at reply) ≡ fd_lines.fd_arm arm refused
 fd_refused t flags ns reading armings.None refused reply e = refl
 fd_refused t flags ns reading (armings.Generation generation) refused reply e = refl
@@ -144,21 +144,21 @@ clock_in (Fd t) = t.clock
 -- how an object has armed its timer
 abbrev pub object_armed : Object → Option ArmedAs
 object_armed (Raw callback) = None
-object_armed (Posix t) = posix_armed t.phase
-object_armed (Fd t) = fd_armed t.phase
+object_armed (Posix t) = armed_in t.phase
+object_armed (Fd t) = armed_in t.phase
 
 -- the mode of a settime is that of its flags, and its time the value
 pub settime_is : (o : Object) (flags : ℕ) (value interval : TimeSpec) → AreValidFor (kind_in o) flags value interval → entries_of o < limit_of o → IsWant (settime_want o flags value interval) (start_mode (kind_in o) flags) (nanoseconds_of value)
 settime_is (Raw callback) flags value interval taken room = tt
 settime_is (Posix t) flags value interval taken room =
-    subst (λ w. IsWant (option_map (λ (x : posix_wanted.Wanted). (x.mode, x.ns)) w) (posix_requests.mode_by flags) (nanoseconds_of value)) (sym (posix_want t flags value interval taken room))
-    (elim (nat_eq (nanoseconds_of value) 0) as (λ b. IsWant (option_map (λ (x : posix_wanted.Wanted). (x.mode, x.ns)) (if b then None else Some (record { mode = posix_requests.mode_by flags; ns = nanoseconds_of value }))) (posix_requests.mode_by flags) (nanoseconds_of value)) [
+    subst (λ w. IsWant (option_map (λ (x : wanted.Wanted). (x.mode, x.ns)) w) (mode_by flags) (nanoseconds_of value)) (sym (posix_want t flags value interval taken room))
+    (elim (nat_eq (nanoseconds_of value) 0) as (λ b. IsWant (option_map (λ (x : wanted.Wanted). (x.mode, x.ns)) (if b then None else Some (record { mode = mode_by flags; ns = nanoseconds_of value }))) (mode_by flags) (nanoseconds_of value)) [
       | true ↦ tt
       | false ↦ (refl, refl)
     ])
 settime_is (Fd t) flags value interval taken room =
-    subst (λ w. IsWant (option_map (λ (x : fd_wanted.Wanted). (x.mode, x.ns)) w) (fd_requests.mode_by flags) (nanoseconds_of value)) (sym (fd_want t flags value interval taken room))
-    (elim (nat_eq (nanoseconds_of value) 0) as (λ b. IsWant (option_map (λ (x : fd_wanted.Wanted). (x.mode, x.ns)) (if b then None else Some (record { mode = fd_requests.mode_by flags; ns = nanoseconds_of value }))) (fd_requests.mode_by flags) (nanoseconds_of value)) [
+    subst (λ w. IsWant (option_map (λ (x : wanted.Wanted). (x.mode, x.ns)) w) (mode_by flags) (nanoseconds_of value)) (sym (fd_want t flags value interval taken room))
+    (elim (nat_eq (nanoseconds_of value) 0) as (λ b. IsWant (option_map (λ (x : wanted.Wanted). (x.mode, x.ns)) (if b then None else Some (record { mode = mode_by flags; ns = nanoseconds_of value }))) (mode_by flags) (nanoseconds_of value)) [
       | true ↦ tt
       | false ↦ (refl, refl)
     ])
@@ -185,16 +185,16 @@ pub settime_armed : (o : Object) (flags : ℕ) (value interval : TimeSpec) (read
     × (clock_in o ≡ declared → (a.clock ≡ effective_clock declared (start_mode (kind_in o) flags) present) × (a.expires ≡ expiry_from (start_mode (kind_in o) flags) (nanoseconds_of value) a.clock reading))
 settime_armed (Raw callback) flags value interval reading generation refused declared present taken = absurd taken
 settime_armed (Posix t) flags value interval reading generation refused declared present taken = (
-  record { generation = generation; clock = posix.clock_by t flags; expires = posix.expiry_by t flags (nanoseconds_of value) reading },
+  record { generation = generation; clock = phased.clock_by t.clock flags; expires = phased.expiry_by t.clock flags (nanoseconds_of value) reading },
   refl,
   refl,
-  λ on. (same_clock t.clock t.clock present (nat_eq flags posix_requests.absolute) ∙ ap (λ d. effective_clock d (posix_requests.mode_by flags) present) on, same_expiry value (posix.clock_by t flags) reading (nat_eq flags posix_requests.absolute)),
+  λ on. (same_clock t.clock t.clock present (is_absolute flags) ∙ ap (λ d. effective_clock d (mode_by flags) present) on, same_expiry value (phased.clock_by t.clock flags) reading (is_absolute flags)),
 )
 settime_armed (Fd t) flags value interval reading generation refused declared present taken = (
-  record { generation = generation; clock = fd.clock_by t.clock flags; expires = fd.expiry_by t.clock flags (nanoseconds_of value) reading },
+  record { generation = generation; clock = phased.clock_by t.clock flags; expires = phased.expiry_by t.clock flags (nanoseconds_of value) reading },
   refl,
   refl,
-  λ on. (same_clock t.clock t.clock present (fd_requests.is_absolute flags) ∙ ap (λ d. effective_clock d (fd_requests.mode_by flags) present) on, same_expiry value (fd.clock_by t.clock flags) reading (fd_requests.is_absolute flags)),
+  λ on. (same_clock t.clock t.clock present (is_absolute flags) ∙ ap (λ d. effective_clock d (mode_by flags) present) on, same_expiry value (phased.clock_by t.clock flags) reading (is_absolute flags)),
 )
 
 -- a settime that answers a refused start was refused at that stamp
@@ -203,14 +203,14 @@ settime_unarmed (Raw callback) flags value reading arm refused stamp replies = a
 settime_unarmed (Posix t) flags value reading armings.None refused stamp replies = absurd cc
 settime_unarmed (Posix t) flags value reading (armings.Generation generation) refused stamp replies = absurd cc
 settime_unarmed (Posix t) flags value reading armings.Unarmed refused stamp replies = (refl, cc)
-settime_unarmed (Fd t) flags value reading armings.None refused stamp replies = absurd (never (fd.is_told_canceled t flags (nanoseconds_of value) reading) replies)
+settime_unarmed (Fd t) flags value reading armings.None refused stamp replies = absurd (never (fd.answers_canceled t flags (nanoseconds_of value) reading) replies)
   where
-    never : (b : Bool) → fd_answers.Unarmed stamp ≡ (if b then fd_answers.Canceled else fd_answers.Old (fd_states.left_in t.phase t.interval reading) t.interval) → ⊥
+    never : (b : Bool) → fd_answers.Unarmed stamp ≡ (if b then fd_answers.Canceled else fd_answers.Old (fd_states.fd_left t reading) t.interval) → ⊥
     never true e = absurd cc
     never false e = absurd cc
-settime_unarmed (Fd t) flags value reading (armings.Generation generation) refused stamp replies = absurd (never (fd.is_told_canceled t flags (nanoseconds_of value) reading) replies)
+settime_unarmed (Fd t) flags value reading (armings.Generation generation) refused stamp replies = absurd (never (fd.answers_canceled t flags (nanoseconds_of value) reading) replies)
   where
-    never : (b : Bool) → fd_answers.Unarmed stamp ≡ (if b then fd_answers.Canceled else fd_answers.Old (fd_states.left_in t.phase t.interval reading) t.interval) → ⊥
+    never : (b : Bool) → fd_answers.Unarmed stamp ≡ (if b then fd_answers.Canceled else fd_answers.Old (fd_states.fd_left t reading) t.interval) → ⊥
     never true e = absurd cc
     never false e = absurd cc
 settime_unarmed (Fd t) flags value reading armings.Unarmed refused stamp replies = (refl, cc)

@@ -8,6 +8,7 @@ use Rattle.ktime.specs.Readings.{ClockReading}
 use Rattle.seq_timer.specs.Steps.{Timer, after}
 use Rattle.seq_timer.specs.declared.event.Event.TheVariants as events
 use Rattle.seq_timer.specs.Tables.{no_timer, timer_at}
+use Rattle.timer_setting.specs.Phases as phased
 use Rattle.posix_timer.specs.declared.calls.Call.TheVariants as posix_calls
 use Rattle.posix_timer.specs.declared.calls.Reply.TheVariants as posix_replies
 use Rattle.posix_timer.specs.declared.answers.TriggerAnswer.TheVariants as posix_triggers
@@ -89,13 +90,13 @@ trigger_shown clock (Raw callback) generation reading counted e shown = absurd (
     never : None ≡ Some counted → ⊥
     never e = absurd cc
 trigger_shown clock (Posix t) generation reading counted e shown =
-    let both = some_of t.stamp t.limit (posix_steps.counts t.phase generation reading) counted e in (
+    let both = some_of t.stamp t.limit (phased.is_expiry_of t.phase generation reading) counted e in (
       both.0,
       ap (λ r. Some (record { call = posix_calls.Trigger generation r; reply = posix_replies.Trigger (if counted then posix_triggers.Counted else posix_triggers.Stale) })) shown
           ∙ ap (λ b. Some (record { call = posix_calls.Trigger generation reading; reply = posix_replies.Trigger (if b then posix_triggers.Counted else posix_triggers.Stale) })) (sym both.1),
     )
 trigger_shown clock (Fd t) generation reading counted e shown =
-    let both = some_of t.stamp t.limit (fd_steps.counts t.phase generation reading) counted e in (
+    let both = some_of t.stamp t.limit (phased.is_expiry_of t.phase generation reading) counted e in (
       both.0,
       ap (λ r. Some (record { call = fd_calls.Trigger generation r; reply = fd_replies.Trigger (if counted then fd_triggers.Counted else fd_triggers.Stale) })) shown
           ∙ ap (λ b. Some (record { call = fd_calls.Trigger generation reading; reply = fd_replies.Trigger (if b then fd_triggers.Counted else fd_triggers.Stale) })) (sym both.1),
@@ -104,8 +105,8 @@ trigger_shown clock (Fd t) generation reading counted e shown =
 -- an object that refuses an expiry has a full history
 refused_full : (s : Script) (i generation : ℕ) (o : Object) (reading : ClockReading) → IsObject o → IsMadeAs s i o → trigger_counts o generation reading ≡ None → s.limit ≤ entries_of o
 refused_full s i generation (Raw callback) reading object made e = absurd object
-refused_full s i generation (Posix t) reading object made e = subst (λ n. n ≤ t.stamp) made.2 (none_of t.stamp t.limit (posix_steps.counts t.phase generation reading) e)
-refused_full s i generation (Fd t) reading object made e = subst (λ n. n ≤ t.stamp) made.2 (none_of t.stamp t.limit (fd_steps.counts t.phase generation reading) e)
+refused_full s i generation (Posix t) reading object made e = subst (λ n. n ≤ t.stamp) made.2 (none_of t.stamp t.limit (phased.is_expiry_of t.phase generation reading) e)
+refused_full s i generation (Fd t) reading object made e = subst (λ n. n ≤ t.stamp) made.2 (none_of t.stamp t.limit (phased.is_expiry_of t.phase generation reading) e)
 
 -- an object's expiry, as the record has it
 pub record TriggerMade (s : Script) (call t generation : ℕ) (p next : Progress) (ds : List Action) : Type 0 where

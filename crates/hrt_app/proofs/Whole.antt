@@ -269,7 +269,7 @@ opened_as s i clock (kinds.Posix base) is on writes = record {
   order = tt;
   sorted = tt;
   counted = refl;
-  led = λ c e. record { all = tt; legal = tt; state = ap (λ x. posix_states.opening x base s.limit) on };
+  led = λ c e. record { all = tt; legal = tt; state = ap (λ x. posix_states.posix_opening x base s.limit) on };
 }
 opened_as s i clock (kinds.Fd base) is on writes = record {
   made = (is, sym on, refl);
@@ -278,7 +278,7 @@ opened_as s i clock (kinds.Fd base) is on writes = record {
   order = tt;
   sorted = tt;
   counted = refl;
-  led = λ c e. record { all = tt; legal = tt; state = ap (λ x. fd_states.opening x base s.limit) on };
+  led = λ c e. record { all = tt; legal = tt; state = ap (λ x. fd_states.fd_opening x base s.limit) on };
 }
 
 -- what each timer is declared with

@@ -77,8 +77,8 @@ Disarms c p timer None next = IsIdle (timer_at p.timers timer) × (next ≡ p)
 -- the start that a settime wants: how its time is given, and the time
 abbrev pub settime_want : Object → ℕ → TimeSpec → TimeSpec → Option (Mode × ℕ)
 settime_want (Raw callback) flags value interval = None
-settime_want (Posix t) flags value interval = option_map (λ w. (w.mode, w.ns)) (posix.settime_wanted t flags value interval)
-settime_want (Fd t) flags value interval = option_map (λ w. (w.mode, w.ns)) (fd.settime_wanted t flags value interval)
+settime_want (Posix t) flags value interval = option_map (λ w. (w.mode, w.ns)) (posix.posix_settime_wanted t flags value interval)
+settime_want (Fd t) flags value interval = option_map (λ w. (w.mode, w.ns)) (fd.fd_settime_wanted t flags value interval)
 
 -- a settime, as a call on this object that was told of its start
 abbrev pub settime_call : Object → ℕ → TimeSpec → TimeSpec → ClockReading → Armed → ℕ → ObjectCall
@@ -89,8 +89,8 @@ settime_call (Fd t) flags value interval reading arm refused = OfFd (fd_calls.Se
 -- a settime's reply is the one of the object's step
 abbrev pub SettimeReplies : Object → ℕ → TimeSpec → ClockReading → Armed → ℕ → SettimeReply → Type 0
 SettimeReplies (Raw callback) flags value reading arm refused reply = ⊥
-SettimeReplies (Posix t) flags value reading arm refused reply = posix_lines.posix_set_answer reply ≡ Some (posix.set_answer t reading (posix_lines.posix_arm arm refused))
-SettimeReplies (Fd t) flags value reading arm refused reply = fd_lines.fd_set_answer reply ≡ fd.set_answer t flags (nanoseconds_of value) reading (fd_lines.fd_arm arm refused)
+SettimeReplies (Posix t) flags value reading arm refused reply = posix_lines.posix_set_answer reply ≡ Some (posix.posix_settime_answer t reading (posix_lines.posix_arm arm refused))
+SettimeReplies (Fd t) flags value reading arm refused reply = fd_lines.fd_set_answer reply ≡ fd.fd_settime_answer t flags (nanoseconds_of value) reading (fd_lines.fd_arm arm refused)
 
 -- an object is told of no start exactly where it wants none
 abbrev pub IsToldOf : Armed → Option (Mode × ℕ) → Type 0

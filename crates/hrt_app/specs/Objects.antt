@@ -2,6 +2,7 @@
 use Rattle.std.specs.Prelude.{ℕ, ◌<◌, Bool, nat_lt, if◌then◌else◌, Option, Some, None, option_map, List, get_or}
 use Rattle.ktime.specs.declared.clock_id.ClockId.{ClockId}
 use Rattle.ktime.specs.Readings.{ClockReading}
+use Rattle.timer_setting.specs.Phases as phased
 use Rattle.posix_timer.specs.States as posix
 use Rattle.posix_timer.specs.Steps as posix_steps
 use Rattle.posix_timer.specs.declared.calls.Call as posix_calls
@@ -24,8 +25,8 @@ use Rattle.hrt_app.specs.declared.objects.Object.TheVariants.{Raw, Posix, Fd}
 -- an object of this kind on this clock, before any call
 abbrev pub opened_object : ℕ → ClockId → Kind → Object
 opened_object limit clock (kinds.Raw callback) = Raw callback
-opened_object limit clock (kinds.Posix base) = Posix (posix.opening clock base limit)
-opened_object limit clock (kinds.Fd base) = Fd (fd.opening clock base limit)
+opened_object limit clock (kinds.Posix base) = Posix (posix.posix_opening clock base limit)
+opened_object limit clock (kinds.Fd base) = Fd (fd.fd_opening clock base limit)
 
 -- what a timer is declared with, before any call
 abbrev pub object_in : ℕ → Declaration → Object
@@ -82,8 +83,8 @@ pub record ObjectStep : Type 0 where
 
 -- an object after a call
 abbrev pub after_call : Object → ObjectCall → Object
-after_call (Posix t) (OfPosix call) = Posix (posix_steps.after t call)
-after_call (Fd t) (OfFd call) = Fd (fd_steps.after t call)
+after_call (Posix t) (OfPosix call) = Posix (posix_steps.posix_step t call)
+after_call (Fd t) (OfFd call) = Fd (fd_steps.fd_step t call)
 after_call o call = o
 
 -- an expiry, as a call on this object
@@ -95,8 +96,8 @@ trigger_call (Fd t) generation reading = OfFd (fd_variants.Trigger generation re
 -- whether an expiry counts; none where the object's history is full
 abbrev pub trigger_counts : Object → ℕ → ClockReading → Option Bool
 trigger_counts (Raw callback) generation reading = None
-trigger_counts (Posix t) generation reading = if nat_lt t.stamp t.limit then Some (posix_steps.counts t.phase generation reading) else None
-trigger_counts (Fd t) generation reading = if nat_lt t.stamp t.limit then Some (fd_steps.counts t.phase generation reading) else None
+trigger_counts (Posix t) generation reading = if nat_lt t.stamp t.limit then Some (phased.is_expiry_of t.phase generation reading) else None
+trigger_counts (Fd t) generation reading = if nat_lt t.stamp t.limit then Some (phased.is_expiry_of t.phase generation reading) else None
 
 -- the entry of an expiry, where there is one
 abbrev pub trigger_step : Object → ℕ → ClockReading → Option ObjectStep

@@ -51,11 +51,11 @@ renewal_call renewals.Gettime reading arm = OfFd (fd_calls.Gettime reading (fd_l
 -- the reply is the one of the object's step
 abbrev pub RenewalReplies : Renewal → Object → ClockReading → Armed → Renewed → Type 0
 RenewalReplies renewals.Accept (Posix t) reading arm (renewed.Accept reply) =
-    posix_replies.Accept (posix_lines.accept_answer_of reply) ≡ posix.reply_to t (posix_calls.Accept reading (posix_lines.posix_arm arm 0))
+    posix_replies.Accept (posix_lines.accept_answer_of reply) ≡ posix.posix_answer t (posix_calls.Accept reading (posix_lines.posix_arm arm 0))
 RenewalReplies renewals.Read (Fd t) reading arm (renewed.Read reply) =
-    fd_replies.Read (fd_lines.read_answer_of reply) ≡ fd.reply_to t (fd_calls.Read reading (fd_lines.fd_arm arm 0))
+    fd_replies.Read (fd_lines.read_answer_of reply) ≡ fd.fd_answer t (fd_calls.Read reading (fd_lines.fd_arm arm 0))
 RenewalReplies renewals.Gettime (Fd t) reading arm (renewed.Gettime left interval) =
-    fd_replies.Gettime (lefts.Left left interval) ≡ fd.reply_to t (fd_calls.Gettime reading (fd_lines.fd_arm arm 0))
+    fd_replies.Gettime (lefts.Left left interval) ≡ fd.fd_answer t (fd_calls.Gettime reading (fd_lines.fd_arm arm 0))
 RenewalReplies call o reading arm reply = ⊥
 
 -- the call's answer

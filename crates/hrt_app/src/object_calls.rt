@@ -70,7 +70,7 @@ impl Run {
                     left: setting.left,
                     interval: setting.interval,
                     reading: reading.stamp,
-                    stamp: state.stamp(),
+                    stamp: state.timer().stamp,
                 })
             }
             Object::Fd { .. } => self.renew(label, timer, Renewal::Gettime),
@@ -87,7 +87,7 @@ impl Run {
         match object {
             Object::Posix { state } => Answer::Overrun {
                 overrun: state.getoverrun(),
-                stamp: state.stamp(),
+                stamp: state.timer().stamp,
             },
             Object::Raw { .. } | Object::Fd { .. } => unreachable!(),
         }
@@ -105,7 +105,7 @@ impl Run {
             Object::Fd { state } => Answer::Readable {
                 ready: state.readable(reading),
                 reading: reading.stamp,
-                stamp: state.stamp(),
+                stamp: state.timer().stamp,
             },
             Object::Raw { .. } | Object::Posix { .. } => unreachable!(),
         }

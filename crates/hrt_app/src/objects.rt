@@ -1,6 +1,6 @@
 //! What a timer is declared with: a callback, or the object whose timer it is.
 ghost use Rattle.std.specs.Prelude.{◌≡◌, ◌≤◌, ◌<◌, ◌↔◌, ℕ, IfNone, IfOk, IsSome, IsTrue, MatchOption, map};
-ghost use Rattle.seq_timer.specs.Steps.{greatest_limit};
+ghost use Rattle.timer_setting.specs.Settimes.{most_entries};
 ghost use Rattle.script_text.specs.ObjectCalls.{AreValidFor, nanoseconds_of};
 ghost use Rattle.script_text.specs.PosixHistories as posix_lines;
 ghost use Rattle.script_text.specs.FdHistories as fd_lines;
@@ -39,8 +39,8 @@ impl Object {
     {
         match self {
             Object::Raw { .. } => 0,
-            Object::Posix { state } => state.base(),
-            Object::Fd { state } => state.base(),
+            Object::Posix { state } => state.timer().base,
+            Object::Fd { state } => state.timer().base,
         }
     }
 
@@ -50,8 +50,8 @@ impl Object {
     {
         match self {
             Object::Raw { .. } => 0,
-            Object::Posix { state } => state.stamp(),
-            Object::Fd { state } => state.stamp(),
+            Object::Posix { state } => state.timer().stamp,
+            Object::Fd { state } => state.timer().stamp,
         }
     }
 
@@ -61,8 +61,8 @@ impl Object {
     {
         match self {
             Object::Raw { .. } => true,
-            Object::Posix { state } => state.stamp() >= state.limit(),
-            Object::Fd { state } => state.stamp() >= state.limit(),
+            Object::Posix { state } => state.timer().is_spent(),
+            Object::Fd { state } => state.timer().is_spent(),
         }
     }
 
@@ -198,7 +198,7 @@ pub fn objects_of(
     timers: &[Declaration],
     limit: u64,
 ) -> Result<Vec<Object>, AllocError>
-    requires limit { (0 < limit) × (limit ≤ greatest_limit) }
+    requires limit { (0 < limit) × (limit ≤ most_entries) }
     ensures { IfOk result (λ objects. objects.items ≡ map (object_in limit) timers.now) }
 {
     let mut objects = Vec::new(alloc);
@@ -210,7 +210,7 @@ pub fn objects_of(
 
 /// What one timer is declared with, before any call.
 fn object_in(timer: Declaration, limit: u64) -> Object
-    requires limit { (0 < limit) × (limit ≤ greatest_limit) }
+    requires limit { (0 < limit) × (limit ≤ most_entries) }
     ensures { result ≡ object_in limit timer }
 {
     match timer.kind {

@@ -1,7 +1,7 @@
 //! Calls that arm the timer of an object for its next expiry where it has expired: what an object wants, does and answers.
 ghost use Rattle.std.specs.Prelude.{◌≡◌, ◌<◌, ℕ};
+ghost use Rattle.timer_setting.specs.Phases as phased;
 ghost use Rattle.timer_fd.specs.Steps as fd;
-ghost use Rattle.timer_fd.specs.Steps.{HasRoom};
 ghost use Rattle.timer_fd.specs.declared.calls.Call.TheVariants as fd_calls;
 ghost use Rattle.timer_fd.specs.declared.calls.Reply.TheVariants as fd_replies;
 ghost use Rattle.script_text.specs.FdHistories as fd_lines;
@@ -138,10 +138,10 @@ impl Object {
 
 /// A read of a descriptor into a buffer that is long enough, and what it answers.
 fn read(state: &mut FdState, reading: Reading, arm: Armed) -> ReadReply
-    requires room { HasRoom state.old }
-    requires told { fd.IsToldOf (fd_lines.fd_arm arm 0) (fd.read_wanted state.old fd.count_length reading) }
-    ensures state { state.new ≡ fd.after state.old (fd_calls.Read reading (fd_lines.fd_arm arm 0)) }
-    ensures reply { fd_replies.Read (fd_lines.read_answer_of result) ≡ fd.reply_to state.old (fd_calls.Read reading (fd_lines.fd_arm arm 0)) }
+    requires room { state.old.stamp < state.old.limit }
+    requires told { phased.IsOutcomeOf (fd_lines.fd_arm arm 0) (fd.read_wanted state.old fd.count_length reading) }
+    ensures state { state.new ≡ fd.fd_step state.old (fd_calls.Read reading (fd_lines.fd_arm arm 0)) }
+    ensures reply { fd_replies.Read (fd_lines.read_answer_of result) ≡ fd.fd_answer state.old (fd_calls.Read reading (fd_lines.fd_arm arm 0)) }
 {
     match state.read(COUNT_LENGTH, reading, fd_arm(arm, 0)) {
         ReadAnswer::Count { total } => ReadReply::Count { total },

@@ -40,10 +40,10 @@ posix_set t flags value interval reading arm =
     record t { interval = kept_by arm interval; phase = phase_by t.clock flags value reading arm; pending = false; overrun = 0; stamp = t.stamp + 1 }
 
 -- what a settime answers: the setting before it, unless the limit of the high-resolution timer refused the start
-abbrev pub posix_set_answer : PosixTimer → ClockReading → Arm → SettimeAnswer
-posix_set_answer t reading arms.NotAsked = settings.Old (posix_left t reading) t.interval
-posix_set_answer t reading (arms.Armed generation) = settings.Old (posix_left t reading) t.interval
-posix_set_answer t reading (arms.Unarmed stamp) = settings.Unarmed stamp
+abbrev pub posix_settime_answer : PosixTimer → ClockReading → Arm → SettimeAnswer
+posix_settime_answer t reading arms.NotAsked = settings.Old (posix_left t reading) t.interval
+posix_settime_answer t reading (arms.Armed generation) = settings.Old (posix_left t reading) t.interval
+posix_settime_answer t reading (arms.Unarmed stamp) = settings.Unarmed stamp
 
 -- the timer after a trigger: the expiry that is armed makes a signal pending
 abbrev pub posix_triggered : PosixTimer → ℕ → ClockReading → PosixTimer
@@ -87,7 +87,7 @@ posix_step t (calls.Accept reading arm) = accepted t reading arm
 
 -- what a call answers
 abbrev pub posix_answer : PosixTimer → Call → Reply
-posix_answer t (calls.Settime flags value interval reading arm) = replies.Settime (posix_set_answer t reading arm)
+posix_answer t (calls.Settime flags value interval reading arm) = replies.Settime (posix_settime_answer t reading arm)
 posix_answer t (calls.Trigger generation reading) = replies.Trigger (if is_expiry_of t.phase generation reading then triggers.Counted else triggers.Stale)
 posix_answer t (calls.Accept reading arm) = replies.Accept (if t.pending then acceptances.Accepted (overrun_of (periods_in t.phase t.interval reading)) else acceptances.NoSignal)
 

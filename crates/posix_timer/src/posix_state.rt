@@ -6,7 +6,7 @@ ghost use Rattle.timer_setting.specs.Phases.{IsOutcomeOf};
 ghost use Rattle.timer_setting.specs.Settimes.{most_entries};
 ghost use Rattle.timer_setting.specs.StepTables.{IsAnswered};
 ghost use Rattle.posix_timer.specs.States.{PosixTimer, ArePosixArguments, PosixInvariant, posix_opening, setting_of};
-ghost use Rattle.posix_timer.specs.Steps.{PosixAllows, accept_refusal, accept_wanted, accepted, kept_by, posix_answer, posix_set, posix_set_answer, posix_settime_wanted, posix_settime_refusal, posix_step, posix_table, posix_trigger_refusal, posix_triggered};
+ghost use Rattle.posix_timer.specs.Steps.{PosixAllows, accept_refusal, accept_wanted, accepted, kept_by, posix_answer, posix_set, posix_settime_answer, posix_settime_wanted, posix_settime_refusal, posix_step, posix_table, posix_trigger_refusal, posix_triggered};
 ghost use Rattle.posix_timer.specs.declared.calls.Call.TheVariants as calls;
 ghost use Rattle.posix_timer.specs.declared.calls.Reply.TheVariants as replies;
 
@@ -197,7 +197,7 @@ impl PosixState {
         requires value { value ≤ last_time }
         requires interval { interval ≤ last_time }
         ensures state { self.new ≡ posix_set self.old flags value interval reading arm }
-        ensures answer { result ≡ posix_set_answer self.old reading arm }
+        ensures answer { result ≡ posix_settime_answer self.old reading arm }
     {
         let old = self.gettime(reading);
         self.timer.set(flags, value, reading, arm);

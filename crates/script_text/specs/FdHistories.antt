@@ -1,5 +1,5 @@
 -- The history of a timer descriptor that a record tells.
-use Rattle.std.specs.Prelude.{if◌then◌else◌, Option, Some, None, List}
+use Rattle.std.specs.Prelude.{ℕ, if◌then◌else◌, Option, Some, None, List}
 use Rattle.record_text.specs.declared.record.ClockLine.{ClockLine}
 use Rattle.record_text.specs.declared.record.Armed.{Armed}
 use Rattle.record_text.specs.declared.record.Armed.TheVariants as armings
@@ -9,9 +9,11 @@ use Rattle.record_text.specs.declared.record.ReadReply.{ReadReply}
 use Rattle.record_text.specs.declared.record.ReadReply.TheVariants as reads
 use Rattle.record_text.specs.declared.record.ObjectEntry.{ObjectEntry}
 use Rattle.record_text.specs.declared.record.ObjectEntry.TheVariants as entries
-use Rattle.timer_fd.specs.declared.arming.Arm.{Arm}
-use Rattle.timer_fd.specs.declared.arming.Arm.TheVariants as arms
+use Rattle.timer_setting.specs.declared.arming.Arm.{Arm}
+use Rattle.timer_setting.specs.declared.arming.Arm.TheVariants as arms
+use Rattle.timer_fd.specs.declared.calls.Call.{Call}
 use Rattle.timer_fd.specs.declared.calls.Call.TheVariants as calls
+use Rattle.timer_fd.specs.declared.calls.Reply.{Reply}
 use Rattle.timer_fd.specs.declared.calls.Reply.TheVariants as replies
 use Rattle.timer_fd.specs.declared.answers.SettimeAnswer.{SettimeAnswer}
 use Rattle.timer_fd.specs.declared.answers.SettimeAnswer.TheVariants as set_answers
@@ -19,7 +21,7 @@ use Rattle.timer_fd.specs.declared.answers.TriggerAnswer.TheVariants as triggers
 use Rattle.timer_fd.specs.declared.answers.ReadAnswer.{ReadAnswer}
 use Rattle.timer_fd.specs.declared.answers.ReadAnswer.TheVariants as read_answers
 use Rattle.timer_fd.specs.declared.answers.GettimeAnswer.TheVariants as lefts
-use Rattle.timer_fd.specs.Histories.{Entry}
+use Rattle.timer_setting.specs.StepTables.{AnsweredCall}
 use Rattle.script_text.specs.Histories.{reading_at}
 use Rattle.script_text.specs.PosixHistories.{refused_at}
 
@@ -42,7 +44,7 @@ read_answer_of reads.Again = read_answers.Again
 read_answer_of reads.Canceled = read_answers.Canceled
 
 -- the entry that a line shows, where it is one of a descriptor
-abbrev pub fd_entry : List ClockLine → ObjectEntry → Option Entry
+abbrev pub fd_entry : List ClockLine → ObjectEntry → Option (AnsweredCall Call Reply)
 fd_entry clock (entries.Settime flags value interval reading arm reply) =
     Some (record { call = calls.Settime flags value interval (reading_at clock reading) (fd_arm arm (refused_at reply)); reply = replies.Settime (fd_set_answer reply) })
 fd_entry clock (entries.Trigger generation reading counted) =

@@ -15,8 +15,9 @@ use Rattle.record_text.specs.declared.record.ObjectEntry.{ObjectEntry}
 use Rattle.record_text.specs.declared.record.ObjectEntry.TheVariants as made_entries
 use Rattle.record_text.specs.declared.record.Answer.{Answer}
 use Rattle.record_text.specs.declared.record.Answer.TheVariants as answers
-use Rattle.posix_timer.specs.Requests as posix
-use Rattle.timer_fd.specs.Requests as fd
+use Rattle.timer_setting.specs.Arguments.{mode_by}
+use Rattle.posix_timer.specs.States.{ArePosixArguments}
+use Rattle.timer_fd.specs.States.{AreFdArguments}
 use Rattle.timer_fd.specs.Steps.{count_length}
 use Rattle.script_text.specs.declared.script.Kind.{Kind}
 use Rattle.script_text.specs.declared.script.Kind.TheVariants as kinds
@@ -32,14 +33,14 @@ base_of (kinds.Fd base) = base
 -- a settime's arguments are taken by an object of this kind
 abbrev pub AreValidFor : Kind → ℕ → TimeSpec → TimeSpec → Type 0
 AreValidFor (kinds.Raw callback) flags value interval = ⊥
-AreValidFor (kinds.Posix base) flags value interval = posix.AreTaken flags value interval
-AreValidFor (kinds.Fd base) flags value interval = fd.AreTaken flags value interval
+AreValidFor (kinds.Posix base) flags value interval = ArePosixArguments flags value interval
+AreValidFor (kinds.Fd base) flags value interval = AreFdArguments flags value interval
 
 -- how a settime's flags give its value
 abbrev pub start_mode : Kind → ℕ → Mode
 start_mode (kinds.Raw callback) flags = modes.Rel
-start_mode (kinds.Posix base) flags = posix.mode_by flags
-start_mode (kinds.Fd base) flags = fd.mode_by flags
+start_mode (kinds.Posix base) flags = mode_by flags
+start_mode (kinds.Fd base) flags = mode_by flags
 
 -- a time as one number of nanoseconds
 abbrev pub nanoseconds_of : TimeSpec → ℕ

@@ -7,12 +7,15 @@ use Rattle.record_text.specs.declared.record.Label.{Label}
 use Rattle.record_text.specs.declared.record.ObjectEntry.{ObjectEntry}
 use Rattle.record_text.specs.declared.record.ObjectLine.{ObjectLine}
 use Rattle.record_text.specs.declared.record.RunRecord.{RunRecord}
-use Rattle.posix_timer.specs.declared.phase.Phase.TheVariants as posix_phases
-use Rattle.posix_timer.specs.declared.phase.Phase as posix_phase
+use Rattle.timer_setting.specs.declared.phase.Phase.{Phase}
+use Rattle.timer_setting.specs.declared.phase.Phase.TheVariants as phases
+use Rattle.timer_setting.specs.StepTables.{AnsweredCall}
+use Rattle.posix_timer.specs.declared.calls.Call as posix_call
+use Rattle.posix_timer.specs.declared.calls.Reply as posix_reply
 use Rattle.posix_timer.specs.States.{PosixTimer}
 use Rattle.posix_timer.specs.Histories as posix
-use Rattle.timer_fd.specs.declared.phase.Phase.TheVariants as fd_phases
-use Rattle.timer_fd.specs.declared.phase.Phase as fd_phase
+use Rattle.timer_fd.specs.declared.calls.Call as fd_call
+use Rattle.timer_fd.specs.declared.calls.Reply as fd_reply
 use Rattle.timer_fd.specs.States.{Descriptor}
 use Rattle.timer_fd.specs.Histories as fd
 use Rattle.script_text.specs.declared.script.Callback.TheVariants as callbacks
@@ -46,28 +49,28 @@ present (None ∷ xs) = present xs
 present (Some x ∷ xs) = x ∷ present xs
 
 -- an object's history, as a POSIX timer's
-abbrev pub posix_history : RunRecord → ℕ → List posix.Entry
+abbrev pub posix_history : RunRecord → ℕ → List (AnsweredCall posix_call.Call posix_reply.Reply)
 posix_history r i = present (map (posix_lines.posix_entry r.clock) (object_entries r i))
 
 -- an object's history, as a descriptor's
-abbrev pub fd_history : RunRecord → ℕ → List fd.Entry
+abbrev pub fd_history : RunRecord → ℕ → List (AnsweredCall fd_call.Call fd_reply.Reply)
 fd_history r i = present (map (fd_lines.fd_entry r.clock) (object_entries r i))
 
 -- a timer by itself has no object's entries; those of an object are all of its kind, and make a history that one such object gives
 abbrev pub IsLegalObject : Script → RunRecord → ℕ → Kind → Type 0
 IsLegalObject s r i (kinds.Raw callback) = lines_of_object r i ≡ []
 IsLegalObject s r i (kinds.Posix base) =
-    AllByRecursion (λ e. is_some (posix_lines.posix_entry r.clock e) ≡ true) (object_entries r i) × posix.IsLegal (clock_of s i) base s.limit (posix_history r i)
+    AllByRecursion (λ e. is_some (posix_lines.posix_entry r.clock e) ≡ true) (object_entries r i) × posix.IsPosixHistory (clock_of s i) base s.limit (posix_history r i)
 IsLegalObject s r i (kinds.Fd base) =
-    AllByRecursion (λ e. is_some (fd_lines.fd_entry r.clock e) ≡ true) (object_entries r i) × fd.IsLegal (clock_of s i) base s.limit (fd_history r i)
+    AllByRecursion (λ e. is_some (fd_lines.fd_entry r.clock e) ≡ true) (object_entries r i) × fd.IsFdHistory (clock_of s i) base s.limit (fd_history r i)
 
 -- a POSIX timer after its first so many entries
 abbrev pub posix_after : Script → RunRecord → ℕ → ℕ → ℕ → PosixTimer
-posix_after s r i base stamp = posix.state_after (clock_of s i) base s.limit (take stamp (posix_history r i))
+posix_after s r i base stamp = posix.posix_state_after (clock_of s i) base s.limit (take stamp (posix_history r i))
 
 -- a descriptor after its first so many entries
 abbrev pub fd_after : Script → RunRecord → ℕ → ℕ → ℕ → Descriptor
-fd_after s r i base stamp = fd.state_after (clock_of s i) base s.limit (take stamp (fd_history r i))
+fd_after s r i base stamp = fd.fd_state_after (clock_of s i) base s.limit (take stamp (fd_history r i))
 
 -- how an object has armed its timer: the generation, the clock and the expiry
 pub record ArmedAs : Type 0 where
@@ -75,20 +78,14 @@ pub record ArmedAs : Type 0 where
   pub clock : ClockId
   pub expires : ℕ
 
--- the same, where a POSIX timer's phase is that it is armed
-abbrev pub posix_armed : posix_phase.Phase → Option ArmedAs
-posix_armed posix_phases.Idle = None
-posix_armed (posix_phases.Armed generation clock expires) = Some (record { generation = generation; clock = clock; expires = expires })
-posix_armed (posix_phases.Due clock expires) = None
-
--- where a descriptor's phase is that it is armed
-abbrev pub fd_armed : fd_phase.Phase → Option ArmedAs
-fd_armed fd_phases.Idle = None
-fd_armed (fd_phases.Armed generation clock expires) = Some (record { generation = generation; clock = clock; expires = expires })
-fd_armed (fd_phases.Expired clock expires) = None
+-- the same, where the phase of an object's timer is that it is armed
+abbrev pub armed_in : Phase → Option ArmedAs
+armed_in phases.Idle = None
+armed_in (phases.Armed generation clock expires) = Some (record { generation = generation; clock = clock; expires = expires })
+armed_in (phases.Expired clock expires) = None
 
 -- how an object of this kind has armed its timer after its first so many entries
 abbrev pub armed_after : Script → RunRecord → ℕ → ℕ → Kind → Option ArmedAs
 armed_after s r i stamp (kinds.Raw callback) = None
-armed_after s r i stamp (kinds.Posix base) = posix_armed (posix_after s r i base stamp).phase
-armed_after s r i stamp (kinds.Fd base) = fd_armed (fd_after s r i base stamp).phase
+armed_after s r i stamp (kinds.Posix base) = armed_in (posix_after s r i base stamp).phase
+armed_after s r i stamp (kinds.Fd base) = armed_in (fd_after s r i base stamp).phase

@@ -9,16 +9,18 @@ use Rattle.record_text.specs.declared.record.AcceptReply.{AcceptReply}
 use Rattle.record_text.specs.declared.record.AcceptReply.TheVariants as acceptances
 use Rattle.record_text.specs.declared.record.ObjectEntry.{ObjectEntry}
 use Rattle.record_text.specs.declared.record.ObjectEntry.TheVariants as entries
-use Rattle.posix_timer.specs.declared.arming.Arm.{Arm}
-use Rattle.posix_timer.specs.declared.arming.Arm.TheVariants as arms
+use Rattle.timer_setting.specs.declared.arming.Arm.{Arm}
+use Rattle.timer_setting.specs.declared.arming.Arm.TheVariants as arms
+use Rattle.posix_timer.specs.declared.calls.Call.{Call}
 use Rattle.posix_timer.specs.declared.calls.Call.TheVariants as calls
+use Rattle.posix_timer.specs.declared.calls.Reply.{Reply}
 use Rattle.posix_timer.specs.declared.calls.Reply.TheVariants as replies
 use Rattle.posix_timer.specs.declared.answers.SettimeAnswer.{SettimeAnswer}
 use Rattle.posix_timer.specs.declared.answers.SettimeAnswer.TheVariants as set_answers
 use Rattle.posix_timer.specs.declared.answers.TriggerAnswer.TheVariants as triggers
 use Rattle.posix_timer.specs.declared.answers.AcceptAnswer.{AcceptAnswer}
 use Rattle.posix_timer.specs.declared.answers.AcceptAnswer.TheVariants as accept_answers
-use Rattle.posix_timer.specs.Histories.{Entry}
+use Rattle.timer_setting.specs.StepTables.{AnsweredCall}
 use Rattle.script_text.specs.Histories.{reading_at}
 
 -- what became of the start that a call wanted; a refused one has the stamp that the timer had
@@ -45,7 +47,7 @@ accept_answer_of (acceptances.Accepted overrun) = accept_answers.Accepted overru
 accept_answer_of acceptances.NoSignal = accept_answers.NoSignal
 
 -- the entry that a line shows, where it is one of a POSIX timer
-abbrev pub posix_entry : List ClockLine → ObjectEntry → Option Entry
+abbrev pub posix_entry : List ClockLine → ObjectEntry → Option (AnsweredCall Call Reply)
 posix_entry clock (entries.Settime flags value interval reading arm reply) =
     option_map (λ answer. record { call = calls.Settime flags value interval (reading_at clock reading) (posix_arm arm (refused_at reply)); reply = replies.Settime answer }) (posix_set_answer reply)
 posix_entry clock (entries.Trigger generation reading counted) =

@@ -58,10 +58,10 @@ abbrev pub old_setting : Descriptor → ℕ → ℕ → ClockReading → Settime
 old_setting t flags value reading = if answers_canceled t flags value reading then settings.Canceled else settings.Old (fd_left t reading) t.interval
 
 -- what a settime answers: the refused start comes first
-abbrev pub fd_set_answer : Descriptor → ℕ → ℕ → ClockReading → Arm → SettimeAnswer
-fd_set_answer t flags value reading arms.NotAsked = old_setting t flags value reading
-fd_set_answer t flags value reading (arms.Armed generation) = old_setting t flags value reading
-fd_set_answer t flags value reading (arms.Unarmed stamp) = settings.Unarmed stamp
+abbrev pub fd_settime_answer : Descriptor → ℕ → ℕ → ClockReading → Arm → SettimeAnswer
+fd_settime_answer t flags value reading arms.NotAsked = old_setting t flags value reading
+fd_settime_answer t flags value reading (arms.Armed generation) = old_setting t flags value reading
+fd_settime_answer t flags value reading (arms.Unarmed stamp) = settings.Unarmed stamp
 
 -- the descriptor after a trigger: the expiry that is armed is one more to be read
 abbrev pub fd_triggered : Descriptor → ℕ → ClockReading → Descriptor
@@ -125,7 +125,7 @@ fd_step t (calls.Gettime reading arm) = fd_got t reading arm
 
 -- what a call answers
 abbrev pub fd_answer : Descriptor → Call → Reply
-fd_answer t (calls.Settime flags value interval reading arm) = replies.Settime (fd_set_answer t flags value reading arm)
+fd_answer t (calls.Settime flags value interval reading arm) = replies.Settime (fd_settime_answer t flags value reading arm)
 fd_answer t (calls.Trigger generation reading) = replies.Trigger (if is_expiry_of t.phase generation reading then triggers.Counted else triggers.Stale)
 fd_answer t (calls.Read reading arm) = replies.Read (fd_read_answer t reading)
 fd_answer t (calls.Gettime reading arm) = replies.Gettime (lefts.Left (left_by arm t reading) t.interval)

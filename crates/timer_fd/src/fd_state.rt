@@ -6,7 +6,7 @@ ghost use Rattle.timer_setting.specs.Phases.{IsOutcomeOf};
 ghost use Rattle.timer_setting.specs.Settimes.{most_entries};
 ghost use Rattle.timer_setting.specs.StepTables.{IsAnswered};
 ghost use Rattle.timer_fd.specs.States.{Descriptor, AreFdArguments, FdInvariant, fd_flags, fd_opening, is_canceled, is_readable};
-ghost use Rattle.timer_fd.specs.Steps.{FdAllows, count_length, fd_answer, fd_got, fd_read, fd_read_answer, fd_set, fd_set_answer, fd_settime_wanted, fd_settime_refusal, fd_step, fd_table, fd_trigger_refusal, fd_triggered, gettime_refusal, gettime_wanted, read_refusal, read_wanted, total_of};
+ghost use Rattle.timer_fd.specs.Steps.{FdAllows, count_length, fd_answer, fd_got, fd_read, fd_read_answer, fd_set, fd_settime_answer, fd_settime_wanted, fd_settime_refusal, fd_step, fd_table, fd_trigger_refusal, fd_triggered, gettime_refusal, gettime_wanted, read_refusal, read_wanted, total_of};
 ghost use Rattle.timer_fd.specs.declared.calls.Call.TheVariants as calls;
 ghost use Rattle.timer_fd.specs.declared.calls.Reply.TheVariants as replies;
 
@@ -227,7 +227,7 @@ impl FdState {
         requires value { value ≤ last_time }
         requires interval { interval ≤ last_time }
         ensures state { self.new ≡ fd_set self.old flags value interval reading arm }
-        ensures answer { result ≡ fd_set_answer self.old flags value reading arm }
+        ensures answer { result ≡ fd_settime_answer self.old flags value reading arm }
         ensures unspent { (stamp : ℕ) → result ≡ SettimeAnswer.Spent stamp → ⊥ }
     {
         let left = self.timer.left(OVERDUE, reading);
