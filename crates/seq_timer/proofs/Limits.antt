@@ -1,11 +1,11 @@
--- A history ends soon after the limit.
+-- A timer's stamp counts its entries, and a history ends soon after the limit.
 use Rattle.std.proofs.Common.{◌≡◌, ◌+◌, ◌<◌, ◌≤◌, ◌^◌, ℕ, false, ◌||◌, ◌&&◌, List, [], ◌∷◌, length, is_some, arith, refl}
 use Rattle.std.proofs.lemmas.Bool.Decides.{nat_tests}
 use Rattle.ktime.specs.declared.clock_id.ClockId.{ClockId}
 use Rattle.seq_timer.specs.declared.event.Event.{Event}
 use Rattle.seq_timer.specs.declared.event.Event.TheVariants as events
 use Rattle.seq_timer.specs.Steps.{Timer, opening, Needs, after, entries_left, greatest_limit}
-use Rattle.seq_timer.specs.Histories.{Entry, AreSteps, IsLegal}
+use Rattle.seq_timer.specs.Histories.{Entry, AreSteps, IsLegal, after_all, state_after}
 
 -- the timer has so many entries left, and isn't both on the move and armed or running
 pub record HasLeft (t : Timer) : Type 0 where
@@ -27,6 +27,16 @@ stamp-after t events.Cancel = (refl, refl)
 stamp-after t (events.Claim base reading) = (refl, refl)
 stamp-after t (events.Forward reading interval) = (refl, refl)
 stamp-after t (events.Finish restart) = (refl, refl)
+
+pub stamp-after_all : (t : Timer) (history : List Entry) → (after_all t history).stamp ≡ t.stamp + length history
+stamp-after_all t [] = omega arith
+stamp-after_all t (e ∷ es) =
+    let rest = stamp-after_all (after t e.event) es in
+    let counted = stamp-after t e.event in
+    omega (arith, rest, counted.0)
+
+pub stamp-state_after : (clock : ClockId) (limit : ℕ) (history : List Entry) → (state_after clock limit history).stamp ≡ length history
+stamp-state_after clock limit history = let counted = stamp-after_all (opening clock limit) history in omega (arith, counted)
 
 pub few_entries : (t : Timer) (history : List Entry) → AreSteps t history → HasLeft t → t.stamp + length history ≤ t.limit + 3
 few_entries t [] steps left = let few = left.few in omega (arith, few)

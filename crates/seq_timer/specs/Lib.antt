@@ -1,3 +1,4 @@
+pub mod Bases
 pub mod Contents
 pub mod Histories
 pub mod Laws

@@ -1,5 +1,5 @@
 -- Several timers by their numbers, and what holds of them on a base.
-use Rattle.std.specs.Prelude.{ℕ, Bool, not, ◌&&◌, is_some, List, get_or, nat_eq, nat_lt, nat_le}
+use Rattle.std.specs.Prelude.{ℕ, ◌≡◌, Bool, true, false, not, ◌&&◌, is_some, List, get_or, nat_eq, nat_lt, nat_le}
 use Rattle.ktime.specs.declared.clock_id.ClockId.{ClockId}
 use Rattle.ktime.specs.declared.clock_id.ClockId.TheVariants as clocks
 use Rattle.ktime.specs.Readings.{ClockReading}
@@ -42,3 +42,9 @@ is_kept_on base clock t = is_armed_on base t && nat_eq (rank t.clock) (rank cloc
 -- whether the timer is armed on a base and kept on this clock, with an earlier expiry
 abbrev pub is_smaller : ℕ → ClockId → ℕ → Timer → Bool
 is_smaller base clock expires t = is_kept_on base clock t && nat_lt t.expires expires
+
+-- a timer is the next to expire on a base: it is due there, none is due whose clock is looked at before, none of its clock has an earlier expiry
+pub record IsNextDue (timers : ℕ → Timer) (base : ℕ) (reading : ClockReading) (id : ℕ) : Type 0 where
+  pub due : is_due_on base reading (timers id) ≡ true
+  pub ahead : (other : ℕ) → is_ahead base reading (timers id).clock (timers other) ≡ false
+  pub smaller : (other : ℕ) → is_smaller base (timers id).clock (timers id).expires (timers other) ≡ false

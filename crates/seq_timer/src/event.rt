@@ -1,3 +1,4 @@
+//! What can happen to a timer, and what each event answers.
 use ktime::{ClockId, Mode, Reading};
 
 /// What happens to a timer. Each event is one entry of its history.

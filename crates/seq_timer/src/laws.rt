@@ -1,8 +1,9 @@
+//! Laws over the histories of one timer, as clauses of functions without a body.
 ghost use Rattle.std.specs.Prelude.{◌≡◌, ◌+◌, ◌<◌, ◌≤◌, ◌^◌, ℕ, true, false, List, length};
 ghost use Rattle.std.specs.List.{AllByRecursion};
 ghost use Rattle.ktime.specs.declared.clock_id.ClockId.{ClockId};
 ghost use Rattle.seq_timer.specs.declared.observation.Observation.TheVariants as seen;
-ghost use Rattle.seq_timer.specs.Histories.{Entry, HoldsAt, IsLegal, spans_of};
+ghost use Rattle.seq_timer.specs.Histories.{Entry, HoldsAt, IsLegal, spans_of, state_after};
 ghost use Rattle.seq_timer.specs.Laws.{AreApart, IsInOne, IsOfOneGeneration, is_cancelled, is_claimed};
 ghost use Rattle.seq_timer.specs.Steps.{greatest_limit};
 
@@ -25,6 +26,11 @@ pub fn running_is_told_inside_the_span()
 /// The claim, the forwards and the finish of a span speak of one generation.
 pub fn a_span_has_one_generation()
     ensures { (clock : ClockId) (limit : ℕ) (history : List Entry) → IsLegal clock limit history → AllByRecursion (IsOfOneGeneration clock limit history) (spans_of history) }
+{}
+
+/// A timer's stamp is the number of its entries.
+pub fn a_stamp_counts_entries()
+    ensures { (clock : ClockId) (limit : ℕ) (history : List Entry) → IsLegal clock limit history → (state_after clock limit history).stamp ≡ length history }
 {}
 
 /// Few entries follow once the limit is reached.

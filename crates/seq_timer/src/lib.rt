@@ -1,14 +1,16 @@
 //! One high-resolution timer as a state and the events that step it: what each event needs, what it leaves and what it answers.
 #![tactic(auto)]
 
+pub use base::Base;
 pub use event::{Event, Rearmed, Reply};
 pub use laws::{
-    a_cancelled_generation_never_runs, a_span_has_one_generation, histories_end,
-    running_is_told_inside_the_span, spans_do_not_overlap,
+    a_cancelled_generation_never_runs, a_span_has_one_generation, a_stamp_counts_entries,
+    histories_end, running_is_told_inside_the_span, spans_do_not_overlap,
 };
 pub use observation::{Observation, Peek};
 pub use timer_state::TimerState;
 
+mod base;
 mod event;
 mod laws;
 mod observation;

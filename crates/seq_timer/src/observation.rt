@@ -1,3 +1,4 @@
+//! What a caller can see of a timer.
 /// What a caller saw of a timer without changing it.
 #[derive(Clone, Copy, Debug, PartialEq, Eq)]
 pub enum Observation {

@@ -1,3 +1,4 @@
+//! Tests of one timer, and of a base.
 ghost use Rattle.std.specs.Prelude.{◌≡◌, ◌≤◌};
 ghost use Rattle.ktime.specs.Readings.{latest};
 ghost use Rattle.seq_timer.specs.declared.event.Event.TheVariants as events;

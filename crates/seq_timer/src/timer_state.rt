@@ -1,3 +1,4 @@
+//! One timer as a state that events step.
 ghost use Rattle.std.specs.Prelude.{◌≡◌, ◌≤◌, ◌<◌, ◌⊎◌, IsSome, true};
 ghost use Rattle.seq_timer.specs.Histories.{peek_of};
 ghost use Rattle.seq_timer.specs.Steps.{Timer, IsBounded, Needs, after, finish_reply, finished, greatest_limit, opening, reply_to, start_reply, started};

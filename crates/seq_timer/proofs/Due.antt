@@ -4,17 +4,14 @@ use Rattle.std.specs.Option.{option_or}
 use Rattle.std.proofs.Math.Logic.{⊎_elim}
 use Rattle.std.proofs.lemmas.Bool.{cases_lt, and_parts, and_from, and_left, and_right, eqb-true, lt-leb, le-leb, le-ltb, false≢true}
 use Rattle.std.proofs.lemmas.Bool.Decides.{nat_tests}
-use Rattle.std.proofs.lemmas.List.{get_or_past}
 use Rattle.ktime.specs.declared.clock_id.ClockId.{ClockId}
 use Rattle.ktime.specs.declared.clock_id.ClockId.TheVariants as clocks
 use Rattle.ktime.specs.Readings.{ClockReading, value_of}
 use Rattle.timer_queue.specs.Pairs.{first_of, expiry_of, IsByExpiry}
 use Rattle.timer_queue.proofs.Pairs.{expiry_of-first, first_is_least}
 use Rattle.seq_timer.specs.Steps.{Timer}
-use Rattle.seq_timer.specs.Tables.{timer_at, no_timer, rank, is_armed_on, is_kept_on, is_due_on, is_ahead, is_smaller}
+use Rattle.seq_timer.specs.Tables.{rank, is_armed_on, is_kept_on, is_due_on, is_ahead, is_smaller, IsNextDue}
 use Rattle.seq_timer.specs.Contents.{Content, reached, first_due, IsQueueOf, IsContentOf}
-use Rattle.timer_core.specs.Answers.{IsNext}
-use Rattle.timer_core.specs.Kept.{Kept, IsConsistent, content_at}
 
 -- a clock is told by its place among the queues
 pub rank-injective : (a b : ClockId) → rank a ≡ rank b → a ≡ b
@@ -38,8 +35,8 @@ first_reached now (q ∷ qs) p is = ⊎_elim
     (cases_lt now q.0)
 
 -- no timer of a clock is due on a base
-abbrev NoneOf : List Timer → ℕ → ClockReading → ClockId → Type 0
-NoneOf timers base reading clock = (id : ℕ) → (is_kept_on base clock (timer_at timers id) && nat_le (timer_at timers id).expires (value_of clock reading)) ≡ false
+abbrev NoneOf : (ℕ → Timer) → ℕ → ClockReading → ClockId → Type 0
+NoneOf timers base reading clock = (id : ℕ) → (is_kept_on base clock (timers id) && nat_le (timers id).expires (value_of clock reading)) ≡ false
 
 pub expiry-kept : (kept : Bool) (expires least : ℕ) → (if kept then Some expires else None) ≡ Some least → (kept ≡ true) × (expires ≡ least)
 expiry-kept true expires least is = (refl, cc)
@@ -55,9 +52,9 @@ none_reached now id expires (q ∷ qs) sorted none found =
     (cases_lt now q.0)
 
 -- where a queue's first pair isn't reached, none of its clock is due
-pub none_of : (timers : List Timer) (base : ℕ) (reading : ClockReading) (clock : ClockId) (queue : List (ℕ × ℕ)) → IsQueueOf timers base clock queue → reached (value_of clock reading) queue ≡ None → NoneOf timers base reading clock
+pub none_of : (timers : ℕ → Timer) (base : ℕ) (reading : ClockReading) (clock : ClockId) (queue : List (ℕ × ℕ)) → IsQueueOf timers base clock queue → reached (value_of clock reading) queue ≡ None → NoneOf timers base reading clock
 none_of timers base reading clock queue here none id =
-    let t = timer_at timers id in
+    let t = timers id in
     let now = value_of clock reading in
     elim (is_kept_on base clock t) as (λ b. is_kept_on base clock t ≡ b → (b && nat_le t.expires now) ≡ false) [
       | true ↦ λ kept. lt-leb t.expires now (none_reached now id t.expires queue here.by_expiry none (here.exact id ∙ ap (λ b. if b then Some t.expires else None) kept))
@@ -69,43 +66,38 @@ due_of_kept false in_time n none = refl
 due_of_kept true in_time n none = grind (arith, nat_tests)
 
 -- a timer isn't due where none of its clock is
-pub not_due : (timers : List Timer) (base id : ℕ) (reading : ClockReading) → NoneOf timers base reading (timer_at timers id).clock → is_due_on base reading (timer_at timers id) ≡ false
+pub not_due : (timers : ℕ → Timer) (base id : ℕ) (reading : ClockReading) → NoneOf timers base reading (timers id).clock → is_due_on base reading (timers id) ≡ false
 not_due timers base id reading none =
-    let t = timer_at timers id in
+    let t = timers id in
     due_of_kept (is_armed_on base t) (nat_le t.expires (value_of t.clock reading)) (rank t.clock) (none id)
 
 -- the first pair of a queue, where it is reached and none of a clock before it is due
-pub next_of : (timers : List Timer) (base : ℕ) (reading : ClockReading) (clock : ClockId) (queue : List (ℕ × ℕ)) (p : ℕ × ℕ) → IsQueueOf timers base clock queue → reached (value_of clock reading) queue ≡ Some p → ((before : ClockId) → nat_lt (rank before) (rank clock) ≡ true → NoneOf timers base reading before) → IsNext timers base reading p.1 × (p.0 ≡ (timer_at timers p.1).expires)
+pub next_of : (timers : ℕ → Timer) (base : ℕ) (reading : ClockReading) (clock : ClockId) (queue : List (ℕ × ℕ)) (p : ℕ × ℕ) → IsQueueOf timers base clock queue → reached (value_of clock reading) queue ≡ Some p → ((before : ClockId) → nat_lt (rank before) (rank clock) ≡ true → NoneOf timers base reading before) → IsNextDue timers base reading p.1 × (p.0 ≡ (timers p.1).expires)
 next_of timers base reading clock queue p here is before =
-    let t = timer_at timers p.1 in
+    let t = timers p.1 in
     let first = first_reached (value_of clock reading) queue p is in
     let found = expiry_of-first queue p first.0 in
     let kept = expiry-kept (is_kept_on base clock t) t.expires p.0 (sym (here.exact p.1) ∙ found) in
     let parts = and_parts (is_armed_on base t) (nat_eq (rank t.clock) (rank clock)) kept.0 in
     let clock_is : t.clock ≡ clock = rank-injective t.clock clock (eqb-true (rank t.clock) (rank clock) parts.1) in
     let in_time : t.expires ≤ value_of t.clock reading = subst (λ k. t.expires ≤ value_of k reading) (sym clock_is) (subst (λ e. e ≤ value_of clock reading) (sym kept.1) first.1) in
-    let there : p.1 < length timers = ⊎_elim (λ inside. inside) (λ past. absurd (not_kept (timer_at timers p.1) (get_or_past timers p.1 no_timer past) kept.0)) (cases_lt p.1 (length timers)) in
-    let not_ahead : (other : ℕ) → is_ahead base reading clock (timer_at timers other) ≡ false = λ other.
-    elim (nat_lt (rank (timer_at timers other).clock) (rank clock)) as (λ b. nat_lt (rank (timer_at timers other).clock) (rank clock) ≡ b → (is_due_on base reading (timer_at timers other) && b) ≡ false) [
-      | true ↦ λ earlier. and_left (is_due_on base reading (timer_at timers other)) true (not_due timers base other reading (before (timer_at timers other).clock earlier))
-      | false ↦ λ later. and_right (is_due_on base reading (timer_at timers other)) false refl
+    let not_ahead : (other : ℕ) → is_ahead base reading clock (timers other) ≡ false = λ other.
+    elim (nat_lt (rank (timers other).clock) (rank clock)) as (λ b. nat_lt (rank (timers other).clock) (rank clock) ≡ b → (is_due_on base reading (timers other) && b) ≡ false) [
+      | true ↦ λ earlier. and_left (is_due_on base reading (timers other)) true (not_due timers base other reading (before (timers other).clock earlier))
+      | false ↦ λ later. and_right (is_due_on base reading (timers other)) false refl
     ] refl in
-    let not_smaller : (other : ℕ) → is_smaller base clock p.0 (timer_at timers other) ≡ false = λ other.
-    elim (is_kept_on base clock (timer_at timers other)) as (λ b. is_kept_on base clock (timer_at timers other) ≡ b → (b && nat_lt (timer_at timers other).expires p.0) ≡ false) [
-      | true ↦ λ there. le-ltb (timer_at timers other).expires p.0 (first_is_least queue p here.by_expiry first.0 other (timer_at timers other).expires (here.exact other ∙ ap (λ b. if b then Some (timer_at timers other).expires else None) there))
+    let not_smaller : (other : ℕ) → is_smaller base clock p.0 (timers other) ≡ false = λ other.
+    elim (is_kept_on base clock (timers other)) as (λ b. is_kept_on base clock (timers other) ≡ b → (b && nat_lt (timers other).expires p.0) ≡ false) [
+      | true ↦ λ there. le-ltb (timers other).expires p.0 (first_is_least queue p here.by_expiry first.0 other (timers other).expires (here.exact other ∙ ap (λ b. if b then Some (timers other).expires else None) there))
       | false ↦ λ absent. refl
     ] refl in (
       record {
-        within = there;
         due = and_from (is_armed_on base t) (nat_le t.expires (value_of t.clock reading)) parts.0 (le-leb t.expires (value_of t.clock reading) in_time);
-        ahead = λ other. subst (λ k. is_ahead base reading k (timer_at timers other) ≡ false) (sym clock_is) (not_ahead other);
-        smaller = λ other. subst (λ k. is_smaller base k t.expires (timer_at timers other) ≡ false) (sym clock_is) (subst (λ e. is_smaller base clock e (timer_at timers other) ≡ false) (sym kept.1) (not_smaller other));
+        ahead = λ other. subst (λ k. is_ahead base reading k (timers other) ≡ false) (sym clock_is) (not_ahead other);
+        smaller = λ other. subst (λ k. is_smaller base k t.expires (timers other) ≡ false) (sym clock_is) (subst (λ e. is_smaller base clock e (timers other) ≡ false) (sym kept.1) (not_smaller other));
       },
       sym kept.1,
     )
-  where
-    not_kept : (u : Timer) → u ≡ no_timer → is_kept_on base clock u ≡ true → ⊥
-    not_kept u is kept = false≢true (subst (λ (v : Timer). is_kept_on base clock v ≡ true) is kept)
 
 -- ---- over the three queues
 
@@ -120,7 +112,7 @@ or_none None None (Some x) is = absurd (cc)
 or_none None (Some x) d is = absurd (cc)
 or_none (Some x) b d is = absurd (cc)
 
-pub first_due-next : (timers : List Timer) (base : ℕ) (reading : ClockReading) (c : Content) (p : ℕ × ℕ) → IsContentOf timers base c → first_due c reading ≡ Some p → IsNext timers base reading p.1 × (p.0 ≡ (timer_at timers p.1).expires)
+pub first_due-next : (timers : ℕ → Timer) (base : ℕ) (reading : ClockReading) (c : Content) (p : ℕ × ℕ) → IsContentOf timers base c → first_due c reading ≡ Some p → IsNextDue timers base reading p.1 × (p.0 ≡ (timers p.1).expires)
 first_due-next timers base reading c p here is =
     let none_mono = none_of timers base reading clocks.Monotonic c.monotonic (here.queues clocks.Monotonic) in
     let none_real = none_of timers base reading clocks.Realtime c.realtime (here.queues clocks.Realtime) in
@@ -145,30 +137,16 @@ first_due-next timers base reading c p here is =
     two_before P mono real clocks.Realtime earlier = real
     two_before P mono real clocks.Boottime earlier = absurd (grind (arith, nat_tests))
 
-pub first_due-none : (timers : List Timer) (base : ℕ) (reading : ClockReading) (c : Content) → IsContentOf timers base c → first_due c reading ≡ None → (id : ℕ) → is_due_on base reading (timer_at timers id) ≡ false
+pub first_due-none : (timers : ℕ → Timer) (base : ℕ) (reading : ClockReading) (c : Content) → IsContentOf timers base c → first_due c reading ≡ None → (id : ℕ) → is_due_on base reading (timers id) ≡ false
 first_due-none timers base reading c here is id =
     let parts = or_none (reached reading.mono c.monotonic) (reached reading.real c.realtime) (reached reading.boot c.boottime) is in
     not_due timers base id reading (each (NoneOf timers base reading)
     (none_of timers base reading clocks.Monotonic c.monotonic (here.queues clocks.Monotonic) parts.0)
     (none_of timers base reading clocks.Realtime c.realtime (here.queues clocks.Realtime) parts.1)
     (none_of timers base reading clocks.Boottime c.boottime (here.queues clocks.Boottime) parts.2)
-    (timer_at timers id).clock)
+    (timers id).clock)
   where
     each : (P : ClockId → Type 0) → P clocks.Monotonic → P clocks.Realtime → P clocks.Boottime → (clock : ClockId) → P clock
     each P mono real boot clocks.Monotonic = mono
     each P mono real boot clocks.Realtime = real
     each P mono real boot clocks.Boottime = boot
-
--- ---- the same of all that is kept
-
-pub kept-next : (k : Kept) (base : ℕ) (reading : ClockReading) (r : Option (ℕ × ℕ)) → IsConsistent k → r ≡ first_due (content_at k base) reading → IfSome r (λ p. IsNext k.timers base reading p.1)
-kept-next k base reading None all is = tt
-kept-next k base reading (Some p) all is = (first_due-next k.timers base reading (content_at k base) p (all.contents base) (sym is)).0
-
-pub kept-expires : (k : Kept) (base : ℕ) (reading : ClockReading) (r : Option (ℕ × ℕ)) → IsConsistent k → r ≡ first_due (content_at k base) reading → IfSome r (λ p. p.0 ≡ (timer_at k.timers p.1).expires)
-kept-expires k base reading None all is = tt
-kept-expires k base reading (Some p) all is = (first_due-next k.timers base reading (content_at k base) p (all.contents base) (sym is)).1
-
-pub kept-none : (k : Kept) (base : ℕ) (reading : ClockReading) (r : Option (ℕ × ℕ)) → IsConsistent k → r ≡ first_due (content_at k base) reading → IfNone r ((id : ℕ) → is_due_on base reading (timer_at k.timers id) ≡ false)
-kept-none k base reading None all is = first_due-none k.timers base reading (content_at k base) (all.contents base) (sym is)
-kept-none k base reading (Some p) all is = tt

@@ -1,0 +1,38 @@
+-- A base: its content and the room of its queues, and how they stand with a timer that is on it.
+use Rattle.std.specs.Prelude.{ℕ, ◌≡◌, Bool, false, ◌&&◌, is_some, nat_eq}
+use Rattle.ktime.specs.declared.clock_id.ClockId.{ClockId}
+use Rattle.ktime.specs.declared.clock_id.ClockId.TheVariants as clocks
+use Rattle.timer_queue.specs.Pairs.{has_id}
+use Rattle.seq_timer.specs.declared.event.Event.{Event}
+use Rattle.seq_timer.specs.Steps.{Timer}
+use Rattle.seq_timer.specs.Tables.{rank}
+use Rattle.seq_timer.specs.Contents.{Content, content_after, no_content}
+
+-- a base: what it has, and the room of its queues
+pub record BaseState : Type 0 where
+  pub content : Content
+  pub room : ℕ
+
+-- a base that no timer is on
+abbrev pub empty_base : ℕ → BaseState
+empty_base room = record { content = no_content; room = room }
+
+-- the base that a timer is on before an event, after it
+abbrev pub base_after : ℕ → Timer → Event → BaseState → BaseState
+base_after id t e b = record b { content = content_after id t e b.content }
+
+-- whether a timer stands in a clock's queue of the base that it is on
+abbrev pub is_queued : ClockId → Timer → Bool
+is_queued clock t = is_some t.armed && nat_eq (rank t.clock) (rank clock)
+
+-- the timer stands in the queues of the base that it is on as it is armed
+pub record IsQueuedAs (id : ℕ) (t : Timer) (c : Content) : Type 0 where
+  pub monotonic : has_id id c.monotonic ≡ is_queued clocks.Monotonic t
+  pub realtime : has_id id c.realtime ≡ is_queued clocks.Realtime t
+  pub boottime : has_id id c.boottime ≡ is_queued clocks.Boottime t
+
+-- the timer stands in none of the queues
+pub record IsInNone (id : ℕ) (c : Content) : Type 0 where
+  pub monotonic : has_id id c.monotonic ≡ false
+  pub realtime : has_id id c.realtime ≡ false
+  pub boottime : has_id id c.boottime ≡ false
