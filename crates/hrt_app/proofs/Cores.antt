@@ -11,7 +11,7 @@ use Rattle.seq_timer.specs.Steps.{Timer, after, rearmed_by}
 use Rattle.seq_timer.specs.Tables.{no_timer, timer_at}
 use Rattle.timer_core.specs.declared.answer.StartAnswer.TheVariants as starts
 use Rattle.timer_core.specs.Kept.{AreAllowed, Kept, Makes, step_all, timer_in}
-use Rattle.timer_core.specs.Answers.{IsRightClaim, moves_first, start_events, started_as}
+use Rattle.timer_core.specs.Answers.{ClaimsNext, moves_first, start_events, started_as}
 use Rattle.script_text.specs.declared.script.Callback.{Callback}
 use Rattle.record_text.specs.declared.record.Label.{Label}
 use Rattle.record_text.specs.declared.record.Restart.TheVariants as restarts
@@ -32,37 +32,38 @@ use Rattle.hrt_app.proofs.Acts.{act_allowed, MayTakeSome}
 use Rattle.hrt_app.proofs.Told.{nat_eq_apart}
 
 -- the parts of the answer of a start
-pub record HasParts (was : Bool) (generation on outs : ℕ) (clock : ClockId) (t now : Timer) (asked : ℕ) : Type 0 where
+pub record HasParts (was : Bool) (generation on : ℕ) (moved : Option ℕ) (clock : ClockId) (expires : ℕ) (t now : Timer) (asked : ℕ) : Type 0 where
   pub was_is : was ≡ is_some t.armed
   pub generation_is : generation ≡ now.stamp
   pub on_is : on ≡ now.base
-  pub outs_is : outs ≡ (if moves_first t asked then 2 ^ asked else 0)
+  pub moved_is : moved ≡ (if moves_first t asked then Some asked else None)
   pub clock_is : clock ≡ now.clock
+  pub expires_is : expires ≡ now.expires
 
-parts_of : (w w' : Bool) (g g' o o' s s' : ℕ) (c c' : ClockId) → starts.Started w g o s c ≡ starts.Started w' g' o' s' c' → (w ≡ w') × (g ≡ g') × (o ≡ o') × (s ≡ s') × (c ≡ c')
-parts_of w w' g g' o o' s s' c c' e = (cc, cc, cc, cc, cc)
+parts_of : (w w' : Bool) (g g' o o' : ℕ) (s s' : Option ℕ) (c c' : ClockId) (x x' : ℕ) → starts.Started w g o s c x ≡ starts.Started w' g' o' s' c' x' → (w ≡ w') × (g ≡ g') × (o ≡ o') × (s ≡ s') × (c ≡ c') × (x ≡ x')
+parts_of w w' g g' o o' s s' c c' x x' e = (cc, cc, cc, cc, cc, cc)
 
-pub started_parts : (was : Bool) (generation on outs : ℕ) (clock : ClockId) (t now : Timer) (asked : ℕ) → starts.Started was generation on outs clock ≡ started_as t now asked → HasParts was generation on outs clock t now asked
-started_parts was generation on outs clock t now asked e =
-    let parts = parts_of was (is_some t.armed) generation now.stamp on now.base outs (if moves_first t asked then 2 ^ asked else 0) clock now.clock e in
-    record { was_is = parts.0; generation_is = parts.1; on_is = parts.2; outs_is = parts.3; clock_is = parts.4 }
+pub started_parts : (was : Bool) (generation on : ℕ) (moved : Option ℕ) (clock : ClockId) (expires : ℕ) (t now : Timer) (asked : ℕ) → starts.Started was generation on moved clock expires ≡ started_as t now asked → HasParts was generation on moved clock expires t now asked
+started_parts was generation on moved clock expires t now asked e =
+    let parts = parts_of was (is_some t.armed) generation now.stamp on now.base moved (if moves_first t asked then Some asked else None) clock now.clock expires now.expires e in
+    record { was_is = parts.0; generation_is = parts.1; on_is = parts.2; moved_is = parts.3; clock_is = parts.4; expires_is = parts.5 }
 
 -- the run after a start that has entered these two lines
-abbrev pub start_told : RunState → Kept → Label → ℕ → Mode → ℕ → ℕ → Bool → ℕ → ℕ → ClockId → ℕ → RunState
-start_told r k c t mode ns asked was on outs clock expires =
-    with_line (with_out (record r { core = k }) c t asked was outs) c t (entries.Start mode ns r.reading.stamp asked on clock expires (was && nat_eq outs 0))
+abbrev pub start_told : RunState → Kept → Label → ℕ → Mode → ℕ → ℕ → Bool → ℕ → Option ℕ → ClockId → ℕ → RunState
+start_told r k c t mode ns asked was on moved clock expires =
+    with_line (with_out (record r { core = k }) c t was moved) c t (entries.Start mode ns r.reading.stamp asked on clock expires (was && not (is_some moved)))
 
-pub here : (r : RunState) (k : Kept) (c : Label) (t : ℕ) (mode : Mode) (ns asked : ℕ) (was : Bool) (generation on outs : ℕ) (clock : ClockId) → t < length r.core.timers
-    → HasParts was generation on outs clock (timer_at r.core.timers t) (timer_at k.timers t) asked → moves_first (timer_at r.core.timers t) asked ≡ false
+pub here : (r : RunState) (k : Kept) (c : Label) (t : ℕ) (mode : Mode) (ns asked : ℕ) (was : Bool) (generation on : ℕ) (moved : Option ℕ) (clock : ClockId) (expires : ℕ) → t < length r.core.timers
+    → HasParts was generation on moved clock expires (timer_at r.core.timers t) (timer_at k.timers t) asked → moves_first (timer_at r.core.timers t) asked ≡ false
     → Makes r.core t (start_events (timer_at r.core.timers t) mode ns asked r.reading) k
-    → StartsHere (progress r) c t mode ns asked generation on was (progress (start_told r k c t mode ns asked was on outs clock (timer_at k.timers t).expires))
-here r k c t mode ns asked was generation on outs clock there parts stays makes =
+    → StartsHere (progress r) c t mode ns asked generation on was (progress (start_told r k c t mode ns asked was on moved clock expires))
+here r k c t mode ns asked was generation on moved clock expires there parts stays makes =
     let T = timer_at r.core.timers t in
     let start = events.Start mode ns r.reading asked in
     let now = after T start in
-    let none : outs ≡ 0 = parts.outs_is ∙ ap (λ b. if b then 2 ^ asked else 0) stays in
+    let none : moved ≡ None = parts.moved_is ∙ ap (λ b. if b then Some asked else None) stays in
     let allowed : AreAllowed T (start ∷ []) = subst (λ b. AreAllowed T (if b then events.Out asked ∷ start ∷ [] else start ∷ [])) stays makes.allowed in
-    let timers : k.timers ≡ set r.core.timers t now = ap (λ (x : Kept). x.timers) makes.kept ∙ ap (λ b. set r.core.timers t (step_all T (if b then events.Out asked ∷ start ∷ [] else start ∷ []))) stays in
+    let timers : k.timers ≡ set r.core.timers t now = makes.timers ∙ ap (λ b. set r.core.timers t (step_all T (if b then events.Out asked ∷ start ∷ [] else start ∷ []))) stays in
     let is_now : timer_at k.timers t ≡ now = makes.timer ∙ ap (λ b. step_all T (if b then events.Out asked ∷ start ∷ [] else start ∷ [])) stays in
     record {
       needs = allowed.0;
@@ -70,16 +71,17 @@ here r k c t mode ns asked was generation on outs clock there parts stays makes 
       base_is = parts.on_is ∙ ap (λ (x : Timer). x.base) is_now;
       was = parts.was_is;
       goes_on =
-          ap (λ n. progress (start_told r k c t mode ns asked was on n clock (timer_at k.timers t).expires)) none
-          ∙ ap (λ w. progress (with_line (record r { core = k }) c t (entries.Start mode ns r.reading.stamp asked on clock (timer_at k.timers t).expires w))) (and_true was)
-          ∙ ap (λ w. progress (with_line (record r { core = k }) c t (entries.Start mode ns r.reading.stamp asked on clock (timer_at k.timers t).expires w))) parts.was_is
-          ∙ ap (λ n. progress (with_line (record r { core = k }) c t (entries.Start mode ns r.reading.stamp asked n clock (timer_at k.timers t).expires (is_some T.armed)))) parts.on_is
-          ∙ ap (λ n. progress (with_line (record r { core = k }) c t (entries.Start mode ns r.reading.stamp asked (timer_at k.timers t).base n (timer_at k.timers t).expires (is_some T.armed)))) parts.clock_is
+          ap (λ n. progress (start_told r k c t mode ns asked was on n clock expires)) none
+          ∙ ap (λ w. progress (with_line (record r { core = k }) c t (entries.Start mode ns r.reading.stamp asked on clock expires w))) (and_true was)
+          ∙ ap (λ w. progress (with_line (record r { core = k }) c t (entries.Start mode ns r.reading.stamp asked on clock expires w))) parts.was_is
+          ∙ ap (λ n. progress (with_line (record r { core = k }) c t (entries.Start mode ns r.reading.stamp asked n clock expires (is_some T.armed)))) parts.on_is
+          ∙ ap (λ n. progress (with_line (record r { core = k }) c t (entries.Start mode ns r.reading.stamp asked (timer_at k.timers t).base n expires (is_some T.armed)))) parts.clock_is
+          ∙ ap (λ n. progress (with_line (record r { core = k }) c t (entries.Start mode ns r.reading.stamp asked (timer_at k.timers t).base (timer_at k.timers t).clock n (is_some T.armed)))) parts.expires_is
           ∙ ap (λ (x : Timer). progress (with_line (record r { core = k }) c t (entries.Start mode ns r.reading.stamp asked x.base x.clock x.expires (is_some T.armed)))) is_now
           ∙ ap (λ ts. record { timers = ts; objects = r.objects; reading = r.reading; told = (progress (with_line r c t (entries.Start mode ns r.reading.stamp asked now.base now.clock now.expires (is_some T.armed)))).told }) timers;
     }
   where
-    and_true : (w : Bool) → (w && nat_eq 0 0) ≡ w
+    and_true : (w : Bool) → (w && true) ≡ w
     and_true true = refl
     and_true false = refl
 
@@ -103,11 +105,11 @@ set_twice [] i a b = refl
 set_twice (x ∷ xs) zero a b = refl
 set_twice (x ∷ xs) (suc i) a b = ap (λ ys. x ∷ ys) (set_twice xs i a b)
 
-pub there : (r : RunState) (k : Kept) (c : Label) (t : ℕ) (mode : Mode) (ns asked : ℕ) (was : Bool) (generation on outs : ℕ) (clock : ClockId) → t < length r.core.timers
-    → HasParts was generation on outs clock (timer_at r.core.timers t) (timer_at k.timers t) asked → moves_first (timer_at r.core.timers t) asked ≡ true
+pub there : (r : RunState) (k : Kept) (c : Label) (t : ℕ) (mode : Mode) (ns asked : ℕ) (was : Bool) (generation on : ℕ) (moved : Option ℕ) (clock : ClockId) (expires : ℕ) → t < length r.core.timers
+    → HasParts was generation on moved clock expires (timer_at r.core.timers t) (timer_at k.timers t) asked → moves_first (timer_at r.core.timers t) asked ≡ true
     → Makes r.core t (start_events (timer_at r.core.timers t) mode ns asked r.reading) k
-    → StartsThere (progress r) c t mode ns asked generation on was (progress (start_told r k c t mode ns asked was on outs clock (timer_at k.timers t).expires))
-there r k c t mode ns asked was generation on outs clock some parts moves makes =
+    → StartsThere (progress r) c t mode ns asked generation on was (progress (start_told r k c t mode ns asked was on moved clock expires))
+there r k c t mode ns asked was generation on moved clock expires some parts moves makes =
     let T = timer_at r.core.timers t in
     let start = events.Start mode ns r.reading asked in
     let moved = after T (events.Out asked) in
@@ -115,10 +117,9 @@ there r k c t mode ns asked was generation on outs clock some parts moves makes 
     let p = progress r in
     let q = move_out p c t asked in
     let x = timer_at q.timers t in
-    let bit : outs ≡ 2 ^ asked = parts.outs_is ∙ ap (λ b. if b then 2 ^ asked else 0) moves in
-    let some_bit : nat_eq outs 0 ≡ false = ap (λ n. nat_eq n 0) bit ∙ nat_eq_apart (2 ^ asked) 0 (λ e. absurd (omega (arith, e, pow_pos asked))) in
+    let some_move : moved ≡ Some asked = parts.moved_is ∙ ap (λ b. if b then Some asked else None) moves in
     let allowed : AreAllowed T (events.Out asked ∷ start ∷ []) = subst (λ b. AreAllowed T (if b then events.Out asked ∷ start ∷ [] else start ∷ [])) moves makes.allowed in
-    let timers : k.timers ≡ set r.core.timers t now = ap (λ (y : Kept). y.timers) makes.kept ∙ ap (λ b. set r.core.timers t (step_all T (if b then events.Out asked ∷ start ∷ [] else start ∷ []))) moves in
+    let timers : k.timers ≡ set r.core.timers t now = makes.timers ∙ ap (λ b. set r.core.timers t (step_all T (if b then events.Out asked ∷ start ∷ [] else start ∷ []))) moves in
     let is_now : timer_at k.timers t ≡ now = makes.timer ∙ ap (λ b. step_all T (if b then events.Out asked ∷ start ∷ [] else start ∷ [])) moves in
     let is_moved : x ≡ moved = get_or-set_same r.core.timers t moved no_timer some in
     record {
@@ -128,10 +129,11 @@ there r k c t mode ns asked was generation on outs clock some parts moves makes 
       base_is = parts.on_is ∙ ap (λ (y : Timer). y.base) is_now;
       was = parts.was_is;
       goes_on =
-          ap (λ b. progress (with_line (if b then record r { core = k } else with_line (record r { core = k }) c t (entries.Out asked was)) c t (entries.Start mode ns r.reading.stamp asked on clock (timer_at k.timers t).expires (was && b)))) some_bit
-          ∙ ap (λ w. pair_told r c t asked k.timers was (entries.Start mode ns r.reading.stamp asked on clock (timer_at k.timers t).expires w)) (and_false was)
-          ∙ ap (λ n. pair_told r c t asked k.timers was (entries.Start mode ns r.reading.stamp asked n clock (timer_at k.timers t).expires false)) parts.on_is
-          ∙ ap (λ n. pair_told r c t asked k.timers was (entries.Start mode ns r.reading.stamp asked (timer_at k.timers t).base n (timer_at k.timers t).expires false)) parts.clock_is
+          ap (λ m. progress (start_told r k c t mode ns asked was on m clock expires)) some_move
+          ∙ ap (λ w. pair_told r c t asked k.timers was (entries.Start mode ns r.reading.stamp asked on clock expires w)) (and_false was)
+          ∙ ap (λ n. pair_told r c t asked k.timers was (entries.Start mode ns r.reading.stamp asked n clock expires false)) parts.on_is
+          ∙ ap (λ n. pair_told r c t asked k.timers was (entries.Start mode ns r.reading.stamp asked (timer_at k.timers t).base n expires false)) parts.clock_is
+          ∙ ap (λ n. pair_told r c t asked k.timers was (entries.Start mode ns r.reading.stamp asked (timer_at k.timers t).base (timer_at k.timers t).clock n false)) parts.expires_is
           ∙ ap (λ (y : Timer). pair_told r c t asked k.timers was (entries.Start mode ns r.reading.stamp asked y.base y.clock y.expires false)) is_now
           ∙ ap (λ w. pair_told r c t asked k.timers w (start_line moved r.reading mode ns asked)) parts.was_is
           ∙ ap (λ ts. pair_told r c t asked ts (is_some T.armed) (start_line moved r.reading mode ns asked)) (timers ∙ sym (set_twice r.core.timers t moved now))
@@ -146,15 +148,15 @@ there r k c t mode ns asked was generation on outs clock some parts moves makes 
     and_false false = refl
 
 -- a start's turn
-pub started_turn : (r : RunState) (k : Kept) (c : Label) (t : ℕ) (mode : Mode) (ns asked : ℕ) (was : Bool) (generation on outs : ℕ) (clock : ClockId) → t < length r.core.timers
-    → starts.Started was generation on outs clock ≡ started_as (timer_at r.core.timers t) (timer_at k.timers t) asked
+pub started_turn : (r : RunState) (k : Kept) (c : Label) (t : ℕ) (mode : Mode) (ns asked : ℕ) (was : Bool) (generation on : ℕ) (moved : Option ℕ) (clock : ClockId) (expires : ℕ) → t < length r.core.timers
+    → starts.Started was generation on moved clock expires ≡ started_as (timer_at r.core.timers t) (timer_at k.timers t) asked
     → Makes r.core t (start_events (timer_at r.core.timers t) mode ns asked r.reading) k
-    → StartsHere (progress r) c t mode ns asked generation on was (progress (start_told r k c t mode ns asked was on outs clock (timer_at k.timers t).expires))
-    ⊎ StartsThere (progress r) c t mode ns asked generation on was (progress (start_told r k c t mode ns asked was on outs clock (timer_at k.timers t).expires))
-started_turn r k c t mode ns asked was generation on outs clock some e makes =
-    let parts = started_parts was generation on outs clock (timer_at r.core.timers t) (timer_at k.timers t) asked e in
-    ⊎_elim (λ moves. inr (there r k c t mode ns asked was generation on outs clock some parts moves makes))
-    (λ stays. inl (here r k c t mode ns asked was generation on outs clock some parts stays makes))
+    → StartsHere (progress r) c t mode ns asked generation on was (progress (start_told r k c t mode ns asked was on moved clock expires))
+    ⊎ StartsThere (progress r) c t mode ns asked generation on was (progress (start_told r k c t mode ns asked was on moved clock expires))
+started_turn r k c t mode ns asked was generation on moved clock expires some e makes =
+    let parts = started_parts was generation on moved clock expires (timer_at r.core.timers t) (timer_at k.timers t) asked e in
+    ⊎_elim (λ moves. inr (there r k c t mode ns asked was generation on moved clock expires some parts moves makes))
+    (λ stays. inl (here r k c t mode ns asked was generation on moved clock expires some parts stays makes))
     (is_either (moves_first (timer_at r.core.timers t) asked))
   where
     is_either : (b : Bool) → (b ≡ true) ⊎ (b ≡ false)
@@ -183,9 +185,9 @@ told_steps r k callback c base t generation look (Some x) again rearmed timers t
     ∙ ap (λ o. with_steps (progress r) c t (claim_step base r.reading generation look ∷ record { event = x.event; entry = x.entry; look = o } ∷ plain (events.Finish again) (entries.Finish again generation rearmed) ∷ [])) (sym takes.bare)
 
 -- the timer that is claimed is the next of the run
-pub next_turn : (r : RunState) (one : Kept) (base t generation number : ℕ) → IsRightClaim r.core base r.reading t generation number one → IsNext (progress r) base t generation
+pub next_turn : (r : RunState) (one : Kept) (base t generation number : ℕ) → ClaimsNext r.core base r.reading t generation number one → IsNext (progress r) base t generation
 next_turn r one base t generation number claim = record {
-  there = claim.next.within;
+  there = claim.within;
   armed = claim.armed;
   needs = claim.entry.allowed.0;
   free = claim.idle;
@@ -220,7 +222,7 @@ turn_by r k (Fd x) c base t generation running is armed timers =
     told_expiry r k c base t generation (trigger_step (Fd x) generation r.reading) (timers ∙ ap (λ y. fired_timers r.core.timers t y None false) is)
 
 -- a callback's turn
-pub fired_turn : (r : RunState) (one two three : Kept) (o : Object) (c : Label) (base t generation number : ℕ) (work : Work) (rearmed : Rearmed) → IsRightClaim r.core base r.reading t generation number one
+pub fired_turn : (r : RunState) (one two three : Kept) (o : Object) (c : Label) (base t generation number : ℕ) (work : Work) (rearmed : Rearmed) → ClaimsNext r.core base r.reading t generation number one
     → Acts one t (act_of (callback_of o) (timer_in one t) r.reading) work two → Makes two t (events.Finish work.again ∷ []) three → rearmed ≡ rearmed_by (timer_in two t) work.again
     → progress (fired_told r three o c base t generation work.told work.entry work.again (restart_of rearmed)) ≡ fired_by o (progress r) c base t generation
 fired_turn r one two three o c base t generation number work rearmed claim worked finish rearms =
@@ -231,8 +233,8 @@ fired_turn r one two three o c base t generation number work rearmed claim worke
     let restart : restart_of rearmed ≡ restart_of (rearmed_by (after_act running act.step) act.again) =
     ap restart_of (rearms ∙ ap (λ b. rearmed_by (timer_in two t) b) acts.again ∙ ap (λ (x : Timer). rearmed_by x act.again) now) in
     let timers : three.timers ≡ fired_timers r.core.timers t running act.step act.again =
-    ap (λ (x : Kept). x.timers) finish.kept ∙ ap (λ b. set two.timers t (after (timer_at two.timers t) (events.Finish b))) acts.again
-    ∙ ap (λ ts. set ts t (after (timer_at ts t) (events.Finish act.again))) (acts.timers ∙ ap (λ ts. with_act ts t act.step) (ap (λ (x : Kept). x.timers) claim.entry.kept)) in
+    finish.timers ∙ ap (λ b. set two.timers t (after (timer_at two.timers t) (events.Finish b))) acts.again
+    ∙ ap (λ ts. set ts t (after (timer_at ts t) (events.Finish act.again))) (acts.timers ∙ ap (λ ts. with_act ts t act.step) claim.entry.timers) in
     ap (λ x. progress (fired_told r three o c base t generation x work.entry work.again (restart_of rearmed))) acts.told
     ∙ ap (λ x. progress (fired_told r three o c base t generation act.look x work.again (restart_of rearmed))) acts.entry
     ∙ ap (λ b. progress (fired_told r three o c base t generation act.look (entry_of act.step) b (restart_of rearmed))) acts.again

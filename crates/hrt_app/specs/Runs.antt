@@ -71,9 +71,10 @@ abbrev pub with_expiry_line : RunState → Label → ℕ → ℕ → ClockReadin
 with_expiry_line r c timer generation reading (Raw callback) = r
 with_expiry_line r c timer generation reading o = with_trigger_line r c timer generation (trigger_step o generation reading)
 
--- one more line of a timer that a start has moved to this base; none where it made no move
-abbrev pub with_out : RunState → Label → ℕ → ℕ → Bool → ℕ → RunState
-with_out r c timer base was_armed outs = if nat_eq outs 0 then r else with_line r c timer (entries.Out base was_armed)
+-- one more line of a timer that a start has moved to a base; none where it made no move
+abbrev pub with_out : RunState → Label → ℕ → Bool → Option ℕ → RunState
+with_out r c timer was_armed None = r
+with_out r c timer was_armed (Some base) = with_line r c timer (entries.Out base was_armed)
 
 -- the timers after a callback's step of one of them, where it made one
 abbrev pub with_act : List Timer → ℕ → Option Step → List Timer

@@ -95,6 +95,7 @@ fn start(core: &mut Core<ListQueue>, timer: u32, reading: Reading, ns: u64, aske
             was_armed,
             base,
             clock,
+            expires,
             ..
         } => Work {
             told: None,
@@ -105,7 +106,7 @@ fn start(core: &mut Core<ListQueue>, timer: u32, reading: Reading, ns: u64, aske
                 asked,
                 base,
                 clock,
-                expires: core.state(timer).expires(),
+                expires,
                 was_armed,
             }),
             again: true,

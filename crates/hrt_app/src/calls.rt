@@ -110,11 +110,11 @@ impl Run {
                 was_armed,
                 generation,
                 base: on,
-                outs,
+                moved_to,
                 clock,
+                expires,
             } => {
-                let expires = self.core.state(timer).expires();
-                self.enter_out(label, timer, base, was_armed, outs)?;
+                self.enter_out(label, timer, was_armed, moved_to)?;
                 let start = Entry::Start {
                     mode,
                     ns,
@@ -123,7 +123,7 @@ impl Run {
                     base: on,
                     clock,
                     expires,
-                    was_armed: was_armed & (outs == 0),
+                    was_armed: was_armed & moved_to.is_none(),
                 };
                 self.enter(label, timer, start)?;
                 Ok(Answer::Started {
@@ -135,22 +135,21 @@ impl Run {
         }
     }
 
-    /// Adds the line of a move to this base, where a start has made one.
+    /// Adds the line of a move, where a start has made one.
     fn enter_out(
         &mut self,
         label: Label,
         timer: u32,
-        base: u32,
         was_armed: bool,
-        outs: u64,
+        moved_to: Option<u32>,
     ) -> Result<(), AllocError>
         requires { timer < length self.old.core.timers }
-        ensures { OnOk result (self.new ≡ with_out self.old label timer base was_armed outs) }
+        ensures { OnOk result (self.new ≡ with_out self.old label timer was_armed moved_to) }
     {
-        if outs == 0 {
-            return Ok(());
+        match moved_to {
+            None => Ok(()),
+            Some(base) => self.enter(label, timer, Entry::Out { base, was_armed }),
         }
-        self.enter(label, timer, Entry::Out { base, was_armed })
     }
 
     fn cancel(&mut self, label: Label, timer: u32) -> Result<Answer, AllocError>

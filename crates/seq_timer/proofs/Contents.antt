@@ -1,5 +1,5 @@
 -- A base agrees with the timers after each event of one of them, moving ones included.
-use Rattle.std.proofs.Common.{◌≡◌, ◌≢◌, ℕ, ◌+◌, Bool, ◌&&◌, true, false, not, List, Option, Some, None, IsSome, nat_eq, map, unwrap_or, if◌then◌else◌, arith, refl, sym, ap, ◌∙◌, subst, is_some}
+use Rattle.std.proofs.Common.{◌≡◌, ◌≢◌, ℕ, ◌+◌, Bool, true, false, List, Option, Some, None, IsSome, nat_eq, map, unwrap_or, if◌then◌else◌, arith, refl, sym, ap, ◌∙◌, subst, is_some}
 use Rattle.std.specs.List.{IsDistinct}
 use Rattle.std.proofs.Math.Logic.{⊎_elim}
 use Rattle.std.proofs.lemmas.Bool.{cases_Bool, cases_eq, ne_eqb, true≢false}

@@ -1,5 +1,5 @@
 -- What taking a timer off a base's queues and putting it on one do to the queues.
-use Rattle.std.proofs.Common.{◌≡◌, ℕ, ◌&&◌, Bool, true, false, List, Option, [], ◌∷◌, nat_eq, map, if◌then◌else◌, arith, refl, sym, subst, ap, ◌∙◌, is_some}
+use Rattle.std.proofs.Common.{◌≡◌, ℕ, false, List, Option, [], ◌∷◌, nat_eq, if◌then◌else◌, arith, refl, sym, subst, ap, ◌∙◌, is_some}
 use Rattle.std.proofs.lemmas.Bool.{and_left, and_right}
 use Rattle.std.proofs.lemmas.Bool.Decides.{nat_tests}
 use Rattle.ktime.specs.declared.clock_id.ClockId.{ClockId}

@@ -64,13 +64,13 @@ impl<Q: Queue> Base<Q> {
     }
 
     /// Goes along with an event that has brought a timer of this base from one state to another.
-    pub fn step(&mut self, id: u32, old: &TimerState, event: Event, now: &TimerState)
+    pub fn step(&mut self, id: u32, old: &TimerState, event: &Event, now: &TimerState)
         requires queued { IsQueuedAs id old.now self.old.content }
         requires below { id < self.old.room }
-        requires after { now.now ≡ after old.now event }
-        ensures { self.new ≡ base_after id old.now event self.old }
+        requires after { now.now ≡ after old.now event.now }
+        ensures { self.new ≡ base_after id old.now event.now self.old }
     {
-        match event {
+        match *event {
             Event::Out { .. } | Event::Cancel => self.dequeue(id, old),
             Event::Start { .. } => self.requeue(id, old, now),
             Event::Claim { .. } => {

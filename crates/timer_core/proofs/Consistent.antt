@@ -1,121 +1,178 @@
--- All that is kept agrees, once one timer has changed.
-use Rattle.std.proofs.Common.{◌≡◌, ◌<◌, ◌≤◌, ℕ, true, false, List, Option, Some, None, nat_eq, get_or, set, length, if◌then◌else◌, arith, refl, sym, ap, ◌∙◌, subst}
+-- All that is kept agrees after each event of one timer.
+use Rattle.std.proofs.Common.{◌≡◌, ◌≢◌, ◌<◌, ◌≤◌, ◌+◌, ℕ, zero, suc, true, false, List, [], ◌∷◌, get_or, set, length, None, arith, refl, sym, ap, ◌∙◌, subst}
 use Rattle.std.proofs.Math.Logic.{⊎_elim}
-use Rattle.std.proofs.lemmas.Bool.{cases_eq, ne_eqb}
-use Rattle.std.proofs.lemmas.Bool.Decides.{nat_tests}
+use Rattle.std.proofs.lemmas.Bool.{cases_eq, true≢false}
 use Rattle.std.proofs.lemmas.List.{get_or-set_same, get_or-set_other, length-set}
-use Rattle.seq_timer.specs.Steps.{Timer}
+use Rattle.seq_timer.specs.declared.event.Event.{Event}
+use Rattle.seq_timer.specs.declared.event.Event.TheVariants as events
+use Rattle.seq_timer.specs.Steps.{Timer, Needs, after}
 use Rattle.seq_timer.specs.Tables.{timer_at, no_timer}
-use Rattle.seq_timer.specs.Contents.{marked, running_on, IsContentOf}
-use Rattle.timer_core.specs.Bases.{BaseState, base_after, content_after, empty_base}
-use Rattle.timer_core.specs.Kept.{Kept, IsConsistent, AreReadyFor, MayRun, content_at, stepped, bases_after, replaced}
-use Rattle.timer_core.proofs.Contents.{IsQueuedAs-from, IsContentOf-after, IsContentOf-elsewhere, marked-apart}
+use Rattle.seq_timer.specs.Bases.{BaseState, IsQueuedAs, base_after, empty_base}
+use Rattle.seq_timer.specs.Contents.{IsContentOf, IsFreeFor}
+use Rattle.seq_timer.proofs.Contents.{Changes, IsContentOf-after, IsContentOf-elsewhere, IsQueuedAs-from, apart-after}
+use Rattle.timer_core.specs.Kept.{Agrees, AreAllowed, IsConsistent, IsSameSize, Kept, Makes, Permits, after_event, base_at, content_at, step_all, timer_in}
 
--- the base of this number in a list
-abbrev base_in : List BaseState → ℕ → BaseState
-base_in bases base = get_or bases base (empty_base 0)
+-- ---- consistent, and agreeing while a timer may be on the move
 
-pub ready : (k : Kept) (id : ℕ) → IsConsistent k → id < length k.timers → AreReadyFor k.bases id (timer_at k.timers id)
-ready k id all within = record {
-  queued = λ base. IsQueuedAs-from k.timers base id (content_at k base) (all.contents base);
-  below = λ base inside. subst (λ room. id < room) (sym (all.rooms base inside)) within;
+pub agrees : (k : Kept) → IsConsistent k → Agrees k
+agrees k all = record {
+  contents = all.contents;
+  rooms = all.rooms;
+  placed = all.placed;
+  apart = λ id moves. absurd (true≢false (sym moves ∙ all.still id));
+  few_bases = all.few_bases;
+  few_timers = all.few_timers;
 }
 
--- ---- the bases after a change
+pub consistent : (k : Kept) → Agrees k → ((id : ℕ) → (timer_in k id).moving ≡ false) → IsConsistent k
+consistent k all still = record {
+  contents = all.contents;
+  rooms = all.rooms;
+  placed = all.placed;
+  still = still;
+  few_bases = all.few_bases;
+  few_timers = all.few_timers;
+}
 
-pub content_of-base_after : (base id : ℕ) (t now : Timer) (b : BaseState) → (base_after base id t now b).content ≡ content_after base id t now b.content
-unfolding base_after
-content_of-base_after base id t now b = refl
+-- ---- the timers and bases after an event
 
-pub room_of-base_after : (base id : ℕ) (t now : Timer) (b : BaseState) → (base_after base id t now b).room ≡ b.room
-unfolding base_after
-room_of-base_after base id t now b = refl
+pub timer-itself : (k : Kept) (id : ℕ) (e : Event) → id < length k.timers → timer_in (after_event k id e) id ≡ after (timer_in k id) e
+timer-itself k id e within = get_or-set_same k.timers id (after (timer_in k id) e) no_timer within
 
-pub length-bases_after : (id : ℕ) (t now : Timer) (bases : List BaseState) → length (bases_after id t now bases) ≡ length bases
-length-bases_after id t now bases =
-    elim (nat_eq t.base now.base) as (λ b. length (if b then stepped now.base id t now bases else stepped now.base id t now (stepped t.base id t now bases)) ≡ length bases) [
-      | true ↦ length-set bases now.base (base_after now.base id t now (base_in bases now.base))
-      | false ↦ length-set (stepped t.base id t now bases) now.base (base_after now.base id t now (base_in (stepped t.base id t now bases) now.base)) ∙ length-set bases t.base (base_after t.base id t now (base_in bases t.base))
-    ]
+pub timer-other : (k : Kept) (id other : ℕ) (e : Event) → other ≢ id → timer_in (after_event k id e) other ≡ timer_in k other
+timer-other k id other e apart = get_or-set_other k.timers id other (after (timer_in k id) e) no_timer apart
 
-pub stepped-same : (base id : ℕ) (t now : Timer) (bases : List BaseState) → base < length bases → base_in (stepped base id t now bases) base ≡ base_after base id t now (base_in bases base)
-stepped-same base id t now bases inside = get_or-set_same bases base (base_after base id t now (base_in bases base)) (empty_base 0) inside
+pub changes : (k : Kept) (id : ℕ) (e : Event) → id < length k.timers → Changes (timer_in k) (timer_in (after_event k id e)) id (after (timer_in k id) e)
+changes k id e within = record { itself = timer-itself k id e within; others = λ other apart. timer-other k id other e apart }
 
-pub stepped-other : (base other id : ℕ) (t now : Timer) (bases : List BaseState) → (other ≡ base → ⊥) → base_in (stepped base id t now bases) other ≡ base_in bases other
-stepped-other base other id t now bases apart = get_or-set_other bases base other (base_after base id t now (base_in bases base)) (empty_base 0) apart
+pub size-after : (k : Kept) (id : ℕ) (e : Event) → IsSameSize k (after_event k id e)
+size-after k id e = record {
+  timers = length-set k.timers id (after (timer_in k id) e);
+  bases = length-set k.bases (timer_in k id).base (base_after id (timer_in k id) e (base_at k (timer_in k id).base));
+}
 
--- the base that the timer is on goes along
-pub bases_after-new : (id : ℕ) (t now : Timer) (bases : List BaseState) → now.base < length bases → base_in (bases_after id t now bases) now.base ≡ base_after now.base id t now (base_in bases now.base)
-bases_after-new id t now bases inside =
-    elim (nat_eq t.base now.base) as (λ b. nat_eq t.base now.base ≡ b → base_in (if b then stepped now.base id t now bases else stepped now.base id t now (stepped t.base id t now bases)) now.base ≡ base_after now.base id t now (base_in bases now.base)) [
-      | true ↦ λ same. stepped-same now.base id t now bases inside
-      | false ↦ λ apart. stepped-same now.base id t now (stepped t.base id t now bases) (subst (λ n. now.base < n) (sym (length-set bases t.base (base_after t.base id t now (base_in bases t.base)))) inside) ∙ ap (base_after now.base id t now) (stepped-other t.base now.base id t now bases (grind (arith, nat_tests)))
-    ] refl
+base-here : (k : Kept) (id : ℕ) (e : Event) → (timer_in k id).base < length k.bases → base_at (after_event k id e) (timer_in k id).base ≡ base_after id (timer_in k id) e (base_at k (timer_in k id).base)
+base-here k id e inside = get_or-set_same k.bases (timer_in k id).base (base_after id (timer_in k id) e (base_at k (timer_in k id).base)) (empty_base 0) inside
 
--- and so does the base that it was on
-pub bases_after-old : (id : ℕ) (t now : Timer) (bases : List BaseState) → t.base < length bases → nat_eq t.base now.base ≡ false → base_in (bases_after id t now bases) t.base ≡ base_after t.base id t now (base_in bases t.base)
-bases_after-old id t now bases inside apart =
-    subst (λ b. base_in (if b then stepped now.base id t now bases else stepped now.base id t now (stepped t.base id t now bases)) t.base ≡ base_after t.base id t now (base_in bases t.base)) (sym apart)
-    (stepped-other now.base t.base id t now (stepped t.base id t now bases) (grind (arith, nat_tests)) ∙ stepped-same t.base id t now bases inside)
+base-else : (k : Kept) (id base : ℕ) (e : Event) → base ≢ (timer_in k id).base → base_at (after_event k id e) base ≡ base_at k base
+base-else k id base e apart = get_or-set_other k.bases (timer_in k id).base base (base_after id (timer_in k id) e (base_at k (timer_in k id).base)) (empty_base 0) apart
 
--- the others stay
-pub bases_after-other : (other id : ℕ) (t now : Timer) (bases : List BaseState) → (other ≡ t.base → ⊥) → (other ≡ now.base → ⊥) → base_in (bases_after id t now bases) other ≡ base_in bases other
-bases_after-other other id t now bases from to =
-    elim (nat_eq t.base now.base) as (λ b. base_in (if b then stepped now.base id t now bases else stepped now.base id t now (stepped t.base id t now bases)) other ≡ base_in bases other) [
-      | true ↦ stepped-other now.base other id t now bases to
-      | false ↦ stepped-other now.base other id t now (stepped t.base id t now bases) to ∙ stepped-other t.base other id t now bases from
-    ]
+-- what holds of the timer, and of each other before, holds of each
+each_timer : (k : Kept) (id : ℕ) (e : Event) (P : Timer → Type 0) → id < length k.timers → P (after (timer_in k id) e) → ((other : ℕ) → P (timer_in k other)) → (other : ℕ) → P (timer_in (after_event k id e) other)
+each_timer k id e P within this those other = ⊎_elim
+    (λ (same : other ≡ id). subst (λ i. P (timer_in (after_event k id e) i)) (sym same) (subst P (sym (timer-itself k id e within)) this))
+    (λ apart. subst P (sym (timer-other k id other e apart)) (those other))
+    (cases_eq other id)
 
--- ---- no other timer's function runs where the timer's does
+-- ---- it agrees
 
-pub alone : (k : Kept) (id : ℕ) (now : Timer) → IsConsistent k → MayRun k id now → (base generation other : ℕ) → running_on base now ≡ Some generation → nat_eq id other ≡ false → marked other (content_at k base).mark ≡ None
-alone k id now all may base generation other runs apart =
-    let here : now.base ≡ base = grind (arith, nat_tests) in
-    let generation_is : now.running ≡ Some generation = grind (arith, nat_tests) in
-    ⊎_elim
-    (λ (none : now.running ≡ None). cc)
-    (λ rest. ⊎_elim
-    (λ (same : (now.running ≡ (timer_at k.timers id).running) × (now.base ≡ (timer_at k.timers id).base)).
-    let was : running_on base (timer_at k.timers id) ≡ Some generation = running base (timer_at k.timers id).base (timer_at k.timers id).running generation (sym same.1 ∙ here) (sym same.0 ∙ generation_is) in
-    marked-apart id other generation (content_at k base).mark ((all.contents base).mark id ∙ was) apart)
-    (λ (free : (content_at k now.base).mark ≡ None). subst (λ b. marked other (content_at k b).mark ≡ None) here (ap (marked other) free))
-    rest)
-    may
-  where
-    running : (base at : ℕ) (run : Option ℕ) (generation : ℕ) → at ≡ base → run ≡ Some generation → (if nat_eq at base then run else None) ≡ Some generation
-    running base at run generation here is = grind (arith, nat_tests)
+free_for : (k : Kept) (id : ℕ) (e : Event) → Permits k id e → IsFreeFor (content_at k (timer_in k id).base) e
+free_for k id (events.Out base) permits = tt
+free_for k id (events.Start mode ns reading asked) permits = tt
+free_for k id events.Cancel permits = tt
+free_for k id (events.Claim base reading) permits = permits
+free_for k id (events.Forward reading interval) permits = tt
+free_for k id (events.Finish restart) permits = tt
 
--- ---- all of it
+placed-after : (k : Kept) (id : ℕ) (e : Event) → Permits k id e → (timer_in k id).base < length k.bases → (after (timer_in k id) e).base < length k.bases
+placed-after k id (events.Out base) permits placed = permits
+placed-after k id (events.Start mode ns reading asked) permits placed = placed
+placed-after k id events.Cancel permits placed = placed
+placed-after k id (events.Claim base reading) permits placed = placed
+placed-after k id (events.Forward reading interval) permits placed = placed
+placed-after k id (events.Finish restart) permits placed = placed
 
-pub consistent-after : (k : Kept) (id : ℕ) (now : Timer) → IsConsistent k → id < length k.timers → now.base < length k.bases → now.moving ≡ false → MayRun k id now → IsConsistent (replaced k id now)
-consistent-after k id now all within inside still may =
-    let t = timer_at k.timers id in
-    let after = bases_after id t now k.bases in
-    let same_length = length-bases_after id t now k.bases in
-    let goes : (base : ℕ) → base_in after base ≡ base_after base id t now (base_in k.bases base) → IsContentOf (set k.timers id now) base (base_in after base).content = λ base is. subst (IsContentOf (set k.timers id now) base) (sym (ap (λ (b : BaseState). b.content) is ∙ content_of-base_after base id t now (base_in k.bases base))) (IsContentOf-after k.timers base id now (content_at k base) within (all.still id) still (alone k id now all may base) (all.contents base)) in
-    let place : (base : ℕ) → (base ≡ now.base → ⊥) → IsContentOf (set k.timers id now) base (base_in after base).content = λ base elsewhere. ⊎_elim
-    (λ (was : base ≡ t.base). subst (λ b. IsContentOf (set k.timers id now) b (base_in after b).content) (sym was) (goes t.base (bases_after-old id t now k.bases (all.placed id) (ne_eqb t.base now.base (λ e. elsewhere (was ∙ e))))))
-    (λ never. subst (λ (b : BaseState). IsContentOf (set k.timers id now) base b.content) (sym (bases_after-other base id t now k.bases never elsewhere)) (IsContentOf-elsewhere k.timers base id now (content_at k base) within (ne_eqb t.base base (λ e. never (sym e))) (ne_eqb now.base base (λ e. elsewhere (sym e))) (all.contents base)))
-    (cases_eq base t.base) in
-    let room : (base : ℕ) → (base_in after base).room ≡ (base_in k.bases base).room = λ base. ⊎_elim
-    (λ (is : base ≡ now.base). subst (λ b. (base_in after b).room ≡ (base_in k.bases b).room) (sym is) (ap (λ (b : BaseState). b.room) (bases_after-new id t now k.bases inside) ∙ room_of-base_after now.base id t now (base_in k.bases now.base)))
-    (λ elsewhere. ⊎_elim
-    (λ (was : base ≡ t.base). subst (λ b. (base_in after b).room ≡ (base_in k.bases b).room) (sym was) (ap (λ (b : BaseState). b.room) (bases_after-old id t now k.bases (all.placed id) (ne_eqb t.base now.base (λ e. elsewhere (was ∙ e)))) ∙ room_of-base_after t.base id t now (base_in k.bases t.base)))
-    (λ never. ap (λ (b : BaseState). b.room) (bases_after-other base id t now k.bases never elsewhere))
-    (cases_eq base t.base))
-    (cases_eq base now.base) in
-    let each : (P : Timer → Type 0) → P now → ((other : ℕ) → P (timer_at k.timers other)) → (other : ℕ) → P (timer_at (set k.timers id now) other) = λ P this those other. ⊎_elim
-    (λ (same : id ≡ other). subst (λ u. P (timer_at (set k.timers id now) u)) same (subst P (sym (get_or-set_same k.timers id now no_timer within)) this))
-    (λ apart. subst P (sym (get_or-set_other k.timers id other now no_timer (λ e. apart (sym e)))) (those other))
-    (cases_eq id other) in
-    record {
+pub queued : (k : Kept) (id : ℕ) → Agrees k → IsQueuedAs id (timer_in k id) (content_at k (timer_in k id).base)
+queued k id all = IsQueuedAs-from (timer_in k) id (content_at k (timer_in k id).base) (all.apart id) (all.contents (timer_in k id).base)
+
+pub agrees-after : (k : Kept) (id : ℕ) (e : Event) → Agrees k → id < length k.timers → Needs (timer_in k id) e → Permits k id e → Agrees (after_event k id e)
+agrees-after k id e all within needs permits =
+    let t = timer_in k id in
+    let now = after t e in
+    let new = after_event k id e in
+    let sizes = size-after k id e in
+    let one = changes k id e within in record {
       contents = λ base. ⊎_elim
-          (λ (is : base ≡ now.base). subst (λ b. IsContentOf (set k.timers id now) b (base_in after b).content) (sym is) (goes now.base (bases_after-new id t now k.bases inside)))
-          (place base)
-          (cases_eq base now.base);
-      rooms = λ base below. room base ∙ all.rooms base (subst (λ n. base < n) same_length below) ∙ sym (length-set k.timers id now);
-      placed = each (λ t. t.base < length after) (subst (λ n. now.base < n) (sym same_length) inside) (λ other. subst (λ n. (timer_at k.timers other).base < n) (sym same_length) (all.placed other));
-      still = each (λ t. t.moving ≡ false) still all.still;
-      few_bases = subst (λ n. n ≤ 8) (sym same_length) all.few_bases;
-      few_timers = subst (λ n. n ≤ 256) (sym (length-set k.timers id now)) all.few_timers;
+          (λ (here : base ≡ t.base). subst (λ b. IsContentOf (timer_in new) b (content_at new b)) (sym here)
+          (subst (λ (b : BaseState). IsContentOf (timer_in new) t.base b.content) (sym (base-here k id e (all.placed id)))
+          (IsContentOf-after (timer_in k) (timer_in new) id e (content_at k t.base) needs (all.apart id) (free_for k id e permits) one (all.contents t.base))))
+          (λ apart. subst (λ (b : BaseState). IsContentOf (timer_in new) base b.content) (sym (base-else k id base e apart))
+          (IsContentOf-elsewhere (timer_in k) (timer_in new) id e base (content_at k base) needs apart one (all.contents base)))
+          (cases_eq base t.base);
+      rooms = λ base inside. ⊎_elim
+          (λ (here : base ≡ t.base). ap (λ b. (base_at new b).room) here ∙ ap (λ (b : BaseState). b.room) (base-here k id e (all.placed id)) ∙ all.rooms t.base (all.placed id) ∙ sym sizes.timers)
+          (λ apart. ap (λ (b : BaseState). b.room) (base-else k id base e apart) ∙ all.rooms base (subst (λ n. base < n) sizes.bases inside) ∙ sym sizes.timers)
+          (cases_eq base t.base);
+      placed = each_timer k id e (λ x. x.base < length new.bases) within (subst (λ n. now.base < n) (sym sizes.bases) (placed-after k id e permits (all.placed id))) (λ other. subst (λ n. (timer_in k other).base < n) (sym sizes.bases) (all.placed other));
+      apart = each_timer k id e (λ x. x.moving ≡ true → (x.armed ≡ None) × (x.running ≡ None)) within (apart-after t e needs (all.apart id)) all.apart;
+      few_bases = subst (λ n. n ≤ 8) (sym sizes.bases) all.few_bases;
+      few_timers = subst (λ n. n ≤ 256) (sym sizes.timers) all.few_timers;
     }
+
+-- ---- a call of one event, and one of two
+
+pub makes-one : (k : Kept) (id : ℕ) (e : Event) → id < length k.timers → Needs (timer_in k id) e → Makes k id (e ∷ []) (after_event k id e)
+makes-one k id e within needs = record {
+  within = within;
+  allowed = (needs, tt);
+  kept = refl;
+  timers = refl;
+  timer = timer-itself k id e within;
+  others = λ other apart. timer-other k id other e apart;
+}
+
+set_twice : {A : Type 0} (xs : List A) (i : ℕ) (a b : A) → set (set xs i a) i b ≡ set xs i b
+set_twice [] i a b = refl
+set_twice (x ∷ xs) zero a b = refl
+set_twice (x ∷ xs) (suc i) a b = ap (λ ys. x ∷ ys) (set_twice xs i a b)
+
+pub makes-two : (k : Kept) (id : ℕ) (d e : Event) → id < length k.timers → AreAllowed (timer_in k id) (d ∷ e ∷ []) → Makes k id (d ∷ e ∷ []) (after_event (after_event k id d) id e)
+makes-two k id d e within allowed =
+    let mid = after_event k id d in
+    let here = timer-itself k id d within in
+    let there = subst (λ n. id < n) (sym (size-after k id d).timers) within in record {
+      within = within;
+      allowed = allowed;
+      kept = refl;
+      timers = ap (λ t. set (set k.timers id (after (timer_in k id) d)) id (after t e)) here ∙ set_twice k.timers id (after (timer_in k id) d) (after (after (timer_in k id) d) e);
+      timer = timer-itself mid id e there ∙ ap (λ t. after t e) here;
+      others = λ other apart. timer-other mid id other e apart ∙ timer-other k id other d apart;
+    }
+
+pub still-after : (k new : Kept) (id : ℕ) (es : List Event) → Makes k id es new → ((other : ℕ) → (timer_in k other).moving ≡ false) → (step_all (timer_in k id) es).moving ≡ false → (other : ℕ) → (timer_in new other).moving ≡ false
+still-after k new id es makes still now other = ⊎_elim
+    (λ (same : other ≡ id). ap (λ i. (timer_in new i).moving) same ∙ ap (λ (t : Timer). t.moving) makes.timer ∙ now)
+    (λ apart. ap (λ (t : Timer). t.moving) (makes.others other apart) ∙ still other)
+    (cases_eq other id)
+
+-- what comes after an Out needs nothing of the bases
+permits-moving : (k : Kept) (id : ℕ) (e : Event) → Needs (timer_in k id) e → (timer_in k id).moving ≡ true → Permits k id e
+permits-moving k id (events.Out base) needs moves = absurd (true≢false (sym moves ∙ needs.1))
+permits-moving k id (events.Start mode ns reading asked) needs moves = tt
+permits-moving k id events.Cancel needs moves = tt
+permits-moving k id (events.Claim base reading) needs moves = absurd (true≢false (sym moves ∙ needs.3))
+permits-moving k id (events.Forward reading interval) needs moves = tt
+permits-moving k id (events.Finish restart) needs moves = tt
+
+pub consistent-one : (k : Kept) (id : ℕ) (e : Event) → IsConsistent k → id < length k.timers → Needs (timer_in k id) e → Permits k id e → (after (timer_in k id) e).moving ≡ false → IsConsistent (after_event k id e)
+consistent-one k id e all within needs permits still =
+    consistent (after_event k id e) (agrees-after k id e (agrees k all) within needs permits)
+    (still-after k (after_event k id e) id (e ∷ []) (makes-one k id e within needs) all.still still)
+
+-- what a second event of the timer needs, of the state that the first has led to
+pub needs-next : (k : Kept) (id : ℕ) (d e : Event) → id < length k.timers → Needs (after (timer_in k id) d) e → Needs (timer_in (after_event k id d) id) e
+needs-next k id d e within needs = subst (λ t. Needs t e) (sym (timer-itself k id d within)) needs
+
+pub permits-next : (k : Kept) (id base : ℕ) (e : Event) → id < length k.timers → Needs (after (timer_in k id) (events.Out base)) e → Permits (after_event k id (events.Out base)) id e
+permits-next k id base e within needs =
+    permits-moving (after_event k id (events.Out base)) id e (needs-next k id (events.Out base) e within needs) (ap (λ (t : Timer). t.moving) (timer-itself k id (events.Out base) within))
+
+pub consistent-two : (k : Kept) (id base : ℕ) (e : Event) → IsConsistent k → id < length k.timers → base < length k.bases → AreAllowed (timer_in k id) (events.Out base ∷ e ∷ [])
+    → (step_all (timer_in k id) (events.Out base ∷ e ∷ [])).moving ≡ false → IsConsistent (after_event (after_event k id (events.Out base)) id e)
+consistent-two k id base e all within inside allowed still =
+    let out = events.Out base in
+    let mid = after_event k id out in
+    let needs = needs-next k id out e within allowed.1.0 in
+    let there = subst (λ n. id < n) (sym (size-after k id out).timers) within in
+    consistent (after_event mid id e) (agrees-after mid id e (agrees-after k id out (agrees k all) within allowed.0 inside) there needs (permits-next k id base e within allowed.1.0))
+    (still-after k (after_event mid id e) id (out ∷ e ∷ []) (makes-two k id out e within allowed) all.still still)

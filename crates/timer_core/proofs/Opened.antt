@@ -10,7 +10,7 @@ use Rattle.ktime.specs.declared.clock_id.ClockId.TheVariants as clocks
 use Rattle.seq_timer.specs.Steps.{Timer, opening}
 use Rattle.seq_timer.specs.Tables.{timer_at, no_timer}
 use Rattle.seq_timer.specs.Contents.{wanted, running_on, queue_of, IsQueueOf, IsContentOf}
-use Rattle.timer_core.specs.Bases.{BaseState, empty_base}
+use Rattle.seq_timer.specs.Bases.{BaseState, empty_base}
 use Rattle.timer_core.specs.Kept.{IsConsistent, opened}
 
 -- what holds of each timer at its opening holds of each that is there, or isn't
@@ -36,22 +36,22 @@ queue_of-empty clocks.Boottime = refl
 no_running : (base : ℕ) (t : Timer) → t.running ≡ None → None ≡ running_on base t
 no_running base t none = grind (arith, nat_tests)
 
-pub empty-agrees : (list : List ClockId) (limit base : ℕ) → IsContentOf (map (λ clock. opening clock limit) list) base (empty_base 0).content
+pub empty-agrees : (list : List ClockId) (limit base : ℕ) → IsContentOf (timer_at (map (λ clock. opening clock limit) list)) base (empty_base 0).content
 unfolding IsDistinct
 empty-agrees list limit base = record {
-  queues = λ clock. subst (IsQueueOf (map (λ clock. opening clock limit) list) base clock) (sym (queue_of-empty clock)) (record {
+  queues = λ clock. subst (IsQueueOf (timer_at (map (λ clock. opening clock limit) list)) base clock) (sym (queue_of-empty clock)) (record {
     exact = λ id. each_opening (λ t. None ≡ wanted base clock t) (λ c l. refl) list limit id;
     once = tt;
     by_expiry = tt;
   });
-  mark = λ id. each_opening (λ t. None ≡ running_on base t) (λ c l. no_running base (opening c l) refl) list limit id;
+  running = λ id. each_opening (λ t. None ≡ running_on base t) (λ c l. no_running base (opening c l) refl) list limit id;
 }
 
 pub consistent-opened : (bases : ℕ) (list : List ClockId) (limit : ℕ) → 1 ≤ bases → bases ≤ 8 → length list ≤ 256 → IsConsistent (opened bases list limit)
 consistent-opened bases list limit some few timers =
     let room = length list in
     let many = length-replicate bases (empty_base room) in record {
-      contents = λ base. subst (IsContentOf (map (λ clock. opening clock limit) list) base) (sym (empty-at bases base room)) (empty-agrees list limit base);
+      contents = λ base. subst (IsContentOf (timer_at (map (λ clock. opening clock limit) list)) base) (sym (empty-at bases base room)) (empty-agrees list limit base);
       rooms = λ base below. ap (λ (b : BaseState). b.room) (get_or-replicate bases base (empty_base room) (empty_base 0) (subst (λ n. base < n) many below)) ∙ sym (length-map list (λ clock. opening clock limit));
       placed = λ id. each_opening (λ t. t.base < length (replicate bases (empty_base room))) (λ c l. subst (λ n. 0 < n) (sym many) some) list limit id;
       still = λ id. each_opening (λ t. t.moving ≡ false) (λ c l. refl) list limit id;

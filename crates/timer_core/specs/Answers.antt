@@ -1,12 +1,12 @@
 -- What each call answers, and which events it makes.
-use Rattle.std.specs.Prelude.{ℕ, ◌≡◌, ◌+◌, ◌^◌, ◌<◌, Bool, true, false, not, ◌&&◌, Some, is_some, List, [], ◌∷◌, length, nat_eq, if◌then◌else◌}
+use Rattle.std.specs.Prelude.{ℕ, ◌≡◌, ◌+◌, ◌<◌, Bool, false, not, ◌&&◌, Some, None, is_some, List, [], ◌∷◌, length, nat_eq, if◌then◌else◌}
 use Rattle.ktime.specs.declared.mode.Mode.{Mode}
 use Rattle.ktime.specs.Readings.{ClockReading}
 use Rattle.ktime.specs.Times.{next_after, passed}
 use Rattle.seq_timer.specs.Steps.{Timer, now_of}
 use Rattle.seq_timer.specs.declared.event.Event.{Event}
 use Rattle.seq_timer.specs.declared.event.Event.TheVariants as events
-use Rattle.seq_timer.specs.Tables.{timer_at, runs_on, is_due_on, is_ahead, is_smaller}
+use Rattle.seq_timer.specs.Tables.{IsNextDue, is_due_on, runs_on}
 use Rattle.seq_timer.specs.Contents.{first_due, running_on}
 use Rattle.timer_core.specs.declared.answer.StartAnswer.{StartAnswer}
 use Rattle.timer_core.specs.declared.answer.StartAnswer.TheVariants as starts
@@ -26,23 +26,17 @@ start_events t mode ns asked reading = if moves_first t asked then events.Out as
 
 -- what a start answers, of the timer before and after it
 abbrev pub started_as : Timer → Timer → ℕ → StartAnswer
-started_as t now asked = starts.Started (is_some t.armed) now.stamp now.base (if moves_first t asked then 2 ^ asked else 0) now.clock
+started_as t now asked = starts.Started (is_some t.armed) now.stamp now.base (if moves_first t asked then Some asked else None) now.clock now.expires
 
 -- what a forward answers that isn't refused
 abbrev pub forwarded_as : Timer → ClockReading → ℕ → ForwardAnswer
 forwarded_as t reading interval = forwards.Forwarded (t.stamp + 1) (passed t.expires (now_of t reading) interval) (next_after t.expires (now_of t reading) interval)
 
--- a timer is the next to expire on a base: it is due there, none is due whose clock is looked at before, none of its clock has an earlier expiry
-pub record IsNext (timers : List Timer) (base : ℕ) (reading : ClockReading) (id : ℕ) : Type 0 where
-  pub within : id < length timers
-  pub due : is_due_on base reading (timer_at timers id) ≡ true
-  pub ahead : (other : ℕ) → is_ahead base reading (timer_at timers id).clock (timer_at timers other) ≡ false
-  pub smaller : (other : ℕ) → is_smaller base (timer_at timers id).clock (timer_at timers id).expires (timer_at timers other) ≡ false
-
 -- a claim of the timer that is the next to expire on a base where no function runs: of equal expiries the one that was armed first
-pub record IsRightClaim (old : Kept) (base : ℕ) (reading : ClockReading) (id generation number : ℕ) (new : Kept) : Type 0 where
+pub record ClaimsNext (old : Kept) (base : ℕ) (reading : ClockReading) (id generation number : ℕ) (new : Kept) : Type 0 where
   pub idle : (other : ℕ) → runs_on base (timer_in old other) ≡ false
-  pub next : IsNext old.timers base reading id
+  pub within : id < length old.timers
+  pub next : IsNextDue (timer_in old) base reading id
   pub first : first_due (content_at old base) reading ≡ Some ((timer_in old id).expires, id)
   pub armed : (timer_in old id).armed ≡ Some generation
   pub counted : number ≡ (timer_in old id).stamp + 1
@@ -53,4 +47,4 @@ pub record IsRightClaim (old : Kept) (base : ℕ) (reading : ClockReading) (id g
 abbrev pub IsClaim : Kept → ℕ → ClockReading → ClaimAnswer → Kept → Type 0
 IsClaim old base reading (claims.BaseBusy id generation) new = (running_on base (timer_in old id) ≡ Some generation) × (new ≡ old)
 IsClaim old base reading claims.NoneDue new = ((id : ℕ) → runs_on base (timer_in old id) ≡ false) × ((id : ℕ) → is_due_on base reading (timer_in old id) ≡ false) × (new ≡ old)
-IsClaim old base reading (claims.Claimed id generation number) new = IsRightClaim old base reading id generation number new
+IsClaim old base reading (claims.Claimed id generation number) new = ClaimsNext old base reading id generation number new

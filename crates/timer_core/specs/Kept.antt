@@ -1,11 +1,12 @@
--- All timers and bases, that they agree, and how they change with one timer.
-use Rattle.std.specs.Prelude.{ℕ, ◌≡◌, ◌≤◌, ◌<◌, ◌⊎◌, false, None, List, [], ◌∷◌, map, length, get_or, set, replicate, nat_eq, if◌then◌else◌}
+-- All timers and bases, how they change with the events of one timer, and that they agree.
+use Rattle.std.specs.Prelude.{ℕ, ◌≡◌, ◌≤◌, ◌<◌, false, true, None, List, [], ◌∷◌, map, length, get_or, set, replicate}
 use Rattle.ktime.specs.declared.clock_id.ClockId.{ClockId}
 use Rattle.seq_timer.specs.Steps.{Timer, Needs, opening, after}
 use Rattle.seq_timer.specs.declared.event.Event.{Event}
+use Rattle.seq_timer.specs.declared.event.Event.TheVariants as events
 use Rattle.seq_timer.specs.Tables.{timer_at}
-use Rattle.seq_timer.specs.Contents.{Content, IsContentOf}
-use Rattle.timer_core.specs.Bases.{BaseState, IsQueuedAs, base_after, empty_base}
+use Rattle.seq_timer.specs.Bases.{BaseState, base_after, empty_base}
+use Rattle.seq_timer.specs.Contents.{Content, IsContentOf, IsFreeFor}
 
 -- the timers and the bases, each by its number
 pub record Kept : Type 0 where
@@ -36,26 +37,28 @@ HasRoom t = t.stamp < t.limit
 abbrev pub opened : ℕ → List ClockId → ℕ → Kept
 opened bases clocks limit = record { timers = map (λ clock. opening clock limit) clocks; bases = replicate bases (empty_base (length clocks)) }
 
--- each base agrees with the timers, its queues have room for all of them, and no timer is on the move
-pub record IsConsistent (k : Kept) : Type 0 where
-  pub contents : (base : ℕ) → IsContentOf k.timers base (content_at k base)
-  pub rooms : (base : ℕ) → base < length k.bases → (base_at k base).room ≡ length k.timers
-  pub placed : (id : ℕ) → (timer_in k id).base < length k.bases
-  pub still : (id : ℕ) → (timer_in k id).moving ≡ false
-  pub few_bases : length k.bases ≤ 8
-  pub few_timers : length k.timers ≤ 256
+-- ---- events of one timer
 
--- the bases, once one of them has gone along with a timer
-abbrev pub stepped : ℕ → ℕ → Timer → Timer → List BaseState → List BaseState
-stepped base id t now bases = set bases base (base_after base id t now (get_or bases base (empty_base 0)))
+-- all that is kept, after an event of a timer: the timer steps, and so does the base that it is on before
+abbrev pub after_event : Kept → ℕ → Event → Kept
+after_event k id e = record {
+  timers = set k.timers id (after (timer_in k id) e);
+  bases = set k.bases (timer_in k id).base (base_after id (timer_in k id) e (base_at k (timer_in k id).base));
+}
 
--- the bases, once a timer has changed: the one that it was on goes along, and the one that it is on
-abbrev pub bases_after : ℕ → Timer → Timer → List BaseState → List BaseState
-bases_after id t now bases = if nat_eq t.base now.base then stepped now.base id t now bases else stepped now.base id t now (stepped t.base id t now bases)
+-- all that is kept, after events of a timer in turn
+abbrev pub after_events : Kept → ℕ → List Event → Kept
+after_events k id [] = k
+after_events k id (e ∷ es) = after_events (after_event k id e) id es
 
--- all that is kept, once a timer has changed
-abbrev pub replaced : Kept → ℕ → Timer → Kept
-replaced k id now = record { timers = set k.timers id now; bases = bases_after id (timer_in k id) now k.bases }
+-- what an event needs beyond what its timer needs: a timer is sent to one of the bases, and a claim finds no function running on its own
+abbrev pub Permits : Kept → ℕ → Event → Type 0
+Permits k id (events.Out base) = base < length k.bases
+Permits k id (events.Start mode ns reading asked) = Unit {0}
+Permits k id events.Cancel = Unit {0}
+Permits k id (events.Claim base reading) = (content_at k (timer_in k id).base).running ≡ None
+Permits k id (events.Forward reading interval) = Unit {0}
+Permits k id (events.Finish restart) = Unit {0}
 
 -- the timer after events in turn
 abbrev pub step_all : Timer → List Event → Timer
@@ -72,19 +75,31 @@ pub record IsSameSize (old new : Kept) : Type 0 where
   pub timers : length new.timers ≡ length old.timers
   pub bases : length new.bases ≡ length old.bases
 
--- these events step this timer, and the bases go along; all other timers stay
+-- these events step this timer, and the bases that it is on; all other timers stay
 pub record Makes (old : Kept) (id : ℕ) (events : List Event) (new : Kept) : Type 0 where
   pub within : id < length old.timers
   pub allowed : AreAllowed (timer_in old id) events
-  pub kept : new ≡ replaced old id (step_all (timer_in old id) events)
+  pub kept : new ≡ after_events old id events
+  pub timers : new.timers ≡ set old.timers id (step_all (timer_in old id) events)
   pub timer : timer_in new id ≡ step_all (timer_in old id) events
   pub others : (other : ℕ) → (other ≡ id → ⊥) → timer_in new other ≡ timer_in old other
 
--- a timer may change so: its function doesn't run, or runs where it ran, or comes to run on a base where none runs
-abbrev pub MayRun : Kept → ℕ → Timer → Type 0
-MayRun k id now = (now.running ≡ None) ⊎ ((now.running ≡ (timer_in k id).running) × (now.base ≡ (timer_in k id).base)) ⊎ ((content_at k now.base).mark ≡ None)
+-- ---- that all agree
 
--- each base has the timer in its queues as it is armed, and room for it
-pub record AreReadyFor (bases : List BaseState) (id : ℕ) (t : Timer) : Type 0 where
-  pub queued : (base : ℕ) → IsQueuedAs base id t (get_or bases base (empty_base 0)).content
-  pub below : (base : ℕ) → base < length bases → id < (get_or bases base (empty_base 0)).room
+-- each base agrees with the timers, its queues have room for all of them, and a timer on the move is neither armed nor running
+pub record Agrees (k : Kept) : Type 0 where
+  pub contents : (base : ℕ) → IsContentOf (timer_in k) base (content_at k base)
+  pub rooms : (base : ℕ) → base < length k.bases → (base_at k base).room ≡ length k.timers
+  pub placed : (id : ℕ) → (timer_in k id).base < length k.bases
+  pub apart : (id : ℕ) → (timer_in k id).moving ≡ true → ((timer_in k id).armed ≡ None) × ((timer_in k id).running ≡ None)
+  pub few_bases : length k.bases ≤ 8
+  pub few_timers : length k.timers ≤ 256
+
+-- each base agrees with the timers, its queues have room for all of them, and no timer is on the move
+pub record IsConsistent (k : Kept) : Type 0 where
+  pub contents : (base : ℕ) → IsContentOf (timer_in k) base (content_at k base)
+  pub rooms : (base : ℕ) → base < length k.bases → (base_at k base).room ≡ length k.timers
+  pub placed : (id : ℕ) → (timer_in k id).base < length k.bases
+  pub still : (id : ℕ) → (timer_in k id).moving ≡ false
+  pub few_bases : length k.bases ≤ 8
+  pub few_timers : length k.timers ≤ 256

@@ -1,4 +1,3 @@
 pub mod Answers
-pub mod Bases
 pub mod Kept
 pub mod Runs

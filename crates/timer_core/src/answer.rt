@@ -1,3 +1,4 @@
+//! What each call answers.
 use ktime::ClockId;
 use seq_timer::Rearmed;
 
@@ -11,10 +12,12 @@ pub enum StartAnswer {
         generation: u64,
         /// The base that the timer is on. A timer whose function is running keeps its base.
         base: u32,
-        /// Bit b is set where the call moved the timer to base b.
-        outs: u64,
+        /// The base that the call moved the timer to, if it did.
+        moved_to: Option<u32>,
         /// The clock that the timer is kept on.
         clock: ClockId,
+        /// The expiry that the start has set, in nanoseconds of `clock`.
+        expires: u64,
     },
     /// The limit on entries was reached, at this stamp. Nothing has changed.
     Spent {

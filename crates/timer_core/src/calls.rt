@@ -1,3 +1,4 @@
+//! The calls that change timers.
 ghost use Rattle.std.specs.Prelude.{◌≡◌, ◌+◌, ◌<◌, ◌≤◌, ◌⊎◌, ◌^◌, ℕ, Some, None, IsSome, false, length, unwrap_or, [], ◌∷◌, if◌then◌else◌};
 ghost use Rattle.seq_timer.specs.declared.event.Event.TheVariants as events;
 ghost use Rattle.seq_timer.specs.Steps.{rearmed_by};
@@ -38,15 +39,38 @@ impl<Q: Queue> Core<Q> {
         if old.stamp() >= old.limit() {
             return StartAnswer::Spent { stamp: old.stamp() };
         }
-        let now = started(old, mode, ns, base, reading);
-        self.replace(id, now);
+        self.arm(id, mode, ns, base, reading);
+        let now = self.state(id);
         StartAnswer::Started {
             was_armed: old.armed().is_some(),
             generation: now.stamp(),
             base: now.base(),
-            outs: outs(&old, base),
+            moved_to: moves_first(&old, base).then_some(base),
             clock: now.clock(),
+            expires: now.expires(),
         }
+    }
+
+    /// Makes the entries of a start.
+    fn arm(&mut self, id: u32, mode: Mode, ns: u64, base: u32, reading: Reading)
+        requires timer { id < length self.old.timers }
+        requires base { base < length self.old.bases }
+        requires room { HasRoom (timer_in self.old id) }
+        ensures makes { Makes self.old id (start_events (timer_in self.old id) mode ns base reading) self.new }
+        ensures sizes { IsSameSize self.old self.new }
+    {
+        let start = Event::Start {
+            mode,
+            ns,
+            reading,
+            asked: base,
+        };
+        let timer = self.state(id);
+        if moves_first(&timer, base) {
+            self.move_and_step(id, base, start);
+            return;
+        }
+        self.step(id, start);
     }
 
     /// Disarms a timer, if its function isn't running (`hrtimer_try_to_cancel`).
@@ -59,7 +83,7 @@ impl<Q: Queue> Core<Q> {
         ensures idle { (timer_in self.old id).running ≡ None → (timer_in self.old id).armed ≡ None → (result ≡ cancels.Idle (timer_in self.old id).stamp) × (self.new ≡ self.old) }
         ensures sizes { IsSameSize self.old self.new }
     {
-        let mut timer = self.state(id);
+        let timer = self.state(id);
         let stamp = timer.stamp();
         if let Some(generation) = timer.running() {
             return CancelAnswer::Running { generation, stamp };
@@ -67,34 +91,30 @@ impl<Q: Queue> Core<Q> {
         let Some(generation) = timer.armed() else {
             return CancelAnswer::Idle { stamp };
         };
-        timer.apply(Event::Cancel);
-        self.replace(id, timer);
+        self.step(id, Event::Cancel);
         CancelAnswer::Cancelled {
             generation,
-            number: timer.stamp(),
+            number: stamp + 1,
         }
     }
 
     /// Claims the timer that is the next to expire on a base: its function is to run (`__run_hrtimer`). One function runs on a base at a time.
     pub fn claim_next(&mut self, base: u32, reading: Reading) -> ClaimAnswer
         requires { base < length self.old.bases }
-        ensures busy { (t g : ℕ) → (content_at self.old base).mark ≡ Some (t, g) → (result ≡ claims.BaseBusy t g) × (self.new ≡ self.old) }
-        ensures none { (content_at self.old base).mark ≡ None → first_due (content_at self.old base) reading ≡ None → (result ≡ claims.NoneDue) × (self.new ≡ self.old) }
-        ensures claimed { (e t : ℕ) → (content_at self.old base).mark ≡ None → first_due (content_at self.old base) reading ≡ Some (e, t) → result ≡ claims.Claimed t (unwrap_or (timer_in self.old t).armed 0) ((timer_in self.old t).stamp + 1) }
+        ensures busy { (t g : ℕ) → (content_at self.old base).running ≡ Some (t, g) → (result ≡ claims.BaseBusy t g) × (self.new ≡ self.old) }
+        ensures none { (content_at self.old base).running ≡ None → first_due (content_at self.old base) reading ≡ None → (result ≡ claims.NoneDue) × (self.new ≡ self.old) }
+        ensures claimed { (e t : ℕ) → (content_at self.old base).running ≡ None → first_due (content_at self.old base) reading ≡ Some (e, t) → result ≡ claims.Claimed t (unwrap_or (timer_in self.old t).armed 0) ((timer_in self.old t).stamp + 1) }
         ensures claim { IsClaim self.old base reading result self.new }
         ensures sizes { IsSameSize self.old self.new }
     {
-        if let Some((timer, generation)) = self.mark(base) {
+        if let Some((timer, generation)) = self.running(base) {
             return ClaimAnswer::BaseBusy { timer, generation };
         }
         let Some((_, timer)) = self.first(base, reading) else {
             return ClaimAnswer::NoneDue;
         };
-        let mut now = self.state(timer);
-        let reply = now.apply(Event::Claim { base, reading });
-        self.replace(timer, now);
-        let number = now.stamp();
-        match reply {
+        let number = self.state(timer).stamp() + 1;
+        match self.step(timer, Event::Claim { base, reading }) {
             Reply::Claim { generation } => ClaimAnswer::Claimed {
                 timer,
                 generation,
@@ -114,7 +134,7 @@ impl<Q: Queue> Core<Q> {
         ensures entry { HasRoom (timer_in self.old timer) → (timer_in self.old timer).armed ≡ None → Makes self.old timer (events.Forward reading interval ∷ []) self.new }
         ensures sizes { IsSameSize self.old self.new }
     {
-        let mut now = self.state(timer);
+        let now = self.state(timer);
         let stamp = now.stamp();
         if stamp >= now.limit() {
             return ForwardAnswer::Spent { stamp };
@@ -122,12 +142,9 @@ impl<Q: Queue> Core<Q> {
         if let Some(generation) = now.armed() {
             return ForwardAnswer::Armed { generation, stamp };
         }
-        let reply = now.apply(Event::Forward { reading, interval });
-        self.replace(timer, now);
-        let number = now.stamp();
-        match reply {
+        match self.step(timer, Event::Forward { reading, interval }) {
             Reply::Forward { count, expires } => ForwardAnswer::Forwarded {
-                number,
+                number: stamp + 1,
                 count,
                 expires,
             },
@@ -145,50 +162,11 @@ impl<Q: Queue> Core<Q> {
         ensures entry { Makes self.old timer (events.Finish restart ∷ []) self.new }
         ensures sizes { IsSameSize self.old self.new }
     {
-        let mut now = self.state(timer);
-        let reply = now.apply(Event::Finish { restart });
-        self.replace(timer, now);
-        let number = now.stamp();
-        match reply {
+        let number = self.state(timer).stamp() + 1;
+        match self.step(timer, Event::Finish { restart }) {
             Reply::Finish { rearmed, .. } => Finished { number, rearmed },
             _ => unreachable!(),
         }
-    }
-}
-
-/// The timer after a start.
-fn started(old: TimerState, mode: Mode, ns: u64, base: u32, reading: Reading) -> TimerState
-    requires room { HasRoom old }
-    requires still { old.moving ≡ false }
-    ensures state { result ≡ step_all old (start_events old mode ns base reading) }
-    ensures allowed { AreAllowed old (start_events old mode ns base reading) }
-    ensures runs { (result.running ≡ None) ⊎ ((result.running ≡ old.running) × (result.base ≡ old.base)) }
-{
-    let mut now = old;
-    let start = Event::Start {
-        mode,
-        ns,
-        reading,
-        asked: base,
-    };
-    if moves_first(&old, base) {
-        now.apply(Event::Out { base });
-        now.apply(start);
-        return now;
-    }
-    now.apply(start);
-    now
-}
-
-/// The bases that a start moves the timer to, a bit each.
-fn outs(timer: &TimerState, base: u32) -> u64
-    requires { base < 8 }
-    ensures { result ≡ (if moves_first timer.now base then 2 ^ base else 0) }
-{
-    if moves_first(timer, base) {
-        1 << base
-    } else {
-        0
     }
 }
 

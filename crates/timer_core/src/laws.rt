@@ -1,3 +1,4 @@
+//! What holds along every list of calls, as clauses of a function without a body.
 ghost use Rattle.std.specs.Prelude.{◌≡◌, ◌<◌, ℕ, List, length, get_or};
 ghost use Rattle.ktime.specs.declared.clock_id.ClockId.{ClockId};
 ghost use Rattle.ktime.specs.declared.clock_id.ClockId.TheVariants as clocks;

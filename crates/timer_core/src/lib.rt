@@ -6,7 +6,6 @@ pub use laws::calls_keep_histories_legal;
 pub use timers::Core;
 
 mod answer;
-mod base;
 mod calls;
 mod laws;
 #[cfg(test)]

@@ -1,6 +1,7 @@
-ghost use Rattle.std.specs.Prelude.{◌≡◌, ◌<◌, ◌≤◌, length};
+//! Tests of the calls: each fails where a call answers another thing than is wanted, a refusal or nothing due among them.
+ghost use Rattle.std.specs.Prelude.{◌≡◌, ◌<◌, ◌≤◌, length, IsSome};
 ghost use Rattle.ktime.specs.Readings.{latest};
-ghost use Rattle.timer_core.specs.Kept.{IsSameSize};
+ghost use Rattle.timer_core.specs.Kept.{IsSameSize, timer_in};
 
 use crate::{
     CancelAnswer, ClaimAnswer, Core, Finished, ForwardAnswer, StartAnswer,
@@ -9,6 +10,7 @@ use crate::{
 use ktime::{ClockId, Mode, Reading};
 use seq_timer::{Peek, Rearmed};
 use std::alloc::AllocError;
+use std::process::Abort;
 use timer_queue::ListQueue;
 
 /// A reading in which all clocks show this time.
@@ -25,60 +27,75 @@ fn at(time: u64) -> Reading
     }
 }
 
+/// Claims the next timer of a base, and fails where none is claimed.
+fn claim(rt: &impl Abort, core: &mut Core<ListQueue>, base: u32, reading: Reading) -> u32
+    requires { base < length core.old.bases }
+    ensures timer { result < length core.old.timers }
+    ensures running { IsSome (timer_in core.new result).running }
+    ensures sizes { IsSameSize core.old core.new }
+{
+    match core.claim_next(base, reading) {
+        ClaimAnswer::Claimed { timer, .. } => timer,
+        answer => panic!(rt; "no timer is claimed: {answer:?}"),
+    }
+}
+
 /// Claims the next timer of base 0 and ends its run; tells which it was.
-fn run_next(core: &mut Core<ListQueue>, reading: Reading) -> Option<u32>
+fn run_next(rt: &impl Abort, core: &mut Core<ListQueue>, reading: Reading) -> u32
     requires { 0 < length core.old.bases }
     ensures { IsSameSize core.old core.new }
 {
-    let ClaimAnswer::Claimed { timer, .. } = core.claim_next(0, reading) else {
-        return None;
-    };
+    let timer = claim(rt, core, 0, reading);
     core.finish(timer, false);
-    Some(timer)
+    timer
+}
+
+/// What a start of a timer on the monotonic clock answers that moves nothing.
+fn started(was_armed: bool, generation: u64, expires: u64) -> StartAnswer {
+    StartAnswer::Started {
+        was_armed,
+        generation,
+        base: 0,
+        moved_to: None,
+        clock: ClockId::Monotonic,
+        expires,
+    }
 }
 
 #[test]
 fn a_timer_runs_once(rt: HostRuntime) -> Result<(), AllocError> {
     let mut core = Core::<ListQueue>::make(rt.alloc(), 1, &[ClockId::Monotonic], 100)?;
-    let started = core.start(0, Mode::Rel, 100, 0, at(0));
-    assert_eq!(rt;
-        started,
-        StartAnswer::Started {
-            was_armed: false,
-            generation: 1,
-            base: 0,
-            outs: 0,
-            clock: ClockId::Monotonic
-        }
-    );
+    let answer = core.start(0, Mode::Rel, 100, 0, at(0));
+    assert_eq!(rt; answer, started(false, 1, 100));
     assert_eq!(rt; core.claim_next(0, at(99)), ClaimAnswer::NoneDue);
     assert_eq!(rt; core.first(0, at(100)), Some((100, 0)));
     let claimed = core.claim_next(0, at(100));
-    assert_eq!(rt;
-        claimed,
-        ClaimAnswer::Claimed {
-            timer: 0,
-            generation: 1,
-            number: 2
-        }
-    );
-    assert_eq!(rt; core.mark(0), Some((0, 1)));
-    assert_eq!(rt;
-        core.claim_next(0, at(100)),
-        ClaimAnswer::BaseBusy {
-            timer: 0,
-            generation: 1
-        }
-    );
-    if core.state(0).running().is_some() {
-        assert_eq!(rt;
-            core.finish(0, false),
-            Finished {
-                number: 3,
-                rearmed: Rearmed::No
-            }
-        );
-    }
+    let first = ClaimAnswer::Claimed {
+        timer: 0,
+        generation: 1,
+        number: 2,
+    };
+    assert_eq!(rt; claimed, first);
+    assert_eq!(rt; core.running(0), Some((0, 1)));
+    let busy = ClaimAnswer::BaseBusy {
+        timer: 0,
+        generation: 1,
+    };
+    assert_eq!(rt; core.claim_next(0, at(100)), busy);
+    Ok(())
+}
+
+#[test]
+fn a_timer_that_has_run_is_idle(rt: HostRuntime) -> Result<(), AllocError> {
+    let mut core = Core::<ListQueue>::make(rt.alloc(), 1, &[ClockId::Monotonic], 100)?;
+    core.start(0, Mode::Rel, 100, 0, at(0));
+    let timer = claim(&rt, &mut core, 0, at(100));
+    let finished = Finished {
+        number: 3,
+        rearmed: Rearmed::No,
+    };
+    assert_eq!(rt; core.finish(timer, false), finished);
+    assert_eq!(rt; core.running(0), None);
     assert_eq!(rt; core.try_to_cancel(0), CancelAnswer::Idle { stamp: 3 });
     let idle = Peek {
         stamp: 3,
@@ -94,81 +111,67 @@ fn a_timer_runs_once(rt: HostRuntime) -> Result<(), AllocError> {
 }
 
 #[test]
-fn equal_expiries_leave_in_the_order_of_adding(rt: HostRuntime) -> Result<(), AllocError> {
+fn equal_expiries_leave_in_the_order_of_arming(rt: HostRuntime) -> Result<(), AllocError> {
     let mut core = Core::<ListQueue>::make(rt.alloc(), 1, &[ClockId::Monotonic; 3], 100)?;
     core.start(2, Mode::Abs, 100, 0, at(0));
     core.start(0, Mode::Abs, 100, 0, at(0));
     core.start(1, Mode::Abs, 100, 0, at(0));
     core.start(2, Mode::Abs, 100, 0, at(0));
-    assert_eq!(rt; run_next(&mut core, at(100)), Some(0));
-    assert_eq!(rt; run_next(&mut core, at(100)), Some(1));
-    assert_eq!(rt; run_next(&mut core, at(100)), Some(2));
-    assert_eq!(rt; run_next(&mut core, at(100)), None);
+    assert_eq!(rt; run_next(&rt, &mut core, at(100)), 0);
+    assert_eq!(rt; run_next(&rt, &mut core, at(100)), 1);
+    assert_eq!(rt; run_next(&rt, &mut core, at(100)), 2);
+    assert_eq!(rt; core.claim_next(0, at(100)), ClaimAnswer::NoneDue);
     Ok(())
 }
 
 #[test]
-fn a_start_in_the_callback_stays_when_the_cancel_is_told_running(
+fn a_start_in_the_callback_stands_though_the_function_runs(
     rt: HostRuntime,
 ) -> Result<(), AllocError> {
     let mut core = Core::<ListQueue>::make(rt.alloc(), 2, &[ClockId::Monotonic], 100)?;
     core.start(0, Mode::Abs, 0, 0, at(0));
-    let ClaimAnswer::Claimed { timer, .. } = core.claim_next(0, at(0)) else {
-        return Ok(());
+    let timer = claim(&rt, &mut core, 0, at(0));
+    let answer = core.start(timer, Mode::Rel, 50, 1, at(0));
+    assert_eq!(rt; answer, started(false, 3, 50));
+    let running = CancelAnswer::Running {
+        generation: 1,
+        stamp: 3,
     };
-    let started = core.start(timer, Mode::Rel, 50, 1, at(0));
-    assert_eq!(rt;
-        started,
-        StartAnswer::Started {
-            was_armed: false,
-            generation: 3,
-            base: 0,
-            outs: 0,
-            clock: ClockId::Monotonic
-        }
-    );
-    assert_eq!(rt;
-        core.try_to_cancel(timer),
-        CancelAnswer::Running {
-            generation: 1,
-            stamp: 3
-        }
-    );
-    assert_eq!(rt;
-        core.forward(timer, at(0), 10),
-        ForwardAnswer::Armed {
-            generation: 3,
-            stamp: 3
-        }
-    );
-    assert_eq!(rt;
-        core.finish(timer, true),
-        Finished {
-            number: 4,
-            rearmed: Rearmed::No
-        }
-    );
+    assert_eq!(rt; core.try_to_cancel(timer), running);
+    let armed = ForwardAnswer::Armed {
+        generation: 3,
+        stamp: 3,
+    };
+    assert_eq!(rt; core.forward(timer, at(0), 10), armed);
+    let finished = Finished {
+        number: 4,
+        rearmed: Rearmed::No,
+    };
+    assert_eq!(rt; core.finish(timer, true), finished);
     assert_eq!(rt; core.state(timer).armed(), Some(3));
-    let started = core.start(timer, Mode::Rel, 70, 1, at(0));
-    assert_eq!(rt;
-        started,
-        StartAnswer::Started {
-            was_armed: true,
-            generation: 6,
-            base: 1,
-            outs: 2,
-            clock: ClockId::Monotonic
-        }
-    );
+    Ok(())
+}
+
+#[test]
+fn a_start_moves_an_armed_timer(rt: HostRuntime) -> Result<(), AllocError> {
+    let mut core = Core::<ListQueue>::make(rt.alloc(), 2, &[ClockId::Monotonic], 100)?;
+    core.start(0, Mode::Abs, 50, 0, at(0));
+    let moved = StartAnswer::Started {
+        was_armed: true,
+        generation: 3,
+        base: 1,
+        moved_to: Some(1),
+        clock: ClockId::Monotonic,
+        expires: 70,
+    };
+    assert_eq!(rt; core.start(0, Mode::Rel, 70, 1, at(0)), moved);
     assert_eq!(rt; core.first(0, at(100)), None);
     assert_eq!(rt; core.first(1, at(100)), Some((70, 0)));
-    assert_eq!(rt;
-        core.try_to_cancel(timer),
-        CancelAnswer::Cancelled {
-            generation: 6,
-            number: 7
-        }
-    );
+    let cancelled = CancelAnswer::Cancelled {
+        generation: 3,
+        number: 4,
+    };
+    assert_eq!(rt; core.try_to_cancel(0), cancelled);
     Ok(())
 }
 
@@ -176,24 +179,18 @@ fn a_start_in_the_callback_stays_when_the_cancel_is_told_running(
 fn a_periodic_timer_is_forwarded_and_armed_again(rt: HostRuntime) -> Result<(), AllocError> {
     let mut core = Core::<ListQueue>::make(rt.alloc(), 1, &[ClockId::Boottime], 100)?;
     core.start(0, Mode::Rel, 100, 0, at(0));
-    let ClaimAnswer::Claimed { timer, .. } = core.claim_next(0, at(130)) else {
-        return Ok(());
+    let timer = claim(&rt, &mut core, 0, at(130));
+    let forwarded = ForwardAnswer::Forwarded {
+        number: 3,
+        count: 4,
+        expires: 140,
     };
-    assert_eq!(rt;
-        core.forward(timer, at(130), 10),
-        ForwardAnswer::Forwarded {
-            number: 3,
-            count: 4,
-            expires: 140
-        }
-    );
-    assert_eq!(rt;
-        core.finish(timer, true),
-        Finished {
-            number: 4,
-            rearmed: Rearmed::Again { generation: 4 }
-        }
-    );
+    assert_eq!(rt; core.forward(timer, at(130), 10), forwarded);
+    let finished = Finished {
+        number: 4,
+        rearmed: Rearmed::Again { generation: 4 },
+    };
+    assert_eq!(rt; core.finish(timer, true), finished);
     assert_eq!(rt; core.first(0, at(140)), Some((140, 0)));
     Ok(())
 }
@@ -212,8 +209,8 @@ fn a_relative_time_of_day_expires_by_the_monotonic_clock(
         boot: 0,
         changes: 1,
     };
-    assert_eq!(rt; run_next(&mut core, set), Some(0));
-    assert_eq!(rt; run_next(&mut core, set), None);
+    assert_eq!(rt; run_next(&rt, &mut core, set), 0);
+    assert_eq!(rt; core.claim_next(0, set), ClaimAnswer::NoneDue);
     let later = Reading {
         stamp: 2,
         mono: 1000,
@@ -221,7 +218,7 @@ fn a_relative_time_of_day_expires_by_the_monotonic_clock(
         boot: 1000,
         changes: 2,
     };
-    assert_eq!(rt; run_next(&mut core, later), Some(1));
+    assert_eq!(rt; run_next(&rt, &mut core, later), 1);
     Ok(())
 }
 
@@ -230,23 +227,15 @@ fn the_limit_on_entries_refuses_a_start_and_a_restart(rt: HostRuntime) -> Result
     let mut core = Core::<ListQueue>::make(rt.alloc(), 2, &[ClockId::Monotonic], 2)?;
     core.start(0, Mode::Rel, 0, 0, at(0));
     core.start(0, Mode::Rel, 0, 1, at(0));
-    assert_eq!(rt;
-        core.start(0, Mode::Rel, 0, 0, at(0)),
-        StartAnswer::Spent { stamp: 3 }
-    );
-    let ClaimAnswer::Claimed { timer, .. } = core.claim_next(1, at(0)) else {
-        return Ok(());
+    let spent = StartAnswer::Spent { stamp: 3 };
+    assert_eq!(rt; core.start(0, Mode::Rel, 0, 0, at(0)), spent);
+    let timer = claim(&rt, &mut core, 1, at(0));
+    let spent = ForwardAnswer::Spent { stamp: 4 };
+    assert_eq!(rt; core.forward(timer, at(0), 10), spent);
+    let finished = Finished {
+        number: 5,
+        rearmed: Rearmed::Spent { stamp: 4 },
     };
-    assert_eq!(rt;
-        core.forward(timer, at(0), 10),
-        ForwardAnswer::Spent { stamp: 4 }
-    );
-    assert_eq!(rt;
-        core.finish(timer, true),
-        Finished {
-            number: 5,
-            rearmed: Rearmed::Spent { stamp: 4 }
-        }
-    );
+    assert_eq!(rt; core.finish(timer, true), finished);
     Ok(())
 }

@@ -1,15 +1,15 @@
-ghost use Rattle.std.specs.Prelude.{◌≡◌, ◌<◌, ◌≤◌, ℕ, IfOk, IfSome, IfNone, Some, None, false, length, map, replicate};
-ghost use Rattle.seq_timer.specs.Histories.{peek_of};
-ghost use Rattle.seq_timer.specs.Tables.{is_due_on, runs_on};
+//! All timers and bases: what is kept of them, and the one way in which it changes.
+ghost use Rattle.std.specs.Prelude.{◌≡◌, ◌<◌, ◌≤◌, ℕ, IfOk, IfSome, IfNone, Some, [], ◌∷◌, false, length, map, replicate};
+ghost use Rattle.seq_timer.specs.Bases.{empty_base};
 ghost use Rattle.seq_timer.specs.Contents.{first_due, running_on};
-ghost use Rattle.timer_core.specs.Answers.{IsNext};
-ghost use Rattle.timer_core.specs.Kept.{IsConsistent, IsSameSize, Kept, MayRun, content_at, opened, replaced, timer_in};
-ghost use Rattle.timer_core.specs.Bases.{empty_base};
-ghost use Rattle.seq_timer.specs.Steps.{greatest_limit, opening};
+ghost use Rattle.seq_timer.specs.Histories.{peek_of};
+ghost use Rattle.seq_timer.specs.Steps.{Needs, after, greatest_limit, opening, reply_to};
+ghost use Rattle.seq_timer.specs.Tables.{IsNextDue, is_due_on, runs_on, timer_at};
+ghost use Rattle.seq_timer.specs.declared.event.Event.TheVariants as events;
+ghost use Rattle.timer_core.specs.Kept.{Agrees, AreAllowed, IsConsistent, IsSameSize, Kept, Makes, Permits, after_event, content_at, opened, step_all, timer_in};
 
-use crate::base::{Base, step_bases};
 use ktime::{ClockId, Reading};
-use seq_timer::{Peek, TimerState};
+use seq_timer::{Base, Event, Peek, Reply, TimerState};
 use std::alloc::{AllocError, Global};
 use std::marker::Model;
 use timer_queue::Queue;
@@ -108,14 +108,14 @@ impl<Q: Queue> Core<Q> {
     }
 
     /// The timer whose function runs on a base, with its generation.
-    pub fn mark(&self, base: u32) -> Option<(u32, u64)>
+    pub fn running(&self, base: u32) -> Option<(u32, u64)>
         requires { base < length self.now.bases }
-        ensures mark { result ≡ (content_at self.now base).mark }
-        ensures busy { IfSome result (λ m. running_on base (timer_in self.now m.0) ≡ Some m.1) }
+        ensures running { result ≡ (content_at self.now base).running }
+        ensures busy { IfSome result (λ r. running_on base (timer_in self.now r.0) ≡ Some r.1) }
         ensures idle { IfNone result ((id : ℕ) → runs_on base (timer_in self.now id) ≡ false) }
     {
         let here = &self.bases[base as usize];
-        here.mark()
+        here.running()
     }
 
     /// The timer that is the next to expire on a base at this reading, with its expiry: of the clocks in their order the first with a
@@ -123,7 +123,8 @@ impl<Q: Queue> Core<Q> {
     pub fn first(&self, base: u32, reading: Reading) -> Option<(u64, u32)>
         requires { base < length self.now.bases }
         ensures first { result ≡ first_due (content_at self.now base) reading }
-        ensures next { IfSome result (λ p. IsNext self.now.timers base reading p.1) }
+        ensures within { IfSome result (λ p. p.1 < length self.now.timers) }
+        ensures next { IfSome result (λ p. IsNextDue (timer_in self.now) base reading p.1) }
         ensures expires { IfSome result (λ p. p.0 ≡ (timer_in self.now p.1).expires) }
         ensures none { IfNone result ((id : ℕ) → is_due_on base reading (timer_in self.now id) ≡ false) }
     {
@@ -131,19 +132,61 @@ impl<Q: Queue> Core<Q> {
         here.first(reading)
     }
 
-    /// Sets a timer, with its place in the queues and the marks.
-    pub(crate) fn replace(&mut self, id: u32, now: TimerState)
+    /// Makes one entry of a timer that stays where it is.
+    pub(crate) fn step(&mut self, id: u32, event: Event) -> Reply
         requires timer { id < length self.old.timers }
-        requires base { now.base < length self.old.bases }
-        requires still { now.moving ≡ false }
-        requires alone { MayRun self.old id now }
-        ensures kept { self.new ≡ replaced self.old id now }
-        ensures now { timer_in self.new id ≡ now }
-        ensures others { (other : ℕ) → (other ≡ id → ⊥) → timer_in self.new other ≡ timer_in self.old other }
+        requires needs { Needs (timer_in self.old id) event }
+        requires permits { Permits self.old id event }
+        requires still { (after (timer_in self.old id) event).moving ≡ false }
+        ensures makes { Makes self.old id (event ∷ []) self.new }
+        ensures reply { result ≡ reply_to (timer_in self.old id) event }
         ensures sizes { IsSameSize self.old self.new }
     {
-        let old = self.timers[id as usize];
-        self.timers[id as usize] = now;
-        step_bases(&mut self.bases, id, &old, &now);
+        enter(&mut self.timers, &mut self.bases, id, event)
     }
+
+    /// Moves a timer to another base, and makes an entry there that ends the move.
+    pub(crate) fn move_and_step(&mut self, id: u32, base: u32, event: Event)
+        requires timer { id < length self.old.timers }
+        requires base { base < length self.old.bases }
+        requires allowed { AreAllowed (timer_in self.old id) (events.Out base ∷ event ∷ []) }
+        requires still { (step_all (timer_in self.old id) (events.Out base ∷ event ∷ [])).moving ≡ false }
+        ensures makes { Makes self.old id (events.Out base ∷ event ∷ []) self.new }
+        ensures sizes { IsSameSize self.old self.new }
+    {
+        enter(&mut self.timers, &mut self.bases, id, Event::Out { base });
+        enter(&mut self.timers, &mut self.bases, id, event);
+    }
+}
+
+/// Makes one entry of a timer: the timer steps, and the base that it is on before goes along.
+fn enter<Q: Queue>(
+    timers: &mut Vec<TimerState>,
+    bases: &mut Vec<Base<Q>>,
+    id: u32,
+    event: Event,
+) -> Reply
+    requires agree { Agrees (record { timers = timers.old.items; bases = bases.old.items }) }
+    requires timer { id < length timers.old.items }
+    requires needs { Needs (timer_at timers.old.items id) event }
+    requires permits { Permits (record { timers = timers.old.items; bases = bases.old.items }) id event }
+    ensures kept { record { timers = timers.new.items; bases = bases.new.items } ≡ after_event (record { timers = timers.old.items; bases = bases.old.items }) id event }
+    ensures reply { result ≡ reply_to (timer_at timers.old.items id) event }
+{
+    let old = timers[id as usize];
+    let (now, reply) = stepped(&old, event);
+    timers[id as usize] = now;
+    let base = &mut bases[old.base() as usize];
+    base.step(id, &old, &event, &now);
+    reply
+}
+
+/// A timer after an event, and the reply.
+fn stepped(timer: &TimerState, event: Event) -> (TimerState, Reply)
+    requires { Needs timer.now event }
+    ensures { result ≡ (after timer.now event, reply_to timer.now event) }
+{
+    let mut now = *timer;
+    let reply = now.apply(event);
+    (now, reply)
 }

@@ -1,5 +1,5 @@
 use Rattle.std.proofs.Common.{◌≡◌, replicate}
-use Rattle.timer_core.specs.Bases.{empty_base}
+use Rattle.seq_timer.specs.Bases.{empty_base}
 use Rattle.timer_core.proofs.timers.make_bases.Given as goal
 
 -- as many bases as turns

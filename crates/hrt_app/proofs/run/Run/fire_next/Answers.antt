@@ -2,7 +2,7 @@ use Rattle.std.proofs.Common.{refl, sym, ap, subst, ◌∙◌, ◌≡◌, ◌<�
 use Rattle.std.proofs.lemmas.List.{get_or_read_under}
 use Rattle.ktime.specs.Readings.{ClockReading}
 use Rattle.timer_core.specs.Kept.{timer_in}
-use Rattle.timer_core.specs.Answers.{IsRightClaim}
+use Rattle.timer_core.specs.Answers.{ClaimsNext}
 use Rattle.script_text.specs.declared.script.Callback.{Callback}
 use Rattle.script_text.specs.declared.script.Callback.TheVariants.{Once}
 use Rattle.record_text.specs.declared.record.Entry.{Entry}
@@ -51,7 +51,7 @@ returns-in_ok-enter-in-Claimed-clause-next g c =
     let three = c.finish-finished.new.self in
     let work = c.run_callback-work.result in
     let o = object_at r.objects t in
-    let claim = subst (λ (x : ClockReading). IsRightClaim r.core c.args.base x t generation c.in-Claimed.number one) reading c.in-Claimed.ensures.claim in
+    let claim = subst (λ (x : ClockReading). ClaimsNext r.core c.args.base x t generation c.in-Claimed.number one) reading c.in-Claimed.ensures.claim in
     let object : c.index-object.result.now ≡ o =
     get_or_read_under r.objects t (length r.core.timers) c.index-object.result.now (Raw Once) c.index-object.ensures claim.next.within (sym c.self.invariant.1) in
     let callback : c.callback.result ≡ callback_of o = c.callback.ensures ∙ ap callback_of object in

@@ -2,7 +2,7 @@ use Rattle.std.proofs.Common.{sym, ap, subst, ◌∙◌, List, [], length, map, 
 use Rattle.std.specs.List.{AllByRecursion}
 use Rattle.std.proofs.lemmas.List.{length-map, length-replicate}
 use Rattle.ktime.specs.declared.clock_id.ClockId.{ClockId}
-use Rattle.timer_core.specs.Bases.{empty_base}
+use Rattle.seq_timer.specs.Bases.{empty_base}
 use Rattle.timer_core.specs.Kept as kept
 use Rattle.script_text.specs.declared.script.Declaration.{Declaration}
 use Rattle.hrt_app.specs.Objects.{IsObjectInRange, object_in}

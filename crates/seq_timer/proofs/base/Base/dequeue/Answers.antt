@@ -1,5 +1,4 @@
-use Rattle.std.proofs.Common.{◌≡◌, ◌∙◌, sym, ap, subst, is_some, true, false}
-use Rattle.std.proofs.Common.{Some, None, refl}
+use Rattle.std.proofs.Common.{◌∙◌, sym, ap, subst, is_some}
 use Rattle.seq_timer.specs.Bases.{BaseState, IsQueuedAs}
 use Rattle.seq_timer.specs.Contents.{Content, dequeued}
 use Rattle.seq_timer.proofs.Queues.{dequeued-unarmed, dequeued-monotonic, dequeued-realtime, dequeued-boottime}

@@ -1,9 +1,9 @@
 use Rattle.std.proofs.Common.{◌≡◌, ◌<◌, ◌∙◌, sym, ap, subst, length}
 use Rattle.std.proofs.lemmas.List.{get_or_read}
 use Rattle.seq_timer.specs.Contents.{first_due}
-use Rattle.timer_core.specs.Bases.{BaseState, empty_base}
+use Rattle.seq_timer.specs.Bases.{BaseState, empty_base}
 use Rattle.timer_core.specs.Kept.{Kept, IsConsistent, content_at}
-use Rattle.timer_core.proofs.Due.{kept-next, kept-expires, kept-none}
+use Rattle.timer_core.proofs.Due.{kept-next, kept-within, kept-expires, kept-none}
 use Rattle.timer_core.proofs.timers.Core.first.Goals as goal
 
 pub returns-clause-first : goal.returns-clause-first
@@ -20,3 +20,6 @@ returns-clause-expires g c = kept-expires c.args.self.now c.args.base c.args.rea
 
 pub returns-clause-none : goal.returns-clause-none
 returns-clause-none g c = kept-none c.args.self.now c.args.base c.args.reading c.first.result (subst IsConsistent c.self.view_is c.self.invariant) (returns-clause-first g c)
+
+pub returns-clause-within : goal.returns-clause-within
+returns-clause-within g c = kept-within c.args.self.now c.args.base c.args.reading c.first.result (subst IsConsistent c.self.view_is c.self.invariant) (returns-clause-first g c)

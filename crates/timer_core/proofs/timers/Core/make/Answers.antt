@@ -1,6 +1,6 @@
 use Rattle.std.proofs.Common.{List, map, sym, subst}
 use Rattle.seq_timer.specs.Steps.{Timer, opening}
-use Rattle.timer_core.specs.Bases.{BaseState}
+use Rattle.seq_timer.specs.Bases.{BaseState}
 use Rattle.timer_core.specs.Kept.{IsConsistent}
 use Rattle.timer_core.proofs.Opened.{consistent-opened}
 use Rattle.timer_core.proofs.timers.Core.make.Goals as goal
