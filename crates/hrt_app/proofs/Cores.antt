@@ -1,5 +1,5 @@
 -- From what the timers answer to the turns of a run.
-use Rattle.std.proofs.Common.{arith, refl, sym, ap, subst, ◌∙◌, ◌≡◌, ◌<◌, ◌⊎◌, inl, inr, ℕ, ◌+◌, ◌^◌, zero, suc, Bool, true, false, ◌&&◌, Option, Some, None, is_some, nat_eq, if◌then◌else◌, List, [], ◌∷◌, ◌++◌, length, get_or, set}
+use Rattle.std.proofs.Common.{not, arith, refl, sym, ap, subst, ◌∙◌, ◌≡◌, ◌<◌, ◌⊎◌, inl, inr, ℕ, ◌+◌, ◌^◌, zero, suc, Bool, true, false, ◌&&◌, Option, Some, None, is_some, nat_eq, if◌then◌else◌, List, [], ◌∷◌, ◌++◌, length, get_or, set}
 use Rattle.std.proofs.lemmas.List.{get_or-set_same}
 use Rattle.std.proofs.Math.Logic.{⊎_elim}
 use Rattle.std.proofs.lemmas.Nat.{pow_pos}

@@ -29,7 +29,7 @@ pub run_callback-work-requires-clause-base : goal.run_callback-work-requires-cla
 run_callback-work-requires-clause-base g c =
     let objects = c.self.inside.objects.items in
     let t = c.in-Claimed.timer in
-    let within = c.in-Claimed.ensures.claim.next.within in
+    let within = c.in-Claimed.ensures.claim.within in
     let object : c.index-object.result.now ≡ object_at objects t = get_or_read_under objects t (length c.self.inside.core.timers) c.index-object.result.now (Raw Once) c.index-object.ensures within (sym c.self.invariant.1) in
     let range = All-at (IsObjectInRange (length c.self.inside.core.bases)) objects t (Raw Once) c.self.invariant.3 (subst (λ n. t < n) (sym c.self.invariant.1) within) in
     subst (λ n. IsCallbackInRange n c.callback.result) (sym c.in-Claimed.ensures.sizes.bases)
@@ -53,7 +53,7 @@ returns-in_ok-enter-in-Claimed-clause-next g c =
     let o = object_at r.objects t in
     let claim = subst (λ (x : ClockReading). ClaimsNext r.core c.args.base x t generation c.in-Claimed.number one) reading c.in-Claimed.ensures.claim in
     let object : c.index-object.result.now ≡ o =
-    get_or_read_under r.objects t (length r.core.timers) c.index-object.result.now (Raw Once) c.index-object.ensures claim.next.within (sym c.self.invariant.1) in
+    get_or_read_under r.objects t (length r.core.timers) c.index-object.result.now (Raw Once) c.index-object.ensures claim.within (sym c.self.invariant.1) in
     let callback : c.callback.result ≡ callback_of o = c.callback.ensures ∙ ap callback_of object in
     let worked = subst (λ (x : Callback). Acts one t (act_of x (timer_in one t) r.reading) work two) callback
     (subst (λ (x : ClockReading). Acts one t (act_of c.callback.result (timer_in one t) x) work two) reading c.run_callback-work.ensures) in

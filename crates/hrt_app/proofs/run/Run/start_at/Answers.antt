@@ -1,4 +1,4 @@
-use Rattle.std.proofs.Common.{sym, ap, subst, ◌∙◌, ◌≡◌, ◌<◌, ◌⊎◌, ◌&&◌, nat_eq, length}
+use Rattle.std.proofs.Common.{not, is_some, sym, ap, subst, ◌∙◌, ◌≡◌, ◌<◌, ◌⊎◌, ◌&&◌, nat_eq, length}
 use Rattle.std.proofs.Math.Logic.{⊎_elim}
 use Rattle.std.proofs.lemmas.Bool.{cases_lt}
 use Rattle.ktime.specs.Readings.{ClockReading}
