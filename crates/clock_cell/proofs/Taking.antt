@@ -1,16 +1,19 @@
 -- What is known of a write that was made after looks, and of one that was refused.
-use Rattle.std.proofs.Common.{◌≡◌, ℕ, ◌+◌, Bool, true, false, List, [], ◌∷◌, ◌++◌, length, ap, ◌∙◌, length-append, arith}
-use Rattle.std.specs.Prelude.{MatchBool}
+use Rattle.std.proofs.Common.{◌≡◌, ◌≢◌, ℕ, ◌+◌, Bool, true, false, List, [], ◌∷◌, ◌++◌, ◌≤◌, length, refl, ap, sym, ◌∙◌, subst, ◌⊎◌, inl, inr, ⊎_elim, length-append, arith}
+use Rattle.std.proofs.lemmas.Bool.{cases_lt}
+use Rattle.std.specs.Prelude.{MatchBool, All}
 use Rattle.std.proofs.lemmas.List.Elements.{All-weaker}
 use Rattle.ktime.specs.Readings.{ClockReading}
 use Rattle.clock_model.specs.declared.write.Write.{Write}
 use Rattle.pass_names.specs.Passes.{Begins, Looks, places}
-use Rattle.pass_names.proofs.Passes.{begins_trans, goes_trans}
+use Rattle.pass_names.proofs.Passes.{begins_trans, begins_length, begins_whole, goes_trans, looks_trans}
 use Rattle.clock_cell.specs.declared.view.ClockView.{ClockView}
-use Rattle.clock_cell.specs.Views.{writes, seen_reading, Hears, Accepts}
+use Rattle.clock_cell.specs.Views.{reading_after, writes, seen_reading, KnowsClock, Hears, Accepts}
 use Rattle.clock_cell.specs.Words.{cell_words, reading_in}
 use Rattle.clock_cell.specs.Plays.{Loaded, MadeWrite}
-use Rattle.clock_model.proofs.Writes.{stamp_after}
+use Rattle.clock_cell.specs.Turns.{Misses, SeesMore}
+use Rattle.clock_model.specs.Clocks.{last_stamp}
+use Rattle.clock_model.proofs.Writes.{shown_by, stamp_after}
 
 module _ (w : Write) (old new : ClockView) (r : ClockReading) where
   -- the stamp of the reading after the write is its place
@@ -27,18 +30,36 @@ module _ (w : Write) (old new : ClockView) (r : ClockReading) where
         place = t.adds.mine ∙ ap (λ n. old.pass.mine ++ (0, n) ∷ []) stamp;
       }
 
-  pub taken : (b : Bool) → MatchBool b (MadeWrite w old (cell_words r) new) ((words : List ℕ) × Loaded old words new) → MatchBool b (Accepts w old new r) (Looks old.pass new.pass)
-  taken true t = entered t
-  taken false t = t.1.looks
+  pub taken : (b : Bool) (seen : ClockReading)
+      → MatchBool b (MadeWrite w old (cell_words r) new) ((words : List ℕ) × (words ≢ cell_words seen) × Loaded old words new)
+      → MatchBool b (Accepts w old new r) (Misses seen old new)
+  taken true seen t = entered t
+  taken false seen t = record { looks = t.2.looks; other = λ e. t.1 (t.2.sees.shows ∙ ap cell_words (sym e)) }
+
+-- the clock takes only so many writes
+pub few_writes : (v : ClockView) → KnowsClock v → length (writes v) ≤ last_stamp
+few_writes v knows = omega (arith, stamp_after (writes v), (shown_by (seen_reading v) (writes v) refl knows.legal).counted)
 
 module _ (old mid new : ClockView) where
-  pub looks_again : Looks old.pass mid.pass → Looks mid.pass new.pass → Looks old.pass new.pass
-  looks_again a b = record { seen = goes_trans a.seen b.seen; mine = b.mine ∙ a.mine; id = b.id ∙ a.id }
+  -- where the clock was read and then found to be another, writes were made between
+  pub sees_more : (seen : ClockReading) → seen ≡ seen_reading mid → Looks old.pass mid.pass → Misses seen mid new → SeesMore old new
+  sees_more seen shows read missed =
+      let later = missed.looks.seen.each 0 in
+      record {
+        looks = looks_trans read missed.looks;
+        grown =
+            ⊎_elim
+            (λ more. omega (arith, begins_length (read.seen.each 0)))
+            (λ same. absurd (missed.other (shows ∙ ap reading_after (begins_whole later same))))
+            (cases_lt (length (writes mid)) (length (writes new)));
+      }
 
-  pub hears_again : Hears old mid → Begins (writes mid) (writes new) → new.heard ≡ [] → Hears old new
-  hears_again a b none = record {
+  -- what was heard before the last turn begins what is seen after it
+  pub hears_again : (old.heard ≡ mid.heard) ⊎ Hears old mid → Begins (writes mid) (writes new) → Hears mid new → Hears old new
+  hears_again (inl same) b last = record { begins = subst (λ h. All (λ ws. Begins ws (writes new)) h) (sym same) last.begins; none = last.none }
+  hears_again (inr a) b last = record {
     begins = All-weaker (λ ws. Begins ws (writes mid)) (λ ws. Begins ws (writes new)) (λ ws t. begins_trans t b) old.heard a.begins;
-    none = none;
+    none = last.none;
   }
 
   pub takes_again : (w : Write) (r : ClockReading) → Looks old.pass mid.pass → Accepts w mid new r → Accepts w old new r

@@ -1,4 +1,5 @@
 pub mod Plays
 pub mod Rules
+pub mod Turns
 pub mod Views
 pub mod Words

@@ -1,5 +1,5 @@
 -- What a pass of a clock knows.
-use Rattle.std.specs.Prelude.{◌≡◌, nat_lt, if◌then◌else◌, List, [], ◌∷◌, ◌++◌, length, All, Result}
+use Rattle.std.specs.Prelude.{◌≡◌, nat_lt, if◌then◌else◌, List, [], ◌∷◌, ◌++◌, length, All, Result, IfOk, OnErr}
 use Rattle.atomic_table.specs.Seated.{TableId}
 use Rattle.ktime.specs.Readings.{ClockReading}
 use Rattle.clock_model.specs.Clocks.{at_stamp, clock_after, AreAccepted, IsAccepted, IsRefusedAs}
@@ -56,6 +56,13 @@ pub record Accepts (w : Write) (old new : ClockView) (r : ClockReading) : Type 0
 pub record Refuses (w : Write) (old new : ClockView) (result : Result ClockReading ClockFault) : Type 0 where
   pub looks : Looks old.pass new.pass
   pub cause : IsRefusedAs (seen_reading new) w result
+
+-- what a write answers: it was accepted or refused at the end of what the pass has then seen
+pub record AnswersWrite (w : Write) (old new : ClockView) (result : Result ClockReading ClockFault) : Type 0 where
+  pub ok : IfOk result (λ r. Accepts w old new r)
+  pub err : OnErr result (Refuses w old new result)
+  pub hears : Hears old new
+  pub known : KnowsClock new
 
 -- both lists begin one list of writes
 pub record AreOfOne (xs ys : List Write) : Type 0 where

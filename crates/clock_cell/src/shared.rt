@@ -1,10 +1,11 @@
 //! The shared clock.
-ghost use Rattle.std.specs.Prelude.{◌≡◌, length, IfOk, OnErr, [], MatchBool};
+ghost use Rattle.std.specs.Prelude.{◌≡◌, length, IfOk, [], MatchBool};
 ghost use Rattle.pass_names.specs.Names.{AnswersFor, IsLast};
 ghost use Rattle.pass_names.specs.Passes.{Looks, Retires, Meets};
 ghost use Rattle.clock_model.specs.Clocks.{at_stamp, after_write, AreAccepted, IsAccepted};
 ghost use Rattle.clock_model.specs.declared.write.Write.TheVariants.{Advance, Set, Suspend};
-ghost use Rattle.clock_cell.specs.Views.{IsPassOfClock, AreOfOne, Hears, KnowsClock, Refuses, Accepts, writes, seen_reading, first_clock_view, split_clock_view, new_clock_view, told_clock_view, joined_clock_view};
+ghost use Rattle.clock_cell.specs.Turns.{Misses, Turned};
+ghost use Rattle.clock_cell.specs.Views.{IsPassOfClock, AreOfOne, AnswersWrite, Hears, KnowsClock, Accepts, writes, seen_reading, first_clock_view, split_clock_view, new_clock_view, told_clock_view, joined_clock_view};
 
 use crate::pass::ClockPass;
 use crate::plays::Child;
@@ -15,6 +16,14 @@ use ktime::Reading;
 use std::alloc::{AllocError, Global};
 use std::marker::{Brand, Model};
 use std::sync::Wait;
+
+/// What one turn of a write came to.
+enum Turn {
+    Made(Reading),
+    Refused(ClockFault),
+    /// Another write came between.
+    Again,
+}
 
 /// A clock that many threads share. Its reading is kept as five words, which are read and exchanged
 /// whole.
@@ -65,10 +74,7 @@ impl SharedClock {
     ) -> Result<Reading, ClockFault>
         requires pass { IsPassOfClock self.now pass.old }
         ensures pass { IsPassOfClock self.now pass.new }
-        ensures ok { IfOk result (λ r. Accepts (Advance by) pass.old.knows pass.new.knows r) }
-        ensures err { OnErr result (Refuses (Advance by) pass.old.knows pass.new.knows result) }
-        ensures heard { Hears pass.old.knows pass.new.knows }
-        ensures known { KnowsClock pass.new.knows }
+        ensures answers { AnswersWrite (Advance by) pass.old.knows pass.new.knows result }
     {
         self.write(rt, pass, Write::Advance { by })
     }
@@ -82,10 +88,7 @@ impl SharedClock {
     ) -> Result<Reading, ClockFault>
         requires pass { IsPassOfClock self.now pass.old }
         ensures pass { IsPassOfClock self.now pass.new }
-        ensures ok { IfOk result (λ r. Accepts (Set to) pass.old.knows pass.new.knows r) }
-        ensures err { OnErr result (Refuses (Set to) pass.old.knows pass.new.knows result) }
-        ensures heard { Hears pass.old.knows pass.new.knows }
-        ensures known { KnowsClock pass.new.knows }
+        ensures answers { AnswersWrite (Set to) pass.old.knows pass.new.knows result }
     {
         self.write(rt, pass, Write::Set { to })
     }
@@ -99,16 +102,14 @@ impl SharedClock {
     ) -> Result<Reading, ClockFault>
         requires pass { IsPassOfClock self.now pass.old }
         ensures pass { IsPassOfClock self.now pass.new }
-        ensures ok { IfOk result (λ r. Accepts (Suspend by) pass.old.knows pass.new.knows r) }
-        ensures err { OnErr result (Refuses (Suspend by) pass.old.knows pass.new.knows result) }
-        ensures heard { Hears pass.old.knows pass.new.knows }
-        ensures known { KnowsClock pass.new.knows }
+        ensures answers { AnswersWrite (Suspend by) pass.old.knows pass.new.knows result }
     {
         self.write(rt, pass, Write::Suspend { by })
     }
 
     /// Makes one write, or refuses it as `Clock::write` does. It loads the clock and exchanges it for
-    /// the one after the write, and begins anew where another write came between.
+    /// the one after the write, and begins anew where another write came between. That can be as often
+    /// as the clock takes writes.
     pub fn write<R: Wait>(
         &self,
         rt: &R,
@@ -117,20 +118,35 @@ impl SharedClock {
     ) -> Result<Reading, ClockFault>
         requires pass { IsPassOfClock self.now pass.old }
         ensures pass { IsPassOfClock self.now pass.new }
-        ensures ok { IfOk result (λ r. Accepts write pass.old.knows pass.new.knows r) }
-        ensures err { OnErr result (Refuses write pass.old.knows pass.new.knows result) }
+        ensures answers { AnswersWrite write pass.old.knows pass.new.knows result }
+    {
+        loop {
+            match self.turn(rt, pass, write) {
+                Turn::Made(after) => return Ok(after),
+                Turn::Refused(fault) => return Err(fault),
+                Turn::Again => {}
+            }
+        }
+    }
+
+    /// One turn of a write: a load of the clock, and an exchange for the clock after the write.
+    fn turn<R: Wait>(&self, rt: &R, pass: &mut ClockPass, write: Write) -> Turn
+        requires pass { IsPassOfClock self.now pass.old }
+        ensures pass { IsPassOfClock self.now pass.new }
+        ensures turned { Turned write pass.old.knows pass.new.knows result }
         ensures heard { Hears pass.old.knows pass.new.knows }
         ensures known { KnowsClock pass.new.knows }
     {
-        let mut seen = self.read(rt, pass);
-        for _ in rt.forever() {
-            let after = Clock::at(seen).write(write)?;
-            if self.exchange(rt, pass, &seen, &after, write) {
-                return Ok(after);
-            }
-            seen = self.read(rt, pass);
+        let seen = self.read(rt, pass);
+        let after = match Clock::at(seen).write(write) {
+            Ok(after) => after,
+            Err(fault) => return Turn::Refused(fault),
+        };
+        if self.exchange(rt, pass, &seen, &after, write) {
+            Turn::Made(after)
+        } else {
+            Turn::Again
         }
-        unreachable!()
     }
 
     /// Puts the reading after a write in the place of the one before it, if that is still there.
@@ -146,7 +162,7 @@ impl SharedClock {
         requires after { after.now ≡ after_write seen.now write }
         requires accepted { IsAccepted seen.now write }
         ensures pass { IsPassOfClock self.now pass.new }
-        ensures taken { MatchBool result (Accepts write pass.old.knows pass.new.knows after.now) (Looks pass.old.knows.pass pass.new.knows.pass) }
+        ensures taken { MatchBool result (Accepts write pass.old.knows pass.new.knows after.now) (Misses seen.now pass.old.knows pass.new.knows) }
         ensures heard { Hears pass.old.knows pass.new.knows }
         ensures known { KnowsClock pass.new.knows }
     {

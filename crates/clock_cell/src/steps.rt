@@ -1,5 +1,5 @@
 //! Single steps on a clock's cell, each for a seat whose view the caller knows.
-ghost use Rattle.std.specs.Prelude.{◌≡◌, true, [], MatchBool};
+ghost use Rattle.std.specs.Prelude.{◌≡◌, ◌≢◌, true, [], MatchBool};
 ghost use Rattle.crossbeam_utils.specs.Seq.{cell_view};
 ghost use Rattle.clock_model.specs.Clocks.{after_write, IsAccepted};
 ghost use Rattle.pass_names.specs.Names.{AnswersFor};
@@ -46,7 +46,7 @@ pub fn enter<K: Asked, R: Wait>(
     ensures same { seat.new.table_id ≡ seat.old.table_id }
     ensures entered { MatchBool result
         (MadeWrite write (cell_view seat.old) (cell_words after.now) (cell_view seat.new))
-        ((words : _) × Loaded (cell_view seat.old) words (cell_view seat.new)) }
+        ((words : _) × (words ≢ cell_words seen.now) × Loaded (cell_view seat.old) words (cell_view seat.new)) }
 {
     cell.compare_exchange_as::<Enter<K>, R>(rt, seat, cell_words(seen), cell_words(after))
         .is_ok()

@@ -5,7 +5,7 @@ use Rattle.std.proofs.lemmas.Bool.Decides.{nat_tests}
 use Rattle.std.proofs.lemmas.List.{append-nil, get_or-set_same, get_or-set_other}
 use Rattle.pass_names.specs.declared.Pass.{Pass}
 use Rattle.pass_names.specs.Counts.{one_if, count, without_first}
-use Rattle.pass_names.specs.Passes.{is_place, within, Begins, entries, GoesOn, Adds, added}
+use Rattle.pass_names.specs.Passes.{is_place, within, Begins, entries, GoesOn, Adds, Looks, added}
 use Rattle.pass_names.proofs.Counts.{total-append, count-without_first, count-without_first-le}
 
 -- one entry more is one place more
@@ -111,6 +111,10 @@ module _ {E : Type 0} where
 
   pub goes_nil : (seen : List (List E)) → GoesOn [] seen
   goes_nil seen = record { each = λ i. begins_nil (entries i seen) }
+
+  -- looks one after another
+  pub looks_trans : {p q r : Pass E} → Looks p q → Looks q r → Looks p r
+  looks_trans a b = record { seen = goes_trans a.seen b.seen; mine = b.mine ∙ a.mine; id = b.id ∙ a.id }
 
   pub entries_here : (seen : List (List E)) (i : ℕ) (xs : List E) → i < length seen → entries i (set seen i xs) ≡ xs
   entries_here seen i xs h = get_or-set_same seen i xs [] h

@@ -1,22 +1,41 @@
-use Rattle.std.proofs.Common.{◌≡◌, Bool, true, subst}
-use Rattle.std.specs.Prelude.{MatchBool}
-use Rattle.clock_model.proofs.Writes.{shown_by}
-use Rattle.clock_cell.proofs.Taking.{hears_again, takes_again}
+use Rattle.std.proofs.Common.{inr, arith}
+use Rattle.pass_names.proofs.Passes.{looks_trans}
+use Rattle.clock_cell.proofs.Taking.{hears_again, takes_again, few_writes}
 use Rattle.clock_cell.proofs.shared.SharedClock.write.Goals as goal
 
-pub at-requires-clause-counted : goal.at-requires-clause-counted
-at-requires-clause-counted g c = (shown_by _ _ c.loop.invariant.seen c.loop.invariant.known.legal).counted
+pub returns-in-Made-clause-answers : goal.returns-in-Made-clause-answers
+returns-in-Made-clause-answers g c =
+    let before = c.loop-after.invariant in
+    let turn = c.in-Made.ensures in
+    record {
+      ok = takes_again _ _ _ c.args.write c.in-Made.after before.looks turn.turned;
+      err = tt;
+      hears = hears_again _ _ _ before.heard (turn.turned.adds.seen.each 0) turn.heard;
+      known = turn.known;
+    }
 
-pub at-requires-clause-changes : goal.at-requires-clause-changes
-at-requires-clause-changes g c = (shown_by _ _ c.loop.invariant.seen c.loop.invariant.known.legal).changes
+pub returns-in-Refused-clause-answers : goal.returns-in-Refused-clause-answers
+returns-in-Refused-clause-answers g c =
+    let before = c.loop-after.invariant in
+    let turn = c.in-Refused.ensures in
+    record {
+      ok = tt;
+      err = record { looks = looks_trans before.looks turn.turned.looks; cause = turn.turned.cause };
+      hears = hears_again _ _ _ before.heard (turn.turned.looks.seen.each 0) turn.heard;
+      known = turn.known;
+    }
 
-made : (b : Bool) (A B : Type 0) → b ≡ true → MatchBool b A B → A
-made b A B e t = subst (λ x. MatchBool x A B) e t
+pub loop-after-smaller : goal.loop-after-smaller
+loop-after-smaller g c =
+    let turn = c.in-Again.ensures in
+    omega (arith, turn.turned.grown, few_writes _ turn.known)
 
-pub returns-then-exchange-clause-ok : goal.returns-then-exchange-clause-ok
-returns-then-exchange-clause-ok g c =
-    takes_again _ _ _ c.args.write c.in_ok-after.after c.loop.invariant.looks (made c.exchange.result _ _ c.if-exchange.true c.exchange.ensures.taken)
-
-pub returns-then-exchange-clause-heard : goal.returns-then-exchange-clause-heard
-returns-then-exchange-clause-heard g c =
-    hears_again _ _ _ c.loop.invariant.heard ((made c.exchange.result _ _ c.if-exchange.true c.exchange.ensures.taken).adds.seen.each 0) c.exchange.ensures.heard.none
+pub loop-after-preserved : goal.loop-after-preserved
+loop-after-preserved g c =
+    let before = c.loop-after.invariant in
+    let turn = c.in-Again.ensures in
+    record {
+      pass = turn.pass;
+      looks = looks_trans before.looks turn.turned.looks;
+      heard = inr (hears_again _ _ _ before.heard (turn.turned.looks.seen.each 0) turn.heard);
+    }
