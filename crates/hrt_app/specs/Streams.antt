@@ -3,15 +3,19 @@ use Rattle.std.specs.Prelude.{◌≡◌, ◌+◌, ◌-◌, ◌^◌, ◌≤◌, �
 use Rattle.std.specs.declared.option.Option.{Option}
 use Rattle.std.specs.declared.result.Result.{Result}
 
--- the count of faults has risen, or stands at its type's end
-abbrev pub Rose : ℕ → ℕ → Type 0
-Rose before now = min (before + 1) (2 ^ 64 - 1) ≤ now
+-- a count of faults after one more; it stops at its type's end
+abbrev pub one_more : ℕ → ℕ
+one_more count = min (count + 1) (2 ^ 64 - 1)
 
--- a call fails only where the count of faults rose, and leaves the count where it succeeds
+-- over some calls the count of faults has risen, or stands at its type's end
+abbrev pub Rose : ℕ → ℕ → Type 0
+Rose before now = one_more before ≤ now
+
+-- a call that fails counts one fault, and one that succeeds counts none
 pub record HasCause {T E : Type 0} (before now : ℕ) (result : Result T E) : Type 0 where
   pub later : before ≤ now
   pub ok : OnOk result (now ≡ before)
-  pub failed : OnErr result (Rose before now)
+  pub failed : OnErr result (now ≡ one_more before)
 
 -- what a sink took grew by these bytes, where it tells that still; one that doesn't tell never will
 abbrev pub Adds : Option (List ℕ) → Option (List ℕ) → List ℕ → Type 0

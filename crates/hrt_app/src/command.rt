@@ -1,6 +1,12 @@
-//! What the words of the command line ask for.
+//! The words of the command line: how they are read, and what they ask for.
 ghost use Rattle.std.specs.Prelude.{◌≡◌};
-ghost use Rattle.hrt_app.specs.Command.{asked_by};
+ghost use Rattle.std.specs.IoError.{error_kind};
+ghost use Rattle.hrt_app.specs.Command.{asked_by, unread_status, AreWords};
+
+use crate::status::Status;
+use std::alloc::Global;
+use std::env::Args;
+use std::io;
 
 /// What the program is asked to do.
 #[derive(Clone, Copy, Debug, PartialEq, Eq)]
@@ -17,6 +23,29 @@ pub fn asks(words: &[String]) -> Option<Asked>
     match words {
         [_, word] if word.as_str() == "run" => Some(Asked::Run),
         _ => None,
+    }
+}
+
+/// The words, of what reading the process's arguments gave.
+pub fn words(alloc: Global, args: io::Result<Args>) -> Result<Vec<String>, Status>
+    ensures { AreWords args result }
+{
+    match args {
+        Ok(args) => match args.collect(alloc) {
+            Ok(words) => Ok(words),
+            Err(_) => Err(Status::OutOfMemory),
+        },
+        Err(fault) => Err(unread(fault)),
+    }
+}
+
+// The status where the arguments can't be read.
+fn unread(fault: io::Error) -> Status
+    ensures { result ≡ unread_status (error_kind fault) }
+{
+    match fault.kind() {
+        io::ErrorKind::OutOfMemory => Status::OutOfMemory,
+        _ => Status::Usage,
     }
 }
 

@@ -24,15 +24,3 @@ pub struct OpenGate;
 impl Gate for OpenGate {
     fn at(&self, _lane: u32, _call: u32, _point: Point) {}
 }
-
-#[cfg(test)]
-mod tests {
-    use super::*;
-
-    #[test]
-    fn an_open_gate_is_passed_at_every_point() {
-        for point in [Point::Call, Point::Callback, Point::After] {
-            OpenGate.at(0, 0, point);
-        }
-    }
-}

@@ -1,8 +1,6 @@
 //! The program `hrt`: reads a script of timer calls, runs it, and writes the record of what happened.
 #![tactic(auto)]
 
-ghost use Rattle.std.specs.Prelude.{◌≡◌, ◌⊎◌, IfErr};
-
 mod adapters;
 mod callbacks;
 mod calls;
@@ -22,28 +20,15 @@ mod tests;
 mod top;
 mod transfer;
 
-use adapters::{Reading, Writing};
+use adapters::{ReaderSource, WriterSink};
 use gate::OpenGate;
-use status::Status;
-use std::alloc::Global;
+use std::env;
 use std::process::ExitCode;
-use std::{env, io};
-
-// The words of the command line. One that isn't UTF-8 makes them faulty as a whole.
-fn words(rt: &HostRuntime, alloc: Global) -> Result<Vec<String>, Status>
-    ensures { IfErr result (λ status. (status ≡ Status.Usage) ⊎ (status ≡ Status.OutOfMemory)) }
-{
-    match env::args(rt) {
-        Ok(args) => args.collect(alloc).map_err(|_| Status::OutOfMemory),
-        Err(fault) if fault.kind() == io::ErrorKind::OutOfMemory => Err(Status::OutOfMemory),
-        Err(_) => Err(Status::Usage),
-    }
-}
 
 fn main(rt: HostRuntime) -> ExitCode {
-    let mut source = Reading::new(rt.stdin());
-    let mut sink = Writing::new(rt.stdout());
-    let status = match words(&rt, rt.alloc()) {
+    let mut source = ReaderSource::new(rt.stdin());
+    let mut sink = WriterSink::new(rt.stdout());
+    let status = match command::words(rt.alloc(), env::args(&rt)) {
         Ok(words) => top::top(&rt, &words, &mut source, &mut sink, &OpenGate),
         Err(status) => status,
     };

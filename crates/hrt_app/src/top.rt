@@ -16,8 +16,9 @@ use crate::stream::{Failed, Sink, Source};
 use crate::transfer::{ReadFault, read_all, write_all};
 use std::alloc::Global;
 
-/// Does what the words ask for, the program's name being the first. The text is made whole before the first
-/// write.
+/// Does what the words ask for, the program's name being the first: reads a script from the source, runs it, and
+/// writes its record or its refusal to the sink. The text is made whole before the first write.
+#[tactic(auto, using(crate::proofs::Outcomes::recorded, crate::proofs::Outcomes::may_want))]
 pub fn top<S: Source, K: Sink, G: Gate>(
     rt: &impl AllocGlobal,
     words: &[String],
@@ -40,9 +41,24 @@ pub fn top<S: Source, K: Sink, G: Gate>(
     ensures source_later { S.faults source.old ≤ S.faults source.new }
     ensures sink_later { K.faults sink.old ≤ K.faults sink.new }
 {
-    match asks(words) {
-        Some(Asked::Run) => run(rt.alloc(), source, sink, gate),
-        None => Status::Usage,
+    let Some(Asked::Run) = asks(words) else {
+        return Status::Usage;
+    };
+    let bytes = match read_all(rt.alloc(), source) {
+        Ok(bytes) => bytes,
+        Err(ReadFault::Failed) => return Status::ReadFault,
+        Err(ReadFault::OutOfMemory) => return Status::OutOfMemory,
+    };
+    match answer_to(rt.alloc(), gate, &bytes) {
+        Ok(Answer::Record(text)) => match write_all(sink, &text) {
+            Ok(()) => Status::Ok,
+            Err(Failed) => Status::WriteFault,
+        },
+        Ok(Answer::Refusal(text)) => match write_all(sink, &text) {
+            Ok(()) => Status::Refused,
+            Err(Failed) => Status::WriteFault,
+        },
+        Err(_) => Status::OutOfMemory,
     }
 }
 
@@ -65,40 +81,6 @@ pub fn on_bytes<G: Gate>(
     let mut sink = CleanSink::new(rt.alloc());
     let status = top(rt, words, &mut source, &mut sink, gate);
     (status, sink)
-}
-
-// Reads a script from the source, runs it, and writes its record or its refusal to the sink.
-#[tactic(auto, using(crate::proofs::Outcomes::recorded, crate::proofs::Outcomes::may_want))]
-fn run<S: Source, K: Sink, G: Gate>(alloc: Global, source: &mut S, sink: &mut K, gate: &G) -> Status
-    ensures usage { result ≡ Status.Usage → ⊥ }
-    ensures ok { result ≡ Status.Ok → HasRecorded (S.left source.old) (S.left source.new) (K.taken sink.old) (K.taken sink.new) }
-    ensures refused { result ≡ Status.Refused → HasRefused (S.left source.old) (S.left source.new) (K.taken sink.old) (K.taken sink.new) }
-    ensures calm { (result ≡ Status.Ok) ⊎ (result ≡ Status.Refused) → (S.faults source.new ≡ S.faults source.old) × (K.faults sink.new ≡ K.faults sink.old) }
-    ensures read_fault { result ≡ Status.ReadFault → Rose (S.faults source.old) (S.faults source.new) }
-    ensures read_few { result ≡ Status.ReadFault → TakesAtMost (S.left source.old) (S.left source.new) most_bytes }
-    ensures write_fault { result ≡ Status.WriteFault → Rose (K.faults sink.old) (K.faults sink.new) }
-    ensures prefix { result ≡ Status.WriteFault → HasStopped (S.left source.old) (S.left source.new) (K.taken sink.old) (K.taken sink.new) }
-    ensures unwritten { (result ≡ Status.ReadFault) ⊎ (result ≡ Status.OutOfMemory) → sink.new ≡ sink.old }
-    ensures complete { (Rose (S.faults source.old) (S.faults source.new) → ⊥) → (Rose (K.faults sink.old) (K.faults sink.new) → ⊥) → IfSome (S.left source.old) (λ bytes. MustAnswer bytes result) }
-    ensures source_later { S.faults source.old ≤ S.faults source.new }
-    ensures sink_later { K.faults sink.old ≤ K.faults sink.new }
-{
-    let bytes = match read_all(alloc, source) {
-        Ok(bytes) => bytes,
-        Err(ReadFault::Failed) => return Status::ReadFault,
-        Err(ReadFault::OutOfMemory) => return Status::OutOfMemory,
-    };
-    match answer_to(alloc, gate, &bytes) {
-        Ok(Answer::Record(text)) => match write_all(sink, &text) {
-            Ok(()) => Status::Ok,
-            Err(Failed) => Status::WriteFault,
-        },
-        Ok(Answer::Refusal(text)) => match write_all(sink, &text) {
-            Ok(()) => Status::Refused,
-            Err(Failed) => Status::WriteFault,
-        },
-        Err(_) => Status::OutOfMemory,
-    }
 }
 
 #[cfg(test)]
