@@ -1,5 +1,6 @@
 -- What a callback comes to is right, by cases on its declaration.
-use Rattle.std.proofs.Common.{arith, refl, sym, ap, ◌∙◌, subst, ◌≡◌, ◌≤◌, ◌<◌, inl, inr, ℕ, ◌+◌, Bool, true, false, not, ◌&&◌, is_some, nat_lt, unwrap_or, if◌then◌else◌, Option, Some, None, List, [], ◌∷◌, ◌++◌}
+use Rattle.std.proofs.Common.{arith, refl, sym, ap, ◌∙◌, subst, ◌≡◌, ◌≤◌, ◌<◌, inl, inr, ℕ, ◌+◌, Bool, true, false, not, ◌&&◌, is_some, nat_lt}
+use Rattle.std.proofs.Common.{unwrap_or, if◌then◌else◌, Option, Some, None, List, [], ◌∷◌, ◌++◌}
 use Rattle.std.proofs.Math.Logic.{⊎_elim}
 use Rattle.std.proofs.lemmas.Bool.{cases_lt}
 use Rattle.std.proofs.lemmas.Bool.Decides.{nat_tests}
@@ -33,7 +34,8 @@ pub record MayTake (t : Timer) (r : ClockReading) (x : Step) : Type 0 where
   pub counts : (after t x.event).stamp ≡ t.stamp + 1
   pub running : (after t x.event).running ≡ t.running
   pub bare : x.look ≡ None
-  pub shows : (clock : List ClockLine) (n : ℕ) → reading_at clock r.stamp ≡ r → entry_shown clock n x.entry ≡ record { event = x.event; reply = reply_to t x.event }
+  pub shows : (clock : List ClockLine) (n : ℕ) → reading_at clock r.stamp ≡ r
+      → entry_shown clock n x.entry ≡ record { event = x.event; reply = reply_to t x.event }
 
 -- so it is, where there is a step
 abbrev pub MayTakeSome : Timer → ClockReading → Option Step → Type 0
@@ -59,7 +61,8 @@ by_room P t a b one two =
     (cases_lt t.stamp t.limit)
 
 -- each callback's act is allowed
-pub act_allowed : (limit : ℕ) (callback : Callback) (t : Timer) (r : ClockReading) (g : ℕ) → t.armed ≡ None → t.running ≡ Some g → IsAllowed limit t r (act_of callback t r)
+pub act_allowed : (limit : ℕ) (callback : Callback) (t : Timer) (r : ClockReading) (g : ℕ) → t.armed ≡ None → t.running ≡ Some g
+    → IsAllowed limit t r (act_of callback t r)
 act_allowed limit callbacks.Once t r g armed running = record { sees = tt; takes = tt }
 act_allowed limit (callbacks.Every interval) t r g armed running =
     by_room (IsAllowed limit t r) t (forward_act t.armed t r interval) (refused looks.Spent)
@@ -70,7 +73,12 @@ act_allowed limit (callbacks.Every interval) t r g armed running =
         counts = refl;
         running = refl;
         bare = refl;
-        shows = λ clock n e. ap (λ k. record { event = events.Forward k interval; reply = replies.Forward (passed t.expires (now_of t r) interval) (next_after t.expires (now_of t r) interval) }) e;
+        shows = λ clock n e.
+            ap (λ k. record {
+              event = events.Forward k interval;
+              reply =
+                  replies.Forward (passed t.expires (now_of t r) interval) (next_after t.expires (now_of t r) interval);
+            }) e;
       };
     }))
     (λ full. record { sees = (full, tt); takes = tt })
@@ -116,15 +124,31 @@ pub is_body : (callback : Callback) (running : Timer) (r : ClockReading) (seen :
     → IsCallback callback r.stamp (firing_as seen t n g running (act_of callback running r))
 is_body callbacks.Once running r seen t n g armed runs = (refl, refl)
 is_body (callbacks.Every interval) running r seen t n g armed runs =
-    by_room (λ act. IsCallback (callbacks.Every interval) r.stamp (firing_as seen t n g running act)) running (forward_act running.armed running r interval) (refused looks.Spent)
+    by_room (λ act. IsCallback (callbacks.Every interval) r.stamp (firing_as seen t n g running act)) running
+    (forward_act running.armed running r interval) (refused looks.Spent)
     (λ room. subst (λ o. IsCallback (callbacks.Every interval) r.stamp (firing_as seen t n g running (forward_act o running r interval))) (sym armed)
     (inl (n + 1 + 1, passed running.expires (now_of running r) interval, next_after running.expires (now_of running r) interval, refl), refl))
     (λ full. (inr (inr (n + 1, refl)), refl))
 is_body callbacks.Cancels running r seen t n g armed runs = ((n + 1, ap (λ o. Looked t (n + 1) (looks.Running (unwrap_or o 0)) ∷ []) runs), refl)
 is_body (callbacks.Starts ns asked) running r seen t n g armed runs =
     let now = started running modes.Rel ns r in
-    by_room (λ act. IsCallback (callbacks.Starts ns asked) r.stamp (firing_as seen t n g running act)) running (taken (plain (events.Start modes.Rel ns r asked) (start_line running r modes.Rel ns asked))) (refused looks.Spent)
-    (λ room. (inl (record { out = None; number = n + 1 + 1; base = now.base; clock = now.clock; expires = now.expires; was_armed = is_some running.armed }, refl), refl))
+    by_room (λ act. IsCallback (callbacks.Starts ns asked) r.stamp (firing_as seen t n g running act)) running
+    (taken (plain (events.Start modes.Rel ns r asked) (start_line running r modes.Rel ns asked))) (refused looks.Spent)
+    (λ room. (
+      inl (
+        record {
+          out = None;
+          number = n + 1 + 1;
+          base = now.base;
+          clock = now.clock;
+          expires = now.expires;
+          was_armed =
+              is_some running.armed;
+        },
+        refl,
+      ),
+      refl,
+    ))
     (λ full. (inr (n + 1, refl), refl))
 
 in_turn : (t n : ℕ) (look : Option CallbackReply) (step : Option Step) (x : Step) → x.look ≡ None
@@ -141,16 +165,22 @@ pub fires_are : (r : ClockReading) (base : ℕ) (seen : ℕ → ℕ) (t n g : �
     → fires base r.stamp (firing_as seen t n g running act) ≡ dids_of t n (act_steps running r base g act)
 fires_are r base seen t n g running act =
     ap (λ ds. Entered t (n + 1) (entries.Claim base r.stamp g) ∷ ds)
-    (in_turn t (n + 1) act.look act.step (plain (events.Finish act.again) (entries.Finish act.again g (restart_of (rearmed_by (after_act running act.step) act.again)))) refl)
+    (in_turn t (n + 1) act.look act.step (plain (events.Finish act.again)
+    (entries.Finish act.again g (restart_of (rearmed_by (after_act running act.step) act.again)))) refl)
 
 -- a finish's line, read back, tells of the restart as the finish did
 pub rearmed_back : (t : Timer) (again : Bool) → rearmed_as t.stamp (restart_of (rearmed_by t again)) ≡ rearmed_by t again
 rearmed_back t again =
-    elim (again && not (is_some t.armed)) as (λ b. rearmed_as t.stamp (restart_of (if b then (if nat_lt t.stamp t.limit then rearmings.Again (t.stamp + 1) else rearmings.Spent t.stamp) else rearmings.No))
+    elim (again && not (is_some t.armed)) as
+    (λ b. rearmed_as t.stamp
+    (restart_of (if b then (if nat_lt t.stamp t.limit then rearmings.Again (t.stamp + 1) else rearmings.Spent t.stamp) else rearmings.No))
     ≡ (if b then (if nat_lt t.stamp t.limit then rearmings.Again (t.stamp + 1) else rearmings.Spent t.stamp) else rearmings.No)) [
-      | true ↦ elim (nat_lt t.stamp t.limit) as (λ b. rearmed_as t.stamp (restart_of (if b then rearmings.Again (t.stamp + 1) else rearmings.Spent t.stamp)) ≡ (if b then rearmings.Again (t.stamp + 1) else rearmings.Spent t.stamp)) [
-        | true ↦ refl
-        | false ↦ refl
-      ]
+      | true ↦ elim (nat_lt t.stamp t.limit) as
+          (λ b. rearmed_as t.stamp
+          (restart_of (if b then rearmings.Again (t.stamp + 1) else rearmings.Spent t.stamp)) ≡ (if b then rearmings.Again
+          (t.stamp + 1) else rearmings.Spent t.stamp)) [
+            | true ↦ refl
+            | false ↦ refl
+          ]
       | false ↦ refl
     ]

@@ -23,11 +23,11 @@ use Rattle.script_text.specs.Fits.{Seen, FitsCall, steps_on, object_steps_on}
 use Rattle.script_text.specs.ExpiryRuns.{IsRightExpiryRun}
 use Rattle.ktime.specs.declared.mode.Mode.{Mode}
 use Rattle.hrt_app.specs.Progress.{Progress}
-use Rattle.hrt_app.proofs.Lists.{All-map}
 use Rattle.hrt_app.specs.Objects.{object_at}
 use Rattle.hrt_app.proofs.Grown.{on, below_more, Continues-less, Grows-less, IsBelow}
 use Rattle.hrt_app.proofs.ObjectRuns.{begin_object, finish_object}
 use Rattle.hrt_app.proofs.Runs.{Extends, IsRun}
+use Rattle.hrt_app.proofs.Lists.{All-map}
 use Rattle.hrt_app.proofs.Told.{tells_start, tells_end, point_of_timer, point_of_clock, nat_eq_apart}
 
 -- all that a record has is seen
@@ -58,7 +58,12 @@ begin s call p run = record {
 
 -- what goes on after a call goes on within it
 pub within : (call : ℕ) (now end : RunRecord) → Extends (call + 1) now end → Extends call now end
-within call now end e = record { clock = Continues-less _ call _ _ e.clock; timers = λ t. Continues-less _ call _ _ (e.timers t); looks = e.looks; objects = λ i. Grows-less call _ _ (e.objects i) }
+within call now end e = record {
+  clock = Continues-less _ call _ _ e.clock;
+  timers = λ t. Continues-less _ call _ _ (e.timers t);
+  looks = e.looks;
+  objects = λ i. Grows-less call _ _ (e.objects i);
+}
 
 -- the end of a call is the start of the next
 pub finish : (s : Script) (call : ℕ) (p : Progress) → IsRun s call (call + 1) p → IsRun s (call + 1) (call + 1) p
@@ -83,7 +88,8 @@ finish s call p run = record {
 }
 
 -- what holds of a timer as it is kept was seen at its stamp
-pub saw : (s : Script) (call : ℕ) (p : Progress) (end : RunRecord) (ds : List Action) (t : ℕ) (o : Observation) → IsRun s call (call + 1) p → Extends call p.told end → IsTimerPoint s end (on call) ds t (length (lines_of_timer p.told t)) → t < length s.timers
+pub saw : (s : Script) (call : ℕ) (p : Progress) (end : RunRecord) (ds : List Action) (t : ℕ) (o : Observation)
+    → IsRun s call (call + 1) p → Extends call p.told end → IsTimerPoint s end (on call) ds t (length (lines_of_timer p.told t)) → t < length s.timers
     → Holds (timer_at p.timers t) o → Saw s end (on call) ds t (timer_at p.timers t).stamp o
 saw s call p end ds t o run e point there holds =
     subst (λ n. IsTimerPoint s end (on call) ds t n × Holds (timer_after s end t n) o) (sym (run.stamps t))
@@ -92,16 +98,21 @@ saw s call p end ds t o run e point there holds =
 one_step : (s : Script) (call : ℕ) (p : Progress) (t u : ℕ) → IsRun s call (call + 1) p
     → NeverFall (length (lines_of_timer p.told u)) (if nat_eq t u then (timer_at p.timers t).stamp ∷ [] else []) (length (lines_of_timer p.told u))
 one_step s call p t u run =
-    ⊎_elim (λ here. subst (λ n. NeverFall n (if nat_eq t u then (timer_at p.timers t).stamp ∷ [] else []) n) (ap (λ v. (timer_at p.timers v).stamp) (sym here) ∙ run.stamps u)
-    (elim (nat_eq t u) as (λ b. NeverFall (timer_at p.timers t).stamp (if b then (timer_at p.timers t).stamp ∷ [] else []) (timer_at p.timers t).stamp) [ true ↦ (omega arith, omega arith) | false ↦ omega arith ]))
-    (λ apart. subst (λ b. NeverFall (length (lines_of_timer p.told u)) (if b then (timer_at p.timers t).stamp ∷ [] else []) (length (lines_of_timer p.told u))) (sym (nat_eq_apart t u apart)) (omega arith))
+    ⊎_elim (λ here. subst (λ n. NeverFall n (if nat_eq t u then (timer_at p.timers t).stamp ∷ [] else []) n)
+    (ap (λ v. (timer_at p.timers v).stamp) (sym here) ∙ run.stamps u)
+    (elim (nat_eq t u) as (λ b. NeverFall (timer_at p.timers t).stamp (if b then (timer_at p.timers t).stamp ∷ [] else [])
+    (timer_at p.timers t).stamp) [ true ↦ (omega arith, omega arith) | false ↦ omega arith ]))
+    (λ apart. subst (λ b. NeverFall (length (lines_of_timer p.told u)) (if b then (timer_at p.timers t).stamp ∷ [] else [])
+    (length (lines_of_timer p.told u))) (sym (nat_eq_apart t u apart)) (omega arith))
     (cases_eq u t)
 
 -- a call that makes no entry, and is told what holds of one timer
-pub quiet_called : (s : Script) (number : ℕ) (p : Progress) (t : ℕ) (end : RunRecord) (call : Call) (answer : Answer) (o : Observation) → IsRun s number number p → t < length s.timers → Extends (number + 1) p.told end
+pub quiet_called : (s : Script) (number : ℕ) (p : Progress) (t : ℕ) (end : RunRecord) (call : Call) (answer : Answer)
+    (o : Observation) → IsRun s number number p → t < length s.timers → Extends (number + 1) p.told end
     → Holds (timer_at p.timers t) o
     → Does s (length p.told.clock) call answer [] []
-    → (Saw s end (on number) [] t (timer_at p.timers t).stamp o → timer_after s end t (timer_at p.timers t).stamp ≡ timer_at p.timers t → IsSeen s end (on number) (length p.told.clock) [] call answer)
+    → (Saw s end (on number) [] t (timer_at p.timers t).stamp o
+    → timer_after s end t (timer_at p.timers t).stamp ≡ timer_at p.timers t → IsSeen s end (on number) (length p.told.clock) [] call answer)
     → IsRightExpiryRun s end (on number) (length p.told.clock) call answer [] [] (λ u. 0)
     → ((u : ℕ) → steps_on u (length p.told.clock) call answer [] [] (λ u. 0) ≡ (if nat_eq t u then (timer_at p.timers t).stamp ∷ [] else []))
     → ((i : ℕ) → object_steps_on i call answer [] ≡ [])
@@ -123,31 +134,39 @@ quiet_called s number p t end call answer o run there e holds does seen pass ste
           (subst (λ n. timer_after s end t n ≡ timer_at p.timers t) (sym (inside.stamps t)) (inside.states end so_far t there));
       expiry_run = pass;
       clock_steps = (omega arith, omega arith);
-      timer_steps = λ u. subst (λ ns. NeverFall (length (lines_of_timer p.told u)) ns (length (lines_of_timer p.told u))) (sym (steps u)) (one_step s number p t u inside);
+      timer_steps = λ u. subst (λ ns. NeverFall (length (lines_of_timer p.told u)) ns (length (lines_of_timer p.told u)))
+          (sym (steps u)) (one_step s number p t u inside);
       object_steps = λ i. subst (λ ns. NeverFall (length (lines_of_object p.told i)) ns (length (lines_of_object p.told i))) (sym (objects i)) (omega arith);
     }
 
 -- a peek, and a start and a try to cancel that change nothing
 pub peek_called : (s : Script) (call : ℕ) (p : Progress) (t : ℕ) (end : RunRecord) → IsRun s call call p → t < length s.timers → Extends (call + 1) p.told end
-    → FitsCall s end (on call) (calls.Peek t) (answers.Peek (timer_at p.timers t).stamp (timer_at p.timers t).base (is_some (timer_at p.timers t).armed) (is_some (timer_at p.timers t).running) (timer_at p.timers t).moving) (seen_of p.told) (seen_of p.told)
+    → FitsCall s end (on call) (calls.Peek t)
+    (answers.Peek (timer_at p.timers t).stamp (timer_at p.timers t).base (is_some (timer_at p.timers t).armed)
+    (is_some (timer_at p.timers t).running) (timer_at p.timers t).moving) (seen_of p.told) (seen_of p.told)
 peek_called s call p t end run there e =
     quiet_called s call p t end _ _ (observations.Peek (peek_of (timer_at p.timers t))) run there e refl refl (λ saw state. saw) tt (λ u. refl) (λ i. refl)
 
-pub spent_called : (s : Script) (call : ℕ) (p : Progress) (t : ℕ) (mode : Mode) (ns base : ℕ) (end : RunRecord) → IsRun s call call p → t < length s.timers → Extends (call + 1) p.told end
+pub spent_called : (s : Script) (call : ℕ) (p : Progress) (t : ℕ) (mode : Mode) (ns base : ℕ) (end : RunRecord)
+    → IsRun s call call p → t < length s.timers → Extends (call + 1) p.told end
     → (timer_at p.timers t).limit ≤ (timer_at p.timers t).stamp → (timer_at p.timers t).moving ≡ false
     → FitsCall s end (on call) (calls.Start t mode ns base) (answers.Spent (timer_at p.timers t).stamp) (seen_of p.told) (seen_of p.told)
 spent_called s call p t mode ns base end run there e spent still =
-    quiet_called s call p t end _ _ observations.Spent run there e spent refl (λ saw state. (saw, ap (λ (x : Timer). x.moving) state ∙ still)) tt (λ u. refl) (λ i. refl)
+    quiet_called s call p t end _ _ observations.Spent run there e spent refl
+    (λ saw state. (saw, ap (λ (x : Timer). x.moving) state ∙ still)) tt (λ u. refl) (λ i. refl)
 
-pub running_called : (s : Script) (call : ℕ) (p : Progress) (t generation : ℕ) (end : RunRecord) → IsRun s call call p → t < length s.timers → Extends (call + 1) p.told end
+pub running_called : (s : Script) (call : ℕ) (p : Progress) (t generation : ℕ) (end : RunRecord) → IsRun s call call p
+    → t < length s.timers → Extends (call + 1) p.told end
     → (timer_at p.timers t).running ≡ Some generation
     → FitsCall s end (on call) (calls.Cancel t) (answers.Running generation (timer_at p.timers t).stamp) (seen_of p.told) (seen_of p.told)
-running_called s call p t generation end run there e running = quiet_called s call p t end _ _ (observations.Running generation) run there e running refl (λ saw state. saw) tt (λ u. refl) (λ i. refl)
+running_called s call p t generation end run there e running =
+    quiet_called s call p t end _ _ (observations.Running generation) run there e running refl (λ saw state. saw) tt (λ u. refl) (λ i. refl)
 
 pub idle_called : (s : Script) (call : ℕ) (p : Progress) (t : ℕ) (end : RunRecord) → IsRun s call call p → t < length s.timers → Extends (call + 1) p.told end
     → IsIdle (timer_at p.timers t)
     → FitsCall s end (on call) (calls.Cancel t) (answers.Idle (timer_at p.timers t).stamp) (seen_of p.told) (seen_of p.told)
-idle_called s call p t end run there e idle = quiet_called s call p t end _ _ observations.Idle run there e idle refl (λ saw state. saw) tt (λ u. refl) (λ i. refl)
+idle_called s call p t end run there e idle =
+    quiet_called s call p t end _ _ observations.Idle run there e idle refl (λ saw state. saw) tt (λ u. refl) (λ i. refl)
 
 -- what a turn comes to: the run goes on, what goes on after it goes on from before it, and the call fits
 pub record TurnMade (s : Script) (number : ℕ) (p : Progress) (call : Call) (answer : Answer) (next : Progress) : Type 0 where
@@ -157,6 +176,8 @@ pub record TurnMade (s : Script) (number : ℕ) (p : Progress) (call : Call) (an
 
 -- a turn that changes nothing
 pub quiet : (s : Script) (number : ℕ) (p next : Progress) (call : Call) (answer : Answer) → IsRun s number number p → next ≡ p
-    → ((end : RunRecord) → Extends (number + 1) p.told end → FitsCall s end (on number) call answer (seen_of p.told) (seen_of p.told)) → TurnMade s number p call answer next
+    → ((end : RunRecord) → Extends (number + 1) p.told end
+    → FitsCall s end (on number) call answer (seen_of p.told) (seen_of p.told)) → TurnMade s number p call answer next
 quiet s number p next call answer run same fits =
-    subst (λ (q : Progress). TurnMade s number p call answer q) (sym same) (record { run = finish s number p (begin s number p run); back = within number p.told; fits = fits })
+    subst (λ (q : Progress). TurnMade s number p call answer q) (sym same)
+    (record { run = finish s number p (begin s number p run); back = within number p.told; fits = fits })

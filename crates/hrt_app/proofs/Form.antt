@@ -18,8 +18,9 @@ use Rattle.hrt_app.specs.Objects.{IsObjectInRange, object_in, opened_object}
 use Rattle.hrt_app.specs.Engine.{IsRecordText, IsScript}
 use Rattle.hrt_app.specs.Runs.{IsRunnable}
 use Rattle.hrt_app.specs.Transfer.{most_bytes}
+use Rattle.script_text.proofs.Lists.{All-back, All-front}
+use Rattle.hrt_app.proofs.Lists.{All-map}
 use Rattle.hrt_app.specs.Turns.{NamesBase, NamesTimer, Suits, calls_in}
-use Rattle.hrt_app.proofs.Lists.{All-left, All-map, All-right}
 
 -- a script is never longer than what is read of a source
 pub IsScript-short : (bytes : List ℕ) → IsScript bytes → length bytes ≤ most_bytes
@@ -34,12 +35,18 @@ is_script bytes text answer = (answer.script, answer.reads)
 -- what holds of all calls holds of those of each round
 by_round : (P : LaneCall → Type 0) (rs : List Round) → AllByRecursion P (all_calls rs) → AllByRecursion (λ (r : Round). AllByRecursion P r.calls) rs
 by_round P [] all = tt
-by_round P (r ∷ rs) all = (All-left P r.calls (all_calls rs) all, by_round P rs (All-right P r.calls (all_calls rs) all))
+by_round P (r ∷ rs) all = (All-front P r.calls (all_calls rs) all, by_round P rs (All-back P r.calls (all_calls rs) all))
 
 same_count : (rs : List Round) → length (calls_in rs) ≡ length (all_calls rs)
 same_count [] = refl
 same_count (r ∷ rs) =
-    omega (arith, length-append (map (λ (c : LaneCall). c.call) r.calls) (calls_in rs), length-map r.calls (λ (c : LaneCall). c.call), length-append r.calls (all_calls rs), same_count rs)
+    omega (
+      arith,
+      length-append (map (λ (c : LaneCall). c.call) r.calls) (calls_in rs),
+      length-map r.calls (λ (c : LaneCall). c.call),
+      length-append r.calls (all_calls rs),
+      same_count rs,
+    )
 
 object_kept : (bases limit : ℕ) (clock : ClockId) (kind : Kind) → IsKindInRange bases kind → IsObjectInRange bases (opened_object limit clock kind)
 object_kept bases limit clock (kinds.Raw callback) range = range
@@ -47,7 +54,8 @@ object_kept bases limit clock (kinds.Posix base) range = range
 object_kept bases limit clock (kinds.Fd base) range = range
 
 -- what timers are declared with names bases that there are
-pub objects_in_range : (bases limit : ℕ) (ds : List Declaration) → AllByRecursion (λ (d : Declaration). IsKindInRange bases d.kind) ds → AllByRecursion (IsObjectInRange bases) (map (object_in limit) ds)
+pub objects_in_range : (bases limit : ℕ) (ds : List Declaration)
+    → AllByRecursion (λ (d : Declaration). IsKindInRange bases d.kind) ds → AllByRecursion (IsObjectInRange bases) (map (object_in limit) ds)
 objects_in_range bases limit [] range = tt
 objects_in_range bases limit (d ∷ ds) range = (object_kept bases limit d.clock d.kind range.0, objects_in_range bases limit ds range.1)
 
@@ -87,14 +95,18 @@ runnable bytes s reads = record {
   one_lane = record {
     lanes = omega (arith, reads.ranges.lanes.0, reads.ranges.lanes.1);
     lane = by_round (λ (c : LaneCall). c.lane ≡ 0) s.rounds
-        (All-map (λ (c : LaneCall). c.lane < s.lanes) (λ (c : LaneCall). c.lane ≡ 0) (all_calls s.rounds) (λ c below. omega (arith, below, reads.ranges.lanes.1)) reads.ranges.callers);
+        (All-map (λ (c : LaneCall). c.lane < s.lanes) (λ (c : LaneCall). c.lane ≡ 0) (all_calls s.rounds)
+        (λ c below. omega (arith, below, reads.ranges.lanes.1)) reads.ranges.callers);
     kinds = reads.ranges.kinds;
     named = by_round (λ (c : LaneCall). NamesTimer (length s.timers) c.call) s.rounds
-        (All-map (λ (c : LaneCall). IsCallInRange s.bases s.timers c.call) (λ (c : LaneCall). NamesTimer (length s.timers) c.call) (all_calls s.rounds) (λ c range. names_timer s.bases s.timers c.call range) reads.ranges.calls);
+        (All-map (λ (c : LaneCall). IsCallInRange s.bases s.timers c.call) (λ (c : LaneCall). NamesTimer (length s.timers) c.call)
+        (all_calls s.rounds) (λ c range. names_timer s.bases s.timers c.call range) reads.ranges.calls);
     suited = by_round (λ (c : LaneCall). Suits (kind_of s) c.call) s.rounds
-        (All-map (λ (c : LaneCall). IsCallInRange s.bases s.timers c.call) (λ (c : LaneCall). Suits (kind_of s) c.call) (all_calls s.rounds) (λ c range. suits_kind s c.call range) reads.ranges.calls);
+        (All-map (λ (c : LaneCall). IsCallInRange s.bases s.timers c.call) (λ (c : LaneCall). Suits (kind_of s) c.call)
+        (all_calls s.rounds) (λ c range. suits_kind s c.call range) reads.ranges.calls);
     based = by_round (λ (c : LaneCall). NamesBase s.bases c.call) s.rounds
-        (All-map (λ (c : LaneCall). IsCallInRange s.bases s.timers c.call) (λ (c : LaneCall). NamesBase s.bases c.call) (all_calls s.rounds) (λ c range. names_base s.bases s.timers c.call range) reads.ranges.calls);
+        (All-map (λ (c : LaneCall). IsCallInRange s.bases s.timers c.call) (λ (c : LaneCall). NamesBase s.bases c.call)
+        (all_calls s.rounds) (λ c range. names_base s.bases s.timers c.call range) reads.ranges.calls);
   };
   bases = reads.ranges.bases;
   timers = reads.ranges.timers;

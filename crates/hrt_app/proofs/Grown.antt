@@ -1,6 +1,5 @@
 -- The lists of a record, and how they go on with later calls of the one lane.
 use Rattle.std.proofs.Common.{arith, refl, sym, ap, ◌∙◌, subst, ◌≡◌, ◌≤◌, ◌<◌, ℕ, ◌+◌, Bool, true, false, List, [], ◌∷◌, ◌++◌, map}
-use Rattle.std.proofs.lemmas.List.{append_assoc}
 use Rattle.std.specs.List.{AllByRecursion}
 use Rattle.record_text.specs.declared.record.Label.{Label}
 use Rattle.record_text.specs.declared.record.ObjectEntry.{ObjectEntry}
@@ -9,8 +8,9 @@ use Rattle.record_text.specs.declared.record.Skip.{Skip}
 use Rattle.script_text.specs.Order.{is_label}
 use Rattle.script_text.specs.Actions.{also, own, own_skips, skips_under}
 use Rattle.hrt_app.specs.Progress.{under_last}
-use Rattle.hrt_app.proofs.Lists.{All-map, All-to_map}
+use Rattle.std.proofs.lemmas.List.{append_assoc, append-nil}
 use Rattle.hrt_app.proofs.Labels.{IsUpTo}
+use Rattle.hrt_app.proofs.Lists.{All-map, All-to_map, also_append}
 use Rattle.hrt_app.proofs.Owns.{is_label_other, own_none}
 
 -- the label of a call of the one lane
@@ -46,19 +46,16 @@ pub record Continues {X : Type 0} (label : X → Label) (from : ℕ) (now end : 
   pub later : AllByRecursion (λ x. IsSince from (label x)) rest
 
 -- what goes on from the record with one line more goes on from the record without it
-pub before_line : {X : Type 0} (label : X → Label) (from : ℕ) (now end : List X) (x : X) → IsSince from (label x) → Continues label from (now ++ x ∷ []) end → Continues label from now end
+pub before_line : {X : Type 0} (label : X → Label) (from : ℕ) (now end : List X) (x : X) → IsSince from (label x)
+    → Continues label from (now ++ x ∷ []) end → Continues label from now end
 before_line label from now end x since c = record {
   rest = x ∷ c.rest;
   more = c.more ∙ append_assoc now (x ∷ []) c.rest;
   later = (since, c.later);
 }
 
-append_nothing : {X : Type 0} (xs : List X) → xs ++ [] ≡ xs
-append_nothing [] = refl
-append_nothing (x ∷ xs) = ap (λ ys. x ∷ ys) (append_nothing xs)
-
 pub Continues-self : {X : Type 0} (label : X → Label) (from : ℕ) (xs : List X) → Continues label from xs xs
-Continues-self label from xs = record { rest = []; more = sym (append_nothing xs); later = tt }
+Continues-self label from xs = record { rest = []; more = sym (append-nil xs); later = tt }
 
 pub Continues-less : {X : Type 0} (label : X → Label) (call : ℕ) (now end : List X) → Continues label (call + 1) now end → Continues label call now end
 Continues-less label call now end c = record { rest = c.rest; more = c.more; later = All-map _ _ c.rest (λ x since. since_less call (label x) since) c.later }
@@ -87,7 +84,7 @@ Grows from (l ∷ ls) (m ∷ ms) = IsMore from l m × Grows from ls ms
 
 pub Grows-self : (from : ℕ) (ls : List ObjectLine) → Grows from ls ls
 Grows-self from [] = tt
-Grows-self from (l ∷ ls) = (record { label = refl; entry = refl; more = []; skips = sym (append_nothing l.skips); later = tt }, Grows-self from ls)
+Grows-self from (l ∷ ls) = (record { label = refl; entry = refl; more = []; skips = sym (append-nil l.skips); later = tt }, Grows-self from ls)
 
 are_less : (call : ℕ) (ks : List Skip) → AreSince (call + 1) ks → AreSince call ks
 are_less call ks since = All-map _ _ ks (λ (k : Skip) s. since_less call k.label s) since
@@ -95,11 +92,21 @@ are_less call ks since = All-map _ _ ks (λ (k : Skip) s. since_less call k.labe
 pub Grows-less : (call : ℕ) (now end : List ObjectLine) → Grows (call + 1) now end → Grows call now end
 Grows-less call [] end grows = All-map _ _ end (λ (l : ObjectLine) since. (since_less call l.label since.0, are_less call l.skips since.1)) grows
 Grows-less call (l ∷ ls) [] grows = absurd grows
-Grows-less call (l ∷ ls) (m ∷ ms) grows =
-    (record { label = grows.0.label; entry = grows.0.entry; more = grows.0.more; skips = grows.0.skips; later = are_less call grows.0.more grows.0.later }, Grows-less call ls ms grows.1)
+Grows-less call (l ∷ ls) (m ∷ ms) grows = (
+  record {
+    label = grows.0.label;
+    entry = grows.0.entry;
+    more = grows.0.more;
+    skips = grows.0.skips;
+    later =
+        are_less call grows.0.more grows.0.later;
+  },
+  Grows-less call ls ms grows.1,
+)
 
 -- what goes on from the lines with one more goes on from the lines without it
-pub Grows-line : (from : ℕ) (now : List ObjectLine) (x : ObjectLine) (end : List ObjectLine) → IsSince from x.label → x.skips ≡ [] → Grows from (now ++ x ∷ []) end → Grows from now end
+pub Grows-line : (from : ℕ) (now : List ObjectLine) (x : ObjectLine) (end : List ObjectLine) → IsSince from x.label → x.skips ≡ []
+    → Grows from (now ++ x ∷ []) end → Grows from now end
 Grows-line from [] x [] since bare grows = absurd grows
 Grows-line from [] x (m ∷ ms) since bare grows =
     ((subst (IsSince from) (sym grows.0.label) since, subst (AreSince from) (sym (grows.0.skips ∙ ap (λ ks. ks ++ grows.0.more) bare)) grows.0.later), grows.1)
@@ -107,11 +114,21 @@ Grows-line from (l ∷ ls) x [] since bare grows = absurd grows
 Grows-line from (l ∷ ls) x (m ∷ ms) since bare grows = (grows.0, Grows-line from ls x ms since bare grows.1)
 
 -- so it does with one more refused expiry
-pub Grows-under : (from : ℕ) (now : List ObjectLine) (k : Skip) (end : List ObjectLine) → IsSince from k.label → Grows from (under_last now k) end → Grows from now end
+pub Grows-under : (from : ℕ) (now : List ObjectLine) (k : Skip) (end : List ObjectLine) → IsSince from k.label
+    → Grows from (under_last now k) end → Grows from now end
 Grows-under from [] k end since grows = grows
 Grows-under from (l ∷ []) k [] since grows = absurd grows
-Grows-under from (l ∷ []) k (m ∷ ms) since grows =
-    (record { label = grows.0.label; entry = grows.0.entry; more = k ∷ grows.0.more; skips = grows.0.skips ∙ append_assoc l.skips (k ∷ []) grows.0.more; later = (since, grows.0.later) }, grows.1)
+Grows-under from (l ∷ []) k (m ∷ ms) since grows = (
+  record {
+    label = grows.0.label;
+    entry = grows.0.entry;
+    more = k ∷ grows.0.more;
+    skips = grows.0.skips
+        ∙ append_assoc l.skips (k ∷ []) grows.0.more;
+    later = (since, grows.0.later);
+  },
+  grows.1,
+)
 Grows-under from (l ∷ n ∷ ls) k [] since grows = absurd grows
 Grows-under from (l ∷ n ∷ ls) k (m ∷ ms) since grows = (grows.0, Grows-under from (n ∷ ls) k ms since grows.1)
 
@@ -121,7 +138,8 @@ pub record GoOn {A : Type 0} (P : A → Type 0) (now end : List A) : Type 0 wher
   pub more : end ≡ now ++ rest
   pub later : AllByRecursion P rest
 
-pub grown_labels : (from : ℕ) (now end : List ObjectLine) → Grows from now end → GoOn (IsSince from) (map (λ (l : ObjectLine). l.label) now) (map (λ (l : ObjectLine). l.label) end)
+pub grown_labels : (from : ℕ) (now end : List ObjectLine) → Grows from now end
+    → GoOn (IsSince from) (map (λ (l : ObjectLine). l.label) now) (map (λ (l : ObjectLine). l.label) end)
 grown_labels from [] end grows = record {
   rest = map (λ (l : ObjectLine). l.label) end;
   more = refl;
@@ -132,7 +150,8 @@ grown_labels from (l ∷ ls) (m ∷ ms) grows =
     let rest = grown_labels from ls ms grows.1 in
     record { rest = rest.rest; more = ap (λ x. x ∷ map (λ (l : ObjectLine). l.label) ms) grows.0.label ∙ ap (λ xs. l.label ∷ xs) rest.more; later = rest.later }
 
-pub grown_entries : (from : ℕ) (now end : List ObjectLine) → Grows from now end → GoOn (λ e. Unit) (map (λ (l : ObjectLine). l.entry) now) (map (λ (l : ObjectLine). l.entry) end)
+pub grown_entries : (from : ℕ) (now end : List ObjectLine) → Grows from now end
+    → GoOn (λ e. Unit) (map (λ (l : ObjectLine). l.entry) now) (map (λ (l : ObjectLine). l.entry) end)
 grown_entries from [] end grows = record { rest = map (λ (l : ObjectLine). l.entry) end; more = refl; later = all_any (map (λ (l : ObjectLine). l.entry) end) }
   where
     all_any : (es : List ObjectEntry) → AllByRecursion (λ e. Unit) es
@@ -145,7 +164,8 @@ grown_entries from (l ∷ ls) (m ∷ ms) grows =
 
 -- what the lines have under a label that is over stays
 pub grown_own : (call k : ℕ) (now end : List ObjectLine) → Grows (call + 1) now end
-    → own (λ (l : ObjectLine). l.label) (λ (l : ObjectLine). l.entry) (on call) k end ≡ own (λ (l : ObjectLine). l.label) (λ (l : ObjectLine). l.entry) (on call) k now
+    → own (λ (l : ObjectLine). l.label) (λ (l : ObjectLine). l.entry) (on call) k end ≡ own (λ (l : ObjectLine). l.label)
+    (λ (l : ObjectLine). l.entry) (on call) k now
 grown_own call k [] end grows = own_none _ _ (on call) k end (All-map _ _ end (λ (l : ObjectLine) since. not_since call l.label since.0) grows)
 grown_own call k (l ∷ ls) [] grows = absurd grows
 grown_own call k (l ∷ ls) (m ∷ ms) grows =
@@ -159,14 +179,12 @@ skips_none c k (x ∷ xs) apart = ap (λ b. also b (k, x.generation) (skips_unde
 
 pub skips_append : (c : Label) (k : ℕ) (xs ys : List Skip) → skips_under c k (xs ++ ys) ≡ skips_under c k xs ++ skips_under c k ys
 skips_append c k [] ys = refl
-skips_append c k (x ∷ xs) ys = ap (also (is_label c x.label) (k, x.generation)) (skips_append c k xs ys) ∙ also_append (is_label c x.label) (k, x.generation) (skips_under c k xs) (skips_under c k ys)
-  where
-    also_append : {A : Type 0} (b : Bool) (x : A) (xs ys : List A) → also b x (xs ++ ys) ≡ also b x xs ++ ys
-    also_append true x xs ys = refl
-    also_append false x xs ys = refl
+skips_append c k (x ∷ xs) ys = ap (also (is_label c x.label) (k, x.generation)) (skips_append c k xs ys)
+    ∙ also_append (is_label c x.label) (k, x.generation) (skips_under c k xs) (skips_under c k ys)
 
 -- lines whose refused expiries are of other labels have none of a label
-pub own_skips_none : (c : Label) (k : ℕ) (ls : List ObjectLine) → AllByRecursion (λ (l : ObjectLine). AllByRecursion (λ (x : Skip). is_label c x.label ≡ false) l.skips) ls → own_skips c k ls ≡ []
+pub own_skips_none : (c : Label) (k : ℕ) (ls : List ObjectLine)
+    → AllByRecursion (λ (l : ObjectLine). AllByRecursion (λ (x : Skip). is_label c x.label ≡ false) l.skips) ls → own_skips c k ls ≡ []
 own_skips_none c k [] apart = refl
 own_skips_none c k (l ∷ ls) apart = ap (λ xs. xs ++ own_skips c (k + 1) ls) (skips_none c k l.skips apart.0) ∙ own_skips_none c (k + 1) ls apart.1
 
@@ -179,5 +197,7 @@ grown_skips call k (l ∷ ls) [] grows = absurd grows
 grown_skips call k (l ∷ ls) (m ∷ ms) grows =
     ap (λ ks. skips_under (on call) k ks ++ own_skips (on call) (k + 1) ms) grows.0.skips
     ∙ ap (λ xs. xs ++ own_skips (on call) (k + 1) ms)
-    (skips_append (on call) k l.skips grows.0.more ∙ ap (λ xs. skips_under (on call) k l.skips ++ xs) (skips_none (on call) k grows.0.more (since_apart call grows.0.more grows.0.later)) ∙ append_nothing _)
+    (skips_append (on call) k l.skips grows.0.more
+    ∙ ap (λ xs. skips_under (on call) k l.skips ++ xs)
+    (skips_none (on call) k grows.0.more (since_apart call grows.0.more grows.0.later)) ∙ append-nil _)
     ∙ ap (λ xs. skips_under (on call) k l.skips ++ xs) (grown_skips call (k + 1) ls ms grows.1)

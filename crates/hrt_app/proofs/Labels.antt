@@ -1,5 +1,6 @@
 -- On one lane, calls follow one another by their numbers.
-use Rattle.std.proofs.Common.{arith, sym, ap, ◌∙◌, subst, ◌≡◌, ◌≤◌, ℕ, ◌+◌, zero, suc, false, ◌&&◌, ◌||◌, nat_eq, nat_lt, List, [], ◌∷◌, ◌++◌, length, map, filter, get_or}
+use Rattle.std.proofs.Common.{arith, sym, ap, ◌∙◌, subst, ◌≡◌, ◌≤◌, ℕ, ◌+◌, zero, suc, false, ◌&&◌, ◌||◌, nat_eq, nat_lt, List, [], ◌∷◌, ◌++◌, length}
+use Rattle.std.proofs.Common.{map, filter, get_or}
 use Rattle.std.proofs.lemmas.Bool.Decides.{nat_tests}
 use Rattle.std.proofs.Math.Seq.{take-append_seam, drop-append_seam}
 use Rattle.std.proofs.lemmas.List.{map-append, length-append}
@@ -8,8 +9,9 @@ use Rattle.record_text.specs.declared.record.Label.{Label}
 use Rattle.script_text.specs.declared.script.LaneCall.{LaneCall}
 use Rattle.script_text.specs.declared.script.Round.{Round}
 use Rattle.script_text.specs.declared.script.Script.{Script}
+use Rattle.script_text.proofs.Lists.{All-append}
+use Rattle.hrt_app.proofs.Lists.{All-map}
 use Rattle.script_text.specs.Order.{CallInRound, calls_from, calls_of, round_of, is_before, IsPoint, IsInOrder, made_by}
-use Rattle.hrt_app.proofs.Lists.{All-map, All-append}
 
 -- numbers that start at least so high and never fall, and go on like that past the end of the list
 pub record Rises (least past : ℕ) (ns : List ℕ) : Type 0 where
@@ -28,7 +30,8 @@ Rises-cons least past ns r = record { from = low; rise = up }
     up (suc a) zero le = absurd (omega (arith, le))
     up (suc a) (suc b) le = r.rise a b (omega (arith, le))
 
-pub Rises-round : (least past : ℕ) (cs : List LaneCall) (ns : List ℕ) → Rises least past ns → Rises least past (map (λ (c : CallInRound). c.round) (map (λ (c : LaneCall). record { round = least; call = c.call }) cs) ++ ns)
+pub Rises-round : (least past : ℕ) (cs : List LaneCall) (ns : List ℕ) → Rises least past ns
+    → Rises least past (map (λ (c : CallInRound). c.round) (map (λ (c : LaneCall). record { round = least; call = c.call }) cs) ++ ns)
 Rises-round least past [] ns r = r
 Rises-round least past (c ∷ cs) ns r = Rises-cons least past _ (Rises-round least past cs ns r)
 
@@ -42,7 +45,8 @@ Rises-later least past ns r = record { from = λ i. omega (arith, r.from i); ris
 pub Rises-rounds : (lane round : ℕ) (rs : List Round) → Rises round (round + length rs) (map (λ c. c.round) (calls_from lane round rs))
 Rises-rounds lane round [] = record { from = λ i. omega arith; rise = λ a b le. omega arith }
 Rises-rounds lane round (r ∷ rs) =
-    let rest = subst (λ past. Rises (round + 1) past (map (λ c. c.round) (calls_from lane (round + 1) rs))) (add_one_in round (length rs)) (Rises-rounds lane (round + 1) rs) in
+    let rest = subst (λ past. Rises (round + 1) past (map (λ c. c.round) (calls_from lane (round + 1) rs)))
+    (add_one_in round (length rs)) (Rises-rounds lane (round + 1) rs) in
     let here = filter (λ (c : LaneCall). nat_eq c.lane lane) r.calls in
     subst (λ ns. Rises round (round + suc (length rs)) ns)
     (sym (map-append (λ (c : CallInRound). c.round) (map (λ (c : LaneCall). record { round = round; call = c.call }) here) (calls_from lane (round + 1) rs)))
@@ -74,12 +78,15 @@ abbrev pub IsFrom : Label → Label → Type 0
 IsFrom c x = (x.lane ≡ c.lane) × (c.call ≤ x.call)
 
 -- where the first part of a list has calls up to this one and the rest calls from it on, the seam is a point of the call
-pub point_at_seam : (s : Script) (c : Label) (own : ℕ) (xs ys : List Label) → AllByRecursion (IsUpTo c) xs → AllByRecursion (IsFrom c) ys → made_by c xs ≡ own → IsPoint s c own (length xs) (xs ++ ys)
+pub point_at_seam : (s : Script) (c : Label) (own : ℕ) (xs ys : List Label) → AllByRecursion (IsUpTo c) xs
+    → AllByRecursion (IsFrom c) ys → made_by c xs ≡ own → IsPoint s c own (length xs) (xs ++ ys)
 point_at_seam s c own xs ys early late made = record {
   within = record {
     small = omega (arith, length-append xs ys);
-    before = subst (AllByRecursion (λ x. is_before s c x ≡ false)) (sym (take-append_seam xs ys)) (All-map _ _ xs (λ x up. not_before s c x (sym up.0) up.1) early);
-    behind = subst (AllByRecursion (λ x. is_before s x c ≡ false)) (sym (drop-append_seam xs ys)) (All-map _ _ ys (λ y from. not_before s y c from.0 from.1) late);
+    before = subst (AllByRecursion (λ x. is_before s c x ≡ false)) (sym (take-append_seam xs ys))
+        (All-map _ _ xs (λ x up. not_before s c x (sym up.0) up.1) early);
+    behind = subst (AllByRecursion (λ x. is_before s x c ≡ false)) (sym (drop-append_seam xs ys))
+        (All-map _ _ ys (λ y from. not_before s y c from.0 from.1) late);
   };
   so_many = ap (made_by c) (take-append_seam xs ys) ∙ made;
 }

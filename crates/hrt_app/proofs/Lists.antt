@@ -1,18 +1,7 @@
--- Facts of every element of a list, along its parts.
-use Rattle.std.specs.Prelude.{List, [], ◌∷◌, ◌++◌, map}
+-- Lemmas on lists.
+use Rattle.std.proofs.Common.{refl, ◌≡◌, Bool, true, false, List, [], ◌∷◌, ◌++◌, map}
 use Rattle.std.specs.List.{AllByRecursion}
-
-pub All-append : {X : Type 0} (P : X → Type 0) (xs ys : List X) → AllByRecursion P xs → AllByRecursion P ys → AllByRecursion P (xs ++ ys)
-All-append P [] ys a b = b
-All-append P (x ∷ xs) ys a b = (a.0, All-append P xs ys a.1 b)
-
-pub All-left : {X : Type 0} (P : X → Type 0) (xs ys : List X) → AllByRecursion P (xs ++ ys) → AllByRecursion P xs
-All-left P [] ys a = tt
-All-left P (x ∷ xs) ys a = (a.0, All-left P xs ys a.1)
-
-pub All-right : {X : Type 0} (P : X → Type 0) (xs ys : List X) → AllByRecursion P (xs ++ ys) → AllByRecursion P ys
-All-right P [] ys a = a
-All-right P (x ∷ xs) ys a = All-right P xs ys a.1
+use Rattle.script_text.specs.Actions.{also}
 
 pub All-map : {X : Type 0} (P Q : X → Type 0) (xs : List X) → ((x : X) → P x → Q x) → AllByRecursion P xs → AllByRecursion Q xs
 All-map P Q [] f a = tt
@@ -26,3 +15,7 @@ All-of_map P f (x ∷ xs) a = (a.0, All-of_map P f xs a.1)
 pub All-to_map : {X Y : Type 0} (P : Y → Type 0) (f : X → Y) (xs : List X) → AllByRecursion (λ x. P (f x)) xs → AllByRecursion P (map f xs)
 All-to_map P f [] a = tt
 All-to_map P f (x ∷ xs) a = (a.0, All-to_map P f xs a.1)
+
+pub also_append : {A : Type 0} (b : Bool) (x : A) (xs ys : List A) → also b x (xs ++ ys) ≡ also b x xs ++ ys
+also_append true x xs ys = refl
+also_append false x xs ys = refl

@@ -32,7 +32,8 @@ use Rattle.hrt_app.proofs.Made.{made_called, no_stamp, start_step}
 -- the steps of a start that moves its timer
 abbrev pub move_steps : Timer → ClockReading → Mode → ℕ → ℕ → List Step
 move_steps t reading mode ns asked =
-    plain (events.Out asked) (entries.Out asked (is_some t.armed)) ∷ plain (events.Start mode ns reading asked) (start_line (after t (events.Out asked)) reading mode ns asked) ∷ []
+    plain (events.Out asked) (entries.Out asked (is_some t.armed)) ∷ plain (events.Start mode ns reading asked)
+    (start_line (after t (events.Out asked)) reading mode ns asked) ∷ []
 
 -- they are ones that the timer takes
 pub move_taken : (s : Script) (p : Progress) (call t : ℕ) (mode : Mode) (ns asked : ℕ) → IsRun s call (call + 1) p → t < length s.timers
@@ -44,11 +45,19 @@ move_taken s p call t mode ns asked run there needs_out needs =
     let is_moved = timer_with p (on call) t out (subst (λ n. t < n) (sym run.timers) there) in
     let step : IsStep s p call t out = record { there = there; needs = needs_out; counts = refl; sees = tt; shows = λ end e. refl } in
     let start : IsStep s moved call t (plain (events.Start mode ns p.reading asked) (start_line (timer_at moved.timers t) p.reading mode ns asked)) =
-    start_step s moved call t mode ns asked (push_step s p call t out run step) there (subst (λ timer. Needs timer (events.Start mode ns p.reading asked)) (sym is_moved) needs) in
-    (step, (subst (λ (timer : Timer). IsStep s moved call t (plain (events.Start mode ns p.reading asked) (start_line timer p.reading mode ns asked))) is_moved start, tt))
+    start_step s moved call t mode ns asked (push_step s p call t out run step) there
+    (subst (λ timer. Needs timer (events.Start mode ns p.reading asked)) (sym is_moved) needs) in (
+      step,
+      (
+        subst (λ (timer : Timer). IsStep s moved call t
+            (plain (events.Start mode ns p.reading asked) (start_line timer p.reading mode ns asked))) is_moved start,
+        tt,
+      ),
+    )
 
 -- the run after a start that moves its timer
-pub moved_on : (p next : Progress) (c : Label) (t : ℕ) (mode : Mode) (ns asked generation base : ℕ) (was : Bool) → t < length p.timers → StartsThere p c t mode ns asked generation base was next
+pub moved_on : (p next : Progress) (c : Label) (t : ℕ) (mode : Mode) (ns asked generation base : ℕ) (was : Bool)
+    → t < length p.timers → StartsThere p c t mode ns asked generation base was next
     → next ≡ with_steps p c t (move_steps (timer_at p.timers t) p.reading mode ns asked)
 moved_on p next c t mode ns asked generation base was there starts =
     let moved = move_out p c t asked in
@@ -56,7 +65,8 @@ moved_on p next c t mode ns asked generation base was there starts =
     ∙ ap (λ (timer : Timer). with_entry moved c t (events.Start mode ns p.reading asked) (start_line timer p.reading mode ns asked))
     (timer_with p c t (plain (events.Out asked) (entries.Out asked (is_some (timer_at p.timers t).armed))) there)
 
-pub moved_called : (s : Script) (call : ℕ) (p : Progress) (t : ℕ) (mode : Mode) (ns asked generation base : ℕ) (was : Bool) (next : Progress) (end : RunRecord) → IsRun s call call p → t < length s.timers
+pub moved_called : (s : Script) (call : ℕ) (p : Progress) (t : ℕ) (mode : Mode) (ns asked generation base : ℕ) (was : Bool)
+    (next : Progress) (end : RunRecord) → IsRun s call call p → t < length s.timers
     → StartsThere p (on call) t mode ns asked generation base was next → Extends (call + 1) next.told end
     → FitsCall s end (on call) (calls.Start t mode ns asked) (answers.Started generation base was) (seen_of p.told) (seen_of next.told)
 moved_called s call p t mode ns asked generation base was next end run there starts e =
@@ -71,8 +81,10 @@ moved_called s call p t mode ns asked generation base was next end run there sta
     let n = length (lines_of_timer p.told t) in
     let goes_on = moved_on p next (on call) t mode ns asked generation base was (subst (λ n. t < n) (sym run.timers) there) starts in
     let ends = subst (λ (q : Progress). Extends (call + 1) q.told end) goes_on e in
-    subst (λ (q : Progress). FitsCall s end (on call) (calls.Start t mode ns asked) (answers.Started generation base was) (seen_of p.told) (seen_of q.told)) (sym goes_on)
-    (made_called s call p (with_steps p (on call) t xs) end (calls.Start t mode ns asked) (answers.Started generation base was) [] (Entered t (n + 1) out ∷ Entered t (n + 1 + 1) line ∷ []) (λ u. 0)
+    subst (λ (q : Progress). FitsCall s end (on call) (calls.Start t mode ns asked) (answers.Started generation base was)
+    (seen_of p.told) (seen_of q.told)) (sym goes_on)
+    (made_called s call p (with_steps p (on call) t xs) end (calls.Start t mode ns asked) (answers.Started generation base was) []
+    (Entered t (n + 1) out ∷ Entered t (n + 1 + 1) line ∷ []) (λ u. 0)
     run (steps_run s call t xs p inside taken) ends (steps_back s call t xs p end inside taken (within call _ end ends)) refl refl
     (steps_told s call t xs p [] inside taken (tells_start s call p run)) (
       record { out = Some (n + 1, is_some timer.armed); number = n + 1 + 1; base = asked; clock = now.clock; expires = now.expires; was_armed = false },
@@ -83,7 +95,9 @@ moved_called s call p t mode ns asked generation base was next end run there sta
       refl,
     )
     (tt, (tt, tt)) tt tt
-    (λ u. subst (λ ns'. NeverFall (length (lines_of_timer p.told u)) ns' (length (lines_of_timer (with_steps p (on call) t xs).told u))) (sym (no_stamp (nat_eq t u) (numbers_on u (Entered t (n + 1) out ∷ Entered t (n + 1 + 1) line ∷ []))))
+    (λ u. subst (λ ns'. NeverFall (length (lines_of_timer p.told u)) ns'
+    (length (lines_of_timer (with_steps p (on call) t xs).told u)))
+    (sym (no_stamp (nat_eq t u) (numbers_on u (Entered t (n + 1) out ∷ Entered t (n + 1 + 1) line ∷ []))))
     (steps_numbers s call t xs p inside taken u))
     (λ i. omega arith))
   where
@@ -91,7 +105,8 @@ moved_called s call p t mode ns asked generation base was next end run there sta
     two_more n = omega arith
 
 -- a write that the clock takes
-pub wrote_called : (s : Script) (call : ℕ) (p : Progress) (w : Write) (end : RunRecord) → IsRun s call call p → IsAccepted p.reading w → Extends (call + 1) (with_write p (on call) w).told end
+pub wrote_called : (s : Script) (call : ℕ) (p : Progress) (w : Write) (end : RunRecord) → IsRun s call call p
+    → IsAccepted p.reading w → Extends (call + 1) (with_write p (on call) w).told end
     → FitsCall s end (on call) (calls.Clock w) (answers.Clock (length p.told.clock + 1)) (seen_of p.told) (seen_of (with_write p (on call) w).told)
 wrote_called s call p w end run accepted e =
     let inside = begin s call p run in
@@ -131,7 +146,12 @@ range_called s call p w would_be end run counted late same e =
       does = refl;
       reading = point_of_clock s call p end [] inside back told;
       looks = tt;
-      seen = record { counted = subst (λ n. n < last_stamp) run.stamp counted; late = late; greatest = same ∙ ap (λ r. greatest (after_write r w)) (sym (run.reading_now end.clock back.clock)) };
+      seen = record {
+        counted = subst (λ n. n < last_stamp) run.stamp counted;
+        late = late;
+        greatest = same
+            ∙ ap (λ r. greatest (after_write r w)) (sym (run.reading_now end.clock back.clock));
+      };
       expiry_run = tt;
       clock_steps = (omega arith, omega arith);
       timer_steps = λ u. omega arith;

@@ -23,7 +23,8 @@ use Rattle.hrt_app.proofs.Runs.{Extends, IsRun}
 use Rattle.hrt_app.proofs.Told.{nat_eq_apart, point_of_clock, tells_end, tells_start}
 
 -- a call that makes no entry
-unmade_called : (s : Script) (number : ℕ) (p : Progress) (end : RunRecord) (call : Call) (answer : Answer) → IsRun s number number p → Extends (number + 1) p.told end
+unmade_called : (s : Script) (number : ℕ) (p : Progress) (end : RunRecord) (call : Call) (answer : Answer)
+    → IsRun s number number p → Extends (number + 1) p.told end
     → Does s (length p.told.clock) call answer [] []
     → IsSeen s end (on number) (length p.told.clock) [] call answer
     → IsRightExpiryRun s end (on number) (length p.told.clock) call answer [] [] (λ u. 0)
@@ -49,7 +50,8 @@ unmade_called s number p end call answer run e does seen pass steps objects =
     }
 
 -- a call that is told nothing of an object either
-pub nothing_called : (s : Script) (number : ℕ) (p : Progress) (end : RunRecord) (call : Call) (answer : Answer) → IsRun s number number p → Extends (number + 1) p.told end
+pub nothing_called : (s : Script) (number : ℕ) (p : Progress) (end : RunRecord) (call : Call) (answer : Answer)
+    → IsRun s number number p → Extends (number + 1) p.told end
     → Does s (length p.told.clock) call answer [] []
     → IsSeen s end (on number) (length p.told.clock) [] call answer
     → IsRightExpiryRun s end (on number) (length p.told.clock) call answer [] [] (λ u. 0)
@@ -57,10 +59,12 @@ pub nothing_called : (s : Script) (number : ℕ) (p : Progress) (end : RunRecord
     → ((i : ℕ) → object_steps_on i call answer [] ≡ [])
     → FitsCall s end (on number) call answer (seen_of p.told) (seen_of p.told)
 nothing_called s number p end call answer run e does seen pass steps objects =
-    unmade_called s number p end call answer run e does seen pass steps (λ i. subst (λ ns. NeverFall (length (lines_of_object p.told i)) ns (length (lines_of_object p.told i))) (sym (objects i)) (omega arith))
+    unmade_called s number p end call answer run e does seen pass steps
+    (λ i. subst (λ ns. NeverFall (length (lines_of_object p.told i)) ns (length (lines_of_object p.told i))) (sym (objects i)) (omega arith))
 
 -- a call that is told what holds of one object at the number of its entries
-pub object_called : (s : Script) (number : ℕ) (p : Progress) (t : ℕ) (end : RunRecord) (call : Call) (answer : Answer) → IsRun s number number p → Extends (number + 1) p.told end
+pub object_called : (s : Script) (number : ℕ) (p : Progress) (t : ℕ) (end : RunRecord) (call : Call) (answer : Answer)
+    → IsRun s number number p → Extends (number + 1) p.told end
     → Does s (length p.told.clock) call answer [] []
     → (IsObjectPoint s end (on number) [] t (entries_of (object_at p.objects t)) → IsSeen s end (on number) (length p.told.clock) [] call answer)
     → IsRightExpiryRun s end (on number) (length p.told.clock) call answer [] [] (λ u. 0)
@@ -73,8 +77,10 @@ object_called s number p t end call answer run e does seen pass steps objects =
     let point = point_of_object s number p end [] (begin s number p run) (within number p.told end e) (tells_start s number p run) t in
     unmade_called s number p end call answer run e does (seen (subst (λ n. IsObjectPoint s end (on number) [] t n) (sym own.counted) point)) pass steps
     (λ i. subst (λ ns. NeverFall (length (lines_of_object p.told i)) ns (length (lines_of_object p.told i))) (sym (objects i)) (⊎_elim
-    (λ here. subst (λ n. NeverFall n (if nat_eq t i then entries_of o ∷ [] else []) n) (own.counted ∙ ap (λ v. length (lines_of_object p.told v)) here) (one_stamp (nat_eq t i) (entries_of o)))
-    (λ apart. subst (λ b. NeverFall (length (lines_of_object p.told i)) (if b then entries_of o ∷ [] else []) (length (lines_of_object p.told i))) (sym (nat_eq_apart t i (λ e'. apart (sym e')))) (omega arith))
+    (λ here. subst (λ n. NeverFall n (if nat_eq t i then entries_of o ∷ [] else []) n) (own.counted
+    ∙ ap (λ v. length (lines_of_object p.told v)) here) (one_stamp (nat_eq t i) (entries_of o)))
+    (λ apart. subst (λ b. NeverFall (length (lines_of_object p.told i)) (if b then entries_of o ∷ [] else [])
+    (length (lines_of_object p.told i))) (sym (nat_eq_apart t i (λ e'. apart (sym e')))) (omega arith))
     (cases_eq t i)))
   where
     one_stamp : (b : Bool) (n : ℕ) → NeverFall n (if b then n ∷ [] else []) n
@@ -82,14 +88,18 @@ object_called s number p t end call answer run e does seen pass steps objects =
     one_stamp false n = omega arith
 
 -- a call that is refused, the object's history being full
-pub full_made : (s : Script) (number : ℕ) (p next : Progress) (t : ℕ) (call : Call) (answer : Answer) → IsRun s number number p → limit_of (object_at p.objects t) ≡ s.limit → IsFull p t answer next
+pub full_made : (s : Script) (number : ℕ) (p next : Progress) (t : ℕ) (call : Call) (answer : Answer) → IsRun s number number p
+    → limit_of (object_at p.objects t) ≡ s.limit → IsFull p t answer next
     → Does s (length p.told.clock) call (answers.Spent (entries_of (object_at p.objects t))) [] []
-    → ((end : RunRecord) → SawFull s end (on number) [] t (entries_of (object_at p.objects t)) → IsSeen s end (on number) (length p.told.clock) [] call (answers.Spent (entries_of (object_at p.objects t))))
+    → ((end : RunRecord) → SawFull s end (on number) [] t (entries_of (object_at p.objects t))
+    → IsSeen s end (on number) (length p.told.clock) [] call (answers.Spent (entries_of (object_at p.objects t))))
     → ((end : RunRecord) → IsRightExpiryRun s end (on number) (length p.told.clock) call (answers.Spent (entries_of (object_at p.objects t))) [] [] (λ u. 0))
     → ((u : ℕ) → steps_on u (length p.told.clock) call (answers.Spent (entries_of (object_at p.objects t))) [] [] (λ v. 0) ≡ [])
-    → ((i : ℕ) → object_steps_on i call (answers.Spent (entries_of (object_at p.objects t))) [] ≡ (if nat_eq t i then entries_of (object_at p.objects t) ∷ [] else []))
+    → ((i : ℕ) → object_steps_on i call (answers.Spent (entries_of (object_at p.objects t)))
+    [] ≡ (if nat_eq t i then entries_of (object_at p.objects t) ∷ [] else []))
     → TurnMade s number p call answer next
 full_made s number p next t call answer run limit full does seen pass steps objects =
     subst (λ a. TurnMade s number p call a next) (sym full.answered)
     (quiet s number p next call (answers.Spent (entries_of (object_at p.objects t))) run full.goes_on
-    (λ end e. object_called s number p t end call (answers.Spent (entries_of (object_at p.objects t))) run e does (λ point. seen end (point, omega (arith, full.full, limit))) (pass end) steps objects))
+    (λ end e. object_called s number p t end call (answers.Spent (entries_of (object_at p.objects t))) run e does
+    (λ point. seen end (point, omega (arith, full.full, limit))) (pass end) steps objects))

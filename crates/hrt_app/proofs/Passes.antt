@@ -1,9 +1,9 @@
 -- An expiry pass on one lane fits, whatever the run still adds.
-use Rattle.std.proofs.Common.{arith, refl, sym, ap, ◌∙◌, subst, ◌≡◌, ◌≤◌, ◌<◌, ℕ, ◌+◌, Bool, false, None, is_some, nat_eq, nat_lt, nat_le, not, ◌&&◌, List, [], ◌∷◌, ◌++◌, length, map}
+use Rattle.std.proofs.Common.{arith, refl, sym, ap, ◌∙◌, subst, ◌≡◌, ◌≤◌, ◌<◌, ℕ, ◌+◌, Bool, false, None, is_some, nat_eq, nat_lt, nat_le, not, ◌&&◌}
+use Rattle.std.proofs.Common.{List, [], ◌∷◌, ◌++◌, length, map}
 use Rattle.std.specs.Prelude.{flat_map}
 use Rattle.std.proofs.Math.Logic.{⊎_elim}
 use Rattle.std.proofs.lemmas.Bool.{cases_lt}
-use Rattle.std.proofs.lemmas.List.{get_or_past, append_assoc}
 use Rattle.std.specs.List.{AllByRecursion}
 use Rattle.ktime.specs.Readings.{ClockReading}
 use Rattle.ktime.specs.declared.clock_id.ClockId.{ClockId}
@@ -25,10 +25,11 @@ use Rattle.hrt_app.specs.Objects.{object_at, trigger_counts}
 use Rattle.hrt_app.specs.Progress.{Progress}
 use Rattle.hrt_app.specs.Callbacks.{after_act, restart_of}
 use Rattle.hrt_app.specs.Turns.{IsNext, Claims, fired, fired_by}
+use Rattle.std.proofs.lemmas.List.{get_or_past, append_assoc, append-nil}
 use Rattle.hrt_app.proofs.Grown.{on}
 use Rattle.hrt_app.proofs.Runs.{Extends, IsRun}
 use Rattle.hrt_app.proofs.Told.{looked_at, point_of_timer, wrote_append}
-use Rattle.hrt_app.proofs.Taken.{append_nothing, object_numbers_append, NeverFall-append}
+use Rattle.hrt_app.proofs.Taken.{object_numbers_append, NeverFall-append}
 use Rattle.hrt_app.proofs.Acts.{act_count, act_dids}
 use Rattle.hrt_app.proofs.Made.{reading_shown}
 use Rattle.hrt_app.proofs.Fires.{act_at, raw_made, running_timer, FireMade, IsFresh}
@@ -52,7 +53,13 @@ came (Raw callback) p base t generation =
       rearmed = restart_of (rearmed_by (after_act (running_timer p base t) act.step) act.again);
     }
 came o p base t generation =
-    record { body = trigger_dids t (length (lines_of_object p.told t)) generation p.reading.stamp (trigger_counts o generation p.reading); finish = length (lines_of_timer p.told t) + 1 + 1; restart = false; rearmed = restarts.None }
+    record {
+      body = trigger_dids t (length (lines_of_object p.told t)) generation p.reading.stamp
+          (trigger_counts o generation p.reading);
+      finish = length (lines_of_timer p.told t) + 1 + 1;
+      restart = false;
+      rearmed = restarts.None;
+    }
 
 -- a claimed timer, as the record has it
 abbrev pub firing_of : Object → Progress → ℕ → ℕ → ℕ → Fired
@@ -71,13 +78,15 @@ abbrev pub firing : Progress → ℕ → ℕ → ℕ → Fired
 firing p base t generation = firing_of (object_at p.objects t) p base t generation
 
 -- a claim by what the timer is declared with
-fire_by : (s : Script) (o : Object) (call base at t generation : ℕ) (p : Progress) → object_at p.objects t ≡ o → p.reading.stamp ≡ at → IsRun s call (call + 1) p → IsNext p base t generation → IsFresh call p t
+fire_by : (s : Script) (o : Object) (call base at t generation : ℕ) (p : Progress) → object_at p.objects t ≡ o
+    → p.reading.stamp ≡ at → IsRun s call (call + 1) p → IsNext p base t generation → IsFresh call p t
     → FireMade s call base at p (fired_by o p (on call) base t generation) (firing_of o p base t generation)
 fire_by s (Raw callback) call base at t generation p is same run next fresh = raw_made s callback call base at t generation p is same run next
 fire_by s (Posix x) call base at t generation p is same run next fresh = trigger_made s (Posix x) call base at t generation p is same run next fresh tt
 fire_by s (Fd x) call base at t generation p is same run next fresh = trigger_made s (Fd x) call base at t generation p is same run next fresh tt
 
-pub fire_made : (s : Script) (call base at t generation : ℕ) (p : Progress) → p.reading.stamp ≡ at → IsRun s call (call + 1) p → IsNext p base t generation → IsFresh call p t
+pub fire_made : (s : Script) (call base at t generation : ℕ) (p : Progress) → p.reading.stamp ≡ at → IsRun s call (call + 1) p
+    → IsNext p base t generation → IsFresh call p t
     → FireMade s call base at p (fired p (on call) base t generation) (firing p base t generation)
 fire_made s call base at t generation p same run next fresh = fire_by s (object_at p.objects t) call base at t generation p refl same run next fresh
 
@@ -92,7 +101,8 @@ pub test_seen : (s : Script) (p : Progress) (call : ℕ) (end : RunRecord) (test
     → test (timer_at p.timers u) ≡ false → test (timer_after s end u (length (lines_of_timer p.told u))) ≡ false
 test_seen s p call end test u run e never now =
     ⊎_elim (λ there. ap test (run.states end e u there) ∙ now)
-    (λ past. subst (λ ls. test (timer_after s end u (length ls)) ≡ false) (sym (get_or_past p.told.timers u [] (subst (λ n. n ≤ u) (sym run.lists) past))) (never (opening (clock_of s u) s.limit) refl refl))
+    (λ past. subst (λ ls. test (timer_after s end u (length ls)) ≡ false)
+    (sym (get_or_past p.told.timers u [] (subst (λ n. n ≤ u) (sym run.lists) past))) (never (opening (clock_of s u) s.limit) refl refl))
     (cases_lt u (length s.timers))
 
 -- a timer that is neither armed nor running is not running on a base, nor due or armed there
@@ -100,12 +110,15 @@ pub never_runs : (base : ℕ) (timer : Timer) → timer.armed ≡ None → timer
 never_runs base timer armed running = ap (λ g. is_some g && nat_eq timer.base base) running
 
 pub never_due : (base : ℕ) (reading : ClockReading) (timer : Timer) → timer.armed ≡ None → timer.running ≡ None → is_due_on base reading timer ≡ false
-never_due base reading timer armed running = ap (λ g. is_some g && not timer.moving && nat_eq timer.base base && nat_le timer.expires (now_of timer reading)) armed
+never_due base reading timer armed running =
+    ap (λ g. is_some g && not timer.moving && nat_eq timer.base base && nat_le timer.expires (now_of timer reading)) armed
 
-never_ahead : (base : ℕ) (reading : ClockReading) (clock : ClockId) (timer : Timer) → timer.armed ≡ None → timer.running ≡ None → is_ahead base reading clock timer ≡ false
+never_ahead : (base : ℕ) (reading : ClockReading) (clock : ClockId) (timer : Timer) → timer.armed ≡ None → timer.running ≡ None
+    → is_ahead base reading clock timer ≡ false
 never_ahead base reading clock timer armed running = ap (λ b. b && nat_lt (rank timer.clock) (rank clock)) (never_due base reading timer armed running)
 
-never_smaller : (base : ℕ) (clock : ClockId) (expires : ℕ) (timer : Timer) → timer.armed ≡ None → timer.running ≡ None → is_smaller base clock expires timer ≡ false
+never_smaller : (base : ℕ) (clock : ClockId) (expires : ℕ) (timer : Timer) → timer.armed ≡ None → timer.running ≡ None
+    → is_smaller base clock expires timer ≡ false
 never_smaller base clock expires timer armed running =
     ap (λ g. is_some g && not timer.moving && nat_eq timer.base base && nat_eq (rank timer.clock) (rank clock) && nat_lt timer.expires expires) armed
 
@@ -119,27 +132,34 @@ pub record PassMade (s : Script) (call base at : ℕ) (p next : Progress) (fs : 
   pub writes_none : wrote (flat_map (fires base at) (firings p call base fs)) ≡ []
   pub claims : (end : RunRecord) → Extends call next.told end → AreFirstDueClaims s end (on call) at base before (firings p call base fs)
   pub looks : (end : RunRecord) → Extends call next.told end → AreTrue s end (on call) before (flat_map (fires base at) (firings p call base fs))
-  pub steps : (u : ℕ) → NeverFall (length (lines_of_timer p.told u)) (flat_map (λ f. f.seen u ∷ numbers_on u (fires base at f)) (firings p call base fs)) (length (lines_of_timer next.told u))
-  pub object_steps : (i : ℕ) → NeverFall (length (lines_of_object p.told i)) (numbers_of_object i (flat_map (fires base at) (firings p call base fs))) (length (lines_of_object next.told i))
+  pub steps : (u : ℕ) → NeverFall (length (lines_of_timer p.told u))
+      (flat_map (λ f. f.seen u ∷ numbers_on u (fires base at f)) (firings p call base fs)) (length (lines_of_timer next.told u))
+  pub object_steps : (i : ℕ) → NeverFall (length (lines_of_object p.told i))
+      (numbers_of_object i (flat_map (fires base at) (firings p call base fs))) (length (lines_of_object next.told i))
   pub timers : map (λ f. f.0) fs ≡ map (λ (f : Fired). f.timer) (firings p call base fs)
   pub bodies : AllByRecursion (λ f. IsBody (kind_of s f.timer) at f) (firings p call base fs)
 
-right_claim : (s : Script) (call base at t generation : ℕ) (p : Progress) (before : List Action) (end : RunRecord) → p.reading.stamp ≡ at → IsRun s call (call + 1) p → IsNext p base t generation → Tells p.told (on call) before → Extends call p.told end
-    → IsFirstDueClaim s end (on call) (reading_at end.clock at) base before (firing p base t generation) (timer_after s end t (length (lines_of_timer p.told t)))
+right_claim : (s : Script) (call base at t generation : ℕ) (p : Progress) (before : List Action) (end : RunRecord)
+    → p.reading.stamp ≡ at → IsRun s call (call + 1) p → IsNext p base t generation → Tells p.told (on call) before → Extends call p.told end
+    → IsFirstDueClaim s end (on call) (reading_at end.clock at) base before (firing p base t generation)
+    (timer_after s end t (length (lines_of_timer p.told t)))
 right_claim s call base at t generation p before end same run next told e =
     let there : t < length s.timers = subst (λ n. t < n) run.timers next.there in
     let right : IsFirstDueClaim s end (on call) p.reading base before (firing p base t generation) (timer_at p.timers t) = record {
       points = point_of_timer s call p end before run e told;
       next = refl;
       free = λ u. test_seen s p call end (runs_on base) u run e (never_runs base) (next.free u);
-      first = λ u. test_seen s p call end (is_ahead base p.reading (timer_at p.timers t).clock) u run e (never_ahead base p.reading (timer_at p.timers t).clock) (next.first u);
-      earliest = λ u. test_seen s p call end (is_smaller base (timer_at p.timers t).clock (timer_at p.timers t).expires) u run e (never_smaller base (timer_at p.timers t).clock (timer_at p.timers t).expires) (next.earliest u);
+      first = λ u. test_seen s p call end (is_ahead base p.reading (timer_at p.timers t).clock) u run e
+          (never_ahead base p.reading (timer_at p.timers t).clock) (next.first u);
+      earliest = λ u. test_seen s p call end (is_smaller base (timer_at p.timers t).clock (timer_at p.timers t).expires) u run e
+          (never_smaller base (timer_at p.timers t).clock (timer_at p.timers t).expires) (next.earliest u);
     } in
     subst (λ r. IsFirstDueClaim s end (on call) r base before (firing p base t generation) (timer_after s end t (length (lines_of_timer p.told t))))
     (sym (subst (λ n. reading_at end.clock n ≡ p.reading) same (reading_shown s p call end run e)))
     (subst (λ timer. IsFirstDueClaim s end (on call) p.reading base before (firing p base t generation) timer) (sym (run.states end e t there)) right)
 
-pub pass_made : (s : Script) (call base at : ℕ) (fs : List (ℕ × ℕ)) (p next : Progress) (before : List Action) → p.reading.stamp ≡ at → IsRun s call (call + 1) p → ((i : ℕ) → IsFresh call p i)
+pub pass_made : (s : Script) (call base at : ℕ) (fs : List (ℕ × ℕ)) (p next : Progress) (before : List Action)
+    → p.reading.stamp ≡ at → IsRun s call (call + 1) p → ((i : ℕ) → IsFresh call p i)
     → Claims (on call) base p fs next → Tells p.told (on call) before → PassMade s call base at p next fs before
 pass_made s call base at [] p next before same run fresh claims told =
     subst (λ (q : Progress). PassMade s call base at p q [] before) (sym claims) (record {
@@ -147,7 +167,7 @@ pass_made s call base at [] p next before same run fresh claims told =
       same_clock = refl;
       same_reading = refl;
       back = λ end e. e;
-      tells = subst (Tells p.told (on call)) (sym (append_nothing before)) told;
+      tells = subst (Tells p.told (on call)) (sym (append-nil before)) told;
       writes_none = refl;
       claims = λ end e. tt;
       looks = λ end e. tt;
@@ -162,7 +182,8 @@ pass_made s call base at (f ∷ fs) p next before same run fresh claims told =
     let mine = fires base at this in
     let more = flat_map (fires base at) (firings q call base fs) in
     let made = fire_made s call base at f.0 f.1 p same run claims.0 (fresh f.0) in
-    let rest = pass_made s call base at fs q next (before ++ mine) (ap (λ (r : ClockReading). r.stamp) made.same_reading ∙ same) made.run (λ i. made.fresh i (fresh i)) claims.1 (made.tells before told) in
+    let rest = pass_made s call base at fs q next (before ++ mine) (ap (λ (r : ClockReading). r.stamp) made.same_reading
+    ∙ same) made.run (λ i. made.fresh i (fresh i)) claims.1 (made.tells before told) in
     let back = λ (end : RunRecord) (e : Extends call next.told end). made.back end (rest.back end e) in
     record {
       run = rest.run;
@@ -174,7 +195,8 @@ pass_made s call base at (f ∷ fs) p next before same run fresh claims told =
       claims = λ end e. (right_claim s call base at f.0 f.1 p before end same run claims.0 told (back end e), rest.claims end e);
       looks = λ end e. made.looks end before more told (rest.back end e) (rest.looks end e);
       steps = λ u. (omega arith, NeverFall-append _ _ _ (numbers_on u mine) _ (made.steps u) (rest.steps u));
-      object_steps = λ i. subst (λ ns. NeverFall (length (lines_of_object p.told i)) ns (length (lines_of_object next.told i))) (sym (object_numbers_append i mine more))
+      object_steps = λ i. subst (λ ns. NeverFall (length (lines_of_object p.told i)) ns (length (lines_of_object next.told i)))
+          (sym (object_numbers_append i mine more))
           (NeverFall-append _ _ _ (numbers_of_object i mine) _ (made.object_steps i) (rest.object_steps i));
       timers = ap (λ ts. f.0 ∷ ts) rest.timers;
       bodies = (made.body, rest.bodies);

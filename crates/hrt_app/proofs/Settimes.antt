@@ -15,13 +15,15 @@ use Rattle.hrt_app.specs.ObjectTurns.{ArmsBy, Disarms, Sets, SettimeReplies, Set
 use Rattle.hrt_app.specs.Progress.{Progress}
 use Rattle.hrt_app.specs.Runs.{RunState, progress, with_object_line}
 
-sets_turn : (c : Label) (p : Progress) (t flags : ℕ) (value interval : TimeSpec) (reply : SettimeReply) (next : Progress) → Sets c p t flags value interval reply next → SettimeTurn c p t flags value interval (answer_of_settime reply) next
+sets_turn : (c : Label) (p : Progress) (t flags : ℕ) (value interval : TimeSpec) (reply : SettimeReply) (next : Progress)
+    → Sets c p t flags value interval reply next → SettimeTurn c p t flags value interval (answer_of_settime reply) next
 sets_turn c p t flags value interval (settings.Old left old) next sets = sets
 sets_turn c p t flags value interval settings.Canceled next sets = sets
 sets_turn c p t flags value interval (settings.Unarmed stamp) next sets = sets
 
 -- a settime's turn, by the states between its steps
-pub settime_turn : (r q w new : RunState) (c : Label) (t flags : ℕ) (value interval : TimeSpec) (o now : Object) (cancel : Option ℕ) (want : Option (Mode × ℕ)) (arm : Armed) (refused : ℕ) (reply : SettimeReply)
+pub settime_turn : (r q w new : RunState) (c : Label) (t flags : ℕ) (value interval : TimeSpec) (o now : Object)
+    (cancel : Option ℕ) (want : Option (Mode × ℕ)) (arm : Armed) (refused : ℕ) (reply : SettimeReply)
     → o ≡ object_at r.objects t → AreValidFor (kind_in o) flags value interval → entries_of o < limit_of o
     → Disarms c (progress r) t cancel (progress q) → q.objects ≡ r.objects
     → want ≡ settime_want o flags value interval → ArmsBy c (progress q) t (base_in o) want arm refused (progress w) → w.objects ≡ q.objects
@@ -45,5 +47,7 @@ settime_turn r q w new c t flags value interval o now cancel want arm refused re
           (subst (λ o'. ArmsBy c (progress q) t (base_in o) o' arm refused (progress w)) wants arms);
       replies = subst (λ y. SettimeReplies y flags value r.reading arm refused reply) is replies;
       goes_on = ap progress entered
-          ∙ ap (λ y. progress (with_object_line w c t y entry)) (steps ∙ ap (λ y. after_call y (settime_call y flags value interval r.reading arm refused)) is ∙ ap (λ os. after_call (object_at os t) call) (sym (two ∙ one)));
+          ∙ ap (λ y. progress (with_object_line w c t y entry)) (steps
+          ∙ ap (λ y. after_call y (settime_call y flags value interval r.reading arm refused)) is
+          ∙ ap (λ os. after_call (object_at os t) call) (sym (two ∙ one)));
     })

@@ -14,10 +14,12 @@ pub AreSteps-append : (t : Timer) (xs ys : List Entry) → AreSteps t xs → Are
 AreSteps-append t [] ys a b = b
 AreSteps-append t (x ∷ xs) ys a b = (a.0, a.1, AreSteps-append (after t x.event) xs ys a.2 b)
 
-pub history-append : (clock : List ClockLine) (k : ℕ) (xs ys : List TimerLine) → history_from clock k (xs ++ ys) ≡ history_from clock k xs ++ history_from clock (k + length xs) ys
+pub history-append : (clock : List ClockLine) (k : ℕ) (xs ys : List TimerLine)
+    → history_from clock k (xs ++ ys) ≡ history_from clock k xs ++ history_from clock (k + length xs) ys
 history-append clock k [] ys = ap (λ n. history_from clock n ys) (omega arith)
 history-append clock k (x ∷ xs) ys =
-    ap (λ es. entry_shown clock k x.entry ∷ es) (history-append clock (k + 1) xs ys ∙ ap (λ n. history_from clock (k + 1) xs ++ history_from clock n ys) (further k (length xs)))
+    ap (λ es. entry_shown clock k x.entry ∷ es) (history-append clock (k + 1) xs ys
+    ∙ ap (λ n. history_from clock (k + 1) xs ++ history_from clock n ys) (further k (length xs)))
   where
     further : (m n : ℕ) → m + 1 + n ≡ m + suc n
     further m n = omega arith

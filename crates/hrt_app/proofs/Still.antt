@@ -45,7 +45,8 @@ set_at (x ∷ ts) (suc t) now stops others zero = others zero (λ e. absurd (ome
 set_at (x ∷ ts) (suc t) now stops others (suc u) = set_at ts t now stops (λ v apart. others (suc v) (λ e. apart (omega (arith, e)))) u
 
 -- a step that leaves the function as it is
-step_still : (p : Progress) (c : Label) (t : ℕ) (x : Step) → ((timer : Timer) → (after timer x.event).running ≡ timer.running) → IsStill p → IsStill (with_step p c t x)
+step_still : (p : Progress) (c : Label) (t : ℕ) (x : Step) → ((timer : Timer) → (after timer x.event).running ≡ timer.running)
+    → IsStill p → IsStill (with_step p c t x)
 step_still p c t x keeps still = set_at p.timers t (after (timer_at p.timers t) x.event) (keeps (timer_at p.timers t) ∙ still t) (λ u apart. still u)
 
 trigger_timers : (p : Progress) (c : Label) (t generation : ℕ) (x : Option ObjectStep) → (with_trigger p c t generation x).timers ≡ p.timers
@@ -55,15 +56,19 @@ trigger_timers p c t generation (Some x) = refl
 fired_others : (p : Progress) (c : Label) (t : ℕ) (xs : List Step) → IsStill p → IsStillBut t (with_steps p c t xs).timers
 fired_others p c t xs still u apart = ap (λ (x : Timer). x.running) (steps_others p c t u xs apart) ∙ still u
 
-finish_still : (p q : Progress) (c : Label) (t : ℕ) (x : Step) → ((timer : Timer) → (after timer x.event).running ≡ None) → IsStillBut t q.timers → IsStill (with_step q c t x)
+finish_still : (p q : Progress) (c : Label) (t : ℕ) (x : Step) → ((timer : Timer) → (after timer x.event).running ≡ None)
+    → IsStillBut t q.timers → IsStill (with_step q c t x)
 finish_still p q c t x stops others = set_at q.timers t (after (timer_at q.timers t) x.event) (stops (timer_at q.timers t)) others
 
-raw_still : (p : Progress) (c : Label) (t : ℕ) (claim finish : Step) (step : Option Step) → ((timer : Timer) → (after timer finish.event).running ≡ None) → IsStill p → IsStill (with_steps p c t (claim ∷ act_then step (finish ∷ [])))
+raw_still : (p : Progress) (c : Label) (t : ℕ) (claim finish : Step) (step : Option Step)
+    → ((timer : Timer) → (after timer finish.event).running ≡ None) → IsStill p → IsStill (with_steps p c t (claim ∷ act_then step (finish ∷ [])))
 raw_still p c t claim finish None stops still = finish_still p (with_step p c t claim) c t finish stops (fired_others p c t (claim ∷ []) still)
-raw_still p c t claim finish (Some x) stops still = finish_still p (with_step (with_step p c t claim) c t x) c t finish stops (fired_others p c t (claim ∷ x ∷ []) still)
+raw_still p c t claim finish (Some x) stops still =
+    finish_still p (with_step (with_step p c t claim) c t x) c t finish stops (fired_others p c t (claim ∷ x ∷ []) still)
 
 object_still : (p : Progress) (c : Label) (base t generation : ℕ) (x : Option ObjectStep) → IsStill p
-    → IsStill (with_step (with_trigger (with_step p c t (claim_step base p.reading generation None)) c t generation x) c t (finish_step (running_timer p base t) generation false))
+    → IsStill (with_step (with_trigger (with_step p c t (claim_step base p.reading generation None)) c t generation x) c t
+    (finish_step (running_timer p base t) generation false))
 object_still p c base t generation x still =
     let one = with_step p c t (claim_step base p.reading generation None) in
     finish_still p (with_trigger one c t generation x) c t (finish_step (running_timer p base t) generation false) (λ timer. refl)
@@ -72,41 +77,55 @@ object_still p c base t generation x still =
 fired_still : (o : Object) (p : Progress) (c : Label) (base t generation : ℕ) → IsStill p → IsStill (fired_by o p c base t generation)
 fired_still (Raw callback) p c base t generation still =
     let act = act_at callback p base t in
-    raw_still p c t (claim_step base p.reading generation act.look) (finish_step (after_act (running_timer p base t) act.step) generation act.again) act.step (λ timer. refl) still
+    raw_still p c t (claim_step base p.reading generation act.look)
+    (finish_step (after_act (running_timer p base t) act.step) generation act.again) act.step (λ timer. refl) still
 fired_still (Posix x) p c base t generation still = object_still p c base t generation (trigger_step (Posix x) generation p.reading) still
 fired_still (Fd x) p c base t generation still = object_still p c base t generation (trigger_step (Fd x) generation p.reading) still
 
 claims_still : (c : Label) (base : ℕ) (p next : Progress) (fs : List (ℕ × ℕ)) → Claims c base p fs next → IsStill p → IsStill next
 claims_still c base p next [] claims still = subst IsStill (sym claims) still
-claims_still c base p next (f ∷ fs) claims still = claims_still c base (fired p c base f.0 f.1) next fs claims.1 (fired_still (object_at p.objects f.0) p c base f.0 f.1 still)
+claims_still c base p next (f ∷ fs) claims still =
+    claims_still c base (fired p c base f.0 f.1) next fs claims.1 (fired_still (object_at p.objects f.0) p c base f.0 f.1 still)
 
-here_still : (p : Progress) (c : Label) (t : ℕ) (mode : Mode) (ns asked generation on : ℕ) (was : Bool) (next : Progress) → StartsHere p c t mode ns asked generation on was next → IsStill p → IsStill next
-here_still p c t mode ns asked generation on was next starts still = subst IsStill (sym starts.goes_on) (step_still p c t (plain (events.Start mode ns p.reading asked) (start_line (timer_at p.timers t) p.reading mode ns asked)) (λ timer. refl) still)
+here_still : (p : Progress) (c : Label) (t : ℕ) (mode : Mode) (ns asked generation on : ℕ) (was : Bool) (next : Progress)
+    → StartsHere p c t mode ns asked generation on was next → IsStill p → IsStill next
+here_still p c t mode ns asked generation on was next starts still =
+    subst IsStill (sym starts.goes_on) (step_still p c t
+    (plain (events.Start mode ns p.reading asked) (start_line (timer_at p.timers t) p.reading mode ns asked)) (λ timer. refl) still)
 
-there_still : (p : Progress) (c : Label) (t : ℕ) (mode : Mode) (ns asked generation on : ℕ) (was : Bool) (next : Progress) → StartsThere p c t mode ns asked generation on was next → IsStill p → IsStill next
+there_still : (p : Progress) (c : Label) (t : ℕ) (mode : Mode) (ns asked generation on : ℕ) (was : Bool) (next : Progress)
+    → StartsThere p c t mode ns asked generation on was next → IsStill p → IsStill next
 there_still p c t mode ns asked generation on was next starts still =
     let q = move_out p c t asked in
-    subst IsStill (sym starts.goes_on) (step_still q c t (plain (events.Start mode ns p.reading asked) (start_line (timer_at q.timers t) p.reading mode ns asked)) (λ timer. refl)
+    subst IsStill (sym starts.goes_on) (step_still q c t
+    (plain (events.Start mode ns p.reading asked) (start_line (timer_at q.timers t) p.reading mode ns asked)) (λ timer. refl)
     (step_still p c t (plain (events.Out asked) (entries.Out asked (is_some (timer_at p.timers t).armed))) (λ timer. refl) still))
 
-arms_still : (c : Label) (p : Progress) (t base : ℕ) (want : Option (Mode × ℕ)) (arm : Armed) (refused : ℕ) (next : Progress) → ArmsBy c p t base want arm refused next → IsStill p → IsStill next
+arms_still : (c : Label) (p : Progress) (t base : ℕ) (want : Option (Mode × ℕ)) (arm : Armed) (refused : ℕ) (next : Progress)
+    → ArmsBy c p t base want arm refused next → IsStill p → IsStill next
 arms_still c p t base None armings.None refused next arms still = subst IsStill (sym arms) still
 arms_still c p t base (Some w) (armings.Generation generation) refused next arms still =
-    ⊎_elim (λ here. here_still p c t w.0 w.1 base generation arms.0 arms.1 next here still) (λ there. there_still p c t w.0 w.1 base generation arms.0 arms.1 next there still) arms.2
+    ⊎_elim (λ here. here_still p c t w.0 w.1 base generation arms.0 arms.1 next here still)
+    (λ there. there_still p c t w.0 w.1 base generation arms.0 arms.1 next there still) arms.2
 arms_still c p t base (Some w) armings.Unarmed refused next arms still = subst IsStill (sym arms.3) still
 arms_still c p t base want arm refused next arms still = absurd arms
 
 disarms_still : (c : Label) (p : Progress) (t : ℕ) (cancel : Option ℕ) (next : Progress) → Disarms c p t cancel next → IsStill p → IsStill next
-disarms_still c p t (Some generation) next disarms still = subst IsStill (sym disarms.2) (step_still p c t (plain events.Cancel (entries.Cancel generation)) (λ timer. refl) still)
+disarms_still c p t (Some generation) next disarms still =
+    subst IsStill (sym disarms.2) (step_still p c t (plain events.Cancel (entries.Cancel generation)) (λ timer. refl) still)
 disarms_still c p t None next disarms still = subst IsStill (sym disarms.1) still
 
-sets_still : (c : Label) (p : Progress) (t flags : ℕ) (value interval : TimeSpec) (reply : SettimeReply) (next : Progress) → Sets c p t flags value interval reply next → IsStill p → IsStill next
+sets_still : (c : Label) (p : Progress) (t flags : ℕ) (value interval : TimeSpec) (reply : SettimeReply) (next : Progress)
+    → Sets c p t flags value interval reply next → IsStill p → IsStill next
 sets_still c p t flags value interval reply next sets still =
-    subst IsStill (sym sets.goes_on) (arms_still c sets.disarmed t _ _ sets.arm sets.refused sets.armed sets.arms (disarms_still c p t sets.cancel sets.disarmed sets.disarms still))
+    subst IsStill (sym sets.goes_on) (arms_still c sets.disarmed t _ _ sets.arm sets.refused sets.armed sets.arms
+    (disarms_still c p t sets.cancel sets.disarmed sets.disarms still))
 
-renewal_still : (c : Label) (p : Progress) (t : ℕ) (call : Renewal) (answer : Answer) (next : Progress) → RenewalTurn c p t call answer next → IsStill p → IsStill next
+renewal_still : (c : Label) (p : Progress) (t : ℕ) (call : Renewal) (answer : Answer) (next : Progress)
+    → RenewalTurn c p t call answer next → IsStill p → IsStill next
 renewal_still c p t call answer next turn still =
-    ⊎_elim (λ full. subst IsStill (sym full.goes_on) still) (λ renews. subst IsStill (sym renews.goes_on) (arms_still c p t _ _ renews.arm renews.refused renews.armed renews.arms still)) turn
+    ⊎_elim (λ full. subst IsStill (sym full.goes_on) still)
+    (λ renews. subst IsStill (sym renews.goes_on) (arms_still c p t _ _ renews.arm renews.refused renews.armed renews.arms still)) turn
 
 gettime_still : (o : Object) (c : Label) (p : Progress) (t : ℕ) (answer : Answer) (next : Progress) → GettimeTurn c p t o answer next → IsStill p → IsStill next
 gettime_still (Posix x) c p t (answers.LeftAt left interval shown stamp) next turn still = subst IsStill (sym turn.3) still
@@ -116,15 +135,18 @@ gettime_still o c p t answer next turn still = absurd turn
 -- a call leaves no timer's function running
 turn_still : (c : Label) (p next : Progress) (call : Call) (answer : Answer) → Turns c p call answer next → IsStill p → IsStill next
 turn_still c p next (calls.Start t mode ns base) (answers.Started generation on was) turns still =
-    ⊎_elim (λ here. here_still p c t mode ns base generation on was next here still) (λ there. there_still p c t mode ns base generation on was next there still) turns
+    ⊎_elim (λ here. here_still p c t mode ns base generation on was next here still)
+    (λ there. there_still p c t mode ns base generation on was next there still) turns
 turn_still c p next (calls.Start t mode ns base) (answers.Spent stamp) turns still = subst IsStill (sym turns.3) still
-turn_still c p next (calls.Cancel t) (answers.Cancelled generation) turns still = subst IsStill (sym turns.2) (step_still p c t (plain events.Cancel (entries.Cancel generation)) (λ timer. refl) still)
+turn_still c p next (calls.Cancel t) (answers.Cancelled generation) turns still =
+    subst IsStill (sym turns.2) (step_still p c t (plain events.Cancel (entries.Cancel generation)) (λ timer. refl) still)
 turn_still c p next (calls.Cancel t) (answers.Running generation stamp) turns still = subst IsStill (sym turns.2) still
 turn_still c p next (calls.Cancel t) (answers.Idle stamp) turns still = subst IsStill (sym turns.2) still
 turn_still c p next (calls.Peek t) (answers.Peek stamp base enqueued running moving) turns still = subst IsStill (sym turns.5) still
 turn_still c p next (calls.Expire base budget) (answers.Done shown timers) turns still = claims_still c base p next turns.0.fired turns.0.claims still
 turn_still c p next (calls.Expire base budget) (answers.More shown timers) turns still = claims_still c base p next turns.0.fired turns.0.claims still
-turn_still c p next (calls.Expire base budget) (answers.Busy shown timers t generation) turns still = claims_still c base p next turns.0.fired turns.0.claims still
+turn_still c p next (calls.Expire base budget) (answers.Busy shown timers t generation) turns still =
+    claims_still c base p next turns.0.fired turns.0.claims still
 turn_still c p next (calls.Clock write) (answers.Clock stamp) turns still = subst IsStill (sym turns.2) still
 turn_still c p next (calls.Clock write) (answers.Range would_be) turns still = subst IsStill (sym turns.3) still
 turn_still c p next (calls.Settime t flags value interval) answers.Invalid turns still = subst IsStill (sym turns.1) still
@@ -135,7 +157,8 @@ turn_still c p next (calls.Settime t flags value interval) (answers.Unarmed stam
 turn_still c p next (calls.Gettime t) answer turns still = gettime_still (object_at p.objects t) c p t answer next turns still
 turn_still c p next (calls.Accept t) answer turns still = renewal_still c p t renewals.Accept answer next turns still
 turn_still c p next (calls.Overrun t) answer turns still = subst IsStill (sym turns.1) still
-turn_still c p next (calls.Read t len) answer turns still = ⊎_elim (λ short. subst IsStill (sym short.2) still) (λ long. renewal_still c p t renewals.Read answer next long.1 still) turns
+turn_still c p next (calls.Read t len) answer turns still =
+    ⊎_elim (λ short. subst IsStill (sym short.2) still) (λ long. renewal_still c p t renewals.Read answer next long.1 still) turns
 turn_still c p next (calls.Readable t) answer turns still = subst IsStill (sym turns.1) still
 turn_still c p next call answer turns still = absurd turns
 

@@ -18,7 +18,8 @@ Adds-trans (Some x) (Some y) None xs ys p q = tt
 Adds-trans (Some x) (Some y) (Some z) xs ys p q = q ∙ ap (λ l. l ++ ys) p ∙ append_assoc x xs ys
 
 -- the first n bytes of a text, and then the first m of the rest, are its first n + m
-pub Adds-more : (a b c : Option (List ℕ)) (text : List ℕ) (n m : ℕ) → Adds a b (take n text) → Adds b c (take m (take (length text - n) (drop n text))) → Adds a c (take (n + m) text)
+pub Adds-more : (a b c : Option (List ℕ)) (text : List ℕ) (n m : ℕ) → Adds a b (take n text)
+    → Adds b c (take m (take (length text - n) (drop n text))) → Adds a c (take (n + m) text)
 Adds-more a b c text n m p q =
     let rest = subst (λ l. Adds b c (take m l)) (take_rest text n) q in
     subst (Adds a c) (sym (take-add n m text)) (Adds-trans a b c _ _ p rest)

@@ -5,8 +5,8 @@ use Rattle.std.proofs.lemmas.List.{map-append, length-append}
 use Rattle.std.specs.List.{AllByRecursion}
 use Rattle.ktime.specs.Readings.{ClockReading}
 use Rattle.clock_model.specs.declared.write.Write.{Write}
-use Rattle.clock_model.specs.declared.write.Write.TheVariants as writes
 use Rattle.clock_model.specs.Clocks.{at_stamp, after_write, clock_after, IsAccepted}
+use Rattle.clock_model.proofs.Writes.{after_write_counts, clock_after-append}
 use Rattle.script_text.specs.declared.script.Script.{Script}
 use Rattle.record_text.specs.declared.record.Label.{Label}
 use Rattle.record_text.specs.declared.record.ClockLine.{ClockLine}
@@ -15,7 +15,7 @@ use Rattle.record_text.specs.declared.record.RunRecord.{RunRecord}
 use Rattle.script_text.specs.Order.{IsInOrder}
 use Rattle.script_text.specs.Histories.{AreWrites, reading_at, lines_of_timer}
 use Rattle.hrt_app.specs.Progress.{Progress, with_write, clock_line}
-use Rattle.hrt_app.proofs.Lists.{All-append}
+use Rattle.script_text.proofs.Lists.{All-append}
 use Rattle.hrt_app.proofs.Labels.{in_order_push}
 use Rattle.script_text.specs.Objects.{lines_of_object}
 use Rattle.hrt_app.specs.Objects.{object_at}
@@ -32,24 +32,18 @@ Extends-self s from below p run = record {
   objects = λ i. Grows-self from (lines_of_object p.told i);
 }
 
-pub clock_after-append : (r : ClockReading) (xs ys : List Write) → clock_after r (xs ++ ys) ≡ clock_after (clock_after r xs) ys
-clock_after-append r [] ys = refl
-clock_after-append r (x ∷ xs) ys = clock_after-append (after_write r x) xs ys
-
-pub after_write_counts : (r : ClockReading) (w : Write) → (after_write r w).stamp ≡ r.stamp + 1
-after_write_counts r (writes.Advance by) = refl
-after_write_counts r (writes.Set to) = refl
-after_write_counts r (writes.Suspend by) = refl
-
-pub AreWrites-push : (r : ClockReading) (lines : List ClockLine) (c : Label) (w : Write) → AreWrites r lines → IsAccepted (clock_after r (map (λ (l : ClockLine). l.write) lines)) w
+pub AreWrites-push : (r : ClockReading) (lines : List ClockLine) (c : Label) (w : Write) → AreWrites r lines
+    → IsAccepted (clock_after r (map (λ (l : ClockLine). l.write) lines)) w
     → AreWrites r (lines ++ clock_line c w (after_write (clock_after r (map (λ (l : ClockLine). l.write) lines)) w) ∷ [])
 AreWrites-push r [] c w all accepted = (accepted, record { mono = refl; real = refl; boot = refl; changes = refl }, tt)
 AreWrites-push r (l ∷ ls) c w all accepted = (all.0, all.1, AreWrites-push (after_write r l.write) ls c w all.2 accepted)
 
 -- the reading after all of the writes so far
-pub reading_of_all : (s : Script) (from below : ℕ) (p : Progress) → IsRun s from below p → clock_after (at_stamp 0) (map (λ (l : ClockLine). l.write) p.told.clock) ≡ p.reading
+pub reading_of_all : (s : Script) (from below : ℕ) (p : Progress) → IsRun s from below p
+    → clock_after (at_stamp 0) (map (λ (l : ClockLine). l.write) p.told.clock) ≡ p.reading
 reading_of_all s from below p run =
-    ap (λ ls. clock_after (at_stamp 0) (map (λ (l : ClockLine). l.write) ls)) (sym (take-length p.told.clock)) ∙ run.reading_now p.told.clock (Continues-self (λ (l : ClockLine). l.label) from p.told.clock)
+    ap (λ ls. clock_after (at_stamp 0) (map (λ (l : ClockLine). l.write) ls)) (sym (take-length p.told.clock))
+    ∙ run.reading_now p.told.clock (Continues-self (λ (l : ClockLine). l.label) from p.told.clock)
 
 pub before_write : (p : Progress) (call : ℕ) (w : Write) (end : RunRecord) → Extends call (with_write p (on call) w).told end → Extends call p.told end
 before_write p call w end e = record {
@@ -59,7 +53,8 @@ before_write p call w end e = record {
   objects = e.objects;
 }
 
-pub push_write : (s : Script) (p : Progress) (call : ℕ) (w : Write) → IsRun s call (call + 1) p → IsAccepted p.reading w → IsRun s call (call + 1) (with_write p (on call) w)
+pub push_write : (s : Script) (p : Progress) (call : ℕ) (w : Write) → IsRun s call (call + 1) p → IsAccepted p.reading w
+    → IsRun s call (call + 1) (with_write p (on call) w)
 push_write s p call w run accepted =
     let line = clock_line (on call) w (after_write p.reading w) in
     let all = reading_of_all s call (call + 1) p run in
@@ -71,9 +66,12 @@ push_write s p call w run accepted =
       object_lists = run.object_lists;
       objects = λ i. from_fewer s call call (call + 1) i p.told.clock (p.told.clock ++ line ∷ []) (lines_of_object p.told i) (object_at p.objects i)
           (λ clock c. before_line (λ (l : ClockLine). l.label) call p.told.clock clock line (refl, omega arith) c) (run.objects i);
-      clock_below = subst (AllByRecursion (IsBelow (call + 1))) (sym (map-append (λ (l : ClockLine). l.label) p.told.clock (line ∷ []))) (All-append (IsBelow (call + 1)) _ _ run.clock_below ((refl, omega arith), tt));
+      clock_below = subst (AllByRecursion (IsBelow (call + 1)))
+          (sym (map-append (λ (l : ClockLine). l.label) p.told.clock (line ∷ [])))
+          (All-append (IsBelow (call + 1)) _ _ run.clock_below ((refl, omega arith), tt));
       timers_below = run.timers_below;
-      clock_order = subst (IsInOrder s) (sym (map-append (λ (l : ClockLine). l.label) p.told.clock (line ∷ []))) (in_order_push s (on call) _ (up_to call _ run.clock_below) run.clock_order);
+      clock_order = subst (IsInOrder s) (sym (map-append (λ (l : ClockLine). l.label) p.told.clock (line ∷ [])))
+          (in_order_push s (on call) _ (up_to call _ run.clock_below) run.clock_order);
       timer_order = run.timer_order;
       looks = run.looks;
       writes = subst (λ r. AreWrites (at_stamp 0) (p.told.clock ++ clock_line (on call) w (after_write r w) ∷ [])) all

@@ -40,7 +40,8 @@ refused look = record { look = Some look; step = None; again = true }
 
 -- the line of a start of this timer
 abbrev pub start_line : Timer → ClockReading → Mode → ℕ → ℕ → Entry
-start_line t reading mode ns asked = let now = started t mode ns reading in entries.Start mode ns reading.stamp asked now.base now.clock now.expires (is_some t.armed)
+start_line t reading mode ns asked = let now = started t mode ns reading in
+    entries.Start mode ns reading.stamp asked now.base now.clock now.expires (is_some t.armed)
 
 -- the line of a forward of this timer
 abbrev pub forward_line : Timer → ClockReading → ℕ → Entry

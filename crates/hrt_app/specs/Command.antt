@@ -26,7 +26,7 @@ abbrev pub unread_status : ErrorKind → Status
 unread_status kinds.OutOfMemory = statuses.OutOfMemory
 unread_status kind = statuses.Usage
 
--- the words are the process's arguments, and where they can't be read, or not kept for want of memory, there is a status
+-- the words are the process's arguments; where they can't be read, or there is no memory to keep them, there is a status
 abbrev pub AreWords : Result (IntoIter (String Global) Global) Error → Result (Vec (String Global) Global) Status → Type 0
 AreWords (Ok args) (Ok words) = words.items ≡ into_iter_items args
 AreWords (Ok args) (Err status) = status ≡ statuses.OutOfMemory

@@ -58,20 +58,23 @@ pub record StartsThere (p : Progress) (c : Label) (timer : ℕ) (mode : Mode) (n
 abbrev pub Starts : Label → Progress → ℕ → Mode → ℕ → ℕ → Answer → Progress → Type 0
 Starts c p timer mode ns base (answers.Started generation on was_armed) next =
     StartsHere p c timer mode ns base generation on was_armed next ⊎ StartsThere p c timer mode ns base generation on was_armed next
-Starts c p timer mode ns base (answers.Spent stamp) next = ((timer_at p.timers timer).limit ≤ stamp) × (stamp ≡ (timer_at p.timers timer).stamp) × ((timer_at p.timers timer).moving ≡ false) × (next ≡ p)
+Starts c p timer mode ns base (answers.Spent stamp) next = ((timer_at p.timers timer).limit ≤ stamp)
+    × (stamp ≡ (timer_at p.timers timer).stamp) × ((timer_at p.timers timer).moving ≡ false) × (next ≡ p)
 Starts c p timer mode ns base answer next = ⊥
 
 -- the start that an object wanted, as its entry tells it: none where none was wanted, and none where the timer's history was full
 abbrev pub ArmsBy : Label → Progress → ℕ → ℕ → Option (Mode × ℕ) → Armed → ℕ → Progress → Type 0
 ArmsBy c p timer base None armings.None refused next = next ≡ p
-ArmsBy c p timer base (Some w) (armings.Generation generation) refused next = (on : ℕ) × (was_armed : Bool) × Starts c p timer w.0 w.1 base (answers.Started generation on was_armed) next
+ArmsBy c p timer base (Some w) (armings.Generation generation) refused next = (on : ℕ) × (was_armed : Bool)
+    × Starts c p timer w.0 w.1 base (answers.Started generation on was_armed) next
 ArmsBy c p timer base (Some w) armings.Unarmed refused next = Starts c p timer w.0 w.1 base (answers.Spent refused) next
 ArmsBy c p timer base want arm refused next = ⊥
 
 -- a timer is disarmed: the generation that was armed is cancelled, or it was idle
 abbrev pub Disarms : Label → Progress → ℕ → Option ℕ → Progress → Type 0
 Disarms c p timer (Some generation) next =
-    ((timer_at p.timers timer).armed ≡ Some generation) × Needs (timer_at p.timers timer) events.Cancel × (next ≡ with_entry p c timer events.Cancel (entries.Cancel generation))
+    ((timer_at p.timers timer).armed ≡ Some generation) × Needs (timer_at p.timers timer) events.Cancel
+    × (next ≡ with_entry p c timer events.Cancel (entries.Cancel generation))
 Disarms c p timer None next = IsIdle (timer_at p.timers timer) × (next ≡ p)
 
 -- the start that a settime wants: how its time is given, and the time
@@ -82,15 +85,20 @@ settime_want (Fd t) flags value interval = option_map (λ w. (w.mode, w.ns)) (fd
 
 -- a settime, as a call on this object that was told of its start
 abbrev pub settime_call : Object → ℕ → TimeSpec → TimeSpec → ClockReading → Armed → ℕ → ObjectCall
-settime_call (Raw callback) flags value interval reading arm refused = OfPosix (posix_calls.Settime flags (nanoseconds_of value) (nanoseconds_of interval) reading (posix_lines.posix_arm arm refused))
-settime_call (Posix t) flags value interval reading arm refused = OfPosix (posix_calls.Settime flags (nanoseconds_of value) (nanoseconds_of interval) reading (posix_lines.posix_arm arm refused))
-settime_call (Fd t) flags value interval reading arm refused = OfFd (fd_calls.Settime flags (nanoseconds_of value) (nanoseconds_of interval) reading (fd_lines.fd_arm arm refused))
+settime_call (Raw callback) flags value interval reading arm refused =
+    OfPosix (posix_calls.Settime flags (nanoseconds_of value) (nanoseconds_of interval) reading (posix_lines.posix_arm arm refused))
+settime_call (Posix t) flags value interval reading arm refused =
+    OfPosix (posix_calls.Settime flags (nanoseconds_of value) (nanoseconds_of interval) reading (posix_lines.posix_arm arm refused))
+settime_call (Fd t) flags value interval reading arm refused =
+    OfFd (fd_calls.Settime flags (nanoseconds_of value) (nanoseconds_of interval) reading (fd_lines.fd_arm arm refused))
 
 -- a settime's reply is the one of the object's step
 abbrev pub SettimeReplies : Object → ℕ → TimeSpec → ClockReading → Armed → ℕ → SettimeReply → Type 0
 SettimeReplies (Raw callback) flags value reading arm refused reply = ⊥
-SettimeReplies (Posix t) flags value reading arm refused reply = posix_lines.posix_set_answer reply ≡ Some (posix.posix_settime_answer t reading (posix_lines.posix_arm arm refused))
-SettimeReplies (Fd t) flags value reading arm refused reply = fd_lines.fd_set_answer reply ≡ fd.fd_settime_answer t flags (nanoseconds_of value) reading (fd_lines.fd_arm arm refused)
+SettimeReplies (Posix t) flags value reading arm refused reply =
+    posix_lines.posix_set_answer reply ≡ Some (posix.posix_settime_answer t reading (posix_lines.posix_arm arm refused))
+SettimeReplies (Fd t) flags value reading arm refused reply =
+    fd_lines.fd_set_answer reply ≡ fd.fd_settime_answer t flags (nanoseconds_of value) reading (fd_lines.fd_arm arm refused)
 
 -- an object is told of no start exactly where it wants none
 abbrev pub IsToldOf : Armed → Option (Mode × ℕ) → Type 0
@@ -121,7 +129,8 @@ pub record Sets (c : Label) (p : Progress) (timer flags : ℕ) (value interval :
 abbrev pub SettimeTurn : Label → Progress → ℕ → ℕ → TimeSpec → TimeSpec → Answer → Progress → Type 0
 SettimeTurn c p timer flags value interval answers.Invalid next = (AreValidFor (kind_in (object_at p.objects timer)) flags value interval → ⊥) × (next ≡ p)
 SettimeTurn c p timer flags value interval (answers.Spent stamp) next =
-    AreValidFor (kind_in (object_at p.objects timer)) flags value interval × (limit_of (object_at p.objects timer) ≤ stamp) × (stamp ≡ entries_of (object_at p.objects timer)) × (next ≡ p)
+    AreValidFor (kind_in (object_at p.objects timer)) flags value interval × (limit_of (object_at p.objects timer) ≤ stamp)
+    × (stamp ≡ entries_of (object_at p.objects timer)) × (next ≡ p)
 SettimeTurn c p timer flags value interval (answers.Old left old) next = Sets c p timer flags value interval (settings.Old left old) next
 SettimeTurn c p timer flags value interval answers.Canceled next = Sets c p timer flags value interval settings.Canceled next
 SettimeTurn c p timer flags value interval (answers.Unarmed stamp) next = Sets c p timer flags value interval (settings.Unarmed stamp) next

@@ -102,4 +102,8 @@ trigger_counts (Fd t) generation reading = if nat_lt t.stamp t.limit then Some (
 -- the entry of an expiry, where there is one
 abbrev pub trigger_step : Object → ℕ → ClockReading → Option ObjectStep
 trigger_step o generation reading =
-    option_map (λ counted. record { call = trigger_call o generation reading; entry = entries.Trigger generation reading.stamp counted }) (trigger_counts o generation reading)
+    option_map (λ counted. record {
+      call = trigger_call o generation reading;
+      entry =
+          entries.Trigger generation reading.stamp counted;
+    }) (trigger_counts o generation reading)

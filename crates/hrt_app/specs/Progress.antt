@@ -121,5 +121,11 @@ with_write p c write = record {
   timers = p.timers;
   objects = p.objects;
   reading = after_write p.reading write;
-  told = record { clock = p.told.clock ++ clock_line c write (after_write p.reading write) ∷ []; timers = p.told.timers; objects = p.told.objects; answers = p.told.answers };
+  told = record {
+    clock = p.told.clock ++ clock_line c write (after_write p.reading write) ∷ [];
+    timers = p.told.timers;
+    objects =
+        p.told.objects;
+    answers = p.told.answers;
+  };
 }

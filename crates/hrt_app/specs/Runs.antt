@@ -38,7 +38,13 @@ pub record RunState : Type 0 where
 
 -- the run between two of its steps
 abbrev pub progress : RunState → Progress
-progress r = record { timers = r.core.timers; objects = r.objects; reading = r.reading; told = record { clock = r.clock; timers = r.lines; objects = r.object_lines; answers = [] } }
+progress r = record {
+  timers = r.core.timers;
+  objects = r.objects;
+  reading = r.reading;
+  told =
+      record { clock = r.clock; timers = r.lines; objects = r.object_lines; answers = [] };
+}
 
 -- one more line of a timer, with what a callback was told after it
 abbrev pub with_look : RunState → Label → ℕ → Entry → Option CallbackReply → RunState
@@ -55,11 +61,18 @@ with_some r c timer (Some entry) = with_line r c timer entry
 
 -- one more line of an object, which is left so
 abbrev pub with_object_line : RunState → Label → ℕ → Object → ObjectEntry → RunState
-with_object_line r c timer now entry = record r { objects = set r.objects timer now; object_lines = set r.object_lines timer (get_or r.object_lines timer [] ++ object_line c entry ∷ []) }
+with_object_line r c timer now entry = record r {
+  objects = set r.objects timer now;
+  object_lines =
+      set r.object_lines timer (get_or r.object_lines timer [] ++ object_line c entry ∷ []);
+}
 
 -- an expiry that an object refused, under the last of its lines
 abbrev pub with_skip_line : RunState → Label → ℕ → ℕ → RunState
-with_skip_line r c timer generation = record r { object_lines = set r.object_lines timer (under_last (get_or r.object_lines timer []) (record { label = c; generation = generation })) }
+with_skip_line r c timer generation = record r {
+  object_lines =
+      set r.object_lines timer (under_last (get_or r.object_lines timer []) (record { label = c; generation = generation }));
+}
 
 -- an expiry of an object's timer: one more line of the object, or it was refused
 abbrev pub with_trigger_line : RunState → Label → ℕ → ℕ → Option ObjectStep → RunState

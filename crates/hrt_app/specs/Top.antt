@@ -23,7 +23,7 @@ IsAskedFor asked statuses.OutOfMemory = ⊤
 pub record HasRecorded (left left_now taken taken_now : Option (List ℕ)) : Type 0 where
   pub bytes : List ℕ
   pub text : List ℕ
-  pub all : IfSome left (λ told. bytes ≡ told)
+  pub all : IfSome left (λ given. bytes ≡ given)
   pub end : IsAtEnd left_now
   pub fits : IsRecordText bytes text
   pub written : Adds taken taken_now text

@@ -67,7 +67,8 @@ fired_by (Raw callback) p c base timer generation =
     with_steps p c timer (act_steps running p.reading base generation (act_of callback running p.reading))
 fired_by o p c base timer generation =
     let running = after (timer_at p.timers timer) (events.Claim base p.reading) in
-    with_step (with_trigger (with_step p c timer (claim_step base p.reading generation None)) c timer generation (trigger_step o generation p.reading)) c timer (finish_step running generation false)
+    with_step (with_trigger (with_step p c timer (claim_step base p.reading generation None)) c timer generation
+    (trigger_step o generation p.reading)) c timer (finish_step running generation false)
 
 -- the same, of the timer of this number
 abbrev pub fired : Progress → Label → ℕ → ℕ → ℕ → Progress
@@ -135,17 +136,21 @@ Suits kind call = Unit
 abbrev pub Turns : Label → Progress → Call → Answer → Progress → Type 0
 Turns c p (calls.Start timer mode ns base) answer next = Starts c p timer mode ns base answer next
 Turns c p (calls.Cancel timer) (answers.Cancelled generation) next =
-    ((timer_at p.timers timer).armed ≡ Some generation) × Needs (timer_at p.timers timer) events.Cancel × (next ≡ with_entry p c timer events.Cancel (entries.Cancel generation))
-Turns c p (calls.Cancel timer) (answers.Running generation stamp) next = ((timer_at p.timers timer).running ≡ Some generation) × (stamp ≡ (timer_at p.timers timer).stamp) × (next ≡ p)
+    ((timer_at p.timers timer).armed ≡ Some generation) × Needs (timer_at p.timers timer) events.Cancel
+    × (next ≡ with_entry p c timer events.Cancel (entries.Cancel generation))
+Turns c p (calls.Cancel timer) (answers.Running generation stamp) next = ((timer_at p.timers timer).running ≡ Some generation)
+    × (stamp ≡ (timer_at p.timers timer).stamp) × (next ≡ p)
 Turns c p (calls.Cancel timer) (answers.Idle stamp) next = IsIdle (timer_at p.timers timer) × (stamp ≡ (timer_at p.timers timer).stamp) × (next ≡ p)
 Turns c p (calls.Peek timer) (answers.Peek stamp base enqueued running moving) next =
     (stamp ≡ (timer_at p.timers timer).stamp) × (base ≡ (timer_at p.timers timer).base) × (enqueued ≡ is_some (timer_at p.timers timer).armed)
     × (running ≡ is_some (timer_at p.timers timer).running) × (moving ≡ (timer_at p.timers timer).moving) × (next ≡ p)
 Turns c p (calls.Expire base budget) (answers.Done shown timers) next = Passes c base p timers shown next × (length timers < budget) × IsDrained next base
 Turns c p (calls.Expire base budget) (answers.More shown timers) next = Passes c base p timers shown next × (length timers ≡ budget)
-Turns c p (calls.Expire base budget) (answers.Busy shown timers timer generation) next = Passes c base p timers shown next × (length timers < budget) × IsTaken next base timer generation
+Turns c p (calls.Expire base budget) (answers.Busy shown timers timer generation) next = Passes c base p timers shown next
+    × (length timers < budget) × IsTaken next base timer generation
 Turns c p (calls.Clock write) (answers.Clock stamp) next = IsAccepted p.reading write × (stamp ≡ p.reading.stamp + 1) × (next ≡ with_write p c write)
-Turns c p (calls.Clock write) (answers.Range would_be) next = (p.reading.stamp < last_stamp) × (latest < would_be) × (would_be ≡ greatest (after_write p.reading write)) × (next ≡ p)
+Turns c p (calls.Clock write) (answers.Range would_be) next = (p.reading.stamp < last_stamp) × (latest < would_be)
+    × (would_be ≡ greatest (after_write p.reading write)) × (next ≡ p)
 Turns c p (calls.Settime timer flags value interval) answer next = SettimeTurn c p timer flags value interval answer next
 Turns c p (calls.Gettime timer) answer next = GettimeTurn c p timer (object_at p.objects timer) answer next
 Turns c p (calls.Accept timer) answer next = RenewalTurn c p timer renewals.Accept answer next
@@ -157,7 +162,8 @@ Turns c p call answer next = ⊥
 -- calls in turn, numbered from here, with their answers
 abbrev pub TurnsAll : ℕ → Progress → List Call → List Answer → Progress → Type 0
 TurnsAll number p [] [] next = next ≡ p
-TurnsAll number p (call ∷ cs) (answer ∷ given) next = (mid : Progress) × Turns (record { lane = 0; call = number }) p call answer mid × TurnsAll (number + 1) mid cs given next
+TurnsAll number p (call ∷ cs) (answer ∷ given) next = (mid : Progress)
+    × Turns (record { lane = 0; call = number }) p call answer mid × TurnsAll (number + 1) mid cs given next
 TurnsAll number p [] (answer ∷ given) next = ⊥
 TurnsAll number p (call ∷ cs) [] next = ⊥
 

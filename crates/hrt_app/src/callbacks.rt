@@ -5,7 +5,7 @@ ghost use Rattle.hrt_app.specs.Callbacks.{IsCallbackInRange, act_of, cancel_act,
 ghost use Rattle.hrt_app.specs.Runs.{Acts};
 
 use ktime::{Mode, Reading};
-use record_text::{Entry, Restart, CallbackReply};
+use record_text::{CallbackReply, Entry, Restart};
 use script_text::Callback;
 use seq_timer::Rearmed;
 use timer_core::{CancelAnswer, Core, ForwardAnswer, StartAnswer};

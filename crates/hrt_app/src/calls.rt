@@ -1,3 +1,4 @@
+//! The calls of a script on one lane, each with the entries that it makes and its answer.
 ghost use Rattle.std.specs.Prelude.{◌≡◌, ◌≤◌, ◌<◌, ◌+◌, ℕ, IfOk, None, OnOk, length};
 ghost use Rattle.clock_model.specs.Clocks.{last_stamp};
 ghost use Rattle.hrt_app.specs.Runs.{RunState, Keeps, Nexts, progress, with_out};

@@ -126,7 +126,7 @@ impl<'a> Source for CleanSource<'a> {
     }
 }
 
-/// Bytes that were kept. Once memory was wanted for some they are lost, and stay so.
+/// Bytes that were kept. Once there was no memory for some they are lost, and stay so.
 #[derive(Drop)]
 pub struct Kept {
     bytes: Vec<u8>,

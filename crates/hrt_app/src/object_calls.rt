@@ -1,3 +1,4 @@
+//! The calls of POSIX timers and descriptors on one lane.
 ghost use Rattle.std.specs.Prelude.{◌≡◌, ◌<◌, IfOk, OnOk, length};
 ghost use Rattle.hrt_app.specs.ObjectLooks.{GettimeTurn, IsOverrun, IsReadable, ReadTurn};
 ghost use Rattle.hrt_app.specs.Objects.{kind_in, object_at};

@@ -1,3 +1,4 @@
+//! A run on one lane: the timers, the objects and the clock as they are, and the lines of the record so far.
 ghost use Rattle.std.specs.Prelude.{◌≡◌, ◌<◌, IfOk, OnOk, length, map, replicate, [], ◌∷◌};
 ghost use Rattle.std.specs.List.{AllByRecursion};
 ghost use Rattle.hrt_app.specs.Objects.{IsObjectInRange, object_at};
@@ -8,8 +9,8 @@ use crate::objects::{Object, objects_of};
 use clock_model::Clock;
 use ktime::{ClockId, Reading};
 use record_text::{
-    Answer, ClockLine, Entry, ItemList, Label, Look, ObjectEntry, ObjectLine, RunRecord, Skip,
-    TimerLine, CallbackReply,
+    Answer, CallbackReply, ClockLine, Entry, ItemList, Label, Look, ObjectEntry, ObjectLine,
+    RunRecord, Skip, TimerLine,
 };
 use script_text::{Declaration, Script};
 use std::alloc::{AllocError, Global};
@@ -196,7 +197,11 @@ fn empty_lists<T: Drop>(alloc: Global, count: usize) -> Result<Vec<ItemList<T>>,
 }
 
 /// What a callback was told, with its label.
-fn looks_of(alloc: Global, label: Label, reply: Option<CallbackReply>) -> Result<ItemList<Look>, AllocError>
+fn looks_of(
+    alloc: Global,
+    label: Label,
+    reply: Option<CallbackReply>,
+) -> Result<ItemList<Look>, AllocError>
     ensures { IfOk result (λ looks. looks ≡ looks_of label reply) }
 {
     let mut looks = ItemList::new(alloc);

@@ -1,3 +1,4 @@
+//! A script of one lane, call by call, to the record of its run.
 ghost use Rattle.std.specs.Prelude.{◌≡◌, ◌≤◌, ◌<◌, ◌+◌, ◌++◌, ℕ, List, [], ◌∷◌, None, IfOk, OnOk, length, map};
 ghost use Rattle.std.specs.List.{AllByRecursion};
 ghost use Rattle.clock_model.specs.Clocks.{last_stamp};

@@ -15,7 +15,7 @@ pub enum Status {
     ReadFault,
     /// The sink failed.
     WriteFault,
-    /// Memory was wanted.
+    /// The run was given up: out of memory.
     OutOfMemory,
 }
 

@@ -60,7 +60,7 @@ struct NotingGate {
 impl Gate for NotingGate {
     fn at(&self, lane: u32, call: u32, point: Point) {
         if let Ok(mut passed) = self.passed.try_borrow_mut() {
-            // A point that is lost for want of memory is missed in the test.
+            // A point for which there is no memory is missed in the test.
             let _ = passed.push((lane, call, point));
         }
     }

@@ -18,7 +18,7 @@ use std::alloc::Global;
 
 /// Does what the words ask for, the program's name being the first: reads a script from the source, runs it, and
 /// writes its record or its refusal to the sink. The text is made whole before the first write.
-#[tactic(auto, using(crate::proofs::Outcomes::recorded, crate::proofs::Outcomes::may_want))]
+#[tactic(auto, using(crate::proofs::Outcomes::recorded, crate::proofs::Outcomes::may_run_out))]
 pub fn top<S: Source, K: Sink, G: Gate>(
     rt: &impl AllocGlobal,
     words: &[String],
@@ -63,7 +63,7 @@ pub fn top<S: Source, K: Sink, G: Gate>(
 }
 
 /// The program over bytes in memory, with a source and a sink that never fail: the outcome, and the sink.
-#[tactic(auto, using(crate::proofs::Outcomes::refused_told))]
+#[tactic(auto, using(crate::proofs::Outcomes::refused_given))]
 pub fn on_bytes<G: Gate>(
     rt: &impl AllocGlobal,
     words: &[String],

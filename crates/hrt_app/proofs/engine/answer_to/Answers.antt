@@ -24,4 +24,11 @@ pub run-requires : goal.run-requires
 run-requires g c = runnable c.args.bytes.now c.in-Ok.script c.in-Ok.ensures.script
 
 pub returns : goal.returns
-returns g c = record { script = c.in-Ok.script; reads = c.in-Ok.ensures.script; run = c.in_ok-record.record; fits = c.in_ok-record.ensures; spelled = c.in_ok-bytes.ensures.text }
+returns g c = record {
+  script = c.in-Ok.script;
+  reads = c.in-Ok.ensures.script;
+  run = c.in_ok-record.record;
+  fits =
+      c.in_ok-record.ensures;
+  spelled = c.in_ok-bytes.ensures.text;
+}

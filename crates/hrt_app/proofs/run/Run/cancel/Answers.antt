@@ -17,5 +17,19 @@ returns-in-Idle-clause-turn c =
     let clauses = c.in-Idle.ensures in
     let running = is_none (timer_at c.self.inside.core.timers c.args.timer).running (λ g e. let x = (clauses.running g e).0 in cc) in
     let armed = is_none (timer_at c.self.inside.core.timers c.args.timer).armed (λ g e. let x = clauses.cancelled g running e in cc) in
-    let idle : IsIdle (timer_at c.self.inside.core.timers c.args.timer) = record { armed = armed; running = running; moving = clauses.still } in
-    (subst (λ (t : Timer). IsIdle t) same idle, stamp_of c.in-Idle.stamp _ (clauses.idle running armed).0 ∙ ap (λ (t : Timer). t.stamp) same, ap (λ (k : Kept). progress (record { core = k; objects = c.self.inside.objects.items; reading = c.self.inside.clock; clock = c.self.inside.clock_lines.items; lines = c.self.inside.timer_lines.items; object_lines = c.self.inside.object_lines.items })) (clauses.idle running armed).1 ∙ ap progress c.self.view_is)
+    let idle : IsIdle (timer_at c.self.inside.core.timers c.args.timer) = record { armed = armed; running = running; moving = clauses.still } in (
+      subst (λ (t : Timer). IsIdle t) same idle,
+      stamp_of c.in-Idle.stamp _ (clauses.idle running armed).0
+          ∙ ap (λ (t : Timer). t.stamp) same,
+      ap (λ (k : Kept).
+          progress (record {
+            core = k;
+            objects = c.self.inside.objects.items;
+            reading = c.self.inside.clock;
+            clock =
+                c.self.inside.clock_lines.items;
+            lines = c.self.inside.timer_lines.items;
+            object_lines =
+                c.self.inside.object_lines.items;
+          })) (clauses.idle running armed).1 ∙ ap progress c.self.view_is,
+    )

@@ -13,7 +13,8 @@ pub invariant_of-result : goal.invariant_of-result
 invariant_of-result c =
     let timers = c.args.script.now.timers in
     let clocks = map (λ (d : Declaration). d.clock) timers in
-    let core = c.in_ok-make.ensures ∙ ap (λ (cs : List ClockId). kept.opened c.args.script.now.bases cs c.args.script.now.limit) (c.deref.ensures.value ∙ c.in_ok-clocks.ensures ∙ ap (map (λ d. d.clock)) c.as_slice-timers.ensures) in
+    let core = c.in_ok-make.ensures ∙ ap (λ (cs : List ClockId). kept.opened c.args.script.now.bases cs c.args.script.now.limit)
+    (c.deref.ensures.value ∙ c.in_ok-clocks.ensures ∙ ap (map (λ d. d.clock)) c.as_slice-timers.ensures) in
     let objects = c.in_ok-objects_of.ensures ∙ ap (map (object_in c.args.script.now.limit)) c.as_slice-timers.ensures in
     let count = ap (λ (k : kept.Kept). length k.timers) core ∙ length-map clocks _ ∙ length-map timers (λ (d : Declaration). d.clock) in
     let bases = ap (λ (k : kept.Kept). length k.bases) core ∙ length-replicate c.args.script.now.bases (empty_base (length clocks)) in (
@@ -21,12 +22,14 @@ invariant_of-result c =
       ap length objects ∙ length-map timers (object_in c.args.script.now.limit) ∙ sym count,
       ap length c.in_ok-empty_lists-2.ensures ∙ length-replicate _ [] ∙ ap length c.as_slice-timers.ensures ∙ sym count,
       subst (λ n. AllByRecursion (IsObjectInRange n) c.in_ok-objects_of.field-0.items) (sym bases)
-          (subst (AllByRecursion (IsObjectInRange c.args.script.now.bases)) (sym objects) (objects_in_range c.args.script.now.bases c.args.script.now.limit timers c.requires.one_lane.kinds)),
+          (subst (AllByRecursion (IsObjectInRange c.args.script.now.bases)) (sym objects)
+          (objects_in_range c.args.script.now.bases c.args.script.now.limit timers c.requires.one_lane.kinds)),
     )
 
 pub returns : goal.returns
 returns c = record {
-  core = c.in_ok-make.ensures ∙ ap (λ (cs : List ClockId). kept.opened c.args.script.now.bases cs c.args.script.now.limit) (c.deref.ensures.value ∙ c.in_ok-clocks.ensures ∙ ap (map (λ d. d.clock)) c.as_slice-timers.ensures);
+  core = c.in_ok-make.ensures ∙ ap (λ (cs : List ClockId). kept.opened c.args.script.now.bases cs c.args.script.now.limit)
+      (c.deref.ensures.value ∙ c.in_ok-clocks.ensures ∙ ap (map (λ d. d.clock)) c.as_slice-timers.ensures);
   objects = c.in_ok-objects_of.ensures ∙ ap (map (object_in c.args.script.now.limit)) c.as_slice-timers.ensures;
   reading = c.new.ensures;
   clock = c.new-2.ensures.items;

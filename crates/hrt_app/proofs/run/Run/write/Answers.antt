@@ -12,5 +12,14 @@ returns-in-Err-ClockRange-clause-turn c =
       c.requires.counted,
       r.1,
       subst (λ x. c.in-Err-ClockRange.would_be ≡ greatest (after_write x c.args.write)) same r.2,
-      ap (λ k. progress (record { core = c.self.inside.core; objects = c.self.inside.objects.items; reading = k; clock = c.self.inside.clock_lines.items; lines = c.self.inside.timer_lines.items; object_lines = c.self.inside.object_lines.items })) c.in-Err-ClockRange.ensures.err ∙ ap progress c.self.view_is,
+      ap (λ k. progress (record {
+        core = c.self.inside.core;
+        objects = c.self.inside.objects.items;
+        reading = k;
+        clock =
+            c.self.inside.clock_lines.items;
+        lines = c.self.inside.timer_lines.items;
+        object_lines =
+            c.self.inside.object_lines.items;
+      })) c.in-Err-ClockRange.ensures.err ∙ ap progress c.self.view_is,
     )
