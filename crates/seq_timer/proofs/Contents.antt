@@ -42,7 +42,8 @@ still_running t runs apart = ⊎_elim (λ moves. absurd (some_none t.running run
 wanted-unarmed : (base : ℕ) (clock : ClockId) (t : Timer) → t.armed ≡ None → wanted base clock t ≡ None
 wanted-unarmed base clock t none = grind (arith, nat_tests)
 
-wanted-armed : (clock : ClockId) (t : Timer) → is_some t.armed ≡ true → t.moving ≡ false → wanted t.base clock t ≡ (if nat_eq (rank t.clock) (rank clock) then Some t.expires else None)
+wanted-armed : (clock : ClockId) (t : Timer) → is_some t.armed ≡ true → t.moving ≡ false
+    → wanted t.base clock t ≡ (if nat_eq (rank t.clock) (rank clock) then Some t.expires else None)
 wanted-armed clock t armed still = grind (arith, nat_tests)
 
 pub wanted-elsewhere : (base : ℕ) (clock : ClockId) (t : Timer) → base ≢ t.base → wanted base clock t ≡ None
@@ -58,7 +59,8 @@ running_on-itself : (t : Timer) → running_on t.base t ≡ t.running
 running_on-itself t = grind (arith, nat_tests)
 
 -- what runs on a base is of one timer
-pub generation-apart : (id other generation : ℕ) (running : Option (ℕ × ℕ)) → generation_in id running ≡ Some generation → nat_eq id other ≡ false → generation_in other running ≡ None
+pub generation-apart : (id other generation : ℕ) (running : Option (ℕ × ℕ)) → generation_in id running ≡ Some generation
+    → nat_eq id other ≡ false → generation_in other running ≡ None
 generation-apart id other generation None here apart = cc
 generation-apart id other generation (Some r) here apart = grind (arith, nat_tests)
 
@@ -68,7 +70,8 @@ pub record Changes (f g : ℕ → Timer) (id : ℕ) (now : Timer) : Type 0 where
   pub itself : g id ≡ now
   pub others : (other : ℕ) → other ≢ id → g other ≡ f other
 
-each_queue : (f g : ℕ → Timer) (id : ℕ) (now : Timer) (base : ℕ) (clock : ClockId) (queue new : List (ℕ × ℕ)) → Changes f g id now → IsQueueOf f base clock queue
+each_queue : (f g : ℕ → Timer) (id : ℕ) (now : Timer) (base : ℕ) (clock : ClockId) (queue new : List (ℕ × ℕ)) → Changes f g id now
+    → IsQueueOf f base clock queue
     → expiry_of id new ≡ wanted base clock now → ((other : ℕ) → nat_eq id other ≡ false → expiry_of other new ≡ expiry_of other queue)
     → IsDistinct nat_eq (map (λ p. p.1) new) → IsByExpiry new → IsQueueOf g base clock new
 each_queue f g id now base clock queue new changes here itself others once sorted = record {
@@ -83,9 +86,11 @@ each_queue f g id now base clock queue new changes here itself others once sorte
 -- a queue stays where the timer is in it as before
 queue-same : (f g : ℕ → Timer) (id : ℕ) (now : Timer) (base : ℕ) (clock : ClockId) (queue : List (ℕ × ℕ)) → Changes f g id now → IsQueueOf f base clock queue
     → wanted base clock now ≡ wanted base clock (f id) → IsQueueOf g base clock queue
-queue-same f g id now base clock queue changes here same = each_queue f g id now base clock queue queue changes here (here.exact id ∙ sym same) (λ other apart. refl) here.once here.by_expiry
+queue-same f g id now base clock queue changes here same = each_queue f g id now base clock queue queue changes here
+    (here.exact id ∙ sym same) (λ other apart. refl) here.once here.by_expiry
 
-queue-without : (f g : ℕ → Timer) (id : ℕ) (now : Timer) (base : ℕ) (clock : ClockId) (queue : List (ℕ × ℕ)) → Changes f g id now → IsQueueOf f base clock queue
+queue-without : (f g : ℕ → Timer) (id : ℕ) (now : Timer) (base : ℕ) (clock : ClockId) (queue : List (ℕ × ℕ)) → Changes f g id now
+    → IsQueueOf f base clock queue
     → wanted base clock now ≡ None → IsQueueOf g base clock (without id queue)
 queue-without f g id now base clock queue changes here none =
     each_queue f g id now base clock queue (without id queue) changes here
@@ -101,29 +106,38 @@ queue-put f g id now base clock queue changes here armed =
     each_queue f g id now base clock queue (put now.expires id off) changes here
     (grind (arith, nat_tests, expiry_of-put id now.expires id off absent) ∙ sym armed)
     (λ other apart. grind (arith, nat_tests, expiry_of-put other now.expires id off absent, expiry_of-without other id queue))
-    (IsDistinct-put now.expires id off absent (IsDistinct-without id queue here.once)) (IsByExpiry-put now.expires id off (IsByExpiry-without id queue here.by_expiry))
+    (IsDistinct-put now.expires id off absent (IsDistinct-without id queue here.once))
+    (IsByExpiry-put now.expires id off (IsByExpiry-without id queue here.by_expiry))
 
 queue-requeued : (f g : ℕ → Timer) (id : ℕ) (now : Timer) (clock : ClockId) (c : Content) → Changes f g id now → IsQueueOf f now.base clock (queue_of c clock)
     → is_some now.armed ≡ true → now.moving ≡ false → IsQueueOf g now.base clock (queue_of (requeued id now c) clock)
 queue-requeued f g id now clock c changes here armed still =
     let queue = queue_of c clock in
     let is = wanted-armed clock now armed still in
-    subst (IsQueueOf g now.base clock) (sym (queue_of-enqueued now.clock clock now.expires id (dequeued id c) ∙ ap (λ q. if nat_eq (rank now.clock) (rank clock) then put now.expires id q else q) (queue_of-dequeued id c clock)))
-    (elim (nat_eq (rank now.clock) (rank clock)) as (λ b. wanted now.base clock now ≡ (if b then Some now.expires else None) → IsQueueOf g now.base clock (if b then put now.expires id (without id queue) else without id queue)) [
+    subst (IsQueueOf g now.base clock)
+    (sym (queue_of-enqueued now.clock clock now.expires id (dequeued id c)
+    ∙ ap (λ q. if nat_eq (rank now.clock) (rank clock) then put now.expires id q else q) (queue_of-dequeued id c clock)))
+    (elim (nat_eq (rank now.clock) (rank clock)) as
+    (λ b. wanted now.base clock now ≡ (if b then Some now.expires else None)
+    → IsQueueOf g now.base clock (if b then put now.expires id (without id queue) else without id queue)) [
       | true ↦ λ is. queue-put f g id now now.base clock queue changes here is
       | false ↦ λ is. queue-without f g id now now.base clock queue changes here is
     ] is)
 
-running-same : (f g : ℕ → Timer) (id : ℕ) (now : Timer) (base : ℕ) (running : Option (ℕ × ℕ)) → Changes f g id now → ((other : ℕ) → generation_in other running ≡ running_on base (f other))
+running-same : (f g : ℕ → Timer) (id : ℕ) (now : Timer) (base : ℕ) (running : Option (ℕ × ℕ)) → Changes f g id now
+    → ((other : ℕ) → generation_in other running ≡ running_on base (f other))
     → running_on base now ≡ running_on base (f id) → (other : ℕ) → generation_in other running ≡ running_on base (g other)
 running-same f g id now base running changes here same other = ⊎_elim
-    (λ (is : other ≡ id). subst (λ k. generation_in k running ≡ running_on base (g k)) (sym is) (here id ∙ sym same ∙ ap (running_on base) (sym changes.itself)))
+    (λ (is : other ≡ id). subst (λ k. generation_in k running ≡ running_on base (g k)) (sym is)
+    (here id ∙ sym same ∙ ap (running_on base) (sym changes.itself)))
     (λ apart. here other ∙ ap (running_on base) (sym (changes.others other apart)))
     (cases_eq other id)
 
 -- where another runs than before, and before none did but the timer's own
-running-other : (f g : ℕ → Timer) (id : ℕ) (now : Timer) (base : ℕ) (running : Option (ℕ × ℕ)) → Changes f g id now → generation_in id running ≡ running_on base now
-    → ((other : ℕ) → nat_eq id other ≡ false → (generation_in other running ≡ None) × (running_on base (f other) ≡ None)) → (other : ℕ) → generation_in other running ≡ running_on base (g other)
+running-other : (f g : ℕ → Timer) (id : ℕ) (now : Timer) (base : ℕ) (running : Option (ℕ × ℕ)) → Changes f g id now
+    → generation_in id running ≡ running_on base now
+    → ((other : ℕ) → nat_eq id other ≡ false → (generation_in other running ≡ None) × (running_on base (f other) ≡ None)) → (other : ℕ)
+    → generation_in other running ≡ running_on base (g other)
 running-other f g id now base running changes itself none other = ⊎_elim
     (λ (is : other ≡ id). subst (λ k. generation_in k running ≡ running_on base (g k)) (sym is) (itself ∙ ap (running_on base) (sym changes.itself)))
     (λ apart. let both = none other (ne_eqb id other (λ e. apart (sym e))) in both.0 ∙ sym both.1 ∙ ap (running_on base) (sym (changes.others other apart)))
@@ -132,30 +146,38 @@ running-other f g id now base running changes itself none other = ⊎_elim
 -- ---- the base that the timer is on before an event
 
 -- the timer is taken off, and runs as before
-taken_off : (f g : ℕ → Timer) (id : ℕ) (now : Timer) (base : ℕ) (c : Content) → Changes f g id now → now.armed ≡ None → running_on base now ≡ running_on base (f id) → IsContentOf f base c → IsContentOf g base (dequeued id c)
+taken_off : (f g : ℕ → Timer) (id : ℕ) (now : Timer) (base : ℕ) (c : Content) → Changes f g id now → now.armed ≡ None
+    → running_on base now ≡ running_on base (f id) → IsContentOf f base c → IsContentOf g base (dequeued id c)
 taken_off f g id now base c changes none same here = record {
-  queues = λ clock. subst (IsQueueOf g base clock) (sym (queue_of-dequeued id c clock)) (queue-without f g id now base clock (queue_of c clock) changes (here.queues clock) (wanted-unarmed base clock now none));
+  queues = λ clock. subst (IsQueueOf g base clock) (sym (queue_of-dequeued id c clock))
+      (queue-without f g id now base clock (queue_of c clock) changes (here.queues clock) (wanted-unarmed base clock now none));
   running = running-same f g id now base c.running changes here.running same;
 }
 
 -- the timer is put anew, and runs as before
-put_anew : (f g : ℕ → Timer) (id : ℕ) (now : Timer) (c : Content) → Changes f g id now → is_some now.armed ≡ true → now.moving ≡ false → running_on now.base now ≡ running_on now.base (f id) → IsContentOf f now.base c → IsContentOf g now.base (requeued id now c)
+put_anew : (f g : ℕ → Timer) (id : ℕ) (now : Timer) (c : Content) → Changes f g id now → is_some now.armed ≡ true → now.moving ≡ false
+    → running_on now.base now ≡ running_on now.base (f id) → IsContentOf f now.base c → IsContentOf g now.base (requeued id now c)
 put_anew f g id now c changes armed still same here = record {
   queues = λ clock. queue-requeued f g id now clock c changes (here.queues clock) armed still;
-  running = λ other. ap (generation_in other) (running-enqueued now.clock now.expires id (dequeued id c)) ∙ running-same f g id now now.base c.running changes here.running same other;
+  running = λ other. ap (generation_in other) (running-enqueued now.clock now.expires id (dequeued id c))
+      ∙ running-same f g id now now.base c.running changes here.running same other;
 }
 
 -- its function has begun where none ran
-begun : (f g : ℕ → Timer) (id generation : ℕ) (now : Timer) (c : Content) → Changes f g id now → now.armed ≡ None → now.running ≡ Some generation → c.running ≡ None → IsContentOf f now.base c → IsContentOf g now.base (with_running (Some (id, generation)) (dequeued id c))
+begun : (f g : ℕ → Timer) (id generation : ℕ) (now : Timer) (c : Content) → Changes f g id now → now.armed ≡ None
+    → now.running ≡ Some generation → c.running ≡ None → IsContentOf f now.base c
+    → IsContentOf g now.base (with_running (Some (id, generation)) (dequeued id c))
 begun f g id generation now c changes none runs free here = record {
-  queues = λ clock. subst (IsQueueOf g now.base clock) (sym (queue_of-with_running (Some (id, generation)) (dequeued id c) clock ∙ queue_of-dequeued id c clock))
+  queues = λ clock. subst (IsQueueOf g now.base clock)
+      (sym (queue_of-with_running (Some (id, generation)) (dequeued id c) clock ∙ queue_of-dequeued id c clock))
       (queue-without f g id now now.base clock (queue_of c clock) changes (here.queues clock) (wanted-unarmed now.base clock now none));
   running = running-other f g id now now.base (Some (id, generation)) changes (grind (arith, nat_tests) ∙ sym (running_on-itself now ∙ runs))
       (λ other apart. (grind (arith, nat_tests), sym (here.running other) ∙ ap (generation_in other) free));
 }
 
 -- its function has ended
-ended : (f g : ℕ → Timer) (id generation : ℕ) (now : Timer) (c after : Content) → Changes f g id now → now.running ≡ None → running_on now.base (f id) ≡ Some generation
+ended : (f g : ℕ → Timer) (id generation : ℕ) (now : Timer) (c after : Content) → Changes f g id now → now.running ≡ None
+    → running_on now.base (f id) ≡ Some generation
     → ((clock : ClockId) → IsQueueOf g now.base clock (queue_of after clock)) → IsContentOf f now.base c → IsContentOf g now.base (with_running None after)
 ended f g id generation now c after changes none ran queues here = record {
   queues = λ clock. subst (IsQueueOf g now.base clock) (sym (queue_of-with_running None after clock)) (queues clock);
@@ -163,48 +185,69 @@ ended f g id generation now c after changes none ran queues here = record {
       (λ other apart. (refl, sym (here.running other) ∙ generation-apart id other generation c.running (here.running id ∙ ran) apart));
 }
 
-finished_queues : (f g : ℕ → Timer) (id : ℕ) (restart : Bool) (c : Content) → Needs (f id) (events.Finish restart) → IsApart (f id) → Changes f g id (after (f id) (events.Finish restart)) → IsContentOf f (f id).base c
+finished_queues : (f g : ℕ → Timer) (id : ℕ) (restart : Bool) (c : Content) → Needs (f id) (events.Finish restart) → IsApart (f id)
+    → Changes f g id (after (f id) (events.Finish restart)) → IsContentOf f (f id).base c
     → (clock : ClockId) → IsQueueOf g (f id).base clock (queue_of (if arms_again (f id) restart then requeued id (f id) c else c) clock)
 finished_queues f g id restart c needs apart changes here clock =
     let t = f id in
-    elim (arms_again t restart) as (λ b. Changes f g id (record t { armed = if b then Some (t.stamp + 1) else t.armed; running = None; stamp = t.stamp + 1 }) → IsQueueOf g t.base clock (queue_of (if b then requeued id t c else c) clock)) [
-      | true ↦ λ changes. queue-requeued f g id (record t { armed = Some (t.stamp + 1); running = None; stamp = t.stamp + 1 }) clock c changes (here.queues clock) refl (still_running t needs apart)
-      | false ↦ λ changes. queue-same f g id (record t { running = None; stamp = t.stamp + 1 }) t.base clock (queue_of c clock) changes (here.queues clock) refl
+    elim (arms_again t restart) as
+    (λ b. Changes f g id (record t { armed = if b then Some (t.stamp + 1) else t.armed; running = None; stamp = t.stamp + 1 })
+    → IsQueueOf g t.base clock (queue_of (if b then requeued id t c else c) clock)) [
+      | true ↦ λ changes. queue-requeued f g id (record t { armed = Some (t.stamp + 1); running = None; stamp = t.stamp + 1 }) clock c
+          changes (here.queues clock) refl (still_running t needs apart)
+      | false ↦ λ changes. queue-same f g id (record t { running = None; stamp = t.stamp + 1 }) t.base clock (queue_of c clock) changes
+          (here.queues clock) refl
     ] changes
 
-pub IsContentOf-after : (f g : ℕ → Timer) (id : ℕ) (e : Event) (c : Content) → Needs (f id) e → IsApart (f id) → IsFreeFor c e → Changes f g id (after (f id) e) → IsContentOf f (f id).base c → IsContentOf g (f id).base (content_after id (f id) e c)
+pub IsContentOf-after : (f g : ℕ → Timer) (id : ℕ) (e : Event) (c : Content) → Needs (f id) e → IsApart (f id) → IsFreeFor c e
+    → Changes f g id (after (f id) e) → IsContentOf f (f id).base c → IsContentOf g (f id).base (content_after id (f id) e c)
 IsContentOf-after f g id (events.Out base) c needs apart free changes here =
     let none = none_of (f id).running needs.0 in
-    taken_off f g id (after (f id) (events.Out base)) (f id).base c changes refl (running_on-none (f id).base (after (f id) (events.Out base)) none ∙ sym (running_on-none (f id).base (f id) none)) here
-IsContentOf-after f g id (events.Start mode ns reading asked) c needs apart free changes here = put_anew f g id (after (f id) (events.Start mode ns reading asked)) c changes refl refl refl here
+    taken_off f g id (after (f id) (events.Out base)) (f id).base c changes refl
+    (running_on-none (f id).base (after (f id) (events.Out base)) none ∙ sym (running_on-none (f id).base (f id) none)) here
+IsContentOf-after f g id (events.Start mode ns reading asked) c needs apart free changes here = put_anew f g id
+    (after (f id) (events.Start mode ns reading asked)) c changes refl refl refl here
 IsContentOf-after f g id events.Cancel c needs apart free changes here = taken_off f g id (after (f id) events.Cancel) (f id).base c changes refl refl here
 IsContentOf-after f g id (events.Claim base reading) c needs apart free changes here =
     begun f g id (unwrap_or (f id).armed 0) (after (f id) (events.Claim base reading)) c changes refl (some_of (f id).armed needs.0) free here
 IsContentOf-after f g id (events.Forward reading interval) c needs apart free changes here =
     let now = after (f id) (events.Forward reading interval) in
     let none = none_of (f id).armed needs.1 in record {
-      queues = λ clock. queue-same f g id now (f id).base clock (queue_of c clock) changes (here.queues clock) (wanted-unarmed (f id).base clock now none ∙ sym (wanted-unarmed (f id).base clock (f id) none));
+      queues = λ clock. queue-same f g id now (f id).base clock (queue_of c clock) changes (here.queues clock)
+          (wanted-unarmed (f id).base clock now none ∙ sym (wanted-unarmed (f id).base clock (f id) none));
       running = running-same f g id now (f id).base c.running changes here.running refl;
     }
 IsContentOf-after f g id (events.Finish restart) c needs apart free changes here =
-    ended f g id (unwrap_or (f id).running 0) (after (f id) (events.Finish restart)) c (if arms_again (f id) restart then requeued id (f id) c else c) changes refl (running_on-itself (f id) ∙ some_of (f id).running needs)
+    ended f g id (unwrap_or (f id).running 0) (after (f id) (events.Finish restart)) c
+    (if arms_again (f id) restart then requeued id (f id) c else c) changes refl (running_on-itself (f id) ∙ some_of (f id).running needs)
     (finished_queues f g id restart c needs apart changes here) here
 
 -- ---- the other bases
 
-far-after : (t : Timer) (e : Event) (base : ℕ) → Needs t e → base ≢ t.base → ((clock : ClockId) → wanted base clock (after t e) ≡ None) × (running_on base (after t e) ≡ None)
-far-after t (events.Out to) base needs far = ((λ clock. wanted-unarmed base clock (after t (events.Out to)) refl), running_on-none base (after t (events.Out to)) (none_of t.running needs.0))
-far-after t (events.Start mode ns reading asked) base needs far = let now = after t (events.Start mode ns reading asked) in ((λ clock. wanted-elsewhere base clock now far), running_on-elsewhere base now far)
-far-after t events.Cancel base needs far = let now = after t events.Cancel in ((λ clock. wanted-elsewhere base clock now far), running_on-elsewhere base now far)
-far-after t (events.Claim on reading) base needs far = let now = after t (events.Claim on reading) in ((λ clock. wanted-elsewhere base clock now far), running_on-elsewhere base now far)
-far-after t (events.Forward reading interval) base needs far = let now = after t (events.Forward reading interval) in ((λ clock. wanted-elsewhere base clock now far), running_on-elsewhere base now far)
-far-after t (events.Finish restart) base needs far = let now = after t (events.Finish restart) in ((λ clock. wanted-elsewhere base clock now far), running_on-elsewhere base now far)
+far-after : (t : Timer) (e : Event) (base : ℕ) → Needs t e → base ≢ t.base
+    → ((clock : ClockId) → wanted base clock (after t e) ≡ None) × (running_on base (after t e) ≡ None)
+far-after t (events.Out to) base needs far =
+    ((λ clock. wanted-unarmed base clock (after t (events.Out to)) refl), running_on-none base (after t (events.Out to)) (none_of t.running needs.0))
+far-after t (events.Start mode ns reading asked) base needs far = let now = after t
+    (events.Start mode ns reading asked) in ((λ clock. wanted-elsewhere base clock now far), running_on-elsewhere base now far)
+far-after t events.Cancel base needs far = let now = after t events.Cancel in (
+  (λ clock. wanted-elsewhere base clock now far),
+  running_on-elsewhere base now far,
+)
+far-after t (events.Claim on reading) base needs far = let now = after t
+    (events.Claim on reading) in ((λ clock. wanted-elsewhere base clock now far), running_on-elsewhere base now far)
+far-after t (events.Forward reading interval) base needs far = let now = after t
+    (events.Forward reading interval) in ((λ clock. wanted-elsewhere base clock now far), running_on-elsewhere base now far)
+far-after t (events.Finish restart) base needs far = let now = after t
+    (events.Finish restart) in ((λ clock. wanted-elsewhere base clock now far), running_on-elsewhere base now far)
 
-pub IsContentOf-elsewhere : (f g : ℕ → Timer) (id : ℕ) (e : Event) (base : ℕ) (c : Content) → Needs (f id) e → base ≢ (f id).base → Changes f g id (after (f id) e) → IsContentOf f base c → IsContentOf g base c
+pub IsContentOf-elsewhere : (f g : ℕ → Timer) (id : ℕ) (e : Event) (base : ℕ) (c : Content) → Needs (f id) e → base ≢ (f id).base
+    → Changes f g id (after (f id) e) → IsContentOf f base c → IsContentOf g base c
 IsContentOf-elsewhere f g id e base c needs far changes here =
     let now = after (f id) e in
     let none = far-after (f id) e base needs far in record {
-      queues = λ clock. queue-same f g id now base clock (queue_of c clock) changes (here.queues clock) (none.0 clock ∙ sym (wanted-elsewhere base clock (f id) far));
+      queues = λ clock. queue-same f g id now base clock (queue_of c clock) changes (here.queues clock)
+          (none.0 clock ∙ sym (wanted-elsewhere base clock (f id) far));
       running = running-same f g id now base c.running changes here.running (none.1 ∙ sym (running_on-elsewhere base (f id) far));
     }
 

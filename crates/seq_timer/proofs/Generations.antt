@@ -23,7 +23,8 @@ pub record IsGone (t : Timer) (generation : ℕ) : Type 0 where
 
 pub gone-after : (t : Timer) (e : Event) (generation : ℕ) → IsGone t generation → IsGone (after t e) generation
 gone-after t (events.Out base) generation gone = let old = gone.old in record { old = omega (arith, old); unarmed = λ is. cc }
-gone-after t (events.Start mode ns reading asked) generation gone = let old = gone.old in record { old = omega (arith, old); unarmed = λ is. let same = same_Some (t.stamp + 1) generation is in omega (arith, old, same) }
+gone-after t (events.Start mode ns reading asked) generation gone = let old = gone.old in record
+    { old = omega (arith, old); unarmed = λ is. let same = same_Some (t.stamp + 1) generation is in omega (arith, old, same) }
 gone-after t events.Cancel generation gone = let old = gone.old in record { old = omega (arith, old); unarmed = λ is. cc }
 gone-after t (events.Claim base reading) generation gone = let old = gone.old in record { old = omega (arith, old); unarmed = λ is. cc }
 gone-after t (events.Forward reading interval) generation gone = let old = gone.old in record { old = omega (arith, old); unarmed = gone.unarmed }
@@ -58,11 +59,15 @@ gone-uncancelled t (events.Finish restart) generation needs gone = refl
 
 pub gone-claims : (t : Timer) (generation : ℕ) (history : List Entry) → AreSteps t history → IsGone t generation → is_claimed generation history ≡ false
 gone-claims t generation [] steps gone = refl
-gone-claims t generation (e ∷ es) steps gone = or_from (is_told generation (claim_in e.reply)) (is_claimed generation es) (ap (λ r. is_told generation (claim_in r)) steps.1 ∙ gone-unclaimed t e.event generation steps.0 gone) (gone-claims (after t e.event) generation es steps.2 (gone-after t e.event generation gone))
+gone-claims t generation (e ∷ es) steps gone = or_from (is_told generation (claim_in e.reply)) (is_claimed generation es)
+    (ap (λ r. is_told generation (claim_in r)) steps.1 ∙ gone-unclaimed t e.event generation steps.0 gone)
+    (gone-claims (after t e.event) generation es steps.2 (gone-after t e.event generation gone))
 
 pub gone-cancels : (t : Timer) (generation : ℕ) (history : List Entry) → AreSteps t history → IsGone t generation → is_cancelled generation history ≡ false
 gone-cancels t generation [] steps gone = refl
-gone-cancels t generation (e ∷ es) steps gone = or_from (is_told generation (cancel_in e.reply)) (is_cancelled generation es) (ap (λ r. is_told generation (cancel_in r)) steps.1 ∙ gone-uncancelled t e.event generation steps.0 gone) (gone-cancels (after t e.event) generation es steps.2 (gone-after t e.event generation gone))
+gone-cancels t generation (e ∷ es) steps gone = or_from (is_told generation (cancel_in e.reply)) (is_cancelled generation es)
+    (ap (λ r. is_told generation (cancel_in r)) steps.1 ∙ gone-uncancelled t e.event generation steps.0 gone)
+    (gone-cancels (after t e.event) generation es steps.2 (gone-after t e.event generation gone))
 
 pub old-after : (t : Timer) (e : Event) → IsOld t → IsOld (after t e)
 old-after t (events.Out base) old generation is = absurd (cc)
@@ -80,10 +85,13 @@ old-after t (events.Finish restart) old generation is = again (arms_again t rest
 told_is : (t : Timer) (generation : ℕ) → IsSome t.armed → nat_eq (unwrap_or t.armed 0) generation ≡ true → t.armed ≡ Some generation
 told_is t generation armed told = some_of t.armed armed ∙ ap (λ n. Some n) (eqb-true (unwrap_or t.armed 0) generation told)
 
-gone_now : (t : Timer) (e : Event) (generation : ℕ) → IsOld t → t.armed ≡ Some generation → (after t e).armed ≡ None → (after t e).stamp ≡ t.stamp + 1 → IsGone (after t e) generation
-gone_now t e generation old is disarmed counted = let before = old generation is in record { old = omega (arith, before, counted); unarmed = λ again. absurd (cc (disarmed, again)) }
+gone_now : (t : Timer) (e : Event) (generation : ℕ) → IsOld t → t.armed ≡ Some generation → (after t e).armed ≡ None
+    → (after t e).stamp ≡ t.stamp + 1 → IsGone (after t e) generation
+gone_now t e generation old is disarmed counted = let before = old generation is in record
+    { old = omega (arith, before, counted); unarmed = λ again. absurd (cc (disarmed, again)) }
 
-pub cancelled-gone : (t : Timer) (e : Event) (generation : ℕ) → Needs t e → IsOld t → is_told generation (cancel_in (reply_to t e)) ≡ true → IsGone (after t e) generation × (is_told generation (claim_in (reply_to t e)) ≡ false)
+pub cancelled-gone : (t : Timer) (e : Event) (generation : ℕ) → Needs t e → IsOld t → is_told generation (cancel_in (reply_to t e)) ≡ true
+    → IsGone (after t e) generation × (is_told generation (claim_in (reply_to t e)) ≡ false)
 cancelled-gone t (events.Out base) generation needs old told = absurd (false≢true told)
 cancelled-gone t (events.Start mode ns reading asked) generation needs old told = absurd (false≢true told)
 cancelled-gone t events.Cancel generation needs old told = (gone_now t events.Cancel generation old (told_is t generation needs.0 told) refl refl, refl)
@@ -91,15 +99,18 @@ cancelled-gone t (events.Claim base reading) generation needs old told = absurd 
 cancelled-gone t (events.Forward reading interval) generation needs old told = absurd (false≢true told)
 cancelled-gone t (events.Finish restart) generation needs old told = absurd (false≢true told)
 
-pub claimed-gone : (t : Timer) (e : Event) (generation : ℕ) → Needs t e → IsOld t → is_told generation (claim_in (reply_to t e)) ≡ true → IsGone (after t e) generation
+pub claimed-gone : (t : Timer) (e : Event) (generation : ℕ) → Needs t e → IsOld t → is_told generation (claim_in (reply_to t e)) ≡ true
+    → IsGone (after t e) generation
 claimed-gone t (events.Out base) generation needs old told = absurd (false≢true told)
 claimed-gone t (events.Start mode ns reading asked) generation needs old told = absurd (false≢true told)
 claimed-gone t events.Cancel generation needs old told = absurd (false≢true told)
-claimed-gone t (events.Claim base reading) generation needs old told = gone_now t (events.Claim base reading) generation old (told_is t generation needs.0 told) refl refl
+claimed-gone t (events.Claim base reading) generation needs old told = gone_now t (events.Claim base reading) generation old
+    (told_is t generation needs.0 told) refl refl
 claimed-gone t (events.Forward reading interval) generation needs old told = absurd (false≢true told)
 claimed-gone t (events.Finish restart) generation needs old told = absurd (false≢true told)
 
-pub never_claimed : (t : Timer) (generation : ℕ) (history : List Entry) → IsOld t → AreSteps t history → is_cancelled generation history ≡ true → is_claimed generation history ≡ false
+pub never_claimed : (t : Timer) (generation : ℕ) (history : List Entry) → IsOld t → AreSteps t history
+    → is_cancelled generation history ≡ true → is_claimed generation history ≡ false
 never_claimed t generation [] old steps cancelled = absurd (false≢true cancelled)
 never_claimed t generation (e ∷ es) old steps cancelled =
     let next = after t e.event in
@@ -112,21 +123,28 @@ never_claimed t generation (e ∷ es) old steps cancelled =
     (λ (later : is_told generation (cancel_in e.reply) ≡ false).
     let rest : is_cancelled generation es ≡ true = sym (ap (λ b. b || is_cancelled generation es) later) ∙ cancelled in
     ⊎_elim
-    (λ (now : is_told generation (claim_in e.reply) ≡ true). absurd (false≢true (sym (gone-cancels next generation es steps.2 (claimed-gone t e.event generation steps.0 old (sym claims_now ∙ now))) ∙ rest)))
-    (λ (no_claim : is_told generation (claim_in e.reply) ≡ false). or_from (is_told generation (claim_in e.reply)) (is_claimed generation es) no_claim (never_claimed next generation es (old-after t e.event old) steps.2 rest))
+    (λ (now : is_told generation (claim_in e.reply) ≡ true). absurd
+    (false≢true (sym (gone-cancels next generation es steps.2 (claimed-gone t e.event generation steps.0 old (sym claims_now ∙ now))) ∙ rest)))
+    (λ (no_claim : is_told generation (claim_in e.reply) ≡ false). or_from (is_told generation (claim_in e.reply))
+    (is_claimed generation es) no_claim (never_claimed next generation es (old-after t e.event old) steps.2 rest))
     (cases_Bool (is_told generation (claim_in e.reply))))
     (cases_Bool (is_told generation (cancel_in e.reply)))
 
-pub legal_never_claimed : (clock : ClockId) (limit generation : ℕ) (history : List Entry) → IsLegal clock limit history → is_cancelled generation history ≡ true → is_claimed generation history ≡ false
-legal_never_claimed clock limit generation history legal cancelled = never_claimed (opening clock limit) generation history (λ g is. absurd (cc)) legal cancelled
+pub legal_never_claimed : (clock : ClockId) (limit generation : ℕ) (history : List Entry) → IsLegal clock limit history
+    → is_cancelled generation history ≡ true → is_claimed generation history ≡ false
+legal_never_claimed clock limit generation history legal cancelled = never_claimed (opening clock limit) generation history
+    (λ g is. absurd (cc)) legal cancelled
 
 -- no span where there is no claim
-pub unclaimed_spans : (number generation : ℕ) (history : List Entry) → is_claimed generation history ≡ false → AllByRecursion (λ s. s.generation ≡ generation → ⊥) (spans_from number history)
+pub unclaimed_spans : (number generation : ℕ) (history : List Entry) → is_claimed generation history ≡ false
+    → AllByRecursion (λ s. s.generation ≡ generation → ⊥) (spans_from number history)
 unclaimed_spans number generation [] none = tt
 unclaimed_spans number generation (e ∷ es) none =
     let parts = or_parts (is_told generation (claim_in e.reply)) (is_claimed generation es) none in
     with (claim_in e.reply) parts.0 (unclaimed_spans (number + 1) generation es parts.1)
   where
-    with : (told : Option ℕ) → is_told generation told ≡ false → AllByRecursion (λ s. s.generation ≡ generation → ⊥) (spans_from (number + 1) es) → AllByRecursion (λ s. s.generation ≡ generation → ⊥) (with_span told number (next_finish (number + 1) es) (spans_from (number + 1) es))
+    with : (told : Option ℕ) → is_told generation told ≡ false
+        → AllByRecursion (λ s. s.generation ≡ generation → ⊥) (spans_from (number + 1) es)
+        → AllByRecursion (λ s. s.generation ≡ generation → ⊥) (with_span told number (next_finish (number + 1) es) (spans_from (number + 1) es))
     with None other rest = rest
     with (Some g) other rest = (eqb-false g generation other, rest)

@@ -16,9 +16,11 @@ pub left-after : (t : Timer) (e : Event) → Needs t e → HasLeft t → HasLeft
 left-after t (events.Out base) needs left = record { few = grind (arith, nat_tests, needs, left.few, left.apart); apart = grind (arith, nat_tests, needs) }
 left-after t (events.Start mode ns reading asked) needs left = record { few = grind (arith, nat_tests, needs, left.few, left.apart); apart = refl }
 left-after t events.Cancel needs left = record { few = grind (arith, nat_tests, needs, left.few, left.apart); apart = grind (arith, nat_tests, needs) }
-left-after t (events.Claim base reading) needs left = record { few = grind (arith, nat_tests, needs, left.few, left.apart); apart = grind (arith, nat_tests, needs) }
+left-after t (events.Claim base reading) needs left = record
+    { few = grind (arith, nat_tests, needs, left.few, left.apart); apart = grind (arith, nat_tests, needs) }
 left-after t (events.Forward reading interval) needs left = record { few = grind (arith, nat_tests, needs, left.few, left.apart); apart = left.apart }
-left-after t (events.Finish restart) needs left = record { few = grind (arith, nat_tests, needs, left.few, left.apart); apart = grind (arith, nat_tests, needs, left.apart) }
+left-after t (events.Finish restart) needs left = record
+    { few = grind (arith, nat_tests, needs, left.few, left.apart); apart = grind (arith, nat_tests, needs, left.apart) }
 
 pub stamp-after : (t : Timer) (e : Event) → ((after t e).stamp ≡ t.stamp + 1) × ((after t e).limit ≡ t.limit)
 stamp-after t (events.Out base) = (refl, refl)
@@ -46,7 +48,8 @@ few_entries t (e ∷ es) steps left =
     omega (arith, rest, counted.0, counted.1)
 
 pub legal_few : (clock : ClockId) (limit : ℕ) (history : List Entry) → IsLegal clock limit history → length history ≤ limit + 3
-legal_few clock limit history legal = let few = few_entries (opening clock limit) history legal (record { few = omega arith; apart = refl }) in omega (arith, few)
+legal_few clock limit history legal = let few = few_entries (opening clock limit) history legal
+    (record { few = omega arith; apart = refl }) in omega (arith, few)
 
 pub legal_short : (clock : ClockId) (limit : ℕ) (history : List Entry) → limit ≤ greatest_limit → IsLegal clock limit history → length history < 2 ^ 48
 legal_short clock limit history most legal = let few = legal_few clock limit history legal in omega (arith, few, most)

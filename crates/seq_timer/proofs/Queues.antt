@@ -28,7 +28,8 @@ queue_of-dequeued id c clocks.Monotonic = refl
 queue_of-dequeued id c clocks.Realtime = refl
 queue_of-dequeued id c clocks.Boottime = refl
 
-pub queue_of-enqueued : (its clock : ClockId) (expires id : ℕ) (c : Content) → queue_of (enqueued its expires id c) clock ≡ (if nat_eq (rank its) (rank clock) then put expires id (queue_of c clock) else queue_of c clock)
+pub queue_of-enqueued : (its clock : ClockId) (expires id : ℕ) (c : Content)
+    → queue_of (enqueued its expires id c) clock ≡ (if nat_eq (rank its) (rank clock) then put expires id (queue_of c clock) else queue_of c clock)
 queue_of-enqueued clocks.Monotonic clocks.Monotonic expires id c = refl
 queue_of-enqueued clocks.Monotonic clocks.Realtime expires id c = refl
 queue_of-enqueued clocks.Monotonic clocks.Boottime expires id c = refl
@@ -60,29 +61,38 @@ abbrev content_of : List (ℕ × ℕ) → List (ℕ × ℕ) → List (ℕ × ℕ
 content_of m r b running = record { monotonic = m; realtime = r; boottime = b; running = running }
 
 same_queues : (m m' r r' b b' : List (ℕ × ℕ)) (running : Option (ℕ × ℕ)) → m ≡ m' → r ≡ r' → b ≡ b' → content_of m r b running ≡ content_of m' r' b' running
-same_queues m m' r r' b b' running em er eb = ap (λ q. content_of q r b running) em ∙ ap (λ q. content_of m' q b running) er ∙ ap (λ q. content_of m' r' q running) eb
+same_queues m m' r r' b b' running em er eb = ap (λ q. content_of q r b running) em ∙ ap (λ q. content_of m' q b running) er
+    ∙ ap (λ q. content_of m' r' q running) eb
 
 not_queued : (t : Timer) (its clock : ClockId) → t.clock ≡ its → nat_eq (rank its) (rank clock) ≡ false → is_queued clock t ≡ false
-not_queued t its clock is apart = and_right (is_some t.armed) (nat_eq (rank t.clock) (rank clock)) (subst (λ k. nat_eq (rank k) (rank clock) ≡ false) (sym is) apart)
+not_queued t its clock is apart = and_right (is_some t.armed) (nat_eq (rank t.clock) (rank clock))
+    (subst (λ k. nat_eq (rank k) (rank clock) ≡ false) (sym is) apart)
 
 -- a timer that isn't armed is in none of them
 pub dequeued-unarmed : (id : ℕ) (t : Timer) (c : Content) → IsQueuedAs id t c → is_some t.armed ≡ false → c ≡ dequeued id c
 dequeued-unarmed id t c here none =
     let off : (clock : ClockId) → is_queued clock t ≡ false = λ clock. and_left (is_some t.armed) (nat_eq (rank t.clock) (rank clock)) none in
     same_queues c.monotonic (without id c.monotonic) c.realtime (without id c.realtime) c.boottime (without id c.boottime) c.running
-    (sym (without_absent id c.monotonic (here.monotonic ∙ off clocks.Monotonic))) (sym (without_absent id c.realtime (here.realtime ∙ off clocks.Realtime))) (sym (without_absent id c.boottime (here.boottime ∙ off clocks.Boottime)))
+    (sym (without_absent id c.monotonic (here.monotonic ∙ off clocks.Monotonic)))
+    (sym (without_absent id c.realtime (here.realtime ∙ off clocks.Realtime))) (sym (without_absent id c.boottime (here.boottime ∙ off clocks.Boottime)))
 
-pub dequeued-monotonic : (id : ℕ) (t : Timer) (c : Content) (queue : List (ℕ × ℕ)) → IsQueuedAs id t c → t.clock ≡ clocks.Monotonic → queue ≡ without id c.monotonic → record c { monotonic = queue } ≡ dequeued id c
+pub dequeued-monotonic : (id : ℕ) (t : Timer) (c : Content) (queue : List (ℕ × ℕ)) → IsQueuedAs id t c → t.clock ≡ clocks.Monotonic
+    → queue ≡ without id c.monotonic → record c { monotonic = queue } ≡ dequeued id c
 dequeued-monotonic id t c queue here is off =
     same_queues queue (without id c.monotonic) c.realtime (without id c.realtime) c.boottime (without id c.boottime) c.running off
-    (sym (without_absent id c.realtime (here.realtime ∙ not_queued t clocks.Monotonic clocks.Realtime is refl))) (sym (without_absent id c.boottime (here.boottime ∙ not_queued t clocks.Monotonic clocks.Boottime is refl)))
+    (sym (without_absent id c.realtime (here.realtime ∙ not_queued t clocks.Monotonic clocks.Realtime is refl)))
+    (sym (without_absent id c.boottime (here.boottime ∙ not_queued t clocks.Monotonic clocks.Boottime is refl)))
 
-pub dequeued-realtime : (id : ℕ) (t : Timer) (c : Content) (queue : List (ℕ × ℕ)) → IsQueuedAs id t c → t.clock ≡ clocks.Realtime → queue ≡ without id c.realtime → record c { realtime = queue } ≡ dequeued id c
+pub dequeued-realtime : (id : ℕ) (t : Timer) (c : Content) (queue : List (ℕ × ℕ)) → IsQueuedAs id t c → t.clock ≡ clocks.Realtime
+    → queue ≡ without id c.realtime → record c { realtime = queue } ≡ dequeued id c
 dequeued-realtime id t c queue here is off =
     same_queues c.monotonic (without id c.monotonic) queue (without id c.realtime) c.boottime (without id c.boottime) c.running
-    (sym (without_absent id c.monotonic (here.monotonic ∙ not_queued t clocks.Realtime clocks.Monotonic is refl))) off (sym (without_absent id c.boottime (here.boottime ∙ not_queued t clocks.Realtime clocks.Boottime is refl)))
+    (sym (without_absent id c.monotonic (here.monotonic ∙ not_queued t clocks.Realtime clocks.Monotonic is refl))) off
+    (sym (without_absent id c.boottime (here.boottime ∙ not_queued t clocks.Realtime clocks.Boottime is refl)))
 
-pub dequeued-boottime : (id : ℕ) (t : Timer) (c : Content) (queue : List (ℕ × ℕ)) → IsQueuedAs id t c → t.clock ≡ clocks.Boottime → queue ≡ without id c.boottime → record c { boottime = queue } ≡ dequeued id c
+pub dequeued-boottime : (id : ℕ) (t : Timer) (c : Content) (queue : List (ℕ × ℕ)) → IsQueuedAs id t c → t.clock ≡ clocks.Boottime
+    → queue ≡ without id c.boottime → record c { boottime = queue } ≡ dequeued id c
 dequeued-boottime id t c queue here is off =
     same_queues c.monotonic (without id c.monotonic) c.realtime (without id c.realtime) queue (without id c.boottime) c.running
-    (sym (without_absent id c.monotonic (here.monotonic ∙ not_queued t clocks.Boottime clocks.Monotonic is refl))) (sym (without_absent id c.realtime (here.realtime ∙ not_queued t clocks.Boottime clocks.Realtime is refl))) off
+    (sym (without_absent id c.monotonic (here.monotonic ∙ not_queued t clocks.Boottime clocks.Monotonic is refl)))
+    (sym (without_absent id c.realtime (here.realtime ∙ not_queued t clocks.Boottime clocks.Realtime is refl))) off

@@ -43,6 +43,15 @@ pub kind_of : (t : Timer) (e : Event) → Needs t e → IsClaiming t e ⊎ (IsFi
 kind_of t (events.Out base) needs = inr (inr (record { told = refl; no_finish = refl; runs = refl }))
 kind_of t (events.Start mode ns reading asked) needs = inr (inr (record { told = refl; no_finish = refl; runs = refl }))
 kind_of t events.Cancel needs = inr (inr (record { told = refl; no_finish = refl; runs = refl }))
-kind_of t (events.Claim base reading) needs = inl (record { generation = unwrap_or t.armed 0; told = refl; no_finish = refl; idle = none_of t.running needs.2; armed = some_of t.armed needs.0; disarmed = refl; runs = some_of t.armed needs.0 })
+kind_of t (events.Claim base reading) needs = inl
+    (record {
+      generation = unwrap_or t.armed 0;
+      told = refl;
+      no_finish = refl;
+      idle = none_of t.running needs.2;
+      armed = some_of t.armed needs.0;
+      disarmed = refl;
+      runs = some_of t.armed needs.0;
+    })
 kind_of t (events.Forward reading interval) needs = inr (inr (record { told = refl; no_finish = refl; runs = refl }))
 kind_of t (events.Finish restart) needs = inr (inl (record { told = refl; finish = refl; ended = refl; answers = λ g is. unwrapped t.running g is }))

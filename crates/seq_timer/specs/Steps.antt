@@ -27,7 +27,18 @@ pub record Timer : Type 0 where
 
 -- a timer of which nothing has happened yet
 abbrev pub opening : ClockId → ℕ → Timer
-opening clock limit = record { declared = clock; clock = clock; base = 0; expires = 0; armed = None; running = None; moving = false; stamp = 0; limit = limit }
+opening clock limit = record {
+  declared = clock;
+  clock = clock;
+  base = 0;
+  expires = 0;
+  armed = None;
+  running = None;
+  moving = false;
+  stamp =
+      0;
+  limit = limit;
+}
 
 -- the time that the timer's clock shows in a reading
 abbrev pub now_of : Timer → ClockReading → ℕ
@@ -72,7 +83,8 @@ after t (events.Finish restart) = finished t restart
 
 -- how a finish tells of the restart
 abbrev pub rearmed_by : Timer → Bool → Rearmed
-rearmed_by t restart = if restart && not (is_some t.armed) then (if nat_lt t.stamp t.limit then rearmings.Again (t.stamp + 1) else rearmings.Spent t.stamp) else rearmings.No
+rearmed_by t restart = if restart && not
+    (is_some t.armed) then (if nat_lt t.stamp t.limit then rearmings.Again (t.stamp + 1) else rearmings.Spent t.stamp) else rearmings.No
 
 -- what a start answers
 abbrev pub start_reply : Timer → Mode → ℕ → ClockReading → Reply
@@ -88,7 +100,8 @@ reply_to t (events.Out base) = replies.Out (is_some t.armed)
 reply_to t (events.Start mode ns reading asked) = start_reply t mode ns reading
 reply_to t events.Cancel = replies.Cancel (unwrap_or t.armed 0)
 reply_to t (events.Claim base reading) = replies.Claim (unwrap_or t.armed 0)
-reply_to t (events.Forward reading interval) = let now = now_of t reading in replies.Forward (passed t.expires now interval) (next_after t.expires now interval)
+reply_to t (events.Forward reading interval) = let now = now_of t reading in replies.Forward (passed t.expires now interval)
+    (next_after t.expires now interval)
 reply_to t (events.Finish restart) = finish_reply t restart
 
 -- the greatest limit on entries: entries past it keep the stamp below 2^48

@@ -4,11 +4,13 @@ ghost use Rattle.ktime.specs.Readings.{latest};
 ghost use Rattle.seq_timer.specs.declared.event.Event.TheVariants as events;
 
 use crate::{
-    Event, Observation, Peek, Rearmed, Reply, TimerState, a_cancelled_generation_never_runs,
-    a_span_has_one_generation, histories_end, running_is_told_inside_the_span,
-    spans_do_not_overlap,
+    Base, Event, Observation, Peek, Rearmed, Reply, TimerState, a_cancelled_generation_never_runs,
+    a_span_has_one_generation, a_stamp_counts_entries, histories_end,
+    running_is_told_inside_the_span, spans_do_not_overlap,
 };
 use ktime::{ClockId, Mode, Reading};
+use std::alloc::AllocError;
+use timer_queue::ListQueue;
 
 /// A reading in which all clocks show this time.
 fn at(time: u64) -> Reading
@@ -197,10 +199,25 @@ fn the_limit_refuses_a_restart(rt: HostRuntime) {
 }
 
 #[test]
+fn a_base_goes_along_with_its_timer(rt: HostRuntime) -> Result<(), AllocError> {
+    let mut base = Base::<ListQueue>::make(rt.alloc(), 1)?;
+    let idle = TimerState::make(ClockId::Monotonic, 100);
+    let event = start(Mode::Rel, 100, at(0));
+    let mut armed = idle;
+    armed.apply(event);
+    base.step(0, &idle, &event, &armed);
+    assert_eq!(rt; base.first(at(99)), None);
+    assert_eq!(rt; base.first(at(100)), Some((100, 0)));
+    assert_eq!(rt; base.running(), None);
+    Ok(())
+}
+
+#[test]
 fn the_laws_can_be_cited() {
     a_cancelled_generation_never_runs();
     spans_do_not_overlap();
     running_is_told_inside_the_span();
     a_span_has_one_generation();
+    a_stamp_counts_entries();
     histories_end();
 }

@@ -51,14 +51,18 @@ size-after k id e = record {
   bases = length-set k.bases (timer_in k id).base (base_after id (timer_in k id) e (base_at k (timer_in k id).base));
 }
 
-base-here : (k : Kept) (id : ℕ) (e : Event) → (timer_in k id).base < length k.bases → base_at (after_event k id e) (timer_in k id).base ≡ base_after id (timer_in k id) e (base_at k (timer_in k id).base)
-base-here k id e inside = get_or-set_same k.bases (timer_in k id).base (base_after id (timer_in k id) e (base_at k (timer_in k id).base)) (empty_base 0) inside
+base-here : (k : Kept) (id : ℕ) (e : Event) → (timer_in k id).base < length k.bases
+    → base_at (after_event k id e) (timer_in k id).base ≡ base_after id (timer_in k id) e (base_at k (timer_in k id).base)
+base-here k id e inside = get_or-set_same k.bases (timer_in k id).base (base_after id (timer_in k id) e (base_at k (timer_in k id).base))
+    (empty_base 0) inside
 
 base-else : (k : Kept) (id base : ℕ) (e : Event) → base ≢ (timer_in k id).base → base_at (after_event k id e) base ≡ base_at k base
-base-else k id base e apart = get_or-set_other k.bases (timer_in k id).base base (base_after id (timer_in k id) e (base_at k (timer_in k id).base)) (empty_base 0) apart
+base-else k id base e apart = get_or-set_other k.bases (timer_in k id).base base
+    (base_after id (timer_in k id) e (base_at k (timer_in k id).base)) (empty_base 0) apart
 
 -- what holds of the timer, and of each other before, holds of each
-each_timer : (k : Kept) (id : ℕ) (e : Event) (P : Timer → Type 0) → id < length k.timers → P (after (timer_in k id) e) → ((other : ℕ) → P (timer_in k other)) → (other : ℕ) → P (timer_in (after_event k id e) other)
+each_timer : (k : Kept) (id : ℕ) (e : Event) (P : Timer → Type 0) → id < length k.timers → P (after (timer_in k id) e)
+    → ((other : ℕ) → P (timer_in k other)) → (other : ℕ) → P (timer_in (after_event k id e) other)
 each_timer k id e P within this those other = ⊎_elim
     (λ (same : other ≡ id). subst (λ i. P (timer_in (after_event k id e) i)) (sym same) (subst P (sym (timer-itself k id e within)) this))
     (λ apart. subst P (sym (timer-other k id other e apart)) (those other))
@@ -95,15 +99,20 @@ agrees-after k id e all within needs permits =
       contents = λ base. ⊎_elim
           (λ (here : base ≡ t.base). subst (λ b. IsContentOf (timer_in new) b (content_at new b)) (sym here)
           (subst (λ (b : BaseState). IsContentOf (timer_in new) t.base b.content) (sym (base-here k id e (all.placed id)))
-          (IsContentOf-after (timer_in k) (timer_in new) id e (content_at k t.base) needs (all.apart id) (free_for k id e permits) one (all.contents t.base))))
+          (IsContentOf-after (timer_in k) (timer_in new) id e (content_at k t.base) needs (all.apart id) (free_for k id e permits) one
+          (all.contents t.base))))
           (λ apart. subst (λ (b : BaseState). IsContentOf (timer_in new) base b.content) (sym (base-else k id base e apart))
           (IsContentOf-elsewhere (timer_in k) (timer_in new) id e base (content_at k base) needs apart one (all.contents base)))
           (cases_eq base t.base);
       rooms = λ base inside. ⊎_elim
-          (λ (here : base ≡ t.base). ap (λ b. (base_at new b).room) here ∙ ap (λ (b : BaseState). b.room) (base-here k id e (all.placed id)) ∙ all.rooms t.base (all.placed id) ∙ sym sizes.timers)
-          (λ apart. ap (λ (b : BaseState). b.room) (base-else k id base e apart) ∙ all.rooms base (subst (λ n. base < n) sizes.bases inside) ∙ sym sizes.timers)
+          (λ (here : base ≡ t.base). ap (λ b. (base_at new b).room) here ∙ ap (λ (b : BaseState). b.room) (base-here k id e (all.placed id))
+          ∙ all.rooms t.base (all.placed id) ∙ sym sizes.timers)
+          (λ apart. ap (λ (b : BaseState). b.room) (base-else k id base e apart) ∙ all.rooms base (subst (λ n. base < n) sizes.bases inside)
+          ∙ sym sizes.timers)
           (cases_eq base t.base);
-      placed = each_timer k id e (λ x. x.base < length new.bases) within (subst (λ n. now.base < n) (sym sizes.bases) (placed-after k id e permits (all.placed id))) (λ other. subst (λ n. (timer_in k other).base < n) (sym sizes.bases) (all.placed other));
+      placed = each_timer k id e (λ x. x.base < length new.bases) within
+          (subst (λ n. now.base < n) (sym sizes.bases) (placed-after k id e permits (all.placed id)))
+          (λ other. subst (λ n. (timer_in k other).base < n) (sym sizes.bases) (all.placed other));
       apart = each_timer k id e (λ x. x.moving ≡ true → (x.armed ≡ None) × (x.running ≡ None)) within (apart-after t e needs (all.apart id)) all.apart;
       few_bases = subst (λ n. n ≤ 8) (sym sizes.bases) all.few_bases;
       few_timers = subst (λ n. n ≤ 256) (sym sizes.timers) all.few_timers;
@@ -126,7 +135,8 @@ set_twice [] i a b = refl
 set_twice (x ∷ xs) zero a b = refl
 set_twice (x ∷ xs) (suc i) a b = ap (λ ys. x ∷ ys) (set_twice xs i a b)
 
-pub makes-two : (k : Kept) (id : ℕ) (d e : Event) → id < length k.timers → AreAllowed (timer_in k id) (d ∷ e ∷ []) → Makes k id (d ∷ e ∷ []) (after_event (after_event k id d) id e)
+pub makes-two : (k : Kept) (id : ℕ) (d e : Event) → id < length k.timers → AreAllowed (timer_in k id) (d ∷ e ∷ [])
+    → Makes k id (d ∷ e ∷ []) (after_event (after_event k id d) id e)
 makes-two k id d e within allowed =
     let mid = after_event k id d in
     let here = timer-itself k id d within in
@@ -134,12 +144,14 @@ makes-two k id d e within allowed =
       within = within;
       allowed = allowed;
       kept = refl;
-      timers = ap (λ t. set (set k.timers id (after (timer_in k id) d)) id (after t e)) here ∙ set_twice k.timers id (after (timer_in k id) d) (after (after (timer_in k id) d) e);
+      timers = ap (λ t. set (set k.timers id (after (timer_in k id) d)) id (after t e)) here
+          ∙ set_twice k.timers id (after (timer_in k id) d) (after (after (timer_in k id) d) e);
       timer = timer-itself mid id e there ∙ ap (λ t. after t e) here;
       others = λ other apart. timer-other mid id other e apart ∙ timer-other k id other d apart;
     }
 
-pub still-after : (k new : Kept) (id : ℕ) (es : List Event) → Makes k id es new → ((other : ℕ) → (timer_in k other).moving ≡ false) → (step_all (timer_in k id) es).moving ≡ false → (other : ℕ) → (timer_in new other).moving ≡ false
+pub still-after : (k new : Kept) (id : ℕ) (es : List Event) → Makes k id es new → ((other : ℕ) → (timer_in k other).moving ≡ false)
+    → (step_all (timer_in k id) es).moving ≡ false → (other : ℕ) → (timer_in new other).moving ≡ false
 still-after k new id es makes still now other = ⊎_elim
     (λ (same : other ≡ id). ap (λ i. (timer_in new i).moving) same ∙ ap (λ (t : Timer). t.moving) makes.timer ∙ now)
     (λ apart. ap (λ (t : Timer). t.moving) (makes.others other apart) ∙ still other)
@@ -154,7 +166,8 @@ permits-moving k id (events.Claim base reading) needs moves = absurd (true≢fal
 permits-moving k id (events.Forward reading interval) needs moves = tt
 permits-moving k id (events.Finish restart) needs moves = tt
 
-pub consistent-one : (k : Kept) (id : ℕ) (e : Event) → IsConsistent k → id < length k.timers → Needs (timer_in k id) e → Permits k id e → (after (timer_in k id) e).moving ≡ false → IsConsistent (after_event k id e)
+pub consistent-one : (k : Kept) (id : ℕ) (e : Event) → IsConsistent k → id < length k.timers → Needs (timer_in k id) e → Permits k id e
+    → (after (timer_in k id) e).moving ≡ false → IsConsistent (after_event k id e)
 consistent-one k id e all within needs permits still =
     consistent (after_event k id e) (agrees-after k id e (agrees k all) within needs permits)
     (still-after k (after_event k id e) id (e ∷ []) (makes-one k id e within needs) all.still still)
@@ -163,16 +176,20 @@ consistent-one k id e all within needs permits still =
 pub needs-next : (k : Kept) (id : ℕ) (d e : Event) → id < length k.timers → Needs (after (timer_in k id) d) e → Needs (timer_in (after_event k id d) id) e
 needs-next k id d e within needs = subst (λ t. Needs t e) (sym (timer-itself k id d within)) needs
 
-pub permits-next : (k : Kept) (id base : ℕ) (e : Event) → id < length k.timers → Needs (after (timer_in k id) (events.Out base)) e → Permits (after_event k id (events.Out base)) id e
+pub permits-next : (k : Kept) (id base : ℕ) (e : Event) → id < length k.timers → Needs (after (timer_in k id) (events.Out base)) e
+    → Permits (after_event k id (events.Out base)) id e
 permits-next k id base e within needs =
-    permits-moving (after_event k id (events.Out base)) id e (needs-next k id (events.Out base) e within needs) (ap (λ (t : Timer). t.moving) (timer-itself k id (events.Out base) within))
+    permits-moving (after_event k id (events.Out base)) id e (needs-next k id (events.Out base) e within needs)
+    (ap (λ (t : Timer). t.moving) (timer-itself k id (events.Out base) within))
 
-pub consistent-two : (k : Kept) (id base : ℕ) (e : Event) → IsConsistent k → id < length k.timers → base < length k.bases → AreAllowed (timer_in k id) (events.Out base ∷ e ∷ [])
+pub consistent-two : (k : Kept) (id base : ℕ) (e : Event) → IsConsistent k → id < length k.timers → base < length k.bases
+    → AreAllowed (timer_in k id) (events.Out base ∷ e ∷ [])
     → (step_all (timer_in k id) (events.Out base ∷ e ∷ [])).moving ≡ false → IsConsistent (after_event (after_event k id (events.Out base)) id e)
 consistent-two k id base e all within inside allowed still =
     let out = events.Out base in
     let mid = after_event k id out in
     let needs = needs-next k id out e within allowed.1.0 in
     let there = subst (λ n. id < n) (sym (size-after k id out).timers) within in
-    consistent (after_event mid id e) (agrees-after mid id e (agrees-after k id out (agrees k all) within allowed.0 inside) there needs (permits-next k id base e within allowed.1.0))
+    consistent (after_event mid id e)
+    (agrees-after mid id e (agrees-after k id out (agrees k all) within allowed.0 inside) there needs (permits-next k id base e within allowed.1.0))
     (still-after k (after_event mid id e) id (out ∷ e ∷ []) (makes-two k id out e within allowed) all.still still)

@@ -14,18 +14,23 @@ use Rattle.seq_timer.specs.Bases.{BaseState, empty_base}
 use Rattle.timer_core.specs.Kept.{IsConsistent, opened}
 
 -- what holds of each timer at its opening holds of each that is there, or isn't
-pub each_opening : (P : Timer → Type 0) → ((clock : ClockId) (limit : ℕ) → P (opening clock limit)) → (list : List ClockId) (limit id : ℕ) → P (timer_at (map (λ clock. opening clock limit) list) id)
+pub each_opening : (P : Timer → Type 0) → ((clock : ClockId) (limit : ℕ) → P (opening clock limit)) → (list : List ClockId) (limit id : ℕ)
+    → P (timer_at (map (λ clock. opening clock limit) list) id)
 each_opening P all list limit id =
     ⊎_elim
-    (λ (there : id < length list). subst P (sym (get_or-map (λ clock. opening clock limit) list id clocks.Monotonic no_timer there)) (all (get_or list id clocks.Monotonic) limit))
-    (λ (past : length list ≤ id). subst P (sym (get_or_past (map (λ clock. opening clock limit) list) id no_timer (subst (λ n. n ≤ id) (sym (length-map list (λ clock. opening clock limit))) past))) (all clocks.Monotonic 1))
+    (λ (there : id < length list). subst P (sym (get_or-map (λ clock. opening clock limit) list id clocks.Monotonic no_timer there))
+    (all (get_or list id clocks.Monotonic) limit))
+    (λ (past : length list ≤ id). subst P
+    (sym (get_or_past (map (λ clock. opening clock limit) list) id no_timer
+    (subst (λ n. n ≤ id) (sym (length-map list (λ clock. opening clock limit))) past))) (all clocks.Monotonic 1))
     (cases_lt id (length list))
 
 pub empty-at : (n base room : ℕ) → (get_or (replicate n (empty_base room)) base (empty_base 0)).content ≡ (empty_base 0).content
 empty-at n base room =
     ⊎_elim
     (λ (there : base < n). ap (λ (b : BaseState). b.content) (get_or-replicate n base (empty_base room) (empty_base 0) there))
-    (λ (past : n ≤ base). ap (λ (b : BaseState). b.content) (get_or_past (replicate n (empty_base room)) base (empty_base 0) (subst (λ m. m ≤ base) (sym (length-replicate n (empty_base room))) past)))
+    (λ (past : n ≤ base). ap (λ (b : BaseState). b.content)
+    (get_or_past (replicate n (empty_base room)) base (empty_base 0) (subst (λ m. m ≤ base) (sym (length-replicate n (empty_base room))) past)))
     (cases_lt base n)
 
 pub queue_of-empty : (clock : ClockId) → queue_of (empty_base 0).content clock ≡ []
@@ -51,8 +56,11 @@ pub consistent-opened : (bases : ℕ) (list : List ClockId) (limit : ℕ) → 1 
 consistent-opened bases list limit some few timers =
     let room = length list in
     let many = length-replicate bases (empty_base room) in record {
-      contents = λ base. subst (IsContentOf (timer_at (map (λ clock. opening clock limit) list)) base) (sym (empty-at bases base room)) (empty-agrees list limit base);
-      rooms = λ base below. ap (λ (b : BaseState). b.room) (get_or-replicate bases base (empty_base room) (empty_base 0) (subst (λ n. base < n) many below)) ∙ sym (length-map list (λ clock. opening clock limit));
+      contents = λ base. subst (IsContentOf (timer_at (map (λ clock. opening clock limit) list)) base) (sym (empty-at bases base room))
+          (empty-agrees list limit base);
+      rooms = λ base below. ap (λ (b : BaseState). b.room)
+          (get_or-replicate bases base (empty_base room) (empty_base 0) (subst (λ n. base < n) many below))
+          ∙ sym (length-map list (λ clock. opening clock limit));
       placed = λ id. each_opening (λ t. t.base < length (replicate bases (empty_base room))) (λ c l. subst (λ n. 0 < n) (sym many) some) list limit id;
       still = λ id. each_opening (λ t. t.moving ≡ false) (λ c l. refl) list limit id;
       few_bases = subst (λ n. n ≤ 8) (sym many) few;

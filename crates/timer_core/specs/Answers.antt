@@ -22,7 +22,8 @@ moves_first t asked = not (is_some t.running) && not (nat_eq t.base asked)
 
 -- the events of a start
 abbrev pub start_events : Timer → Mode → ℕ → ℕ → ClockReading → List Event
-start_events t mode ns asked reading = if moves_first t asked then events.Out asked ∷ events.Start mode ns reading asked ∷ [] else events.Start mode ns reading asked ∷ []
+start_events t mode ns asked reading = if moves_first t asked then events.Out asked ∷ events.Start mode ns reading asked ∷
+    [] else events.Start mode ns reading asked ∷ []
 
 -- what a start answers, of the timer before and after it
 abbrev pub started_as : Timer → Timer → ℕ → StartAnswer
@@ -30,7 +31,8 @@ started_as t now asked = starts.Started (is_some t.armed) now.stamp now.base (if
 
 -- what a forward answers that isn't refused
 abbrev pub forwarded_as : Timer → ClockReading → ℕ → ForwardAnswer
-forwarded_as t reading interval = forwards.Forwarded (t.stamp + 1) (passed t.expires (now_of t reading) interval) (next_after t.expires (now_of t reading) interval)
+forwarded_as t reading interval = forwards.Forwarded (t.stamp + 1) (passed t.expires (now_of t reading) interval)
+    (next_after t.expires (now_of t reading) interval)
 
 -- a claim of the timer that is the next to expire on a base where no function runs: of equal expiries the one that was armed first
 pub record ClaimsNext (old : Kept) (base : ℕ) (reading : ClockReading) (id generation number : ℕ) (new : Kept) : Type 0 where
@@ -46,5 +48,6 @@ pub record ClaimsNext (old : Kept) (base : ℕ) (reading : ClockReading) (id gen
 -- what a claim of the next timer does, by its answer
 abbrev pub IsClaim : Kept → ℕ → ClockReading → ClaimAnswer → Kept → Type 0
 IsClaim old base reading (claims.BaseBusy id generation) new = (running_on base (timer_in old id) ≡ Some generation) × (new ≡ old)
-IsClaim old base reading claims.NoneDue new = ((id : ℕ) → runs_on base (timer_in old id) ≡ false) × ((id : ℕ) → is_due_on base reading (timer_in old id) ≡ false) × (new ≡ old)
+IsClaim old base reading claims.NoneDue new =
+    ((id : ℕ) → runs_on base (timer_in old id) ≡ false) × ((id : ℕ) → is_due_on base reading (timer_in old id) ≡ false) × (new ≡ old)
 IsClaim old base reading (claims.Claimed id generation number) new = ClaimsNext old base reading id generation number new

@@ -15,7 +15,8 @@ use Rattle.timer_queue.specs.Pairs.{put, place_of, without, has_id, expiry_of, f
 pub put_at : (expires id : ℕ) (ps : List (ℕ × ℕ)) → put expires id ps ≡ insert ps (place_of expires ps) (expires, id)
 put_at expires id [] = refl
 put_at expires id (p ∷ ps) =
-    elim (nat_lt expires p.0) as (λ b. (if b then (expires, id) ∷ p ∷ ps else p ∷ put expires id ps) ≡ insert (p ∷ ps) (if b then 0 else place_of expires ps + 1) (expires, id)) [
+    elim (nat_lt expires p.0) as (λ b. (if b then (expires, id) ∷ p ∷ ps else p ∷ put expires id ps) ≡ insert (p ∷ ps)
+    (if b then 0 else place_of expires ps + 1) (expires, id)) [
       | true ↦ refl
       | false ↦ rw add-one (ap (λ qs. p ∷ qs) (put_at expires id ps))
     ]
@@ -29,7 +30,8 @@ length-put expires id [] = refl
 length-put expires id (p ∷ ps) = grind (arith, nat_tests, length-put expires id ps)
 
 -- what holds of the new pair and of each old one holds of each
-pub AllByRecursion-put : (P : ℕ × ℕ → Type 0) (expires id : ℕ) (ps : List (ℕ × ℕ)) → P (expires, id) → AllByRecursion P ps → AllByRecursion P (put expires id ps)
+pub AllByRecursion-put : (P : ℕ × ℕ → Type 0) (expires id : ℕ) (ps : List (ℕ × ℕ)) → P (expires, id) → AllByRecursion P ps
+    → AllByRecursion P (put expires id ps)
 AllByRecursion-put P expires id [] new old = (new, tt)
 AllByRecursion-put P expires id (p ∷ ps) new old =
     elim (nat_lt expires p.0) as (λ b. AllByRecursion P (if b then (expires, id) ∷ p ∷ ps else p ∷ put expires id ps)) [
@@ -46,7 +48,8 @@ pub IsByExpiry-put : (expires id : ℕ) (ps : List (ℕ × ℕ)) → IsByExpiry 
 IsByExpiry-put expires id [] sorted = (tt, tt)
 IsByExpiry-put expires id (p ∷ ps) sorted =
     elim (nat_lt expires p.0) as (λ b. nat_lt expires p.0 ≡ b → IsByExpiry (if b then (expires, id) ∷ p ∷ ps else p ∷ put expires id ps)) [
-      | true ↦ λ e. let less = ltb-true expires p.0 e in ((omega arith, AllByRecursion-follows (λ q. p.0 ≤ q.0) (λ q. expires ≤ q.0) (λ q h. omega arith) ps sorted.0), sorted)
+      | true ↦ λ e. let less = ltb-true expires p.0 e in
+          ((omega arith, AllByRecursion-follows (λ q. p.0 ≤ q.0) (λ q. expires ≤ q.0) (λ q h. omega arith) ps sorted.0), sorted)
       | false ↦ λ e. (AllByRecursion-put (λ q. p.0 ≤ q.0) expires id ps (ltb-false expires p.0 e) sorted.0, IsByExpiry-put expires id ps sorted.1)
     ] refl
 
@@ -65,7 +68,8 @@ pub apart_from_absent : (id : ℕ) (ps : List (ℕ × ℕ)) → has_id id ps ≡
 apart_from_absent id [] absent = tt
 apart_from_absent id (p ∷ ps) absent = (grind (arith, nat_tests), apart_from_absent id ps (grind (arith, nat_tests)))
 
-pub IsDistinct-put : (expires id : ℕ) (ps : List (ℕ × ℕ)) → has_id id ps ≡ false → IsDistinct nat_eq (map (λ p. p.1) ps) → IsDistinct nat_eq (map (λ p. p.1) (put expires id ps))
+pub IsDistinct-put : (expires id : ℕ) (ps : List (ℕ × ℕ)) → has_id id ps ≡ false → IsDistinct nat_eq (map (λ p. p.1) ps)
+    → IsDistinct nat_eq (map (λ p. p.1) (put expires id ps))
 IsDistinct-put expires id [] absent once = IsDistinct-cons nat_eq id [] tt once
 IsDistinct-put expires id (p ∷ ps) absent once =
     let apart = apart_from_absent id (p ∷ ps) absent in
@@ -74,7 +78,9 @@ IsDistinct-put expires id (p ∷ ps) absent once =
     let rest : has_id id ps ≡ false = grind (arith, nat_tests) in
     elim (nat_lt expires p.0) as (λ b. IsDistinct nat_eq (map (λ q. q.1) (if b then (expires, id) ∷ p ∷ ps else p ∷ put expires id ps))) [
       | true ↦ IsDistinct-cons nat_eq id (map (λ q. q.1) (p ∷ ps)) (All-ids (λ k. nat_eq id k ≡ false) (p ∷ ps) apart) once
-      | false ↦ IsDistinct-cons nat_eq p.1 (map (λ q. q.1) (put expires id ps)) (All-ids (λ k. nat_eq p.1 k ≡ false) (put expires id ps) (AllByRecursion-put (λ q. nat_eq p.1 q.1 ≡ false) expires id ps other head)) (IsDistinct-put expires id ps rest (IsDistinct-tail nat_eq p.1 (map (λ q. q.1) ps) once))
+      | false ↦ IsDistinct-cons nat_eq p.1 (map (λ q. q.1) (put expires id ps))
+          (All-ids (λ k. nat_eq p.1 k ≡ false) (put expires id ps) (AllByRecursion-put (λ q. nat_eq p.1 q.1 ≡ false) expires id ps other head))
+          (IsDistinct-put expires id ps rest (IsDistinct-tail nat_eq p.1 (map (λ q. q.1) ps) once))
     ]
 
 pub IsQueue-put : (room expires id : ℕ) (ps : List (ℕ × ℕ)) → has_id id ps ≡ false → id < room → IsQueue room ps → IsQueue room (put expires id ps)
@@ -112,7 +118,8 @@ IsDistinct-without id (p ∷ ps) once =
     let head = All-from_ids (λ k. nat_eq p.1 k ≡ false) ps (IsDistinct-head nat_eq p.1 (map (λ q. q.1) ps) once) in
     elim (nat_eq p.1 id) as (λ b. IsDistinct nat_eq (map (λ q. q.1) (if not b then p ∷ without id ps else without id ps))) [
       | true ↦ rest
-      | false ↦ IsDistinct-cons nat_eq p.1 (map (λ q. q.1) (without id ps)) (All-ids (λ k. nat_eq p.1 k ≡ false) (without id ps) (AllByRecursion-without (λ q. nat_eq p.1 q.1 ≡ false) id ps head)) rest
+      | false ↦ IsDistinct-cons nat_eq p.1 (map (λ q. q.1) (without id ps))
+          (All-ids (λ k. nat_eq p.1 k ≡ false) (without id ps) (AllByRecursion-without (λ q. nat_eq p.1 q.1 ≡ false) id ps head)) rest
     ]
 
 pub IsQueue-without : (room id : ℕ) (ps : List (ℕ × ℕ)) → IsQueue room ps → IsQueue room (without id ps)
@@ -135,12 +142,14 @@ below_from_any room (k ∷ ks) all q found = grind (arith, nat_tests, all.0, bel
 -- no more pairs than the room, since the numbers differ
 pub length-le_room : (room : ℕ) (ps : List (ℕ × ℕ)) → IsQueue room ps → length ps ≤ room
 length-le_room room ps queue =
-    let few = length-le_from_distinct_below (map (λ p. p.1) ps) room queue.once (below_from_any room (map (λ p. p.1) ps) (All-ids (λ k. k < room) ps queue.below)) in
+    let few = length-le_from_distinct_below (map (λ p. p.1) ps) room queue.once
+    (below_from_any room (map (λ p. p.1) ps) (All-ids (λ k. k < room) ps queue.below)) in
     omega (arith, few, length-map ps (λ p. p.1))
 
 -- where a number below the room is absent, there is room for one more pair
 pub length-lt_room : (room id : ℕ) (ps : List (ℕ × ℕ)) → has_id id ps ≡ false → id < room → IsQueue room ps → length ps < room
-length-lt_room room id ps absent inside queue = omega (arith, length-put 0 id ps, length-le_room room (put 0 id ps) (IsQueue-put room 0 id ps absent inside queue))
+length-lt_room room id ps absent inside queue = omega
+    (arith, length-put 0 id ps, length-le_room room (put 0 id ps) (IsQueue-put room 0 id ps absent inside queue))
 
 -- ---- the expiry of each timer
 
@@ -154,7 +163,8 @@ has_id-expiry_of id (p ∷ ps) =
     ]
 
 -- after adding, the new timer has its expiry, and every other timer has what it had
-pub expiry_of-put : (q expires id : ℕ) (ps : List (ℕ × ℕ)) → has_id id ps ≡ false → expiry_of q (put expires id ps) ≡ (if nat_eq id q then Some expires else expiry_of q ps)
+pub expiry_of-put : (q expires id : ℕ) (ps : List (ℕ × ℕ)) → has_id id ps ≡ false
+    → expiry_of q (put expires id ps) ≡ (if nat_eq id q then Some expires else expiry_of q ps)
 expiry_of-put q expires id [] absent = refl
 expiry_of-put q expires id (p ∷ ps) absent =
     let other : nat_eq p.1 id ≡ false = grind (arith, nat_tests) in
@@ -181,7 +191,8 @@ below_each least [] all id expires found = grind arith
 below_each least (q ∷ ps) all id expires found = grind (arith, nat_tests, all.0, below_each least ps all.1 id expires)
 
 -- no timer expires before the first pair does
-pub first_is_least : (ps : List (ℕ × ℕ)) (p : ℕ × ℕ) → IsByExpiry ps → first_of ps ≡ Some p → (id expires : ℕ) → expiry_of id ps ≡ Some expires → p.0 ≤ expires
+pub first_is_least : (ps : List (ℕ × ℕ)) (p : ℕ × ℕ) → IsByExpiry ps → first_of ps ≡ Some p → (id expires : ℕ)
+    → expiry_of id ps ≡ Some expires → p.0 ≤ expires
 first_is_least [] p sorted first id expires found = grind arith
 first_is_least (q ∷ ps) p sorted first id expires found =
     let same = same_Some q p first in

@@ -1,3 +1,4 @@
+//! Tests of queues, of any kind.
 use crate::list::ListQueue;
 use crate::queue::Queue;
 use std::alloc::{AllocError, Global};

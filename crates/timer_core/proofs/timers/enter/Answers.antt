@@ -13,6 +13,8 @@ step-requires-clause-queued g c =
     let was = get_or_read k.timers c.args.id c.index.result.now c.requires.timer c.index.ensures no_timer in
     let on : c.base.result ≡ (timer_in k c.args.id).base = c.base.ensures ∙ ap (λ (t : Timer). t.base) was in
     let inside = subst (λ n. n < length k.bases) (sym on) (c.requires.agree.placed c.args.id) in
-    let here : c.index_mut-base.result.now ≡ base_at k (timer_in k c.args.id).base = get_or_read k.bases c.base.result c.index_mut-base.result.now inside c.index_mut-base.ensures.value (empty_base 0) ∙ ap (base_at k) on in
+    let here : c.index_mut-base.result.now ≡ base_at k
+    (timer_in k c.args.id).base = get_or_read k.bases c.base.result c.index_mut-base.result.now inside c.index_mut-base.ensures.value
+    (empty_base 0) ∙ ap (base_at k) on in
     subst (λ (t : Timer). IsQueuedAs c.args.id t c.index_mut-base.result.now.content) (sym was)
     (subst (λ (b : BaseState). IsQueuedAs c.args.id (timer_in k c.args.id) b.content) (sym here) (queued k c.args.id c.requires.agree))

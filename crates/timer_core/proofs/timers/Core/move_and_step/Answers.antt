@@ -10,7 +10,8 @@ enter-requires-2-clause-agree g c =
     let k : Kept = record { timers = c.self.inside.timers.items; bases = c.self.inside.bases.items } in
     let within = subst (λ (k : Kept). c.args.id < length k.timers) (sym c.self.view_is) c.requires.timer in
     let inside = subst (λ (k : Kept). c.args.base < length k.bases) (sym c.self.view_is) c.requires.base in
-    let allowed = subst (λ (k : Kept). AreAllowed (timer_in k c.args.id) (events.Out c.args.base ∷ c.args.event ∷ [])) (sym c.self.view_is) c.requires.allowed in
+    let allowed = subst (λ (k : Kept). AreAllowed (timer_in k c.args.id) (events.Out c.args.base ∷ c.args.event ∷ []))
+    (sym c.self.view_is) c.requires.allowed in
     subst Agrees (sym c.enter.ensures.kept) (agrees-after k c.args.id (events.Out c.args.base) (agrees k c.self.invariant) within allowed.0 inside)
 
 pub invariant_of-self : goal.invariant_of-self
@@ -18,8 +19,10 @@ invariant_of-self g c =
     let k : Kept = record { timers = c.self.inside.timers.items; bases = c.self.inside.bases.items } in
     let within = subst (λ (k : Kept). c.args.id < length k.timers) (sym c.self.view_is) c.requires.timer in
     let inside = subst (λ (k : Kept). c.args.base < length k.bases) (sym c.self.view_is) c.requires.base in
-    let allowed = subst (λ (k : Kept). AreAllowed (timer_in k c.args.id) (events.Out c.args.base ∷ c.args.event ∷ [])) (sym c.self.view_is) c.requires.allowed in
-    let still = subst (λ (k : Kept). (step_all (timer_in k c.args.id) (events.Out c.args.base ∷ c.args.event ∷ [])).moving ≡ false) (sym c.self.view_is) c.requires.still in
+    let allowed = subst (λ (k : Kept). AreAllowed (timer_in k c.args.id) (events.Out c.args.base ∷ c.args.event ∷ []))
+    (sym c.self.view_is) c.requires.allowed in
+    let still = subst (λ (k : Kept). (step_all (timer_in k c.args.id) (events.Out c.args.base ∷ c.args.event ∷ [])).moving ≡ false)
+    (sym c.self.view_is) c.requires.still in
     subst IsConsistent (sym (c.enter-2.ensures.kept ∙ ap (λ m. after_event m c.args.id c.args.event) c.enter.ensures.kept))
     (consistent-two k c.args.id c.args.base c.args.event c.self.invariant within inside allowed still)
 
@@ -27,5 +30,6 @@ pub returns-clause-makes : goal.returns-clause-makes
 returns-clause-makes g c =
     let out = events.Out c.args.base in
     subst (Makes c.args.self.now c.args.id (out ∷ c.args.event ∷ []))
-    (sym (c.enter-2.ensures.kept ∙ ap (λ m. after_event m c.args.id c.args.event) (c.enter.ensures.kept ∙ ap (λ k. after_event k c.args.id out) c.self.view_is)))
+    (sym (c.enter-2.ensures.kept ∙ ap (λ m. after_event m c.args.id c.args.event)
+    (c.enter.ensures.kept ∙ ap (λ k. after_event k c.args.id out) c.self.view_is)))
     (makes-two c.args.self.now c.args.id out c.args.event c.requires.timer c.requires.allowed)

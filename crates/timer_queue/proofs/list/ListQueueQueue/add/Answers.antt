@@ -25,13 +25,15 @@ room_left c =
 added : (c : goal.In-Ok) → c.insert.new.self.items ≡ put c.args.expires c.args.id c.self.inside.list.items
 added c =
     let at = c.place-at.ensures ∙ ap (λ ps. place_of c.args.expires ps) c.deref.ensures.value in
-    c.in-Ok.ensures.items ∙ ap (λ k. insert c.self.inside.list.items k (c.args.expires, c.args.id)) at ∙ sym (put_at c.args.expires c.args.id c.self.inside.list.items)
+    c.in-Ok.ensures.items ∙ ap (λ k. insert c.self.inside.list.items k (c.args.expires, c.args.id)) at
+    ∙ sym (put_at c.args.expires c.args.id c.self.inside.list.items)
 
 kept : (c : goal.In-Ok) → IsQueue c.self.inside.room c.insert.new.self.items
 kept c =
     let absent : has_id c.args.id c.self.inside.list.items ≡ false = subst (λ q. has_id c.args.id q.0 ≡ false) (sym c.self.view_is) c.requires.absent in
     let inside = subst (λ q. c.args.id < q.1) (sym c.self.view_is) c.requires.below in
-    subst (λ ps. IsQueue c.self.inside.room ps) (sym (added c)) (IsQueue-put c.self.inside.room c.args.expires c.args.id c.self.inside.list.items absent inside c.self.invariant.0)
+    subst (λ ps. IsQueue c.self.inside.room ps) (sym (added c))
+    (IsQueue-put c.self.inside.room c.args.expires c.args.id c.self.inside.list.items absent inside c.self.invariant.0)
 
 pub invariant_of-self : goal.invariant_of-self
 invariant_of-self c = (kept c, omega (arith, c.self.invariant.1, c.in-Ok.ensures.capacity))
