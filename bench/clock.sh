@@ -2,15 +2,9 @@
 # Counts readings of clock_cell's clock in a second, beside the kernel's clock_gettime (vDSO), and prints one table. The
 # proved program is built with `rt run` if none is current; the runs then end within 100 seconds. Outside the gate.
 # On a busy machine threads may get one processor in turn: `chrt -r 1 bench/clock.sh` keeps them running.
-set -eu
-top=$(cd "$(dirname "$0")/.." && pwd)
-program=$top/crates/clock_cell_bench/out/clock_cell_bench
-built=$(mktemp -d)
-trap 'rm -rf "$built"' EXIT
+. "$(dirname "$0")/peers.bash"
 gcc -O2 -pthread -o "$built/c" "$top/bench/clock_peers.c"
-if [ ! -x "$program" ] || [ -n "$(find "$top"/crates/*/src "$top"/crates/*/specs "$top"/crates/*/proofs -newer "$program" 2>/dev/null)" ]; then
-    (cd "$top/crates/clock_cell_bench" && rt run --jobs 1 -- check) > "$built/log" 2>&1 || { tail -n 20 "$built/log" >&2; exit 1; }
-fi
+proved clock_cell_bench
 
 for _ in 1 2 3 4 5; do
     for each in "$program" "$built/c"; do
@@ -18,7 +12,7 @@ for _ in 1 2 3 4 5; do
     done
 done > "$built/rates"
 
-echo "$(nproc) processors, load $(cut -d' ' -f1 /proc/loadavg)"
+machine
 echo "Millions a second, all threads together, from the least to the most of 5 runs: readings, and writes beside them:"
 awk -F'\t' '
     { key = $1 FS $2 }

@@ -2,16 +2,10 @@
 # Times a lock and its end on a value of counted_row, beside a C11 lock and Rust's Mutex round a counter, and prints one
 # table. The proved program is built with `rt run` if none is current; the runs then end within 30 seconds. Outside the gate.
 # On a busy machine two threads may get one processor in turn: `chrt -r 1 bench/row.sh` keeps them running.
-set -eu
-top=$(cd "$(dirname "$0")/.." && pwd)
-program=$top/crates/counted_row_bench/out/counted_row_bench
-built=$(mktemp -d)
-trap 'rm -rf "$built"' EXIT
+. "$(dirname "$0")/peers.bash"
 gcc -O2 -pthread -o "$built/c" "$top/bench/row_peers.c"
 rustc -O -o "$built/rust" "$top/bench/row_peers.rs"
-if [ ! -x "$program" ] || [ -n "$(find "$top"/crates/*/src "$top"/crates/*/specs "$top"/crates/*/proofs -newer "$program" 2>/dev/null)" ]; then
-    (cd "$top/crates/counted_row_bench" && rt run --jobs 1 -- check) > "$built/log" 2>&1 || { tail -n 20 "$built/log" >&2; exit 1; }
-fi
+proved counted_row_bench
 
 for _ in 1 2 3; do
     for each in "$program" "$built/c" "$built/rust"; do
@@ -19,7 +13,7 @@ for _ in 1 2 3; do
     done
 done > "$built/times"
 
-echo "$(nproc) processors, load $(cut -d' ' -f1 /proc/loadavg)"
+machine
 echo "Nanoseconds that a thread takes for a lock and its end, the least of 15 rounds:"
 awk -F'\t' '
     { key = $1 FS $2 }

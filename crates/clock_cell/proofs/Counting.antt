@@ -12,7 +12,8 @@ use Rattle.clock_cell.specs.Views.{KnowsClock, writes}
 pub all_made : (v : ClockView) → KnowsClock v → IsLast v.pass.id → length (writes v) ≡ length v.pass.mine
 all_made v knows last =
     let each = knows.all_entries last in
-    sym (places_of_one 0 (length (writes v)) v.pass.mine (λ k. each.once 0 k) (λ j k apart. each.once j k ∙ (ap (λ seen. one_if (within k (length (entries j seen)))) knows.one ∙ elsewhere j k apart)))
+    sym (places_of_one 0 (length (writes v)) v.pass.mine (λ k. each.once 0 k)
+    (λ j k apart. each.once j k ∙ (ap (λ seen. one_if (within k (length (entries j seen)))) knows.one ∙ elsewhere j k apart)))
   where
     elsewhere : (j k : ℕ) → j ≢ 0 → one_if (within k (length (entries {E = Write} j (writes v ∷ [])))) ≡ 0
     elsewhere zero k apart = absurd (apart refl)

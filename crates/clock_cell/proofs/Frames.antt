@@ -39,14 +39,16 @@ module _ (words : List ℕ) (views : List ClockView) (inv : ClockInvariant words
   module _ (id : ℕ) (v v' : ClockView) (words' : List ℕ) (log : List Write) (at : get_elem? views id ≡ some v)
       (grows : Begins inv.log log) (shows : words' ≡ cell_words (reading_after log)) (legal : AreAccepted (at_stamp 0) log)
       (agrees : ClockAgrees log v') (same_id : clock_pass_id v' ≡ clock_pass_id v)
-      (places : (i k : ℕ) → clock_places i k v' + one_if (within k (length (entries i (inv.log ∷ [])))) ≡ clock_places i k v + one_if (within k (length (entries i (log ∷ []))))) where
+      (places : (i k : ℕ) → clock_places i k v' + one_if (within k (length (entries i (inv.log ∷ [])))) ≡ clock_places i k v + one_if
+      (within k (length (entries i (log ∷ []))))) where
     pub turned : (h : ClockInvariant words' (slice_set views id v')) × (h.log ≡ log)
     turned = (
       record {
         log = log;
         shows = shows;
         legal = legal;
-        each_view = λ j u e. ⊎_elim (λ t. subst (λ w. ClockAgrees log w) t.1 agrees) (λ t. agrees_on inv.log log u grows (inv.each_view j u t.1)) (at_set views id j v' u e);
+        each_view = λ j u e. ⊎_elim (λ t. subst (λ w. ClockAgrees log w) t.1 agrees)
+            (λ t. agrees_on inv.log log u grows (inv.each_view j u t.1)) (at_set views id j v' u e);
         tree = subst (λ ls. IsPassTree ls) (sym (map_kept clock_pass_id views id v v' at same_id)) inv.tree;
         tally = λ i k. omega (arith, total_set (clock_places i k) views id v v' at, places i k, inv.tally i k);
       },
@@ -66,8 +68,15 @@ module _ (words : List ℕ) (views : List ClockView) (inv : ClockInvariant words
           (λ t. ⊎_elim (λ h. subst (λ x. ClockAgrees inv.log x) h.1 agrees) (λ h. inv.each_view j u h.1) (at_set views id j v' u t))
           (λ t. subst (λ x. ClockAgrees inv.log x) t agrees_new)
           (at_snoc (set views id v') w u j e);
-      tree = subst (λ ls. IsPassTree ls) (sym (map-append clock_pass_id (set views id v') (w ∷ []) ∙ ap (λ ls. ls ++ clock_pass_id w ∷ []) (map-set clock_pass_id views id v'))) tree;
-      tally = λ i k. omega (arith, total_set (clock_places i k) views id v v' at, total-append (clock_places i k) (set views id v') (w ∷ []), places i k, inv.tally i k);
+      tree = subst (λ ls. IsPassTree ls) (sym
+          (map-append clock_pass_id (set views id v') (w ∷ []) ∙ ap (λ ls. ls ++ clock_pass_id w ∷ []) (map-set clock_pass_id views id v'))) tree;
+      tally = λ i k. omega (
+        arith,
+        total_set (clock_places i k) views id v v' at,
+        total-append (clock_places i k) (set views id v') (w ∷ []),
+        places i k,
+        inv.tally i k,
+      );
     }
 
   -- One pass has taken in another.
@@ -84,6 +93,13 @@ module _ (words : List ℕ) (views : List ClockView) (inv : ClockInvariant words
           (λ t. subst (λ x. ClockAgrees inv.log x) t.1 agrees_left)
           (λ t. ⊎_elim (λ h. subst (λ x. ClockAgrees inv.log x) h.1 agrees) (λ h. inv.each_view j u h.1) (at_set views id j v' u t.1))
           (at_set (set views id v') other j w' u e);
-      tree = subst (λ ls. IsPassTree ls) (sym (map-set clock_pass_id (set views id v') other w' ∙ ap (λ ls. set ls other (clock_pass_id w')) (map-set clock_pass_id views id v'))) tree;
-      tally = λ i k. omega (arith, total_set (clock_places i k) views id v v' at, total_set (clock_places i k) (set views id v') other w w' at_other, places i k, inv.tally i k);
+      tree = subst (λ ls. IsPassTree ls) (sym
+          (map-set clock_pass_id (set views id v') other w' ∙ ap (λ ls. set ls other (clock_pass_id w')) (map-set clock_pass_id views id v'))) tree;
+      tally = λ i k. omega (
+        arith,
+        total_set (clock_places i k) views id v v' at,
+        total_set (clock_places i k) (set views id v') other w w' at_other,
+        places i k,
+        inv.tally i k,
+      );
     }

@@ -47,8 +47,10 @@ goes_on xs ys all a b = by (nat_lt (length xs) (length ys)) refl
 pub of_one : (v w old new : ClockView) → old.heard ≡ all_heard v w → Hears old new → Begins (writes v) (writes new) × Begins (writes w) (writes new)
 of_one v w old new heard hears =
     let P : List Write → Type 0 = λ ws. Begins ws (writes new) in
-    let all : All P (all_heard v w) = subst (All P) heard hears.begins in
-    (All-head P (writes v) (writes w ∷ v.heard ++ w.heard) all, All-head P (writes w) (v.heard ++ w.heard) (All-tail P (writes v) (writes w ∷ v.heard ++ w.heard) all))
+    let all : All P (all_heard v w) = subst (All P) heard hears.begins in (
+      All-head P (writes v) (writes w ∷ v.heard ++ w.heard) all,
+      All-head P (writes w) (v.heard ++ w.heard) (All-tail P (writes v) (writes w ∷ v.heard ++ w.heard) all),
+    )
 
 module _ (v w : ClockView) (is : IsRestingView v) (is_w : IsRestingView w) (one : AreOfOne (writes v) (writes w)) where
   -- what was seen with a pass goes on where its one list does
@@ -74,14 +76,17 @@ module _ (v w : ClockView) (is : IsRestingView v) (is_w : IsRestingView w) (one 
       }
 
 -- the same of the views of seats: those before, inside the passes, and those after
-module _ (v w before other : ClockView) (e : before ≡ v) (f : other ≡ w) (is : IsRestingView before) (is_w : IsRestingView other) (one : AreOfOne (writes v) (writes w)) where
+module _ (v w before other : ClockView) (e : before ≡ v) (f : other ≡ w) (is : IsRestingView before) (is_w : IsRestingView other)
+    (one : AreOfOne (writes v) (writes w)) where
   pub retires_at : (after : ClockView) → after ≡ joined_clock_view before other → Retires v.pass w.pass after.pass
   retires_at after heard =
       subst (λ u. Retires v.pass w.pass u.pass) (sym (heard ∙ (ap (λ u. joined_clock_view u other) e ∙ ap (joined_clock_view v) f)))
       (retires v w (subst IsRestingView e is) (subst IsRestingView f is_w) one)
 
-  pub meets_at : (from to first second : ClockView) → from ≡ before → to ≡ told_clock_view other before → second ≡ to → first ≡ told_clock_view from to → Meets v.pass w.pass first.pass second.pass
+  pub meets_at : (from to first second : ClockView) → from ≡ before → to ≡ told_clock_view other before → second ≡ to
+      → first ≡ told_clock_view from to → Meets v.pass w.pass first.pass second.pass
   meets_at from to first second same heard again back =
       let heard : to ≡ told_clock_view w v = heard ∙ (ap (λ u. told_clock_view u before) f ∙ ap (told_clock_view w) e) in
       subst (λ u. Meets v.pass w.pass u.pass second.pass) (sym (back ∙ (ap (λ u. told_clock_view u to) (same ∙ e) ∙ ap (told_clock_view v) heard)))
-      (subst (λ u. Meets v.pass w.pass (told_clock_view v (told_clock_view w v)).pass u.pass) (sym (again ∙ heard)) (meets v w (subst IsRestingView e is) (subst IsRestingView f is_w) one))
+      (subst (λ u. Meets v.pass w.pass (told_clock_view v (told_clock_view w v)).pass u.pass) (sym (again ∙ heard))
+      (meets v w (subst IsRestingView e is) (subst IsRestingView f is_w) one))

@@ -31,7 +31,8 @@ module _ (words : List ℕ) (views : List ClockView) (inv : ClockInvariant words
   has_each : IsLast v.pass.id → HasEach v.pass.seen v.pass.mine
   has_each last = record {
     once = λ i k.
-        sym (total_last clock_pass_id views inv.tree id v at live last (clock_places i k) (λ j u at_u off. ap (count (is_place i k)) ((inv.each_view j u at_u).gone off)))
+        sym (total_last clock_pass_id views inv.tree id v at live last (clock_places i k)
+        (λ j u at_u off. ap (count (is_place i k)) ((inv.each_view j u at_u).gone off)))
         ∙ (inv.tally i k ∙ ap (λ seen. one_if (within k (length (entries i seen)))) (sym all));
   }
 
@@ -55,7 +56,8 @@ module _ (id : ℕ) (v : ClockView) (live : v.pass.id.live ≡ true) where
   no_gone off = absurd (true≢false (sym live ∙ off))
 
   -- where the words stay, the pass may see all writes
-  pub looks_at : (words : List ℕ) (views : List ClockView) → ClockInvariant words views → get_elem? views id ≡ some v → (w : ClockView) × ClockInvariant words (slice_set views id w) × Loaded v words w
+  pub looks_at : (words : List ℕ) (views : List ClockView) → ClockInvariant words views → get_elem? views id ≡ some v
+      → (w : ClockView) × ClockInvariant words (slice_set views id w) × Loaded v words w
   looks_at words views inv at =
       let w = having_read inv.log v in
       let agrees = inv.each_view id v at in
@@ -81,26 +83,36 @@ module _ (id : ℕ) (v : ClockView) (live : v.pass.id.live ≡ true) where
     Goes words views words' = (u : ClockView) × ClockInvariant words' (slice_set views id u) × Exchanged w v words words' u
 
     -- the write's place is one more
-    one_place : (log : List Write) (i k : ℕ) → count (is_place i k) (v.pass.mine ++ (0, length log + 1) ∷ []) + one_if (within k (length (entries i (log ∷ []))))
+    one_place : (log : List Write) (i k : ℕ)
+        → count (is_place i k) (v.pass.mine ++ (0, length log + 1) ∷ []) + one_if (within k (length (entries i (log ∷ []))))
         ≡ count (is_place i k) v.pass.mine + one_if (within k (length (entries i ((log ++ w ∷ []) ∷ []))))
-    one_place log zero k = omega (arith, count_place 0 0 k (length log + 1) v.pass.mine, within_more k (length log), ap (λ n. one_if (within k n)) (length-append log (w ∷ [])))
+    one_place log zero k = omega (
+      arith,
+      count_place 0 0 k (length log + 1) v.pass.mine,
+      within_more k (length log),
+      ap (λ n. one_if (within k n)) (length-append log (w ∷ [])),
+    )
     one_place log (suc i) k =
-        let elsewhere : one_if (eqb 0 (suc i) && eqb (length log + 1) k) ≡ 0 = ap (λ b. one_if (b && eqb (length log + 1) k)) (ne_eqb 0 (suc i) (λ e. omega arith)) in
+        let elsewhere : one_if (eqb 0 (suc i) && eqb (length log + 1) k) ≡ 0 = ap (λ b. one_if (b && eqb (length log + 1) k))
+        (ne_eqb 0 (suc i) (λ e. omega arith)) in
         omega (arith, elsewhere, count_place 0 (suc i) k (length log + 1) v.pass.mine)
 
     -- the words are those of the reading: the write is made
-    hits : (words : List ℕ) (views : List ClockView) → ClockInvariant words views → get_elem? views id ≡ some v → words ≡ cell_words r → Goes words views (cell_words (after_write r w))
+    hits : (words : List ℕ) (views : List ClockView) → ClockInvariant words views → get_elem? views id ≡ some v → words ≡ cell_words r
+        → Goes words views (cell_words (after_write r w))
     hits words views inv at same =
         let log = inv.log ++ w ∷ [] in
         let now : r ≡ reading_after inv.log = ap reading_in (sym same ∙ inv.shows) in
         let accepted : IsAccepted (reading_after inv.log) w = subst (λ x. IsAccepted x w) now ok in
-        let shows : cell_words (after_write r w) ≡ cell_words (reading_after log) = ap cell_words (ap (λ x. after_write x w) now ∙ sym (clock_after-append (at_stamp 0) inv.log (w ∷ []))) in
+        let shows : cell_words (after_write r w) ≡ cell_words (reading_after log) = ap cell_words
+        (ap (λ x. after_write x w) now ∙ sym (clock_after-append (at_stamp 0) inv.log (w ∷ []))) in
         let more : Begins inv.log log = begins_more inv.log (w ∷ []) in
         let agrees = inv.each_view id v at in
         let u : ClockView = record { pass = record v.pass { seen = log ∷ []; mine = v.pass.mine ++ (0, length inv.log + 1) ∷ [] }; heard = [] } in
         let next = turned words views inv id v u (cell_words (after_write r w)) log at more shows (accepted_push (at_stamp 0) inv.log w inv.legal accepted)
         (record { seen = goes_refl (log ∷ []); heard = All-nil (λ ws. Begins ws log); gone = no_gone }) refl (one_place inv.log) in
-        let stamp : slice_index (cell_words (after_write r w)) 0 ≡ slice_index words 0 + 1 = after_write_counts r w ∙ ap (λ ws. slice_index ws 0 + 1) (sym same) in (
+        let stamp : slice_index (cell_words (after_write r w)) 0 ≡ slice_index words 0 + 1 = after_write_counts r w ∙ ap
+        (λ ws. slice_index ws 0 + 1) (sym same) in (
           u,
           next.0,
           record {
@@ -117,8 +129,13 @@ module _ (id : ℕ) (v : ClockView) (live : v.pass.id.live ≡ true) where
               accepted = accepted;
               sees = record {
                 shows = shows;
-                hears = record { begins = All-weaker (λ ws. Begins ws inv.log) (λ ws. Begins ws log) (λ ws t. begins_trans t more) v.heard agrees.heard; none = refl };
-                rests = rests_of (cell_words (after_write r w)) (slice_set views id u) next.0 id u (set_there views id v u at) live (ap (λ l. l ∷ []) (sym next.1)) refl;
+                hears = record {
+                  begins = All-weaker (λ ws. Begins ws inv.log) (λ ws. Begins ws log)
+                      (λ ws t. begins_trans t more) v.heard agrees.heard;
+                  none = refl;
+                };
+                rests = rests_of (cell_words (after_write r w)) (slice_set views id u) next.0 id u (set_there views id v u at) live
+                    (ap (λ l. l ∷ []) (sym next.1)) refl;
               };
             };
           },

@@ -39,7 +39,8 @@ module _ (ids : List PassId) (tree : IsPassTree ids) (i : ℕ) (l : PassId) (at 
 
   pub moved_tree : IsPassTree (set ids i gone_pass_id ++ l ∷ [])
   moved_tree = record {
-    each = λ n. omega (arith, tree.each n, as_many (λ (m : PassId). occurrences n m.split) refl, as_many (λ (m : PassId). one_if (m.live && same n m.name)) refl);
+    each = λ n. omega
+        (arith, tree.each n, as_many (λ (m : PassId). occurrences n m.split) refl, as_many (λ (m : PassId). one_if (m.live && same n m.name)) refl);
     once = λ n. omega (arith, tree.once n, as_many (λ (m : PassId). one_if (m.live && same n m.name)) refl);
     longer = λ j m n e has. ⊎_elim (λ t. absurd (omega (arith, ap (λ (x : PassId). occurrences n x.split) t))) (λ t. tree.longer t.0 m n t.1 has) (was j m e);
     fresh = λ j m k n e live borne ext.
@@ -61,7 +62,8 @@ agrees_told log v w agrees other =
     let heard = other.seen.each 0 in
     record {
       seen = goes_one _ log (longer_begins (writes v) (writes w) log mine heard);
-      heard = All-cons P (writes v) (writes w ∷ v.heard ++ w.heard) mine (All-cons P (writes w) (v.heard ++ w.heard) heard (All-append P v.heard w.heard agrees.heard other.heard));
+      heard = All-cons P (writes v) (writes w ∷ v.heard ++ w.heard) mine
+          (All-cons P (writes w) (v.heard ++ w.heard) heard (All-append P v.heard w.heard agrees.heard other.heard));
       gone = agrees.gone;
     }
 
@@ -79,7 +81,9 @@ notes id v words views inv at =
     let agrees = inv.each_view id v at in
     grown words views inv id v v (clock_note_of v) at agrees
     (record { seen = agrees.seen; heard = agrees.heard; gone = λ off. refl })
-    (subst (λ ls. IsPassTree (ls ++ gone_pass_id ∷ [])) (sym (set_again (map clock_pass_id views) id (clock_pass_id v) (at_map clock_pass_id views id v at))) (gone_tree (map clock_pass_id views) inv.tree))
+    (subst (λ ls. IsPassTree (ls ++ gone_pass_id ∷ []))
+    (sym (set_again (map clock_pass_id views) id (clock_pass_id v) (at_map clock_pass_id views id v at)))
+    (gone_tree (map clock_pass_id views) inv.tree))
     (λ i k. omega arith)
 
 pub moves : (id : ℕ) (v : ClockView) → Forks ClockInvariant id v gone_clock_view v
@@ -90,25 +94,30 @@ moves id v words views inv at =
     (moved_tree (map clock_pass_id views) inv.tree id (clock_pass_id v) (at_map clock_pass_id views id v at))
     (λ i k. omega arith)
 
-pub joins : (id other : ℕ) (v w : ClockView) → v.pass.id.live ≡ true → w.pass.id.live ≡ true → AnswersFor v.pass.id w.pass.id → Merges ClockInvariant id v other w (joined_clock_view v w) gone_clock_view
+pub joins : (id other : ℕ) (v w : ClockView) → v.pass.id.live ≡ true → w.pass.id.live ≡ true → AnswersFor v.pass.id w.pass.id
+    → Merges ClockInvariant id v other w (joined_clock_view v w) gone_clock_view
 joins id other v w live live_w answers words views inv at apart at_other =
     let at_w : get_elem? views other ≡ some w = sym (set_else views id other (joined_clock_view v w) apart) ∙ at_other in
     let heard = agrees_told inv.log v w (inv.each_view id v at) (inv.each_view other w at_w) in
     let id_at : get_elem? (set (map clock_pass_id views) id (clock_pass_id (joined_clock_view v w))) other ≡ some (clock_pass_id w) =
-    ap (λ ls. get_elem? ls other) (sym (map-set clock_pass_id views id (joined_clock_view v w))) ∙ at_map clock_pass_id (set views id (joined_clock_view v w)) other w at_other in
+    ap (λ ls. get_elem? ls other) (sym (map-set clock_pass_id views id (joined_clock_view v w))) ∙ at_map clock_pass_id
+    (set views id (joined_clock_view v w)) other w at_other in
     merged words views inv id other v (joined_clock_view v w) w gone_clock_view at at_other
     (record { seen = heard.seen; heard = heard.heard; gone = λ off. absurd (true≢false (sym live ∙ off)) })
     (agrees_gone inv.log)
-    (joins_tree (map clock_pass_id views) inv.tree id other (clock_pass_id v) (clock_pass_id w) (at_map clock_pass_id views id v at) live apart id_at live_w answers)
+    (joins_tree (map clock_pass_id views) inv.tree id other (clock_pass_id v) (clock_pass_id w)
+    (at_map clock_pass_id views id v at) live apart id_at live_w answers)
     (λ i k. omega (arith, total-append (λ (p : ℕ × ℕ). one_if (is_place i k p)) v.pass.mine w.pass.mine))
 
 -- a note is taken in
-pub tells : (id other : ℕ) (v u : ClockView) → Merges ClockInvariant id v other (clock_note_of u) (told_clock_view v (clock_note_of u)) gone_clock_view
+pub tells : (id other : ℕ) (v u : ClockView)
+    → Merges ClockInvariant id v other (clock_note_of u) (told_clock_view v (clock_note_of u)) gone_clock_view
 tells id other v u words views inv at apart at_other =
     let w = clock_note_of u in
     let at_w : get_elem? views other ≡ some w = sym (set_else views id other (told_clock_view v w) apart) ∙ at_other in
     let ids : set (set (map clock_pass_id views) id (clock_pass_id v)) other gone_pass_id ≡ map clock_pass_id views =
-    ap (λ ls. set ls other gone_pass_id) (set_again (map clock_pass_id views) id (clock_pass_id v) (at_map clock_pass_id views id v at)) ∙ set_again (map clock_pass_id views) other gone_pass_id (at_map clock_pass_id views other w at_w) in
+    ap (λ ls. set ls other gone_pass_id) (set_again (map clock_pass_id views) id (clock_pass_id v) (at_map clock_pass_id views id v at))
+    ∙ set_again (map clock_pass_id views) other gone_pass_id (at_map clock_pass_id views other w at_w) in
     merged words views inv id other v (told_clock_view v w) w gone_clock_view at at_other
     (agrees_told inv.log v w (inv.each_view id v at) (inv.each_view other w at_w))
     (agrees_gone inv.log)

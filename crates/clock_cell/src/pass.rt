@@ -1,3 +1,4 @@
+//! What a caller of the clock holds.
 ghost use Rattle.std.specs.Prelude.{◌≡◌};
 ghost use Rattle.crossbeam_utils.specs.Seq.{cell_view};
 ghost use Rattle.clock_cell.specs.Plays.{IsRestingView};

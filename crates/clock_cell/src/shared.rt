@@ -10,7 +10,7 @@ ghost use Rattle.clock_cell.specs.Views.{IsPassOfClock, AreOfOne, AnswersWrite, 
 use crate::pass::ClockPass;
 use crate::plays::Child;
 use crate::steps::{ClockCell, absorb, enter, look, tell};
-use crate::words::{reading_in, cell_words};
+use crate::words::{cell_words, reading_in};
 use clock_model::{Clock, ClockFault, Write};
 use ktime::Reading;
 use std::alloc::{AllocError, Global};

@@ -7,7 +7,7 @@ ghost use Rattle.clock_cell.specs.Views.{told_clock_view, joined_clock_view};
 ghost use Rattle.clock_cell.specs.Plays.{Loaded, MadeWrite};
 ghost use Rattle.clock_cell.specs.Words.{cell_words};
 
-use crate::plays::{Asked, Child, Enter, ClockRule, Look, Note, Whole};
+use crate::plays::{Asked, Child, ClockRule, Enter, Look, Note, Whole};
 use crate::view::ClockView;
 use crate::words::cell_words;
 use clock_model::Write;

@@ -1,3 +1,4 @@
+//! Callers of a shared clock, proved and run: one thread, two threads, and passes that meet.
 ghost use Rattle.std.specs.Prelude.{◌≡◌, ◌+◌, ◌^◌, ◌<◌, ◌≤◌, length, IfOk};
 ghost use Rattle.clock_cell.specs.Views.{IsPassOfClock};
 

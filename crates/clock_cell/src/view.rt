@@ -1,3 +1,4 @@
+//! What is known of a clock by a pass, as plain data. No value of it is made.
 use clock_model::Write;
 use pass_names::Pass;
 use std::collections::LinkedList;

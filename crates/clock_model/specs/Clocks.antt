@@ -42,7 +42,8 @@ pub record IsAccepted (r : ClockReading) (w : Write) : Type 0 where
 -- when a write is refused, and why: the count of writes is looked at first
 pub record IsRefusedAs {T : Type 0} (r : ClockReading) (w : Write) (result : Result T ClockFault) : Type 0 where
   pub spent : (result ≡ Err ClockSpent) ↔ (last_stamp ≤ r.stamp)
-  pub range : (would_be : ℕ) → (result ≡ Err (ClockRange would_be)) ↔ ((r.stamp < last_stamp) × (latest < would_be) × (would_be ≡ greatest (after_write r w)))
+  pub range : (would_be : ℕ)
+      → (result ≡ Err (ClockRange would_be)) ↔ ((r.stamp < last_stamp) × (latest < would_be) × (would_be ≡ greatest (after_write r w)))
 
 -- the reading after a list of writes
 abbrev pub clock_after : ClockReading → List Write → ClockReading

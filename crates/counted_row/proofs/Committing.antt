@@ -44,25 +44,36 @@ same_value i claim name c e =
     rw p.0 (ap (same name) (sym (same_eq claim c.1 p.1)))
 
 -- claims on other values stay
-pub claims_else : (claims : List (ℕ × List ℕ)) (i : ℕ) (e : Effect) → Permits claims i e → (k : ℕ) (name : List ℕ) → k ≢ i → count (is_claim k name) (claims_after claims i e) ≡ count (is_claim k name) claims
+pub claims_else : (claims : List (ℕ × List ℕ)) (i : ℕ) (e : Effect) → Permits claims i e → (k : ℕ) (name : List ℕ) → k ≢ i
+    → count (is_claim k name) (claims_after claims i e) ≡ count (is_claim k name) claims
 claims_else claims i plain ok k name apart = refl
 claims_else claims i (opens claim) ok k name apart =
-    omega (arith, total-append (λ (c : ℕ × List ℕ). one_if (is_claim k name c)) claims ((i, claim) ∷ []), ap (λ b. one_if (b && same name claim)) (ne_eqb i k (λ t. apart (sym t))))
+    omega (
+      arith,
+      total-append (λ (c : ℕ × List ℕ). one_if (is_claim k name c)) claims ((i, claim) ∷ []),
+      ap (λ b. one_if (b && same name claim)) (ne_eqb i k (λ t. apart (sym t))),
+    )
 claims_else claims i (uses claim) ok k name apart = refl
 claims_else claims i (ends claim) ok k name apart =
     omega (arith, count-without_first (is_claim i claim) (is_claim k name) false (other_value i k claim name apart) claims ok)
 
 -- the claims on the value change as the effect says
-pub claims_here : (claims : List (ℕ × List ℕ)) (i : ℕ) (e : Effect) → Permits claims i e → (name : List ℕ) → count (is_claim i name) (claims_after claims i e) + times_ended name e ≡ count (is_claim i name) claims + times_opened name e
+pub claims_here : (claims : List (ℕ × List ℕ)) (i : ℕ) (e : Effect) → Permits claims i e → (name : List ℕ)
+    → count (is_claim i name) (claims_after claims i e) + times_ended name e ≡ count (is_claim i name) claims + times_opened name e
 claims_here claims i plain ok name = refl
 claims_here claims i (opens claim) ok name =
-    omega (arith, total-append (λ (c : ℕ × List ℕ). one_if (is_claim i name c)) claims ((i, claim) ∷ []), ap (λ b. one_if (b && same name claim)) (eq-eqb i i refl))
+    omega (
+      arith,
+      total-append (λ (c : ℕ × List ℕ). one_if (is_claim i name c)) claims ((i, claim) ∷ []),
+      ap (λ b. one_if (b && same name claim)) (eq-eqb i i refl),
+    )
 claims_here claims i (uses claim) ok name = refl
 claims_here claims i (ends claim) ok name =
     omega (arith, count-without_first (is_claim i claim) (is_claim i name) (same name claim) (same_value i claim name) claims ok)
 
 module _ {S C R : Type 0} (m : Meaning S C R) (counts : Counts m) (made : List S) (slots id : ℕ) (v : View S C R) (h : Locked S) (c : C)
-    (live : v.pass.id.live ≡ true) (heard : v.heard ≡ []) (held : v.held ≡ Some h) (may : m.may h.state c) (permits : Permits v.claims h.index (m.effect h.state c)) (low : h.stamp < 2 ^ 48)
+    (live : v.pass.id.live ≡ true) (heard : v.heard ≡ []) (held : v.held ≡ Some h) (may : m.may h.state c)
+    (permits : Permits v.claims h.index (m.effect h.state c)) (low : h.stamp < 2 ^ 48)
     (s : State (Option S) (View S C R)) (inv : RowInvariant m made s) (at : get_elem? s.views id ≡ some v) where
   abbrev i : ℕ
   i = h.index
@@ -127,15 +138,18 @@ module _ {S C R : Type 0} (m : Meaning S C R) (counts : Counts m) (made : List S
   seen_agrees : GoesOn v'.pass.seen logs'
   seen_agrees = record {
     each = λ k. ⊎_elim
-        (λ e. subst (λ q. Begins (entries q v'.pass.seen) (entries q logs')) (sym e) (subst (λ l. Begins l (entries i logs')) (sym seen_here) (subst (λ l. Begins longer l) (sym logs_here) (begins_refl longer))))
-        (λ n. subst (λ l. Begins l (entries k logs')) (sym (seen_else k n)) (subst (λ l. Begins (entries k v.pass.seen) l) (sym (logs_else k n)) (agrees.seen.each k)))
+        (λ e. subst (λ q. Begins (entries q v'.pass.seen) (entries q logs')) (sym e)
+        (subst (λ l. Begins l (entries i logs')) (sym seen_here) (subst (λ l. Begins longer l) (sym logs_here) (begins_refl longer))))
+        (λ n. subst (λ l. Begins l (entries k logs')) (sym (seen_else k n))
+        (subst (λ l. Begins (entries k v.pass.seen) l) (sym (logs_else k n)) (agrees.seen.each k)))
         (cases_eq k i);
   }
 
   longer_seen : (k : ℕ) → length (entries k v.pass.seen) ≤ length (entries k v'.pass.seen)
   longer_seen k =
       ⊎_elim
-      (λ e. subst (λ q. length (entries q v.pass.seen) ≤ length (entries q v'.pass.seen)) (sym e) (omega (arith, ap length seen_here, length-append log (entry ∷ []), ap length holds.seen)))
+      (λ e. subst (λ q. length (entries q v.pass.seen) ≤ length (entries q v'.pass.seen)) (sym e)
+      (omega (arith, ap length seen_here, length-append log (entry ∷ []), ap length holds.seen)))
       (λ n. omega (arith, ap length (seen_else k n)))
       (cases_eq k i)
 
@@ -148,15 +162,18 @@ module _ {S C R : Type 0} (m : Meaning S C R) (counts : Counts m) (made : List S
       ⊎_elim
       (λ old. ⊎_elim (λ t. inl (omega (arith, longer_seen k))) (λ t. inr t) (agrees.mine k n old))
       (λ none.
-      let t = and_parts (eqb i k) (eqb (length (entries i v.pass.seen) + 1) n) (met (eqb i k && eqb (length (entries i v.pass.seen) + 1) n) (omega (arith, place_more k n))) in
+      let t = and_parts (eqb i k) (eqb (length (entries i v.pass.seen) + 1) n)
+      (met (eqb i k && eqb (length (entries i v.pass.seen) + 1) n) (omega (arith, place_more k n))) in
       inl (subst (λ q. n ≤ length (entries q v'.pass.seen)) (eqb-true i k t.0)
       (omega (arith, eqb-true (length (entries i v.pass.seen) + 1) n t.1, ap length seen_here, length-append log (entry ∷ []), ap length holds.seen))))
       (cases_lt 0 (row_places k n v))
 
-  same_places : (k n : ℕ) → row_places k n v' + one_if (within n (length (entries k inv.logs))) ≡ row_places k n v + one_if (within n (length (entries k logs')))
+  same_places : (k n : ℕ)
+      → row_places k n v' + one_if (within n (length (entries k inv.logs))) ≡ row_places k n v + one_if (within n (length (entries k logs')))
   same_places k n =
       ⊎_elim
-      (λ e. subst (λ q. row_places q n v' + one_if (within n (length (entries q inv.logs))) ≡ row_places q n v + one_if (within n (length (entries q logs')))) (sym e)
+      (λ e. subst (λ q. row_places q n v' + one_if (within n (length (entries q inv.logs))) ≡ row_places q n v + one_if
+      (within n (length (entries q logs')))) (sym e)
       (omega (
         arith,
         place_more i n,
@@ -174,7 +191,8 @@ module _ {S C R : Type 0} (m : Meaning S C R) (counts : Counts m) (made : List S
       ))
       (cases_eq k i)
 
-  own_claims : (k : ℕ) (name : List ℕ) (past : List (Entry C R)) (x : S) → HasClaim k name v'.claims → Begins (entries k v'.pass.seen) past → Begins (entries k v'.heard) past
+  own_claims : (k : ℕ) (name : List ℕ) (past : List (Entry C R)) (x : S) → HasClaim k name v'.claims → Begins (entries k v'.pass.seen) past
+      → Begins (entries k v'.heard) past
       → Begins past (entries k logs') → StateAfter m made k past x → 0 < occurrences name (m.claims x)
   own_claims k name past x has a b d after =
       ⊎_elim
@@ -185,7 +203,8 @@ module _ {S C R : Type 0} (m : Meaning S C R) (counts : Counts m) (made : List S
       let whole : past ≡ longer = begins_whole d' (begins_length a') in
       let after' : StateAfter m made i longer x = subst (λ l. StateAfter m made i l x) whole (subst (λ q. StateAfter m made q past x) e after) in
       omega (arith, open_here name x after', total_at (claims_at i name) (set s.views id v') id v' (set_there s.views id v v' at)))
-      (λ n. agrees.claims k name past x (omega (arith, claims_else v.claims i (m.effect h.state c) permits k name n)) (subst (λ l. Begins l past) (seen_else k n) a) b (subst (λ l. Begins past l) (logs_else k n) d) after)
+      (λ n. agrees.claims k name past x (omega (arith, claims_else v.claims i (m.effect h.state c) permits k name n))
+      (subst (λ l. Begins l past) (seen_else k n) a) b (subst (λ l. Begins past l) (logs_else k n) d) after)
       (cases_eq k i)
 
   agrees_after : RowAgrees m made logs' (set inv.holders i 0) id v'
@@ -218,14 +237,23 @@ module _ {S C R : Type 0} (m : Meaning S C R) (counts : Counts m) (made : List S
   pub enters_count : length (entries i v'.pass.seen) ≡ h.stamp + 1
   enters_count = omega (arith, ap length seen_here, length-append log (entry ∷ []), holds.stamp)
 
-  pub enters_inv : RowInvariant m made record { words = slice_set s.words (i + 1) (h.stamp + 1); homes = slice_set s.homes i (some (Some (m.next h.state c))); views = slice_set s.views id v' }
+  pub enters_inv : RowInvariant m made record {
+    words = slice_set s.words (i + 1) (h.stamp + 1);
+    homes = slice_set s.homes i (some (Some (m.next h.state c)));
+    views = slice_set s.views id v';
+  }
   enters_inv =
-      moved m made s inv i id v v' longer (h.stamp + 1) 0 (some (Some (m.next h.state c))) at holds.within (inr (entry, refl)) (inr holds.holder) cell agrees_after refl same_places
+      moved m made s inv i id v v' longer (h.stamp + 1) 0 (some (Some (m.next h.state c))) at holds.within (inr (entry, refl))
+      (inr holds.holder) cell agrees_after refl same_places
       (λ k name n. claims_else v.claims i (m.effect h.state c) permits k name n) open_here
 
   pub enters_knows : Knows m v'
   enters_knows =
-      knows_of m made record { words = slice_set s.words (i + 1) (h.stamp + 1); homes = slice_set s.homes i (some (Some (m.next h.state c))); views = slice_set s.views id v' } enters_inv id v' (set_there s.views id v v' at) live heard
+      knows_of m made record {
+        words = slice_set s.words (i + 1) (h.stamp + 1);
+        homes = slice_set s.homes i (some (Some (m.next h.state c)));
+        views = slice_set s.views id v';
+      } enters_inv id v' (set_there s.views id v v' at) live heard
 
 module _ {S C R : Type 0} (m : Meaning S C R) (counts : Counts m) (made : List S) where
   pub enters : (slots id : ℕ) (v : View S C R) (h : Locked S) (c : C) (asks : C → Type 0) → asks c
@@ -243,8 +271,10 @@ module _ {S C R : Type 0} (m : Meaning S C R) (counts : Counts m) (made : List S
           call = c;
           asked = asked;
           after = ap (λ q. (committed m q c v, [])) t;
-          adds = subst (λ q. Adds v.pass (committed m h c v).pass q.index (record { call = c; reply = m.reply q.state c } ∷ [])) t (enters_adds m counts made slots id v h c live heard held may permits low s inv at);
-          count = subst (λ q. length (entries q.index (committed m h c v).pass.seen) ≡ q.stamp + 1) t (enters_count m counts made slots id v h c live heard held may permits low s inv at);
+          adds = subst (λ q. Adds v.pass (committed m h c v).pass q.index (record { call = c; reply = m.reply q.state c } ∷ [])) t
+              (enters_adds m counts made slots id v h c live heard held may permits low s inv at);
+          count = subst (λ q. length (entries q.index (committed m h c v).pass.seen) ≡ q.stamp + 1) t
+              (enters_count m counts made slots id v h c live heard held may permits low s inv at);
           knows = enters_knows m counts made slots id v h c live heard held may permits low s inv at;
         },
   )

@@ -33,7 +33,8 @@ module _ {S C R : Type 0} (m : Meaning S C R) (made : List S) where
   grows_cut log new part (inr t) b = ⊎_elim (λ u. inl u) (λ u. inr (u ∙ sym t.1)) (begins_push part log t.0 (subst (λ l. Begins part l) t.1 b))
 
   -- what a seat knows stays true where other seats act
-  module _ (logs : List (List (Entry C R))) (holders : List ℕ) (i id : ℕ) (new : List (Entry C R)) (holder : ℕ) (inside : i < length logs) (inside' : i < length holders)
+  module _ (logs : List (List (Entry C R))) (holders : List ℕ) (i id : ℕ) (new : List (Entry C R)) (holder : ℕ) (inside : i < length logs)
+      (inside' : i < length holders)
       (grows : Grows (entries i logs) new) (idle : (slice_index holders i ≡ 0) ⊎ (slice_index holders i ≡ id + 1)) where
     abbrev logs' : List (List (Entry C R))
     logs' = set logs i new
@@ -46,7 +47,8 @@ module _ {S C R : Type 0} (m : Meaning S C R) (made : List S) where
         let t : slice_index holders i ≡ j + 1 = ap (λ k. slice_index holders k) (sym e) ∙ holds.holder in
         ⊎_elim (λ u. omega arith) (λ u. n (omega arith)) idle
 
-    holds_on : (j : ℕ) (v : View S C R) (h : Locked S) → j ≢ id → HoldsValue m made logs holders j v h → HoldsValue m made logs' (set holders i holder) j v h
+    holds_on : (j : ℕ) (v : View S C R) (h : Locked S) → j ≢ id → HoldsValue m made logs holders j v h
+        → HoldsValue m made logs' (set holders i holder) j v h
     holds_on j v h n holds =
         let out = apart j v h n holds in
         let same : entries h.index logs' ≡ entries h.index logs = entries_else logs i h.index new out in
@@ -59,10 +61,13 @@ module _ {S C R : Type 0} (m : Meaning S C R) (made : List S) where
         }
 
     -- a claim is open after what was seen and ever after, where it is open after the new history
-    open_on : (v : View S C R) → ((k : ℕ) (name : List ℕ) (log : List (Entry C R)) (x : S) → HasClaim k name v.claims → Begins (entries k v.pass.seen) log → Begins (entries k v.heard) log
+    open_on : (v : View S C R)
+        → ((k : ℕ) (name : List ℕ) (log : List (Entry C R)) (x : S) → HasClaim k name v.claims → Begins (entries k v.pass.seen) log → Begins
+        (entries k v.heard) log
         → Begins log (entries k logs) → StateAfter m made k log x → 0 < occurrences name (m.claims x))
         → ((name : List ℕ) (x : S) → HasClaim i name v.claims → StateAfter m made i new x → 0 < occurrences name (m.claims x))
-        → (k : ℕ) (name : List ℕ) (log : List (Entry C R)) (x : S) → HasClaim k name v.claims → Begins (entries k v.pass.seen) log → Begins (entries k v.heard) log
+        → (k : ℕ) (name : List ℕ) (log : List (Entry C R)) (x : S) → HasClaim k name v.claims → Begins (entries k v.pass.seen) log
+        → Begins (entries k v.heard) log
         → Begins log (entries k logs') → StateAfter m made k log x → 0 < occurrences name (m.claims x)
     open_on v old last k name log x has a b c after =
         ⊎_elim
@@ -70,12 +75,14 @@ module _ {S C R : Type 0} (m : Meaning S C R) (made : List S) where
         let c' : Begins log new = subst (λ l. Begins log l) (ap (λ q. entries q logs') e ∙ entries_here logs i new inside) c in
         ⊎_elim
         (λ u. old k name log x has a b (subst (λ q. Begins log (entries q logs)) (sym e) u) after)
-        (λ u. last name x (subst (λ q. HasClaim q name v.claims) e has) (subst (λ l. StateAfter m made i l x) u (subst (λ q. StateAfter m made q log x) e after)))
+        (λ u. last name x (subst (λ q. HasClaim q name v.claims) e has)
+        (subst (λ l. StateAfter m made i l x) u (subst (λ q. StateAfter m made q log x) e after)))
         (grows_cut (entries i logs) new log grows c'))
         (λ n. old k name log x has a b (subst (λ l. Begins log l) (entries_else logs i k new n) c) after)
         (cases_eq k i)
 
-    agrees_on : (j : ℕ) (v : View S C R) → j ≢ id → RowAgrees m made logs holders j v → ((name : List ℕ) (x : S) → HasClaim i name v.claims → StateAfter m made i new x → 0 < occurrences name (m.claims x))
+    agrees_on : (j : ℕ) (v : View S C R) → j ≢ id → RowAgrees m made logs holders j v
+        → ((name : List ℕ) (x : S) → HasClaim i name v.claims → StateAfter m made i new x → 0 < occurrences name (m.claims x))
         → RowAgrees m made logs' (set holders i holder) j v
     agrees_on j v n agrees last = record {
       opening = agrees.opening;
@@ -99,7 +106,8 @@ module _ {S C R : Type 0} (m : Meaning S C R) (made : List S) where
         (cell : Cell m made i new (some slot) word holder)
         (agrees : RowAgrees m made (set inv.logs i new) (set inv.holders i holder) id v')
         (same_id : row_pass_id v' ≡ row_pass_id v)
-        (places : (k n : ℕ) → row_places k n v' + one_if (within n (length (entries k inv.logs))) ≡ row_places k n v + one_if (within n (length (entries k (set inv.logs i new)))))
+        (places : (k n : ℕ) → row_places k n v' + one_if (within n (length (entries k inv.logs))) ≡ row_places k n v + one_if
+        (within n (length (entries k (set inv.logs i new)))))
         (claims_else : (k : ℕ) (name : List ℕ) → k ≢ i → claims_at k name v' ≡ claims_at k name v)
         (claims_here : (name : List ℕ) (x : S) → StateAfter m made i new x → total (claims_at i name) (set s.views id v') ≡ occurrences name (m.claims x)) where
       in_logs : i < length inv.logs
@@ -114,21 +122,40 @@ module _ {S C R : Type 0} (m : Meaning S C R) (made : List S) where
           (λ name x has after. omega (arith, claims_here name x after, total_at (claims_at i name) (set s.views id v') j u (set_else s.views id j v' n ∙ at_u)))
 
       cells : (k : ℕ) → k < length made
-          → Cell m made k (entries k (set inv.logs i new)) (get_elem? (set s.homes i slot) k) (slice_index (set s.words (i + 1) word) (k + 1)) (slice_index (set inv.holders i holder) k)
+          → Cell m made k (entries k (set inv.logs i new)) (get_elem? (set s.homes i slot) k)
+          (slice_index (set s.words (i + 1) word) (k + 1)) (slice_index (set inv.holders i holder) k)
       cells k h =
           ⊎_elim
-          (λ e. subst (λ q. Cell m made q (entries q (set inv.logs i new)) (get_elem? (set s.homes i slot) q) (slice_index (set s.words (i + 1) word) (q + 1)) (slice_index (set inv.holders i holder) q)) (sym e)
-          (rw (entries_here inv.logs i new in_logs, set_here s.homes i slot (omega (arith, inv.homes_len)), get_or-set_same s.words (i + 1) word 0 (omega (arith, inv.words_len)), get_or-set_same inv.holders i holder 0 in_holders) cell))
+          (λ e. subst (λ q. Cell m made q (entries q (set inv.logs i new)) (get_elem? (set s.homes i slot) q)
+          (slice_index (set s.words (i + 1) word) (q + 1)) (slice_index (set inv.holders i holder) q)) (sym e)
+          (rw (
+            entries_here inv.logs i new in_logs,
+            set_here s.homes i slot (omega (arith, inv.homes_len)),
+            get_or-set_same s.words (i + 1) word 0 (omega (arith, inv.words_len)),
+            get_or-set_same inv.holders i holder 0 in_holders,
+          ) cell))
           (λ n.
-          rw (entries_else inv.logs i k new n, set_else s.homes i k slot n, get_or-set_other s.words (i + 1) (k + 1) word 0 (λ e. n (omega arith)), get_or-set_other inv.holders i k holder 0 n) (inv.each_cell k h))
+          rw (
+            entries_else inv.logs i k new n,
+            set_else s.homes i k slot n,
+            get_or-set_other s.words (i + 1) (k + 1) word 0 (λ e. n (omega arith)),
+            get_or-set_other inv.holders i k holder 0 n,
+          ) (inv.each_cell k h))
           (cases_eq k i)
 
-      claims : (k : ℕ) (name : List ℕ) (x : S) → StateAfter m made k (entries k (set inv.logs i new)) x → total (claims_at k name) (set s.views id v') ≡ occurrences name (m.claims x)
+      claims : (k : ℕ) (name : List ℕ) (x : S) → StateAfter m made k (entries k (set inv.logs i new)) x
+          → total (claims_at k name) (set s.views id v') ≡ occurrences name (m.claims x)
       claims k name x after =
           ⊎_elim
           (λ e. subst (λ q. total (claims_at q name) (set s.views id v') ≡ occurrences name (m.claims x)) (sym e)
-          (claims_here name x (subst (λ l. StateAfter m made i l x) (entries_here inv.logs i new in_logs) (subst (λ q. StateAfter m made q (entries q (set inv.logs i new)) x) e after))))
-          (λ n. omega (arith, total_set (claims_at k name) s.views id v v' at, claims_else k name n, inv.claims k name x (subst (λ l. StateAfter m made k l x) (entries_else inv.logs i k new n) after)))
+          (claims_here name x (subst (λ l. StateAfter m made i l x) (entries_here inv.logs i new in_logs)
+          (subst (λ q. StateAfter m made q (entries q (set inv.logs i new)) x) e after))))
+          (λ n. omega (
+            arith,
+            total_set (claims_at k name) s.views id v v' at,
+            claims_else k name n,
+            inv.claims k name x (subst (λ l. StateAfter m made k l x) (entries_else inv.logs i k new n) after),
+          ))
           (cases_eq k i)
 
       pub moved : RowInvariant m made record { words = slice_set s.words (i + 1) word; homes = slice_set s.homes i slot; views = slice_set s.views id v' }
@@ -140,7 +167,9 @@ module _ {S C R : Type 0} (m : Meaning S C R) (made : List S) where
         logs_len = length-set inv.logs i new ∙ inv.logs_len;
         holders_len = length-set inv.holders i holder ∙ inv.holders_len;
         each_cell = cells;
-        each_view = λ j u e. ⊎_elim (λ t. subst (λ w. RowAgrees m made (set inv.logs i new) (set inv.holders i holder) j w) t.1 (subst (λ q. RowAgrees m made (set inv.logs i new) (set inv.holders i holder) q v') (sym t.0) agrees)) (λ t. others j u t.0 t.1) (at_set s.views id j v' u e);
+        each_view = λ j u e. ⊎_elim (λ t. subst (λ w. RowAgrees m made (set inv.logs i new) (set inv.holders i holder) j w) t.1
+            (subst (λ q. RowAgrees m made (set inv.logs i new) (set inv.holders i holder) q v') (sym t.0) agrees)) (λ t. others j u t.0 t.1)
+            (at_set s.views id j v' u e);
         tree = subst (λ ls. IsPassTree ls) (sym (map_kept row_pass_id s.views id v v' at same_id)) inv.tree;
         tally = λ k n. omega (arith, total_set (row_places k n) s.views id v v' at, places k n, inv.tally k n);
         claims = claims;
@@ -149,7 +178,8 @@ module _ {S C R : Type 0} (m : Meaning S C R) (made : List S) where
     -- One seat alone is other than before.
     module _ (id : ℕ) (v v' : View S C R) (at : get_elem? s.views id ≡ some v)
         (agrees : RowAgrees m made inv.logs inv.holders id v') (same_id : row_pass_id v' ≡ row_pass_id v)
-        (places : (k n : ℕ) → row_places k n v' ≡ row_places k n v) (claims : (k : ℕ) (name : List ℕ) → claims_at k name v' ≡ claims_at k name v) where
+        (places : (k n : ℕ) → row_places k n v' ≡ row_places k n v)
+        (claims : (k : ℕ) (name : List ℕ) → claims_at k name v' ≡ claims_at k name v) where
       pub turned : RowInvariant m made record { words = s.words; homes = s.homes; views = slice_set s.views id v' }
       turned = record {
         logs = inv.logs;
@@ -159,7 +189,9 @@ module _ {S C R : Type 0} (m : Meaning S C R) (made : List S) where
         logs_len = inv.logs_len;
         holders_len = inv.holders_len;
         each_cell = inv.each_cell;
-        each_view = λ j u e. ⊎_elim (λ t. subst (λ w. RowAgrees m made inv.logs inv.holders j w) t.1 (subst (λ q. RowAgrees m made inv.logs inv.holders q v') (sym t.0) agrees)) (λ t. inv.each_view j u t.1) (at_set s.views id j v' u e);
+        each_view = λ j u e. ⊎_elim (λ t. subst (λ w. RowAgrees m made inv.logs inv.holders j w) t.1
+            (subst (λ q. RowAgrees m made inv.logs inv.holders q v') (sym t.0) agrees)) (λ t. inv.each_view j u t.1)
+            (at_set s.views id j v' u e);
         tree = subst (λ ls. IsPassTree ls) (sym (map_kept row_pass_id s.views id v v' at same_id)) inv.tree;
         tally = λ k n. omega (arith, total_set (row_places k n) s.views id v v' at, places k n, inv.tally k n);
         claims = λ k name x after. omega (arith, total_set (claims_at k name) s.views id v v' at, claims k name, inv.claims k name x after);
@@ -169,7 +201,8 @@ module _ {S C R : Type 0} (m : Meaning S C R) (made : List S) where
     module _ (id : ℕ) (v v' w : View S C R) (at : get_elem? s.views id ≡ some v)
         (agrees : RowAgrees m made inv.logs inv.holders id v') (agrees_new : (j : ℕ) → RowAgrees m made inv.logs inv.holders j w)
         (tree : IsPassTree (set (map row_pass_id s.views) id (row_pass_id v') ++ row_pass_id w ∷ []))
-        (places : (k n : ℕ) → row_places k n v' + row_places k n w ≡ row_places k n v) (claims : (k : ℕ) (name : List ℕ) → claims_at k name v' + claims_at k name w ≡ claims_at k name v) where
+        (places : (k n : ℕ) → row_places k n v' + row_places k n w ≡ row_places k n v)
+        (claims : (k : ℕ) (name : List ℕ) → claims_at k name v' + claims_at k name w ≡ claims_at k name v) where
       pub grown : RowInvariant m made record { words = s.words; homes = s.homes; views = slice_set s.views id v' ++ w ∷ [] }
       grown = record {
         logs = inv.logs;
@@ -180,19 +213,35 @@ module _ {S C R : Type 0} (m : Meaning S C R) (made : List S) where
         holders_len = inv.holders_len;
         each_cell = inv.each_cell;
         each_view = λ j u e. ⊎_elim
-            (λ t. ⊎_elim (λ h. subst (λ x. RowAgrees m made inv.logs inv.holders j x) h.1 (subst (λ q. RowAgrees m made inv.logs inv.holders q v') (sym h.0) agrees)) (λ h. inv.each_view j u h.1) (at_set s.views id j v' u t))
+            (λ t. ⊎_elim (λ h. subst (λ x. RowAgrees m made inv.logs inv.holders j x) h.1
+            (subst (λ q. RowAgrees m made inv.logs inv.holders q v') (sym h.0) agrees)) (λ h. inv.each_view j u h.1)
+            (at_set s.views id j v' u t))
             (λ t. subst (λ x. RowAgrees m made inv.logs inv.holders j x) t (agrees_new j))
             (at_snoc (set s.views id v') w u j e);
-        tree = subst (λ ls. IsPassTree ls) (sym (map-append row_pass_id (set s.views id v') (w ∷ []) ∙ ap (λ ls. ls ++ row_pass_id w ∷ []) (map-set row_pass_id s.views id v'))) tree;
-        tally = λ k n. omega (arith, total_set (row_places k n) s.views id v v' at, total-append (row_places k n) (set s.views id v') (w ∷ []), places k n, inv.tally k n);
-        claims = λ k name x after. omega (arith, total_set (claims_at k name) s.views id v v' at, total-append (claims_at k name) (set s.views id v') (w ∷ []), claims k name, inv.claims k name x after);
+        tree = subst (λ ls. IsPassTree ls) (sym
+            (map-append row_pass_id (set s.views id v') (w ∷ []) ∙ ap (λ ls. ls ++ row_pass_id w ∷ []) (map-set row_pass_id s.views id v'))) tree;
+        tally = λ k n. omega (
+          arith,
+          total_set (row_places k n) s.views id v v' at,
+          total-append (row_places k n) (set s.views id v') (w ∷ []),
+          places k n,
+          inv.tally k n,
+        );
+        claims = λ k name x after. omega (
+          arith,
+          total_set (claims_at k name) s.views id v v' at,
+          total-append (claims_at k name) (set s.views id v') (w ∷ []),
+          claims k name,
+          inv.claims k name x after,
+        );
       }
 
     -- One seat has taken in another.
     module _ (id other : ℕ) (v v' w w' : View S C R) (at : get_elem? s.views id ≡ some v) (at_other : get_elem? (set s.views id v') other ≡ some w)
         (agrees : RowAgrees m made inv.logs inv.holders id v') (agrees_left : (j : ℕ) → RowAgrees m made inv.logs inv.holders j w')
         (tree : IsPassTree (set (set (map row_pass_id s.views) id (row_pass_id v')) other (row_pass_id w')))
-        (places : (k n : ℕ) → row_places k n v' + row_places k n w' ≡ row_places k n v + row_places k n w) (claims : (k : ℕ) (name : List ℕ) → claims_at k name v' + claims_at k name w' ≡ claims_at k name v + claims_at k name w) where
+        (places : (k n : ℕ) → row_places k n v' + row_places k n w' ≡ row_places k n v + row_places k n w)
+        (claims : (k : ℕ) (name : List ℕ) → claims_at k name v' + claims_at k name w' ≡ claims_at k name v + claims_at k name w) where
       pub merged : RowInvariant m made record { words = s.words; homes = s.homes; views = slice_set (slice_set s.views id v') other w' }
       merged = record {
         logs = inv.logs;
@@ -204,11 +253,26 @@ module _ {S C R : Type 0} (m : Meaning S C R) (made : List S) where
         each_cell = inv.each_cell;
         each_view = λ j u e. ⊎_elim
             (λ t. subst (λ x. RowAgrees m made inv.logs inv.holders j x) t.1 (agrees_left j))
-            (λ t. ⊎_elim (λ h. subst (λ x. RowAgrees m made inv.logs inv.holders j x) h.1 (subst (λ q. RowAgrees m made inv.logs inv.holders q v') (sym h.0) agrees)) (λ h. inv.each_view j u h.1) (at_set s.views id j v' u t.1))
+            (λ t. ⊎_elim (λ h. subst (λ x. RowAgrees m made inv.logs inv.holders j x) h.1
+            (subst (λ q. RowAgrees m made inv.logs inv.holders q v') (sym h.0) agrees)) (λ h. inv.each_view j u h.1)
+            (at_set s.views id j v' u t.1))
             (at_set (set s.views id v') other j w' u e);
-        tree = subst (λ ls. IsPassTree ls) (sym (map-set row_pass_id (set s.views id v') other w' ∙ ap (λ ls. set ls other (row_pass_id w')) (map-set row_pass_id s.views id v'))) tree;
-        tally = λ k n. omega (arith, total_set (row_places k n) s.views id v v' at, total_set (row_places k n) (set s.views id v') other w w' at_other, places k n, inv.tally k n);
-        claims = λ k name x after. omega (arith, total_set (claims_at k name) s.views id v v' at, total_set (claims_at k name) (set s.views id v') other w w' at_other, claims k name, inv.claims k name x after);
+        tree = subst (λ ls. IsPassTree ls) (sym
+            (map-set row_pass_id (set s.views id v') other w' ∙ ap (λ ls. set ls other (row_pass_id w')) (map-set row_pass_id s.views id v'))) tree;
+        tally = λ k n. omega (
+          arith,
+          total_set (row_places k n) s.views id v v' at,
+          total_set (row_places k n) (set s.views id v') other w w' at_other,
+          places k n,
+          inv.tally k n,
+        );
+        claims = λ k name x after. omega (
+          arith,
+          total_set (claims_at k name) s.views id v v' at,
+          total_set (claims_at k name) (set s.views id v') other w w' at_other,
+          claims k name,
+          inv.claims k name x after,
+        );
       }
 
     -- One value's lock and one seat are other than before, and no history is.

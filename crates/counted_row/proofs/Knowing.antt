@@ -37,7 +37,8 @@ module _ {S C R : Type 0} (m : Meaning S C R) (made : List S) (s : State (Option
 
   -- where the pass is the last, all places and claims are its own
   module _ (last : IsLast v.pass.id) where
-    one_alone : (f : View S C R → ℕ) → ((j : ℕ) (u : View S C R) → get_elem? s.views j ≡ some u → u.pass.id.live ≡ false → f u ≡ 0) → total f s.views ≡ f v
+    one_alone : (f : View S C R → ℕ) → ((j : ℕ) (u : View S C R) → get_elem? s.views j ≡ some u → u.pass.id.live ≡ false → f u ≡ 0)
+        → total f s.views ≡ f v
     one_alone f gone = total_last row_pass_id s.views inv.tree id v at live last f gone
 
     all_places : (i k : ℕ) → row_places i k v ≡ one_if (within k (length (entries i inv.logs)))
@@ -56,7 +57,8 @@ module _ {S C R : Type 0} (m : Meaning S C R) (made : List S) (s : State (Option
         (λ some_one. ⊎_elim
         (λ t. t)
         (λ t. omega (arith, heard_none i))
-        (agrees.mine i (length (entries i inv.logs)) (omega (arith, all_places i (length (entries i inv.logs)), in_range (length (entries i inv.logs)) some_one))))
+        (agrees.mine i (length (entries i inv.logs))
+        (omega (arith, all_places i (length (entries i inv.logs)), in_range (length (entries i inv.logs)) some_one))))
         (λ none. omega arith)
         (cases_lt 0 (length (entries i inv.logs)))
 
@@ -70,7 +72,8 @@ module _ {S C R : Type 0} (m : Meaning S C R) (made : List S) (s : State (Option
   is_now h e =
       let t = agrees.held h e in
       record {
-        state = subst (λ o. StateAfter m o h.index (entries h.index v.pass.seen) h.state) (sym made_it) (subst (λ l. StateAfter m made h.index l h.state) (sym t.seen) t.state);
+        state = subst (λ o. StateAfter m o h.index (entries h.index v.pass.seen) h.state) (sym made_it)
+            (subst (λ l. StateAfter m made h.index l h.state) (sym t.seen) t.state);
         stamp = t.stamp ∙ ap length (sym t.seen);
       }
 
@@ -88,17 +91,21 @@ module _ {S C R : Type 0} (m : Meaning S C R) (made : List S) (s : State (Option
         held = is_now;
         all_entries = last_has_each;
         all_claims = λ last i name x after.
-            all_claims last i name x (subst (λ l. StateAfter m made i l x) (seen_all last i) (subst (λ o. StateAfter m o i (entries i v.pass.seen) x) made_it after));
+            all_claims last i name x
+            (subst (λ l. StateAfter m made i l x) (seen_all last i) (subst (λ o. StateAfter m o i (entries i v.pass.seen) x) made_it after));
       }
 
 -- under the lock, the pass's claims on the value are open
-pub open_now : {S C R : Type 0} (m : Meaning S C R) (old new : PassOfRow S C R) (i : ℕ) (name : List ℕ) (h : Locked S) → Locks m old new i h → HasClaim i name old.knows.claims → 0 < occurrences name (m.claims h.state)
+pub open_now : {S C R : Type 0} (m : Meaning S C R) (old new : PassOfRow S C R) (i : ℕ) (name : List ℕ) (h : Locked S) → Locks m old new i h
+    → HasClaim i name old.knows.claims → 0 < occurrences name (m.claims h.state)
 open_now m old new i name h locks has =
-    locks.knows.open_claims h.index name h.state (subst (λ cs. HasClaim h.index name cs) (sym locks.claims) (subst (λ k. HasClaim k name old.knows.claims) (sym locks.index) has)) locks.now.state
+    locks.knows.open_claims h.index name h.state (subst (λ cs. HasClaim h.index name cs) (sym locks.claims)
+    (subst (λ k. HasClaim k name old.knows.claims) (sym locks.index) has)) locks.now.state
 
 module _ {S C R : Type 0} (m : Meaning S C R) (v : View S C R) (knows : Knows m v) where
   -- who has seen as much and has no claim and no lock that v hasn't knows as much, and isn't the last
-  knows_less : (id : PassId) (mine : List (ℕ × ℕ)) (heard : List (List (Entry C R))) (claims : List (ℕ × List ℕ)) (held : Option (Locked S)) → (IsLast id → ⊥)
+  knows_less : (id : PassId) (mine : List (ℕ × ℕ)) (heard : List (List (Entry C R))) (claims : List (ℕ × List ℕ)) (held : Option (Locked S))
+      → (IsLast id → ⊥)
       → ((i : ℕ) (name : List ℕ) → HasClaim i name claims → HasClaim i name v.claims) → ((h : Locked S) → held ≡ Some h → v.held ≡ Some h)
       → Knows m record { pass = record { id = id; seen = v.pass.seen; mine = mine }; opening = v.opening; heard = heard; claims = claims; held = held }
   knows_less id mine heard claims held not_last has locked = record {

@@ -20,7 +20,8 @@ use Rattle.counted_row.proofs.Knowing.{knows_of}
 
 module _ {S C R : Type 0} (m : Meaning S C R) (made : List S) where
   -- what a seat knows stays true once it has seen all histories
-  pub agrees_seen : (logs : List (List (Entry C R))) (holders : List ℕ) (id : ℕ) (v : View S C R) → length logs ≡ length made → RowAgrees m made logs holders id v → RowAgrees m made logs holders id (having_seen logs v)
+  pub agrees_seen : (logs : List (List (Entry C R))) (holders : List ℕ) (id : ℕ) (v : View S C R) → length logs ≡ length made
+      → RowAgrees m made logs holders id v → RowAgrees m made logs holders id (having_seen logs v)
   agrees_seen logs holders id v wide agrees = record {
     opening = agrees.opening;
     wide = λ live. wide;
@@ -31,20 +32,25 @@ module _ {S C R : Type 0} (m : Meaning S C R) (made : List S) where
         (λ t. inl (omega (arith, begins_length (agrees.seen.each i))))
         (λ t. inl (omega (arith, begins_length (agrees.heard.each i))))
         (agrees.mine i k some_one);
-    claims = λ i name log x has a b c after. agrees.claims i name log x has (begins_trans (agrees.seen.each i) a) (begins_trans (agrees.heard.each i) a) c after;
+    claims = λ i name log x has a b c after. agrees.claims i name log x has (begins_trans (agrees.seen.each i) a)
+        (begins_trans (agrees.heard.each i) a) c after;
     gone = agrees.gone;
   }
 
   -- the word of a value tells how many entries its history has
-  word_tells : (i : ℕ) (log : List (Entry C R)) (slot : mathlib.Core.Option.Option (mathlib.Core.Option.Option (Option S))) (word holder : ℕ) → Cell m made i log slot word holder → IsWord (length log) word
+  word_tells : (i : ℕ) (log : List (Entry C R)) (slot : mathlib.Core.Option.Option (mathlib.Core.Option.Option (Option S))) (word holder : ℕ)
+      → Cell m made i log slot word holder → IsWord (length log) word
   word_tells i log slot word holder cell = record {
     short = cell.short;
     is = ⊎_elim (λ e. inl (cell.free e).0) (λ n. inr (cell.taken n)) (cases_eq holder 0);
   }
 
   module _ (slots id : ℕ) (v : View S C R) (carried : List (ℕ × Option S)) (live : v.pass.id.live ≡ true) where
-    pub looks_at : (st : Step (Option S)) (word : ℕ) → st.word ≡ word → st.slots ≡ slots → (s : State (Option S) (View S C R)) → RowInvariant m made s → length s.homes ≡ slots → get_elem? s.views id ≡ some v
-        → (w : View S C R) × (a : Act (Option S)) × Valid s.homes carried a × RowInvariant m made (stepped s word (slice_index s.words word) id carried w a) × Looked m st (v, carried) (slice_index s.words word) (w, carried_after carried a)
+    pub looks_at : (st : Step (Option S)) (word : ℕ) → st.word ≡ word → st.slots ≡ slots → (s : State (Option S) (View S C R))
+        → RowInvariant m made s → length s.homes ≡ slots → get_elem? s.views id ≡ some v
+        → (w : View S C R) × (a : Act (Option S)) × Valid s.homes carried a × RowInvariant m made
+        (stepped s word (slice_index s.words word) id carried w a) × Looked m st (v, carried) (slice_index s.words word)
+        (w, carried_after carried a)
     looks_at st word at_word as_many s inv many at =
         let v' : View S C R = having_seen inv.logs v in
         let next : RowInvariant m made record { words = s.words; homes = s.homes; views = slice_set s.views id v' } =
@@ -57,10 +63,12 @@ module _ {S C R : Type 0} (m : Meaning S C R) (made : List S) where
             rest = refl;
             seen = (inv.each_view id v at).seen;
             heard = (inv.each_view id v at).heard;
-            knows = knows_of m made record { words = s.words; homes = s.homes; views = slice_set s.views id v' } next id v' (set_there s.views id v v' at) live refl;
+            knows = knows_of m made record { words = s.words; homes = s.homes; views = slice_set s.views id v' } next id v'
+                (set_there s.views id v v' at) live refl;
             counts = λ i e h.
                 let c = inv.each_cell i (omega (arith, inv.homes_len)) in
-                subst (λ k. IsWord (length (entries i inv.logs)) (slice_index s.words k)) (sym e ∙ at_word) (word_tells i (entries i inv.logs) (get_elem? s.homes i) (slice_index s.words (i + 1)) (slice_index inv.holders i) c);
+                subst (λ k. IsWord (length (entries i inv.logs)) (slice_index s.words k)) (sym e ∙ at_word)
+                (word_tells i (entries i inv.logs) (get_elem? s.homes i) (slice_index s.words (i + 1)) (slice_index inv.holders i) c);
           },
         )
 

@@ -63,7 +63,8 @@ module _ {S C R : Type 0} (m : Meaning S C R) (made : List S) where
   start : (i : ℕ) (x : S) → get_elem? made i ≡ some x → StateAfter m made i (entries i logs) x
   start i x at = subst (λ l. StateAfter m made i l x) (sym (entries_replicate (length made) i)) (record { from = x; at = at; leads = refl })
 
-  cell : (i : ℕ) → i < length made → Cell m made i (entries i logs) (get_elem? (map some (map Some made)) i) (slice_index (replicate (length made + 1) 0) (i + 1)) (slice_index holders i)
+  cell : (i : ℕ) → i < length made
+      → Cell m made i (entries i logs) (get_elem? (map some (map Some made)) i) (slice_index (replicate (length made + 1) 0) (i + 1)) (slice_index holders i)
   cell i h =
       let x = value_at made i h in
       record {
@@ -80,7 +81,8 @@ module _ {S C R : Type 0} (m : Meaning S C R) (made : List S) where
       none : (k : ℕ) → one_if (within k 0) ≡ 0
       none k = grind (arith, nat_tests)
 
-  pub opens_inv : ((i : ℕ) (x : S) → get_elem? made i ≡ some x → m.claims x ≡ []) → RowInvariant m made (opening (replicate (length made + 1) 0) (map Some made) first)
+  pub opens_inv : ((i : ℕ) (x : S) → get_elem? made i ≡ some x → m.claims x ≡ [])
+      → RowInvariant m made (opening (replicate (length made + 1) 0) (map Some made) first)
   opens_inv unclaimed = record {
     logs = logs;
     holders = holders;
@@ -109,10 +111,12 @@ module _ {S C R : Type 0} (m : Meaning S C R) (made : List S) where
   all_at P (y ∷ ys) all zero x e = subst P (some-injective y x e) (all 0 y (omega arith))
   all_at P (y ∷ ys) all (suc i) x e = all_at P ys (λ k d h. all (suc k) d (omega arith)) i x e
 
-  pub opens : (words : List ℕ) (slots : List (Option S)) → All (λ x. m.claims x ≡ []) made → words ≡ replicate (length made + 1) 0 → slots ≡ map Some made → RowInvariant m made (opening words slots first)
+  pub opens : (words : List ℕ) (slots : List (Option S)) → All (λ x. m.claims x ≡ []) made → words ≡ replicate (length made + 1) 0
+      → slots ≡ map Some made → RowInvariant m made (opening words slots first)
   opens words slots unclaimed is_words is_slots =
       subst (λ ws. RowInvariant m made (opening ws slots first)) (sym is_words)
-      (subst (λ ss. RowInvariant m made (opening (replicate (length made + 1) 0) ss first)) (sym is_slots) (opens_inv (λ i x e. all_at (λ y. m.claims y ≡ []) made unclaimed i x e)))
+      (subst (λ ss. RowInvariant m made (opening (replicate (length made + 1) 0) ss first)) (sym is_slots)
+      (opens_inv (λ i x e. all_at (λ y. m.claims y ≡ []) made unclaimed i x e)))
 
   -- the first pass knows that it is the last
   pub knows_first : All (λ x. m.claims x ≡ []) made → Knows m first

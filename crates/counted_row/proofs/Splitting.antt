@@ -42,7 +42,8 @@ module _ {S C R : Type 0} (m : Meaning S C R) (made : List S) where
     gone = λ off. (refl, refl);
   }
 
-  agrees_split : (logs : List (List (Entry C R))) (holders : List ℕ) (id : ℕ) (v : View S C R) → RowAgrees m made logs holders id v → RowAgrees m made logs holders id (split_view v)
+  agrees_split : (logs : List (List (Entry C R))) (holders : List ℕ) (id : ℕ) (v : View S C R) → RowAgrees m made logs holders id v
+      → RowAgrees m made logs holders id (split_view v)
   agrees_split logs holders id v agrees = record {
     opening = agrees.opening;
     wide = agrees.wide;
@@ -59,7 +60,8 @@ module _ {S C R : Type 0} (m : Meaning S C R) (made : List S) where
       let agrees = inv.each_view id v at in
       grown m made s inv id v (split_view v) (new_view v) at
       (agrees_split inv.logs inv.holders id v agrees)
-      (λ j. agrees_reader inv.logs inv.holders j (row_pass_id (new_view v)) v.opening v.pass.seen (λ t. agrees.opening live) (λ t. agrees.wide live) agrees.seen)
+      (λ j. agrees_reader inv.logs inv.holders j (row_pass_id (new_view v)) v.opening v.pass.seen (λ t. agrees.opening live)
+      (λ t. agrees.wide live) agrees.seen)
       (splits_tree (map row_pass_id s.views) inv.tree id (row_pass_id v) (at_map row_pass_id s.views id v at) live)
       (λ k n. omega arith)
       (λ k name. omega arith)
@@ -68,13 +70,17 @@ module _ {S C R : Type 0} (m : Meaning S C R) (made : List S) where
   notes id v s inv at =
       grown m made s inv id v v (note_of v) at
       (inv.each_view id v at)
-      (λ j. agrees_reader inv.logs inv.holders j gone_pass_id [] v.pass.seen (λ t. absurd (true≢false (sym t))) (λ t. absurd (true≢false (sym t))) (inv.each_view id v at).seen)
-      (subst (λ ls. IsPassTree (ls ++ gone_pass_id ∷ [])) (sym (set_again (map row_pass_id s.views) id (row_pass_id v) (at_map row_pass_id s.views id v at))) (gone_tree (map row_pass_id s.views) inv.tree))
+      (λ j. agrees_reader inv.logs inv.holders j gone_pass_id [] v.pass.seen (λ t. absurd (true≢false (sym t)))
+      (λ t. absurd (true≢false (sym t))) (inv.each_view id v at).seen)
+      (subst (λ ls. IsPassTree (ls ++ gone_pass_id ∷ []))
+      (sym (set_again (map row_pass_id s.views) id (row_pass_id v) (at_map row_pass_id s.views id v at)))
+      (gone_tree (map row_pass_id s.views) inv.tree))
       (λ k n. omega arith)
       (λ k name. omega arith)
 
   agrees_gone : (logs : List (List (Entry C R))) (holders : List ℕ) (j : ℕ) → RowAgrees m made logs holders j gone_view
-  agrees_gone logs holders j = agrees_reader logs holders j gone_pass_id [] [] (λ t. absurd (true≢false (sym t))) (λ t. absurd (true≢false (sym t))) (goes_nil logs)
+  agrees_gone logs holders j = agrees_reader logs holders j gone_pass_id [] [] (λ t. absurd (true≢false (sym t)))
+      (λ t. absurd (true≢false (sym t))) (goes_nil logs)
 
   none_heard : (v : View S C R) → v.heard ≡ [] → (i : ℕ) (log : List (Entry C R)) → Begins (entries i v.heard) log
   none_heard v heard i log = subst (λ h. Begins (entries i h) log) (sym heard) (begins_nil log)
@@ -82,7 +88,8 @@ module _ {S C R : Type 0} (m : Meaning S C R) (made : List S) where
   none_long : (v : View S C R) → v.heard ≡ [] → (i : ℕ) → length (entries i v.heard) ≡ 0
   none_long v heard i = ap (λ h. length (entries i h)) heard
 
-  agrees_joined : (logs : List (List (Entry C R))) (holders : List ℕ) (id other : ℕ) (v w : View S C R) → v.pass.id.live ≡ true → v.heard ≡ [] → w.heard ≡ [] → v.held ≡ None
+  agrees_joined : (logs : List (List (Entry C R))) (holders : List ℕ) (id other : ℕ) (v w : View S C R) → v.pass.id.live ≡ true
+      → v.heard ≡ [] → w.heard ≡ [] → v.held ≡ None
       → RowAgrees m made logs holders id v → RowAgrees m made logs holders other w → RowAgrees m made logs holders id (joined_view v w)
   agrees_joined logs holders id other v w live v_heard w_heard idle agrees agrees_w = record {
     opening = agrees.opening;
@@ -99,25 +106,31 @@ module _ {S C R : Type 0} (m : Meaning S C R) (made : List S) where
     claims = λ i name log x has a b c after.
         ⊎_elim
         (λ t. agrees.claims i name log x t a (none_heard v v_heard i log) c after)
-        (λ none. agrees_w.claims i name log x (omega (arith, total-append (λ (p : ℕ × List ℕ). one_if (is_claim i name p)) v.claims w.claims)) b (none_heard w w_heard i log) c after)
+        (λ none. agrees_w.claims i name log x
+        (omega (arith, total-append (λ (p : ℕ × List ℕ). one_if (is_claim i name p)) v.claims w.claims)) b
+        (none_heard w w_heard i log) c after)
         (cases_lt 0 (claims_at i name v));
     gone = λ off. absurd (true≢false (sym live ∙ off));
   }
 
-  pub joins : (id other : ℕ) (v w : View S C R) → v.pass.id.live ≡ true → w.pass.id.live ≡ true → v.heard ≡ [] → w.heard ≡ [] → v.held ≡ None → AnswersFor v.pass.id w.pass.id
+  pub joins : (id other : ℕ) (v w : View S C R) → v.pass.id.live ≡ true → w.pass.id.live ≡ true → v.heard ≡ [] → w.heard ≡ []
+      → v.held ≡ None → AnswersFor v.pass.id w.pass.id
       → Joins (RowInvariant m made) id v other w (joined_view v w) gone_view
   joins id other v w live live_w v_heard w_heard idle answers s inv at apart at_other =
       let at_w : get_elem? s.views other ≡ some w = sym (set_else s.views id other (joined_view v w) apart) ∙ at_other in
       let ids_at : get_elem? (set (map row_pass_id s.views) id (row_pass_id (joined_view v w))) other ≡ some (row_pass_id w) =
-      ap (λ ls. get_elem? ls other) (sym (map-set row_pass_id s.views id (joined_view v w))) ∙ at_map row_pass_id (set s.views id (joined_view v w)) other w at_other in
+      ap (λ ls. get_elem? ls other) (sym (map-set row_pass_id s.views id (joined_view v w))) ∙ at_map row_pass_id
+      (set s.views id (joined_view v w)) other w at_other in
       merged m made s inv id other v (joined_view v w) w gone_view at at_other
       (agrees_joined inv.logs inv.holders id other v w live v_heard w_heard idle (inv.each_view id v at) (inv.each_view other w at_w))
       (λ j. agrees_gone inv.logs inv.holders j)
-      (joins_tree (map row_pass_id s.views) inv.tree id other (row_pass_id v) (row_pass_id w) (at_map row_pass_id s.views id v at) live apart ids_at live_w answers)
+      (joins_tree (map row_pass_id s.views) inv.tree id other (row_pass_id v) (row_pass_id w)
+      (at_map row_pass_id s.views id v at) live apart ids_at live_w answers)
       (λ k n. omega (arith, total-append (λ (p : ℕ × ℕ). one_if (is_place k n p)) v.pass.mine w.pass.mine))
       (λ k name. omega (arith, total-append (λ (p : ℕ × List ℕ). one_if (is_claim k name p)) v.claims w.claims))
 
-  agrees_told : (logs : List (List (Entry C R))) (holders : List ℕ) (id : ℕ) (v w : View S C R) → v.heard ≡ [] → RowAgrees m made logs holders id v → GoesOn w.pass.seen logs → RowAgrees m made logs holders id (told_view v w)
+  agrees_told : (logs : List (List (Entry C R))) (holders : List ℕ) (id : ℕ) (v w : View S C R) → v.heard ≡ []
+      → RowAgrees m made logs holders id v → GoesOn w.pass.seen logs → RowAgrees m made logs holders id (told_view v w)
   agrees_told logs holders id v w heard agrees goes = record {
     opening = agrees.opening;
     wide = agrees.wide;
@@ -130,13 +143,15 @@ module _ {S C R : Type 0} (m : Meaning S C R) (made : List S) where
   }
 
   -- a note is taken in
-  pub tells : (id other : ℕ) (v u : View S C R) → v.heard ≡ [] → Joins (RowInvariant m made) id v other (note_of u) (told_view v (note_of u)) gone_view
+  pub tells : (id other : ℕ) (v u : View S C R) → v.heard ≡ []
+      → Joins (RowInvariant m made) id v other (note_of u) (told_view v (note_of u)) gone_view
   tells id other v u heard s inv at apart at_other =
       let w = note_of u in
       let at_w : get_elem? s.views other ≡ some w = sym (set_else s.views id other (told_view v w) apart) ∙ at_other in
       let id_at : get_elem? (map row_pass_id s.views) other ≡ some gone_pass_id = at_map row_pass_id s.views other w at_w in
       let ids : set (set (map row_pass_id s.views) id (row_pass_id v)) other gone_pass_id ≡ map row_pass_id s.views =
-      ap (λ ls. set ls other gone_pass_id) (set_again (map row_pass_id s.views) id (row_pass_id v) (at_map row_pass_id s.views id v at)) ∙ set_again (map row_pass_id s.views) other gone_pass_id id_at in
+      ap (λ ls. set ls other gone_pass_id) (set_again (map row_pass_id s.views) id (row_pass_id v) (at_map row_pass_id s.views id v at))
+      ∙ set_again (map row_pass_id s.views) other gone_pass_id id_at in
       merged m made s inv id other v (told_view v w) w gone_view at at_other
       (agrees_told inv.logs inv.holders id v w heard (inv.each_view id v at) (inv.each_view other w at_w).seen)
       (λ j. agrees_gone inv.logs inv.holders j)

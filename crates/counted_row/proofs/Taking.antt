@@ -24,7 +24,8 @@ use Rattle.counted_row.proofs.Looking.{agrees_seen, looks_at}
 
 module _ {S C R : Type 0} (m : Meaning S C R) (made : List S) where
   -- a seat that holds nothing fits whoever holds what
-  pub agrees_idle : (logs : List (List (Entry C R))) (holders holders' : List ℕ) (id : ℕ) (v : View S C R) → v.held ≡ None → RowAgrees m made logs holders id v → RowAgrees m made logs holders' id v
+  pub agrees_idle : (logs : List (List (Entry C R))) (holders holders' : List ℕ) (id : ℕ) (v : View S C R) → v.held ≡ None
+      → RowAgrees m made logs holders id v → RowAgrees m made logs holders' id v
   agrees_idle logs holders holders' id v idle agrees = record {
     opening = agrees.opening;
     wide = agrees.wide;
@@ -40,7 +41,8 @@ module _ {S C R : Type 0} (m : Meaning S C R) (made : List S) where
       no_lock h e = cc
 
   -- a seat that has seen all of a history may hold its value
-  agrees_holding : (logs : List (List (Entry C R))) (holders : List ℕ) (id : ℕ) (v : View S C R) (h : Locked S) → RowAgrees m made logs holders id v → HoldsValue m made logs holders id v h
+  agrees_holding : (logs : List (List (Entry C R))) (holders : List ℕ) (id : ℕ) (v : View S C R) (h : Locked S)
+      → RowAgrees m made logs holders id v → HoldsValue m made logs holders id v h
       → RowAgrees m made logs holders id (record v { held = Some h })
   agrees_holding logs holders id v h agrees holds = record {
     opening = agrees.opening;
@@ -54,14 +56,17 @@ module _ {S C R : Type 0} (m : Meaning S C R) (made : List S) where
     gone = agrees.gone;
   }
 
-  module _ (slots id : ℕ) (v : View S C R) (live : v.pass.id.live ≡ true) (idle : v.held ≡ None) (i stamp : ℕ) (inside : i < slots) (low : stamp < taken_mark) where
+  module _ (slots id : ℕ) (v : View S C R) (live : v.pass.id.live ≡ true) (idle : v.held ≡ None) (i stamp : ℕ) (inside : i < slots)
+      (low : stamp < taken_mark) where
     abbrev Goes : State (Option S) (View S C R) → Bool → Type 0
     Goes s hit =
-        (w : View S C R) × (a : Act (Option S)) × Valid s.homes [] a × RowInvariant m made (stepped s (i + 1) (either hit (stamp + taken_mark) (slice_index s.words (i + 1))) id [] w a)
+        (w : View S C R) × (a : Act (Option S)) × Valid s.homes [] a × RowInvariant m made
+        (stepped s (i + 1) (either hit (stamp + taken_mark) (slice_index s.words (i + 1))) id [] w a)
         × ((k : ℕ) → i + 1 ≡ k + 1 → MatchBool hit (Hit m (step slots (i + 1) stamp (stamp + taken_mark) none) (v, []) k (w, carried_after [] a))
         (Looked m (step slots (i + 1) stamp (stamp + taken_mark) none) (v, []) (slice_index s.words (i + 1)) (w, carried_after [] a)))
 
-    goes : (s : State (Option S) (View S C R)) → RowInvariant m made s → length s.homes ≡ slots → get_elem? s.views id ≡ some v → (hit : Bool) → eqb (slice_index s.words (i + 1)) stamp ≡ hit → Goes s hit
+    goes : (s : State (Option S) (View S C R)) → RowInvariant m made s → length s.homes ≡ slots → get_elem? s.views id ≡ some v
+        → (hit : Bool) → eqb (slice_index s.words (i + 1)) stamp ≡ hit → Goes s hit
     goes s inv many at false miss =
         let l = looks_at m made slots id v [] live (step slots (i + 1) stamp (stamp + taken_mark) none) (i + 1) refl refl s inv many at in
         (l.0, l.1, l.2, l.3, λ k e. l.4)
@@ -83,7 +88,8 @@ module _ {S C R : Type 0} (m : Meaning S C R) (made : List S) where
           state = cell.after;
         } in
         let agrees : RowAgrees m made inv.logs holders id v2 =
-        agrees_holding inv.logs holders id v1 h (agrees_idle inv.logs inv.holders holders id v1 idle (agrees_seen m made inv.logs inv.holders id v inv.logs_len (inv.each_view id v at))) holds in
+        agrees_holding inv.logs holders id v1 h (agrees_idle inv.logs inv.holders holders id v1 idle
+        (agrees_seen m made inv.logs inv.holders id v inv.logs_len (inv.each_view id v at))) holds in
         let cell' : Cell m made i (entries i inv.logs) (some none) (stamp + taken_mark) (id + 1) = record {
           state = cell.state;
           after = cell.after;
@@ -91,7 +97,11 @@ module _ {S C R : Type 0} (m : Meaning S C R) (made : List S) where
           free = λ e. absurd (omega arith);
           taken = λ n. omega (arith, free.0);
         } in
-        let next : RowInvariant m made record { words = slice_set s.words (i + 1) (stamp + taken_mark); homes = slice_set s.homes i none; views = slice_set s.views id v2 } =
+        let next : RowInvariant m made record {
+          words = slice_set s.words (i + 1) (stamp + taken_mark);
+          homes = slice_set s.homes i none;
+          views = slice_set s.views id v2;
+        } =
         shifted m made s inv i id v v2 (stamp + taken_mark) (id + 1) none at in_made (inl unheld) cell' agrees refl (λ k n. refl) (λ k name. refl) in (
           v2,
           takes i (Some cell.state),
@@ -103,11 +113,16 @@ module _ {S C R : Type 0} (m : Meaning S C R) (made : List S) where
                 seen = inv.logs;
                 goes_on = (inv.each_view id v at).seen;
                 rest = refl;
-                knows = knows_of m made record { words = slice_set s.words (i + 1) (stamp + taken_mark); homes = slice_set s.homes i none; views = slice_set s.views id v2 } next id v2 (set_there s.views id v v2 at) live refl;
+                knows = knows_of m made record {
+                  words = slice_set s.words (i + 1) (stamp + taken_mark);
+                  homes = slice_set s.homes i none;
+                  views = slice_set s.views id v2;
+                } next id v2 (set_there s.views id v v2 at) live refl;
               }),
         )
 
-    pub takes_lock : Allows (RowInvariant m made) slots id (v, []) (i + 1) (λ n. either (eqb n stamp) (stamp + taken_mark) n) (Took m (step slots (i + 1) stamp (stamp + taken_mark) none) (v, []))
+    pub takes_lock : Allows (RowInvariant m made) slots id (v, []) (i + 1) (λ n. either (eqb n stamp) (stamp + taken_mark) n)
+        (Took m (step slots (i + 1) stamp (stamp + taken_mark) none) (v, []))
     takes_lock s inv many at small = goes s inv many at (eqb (slice_index s.words (i + 1)) stamp) refl
 
   module _ (slots id : ℕ) (v : View S C R) (h : Locked S) (live : v.pass.id.live ≡ true) (heard : v.heard ≡ []) (held : v.held ≡ Some h) where
@@ -127,7 +142,11 @@ module _ {S C R : Type 0} (m : Meaning S C R) (made : List S) where
           free = λ e. (t.stamp, refl);
           taken = λ n. absurd (n refl);
         } in
-        let next : RowInvariant m made record { words = slice_set s.words (i + 1) h.stamp; homes = slice_set s.homes i (some (Some h.state)); views = slice_set s.views id v' } =
+        let next : RowInvariant m made record {
+          words = slice_set s.words (i + 1) h.stamp;
+          homes = slice_set s.homes i (some (Some h.state));
+          views = slice_set s.views id v';
+        } =
         shifted m made s inv i id v v' h.stamp 0 (some (Some h.state)) at t.within (inr t.holder) cell' agrees refl (λ k n. refl) (λ k name. refl) in (
           v',
           gives,
@@ -136,11 +155,16 @@ module _ {S C R : Type 0} (m : Meaning S C R) (made : List S) where
           record {
             after = refl;
             count = λ g e. let same : h ≡ g = cc in subst (λ q. q.stamp ≡ length (entries q.index v.pass.seen)) same (t.stamp ∙ ap length (sym t.seen));
-            knows = knows_of m made record { words = slice_set s.words (i + 1) h.stamp; homes = slice_set s.homes i (some (Some h.state)); views = slice_set s.views id v' } next id v' (set_there s.views id v v' at) live heard;
+            knows = knows_of m made record {
+              words = slice_set s.words (i + 1) h.stamp;
+              homes = slice_set s.homes i (some (Some h.state));
+              views = slice_set s.views id v';
+            } next id v' (set_there s.views id v v' at) live heard;
           },
         )
       where
-        agrees_let_go : (logs : List (List (Entry C R))) (holders : List ℕ) (v : View S C R) → RowAgrees m made logs holders id v → RowAgrees m made logs holders id (released v)
+        agrees_let_go : (logs : List (List (Entry C R))) (holders : List ℕ) (v : View S C R) → RowAgrees m made logs holders id v
+            → RowAgrees m made logs holders id (released v)
         agrees_let_go logs holders v agrees = record {
           opening = agrees.opening;
           wide = agrees.wide;

@@ -36,7 +36,8 @@ times_ended name (ends claim) = one_if (same name claim)
 module _ {S C R : Type 0} where
   -- a call opens and ends the claims that its effect says, and no others
   abbrev pub Counts : Meaning S C R → Type 0
-  Counts m = (s : S) (c : C) (name : List ℕ) → m.may s c → occurrences name (m.claims (m.next s c)) + times_ended name (m.effect s c) ≡ occurrences name (m.claims s) + times_opened name (m.effect s c)
+  Counts m = (s : S) (c : C) (name : List ℕ) → m.may s c → occurrences name (m.claims (m.next s c)) + times_ended name (m.effect s c)
+      ≡ occurrences name (m.claims s) + times_opened name (m.effect s c)
 
   -- from the first state the calls of the history may be made in turn, with these replies, and lead to the second
   abbrev pub Leads : Meaning S C R → S → List (Entry C R) → S → Type 0

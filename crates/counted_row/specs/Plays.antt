@@ -22,7 +22,8 @@ slots_of (Some h) = (h.index, None) ∷ []
 
 module _ {S C R : Type 0} where
   -- what a load tells: the histories so far were seen, and how many entries the value's has
-  pub record Looked (m : Meaning S C R) (st : Step (Option S)) (me : Me (Option S) (View S C R)) (found : ℕ) (new : Me (Option S) (View S C R)) : Type 0 where
+  pub record Looked (m : Meaning S C R) (st : Step (Option S)) (me : Me (Option S) (View S C R)) (found : ℕ)
+      (new : Me (Option S) (View S C R)) : Type 0 where
     pub rest : new ≡ (having_seen new.0.pass.seen me.0, me.1)
     pub seen : GoesOn me.0.pass.seen new.0.pass.seen
     pub heard : GoesOn me.0.heard new.0.pass.seen
@@ -30,12 +31,14 @@ module _ {S C R : Type 0} where
     pub counts : (i : ℕ) → st.word ≡ i + 1 → i < st.slots → IsWord (length (entries i new.0.pass.seen)) found
 
   -- what a load tells where the seat stays as it is
-  pub record Checked (m : Meaning S C R) (st : Step (Option S)) (me : Me (Option S) (View S C R)) (found : ℕ) (new : Me (Option S) (View S C R)) : Type 0 where
+  pub record Checked (m : Meaning S C R) (st : Step (Option S)) (me : Me (Option S) (View S C R)) (found : ℕ)
+      (new : Me (Option S) (View S C R)) : Type 0 where
     pub same : new ≡ me
     pub knows : Knows m me.0
 
   -- what an exchange tells that took value i's lock: the value is carried
-  pub record Hit (m : Meaning S C R) (st : Step (Option S)) (me : Me (Option S) (View S C R)) (i : ℕ) (new : Me (Option S) (View S C R)) : Type 0 where
+  pub record Hit (m : Meaning S C R) (st : Step (Option S)) (me : Me (Option S) (View S C R)) (i : ℕ)
+      (new : Me (Option S) (View S C R)) : Type 0 where
     pub state : S
     pub seen : List (List (Entry C R))
     pub goes_on : GoesOn me.0.pass.seen seen
@@ -54,7 +57,8 @@ module _ {S C R : Type 0} where
     pub permits : Permits me.0.claims h.index (m.effect h.state call)
 
   -- what the store of a commit tells: the call that was asked for was added
-  pub record Entered (m : Meaning S C R) (asks : C → Type 0) (me : Me (Option S) (View S C R)) (h : Locked S) (new : Me (Option S) (View S C R)) : Type 0 where
+  pub record Entered (m : Meaning S C R) (asks : C → Type 0) (me : Me (Option S) (View S C R)) (h : Locked S)
+      (new : Me (Option S) (View S C R)) : Type 0 where
     pub call : C
     pub asked : asks call
     pub after : new ≡ (committed m h call me.0, rest me.1)
@@ -66,7 +70,8 @@ module _ {S C R : Type 0} where
   Enters m asks st me stored new = (h : Locked S) → me.0.held ≡ Some h → Entered m asks me h new
 
   -- what the store of a release tells
-  pub record Freed (m : Meaning S C R) (st : Step (Option S)) (me : Me (Option S) (View S C R)) (stored : ℕ) (new : Me (Option S) (View S C R)) : Type 0 where
+  pub record Freed (m : Meaning S C R) (st : Step (Option S)) (me : Me (Option S) (View S C R)) (stored : ℕ)
+      (new : Me (Option S) (View S C R)) : Type 0 where
     pub after : new ≡ (released me.0, rest me.1)
     pub count : (h : Locked S) → me.0.held ≡ Some h → h.stamp ≡ length (entries h.index new.0.pass.seen)
     pub knows : Knows m new.0

@@ -31,7 +31,8 @@ claims_at i name v = count (is_claim i name) v.claims
 
 module _ {S C R : Type 0} (m : Meaning S C R) (made : List S) where
   -- The word, the slot and the holder of value i. The holder is 0, or one more than the number of the seat that has the lock.
-  pub record Cell (i : ℕ) (log : List (Entry C R)) (slot : mathlib.Core.Option.Option (mathlib.Core.Option.Option (Option S))) (word holder : ℕ) : Type 0 where
+  pub record Cell (i : ℕ) (log : List (Entry C R)) (slot : mathlib.Core.Option.Option (mathlib.Core.Option.Option (Option S)))
+      (word holder : ℕ) : Type 0 where
     pub state : S
     pub after : StateAfter m made i log state
     pub short : length log ≤ 2 ^ 48
@@ -55,7 +56,8 @@ module _ {S C R : Type 0} (m : Meaning S C R) (made : List S) where
     pub held : (h : Locked S) → v.held ≡ Some h → HoldsValue logs holders j v h
     pub mine : (i k : ℕ) → 0 < row_places i k v → (k ≤ length (entries i v.pass.seen)) ⊎ (k ≤ length (entries i v.heard))
     -- its claims are open after what it has seen, and ever after
-    pub claims : (i : ℕ) (name : List ℕ) (log : List (Entry C R)) (x : S) → HasClaim i name v.claims → Begins (entries i v.pass.seen) log → Begins (entries i v.heard) log → Begins log (entries i logs)
+    pub claims : (i : ℕ) (name : List ℕ) (log : List (Entry C R)) (x : S) → HasClaim i name v.claims → Begins (entries i v.pass.seen) log
+        → Begins (entries i v.heard) log → Begins log (entries i logs)
         → StateAfter m made i log x → 0 < occurrences name (m.claims x)
     -- of a pass that is gone nothing is left
     pub gone : v.pass.id.live ≡ false → (v.pass.mine ≡ []) × (v.claims ≡ [])
@@ -74,4 +76,5 @@ module _ {S C R : Type 0} (m : Meaning S C R) (made : List S) where
     -- each entry of each history is one pass's own, once
     pub tally : (i k : ℕ) → total (row_places i k) s.views ≡ one_if (within k (length (entries i logs)))
     -- the passes' claims are the open ones, each once
-    pub claims : (i : ℕ) (name : List ℕ) (x : S) → StateAfter m made i (entries i logs) x → total (claims_at i name) s.views ≡ occurrences name (m.claims x)
+    pub claims : (i : ℕ) (name : List ℕ) (x : S) → StateAfter m made i (entries i logs) x
+        → total (claims_at i name) s.views ≡ occurrences name (m.claims x)

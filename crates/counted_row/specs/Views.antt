@@ -65,12 +65,14 @@ module _ {S C R : Type 0} where
     -- each history that was seen leads to a state
     pub legal : (i : ℕ) → i < length v.opening → (x : S) × StateAfter m v.opening i (entries i v.pass.seen) x
     -- in which the pass's own claims are open
-    pub open_claims : (i : ℕ) (name : List ℕ) (x : S) → HasClaim i name v.claims → StateAfter m v.opening i (entries i v.pass.seen) x → 0 < occurrences name (m.claims x)
+    pub open_claims : (i : ℕ) (name : List ℕ) (x : S) → HasClaim i name v.claims → StateAfter m v.opening i (entries i v.pass.seen) x
+        → 0 < occurrences name (m.claims x)
     pub held : (h : Locked S) → v.held ≡ Some h → IsNow m v h
     -- the last pass has made each entry, each once, and has seen them all
     pub all_entries : IsLast v.pass.id → HasEach v.pass.seen v.pass.mine
     -- and the open claims are its claims, each once
-    pub all_claims : IsLast v.pass.id → (i : ℕ) (name : List ℕ) (x : S) → StateAfter m v.opening i (entries i v.pass.seen) x → count (is_claim i name) v.claims ≡ occurrences name (m.claims x)
+    pub all_claims : IsLast v.pass.id → (i : ℕ) (name : List ℕ) (x : S) → StateAfter m v.opening i (entries i v.pass.seen) x
+        → count (is_claim i name) v.claims ≡ occurrences name (m.claims x)
 
   -- the first pass of a row of these values
   abbrev pub first_view : List S → View S C R

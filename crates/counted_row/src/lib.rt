@@ -8,6 +8,8 @@ mod plays;
 mod row;
 mod slots;
 mod steps;
+#[cfg(test)]
+mod tests;
 mod view;
 
 pub use handles::{Held, RowPass};

@@ -1,3 +1,4 @@
+//! What a value of a row is: a state with calls that have one order.
 ghost use Rattle.std.specs.Prelude.{◌≡◌};
 ghost use Rattle.counted_row.specs.Meaning.{Meaning, Counts};
 

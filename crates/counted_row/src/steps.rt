@@ -10,7 +10,7 @@ ghost use Rattle.counted_row.specs.declared.view.Locked.{Locked};
 ghost use Rattle.counted_row.specs.Views.{Knows, having_seen, committed, released};
 
 use crate::object::Object;
-use crate::plays::{Asked, Check, Child, Enter, Free, RowRule, Look, Note, Take};
+use crate::plays::{Asked, Check, Child, Enter, Free, Look, Note, RowRule, Take};
 use crate::view::View;
 use atomic_table::{Seat, Shared};
 use std::snapshot::Snapshot;

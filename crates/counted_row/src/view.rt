@@ -1,3 +1,4 @@
+//! What is known of a row by a pass, as plain data. No value of these types is made.
 use pass_names::Pass;
 use std::collections::LinkedList;
 

@@ -16,7 +16,7 @@ use std::{env, io};
 
 fn counters(alloc: Global) -> Result<(Row<Counter>, RowPass<Counter>), AllocError>
     ensures alone { IfOk result (λ r. IsAlone r.0 r.1) }
-    ensures values { IfOk result (λ r. length r.0.made ≡ 32) }
+    ensures values { IfOk result (λ r. length r.0.made ≡ 4096) }
 {
     let values = vec![in alloc; Counter { total: 0 }; VALUES]?;
     Row::make(alloc, values)

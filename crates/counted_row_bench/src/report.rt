@@ -10,8 +10,11 @@ use std::sync::Wait;
 use std::thread::Threads;
 use std::time::{Clock, Instant};
 
-/// How many values the row has. The words of the first and the last lie 248 bytes apart.
-pub const VALUES: usize = 32;
+/// How many values the row has: as many as the greatest row that is promised.
+pub const VALUES: usize = 4096;
+
+/// A value far from the first: their words lie 248 bytes apart.
+const FAR: usize = 31;
 
 /// Locks a thread and a round.
 const LOCKS: u64 = 500_000;
@@ -39,12 +42,12 @@ impl Place {
 
     /// The value of the second thread, if there is one.
     fn second(self) -> Option<usize>
-        ensures { IfSome result (λ index. index < 32) }
+        ensures { IfSome result (λ index. index < 4096) }
     {
         match self {
             Place::Alone => None,
             Place::Beside => Some(1),
-            Place::Apart => Some(VALUES - 1),
+            Place::Apart => Some(FAR),
             Place::Same => Some(0),
         }
     }
@@ -67,7 +70,7 @@ fn least<R: Threads + Wait + Sync + Clock>(
     ending: Ending,
 ) -> io::Result<u128>
     requires alone { IsAlone row.now main.old }
-    requires values { length row.now.made ≡ 32 }
+    requires values { length row.now.made ≡ 4096 }
     ensures alone { IsAlone row.now main.new }
 {
     let mut least = u128::MAX;
@@ -89,7 +92,7 @@ fn line<R: Threads + Wait + Sync + Clock + Print>(
     place: Place,
 ) -> io::Result<()>
     requires alone { IsAlone row.now main.old }
-    requires values { length row.now.made ≡ 32 }
+    requires values { length row.now.made ≡ 4096 }
     ensures alone { IsAlone row.now main.new }
 {
     let name = place.name();
@@ -110,8 +113,8 @@ fn line<R: Threads + Wait + Sync + Clock + Print>(
             run(rt, row, main, place.second(), ending, 10);
             let first = row.peek_stamp(main, 0);
             let beside = row.peek_stamp(main, 1);
-            let last = row.peek_stamp(main, VALUES - 1);
-            println!(rt; "{end}\t{name}\t{first} {beside} {last}")
+            let far = row.peek_stamp(main, FAR);
+            println!(rt; "{end}\t{name}\t{first} {beside} {far}")
         }
     }
 }
@@ -124,7 +127,7 @@ fn lines<R: Threads + Wait + Sync + Clock + Print>(
     ending: Ending,
 ) -> io::Result<()>
     requires alone { IsAlone row.now main.old }
-    requires values { length row.now.made ≡ 32 }
+    requires values { length row.now.made ≡ 4096 }
     ensures alone { IsAlone row.now main.new }
 {
     for place in [Place::Alone, Place::Beside, Place::Apart, Place::Same] {
@@ -141,7 +144,7 @@ pub fn report<R: Threads + Wait + Sync + Clock + Print>(
     task: Task,
 ) -> io::Result<()>
     requires alone { IsAlone row.now main.old }
-    requires values { length row.now.made ≡ 32 }
+    requires values { length row.now.made ≡ 4096 }
     ensures alone { IsAlone row.now main.new }
 {
     lines(rt, row, main, task, Ending::Commit)?;

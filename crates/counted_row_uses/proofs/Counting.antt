@@ -36,7 +36,8 @@ made_more index m n p q r a b = record {
 }
 
 -- a call was made under the lock
-pub made_one : (index call : ℕ) (p q r : PassOfRow Counter ℕ ℕ) (h : Locked Counter) (e : Entry ℕ ℕ) → Locks adding p q index h → Adds q.knows.pass r.knows.pass h.index (e ∷ [])
+pub made_one : (index call : ℕ) (p q r : PassOfRow Counter ℕ ℕ) (h : Locked Counter) (e : Entry ℕ ℕ) → Locks adding p q index h
+    → Adds q.knows.pass r.knows.pass h.index (e ∷ [])
     → r.knows ≡ committed adding h call q.knows → Made index 1 p r
 made_one index call p q r h e locks adds is = record {
   id = adds.id ∙ locks.pass.id;
@@ -67,7 +68,8 @@ pub first_on_one : (made : List Counter) → IsOnOne (first_view made).pass
 first_on_one made = record { last = record { first = refl; alone = refl }; elsewhere = λ i k apart. refl }
 
 pub still_on_one : (p q : Pass (Entry ℕ ℕ)) → IsOnOne p → q.id ≡ p.id → q.mine ≡ p.mine → IsOnOne q
-still_on_one p q one id mine = record { last = subst IsLast (sym id) one.last; elsewhere = λ i k apart. ap (count (is_place i k)) mine ∙ one.elsewhere i k apart }
+still_on_one p q one id mine =
+    record { last = subst IsLast (sym id) one.last; elsewhere = λ i k apart. ap (count (is_place i k)) mine ∙ one.elsewhere i k apart }
 
 -- then that value's history has just so many entries, and the others have none
 pub all_on_one : (v : View Counter ℕ ℕ) → Knows adding v → IsOnOne v.pass → length (entries 0 v.pass.seen) ≡ length v.pass.mine

@@ -13,15 +13,18 @@ use Rattle.counted_row_uses.specs.declared.lanes.Lane.{Lane}
 use Rattle.counted_row_uses.specs.Lanes.{IsIdleLane, IsMain, name_of}
 
 -- how often a name is borne, with one lane more
-lanes_push : (name : List ℕ) (lanes : List Lane) (lane : Lane) → occurrences name (map name_of (lanes ++ lane ∷ [])) ≡ occurrences name (map name_of lanes) + one_if (same name (name_of lane))
+lanes_push : (name : List ℕ) (lanes : List Lane) (lane : Lane)
+    → occurrences name (map name_of (lanes ++ lane ∷ [])) ≡ occurrences name (map name_of lanes) + one_if (same name (name_of lane))
 lanes_push name [] lane = omega arith
 lanes_push name (x ∷ xs) lane = omega (arith, lanes_push name xs lane)
 
 -- a pass that was just split off is ready for a lane
-pub idle_new : (row : RowOf Counter) (lane : Lane) (v : View Counter ℕ ℕ) → IsPassOfRow row lane.pass → lane.pass.knows ≡ new_view v → IsIdleLane row lane
+pub idle_new : (row : RowOf Counter) (lane : Lane) (v : View Counter ℕ ℕ) → IsPassOfRow row lane.pass → lane.pass.knows ≡ new_view v
+    → IsIdleLane row lane
 idle_new row lane v pass new = record { pass = pass; idle = ap (λ w. w.held) new; alone = ap (λ w. w.pass.id.split) new; unclaimed = ap (λ w. w.claims) new }
 
-pub main_split : (row : RowOf Counter) (main main' : PassOfRow Counter ℕ ℕ) (lanes : List Lane) (lane : Lane) → IsMain row main lanes → IsPassOfRow row main' → main'.knows ≡ split_view main.knows
+pub main_split : (row : RowOf Counter) (main main' : PassOfRow Counter ℕ ℕ) (lanes : List Lane) (lane : Lane) → IsMain row main lanes
+    → IsPassOfRow row main' → main'.knows ≡ split_view main.knows
     → lane.pass.knows ≡ new_view main.knows → IsMain row main' (lanes ++ lane ∷ [])
 main_split row main main' lanes lane is pass left right = record {
   pass = pass;
@@ -29,15 +32,19 @@ main_split row main main' lanes lane is pass left right = record {
   first = ap (λ v. v.pass.id.name) left ∙ is.first;
   unclaimed = ap (λ v. v.claims) left ∙ is.unclaimed;
   each = λ name.
-      let split : main'.knows.pass.id.split ≡ main.knows.pass.id.split ++ name_of lane ∷ [] = ap (λ v. v.pass.id.split) left ∙ ap (λ n. main.knows.pass.id.split ++ n ∷ []) (sym (ap (λ v. v.pass.id.name) right)) in
+      let split : main'.knows.pass.id.split ≡ main.knows.pass.id.split ++ name_of lane ∷ [] = ap (λ v. v.pass.id.split) left ∙ ap
+      (λ n. main.knows.pass.id.split ++ n ∷ []) (sym (ap (λ v. v.pass.id.name) right)) in
       omega (arith, is.each name, lanes_push name lanes lane, ap (occurrences name) split, occurrences_push name (name_of lane) main.knows.pass.id.split);
 }
 
-pub answers_last : (row : RowOf Counter) (main : PassOfRow Counter ℕ ℕ) (lanes : List Lane) (lane : Lane) → IsMain row main (lanes ++ lane ∷ []) → AnswersFor main.knows.pass.id lane.pass.knows.pass.id
+pub answers_last : (row : RowOf Counter) (main : PassOfRow Counter ℕ ℕ) (lanes : List Lane) (lane : Lane)
+    → IsMain row main (lanes ++ lane ∷ []) → AnswersFor main.knows.pass.id lane.pass.knows.pass.id
 answers_last row main lanes lane is = omega (arith, is.each (name_of lane), lanes_push (name_of lane) lanes lane, ap one_if (same-refl (name_of lane)))
 
-pub main_joins : (row : RowOf Counter) (main main' : PassOfRow Counter ℕ ℕ) (lanes : List Lane) (lane : Lane) → IsMain row main (lanes ++ lane ∷ []) → IsIdleLane row lane → IsPassOfRow row main' → main'.knows.held ≡ None
-    → main'.knows.claims ≡ main.knows.claims ++ lane.pass.knows.claims → main'.knows.pass.id ≡ after_retire main.knows.pass.id lane.pass.knows.pass.id → IsMain row main' lanes
+pub main_joins : (row : RowOf Counter) (main main' : PassOfRow Counter ℕ ℕ) (lanes : List Lane) (lane : Lane)
+    → IsMain row main (lanes ++ lane ∷ []) → IsIdleLane row lane → IsPassOfRow row main' → main'.knows.held ≡ None
+    → main'.knows.claims ≡ main.knows.claims ++ lane.pass.knows.claims
+    → main'.knows.pass.id ≡ after_retire main.knows.pass.id lane.pass.knows.pass.id → IsMain row main' lanes
 main_joins row main main' lanes lane is lane_is pass idle claims id = record {
   pass = pass;
   idle = idle;
@@ -53,7 +60,8 @@ main_joins row main main' lanes lane is lane_is pass idle claims id = record {
         ap (λ (l : PassId). occurrences name l.split) id,
         total-append (λ n. one_if (same name n)) (without_first (same other) split) lane.pass.knows.pass.id.split,
         ap (occurrences name) lane_is.alone,
-        count-without_first (same other) (same name) (same name other) (λ x e. ap (same name) (sym (same_eq other x e))) split (answers_last row main lanes lane is),
+        count-without_first (same other) (same name) (same name other) (λ x e. ap (same name) (sym (same_eq other x e))) split
+            (answers_last row main lanes lane is),
       );
 }
 
@@ -65,7 +73,8 @@ none_listed (n ∷ ns) none = absurd (omega (arith, none n, ap one_if (same-refl
 pub main_last : (row : RowOf Counter) (main : PassOfRow Counter ℕ ℕ) → IsMain row main [] → IsLast main.knows.pass.id
 main_last row main is = record { first = is.first; alone = none_listed main.knows.pass.id.split is.each }
 
-pub same_names : (old new : List Lane) → length new ≡ length old → ((k : ℕ) (d : Lane) → k < length old → name_of (get_or new k d) ≡ name_of (get_or old k d)) → map name_of new ≡ map name_of old
+pub same_names : (old new : List Lane) → length new ≡ length old
+    → ((k : ℕ) (d : Lane) → k < length old → name_of (get_or new k d) ≡ name_of (get_or old k d)) → map name_of new ≡ map name_of old
 same_names [] [] len each = refl
 same_names (x ∷ xs) (y ∷ ys) len each = λ i. each 0 x (omega arith) i ∷ same_names xs ys (omega arith) (λ k d h. each (suc k) d (omega arith)) i
 same_names [] (y ∷ ys) len each = absurd (omega arith)
@@ -76,5 +85,7 @@ pub written : (s items : List Lane) (n : ℕ) → length s ≡ length items → 
 written s items n len all =
     ap (λ rest. take n (s ++ rest)) (drop_all (length s) items (omega arith)) ∙ (ap (take n) (append-nil s) ∙ take_all n s (omega arith))
 
-pub main_same : (row : RowOf Counter) (main : PassOfRow Counter ℕ ℕ) (old new : List Lane) → map name_of new ≡ map name_of old → IsMain row main old → IsMain row main new
-main_same row main old new names is = record { pass = is.pass; idle = is.idle; first = is.first; unclaimed = is.unclaimed; each = λ name. ap (occurrences name) names ∙ is.each name }
+pub main_same : (row : RowOf Counter) (main : PassOfRow Counter ℕ ℕ) (old new : List Lane) → map name_of new ≡ map name_of old
+    → IsMain row main old → IsMain row main new
+main_same row main old new names is =
+    record { pass = is.pass; idle = is.idle; first = is.first; unclaimed = is.unclaimed; each = λ name. ap (occurrences name) names ∙ is.each name }

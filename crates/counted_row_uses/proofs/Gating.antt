@@ -21,7 +21,8 @@ open_claim true entries n open_once = (refl, first n entries (same_eq (n ∷ [])
 open_claim false entries n open_once = absurd (omega arith)
 
 -- under the lock, the pass's claim is that of who is inside
-pub held_claim : (p q : PassOfRow Gate Turn ℕ) (i n : ℕ) (h : Locked Gate) → Locks gating p q i h → HasClaim i (n ∷ []) p.knows.claims → (h.state.inside ≡ true) × (n ≡ h.state.entries)
+pub held_claim : (p q : PassOfRow Gate Turn ℕ) (i n : ℕ) (h : Locked Gate) → Locks gating p q i h → HasClaim i (n ∷ []) p.knows.claims
+    → (h.state.inside ≡ true) × (n ≡ h.state.entries)
 held_claim p q i n h locks has = open_claim h.state.inside h.state.entries n (open_now gating p q i (n ∷ []) h locks has)
 
 -- a claim that was put last is there

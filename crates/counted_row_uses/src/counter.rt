@@ -1,3 +1,4 @@
+//! A counter as a value of a row, and calls that add one to it under its lock.
 ghost use Rattle.std.specs.Prelude.{◌≡◌, ◌+◌, ◌<◌, ◌≤◌, None, length, MatchBool};
 ghost use Rattle.counted_row.specs.Views.{IsPassOfRow};
 ghost use Rattle.counted_row_uses.specs.Counters.{Made};

@@ -1,3 +1,4 @@
+//! A gate as a value of a row: who enters gets a claim, which only its pass can end.
 ghost use Rattle.std.specs.Prelude.{◌≡◌, ℕ, ◌<◌, [], ◌∷◌, ◌++◌, None, length, IfSome, MatchOption, MatchBool};
 ghost use Rattle.counted_row.specs.Views.{IsPassOfRow, HasClaim, is_claim};
 ghost use Rattle.pass_names.specs.Counts.{without_first};

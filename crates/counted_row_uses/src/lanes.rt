@@ -1,3 +1,4 @@
+//! Lanes that count on one value, each with a pass of its own, by `for_each_mut`.
 ghost use Rattle.std.specs.Prelude.{◌≡◌, ℕ, ◌+◌, ◌<◌, ◌≤◌, List, [], None, length, All, IfOk, OnErr};
 ghost use Rattle.pass_names.specs.Names.{IsLast};
 ghost use Rattle.counted_row.specs.Views.{PassOfRow};

@@ -1,3 +1,4 @@
+//! Totals after two threads and eight lanes, and the row of no values.
 ghost use Rattle.std.specs.Prelude.{◌≡◌, [], length, IfOk};
 ghost use Rattle.pass_names.specs.Names.{IsLast};
 ghost use Rattle.counted_row_uses.specs.Lanes.{IsMain};

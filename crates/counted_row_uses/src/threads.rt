@@ -1,3 +1,4 @@
+//! Two threads that count on one value, and what the stamp then is.
 ghost use Rattle.std.specs.Prelude.{◌≡◌, ◌≢◌, ℕ, ◌^◌, ◌+◌, ◌<◌, ◌≤◌, [], None, length, IfOk};
 ghost use Rattle.pass_names.specs.Counts.{count};
 ghost use Rattle.pass_names.specs.Names.{IsLast};

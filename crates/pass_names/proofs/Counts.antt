@@ -57,7 +57,8 @@ module _ {A : Type 0} where
   total_none f (z ∷ zs) h = omega (arith, h 0 z refl, total_none f zs (λ i x e. h (suc i) x e))
 
   -- where all other parts are 0, the sum is the one part
-  pub total_only : (f : A → ℕ) (xs : List A) (i : ℕ) (x : A) → get_elem? xs i ≡ some x → ((j : ℕ) (y : A) → j ≢ i → get_elem? xs j ≡ some y → f y ≡ 0) → total f xs ≡ f x
+  pub total_only : (f : A → ℕ) (xs : List A) (i : ℕ) (x : A) → get_elem? xs i ≡ some x
+      → ((j : ℕ) (y : A) → j ≢ i → get_elem? xs j ≡ some y → f y ≡ 0) → total f xs ≡ f x
   total_only f [] i x e h = absurd (some-ne-none x (sym e))
   total_only f (z ∷ zs) zero x e h = let t = ap f (some-injective z x e) in omega (arith, total_none f zs (λ j y k. h (suc j) y (λ n. omega arith) k))
   total_only f (z ∷ zs) (suc i) x e h = omega (arith, h 0 z (λ n. omega arith) refl, total_only f zs i x e (λ j y n k. h (suc j) y (λ t. n (omega arith)) k))
@@ -75,13 +76,15 @@ module _ {A : Type 0} where
   abbrev Taken : (p q : A → Bool) (b : Bool) (xs : List A) → Type 0
   Taken p q b xs = count q (without_first p xs) + one_if b ≡ count q xs
 
-  taken_in : (p q : A → Bool) (b : Bool) (x : A) (xs : List A) (t : Bool) → p x ≡ t → (p x ≡ true → q x ≡ b) → (0 < count p xs → Taken p q b xs) → 0 < one_if (p x) + count p xs
+  taken_in : (p q : A → Bool) (b : Bool) (x : A) (xs : List A) (t : Bool) → p x ≡ t → (p x ≡ true → q x ≡ b)
+      → (0 < count p xs → Taken p q b xs) → 0 < one_if (p x) + count p xs
       → count q (drop_if t x xs (without_first p xs)) + one_if b ≡ one_if (q x) + count q xs
   taken_in p q b x xs true e same rec h = let t = ap one_if (same e) in omega arith
   taken_in p q b x xs false e same rec h = let t : one_if (p x) ≡ 0 = ap one_if e in let r = rec (omega arith) in omega arith
 
   -- Where q answers alike of all that p is met by, taking one out by p takes as many from the count by q.
-  pub count-without_first : (p q : A → Bool) (b : Bool) → ((x : A) → p x ≡ true → q x ≡ b) → (xs : List A) → 0 < count p xs → count q (without_first p xs) + one_if b ≡ count q xs
+  pub count-without_first : (p q : A → Bool) (b : Bool) → ((x : A) → p x ≡ true → q x ≡ b) → (xs : List A) → 0 < count p xs
+      → count q (without_first p xs) + one_if b ≡ count q xs
   count-without_first p q b same [] h = absurd (omega arith)
   count-without_first p q b same (x ∷ xs) h = taken_in p q b x xs (p x) refl (same x) (λ t. count-without_first p q b same xs t) h
 
@@ -90,6 +93,7 @@ module _ {A : Type 0} where
   count-without_first-le p q [] = omega arith
   count-without_first-le p q (x ∷ xs) = less p q x xs (p x) (count-without_first-le p q xs)
     where
-      less : (p q : A → Bool) (x : A) (xs : List A) (t : Bool) → count q (without_first p xs) ≤ count q xs → count q (drop_if t x xs (without_first p xs)) ≤ one_if (q x) + count q xs
+      less : (p q : A → Bool) (x : A) (xs : List A) (t : Bool) → count q (without_first p xs) ≤ count q xs
+          → count q (drop_if t x xs (without_first p xs)) ≤ one_if (q x) + count q xs
       less p q x xs true h = omega arith
       less p q x xs false h = omega arith

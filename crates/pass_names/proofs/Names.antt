@@ -50,21 +50,24 @@ bearers_at ids j l at live =
     omega (arith, one, total_at (λ (m : PassId). one_if (m.live && same l.name m.name)) ids j l at)
 
 -- two live passes have two names
-pub one_name : (ids : List PassId) → IsPassTree ids → (i j : ℕ) (l m : PassId) → i ≢ j → get_elem? ids i ≡ some l → get_elem? ids j ≡ some m → l.live ≡ true → m.live ≡ true → m.name ≡ l.name → ⊥
+pub one_name : (ids : List PassId) → IsPassTree ids → (i j : ℕ) (l m : PassId) → i ≢ j → get_elem? ids i ≡ some l → get_elem? ids j ≡ some m
+    → l.live ≡ true → m.live ≡ true → m.name ≡ l.name → ⊥
 one_name ids tree i j l m apart at_l at_m live_l live_m same_name =
     let one : one_if (l.live && same l.name l.name) ≡ 1 = rw (live_l, same-refl l.name) refl in
     let two : one_if (m.live && same l.name m.name) ≡ 1 = rw (live_m, same_name, same-refl l.name) refl in
     omega (arith, one, two, tree.once l.name, total_two (λ (x : PassId). one_if (x.live && same l.name x.name)) ids i j l m apart at_l at_m)
 
 -- a name that is borne is that of a live pass
-pub bearer_of : (ids : List PassId) (n : List ℕ) → 0 < bearers n ids → (j : ℕ) × (l : PassId) × (get_elem? ids j ≡ some l) × (l.live ≡ true) × (n ≡ l.name)
+pub bearer_of : (ids : List PassId) (n : List ℕ) → 0 < bearers n ids
+    → (j : ℕ) × (l : PassId) × (get_elem? ids j ≡ some l) × (l.live ≡ true) × (n ≡ l.name)
 bearer_of ids n some_one =
     let f = total_found (λ (l : PassId). one_if (l.live && same n l.name)) ids some_one in
     let t : (f.1.live && same n f.1.name) ≡ true = met (f.1.live && same n f.1.name) f.3 in
     let p = and_parts f.1.live (same n f.1.name) t in (f.0, f.1, f.2, p.0, same_eq n f.1.name p.1)
 
 -- a pass that lists a name is live
-lists_live : (ids : List PassId) → IsPassTree ids → (j : ℕ) (l : PassId) (n : List ℕ) → get_elem? ids j ≡ some l → 0 < occurrences n l.split → l.live ≡ true
+lists_live : (ids : List PassId) → IsPassTree ids → (j : ℕ) (l : PassId) (n : List ℕ) → get_elem? ids j ≡ some l → 0 < occurrences n l.split
+    → l.live ≡ true
 lists_live ids tree j l n at has =
     ⊎_elim (λ t. t) (λ f. absurd (omega (arith, ap (λ ns. occurrences n ns) (tree.dead j l at f)))) (cases_Bool l.live)
 
@@ -82,7 +85,8 @@ alone_below ids tree i root at live last (suc fuel) [] short borne = refl
 alone_below ids tree i root at live last (suc fuel) (x ∷ xs) short borne =
     let p = listed_by ids tree x xs borne in
     let l = p.1 in
-    let l_nil : l.name ≡ [] = alone_below ids tree i root at live last fuel l.name (omega (arith, longer_name l.name p.2 (x ∷ xs) p.6)) (bearers_at ids p.0 l p.3 p.4) in
+    let l_nil : l.name ≡ [] = alone_below ids tree i root at live last fuel l.name (omega (arith, longer_name l.name p.2 (x ∷ xs) p.6))
+    (bearers_at ids p.0 l p.3 p.4) in
     ⊎_elim
     (λ here. let same_id : root ≡ l = some-injective root l (sym at ∙ (ap (λ k. get_elem? ids k) (sym here) ∙ p.3)) in
     absurd (omega (arith, p.5, ap (λ (m : PassId). occurrences (x ∷ xs) m.split) same_id, ap (λ ns. occurrences (x ∷ xs) ns) last.alone)))
@@ -120,7 +124,8 @@ first_tree = record {
     name_nil [] h = refl
     name_nil (x ∷ xs) h = absurd (omega arith)
 
-    empty : (j : ℕ) (l : PassId) (k : ℕ) (n : List ℕ) → get_elem? (first_pass_id ∷ []) j ≡ some l → 0 < bearers n (first_pass_id ∷ []) → Extends l.name k n → ⊥
+    empty : (j : ℕ) (l : PassId) (k : ℕ) (n : List ℕ) → get_elem? (first_pass_id ∷ []) j ≡ some l → 0 < bearers n (first_pass_id ∷ [])
+        → Extends l.name k n → ⊥
     empty j l k n at borne e = omega (arith, longer_name l.name k n e, ap length (name_nil n borne))
 
 -- how often a name is listed, and borne, once two passes have changed
@@ -129,7 +134,8 @@ both_set : (f : PassId → ℕ) (ids : List PassId) (i j : ℕ) (l m l' m' : Pas
 both_set f ids i j l m l' m' at_l at_m = omega (arith, total_set f ids i l l' at_l, total_set f (set ids i l') j m m' at_m)
 
 -- how often a name is listed, and borne, once a pass has changed and one came
-set_push : (f : PassId → ℕ) (ids : List PassId) (i : ℕ) (l l' m : PassId) → get_elem? ids i ≡ some l → total f (set ids i l' ++ m ∷ []) + f l ≡ total f ids + f l' + f m
+set_push : (f : PassId → ℕ) (ids : List PassId) (i : ℕ) (l l' m : PassId) → get_elem? ids i ≡ some l
+    → total f (set ids i l' ++ m ∷ []) + f l ≡ total f ids + f l' + f m
 set_push f ids i l l' m at_l = omega (arith, total_set f ids i l l' at_l, total-append f (set ids i l') (m ∷ []))
 
 -- where a list goes on from one, and ends one after another, the first is the other or begins it
@@ -140,7 +146,8 @@ ends_in (z ∷ a) [] k rest x e = absurd (omega (arith, ap length e, length-appe
 ends_in (z ∷ a) (y ∷ b) k rest x e =
     let h : z ≡ y = cc in
     let t : a ++ k ∷ rest ≡ b ++ x ∷ [] = cc in
-    ⊎_elim (λ u. inl (λ i. h i ∷ u i)) (λ u. inr (record { rest = u.rest; whole = (λ i. y ∷ u.whole i) ∙ (λ i. sym h i ∷ (a ++ k ∷ u.rest)) })) (ends_in a b k rest x t)
+    ⊎_elim (λ u. inl (λ i. h i ∷ u i))
+    (λ u. inr (record { rest = u.rest; whole = (λ i. y ∷ u.whole i) ∙ (λ i. sym h i ∷ (a ++ k ∷ u.rest)) })) (ends_in a b k rest x t)
 
 next_number : (a : List ℕ) (k : ℕ) (rest : List ℕ) (x : ℕ) → a ++ x ∷ [] ≡ a ++ k ∷ rest → k ≡ x
 next_number a k rest x e = let h = append_cancel_left a (x ∷ []) (k ∷ rest) e in cc
@@ -188,7 +195,8 @@ module _ (ids : List PassId) (tree : IsPassTree ids) (i : ℕ) (l : PassId) (at 
   old n = ⊎_elim (λ t. inl (same_eq n new_name t)) (λ f. inr (ap one_if f)) (cases_Bool (same n new_name))
 
   split_once : (n : List ℕ) → Old n → bearers n split_ids ≤ 1
-  split_once n (inl e) = omega (arith, split_bearers n, ap (λ k. bearers k ids) e, unborne, ap (λ k. one_if (same k new_name)) e, ap one_if (same-refl new_name))
+  split_once n (inl e) = omega
+      (arith, split_bearers n, ap (λ k. bearers k ids) e, unborne, ap (λ k. one_if (same k new_name)) e, ap one_if (same-refl new_name))
   split_once n (inr e) = omega (arith, split_bearers n, tree.once n)
 
   split_longer : (k : ℕ) (m : PassId) (n : List ℕ) → Case k m → 0 < occurrences n m.split → (q : ℕ) × Extends m.name q n
@@ -202,7 +210,8 @@ module _ (ids : List PassId) (tree : IsPassTree ids) (i : ℕ) (l : PassId) (at 
   split_longer k m n (inr (inl else)) has = tree.longer k m n else.1 has
   split_longer k m n (inr (inr child)) has = absurd (omega (arith, ap (λ (x : PassId). occurrences n x.split) child))
 
-  split_fresh : (k : ℕ) (m : PassId) (q : ℕ) (n : List ℕ) → Case k m → m.live ≡ true → Old n → 0 < bearers n split_ids → Extends m.name q n → q ≤ m.made
+  split_fresh : (k : ℕ) (m : PassId) (q : ℕ) (n : List ℕ) → Case k m → m.live ≡ true → Old n → 0 < bearers n split_ids → Extends m.name q n
+      → q ≤ m.made
   split_fresh k m q n (inl here) alive (inl e) borne ext =
       let h : l.name ++ (l.made + 1) ∷ [] ≡ l.name ++ q ∷ ext.rest = sym e ∙ (ext.whole ∙ ap (λ (x : PassId). x.name ++ q ∷ ext.rest) (sym here.1)) in
       omega (arith, next_number l.name q ext.rest (l.made + 1) h, ap (λ (x : PassId). x.made) here.1)
@@ -219,7 +228,11 @@ module _ (ids : List PassId) (tree : IsPassTree ids) (i : ℕ) (l : PassId) (at 
       absurd (omega (arith, longer_name m.name q n ext, ap length e, ap (λ (x : PassId). length x.name) child))
   split_fresh k m q n (inr (inr child)) alive (inr e) borne ext =
       let h : Extends new_name q n = record { rest = ext.rest; whole = ext.whole ∙ ap (λ (x : PassId). x.name ++ q ∷ ext.rest) (sym child) } in
-      absurd (omega (arith, tree.fresh i l (l.made + 1) n at live (omega (arith, split_bearers n)) (through l.name new_name n (l.made + 1) q (record { rest = []; whole = refl }) h)))
+      absurd (omega (
+        arith,
+        tree.fresh i l (l.made + 1) n at live (omega (arith, split_bearers n))
+            (through l.name new_name n (l.made + 1) q (record { rest = []; whole = refl }) h),
+      ))
 
   split_dead : (k : ℕ) (m : PassId) → Case k m → m.live ≡ false → m.split ≡ []
   split_dead k m (inl here) off = absurd (true≢false (sym live ∙ (ap (λ (x : PassId). x.live) here.1 ∙ off)))
@@ -239,12 +252,15 @@ module _ (ids : List PassId) (tree : IsPassTree ids) (i : ℕ) (l : PassId) (at 
 -- an id of no pass may come
 pub gone_tree : (ids : List PassId) → IsPassTree ids → IsPassTree (ids ++ gone_pass_id ∷ [])
 gone_tree ids tree =
-    let same_bearers : (n : List ℕ) → bearers n (ids ++ gone_pass_id ∷ []) ≡ bearers n ids = λ n. omega (arith, total-append (λ (m : PassId). one_if (m.live && same n m.name)) ids (gone_pass_id ∷ [])) in
+    let same_bearers : (n : List ℕ) → bearers n (ids ++ gone_pass_id ∷ []) ≡ bearers n ids = λ n. omega
+    (arith, total-append (λ (m : PassId). one_if (m.live && same n m.name)) ids (gone_pass_id ∷ [])) in
     record {
       each = λ n. omega (arith, tree.each n, same_bearers n, total-append (λ (m : PassId). occurrences n m.split) ids (gone_pass_id ∷ []));
       once = λ n. omega (arith, tree.once n, same_bearers n);
-      longer = λ j l n at has. ⊎_elim (λ t. tree.longer j l n t has) (λ t. absurd (omega (arith, ap (λ (m : PassId). occurrences n m.split) t))) (at_snoc ids gone_pass_id l j at);
-      fresh = λ j l k n at live borne ext. ⊎_elim (λ t. tree.fresh j l k n t live (omega (arith, same_bearers n)) ext) (λ t. absurd (true≢false (sym live ∙ ap (λ (m : PassId). m.live) (sym t)))) (at_snoc ids gone_pass_id l j at);
+      longer = λ j l n at has. ⊎_elim (λ t. tree.longer j l n t has)
+          (λ t. absurd (omega (arith, ap (λ (m : PassId). occurrences n m.split) t))) (at_snoc ids gone_pass_id l j at);
+      fresh = λ j l k n at live borne ext. ⊎_elim (λ t. tree.fresh j l k n t live (omega (arith, same_bearers n)) ext)
+          (λ t. absurd (true≢false (sym live ∙ ap (λ (m : PassId). m.live) (sym t)))) (at_snoc ids gone_pass_id l j at);
       dead = λ j l at off. ⊎_elim (λ t. tree.dead j l t off) (λ t. ap (λ (m : PassId). m.split) (sym t)) (at_snoc ids gone_pass_id l j at);
     }
 

@@ -13,7 +13,8 @@ pub within_more : (k n : ℕ) → one_if (within k (n + 1)) ≡ one_if (within k
 within_more k n = grind (arith, nat_tests)
 
 -- the count of a place after one more
-pub count_place : (i j k n : ℕ) (mine : List (ℕ × ℕ)) → count (is_place j k) (mine ++ (i, n) ∷ []) ≡ count (is_place j k) mine + one_if (eqb i j && eqb n k)
+pub count_place : (i j k n : ℕ) (mine : List (ℕ × ℕ))
+    → count (is_place j k) (mine ++ (i, n) ∷ []) ≡ count (is_place j k) mine + one_if (eqb i j && eqb n k)
 count_place i j k n mine = omega (arith, total-append (λ (p : ℕ × ℕ). one_if (is_place j k p)) mine ((i, n) ∷ []))
 
 -- what a list counts with every element
@@ -29,25 +30,34 @@ place_is : (i k : ℕ) (p : ℕ × ℕ) → is_place i k p ≡ true → (p.0 ≡
 place_is i k p e = let t = and_parts (eqb p.0 i) (eqb p.1 k) e in (eqb-true p.0 i t.0, eqb-true p.1 k t.1)
 
 -- Where a list has just the places 1 to n of one value, each once, it has n places.
-pub places_of_one : (i n : ℕ) (mine : List (ℕ × ℕ)) → ((k : ℕ) → count (is_place i k) mine ≡ one_if (within k n)) → ((j k : ℕ) → j ≢ i → count (is_place j k) mine ≡ 0) → length mine ≡ n
+pub places_of_one : (i n : ℕ) (mine : List (ℕ × ℕ)) → ((k : ℕ) → count (is_place i k) mine ≡ one_if (within k n))
+    → ((j k : ℕ) → j ≢ i → count (is_place j k) mine ≡ 0) → length mine ≡ n
 places_of_one i zero [] here else = refl
 places_of_one i zero (p ∷ ps) here else =
     ⊎_elim
-    (λ e. let none : one_if (within p.1 0) ≡ 0 = grind (arith, nat_tests) in absurd (omega (arith, place_stands p ps, ap (λ j. count (is_place j p.1) (p ∷ ps)) e, here p.1, none)))
+    (λ e. let none : one_if (within p.1 0) ≡ 0 = grind (arith, nat_tests) in absurd
+    (omega (arith, place_stands p ps, ap (λ j. count (is_place j p.1) (p ∷ ps)) e, here p.1, none)))
     (λ apart. absurd (omega (arith, place_stands p ps, else p.0 p.1 apart)))
     (cases_eq p.0 i)
 places_of_one i (suc n) mine here else =
     let last : ℕ = suc n in
     let stands : 0 < count (is_place i last) mine = omega (arith, here last, in_range n) in
     let less : List (ℕ × ℕ) = without_first (is_place i last) mine in
-    let shorter : count (λ (p : ℕ × ℕ). true) less + 1 ≡ count (λ (p : ℕ × ℕ). true) mine = count-without_first (is_place i last) (λ p. true) true (λ p e. refl) mine stands in
+    let shorter : count (λ (p : ℕ × ℕ). true) less + 1 ≡ count (λ (p : ℕ × ℕ). true) mine = count-without_first (is_place i last)
+    (λ p. true) true (λ p e. refl) mine stands in
     omega (
       arith,
       shorter,
       count_all less,
       count_all mine,
       places_of_one i n less
-          (λ k. omega (arith, here k, range_less k n, count-without_first (is_place i last) (is_place i k) (eqb last k) (λ p e. let t = place_is i last p e in rw (t.0, t.1, eq-eqb i i refl) refl) mine stands))
+          (λ k. omega (
+            arith,
+            here k,
+            range_less k n,
+            count-without_first (is_place i last) (is_place i k) (eqb last k)
+                (λ p e. let t = place_is i last p e in rw (t.0, t.1, eq-eqb i i refl) refl) mine stands,
+          ))
           (λ j k apart. omega (arith, else j k apart, count-without_first-le (is_place i last) (is_place j k) mine)),
     )
   where
@@ -123,10 +133,12 @@ module _ {E : Type 0} where
   entries_else seen i j xs n = get_or-set_other seen i j xs [] n
 
   -- histories go on where one of them goes on
-  pub goes_set : (old seen : List (List E)) (i : ℕ) (xs : List E) → i < length seen → GoesOn old seen → Begins (entries i old) xs → GoesOn old (set seen i xs)
+  pub goes_set : (old seen : List (List E)) (i : ℕ) (xs : List E) → i < length seen → GoesOn old seen → Begins (entries i old) xs
+      → GoesOn old (set seen i xs)
   goes_set old seen i xs h g b = record {
     each = λ j. ⊎_elim
-        (λ e. subst (λ k. Begins (entries k old) (entries k (set seen i xs))) (sym e) (subst (λ l. Begins (entries i old) l) (sym (entries_here seen i xs h)) b))
+        (λ e. subst (λ k. Begins (entries k old) (entries k (set seen i xs))) (sym e)
+        (subst (λ l. Begins (entries i old) l) (sym (entries_here seen i xs h)) b))
         (λ n. subst (λ l. Begins (entries j old) l) (sym (entries_else seen i j xs n)) (g.each j))
         (cases_eq j i);
   }

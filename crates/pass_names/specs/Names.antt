@@ -70,5 +70,6 @@ pub record IsPassTree (ids : List PassId) : Type 0 where
   -- a listed name goes on from the name of the pass that lists it
   pub longer : (j : ℕ) (l : PassId) (name : List ℕ) → get_elem? ids j ≡ some l → 0 < occurrences name l.split → (k : ℕ) × Extends l.name k name
   -- where a pass's name goes on from another pass's, the next number is one that was given out
-  pub fresh : (j : ℕ) (l : PassId) (k : ℕ) (name : List ℕ) → get_elem? ids j ≡ some l → l.live ≡ true → 0 < bearers name ids → Extends l.name k name → k ≤ l.made
+  pub fresh : (j : ℕ) (l : PassId) (k : ℕ) (name : List ℕ) → get_elem? ids j ≡ some l → l.live ≡ true → 0 < bearers name ids
+      → Extends l.name k name → k ≤ l.made
   pub dead : (j : ℕ) (l : PassId) → get_elem? ids j ≡ some l → l.live ≡ false → l.split ≡ []

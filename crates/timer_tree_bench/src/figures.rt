@@ -1,3 +1,4 @@
+//! What is timed, how often, and the line that is printed for it.
 ghost use Rattle.std.specs.Prelude.{◌≡◌, ◌<◌};
 
 use crate::moves::{filled, pair, postpone};

@@ -1,3 +1,4 @@
+//! Single moves of timers on any queue, and a queue to make them on.
 ghost use Rattle.std.specs.Prelude.{◌≡◌, ◌+◌, ◌-◌, ◌^◌, ◌<◌, ◌≤◌, [], Some, min, IfOk, IfSome, IfNone, IsTrue};
 ghost use Rattle.timer_queue.specs.Pairs.{put, without, first_of, has_id};
 

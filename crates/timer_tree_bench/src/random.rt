@@ -1,3 +1,4 @@
+//! Random numbers, the same in each run.
 ghost use Rattle.std.specs.Prelude.{◌<◌, ◌^◌};
 
 /// Random numbers (Marsaglia's xorshift of 64 bits), the same in each run.

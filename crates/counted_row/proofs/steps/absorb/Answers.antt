@@ -3,6 +3,7 @@ use Rattle.counted_row.proofs.steps.absorb.Goals as goal
 
 pub join_seat-requires : goal.join_seat-requires
 join_seat-requires g c =
+    let made = c.args.cells.now.key.value.items in
     let seat = c.args.main.now in
     let main = c.requires.main in
     let other = c.requires.other in (
@@ -10,5 +11,5 @@ join_seat-requires g c =
       c.requires.same.1,
       other.2,
       c.requires.words,
-      joins g.O.Object.meaning c.args.cells.now.key.value.items seat.id c.args.other.id seat.me.0 c.args.other.me.0 main.0 other.0 main.1 other.1 main.2 c.requires.answers,
+      joins g.O.Object.meaning made seat.id c.args.other.id seat.me.0 c.args.other.me.0 main.0 other.0 main.1 other.1 main.2 c.requires.answers,
     )

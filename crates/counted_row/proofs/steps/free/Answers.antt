@@ -8,7 +8,8 @@ store-requires g c =
       c.requires.same,
       c.requires.word.1,
       rw (c.requires.word.0, held.2)
-          (frees g.O.Object.meaning c.args.cells.now.key.value.items c.args.cells.now.table_id.slots seat.id seat.me.0 (record { index = c.args.index; stamp = c.args.stamp; state = held.0 }) c.requires.known.0 c.requires.known.1 held.1),
+          (frees g.O.Object.meaning c.args.cells.now.key.value.items c.args.cells.now.table_id.slots seat.id seat.me.0
+          (record { index = c.args.index; stamp = c.args.stamp; state = held.0 }) c.requires.known.0 c.requires.known.1 held.1),
     )
 
 pub returns-clause-count : goal.returns-clause-count

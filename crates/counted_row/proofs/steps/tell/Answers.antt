@@ -9,6 +9,7 @@ split_seat-note-requires g c =
 
 pub join_seat-requires : goal.join_seat-requires
 join_seat-requires g c =
+    let made = c.args.cells.now.key.value.items in
     let seat = c.args.to.now in
     let note = c.split_seat-note.ensures in
     let note_view = ap (λ p. p.0) note.4 in (
@@ -16,5 +17,5 @@ join_seat-requires g c =
       note.3 ∙ c.requires.same.0,
       ap (λ p. p.1) note.4,
       c.requires.words,
-      rw note_view (tells g.O.Object.meaning c.args.cells.now.key.value.items seat.id c.split_seat-note.result.id seat.me.0 c.args.from.now.me.0 c.requires.known.1),
+      rw note_view (tells g.O.Object.meaning made seat.id c.split_seat-note.result.id seat.me.0 c.args.from.now.me.0 c.requires.known.1),
     )

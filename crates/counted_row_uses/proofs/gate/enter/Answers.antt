@@ -9,5 +9,6 @@ returns-else-stamp-gt-LAST_STAMP-clause-claim g c =
     let claims = c.lock-held.new.pass.knows.claims in
     subst (λ n. HasClaim c.args.index (n ∷ []) c.commit-number.new.pass.knows.claims) (sym made.reply)
     (subst (λ cs. HasClaim c.args.index ((c.lock-held.result.state.entries + 1) ∷ []) cs) (sym made.claims)
-    (subst (λ i. HasClaim i ((c.lock-held.result.state.entries + 1) ∷ []) (claims ++ (c.lock-held.result.index, (c.lock-held.result.state.entries + 1) ∷ []) ∷ [])) c.lock-held.ensures.locks.index
+    (subst (λ i. HasClaim i ((c.lock-held.result.state.entries + 1) ∷ [])
+    (claims ++ (c.lock-held.result.index, (c.lock-held.result.state.entries + 1) ∷ []) ∷ [])) c.lock-held.ensures.locks.index
     (has_last c.lock-held.result.index ((c.lock-held.result.state.entries + 1) ∷ []) claims)))

@@ -5,7 +5,8 @@ use Rattle.counted_row_uses.proofs.Gating.{held_claim}
 use Rattle.counted_row_uses.proofs.gate.leave.Goals as goal
 
 pub commit-requires-clause-may : goal.commit-requires-clause-may
-commit-requires-clause-may g c = (held_claim c.args.pass.now c.lock-held.new.pass c.args.index c.args.number c.lock-held.result c.lock-held.ensures.locks c.requires.claim).0
+commit-requires-clause-may g c =
+    (held_claim c.args.pass.now c.lock-held.new.pass c.args.index c.args.number c.lock-held.result c.lock-held.ensures.locks c.requires.claim).0
 
 pub commit-requires-clause-claim : goal.commit-requires-clause-claim
 commit-requires-clause-claim g c =

@@ -11,4 +11,5 @@ returns-clause-main g c = λ main is.
     let value = c.deref_mut.ensures.value in
     let len : length new ≡ length lent = search rules in
     let names = same_names lent new len (λ k d h. let t = (c.for_each_mut.ensures k d h).1 in search rules) ∙ ap (map name_of) value in
-    subst (λ lanes. IsMain c.args.row.now main lanes) (sym (written new old.items old.len (len ∙ ap length value) old.ok.0)) (main_same c.args.row.now main old.items new names is)
+    subst (λ lanes. IsMain c.args.row.now main lanes) (sym (written new old.items old.len (len ∙ ap length value) old.ok.0))
+    (main_same c.args.row.now main old.items new names is)
