@@ -1,5 +1,5 @@
 -- What the rule tells of what a pass knows.
-use Rattle.std.proofs.Common.{◌≡◌, ℕ, ◌<◌, ◌≤◌, true, false, List, [], length, ap, sym, ◌∙◌, subst, ⊎_elim, arith}
+use Rattle.std.proofs.Common.{◌≡◌, ℕ, ◌<◌, ◌≤◌, true, false, List, [], length, ap, sym, ◌∙◌, subst, ⊎_elim, le_refl, le_trans, arith}
 use Rattle.std.specs.Prelude.{Option, Some, None}
 use Rattle.std.proofs.lemmas.Bool.{cases_lt}
 use Rattle.std.proofs.lemmas.Bool.Decides.{nat_tests}
@@ -11,6 +11,7 @@ use Rattle.pass_names.specs.declared.PassId.{PassId}
 use Rattle.pass_names.specs.Names.{IsLast, occurrences, after_split, child_of}
 use Rattle.pass_names.specs.Passes.{Begins, entries, HasEach, within, is_place}
 use Rattle.pass_names.proofs.Names.{splitter_not_last, child_not_last}
+use Rattle.pass_names.proofs.Counts.{total_at}
 use Rattle.pass_names.proofs.Last.{total_last}
 use Rattle.pass_names.proofs.Passes.{begins_refl, begins_nil, begins_whole}
 use Rattle.counted_row.specs.declared.view.Entry.{Entry}
@@ -35,6 +36,9 @@ module _ {S C R : Type 0} (m : Meaning S C R) (made : List S) (s : State (Option
   begins_seen : (i : ℕ) → Begins (entries i v.heard) (entries i v.pass.seen)
   begins_seen i = subst (λ h. Begins (entries i h) (entries i v.pass.seen)) (sym heard) (begins_nil (entries i v.pass.seen))
 
+  heard_empty : (i : ℕ) → length (entries i v.heard) ≡ 0
+  heard_empty i = ap (λ h. length (entries i h)) heard
+
   -- where the pass is the last, all places and claims are its own
   module _ (last : IsLast v.pass.id) where
     one_alone : (f : View S C R → ℕ) → ((j : ℕ) (u : View S C R) → get_elem? s.views j ≡ some u → u.pass.id.live ≡ false → f u ≡ 0)
@@ -48,15 +52,12 @@ module _ {S C R : Type 0} (m : Meaning S C R) (made : List S) (s : State (Option
     all_claims i name x after =
         sym (one_alone (claims_at i name) (λ j u at_u off. ap (count (is_claim i name)) ((inv.each_view j u at_u).gone off).1)) ∙ inv.claims i name x after
 
-    heard_none : (i : ℕ) → length (entries i v.heard) ≡ 0
-    heard_none i = ap (λ h. length (entries i h)) heard
-
     as_long : (i : ℕ) → length (entries i inv.logs) ≤ length (entries i v.pass.seen)
     as_long i =
         ⊎_elim
         (λ some_one. ⊎_elim
         (λ t. t)
-        (λ t. omega (arith, heard_none i))
+        (λ t. omega (arith, heard_empty i))
         (agrees.mine i (length (entries i inv.logs))
         (omega (arith, all_places i (length (entries i inv.logs)), in_range (length (entries i inv.logs)) some_one))))
         (λ none. omega arith)
@@ -80,6 +81,20 @@ module _ {S C R : Type 0} (m : Meaning S C R) (made : List S) (s : State (Option
   legal : (i : ℕ) → i < length made → (x : S) × StateAfter m made i (entries i v.pass.seen) x
   legal i h = let c = inv.each_cell i h in after_part m made i (entries i v.pass.seen) (entries i inv.logs) c.state (agrees.seen.each i) c.after
 
+  own_once : (i k : ℕ) → count (is_place i k) v.pass.mine ≤ one_if (within k (length (entries i v.pass.seen)))
+  own_once i k =
+      ⊎_elim
+      (λ some_one.
+      let all : ℕ = length (entries i inv.logs) in
+      let most : row_places i k v ≤ one_if (within k all) = omega (arith, total_at (row_places i k) s.views id v at, inv.tally i k) in
+      let here : k ≤ length (entries i v.pass.seen) = ⊎_elim (λ t. t) (λ t. omega (arith, heard_empty i)) (agrees.mine i k some_one) in
+      own_bound k all (length (entries i v.pass.seen)) (row_places i k v) most here)
+      (λ none. omega arith)
+      (cases_lt 0 (row_places i k v))
+    where
+      own_bound : (k all n many : ℕ) → many ≤ one_if (within k all) → k ≤ n → many ≤ one_if (within k n)
+      own_bound k all n many most here = grind (arith, nat_tests)
+
   pub knows_of : Knows m v
   knows_of =
       let P : List S → Type 0 = λ o. (i : ℕ) → i < length o → (x : S) × StateAfter m o i (entries i v.pass.seen) x in
@@ -89,6 +104,8 @@ module _ {S C R : Type 0} (m : Meaning S C R) (made : List S) (s : State (Option
             agrees.claims i name (entries i v.pass.seen) x has (begins_refl (entries i v.pass.seen)) (begins_seen i) (agrees.seen.each i)
             (subst (λ o. StateAfter m o i (entries i v.pass.seen) x) made_it after);
         held = is_now;
+        wide = agrees.wide live ∙ ap length (sym made_it);
+        own = own_once;
         all_entries = last_has_each;
         all_claims = λ last i name x after.
             all_claims last i name x
@@ -107,20 +124,23 @@ module _ {S C R : Type 0} (m : Meaning S C R) (v : View S C R) (knows : Knows m 
   knows_less : (id : PassId) (mine : List (ℕ × ℕ)) (heard : List (List (Entry C R))) (claims : List (ℕ × List ℕ)) (held : Option (Locked S))
       → (IsLast id → ⊥)
       → ((i : ℕ) (name : List ℕ) → HasClaim i name claims → HasClaim i name v.claims) → ((h : Locked S) → held ≡ Some h → v.held ≡ Some h)
+      → ((i k : ℕ) → count (is_place i k) mine ≤ count (is_place i k) v.pass.mine)
       → Knows m record { pass = record { id = id; seen = v.pass.seen; mine = mine }; opening = v.opening; heard = heard; claims = claims; held = held }
-  knows_less id mine heard claims held not_last has locked = record {
+  knows_less id mine heard claims held not_last has locked fewer = record {
     legal = knows.legal;
     open_claims = λ i name x one after. knows.open_claims i name x (has i name one) after;
     held = λ h e. let t = knows.held h (locked h e) in record { state = t.state; stamp = t.stamp };
+    wide = knows.wide;
+    own = λ i k. le_trans (fewer i k) (knows.own i k);
     all_entries = λ last. absurd (not_last last);
     all_claims = λ last. absurd (not_last last);
   }
 
   pub knows_split : Knows m (split_view v)
-  knows_split = knows_less (after_split v.pass.id) v.pass.mine v.heard v.claims v.held (splitter_not_last v.pass.id) (λ i name one. one) (λ h e. e)
+  knows_split = knows_less (after_split v.pass.id) v.pass.mine v.heard v.claims v.held (splitter_not_last v.pass.id) (λ i name one. one) (λ h e. e) (λ i k. le_refl _)
 
   pub knows_new : Knows m (new_view v)
-  knows_new = knows_less (child_of v.pass.id) [] [] [] None (child_not_last v.pass.id) (λ i name one. absurd (omega arith)) (λ h e. absurd (no_lock h e))
+  knows_new = knows_less (child_of v.pass.id) [] [] [] None (child_not_last v.pass.id) (λ i name one. absurd (omega arith)) (λ h e. absurd (no_lock h e)) (λ i k. omega arith)
     where
       no_lock : (h : Locked S) → None ≡ Some h → ⊥
       no_lock h e = cc

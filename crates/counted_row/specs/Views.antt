@@ -1,11 +1,11 @@
 -- What a pass of a row knows.
-use Rattle.std.specs.Prelude.{◌≡◌, ℕ, ◌<◌, Bool, ◌==◌, ◌&&◌, List, [], ◌∷◌, ◌++◌, length, Some, None}
+use Rattle.std.specs.Prelude.{◌≡◌, ℕ, ◌<◌, ◌≤◌, Bool, ◌==◌, ◌&&◌, List, [], ◌∷◌, ◌++◌, length, Some, None}
 use mathlib.Core.Option.{some}
 use lib.ListN.{get_elem?}
 use Rattle.atomic_table.specs.Seated.{TableId}
-use Rattle.pass_names.specs.Counts.{count, without_first}
+use Rattle.pass_names.specs.Counts.{count, one_if, without_first}
 use Rattle.pass_names.specs.Names.{same, occurrences, IsLast}
-use Rattle.pass_names.specs.Passes.{entries, HasEach, Looks, first_pass, splitter, split_off, added}
+use Rattle.pass_names.specs.Passes.{entries, HasEach, is_place, Looks, within, first_pass, splitter, split_off, added}
 use Rattle.counted_row.specs.declared.view.Entry.{Entry}
 use Rattle.counted_row.specs.declared.view.Locked.{Locked}
 use Rattle.counted_row.specs.declared.view.View.{View}
@@ -68,6 +68,10 @@ module _ {S C R : Type 0} where
     pub open_claims : (i : ℕ) (name : List ℕ) (x : S) → HasClaim i name v.claims → StateAfter m v.opening i (entries i v.pass.seen) x
         → 0 < occurrences name (m.claims x)
     pub held : (h : Locked S) → v.held ≡ Some h → IsNow m v h
+    -- it knows of each value's history and of no others
+    pub wide : length v.pass.seen ≡ length v.opening
+    -- its own entries are among those that it has seen, each once at most
+    pub own : (i k : ℕ) → count (is_place i k) v.pass.mine ≤ one_if (within k (length (entries i v.pass.seen)))
     -- the last pass has made each entry, each once, and has seen them all
     pub all_entries : IsLast v.pass.id → HasEach v.pass.seen v.pass.mine
     -- and the open claims are its claims, each once

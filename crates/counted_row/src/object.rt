@@ -17,5 +17,7 @@ pub trait Object: Drop {
         ensures state { self.new ≡ meaning.next self.old call.now }
         ensures reply { result ≡ meaning.reply self.old call.now };
 
-    ghost counts: { Counts meaning };
+    /// Shows that a call opens and ends the claims that its effect says, and no others. It does nothing.
+    fn counts()
+        ensures counts { Counts meaning };
 }

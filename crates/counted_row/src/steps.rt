@@ -89,6 +89,7 @@ pub fn enter<O: Object, K: Asked>(
     ensures count { (h : Locked O) → seat.old.me.0.held ≡ Some h → length (entries h.index seat.new.me.0.pass.seen) ≡ h.stamp + 1 }
     ensures knows { Knows O.meaning seat.new.me.0 }
 {
+    O::counts();
     cells.store::<Enter<K>>(seat, word, stamp + 1)
 }
 

@@ -18,7 +18,7 @@ struct Latest {
 }
 
 impl Object for Latest {
-    ghost use Rattle.std.specs.Prelude.{[], refl};
+    ghost use Rattle.std.specs.Prelude.{[]};
     ghost use Rattle.counted_row.specs.Meaning.{plain};
 
     type Call = u64;
@@ -33,7 +33,7 @@ impl Object for Latest {
         before
     }
 
-    ghost counts = { λ s n name may. refl };
+    fn counts() {}
 }
 
 fn two_values(alloc: Global) -> Result<(Row<Latest>, RowPass<Latest>), AllocError>

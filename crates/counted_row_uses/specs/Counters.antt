@@ -1,8 +1,8 @@
 -- What a counter's calls mean, and what is left in a pass that has made some.
-use Rattle.std.specs.Prelude.{◌≡◌, ◌≢◌, ℕ, ◌+◌, ◌^◌, ◌<◌, [], length, None, refl}
+use Rattle.std.specs.Prelude.{◌≡◌, ◌≢◌, ℕ, ◌+◌, ◌^◌, ◌<◌, [], length, None}
 use Rattle.pass_names.specs.Counts.{count}
 use Rattle.pass_names.specs.Passes.{GoesOn, is_place}
-use Rattle.counted_row.specs.Meaning.{Meaning, Counts, plain}
+use Rattle.counted_row.specs.Meaning.{Meaning, plain}
 use Rattle.counted_row.specs.Views.{PassOfRow}
 use Rattle.counted_row_uses.specs.declared.counter.Counter.{Counter}
 
@@ -15,9 +15,6 @@ adding = record {
   claims = λ s. [];
   effect = λ s n. plain;
 }
-
-pub adding_counts : Counts adding
-adding_counts s c name may = refl
 
 -- the pass has made so many calls on the value, and holds nothing
 pub record Made (index calls : ℕ) (old new : PassOfRow Counter ℕ ℕ) : Type 0 where

@@ -35,12 +35,3 @@ gating = record {
   claims = λ s. claims_of s.inside s.entries;
   effect = effect_of;
 }
-
--- each entry opens one claim, and each leave ends it
-pub gating_counts : Counts gating
-gating_counts s Enter name may =
-    let one : ℕ = one_if (same name ((s.entries + 1) ∷ [])) in
-    subst (λ b. (one + 0) + 0 ≡ occurrences name (claims_of b s.entries) + one) (sym may.0) (add-zero (one + 0) ∙ (add-zero one ∙ sym (zero-add one)))
-gating_counts s Leave name may =
-    let one : ℕ = one_if (same name (s.entries ∷ [])) in
-    subst (λ b. 0 + one ≡ occurrences name (claims_of b s.entries) + 0) (sym may) (zero-add one ∙ (sym (add-zero one) ∙ sym (add-zero (one + 0))))

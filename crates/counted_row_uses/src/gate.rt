@@ -27,7 +27,7 @@ impl Object for Gate {
 
     type Reply = u64;
 
-    ghost use Rattle.counted_row_uses.specs.Gates.{gating, gating_counts};
+    ghost use Rattle.counted_row_uses.specs.Gates.{gating};
 
     ghost meaning = { gating };
 
@@ -42,7 +42,7 @@ impl Object for Gate {
         self.entries
     }
 
-    ghost counts = { gating_counts };
+    fn counts() {}
 }
 
 /// Enters if nobody is inside, and answers the number of the entry, which names the claim.
