@@ -1,0 +1,40 @@
+//! A timer that expires at every interval.
+ghost use Rattle.std.specs.Prelude.{◌≡◌, ◌<◌, IfSome, length};
+ghost use Rattle.ktime.specs.Times.{next_after, passed};
+ghost use Rattle.seq_timer.specs.Steps.{now_of};
+ghost use Rattle.timer_core.specs.Kept.{IsSameSize, timer_in};
+
+use ktime::Reading;
+use timer_core::{ClaimAnswer, Core, ForwardAnswer};
+use timer_queue::Queue;
+
+/// A tick of a periodic timer: how many intervals have passed since the last one.
+#[derive(Clone, Copy, Debug, PartialEq, Eq)]
+pub struct Tick {
+    pub timer: u32,
+    pub count: u64,
+}
+
+/// Runs the next timer that is due on a base, if one is, moves its expiry past the reading by whole intervals, and arms it again. It
+/// answers nothing where none is due, or where the timer's history is full.
+pub fn expire_periodic<Q: Queue>(
+    core: &mut Core<Q>,
+    base: u32,
+    reading: Reading,
+    interval: u64,
+) -> Option<Tick>
+    requires base { base < length core.old.bases }
+    ensures count { IfSome result (λ tick. tick.count ≡ passed (timer_in core.old tick.timer).expires (now_of (timer_in core.old tick.timer) reading) interval) }
+    ensures expires { IfSome result (λ tick. (timer_in core.new tick.timer).expires ≡ next_after (timer_in core.old tick.timer).expires (now_of (timer_in core.old tick.timer) reading) interval) }
+    ensures sizes { IsSameSize core.old core.new }
+{
+    let ClaimAnswer::Claimed { timer, .. } = core.claim_next(base, reading) else {
+        return None;
+    };
+    let forwarded = core.forward(timer, reading, interval);
+    core.finish(timer, true);
+    match forwarded {
+        ForwardAnswer::Forwarded { count, .. } => Some(Tick { timer, count }),
+        ForwardAnswer::Spent { .. } | ForwardAnswer::Armed { .. } => None,
+    }
+}
