@@ -115,6 +115,13 @@ impl TimerState {
         self.limit
     }
 
+    /// What holds of a timer at all times.
+    pub fn bounded(&self)
+        ensures { IsBounded self.now }
+    {
+        let _stamp = self.stamp;
+    }
+
     /// The state word, taken apart.
     pub fn peek(&self) -> Peek
         ensures { result ≡ peek_of self.now }
