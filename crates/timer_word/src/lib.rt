@@ -1,0 +1,10 @@
+//! The state word of a timer: what may be read of a timer without its base's lock, in one number.
+#![tactic(auto)]
+
+pub use laws::one_word_one_number;
+pub use word::TimerWord;
+
+mod laws;
+#[cfg(test)]
+mod tests;
+mod word;
