@@ -2,3 +2,4 @@ pub mod Counts
 pub mod Last
 pub mod Names
 pub mod Passes
+pub mod SharedHistory
