@@ -1,3 +1,4 @@
+pub mod Agreement
 pub mod Contents
 pub mod Due
 pub mod Generations
@@ -5,3 +6,5 @@ pub mod Limits
 pub mod Queues
 pub mod Spans
 pub mod StepKinds
+pub mod Systems
+pub mod Ties

@@ -3,4 +3,5 @@ pub mod Contents
 pub mod Histories
 pub mod Laws
 pub mod Steps
+pub mod Systems
 pub mod Tables

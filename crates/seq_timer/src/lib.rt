@@ -8,6 +8,10 @@ pub use laws::{
     histories_end, running_is_told_inside_the_span, spans_do_not_overlap,
 };
 pub use observation::{Observation, Peek};
+pub use system::{
+    TimerEntry, bases_agree_with_timers, each_part_is_legal,
+    of_equal_expiries_the_first_armed_is_claimed, one_function_runs_on_a_base, stamps_count_entries,
+};
 pub use timer_state::TimerState;
 
 mod base;
@@ -16,4 +20,5 @@ mod laws;
 mod observation;
 #[cfg(test)]
 mod tests;
+mod system;
 mod timer_state;
