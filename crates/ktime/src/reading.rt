@@ -1,6 +1,6 @@
 //! What the clock shows at one moment.
-ghost use Rattle.std.specs.Prelude.{◌≡◌};
-ghost use Rattle.ktime.specs.Readings.{ClockReading, IsTimely, value_of};
+ghost use Rattle.std.specs.Prelude.{◌≡◌, ◌≤◌};
+ghost use Rattle.ktime.specs.Readings.{ClockReading, IsTimely, latest, value_of};
 
 use crate::clock_id::ClockId;
 use std::marker::Model;
@@ -28,6 +28,20 @@ impl Model for Reading {
 }
 
 impl Reading {
+    /// What a clock shows that nobody has written yet, where all three clocks stand at this time.
+    pub fn at(time: u64) -> Reading
+        requires { time ≤ latest }
+        ensures { result ≡ record { stamp = 0; mono = time; real = time; boot = time; changes = 0 } }
+    {
+        Reading {
+            stamp: 0,
+            mono: time,
+            real: time,
+            boot: time,
+            changes: 0,
+        }
+    }
+
     /// The time that this clock shows.
     pub fn value(&self, clock: ClockId) -> u64
         ensures { result ≡ value_of clock self.now }
@@ -56,5 +70,6 @@ mod tests {
         assert_eq!(rt; reading.value(ClockId::Monotonic), 10);
         assert_eq!(rt; reading.value(ClockId::Realtime), 20);
         assert_eq!(rt; reading.value(ClockId::Boottime), 30);
+        assert_eq!(rt; Reading::at(7).value(ClockId::Boottime), 7);
     }
 }

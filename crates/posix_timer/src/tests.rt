@@ -1,26 +1,11 @@
 //! Tests of a POSIX timer's calls.
-ghost use Rattle.std.specs.Prelude.{◌≡◌, ◌≤◌};
-ghost use Rattle.ktime.specs.Readings.{latest};
+ghost use Rattle.std.specs.Prelude.{◌≡◌};
 
 use crate::{
     AcceptAnswer, Arm, BadArgument, Call, Phase, PosixState, Reply, SettimeAnswer, Setting,
     TriggerAnswer, Wanted, few_entries, one_more_entry, times_of,
 };
 use ktime::{ClockId, Mode, Reading, TimeSpec};
-
-/// A reading in which all clocks show this time.
-fn at(time: u64) -> Reading
-    requires { time ≤ latest }
-    ensures { result ≡ record { stamp = 0; mono = time; real = time; boot = time; changes = 0 } }
-{
-    Reading {
-        stamp: 0,
-        mono: time,
-        real: time,
-        boot: time,
-        changes: 0,
-    }
-}
 
 fn ns(nsec: u64) -> TimeSpec
     ensures { result ≡ record { sec = 0; nsec = nsec } }
@@ -42,13 +27,13 @@ fn a_new_timer_is_disarmed(rt: HostRuntime) {
         left: 0,
         interval: 0,
     };
-    assert_eq!(rt; timer.gettime(at(5)), setting);
+    assert_eq!(rt; timer.gettime(Reading::at(5)), setting);
 }
 
 #[test]
 fn periods_that_passed_before_the_acceptance_are_overruns(rt: HostRuntime) {
     let mut timer = PosixState::make(ClockId::Monotonic, 0, 100);
-    let wanted = timer.settime_wants(1, ns(100), ns(10), at(0));
+    let wanted = timer.settime_wants(1, ns(100), ns(10), Reading::at(0));
     assert_eq!(rt;
         wanted,
         Some(Wanted {
@@ -56,7 +41,7 @@ fn periods_that_passed_before_the_acceptance_are_overruns(rt: HostRuntime) {
             ns: 100
         })
     );
-    let old = timer.settime(1, ns(100), ns(10), at(0), Arm::Armed(1));
+    let old = timer.settime(1, ns(100), ns(10), Reading::at(0), Arm::Armed(1));
     assert_eq!(rt;
         old,
         SettimeAnswer::Old {
@@ -64,8 +49,8 @@ fn periods_that_passed_before_the_acceptance_are_overruns(rt: HostRuntime) {
             interval: 0
         }
     );
-    assert_eq!(rt; timer.trigger(1, at(100)), TriggerAnswer::Counted);
-    let wanted = timer.accept_wants(at(135));
+    assert_eq!(rt; timer.trigger(1, Reading::at(100)), TriggerAnswer::Counted);
+    let wanted = timer.accept_wants(Reading::at(135));
     assert_eq!(rt;
         wanted,
         Some(Wanted {
@@ -73,10 +58,10 @@ fn periods_that_passed_before_the_acceptance_are_overruns(rt: HostRuntime) {
             ns: 140
         })
     );
-    let accepted = timer.accept(at(135), Arm::Armed(4));
+    let accepted = timer.accept(Reading::at(135), Arm::Armed(4));
     assert_eq!(rt; accepted, AcceptAnswer::Accepted { overrun: 3 });
-    assert_eq!(rt; timer.accept_wants(at(135)), None);
-    let again = timer.accept(at(135), Arm::NotAsked);
+    assert_eq!(rt; timer.accept_wants(Reading::at(135)), None);
+    let again = timer.accept(Reading::at(135), Arm::NotAsked);
     assert_eq!(rt; again, AcceptAnswer::NoSignal);
     assert_eq!(rt; timer.getoverrun(), 3);
     assert_eq!(rt; timer.timer().stamp, 4);
@@ -85,9 +70,9 @@ fn periods_that_passed_before_the_acceptance_are_overruns(rt: HostRuntime) {
 #[test]
 fn the_overrun_stops_at_its_greatest_value(rt: HostRuntime) {
     let mut timer = PosixState::make(ClockId::Monotonic, 0, 100);
-    timer.settime(1, ns(100), ns(1), at(0), Arm::Armed(1));
-    assert_eq!(rt; timer.trigger(1, at(100)), TriggerAnswer::Counted);
-    let late = at(4_294_967_396);
+    timer.settime(1, ns(100), ns(1), Reading::at(0), Arm::Armed(1));
+    assert_eq!(rt; timer.trigger(1, Reading::at(100)), TriggerAnswer::Counted);
+    let late = Reading::at(4_294_967_396);
     let next = 4_294_967_397;
     assert_eq!(rt;
         timer.accept_wants(late),
@@ -114,26 +99,26 @@ fn the_overrun_stops_at_its_greatest_value(rt: HostRuntime) {
 #[test]
 fn a_timer_whose_expiry_has_come_has_one_nanosecond_left(rt: HostRuntime) {
     let mut timer = PosixState::make(ClockId::Monotonic, 0, 100);
-    timer.settime(1, ns(100), ns(10), at(0), Arm::Armed(1));
+    timer.settime(1, ns(100), ns(10), Reading::at(0), Arm::Armed(1));
     assert_eq!(rt;
-        timer.gettime(at(40)),
+        timer.gettime(Reading::at(40)),
         Setting {
             left: 60,
             interval: 10
         }
     );
     assert_eq!(rt;
-        timer.gettime(at(130)),
+        timer.gettime(Reading::at(130)),
         Setting {
             left: 1,
             interval: 10
         }
     );
-    let bad = timer.settime(1, ns(1_000_000_000), ns(0), at(130), Arm::NotAsked);
+    let bad = timer.settime(1, ns(1_000_000_000), ns(0), Reading::at(130), Arm::NotAsked);
     assert_eq!(rt; bad, SettimeAnswer::BadTime);
-    assert_eq!(rt; timer.trigger(2, at(130)), TriggerAnswer::Stale);
-    assert_eq!(rt; timer.trigger(1, at(99)), TriggerAnswer::Stale);
-    assert_eq!(rt; timer.trigger(1, at(130)), TriggerAnswer::Counted);
+    assert_eq!(rt; timer.trigger(2, Reading::at(130)), TriggerAnswer::Stale);
+    assert_eq!(rt; timer.trigger(1, Reading::at(99)), TriggerAnswer::Stale);
+    assert_eq!(rt; timer.trigger(1, Reading::at(130)), TriggerAnswer::Counted);
     let due = Phase::Expired {
         clock: ClockId::Monotonic,
         expires: 100,
@@ -141,7 +126,7 @@ fn a_timer_whose_expiry_has_come_has_one_nanosecond_left(rt: HostRuntime) {
     assert_eq!(rt; timer.timer().phase, due);
     assert!(rt; timer.is_pending());
     assert_eq!(rt;
-        timer.gettime(at(134)),
+        timer.gettime(Reading::at(134)),
         Setting {
             left: 6,
             interval: 10
@@ -152,7 +137,7 @@ fn a_timer_whose_expiry_has_come_has_one_nanosecond_left(rt: HostRuntime) {
 #[test]
 fn the_limits_disarm_and_then_refuse(rt: HostRuntime) {
     let mut timer = PosixState::make(ClockId::Monotonic, 0, 3);
-    let answer = timer.settime(1, ns(100), ns(0), at(0), Arm::Armed(1));
+    let answer = timer.settime(1, ns(100), ns(0), Reading::at(0), Arm::Armed(1));
     assert_eq!(rt;
         answer,
         SettimeAnswer::Old {
@@ -160,7 +145,7 @@ fn the_limits_disarm_and_then_refuse(rt: HostRuntime) {
             interval: 0
         }
     );
-    let answer = timer.settime(1, ns(100), ns(0), at(0), Arm::Armed(3));
+    let answer = timer.settime(1, ns(100), ns(0), Reading::at(0), Arm::Armed(3));
     assert_eq!(rt;
         answer,
         SettimeAnswer::Old {
@@ -168,16 +153,16 @@ fn the_limits_disarm_and_then_refuse(rt: HostRuntime) {
             interval: 0
         }
     );
-    let answer = timer.settime(1, ns(100), ns(0), at(0), Arm::Unarmed(4));
+    let answer = timer.settime(1, ns(100), ns(0), Reading::at(0), Arm::Unarmed(4));
     assert_eq!(rt; answer, SettimeAnswer::Unarmed { stamp: 4 });
     assert_eq!(rt; timer.timer().phase, Phase::Idle);
-    let answer = timer.settime(1, ns(100), ns(0), at(0), Arm::NotAsked);
+    let answer = timer.settime(1, ns(100), ns(0), Reading::at(0), Arm::NotAsked);
     assert_eq!(rt; answer, SettimeAnswer::Spent { stamp: 3 });
     assert_eq!(rt;
-        timer.trigger(3, at(100)),
+        timer.trigger(3, Reading::at(100)),
         TriggerAnswer::Spent { stamp: 3 }
     );
-    let answer = timer.accept(at(100), Arm::NotAsked);
+    let answer = timer.accept(Reading::at(100), Arm::NotAsked);
     assert_eq!(rt; answer, AcceptAnswer::Spent { stamp: 3 });
 }
 
@@ -218,16 +203,16 @@ fn a_relative_time_of_day_is_kept_on_the_monotonic_clock(rt: HostRuntime) {
     assert_eq!(rt; timer.timer().phase, armed);
     let reply = timer.apply(Call::Trigger {
         generation: 1,
-        reading: at(1_000_000_015),
+        reading: Reading::at(1_000_000_015),
     });
     assert_eq!(rt; reply, Reply::Trigger(TriggerAnswer::Counted));
     let reply = timer.apply(Call::Accept {
-        reading: at(1_000_000_015),
+        reading: Reading::at(1_000_000_015),
         arm: Arm::Unarmed(8),
     });
     assert_eq!(rt; reply, Reply::Accept(AcceptAnswer::Accepted { overrun: 0 }));
     assert_eq!(rt;
-        timer.gettime(at(1_000_000_015)),
+        timer.gettime(Reading::at(1_000_000_015)),
         Setting {
             left: 0,
             interval: 0
@@ -240,10 +225,13 @@ fn a_relative_time_of_day_is_kept_on_the_monotonic_clock(rt: HostRuntime) {
 #[test]
 fn the_value_zero_disarms_and_clears_the_signal(rt: HostRuntime) {
     let mut timer = PosixState::make(ClockId::Boottime, 0, 100);
-    timer.settime(1, ns(100), ns(10), at(0), Arm::Armed(1));
-    timer.trigger(1, at(150));
-    assert_eq!(rt; timer.settime_wants(0, ns(0), ns(10), at(150)), None);
-    let answer = timer.settime(0, ns(0), ns(10), at(150), Arm::NotAsked);
+    timer.settime(1, ns(100), ns(10), Reading::at(0), Arm::Armed(1));
+    timer.trigger(1, Reading::at(150));
+    assert_eq!(rt;
+        timer.settime_wants(0, ns(0), ns(10), Reading::at(150)),
+        None
+    );
+    let answer = timer.settime(0, ns(0), ns(10), Reading::at(150), Arm::NotAsked);
     assert_eq!(rt;
         answer,
         SettimeAnswer::Old {
@@ -253,7 +241,7 @@ fn the_value_zero_disarms_and_clears_the_signal(rt: HostRuntime) {
     );
     assert!(rt; !timer.is_pending());
     assert_eq!(rt;
-        timer.gettime(at(150)),
+        timer.gettime(Reading::at(150)),
         Setting {
             left: 0,
             interval: 0

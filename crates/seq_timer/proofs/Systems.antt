@@ -84,31 +84,31 @@ module _ (bases count : ℕ) where
       record {
         kept = λ b k h on.
             ⊎_elim
-            (λ (same : k ≡ id). 
-              let on' : IsOn b new = subst (λ (x : Timer). IsOn b x) (timer_here w e) (subst (λ q. IsOn b ((after_entry w e).timers q)) same on) in
-              let here : b ≡ t.base = ⊎_elim (λ m. absurd (true≢false (sym m ∙ on'.still))) (λ s. sym on'.at ∙ s) (stays_or_moves t e.event) in
-              subst (λ q. timer_at ((after_entry w e).bases b).states q ≡ (after_entry w e).timers q) (sym same)
-              (subst (λ q. timer_at ((after_entry w e).bases q).states id ≡ (after_entry w e).timers id) (sym here)
-              (ap (λ (x : BaseContent). timer_at x.states id) (base_here w e) ∙ (states_here id t e.event (w.bases t.base) room ∙ sym (timer_here w e)))))
+            (λ (same : k ≡ id).
+            let on' : IsOn b new = subst (λ (x : Timer). IsOn b x) (timer_here w e) (subst (λ q. IsOn b ((after_entry w e).timers q)) same on) in
+            let here : b ≡ t.base = ⊎_elim (λ m. absurd (true≢false (sym m ∙ on'.still))) (λ s. sym on'.at ∙ s) (stays_or_moves t e.event) in
+            subst (λ q. timer_at ((after_entry w e).bases b).states q ≡ (after_entry w e).timers q) (sym same)
+            (subst (λ q. timer_at ((after_entry w e).bases q).states id ≡ (after_entry w e).timers id) (sym here)
+            (ap (λ (x : BaseContent). timer_at x.states id) (base_here w e) ∙ (states_here id t e.event (w.bases t.base) room ∙ sym (timer_here w e)))))
             (λ other.
-              let on' : IsOn b (w.timers k) = subst (λ (x : Timer). IsOn b x) (timer_else w e k other) on in
-              states_same w e b k other ∙ (shows.kept b k h on' ∙ sym (timer_else w e k other)))
+            let on' : IsOn b (w.timers k) = subst (λ (x : Timer). IsOn b x) (timer_else w e k other) on in
+            states_same w e b k other ∙ (shows.kept b k h on' ∙ sym (timer_else w e k other)))
             (cases_eq k id);
         shown = λ b k h on.
             ⊎_elim
             (λ (same : k ≡ id).
-              ⊎_elim
-              (λ (here : b ≡ t.base).
-                subst (λ q. (after_entry w e).timers q ≡ timer_at ((after_entry w e).bases b).states q) (sym same)
-                (subst (λ q. (after_entry w e).timers id ≡ timer_at ((after_entry w e).bases q).states id) (sym here)
-                (timer_here w e ∙ (sym (states_here id t e.event (w.bases t.base) room) ∙ ap (λ (x : BaseContent). timer_at x.states id) (sym (base_here w e))))))
-              (λ there.
-                let on' : IsOn b (timer_at (w.bases b).states id) = subst (λ (x : BaseContent). IsOn b (timer_at x.states id)) (base_else w e b there) (subst (λ q. IsOn b (timer_at ((after_entry w e).bases b).states q)) same on) in
-                absurd (there (sym on'.at ∙ ap (λ (x : Timer). x.base) (sym (shows.shown b id ok.within on')))))
-              (cases_eq b t.base))
+            ⊎_elim
+            (λ (here : b ≡ t.base).
+            subst (λ q. (after_entry w e).timers q ≡ timer_at ((after_entry w e).bases b).states q) (sym same)
+            (subst (λ q. (after_entry w e).timers id ≡ timer_at ((after_entry w e).bases q).states id) (sym here)
+            (timer_here w e ∙ (sym (states_here id t e.event (w.bases t.base) room) ∙ ap (λ (x : BaseContent). timer_at x.states id) (sym (base_here w e))))))
+            (λ there.
+            let on' : IsOn b (timer_at (w.bases b).states id) = subst (λ (x : BaseContent). IsOn b (timer_at x.states id)) (base_else w e b there) (subst (λ q. IsOn b (timer_at ((after_entry w e).bases b).states q)) same on) in
+            absurd (there (sym on'.at ∙ ap (λ (x : Timer). x.base) (sym (shows.shown b id ok.within on')))))
+            (cases_eq b t.base))
             (λ other.
-              let on' : IsOn b (timer_at (w.bases b).states k) = subst (λ (x : Timer). IsOn b x) (states_same w e b k other) on in
-              timer_else w e k other ∙ (shows.shown b k h on' ∙ sym (states_same w e b k other)))
+            let on' : IsOn b (timer_at (w.bases b).states k) = subst (λ (x : Timer). IsOn b x) (states_same w e b k other) on in
+            timer_else w e k other ∙ (shows.shown b k h on' ∙ sym (states_same w e b k other)))
             (cases_eq k id);
         wide = λ b. ⊎_elim
             (λ (here : b ≡ t.base). subst (λ q. length ((after_entry w e).bases q).states ≡ count) (sym here) (ap (λ (x : BaseContent). length x.states) (base_here w e) ∙ (states_len id t e.event (w.bases t.base) ∙ shows.wide t.base)))
@@ -122,7 +122,7 @@ module _ (bases count : ℕ) where
           let t = w.timers id in
           ⊎_elim
           (λ (here : b ≡ t.base). subst (λ q. timer_at ((after_entry w e).bases q).states k ≡ timer_at (w.bases q).states k) (sym here)
-            (ap (λ (x : BaseContent). timer_at x.states k) (base_here w e) ∙ states_else id k t e.event (w.bases t.base) other))
+          (ap (λ (x : BaseContent). timer_at x.states k) (base_here w e) ∙ states_else id k t e.event (w.bases t.base) other))
           (λ there. ap (λ (x : BaseContent). timer_at x.states k) (base_else w e b there))
           (cases_eq b t.base)
 

@@ -132,12 +132,12 @@ module _ (bases timers : ℕ) where
       let t = w.timers id in
       record {
         below = λ k. elim (arms t e.event) as (λ b. (if b then updated armed id (count + 1) else armed) k ≤ count + 1) [
-            | true ↦ ⊎_elim
-                (λ (same : k ≡ id). omega (arith, ap (updated armed id (count + 1)) same, updated_here armed id (count + 1)))
-                (λ apart. omega (arith, updated_else armed id k (count + 1) apart, o.below k))
-                (cases_eq k id)
-            | false ↦ omega (arith, o.below k)
-          ];
+          | true ↦ ⊎_elim
+              (λ (same : k ≡ id). omega (arith, ap (updated armed id (count + 1)) same, updated_here armed id (count + 1)))
+              (λ apart. omega (arith, updated_else armed id k (count + 1) apart, o.below k))
+              (cases_eq k id)
+          | false ↦ omega (arith, o.below k)
+        ];
         each = λ b clock. ⊎_elim
             (λ (same : b ≡ t.base). subst (λ x. InOrder (if arms t e.event then updated armed id (count + 1) else armed) (queue_of ((after_entry w e).bases x).content clock)) (sym same)
             (subst (λ c. InOrder (if arms t e.event then updated armed id (count + 1) else armed) (queue_of c clock)) (sym (ap (λ (x : BaseContent). x.content) (base_here w e) ∙ content_of_changed id t e.event (w.bases t.base)))

@@ -10,7 +10,8 @@ pub use laws::{
 pub use observation::{Observation, Peek};
 pub use system::{
     TimerEntry, bases_agree_with_timers, each_part_is_legal,
-    of_equal_expiries_the_first_armed_is_claimed, one_function_runs_on_a_base, stamps_count_entries,
+    of_equal_expiries_the_first_armed_is_claimed, one_function_runs_on_a_base,
+    stamps_count_entries,
 };
 pub use timer_state::TimerState;
 
@@ -18,7 +19,7 @@ mod base;
 mod event;
 mod laws;
 mod observation;
+mod system;
 #[cfg(test)]
 mod tests;
-mod system;
 mod timer_state;

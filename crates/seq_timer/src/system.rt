@@ -21,28 +21,24 @@ pub struct TimerEntry {
 /// Each timer's part of a history of all timers is a legal history of that timer.
 pub fn each_part_is_legal()
     ensures { (bases limit : ℕ) (clocks : List ClockId) (log : List declared.TimerEntry) → IsSystemHistory bases clocks limit log → (t : ℕ) (clock : ClockId) → slice_get clocks t ≡ Some clock → IsLegal clock limit (entries_of t log) }
-{
-}
+{}
 
 /// At most one function runs on a base.
 pub fn one_function_runs_on_a_base()
     ensures { (bases limit : ℕ) (clocks : List ClockId) (log : List declared.TimerEntry) → IsSystemHistory bases clocks limit log
         → (base t u : ℕ) → runs_on base ((system_of clocks limit log).timers t) ≡ true → runs_on base ((system_of clocks limit log).timers u) ≡ true → t ≡ u }
-{
-}
+{}
 
 /// After each history what a base has agrees with the timers, also while some of them move between bases.
 pub fn bases_agree_with_timers()
     ensures { (bases limit : ℕ) (clocks : List ClockId) (log : List declared.TimerEntry) → IsSystemHistory bases clocks limit log
         → (base : ℕ) → IsContentOf (system_of clocks limit log).timers base ((system_of clocks limit log).bases base).content }
-{
-}
+{}
 
 /// A timer's stamp is the number of its entries.
 pub fn stamps_count_entries()
     ensures { (limit : ℕ) (clocks : List ClockId) (log : List declared.TimerEntry) (t : ℕ) → ((system_of clocks limit log).timers t).stamp ≡ length (entries_of t log) }
-{
-}
+{}
 
 /// Of timers that are armed on a base and kept on a clock for the same time, the one that was armed first is claimed first.
 pub fn of_equal_expiries_the_first_armed_is_claimed()
@@ -51,5 +47,4 @@ pub fn of_equal_expiries_the_first_armed_is_claimed()
         → is_kept_on base ((system_of clocks limit log).timers e.timer).clock ((system_of clocks limit log).timers u) ≡ true
         → ((system_of clocks limit log).timers u).expires ≡ ((system_of clocks limit log).timers e.timer).expires
         → armed_in clocks limit log e.timer < armed_in clocks limit log u }
-{
-}
+{}

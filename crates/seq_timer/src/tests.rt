@@ -1,6 +1,5 @@
 //! Tests of one timer, and of a base.
-ghost use Rattle.std.specs.Prelude.{◌≡◌, ◌≤◌};
-ghost use Rattle.ktime.specs.Readings.{latest};
+ghost use Rattle.std.specs.Prelude.{◌≡◌};
 ghost use Rattle.seq_timer.specs.declared.event.Event.TheVariants as events;
 
 use crate::{
@@ -11,20 +10,6 @@ use crate::{
 use ktime::{ClockId, Mode, Reading};
 use std::alloc::AllocError;
 use timer_queue::ListQueue;
-
-/// A reading in which all clocks show this time.
-fn at(time: u64) -> Reading
-    requires { time ≤ latest }
-    ensures { result ≡ record { stamp = 0; mono = time; real = time; boot = time; changes = 0 } }
-{
-    Reading {
-        stamp: 0,
-        mono: time,
-        real: time,
-        boot: time,
-        changes: 0,
-    }
-}
 
 fn start(mode: Mode, ns: u64, reading: Reading) -> Event
     ensures { result ≡ events.Start mode ns reading 0 }
@@ -54,7 +39,7 @@ fn a_new_timer_is_idle_on_base_0(rt: HostRuntime) {
 #[test]
 fn a_timer_runs_once(rt: HostRuntime) {
     let mut timer = TimerState::make(ClockId::Monotonic, 100);
-    let reply = timer.apply(start(Mode::Rel, 100, at(0)));
+    let reply = timer.apply(start(Mode::Rel, 100, Reading::at(0)));
     assert_eq!(rt;
         reply,
         Reply::Start {
@@ -66,7 +51,7 @@ fn a_timer_runs_once(rt: HostRuntime) {
     );
     let reply = timer.apply(Event::Claim {
         base: 0,
-        reading: at(100),
+        reading: Reading::at(100),
     });
     assert_eq!(rt; reply, Reply::Claim { generation: 1 });
     let seen = Observation::Running { generation: 1 };
@@ -97,13 +82,13 @@ fn a_timer_runs_once(rt: HostRuntime) {
 #[test]
 fn a_periodic_timer_is_forwarded_and_armed_again(rt: HostRuntime) {
     let mut timer = TimerState::make(ClockId::Monotonic, 100);
-    timer.apply(start(Mode::Rel, 100, at(0)));
+    timer.apply(start(Mode::Rel, 100, Reading::at(0)));
     timer.apply(Event::Claim {
         base: 0,
-        reading: at(130),
+        reading: Reading::at(130),
     });
     let reply = timer.apply(Event::Forward {
-        reading: at(130),
+        reading: Reading::at(130),
         interval: 10,
     });
     assert_eq!(rt;
@@ -129,12 +114,12 @@ fn a_periodic_timer_is_forwarded_and_armed_again(rt: HostRuntime) {
 #[test]
 fn a_start_in_the_callback_stands(rt: HostRuntime) {
     let mut timer = TimerState::make(ClockId::Monotonic, 100);
-    timer.apply(start(Mode::Abs, 0, at(0)));
+    timer.apply(start(Mode::Abs, 0, Reading::at(0)));
     timer.apply(Event::Claim {
         base: 0,
-        reading: at(0),
+        reading: Reading::at(0),
     });
-    timer.apply(start(Mode::Rel, 50, at(0)));
+    timer.apply(start(Mode::Rel, 50, Reading::at(0)));
     let reply = timer.apply(Event::Finish { restart: true });
     assert_eq!(rt;
         reply,
@@ -150,7 +135,7 @@ fn a_start_in_the_callback_stands(rt: HostRuntime) {
     let reply = timer.apply(Event::Start {
         mode: Mode::Rel,
         ns: 70,
-        reading: at(0),
+        reading: Reading::at(0),
         asked: 1,
     });
     assert_eq!(rt;
@@ -182,10 +167,10 @@ fn a_relative_time_of_day_is_kept_on_the_monotonic_clock(rt: HostRuntime) {
 #[test]
 fn the_limit_refuses_a_restart(rt: HostRuntime) {
     let mut timer = TimerState::make(ClockId::Monotonic, 2);
-    timer.apply(start(Mode::Rel, 0, at(0)));
+    timer.apply(start(Mode::Rel, 0, Reading::at(0)));
     timer.apply(Event::Claim {
         base: 0,
-        reading: at(0),
+        reading: Reading::at(0),
     });
     let reply = timer.apply(Event::Finish { restart: true });
     assert_eq!(rt;
@@ -202,12 +187,12 @@ fn the_limit_refuses_a_restart(rt: HostRuntime) {
 fn a_base_goes_along_with_its_timer(rt: HostRuntime) -> Result<(), AllocError> {
     let mut base = Base::<ListQueue>::make(rt.alloc(), 1)?;
     let idle = TimerState::make(ClockId::Monotonic, 100);
-    let event = start(Mode::Rel, 100, at(0));
+    let event = start(Mode::Rel, 100, Reading::at(0));
     let mut armed = idle;
     armed.apply(event);
     base.step(0, &idle, &event, &armed);
-    assert_eq!(rt; base.first(at(99)), None);
-    assert_eq!(rt; base.first(at(100)), Some((100, 0)));
+    assert_eq!(rt; base.first(Reading::at(99)), None);
+    assert_eq!(rt; base.first(Reading::at(100)), Some((100, 0)));
     assert_eq!(rt; base.running(), None);
     Ok(())
 }

@@ -1,6 +1,5 @@
 //! Tests of the calls: each fails where a call answers another thing than is wanted, a refusal or nothing due among them.
-ghost use Rattle.std.specs.Prelude.{◌≡◌, ◌<◌, ◌≤◌, length, IsSome};
-ghost use Rattle.ktime.specs.Readings.{latest};
+ghost use Rattle.std.specs.Prelude.{◌<◌, length, IsSome};
 ghost use Rattle.timer_core.specs.Kept.{IsSameSize, timer_in};
 
 use crate::{
@@ -12,20 +11,6 @@ use seq_timer::{Peek, Rearmed};
 use std::alloc::AllocError;
 use std::process::Abort;
 use timer_queue::ListQueue;
-
-/// A reading in which all clocks show this time.
-fn at(time: u64) -> Reading
-    requires { time ≤ latest }
-    ensures { result ≡ record { stamp = 0; mono = time; real = time; boot = time; changes = 0 } }
-{
-    Reading {
-        stamp: 0,
-        mono: time,
-        real: time,
-        boot: time,
-        changes: 0,
-    }
-}
 
 /// Claims the next timer of a base, and fails where none is claimed.
 fn claim(rt: &impl Abort, core: &mut Core<ListQueue>, base: u32, reading: Reading) -> u32
@@ -65,11 +50,11 @@ fn started(was_armed: bool, generation: u64, expires: u64) -> StartAnswer {
 #[test]
 fn a_timer_runs_once(rt: HostRuntime) -> Result<(), AllocError> {
     let mut core = Core::<ListQueue>::make(rt.alloc(), 1, &[ClockId::Monotonic], 100)?;
-    let answer = core.start(0, Mode::Rel, 100, 0, at(0));
+    let answer = core.start(0, Mode::Rel, 100, 0, Reading::at(0));
     assert_eq!(rt; answer, started(false, 1, 100));
-    assert_eq!(rt; core.claim_next(0, at(99)), ClaimAnswer::NoneDue);
-    assert_eq!(rt; core.first(0, at(100)), Some((100, 0)));
-    let claimed = core.claim_next(0, at(100));
+    assert_eq!(rt; core.claim_next(0, Reading::at(99)), ClaimAnswer::NoneDue);
+    assert_eq!(rt; core.first(0, Reading::at(100)), Some((100, 0)));
+    let claimed = core.claim_next(0, Reading::at(100));
     let first = ClaimAnswer::Claimed {
         timer: 0,
         generation: 1,
@@ -81,15 +66,15 @@ fn a_timer_runs_once(rt: HostRuntime) -> Result<(), AllocError> {
         timer: 0,
         generation: 1,
     };
-    assert_eq!(rt; core.claim_next(0, at(100)), busy);
+    assert_eq!(rt; core.claim_next(0, Reading::at(100)), busy);
     Ok(())
 }
 
 #[test]
 fn a_timer_that_has_run_is_idle(rt: HostRuntime) -> Result<(), AllocError> {
     let mut core = Core::<ListQueue>::make(rt.alloc(), 1, &[ClockId::Monotonic], 100)?;
-    core.start(0, Mode::Rel, 100, 0, at(0));
-    let timer = claim(&rt, &mut core, 0, at(100));
+    core.start(0, Mode::Rel, 100, 0, Reading::at(0));
+    let timer = claim(&rt, &mut core, 0, Reading::at(100));
     let finished = Finished {
         number: 3,
         rearmed: Rearmed::No,
@@ -113,14 +98,14 @@ fn a_timer_that_has_run_is_idle(rt: HostRuntime) -> Result<(), AllocError> {
 #[test]
 fn equal_expiries_leave_in_the_order_of_arming(rt: HostRuntime) -> Result<(), AllocError> {
     let mut core = Core::<ListQueue>::make(rt.alloc(), 1, &[ClockId::Monotonic; 3], 100)?;
-    core.start(2, Mode::Abs, 100, 0, at(0));
-    core.start(0, Mode::Abs, 100, 0, at(0));
-    core.start(1, Mode::Abs, 100, 0, at(0));
-    core.start(2, Mode::Abs, 100, 0, at(0));
-    assert_eq!(rt; run_next(&rt, &mut core, at(100)), 0);
-    assert_eq!(rt; run_next(&rt, &mut core, at(100)), 1);
-    assert_eq!(rt; run_next(&rt, &mut core, at(100)), 2);
-    assert_eq!(rt; core.claim_next(0, at(100)), ClaimAnswer::NoneDue);
+    core.start(2, Mode::Abs, 100, 0, Reading::at(0));
+    core.start(0, Mode::Abs, 100, 0, Reading::at(0));
+    core.start(1, Mode::Abs, 100, 0, Reading::at(0));
+    core.start(2, Mode::Abs, 100, 0, Reading::at(0));
+    assert_eq!(rt; run_next(&rt, &mut core, Reading::at(100)), 0);
+    assert_eq!(rt; run_next(&rt, &mut core, Reading::at(100)), 1);
+    assert_eq!(rt; run_next(&rt, &mut core, Reading::at(100)), 2);
+    assert_eq!(rt; core.claim_next(0, Reading::at(100)), ClaimAnswer::NoneDue);
     Ok(())
 }
 
@@ -129,9 +114,9 @@ fn a_start_in_the_callback_stands_though_the_function_runs(
     rt: HostRuntime,
 ) -> Result<(), AllocError> {
     let mut core = Core::<ListQueue>::make(rt.alloc(), 2, &[ClockId::Monotonic], 100)?;
-    core.start(0, Mode::Abs, 0, 0, at(0));
-    let timer = claim(&rt, &mut core, 0, at(0));
-    let answer = core.start(timer, Mode::Rel, 50, 1, at(0));
+    core.start(0, Mode::Abs, 0, 0, Reading::at(0));
+    let timer = claim(&rt, &mut core, 0, Reading::at(0));
+    let answer = core.start(timer, Mode::Rel, 50, 1, Reading::at(0));
     assert_eq!(rt; answer, started(false, 3, 50));
     let running = CancelAnswer::Running {
         generation: 1,
@@ -142,7 +127,7 @@ fn a_start_in_the_callback_stands_though_the_function_runs(
         generation: 3,
         stamp: 3,
     };
-    assert_eq!(rt; core.forward(timer, at(0), 10), armed);
+    assert_eq!(rt; core.forward(timer, Reading::at(0), 10), armed);
     let finished = Finished {
         number: 4,
         rearmed: Rearmed::No,
@@ -155,7 +140,7 @@ fn a_start_in_the_callback_stands_though_the_function_runs(
 #[test]
 fn a_start_moves_an_armed_timer(rt: HostRuntime) -> Result<(), AllocError> {
     let mut core = Core::<ListQueue>::make(rt.alloc(), 2, &[ClockId::Monotonic], 100)?;
-    core.start(0, Mode::Abs, 50, 0, at(0));
+    core.start(0, Mode::Abs, 50, 0, Reading::at(0));
     let moved = StartAnswer::Started {
         was_armed: true,
         generation: 3,
@@ -164,9 +149,9 @@ fn a_start_moves_an_armed_timer(rt: HostRuntime) -> Result<(), AllocError> {
         clock: ClockId::Monotonic,
         expires: 70,
     };
-    assert_eq!(rt; core.start(0, Mode::Rel, 70, 1, at(0)), moved);
-    assert_eq!(rt; core.first(0, at(100)), None);
-    assert_eq!(rt; core.first(1, at(100)), Some((70, 0)));
+    assert_eq!(rt; core.start(0, Mode::Rel, 70, 1, Reading::at(0)), moved);
+    assert_eq!(rt; core.first(0, Reading::at(100)), None);
+    assert_eq!(rt; core.first(1, Reading::at(100)), Some((70, 0)));
     let cancelled = CancelAnswer::Cancelled {
         generation: 3,
         number: 4,
@@ -178,20 +163,20 @@ fn a_start_moves_an_armed_timer(rt: HostRuntime) -> Result<(), AllocError> {
 #[test]
 fn a_periodic_timer_is_forwarded_and_armed_again(rt: HostRuntime) -> Result<(), AllocError> {
     let mut core = Core::<ListQueue>::make(rt.alloc(), 1, &[ClockId::Boottime], 100)?;
-    core.start(0, Mode::Rel, 100, 0, at(0));
-    let timer = claim(&rt, &mut core, 0, at(130));
+    core.start(0, Mode::Rel, 100, 0, Reading::at(0));
+    let timer = claim(&rt, &mut core, 0, Reading::at(130));
     let forwarded = ForwardAnswer::Forwarded {
         number: 3,
         count: 4,
         expires: 140,
     };
-    assert_eq!(rt; core.forward(timer, at(130), 10), forwarded);
+    assert_eq!(rt; core.forward(timer, Reading::at(130), 10), forwarded);
     let finished = Finished {
         number: 4,
         rearmed: Rearmed::Again { generation: 4 },
     };
     assert_eq!(rt; core.finish(timer, true), finished);
-    assert_eq!(rt; core.first(0, at(140)), Some((140, 0)));
+    assert_eq!(rt; core.first(0, Reading::at(140)), Some((140, 0)));
     Ok(())
 }
 
@@ -200,8 +185,8 @@ fn a_relative_time_of_day_expires_by_the_monotonic_clock(
     rt: HostRuntime,
 ) -> Result<(), AllocError> {
     let mut core = Core::<ListQueue>::make(rt.alloc(), 1, &[ClockId::Realtime; 2], 100)?;
-    core.start(0, Mode::Abs, 1000, 0, at(0));
-    core.start(1, Mode::Rel, 1000, 0, at(0));
+    core.start(0, Mode::Abs, 1000, 0, Reading::at(0));
+    core.start(1, Mode::Rel, 1000, 0, Reading::at(0));
     let set = Reading {
         stamp: 1,
         mono: 0,
@@ -225,13 +210,13 @@ fn a_relative_time_of_day_expires_by_the_monotonic_clock(
 #[test]
 fn the_limit_on_entries_refuses_a_start_and_a_restart(rt: HostRuntime) -> Result<(), AllocError> {
     let mut core = Core::<ListQueue>::make(rt.alloc(), 2, &[ClockId::Monotonic], 2)?;
-    core.start(0, Mode::Rel, 0, 0, at(0));
-    core.start(0, Mode::Rel, 0, 1, at(0));
+    core.start(0, Mode::Rel, 0, 0, Reading::at(0));
+    core.start(0, Mode::Rel, 0, 1, Reading::at(0));
     let spent = StartAnswer::Spent { stamp: 3 };
-    assert_eq!(rt; core.start(0, Mode::Rel, 0, 0, at(0)), spent);
-    let timer = claim(&rt, &mut core, 1, at(0));
+    assert_eq!(rt; core.start(0, Mode::Rel, 0, 0, Reading::at(0)), spent);
+    let timer = claim(&rt, &mut core, 1, Reading::at(0));
     let spent = ForwardAnswer::Spent { stamp: 4 };
-    assert_eq!(rt; core.forward(timer, at(0), 10), spent);
+    assert_eq!(rt; core.forward(timer, Reading::at(0), 10), spent);
     let finished = Finished {
         number: 5,
         rearmed: Rearmed::Spent { stamp: 4 },

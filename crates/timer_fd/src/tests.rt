@@ -1,26 +1,11 @@
 //! Tests of a descriptor's calls.
 ghost use Rattle.std.specs.Prelude.{◌≡◌, ◌≤◌};
-ghost use Rattle.ktime.specs.Readings.{latest};
 
 use crate::{
     Arm, BadArgument, Call, FdState, GettimeAnswer, Phase, ReadAnswer, Reply, SettimeAnswer,
     TriggerAnswer, Wanted, few_entries, one_more_entry, times_of,
 };
 use ktime::{ClockId, Mode, Reading, TimeSpec};
-
-/// A reading in which all clocks show this time.
-fn at(time: u64) -> Reading
-    requires { time ≤ latest }
-    ensures { result ≡ record { stamp = 0; mono = time; real = time; boot = time; changes = 0 } }
-{
-    Reading {
-        stamp: 0,
-        mono: time,
-        real: time,
-        boot: time,
-        changes: 0,
-    }
-}
 
 /// A reading in which the real-time clock has been set so often, to this time, and nothing else has happened.
 fn set_to(real: u64, changes: u64) -> Reading
@@ -57,7 +42,7 @@ fn a_new_descriptor_is_disarmed(rt: HostRuntime) {
 #[test]
 fn a_read_counts_the_periods_that_passed(rt: HostRuntime) {
     let mut descriptor = FdState::make(ClockId::Monotonic, 0, 100);
-    let wanted = descriptor.settime_wants(1, ns(100), ns(10), at(0));
+    let wanted = descriptor.settime_wants(1, ns(100), ns(10), Reading::at(0));
     assert_eq!(rt;
         wanted,
         Some(Wanted {
@@ -65,7 +50,7 @@ fn a_read_counts_the_periods_that_passed(rt: HostRuntime) {
             ns: 100
         })
     );
-    let old = descriptor.settime(1, ns(100), ns(10), at(0), Arm::Armed(1));
+    let old = descriptor.settime(1, ns(100), ns(10), Reading::at(0), Arm::Armed(1));
     assert_eq!(rt;
         old,
         SettimeAnswer::Old {
@@ -73,9 +58,12 @@ fn a_read_counts_the_periods_that_passed(rt: HostRuntime) {
             interval: 0
         }
     );
-    assert_eq!(rt; descriptor.trigger(1, at(100)), TriggerAnswer::Counted);
-    assert!(rt; descriptor.readable(at(100)));
-    let wanted = descriptor.read_wants(8, at(135));
+    assert_eq!(rt;
+        descriptor.trigger(1, Reading::at(100)),
+        TriggerAnswer::Counted
+    );
+    assert!(rt; descriptor.readable(Reading::at(100)));
+    let wanted = descriptor.read_wants(8, Reading::at(135));
     assert_eq!(rt;
         wanted,
         Some(Wanted {
@@ -83,13 +71,13 @@ fn a_read_counts_the_periods_that_passed(rt: HostRuntime) {
             ns: 140
         })
     );
-    let four = descriptor.read(8, at(135), Arm::Armed(4));
+    let four = descriptor.read(8, Reading::at(135), Arm::Armed(4));
     assert_eq!(rt; four, ReadAnswer::Count { total: 4 });
     assert_eq!(rt; four.bytes(), Some([4, 0, 0, 0, 0, 0, 0, 0]));
-    let again = descriptor.read(8, at(135), Arm::NotAsked);
+    let again = descriptor.read(8, Reading::at(135), Arm::NotAsked);
     assert_eq!(rt; again, ReadAnswer::Again);
     assert_eq!(rt; again.bytes(), None);
-    let short = descriptor.read(7, at(135), Arm::NotAsked);
+    let short = descriptor.read(7, Reading::at(135), Arm::NotAsked);
     assert_eq!(rt; short, ReadAnswer::ShortBuffer);
     assert_eq!(rt; descriptor.timer().stamp, 4);
 }
@@ -97,8 +85,8 @@ fn a_read_counts_the_periods_that_passed(rt: HostRuntime) {
 #[test]
 fn an_overdue_timer_has_nothing_left(rt: HostRuntime) {
     let mut descriptor = FdState::make(ClockId::Monotonic, 0, 100);
-    descriptor.settime(1, ns(100), ns(10), at(0), Arm::Armed(1));
-    let left = descriptor.gettime(at(130), Arm::NotAsked);
+    descriptor.settime(1, ns(100), ns(10), Reading::at(0), Arm::Armed(1));
+    let left = descriptor.gettime(Reading::at(130), Arm::NotAsked);
     assert_eq!(rt;
         left,
         GettimeAnswer::Left {
@@ -106,25 +94,34 @@ fn an_overdue_timer_has_nothing_left(rt: HostRuntime) {
             interval: 10
         }
     );
-    assert!(rt; !descriptor.readable(at(130)));
+    assert!(rt; !descriptor.readable(Reading::at(130)));
     assert_eq!(rt; descriptor.timer().stamp, 2);
-    let bad = descriptor.settime(1, ns(1_000_000_000), ns(0), at(130), Arm::NotAsked);
+    let bad = descriptor.settime(1, ns(1_000_000_000), ns(0), Reading::at(130), Arm::NotAsked);
     assert_eq!(rt; bad, SettimeAnswer::BadTime);
 }
 
 #[test]
 fn a_gettime_arms_an_expired_timer_again(rt: HostRuntime) {
     let mut descriptor = FdState::make(ClockId::Boottime, 0, 100);
-    descriptor.settime(0, ns(100), ns(10), at(0), Arm::Armed(1));
-    assert_eq!(rt; descriptor.trigger(2, at(100)), TriggerAnswer::Stale);
-    assert_eq!(rt; descriptor.trigger(1, at(99)), TriggerAnswer::Stale);
-    assert_eq!(rt; descriptor.trigger(1, at(100)), TriggerAnswer::Counted);
+    descriptor.settime(0, ns(100), ns(10), Reading::at(0), Arm::Armed(1));
+    assert_eq!(rt;
+        descriptor.trigger(2, Reading::at(100)),
+        TriggerAnswer::Stale
+    );
+    assert_eq!(rt;
+        descriptor.trigger(1, Reading::at(99)),
+        TriggerAnswer::Stale
+    );
+    assert_eq!(rt;
+        descriptor.trigger(1, Reading::at(100)),
+        TriggerAnswer::Counted
+    );
     let expired = Phase::Expired {
         clock: ClockId::Boottime,
         expires: 100,
     };
     assert_eq!(rt; descriptor.timer().phase, expired);
-    let wanted = descriptor.gettime_wants(at(125));
+    let wanted = descriptor.gettime_wants(Reading::at(125));
     assert_eq!(rt;
         wanted,
         Some(Wanted {
@@ -132,7 +129,7 @@ fn a_gettime_arms_an_expired_timer_again(rt: HostRuntime) {
             ns: 130
         })
     );
-    let left = descriptor.gettime(at(125), Arm::Unarmed(8));
+    let left = descriptor.gettime(Reading::at(125), Arm::Unarmed(8));
     assert_eq!(rt;
         left,
         GettimeAnswer::Left {
@@ -141,7 +138,7 @@ fn a_gettime_arms_an_expired_timer_again(rt: HostRuntime) {
         }
     );
     assert_eq!(rt; descriptor.timer().phase, Phase::Idle);
-    let total = descriptor.read(8, at(125), Arm::NotAsked);
+    let total = descriptor.read(8, Reading::at(125), Arm::NotAsked);
     assert_eq!(rt; total, ReadAnswer::Count { total: 3 });
 }
 
@@ -218,7 +215,7 @@ fn a_spent_descriptor_refuses_all_but_a_look(rt: HostRuntime) {
         flags: 1,
         value: 100,
         interval: 0,
-        reading: at(0),
+        reading: Reading::at(0),
         arm: Arm::Armed(1),
     };
     let old = SettimeAnswer::Old {
@@ -228,15 +225,15 @@ fn a_spent_descriptor_refuses_all_but_a_look(rt: HostRuntime) {
     assert_eq!(rt; descriptor.apply(call), Reply::Settime(old));
     let reply = descriptor.apply(Call::Trigger {
         generation: 1,
-        reading: at(100),
+        reading: Reading::at(100),
     });
     assert_eq!(rt; reply, Reply::Trigger(TriggerAnswer::Counted));
-    let spent = descriptor.read(8, at(100), Arm::NotAsked);
+    let spent = descriptor.read(8, Reading::at(100), Arm::NotAsked);
     assert_eq!(rt; spent, ReadAnswer::Spent { stamp: 2 });
-    assert_eq!(rt; descriptor.gettime_wants(at(100)), None);
-    let spent = descriptor.gettime(at(100), Arm::NotAsked);
+    assert_eq!(rt; descriptor.gettime_wants(Reading::at(100)), None);
+    let spent = descriptor.gettime(Reading::at(100), Arm::NotAsked);
     assert_eq!(rt; spent, GettimeAnswer::Spent { stamp: 2 });
-    assert!(rt; descriptor.readable(at(100)));
+    assert!(rt; descriptor.readable(Reading::at(100)));
     few_entries();
     one_more_entry();
 }
@@ -248,18 +245,18 @@ fn entries_are_made_by_calls(rt: HostRuntime) {
         flags: 1,
         value: 100,
         interval: 0,
-        reading: at(0),
+        reading: Reading::at(0),
         arm: Arm::Unarmed(9),
     };
     let unarmed = SettimeAnswer::Unarmed { stamp: 9 };
     assert_eq!(rt; descriptor.apply(call), Reply::Settime(unarmed));
     let reply = descriptor.apply(Call::Read {
-        reading: at(0),
+        reading: Reading::at(0),
         arm: Arm::NotAsked,
     });
     assert_eq!(rt; reply, Reply::Read(ReadAnswer::Again));
     let reply = descriptor.apply(Call::Gettime {
-        reading: at(0),
+        reading: Reading::at(0),
         arm: Arm::NotAsked,
     });
     let nothing = GettimeAnswer::Left {

@@ -1,6 +1,5 @@
 //! The callers, run.
-ghost use Rattle.std.specs.Prelude.{◌≡◌, ◌≤◌};
-ghost use Rattle.ktime.specs.Readings.{latest};
+ghost use Rattle.std.specs.Prelude.{◌≡◌};
 
 use crate::{
     Tick, accept_signal, arm_periodic, descriptor_expired, expire_once, expire_periodic,
@@ -13,20 +12,6 @@ use timer_core::Core;
 use timer_fd::FdState;
 use timer_queue::ListQueue;
 
-/// A reading in which all clocks show this time.
-fn at(time: u64) -> Reading
-    requires { time ≤ latest }
-    ensures { result ≡ record { stamp = 0; mono = time; real = time; boot = time; changes = 0 } }
-{
-    Reading {
-        stamp: 0,
-        mono: time,
-        real: time,
-        boot: time,
-        changes: 0,
-    }
-}
-
 fn ns(nsec: u64) -> TimeSpec
     ensures { result ≡ record { sec = 0; nsec = nsec } }
 {
@@ -36,21 +21,21 @@ fn ns(nsec: u64) -> TimeSpec
 #[test]
 fn a_timer_expires_once(rt: HostRuntime) -> Result<(), AllocError> {
     let mut core = Core::<ListQueue>::make(rt.alloc(), 1, &[ClockId::Monotonic], 100)?;
-    assert_eq!(rt; start_once(&mut core, 0, 100, 0, at(5)), Some(1));
-    assert_eq!(rt; expire_once(&mut core, 0, at(104)), None);
-    assert_eq!(rt; expire_once(&mut core, 0, at(105)), Some(0));
-    assert_eq!(rt; expire_once(&mut core, 0, at(200)), None);
+    assert_eq!(rt; start_once(&mut core, 0, 100, 0, Reading::at(5)), Some(1));
+    assert_eq!(rt; expire_once(&mut core, 0, Reading::at(104)), None);
+    assert_eq!(rt; expire_once(&mut core, 0, Reading::at(105)), Some(0));
+    assert_eq!(rt; expire_once(&mut core, 0, Reading::at(200)), None);
     Ok(())
 }
 
 #[test]
 fn a_periodic_timer_ticks(rt: HostRuntime) -> Result<(), AllocError> {
     let mut core = Core::<ListQueue>::make(rt.alloc(), 1, &[ClockId::Monotonic], 100)?;
-    start_once(&mut core, 0, 100, 0, at(0));
-    let late = expire_periodic(&mut core, 0, at(135), 10);
+    start_once(&mut core, 0, 100, 0, Reading::at(0));
+    let late = expire_periodic(&mut core, 0, Reading::at(135), 10);
     assert_eq!(rt; late, Some(Tick { timer: 0, count: 4 }));
-    assert_eq!(rt; expire_periodic(&mut core, 0, at(139), 10), None);
-    let next = expire_periodic(&mut core, 0, at(140), 10);
+    assert_eq!(rt; expire_periodic(&mut core, 0, Reading::at(139), 10), None);
+    let next = expire_periodic(&mut core, 0, Reading::at(140), 10);
     assert_eq!(rt; next, Some(Tick { timer: 0, count: 1 }));
     Ok(())
 }
@@ -59,14 +44,14 @@ fn a_periodic_timer_ticks(rt: HostRuntime) -> Result<(), AllocError> {
 fn a_posix_timer_counts_its_overrun(rt: HostRuntime) -> Result<(), AllocError> {
     let mut core = Core::<ListQueue>::make(rt.alloc(), 1, &[ClockId::Monotonic], 100)?;
     let mut timer = PosixState::make(ClockId::Monotonic, 0, 100);
-    arm_periodic(&mut core, &mut timer, 0, ns(100), ns(10), at(0));
-    assert_eq!(rt; expire_once(&mut core, 0, at(100)), Some(0));
-    assert!(rt; signal_expired(&mut timer, 1, at(100)));
-    let overrun = accept_signal(&mut core, &mut timer, 0, at(135));
+    arm_periodic(&mut core, &mut timer, 0, ns(100), ns(10), Reading::at(0));
+    assert_eq!(rt; expire_once(&mut core, 0, Reading::at(100)), Some(0));
+    assert!(rt; signal_expired(&mut timer, 1, Reading::at(100)));
+    let overrun = accept_signal(&mut core, &mut timer, 0, Reading::at(135));
     assert_eq!(rt; overrun, Some(3));
     assert_eq!(rt; timer.getoverrun(), 3);
-    assert_eq!(rt; expire_once(&mut core, 0, at(139)), None);
-    assert_eq!(rt; expire_once(&mut core, 0, at(140)), Some(0));
+    assert_eq!(rt; expire_once(&mut core, 0, Reading::at(139)), None);
+    assert_eq!(rt; expire_once(&mut core, 0, Reading::at(140)), Some(0));
     Ok(())
 }
 
@@ -74,13 +59,26 @@ fn a_posix_timer_counts_its_overrun(rt: HostRuntime) -> Result<(), AllocError> {
 fn a_descriptor_is_read(rt: HostRuntime) -> Result<(), AllocError> {
     let mut core = Core::<ListQueue>::make(rt.alloc(), 1, &[ClockId::Monotonic], 100)?;
     let mut descriptor = FdState::make(ClockId::Monotonic, 0, 100);
-    set_descriptor(&mut core, &mut descriptor, 0, ns(100), ns(10), at(0));
-    assert_eq!(rt; expire_once(&mut core, 0, at(100)), Some(0));
-    assert!(rt; descriptor_expired(&mut descriptor, 1, at(100)));
-    assert!(rt; descriptor.readable(at(100)));
-    assert_eq!(rt; read_count(&mut core, &mut descriptor, 0, at(135)), Some(4));
-    assert_eq!(rt; expire_once(&mut core, 0, at(140)), Some(0));
+    set_descriptor(
+        &mut core,
+        &mut descriptor,
+        0,
+        ns(100),
+        ns(10),
+        Reading::at(0),
+    );
+    assert_eq!(rt; expire_once(&mut core, 0, Reading::at(100)), Some(0));
+    assert!(rt; descriptor_expired(&mut descriptor, 1, Reading::at(100)));
+    assert!(rt; descriptor.readable(Reading::at(100)));
+    assert_eq!(rt;
+        read_count(&mut core, &mut descriptor, 0, Reading::at(135)),
+        Some(4)
+    );
+    assert_eq!(rt; expire_once(&mut core, 0, Reading::at(140)), Some(0));
     let mut unset = FdState::make(ClockId::Monotonic, 0, 100);
-    assert_eq!(rt; read_count(&mut core, &mut unset, 0, at(140)), None);
+    assert_eq!(rt;
+        read_count(&mut core, &mut unset, 0, Reading::at(140)),
+        None
+    );
     Ok(())
 }
