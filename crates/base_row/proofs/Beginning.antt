@@ -1,0 +1,102 @@
+-- The rule holds of a new row: every base is free, and nothing has happened.
+use Rattle.base_row.specs.Places.{lock_at, word_at}
+use Rattle.std.proofs.Common.{◌≡◌, ℕ, zero, suc, ◌+◌, ◌<◌, List, [], ◌∷◌, length, map, replicate, refl, ap, sym, ◌∙◌, subst, arith}
+use Rattle.std.specs.Prelude.{slice_index, Option, Some, None}
+use Rattle.std.proofs.lemmas.Bool.Decides.{nat_tests}
+use Rattle.std.proofs.lemmas.List.{length-replicate, length-map}
+use mathlib.Core.Option.{some, some-injective, some-ne-none}
+use lib.ListN.{get_elem?}
+use Rattle.atomic_table.specs.Table.{State, opening}
+use Rattle.pass_names.specs.Counts.{one_if}
+use Rattle.pass_names.specs.Passes.{within}
+use Rattle.pass_names.proofs.Names.{first_tree}
+use Rattle.pass_names.proofs.Passes.{begins_refl}
+use Rattle.seq_timer.specs.Steps.{Timer}
+use Rattle.seq_timer.specs.Tables.{timer_at}
+use Rattle.base_row.specs.declared.view.Locked.{Locked}
+use Rattle.base_row.specs.declared.view.View.{View}
+use Rattle.seq_timer.specs.Systems.{BaseContent, no_base}
+use Rattle.base_row.specs.Rules.{runs, number_of, PassHolds, RowHolds, HasOneHistory}
+use Rattle.seq_timer.specs.Systems.{IsFresh}
+use Rattle.base_row.specs.Plays.{first_view, Knows}
+use Rattle.base_row.specs.Calls.{AreFresh}
+use Rattle.base_row.proofs.Knowing.{knows_of}
+
+slot_at : (n i : ℕ) (x : Option BaseContent) → i < n → get_elem? (map some (replicate n x)) i ≡ some (some x)
+slot_at zero i x h = absurd (omega arith)
+slot_at (suc n) zero x h = refl
+slot_at (suc n) (suc i) x h = slot_at n i x (omega arith)
+
+met_zero : (n i : ℕ) → slice_index (replicate n 0) i ≡ 0
+met_zero zero i = refl
+met_zero (suc n) zero = refl
+met_zero (suc n) (suc i) = met_zero n i
+
+none_within : (k : ℕ) → one_if (within k 0) ≡ 0
+none_within k = grind (arith, nat_tests)
+
+fresh_word : (t : Timer) → IsFresh t → number_of t ≡ 0
+unfolding number_of
+fresh_word t f = rw (f.stamp, f.first, f.armed, f.running, f.still) refl
+
+module _ (bases : ℕ) (opened : List Timer) (fresh : AreFresh opened) where
+  abbrev first : View BaseContent
+  first = first_view (record { bases = bases; timers = opened })
+
+  abbrev start : State (Option BaseContent) (View BaseContent)
+  start = opening (replicate (word_at bases (length opened)) 0) (replicate bases (Some (no_base opened))) first
+
+  fits_first : PassHolds bases opened number_of [] start.words first
+  fits_first = record {
+    seen = begins_refl [];
+    heard = begins_refl [];
+    held = λ h e. absurd (no_lock h e);
+    carry = λ t e. absurd (no_timer t e);
+    wide = omega (arith, length-replicate {A = ℕ} bases 0);
+    full = λ live. length-replicate {A = ℕ} bases 0;
+    met = λ b h. omega (arith, met_zero bases b);
+    takes = λ b k some_one. absurd (omega arith);
+    gone = λ off. (refl, (refl, refl));
+  }
+    where
+      no_lock : (h : Locked BaseContent) → None ≡ Some h → ⊥
+      no_lock h e = cc
+
+      no_timer : (t : ℕ) → None ≡ Some t → ⊥
+      no_timer t e = cc
+
+  begins_home : RowHolds bases opened number_of [] start
+  begins_home = record {
+    allowed = tt;
+    words_len = length-replicate {A = ℕ} (word_at bases (length opened)) 0;
+    homes_len = length-map (replicate bases (Some (no_base opened))) some ∙ length-replicate bases (Some (no_base opened));
+    each_base = λ b h. record {
+      taken = 0;
+      number = omega (arith, met_zero (word_at bases (length opened)) (lock_at b));
+      once = omega arith;
+      free = λ z. slot_at bases b (Some (no_base opened)) h;
+      out = λ z. absurd (omega arith);
+      each = λ k. sym (none_within k);
+    };
+    each_timer = λ t h. met_zero (word_at bases (length opened)) (word_at bases t) ∙ sym (fresh_word (timer_at opened t) (fresh.each t));
+    each_view = λ j v e. here j v e;
+    tree = first_tree;
+    tally = λ t k h. sym (ap (λ n. one_if (within k n)) (fresh.each t).stamp ∙ none_within k);
+    claims = λ t g b h. sym (idle t g b);
+    carriers = λ t h. sym (ap one_if (fresh.each t).still);
+  }
+    where
+      here : (j : ℕ) (v : View BaseContent) → get_elem? (first ∷ []) j ≡ some v → PassHolds bases opened number_of [] start.words v
+      here zero v e = subst (λ w. PassHolds bases opened number_of [] start.words w) (some-injective first v e) fits_first
+      here (suc j) v e = absurd (some-ne-none v (sym e))
+
+      idle : (t g b : ℕ) → one_if (runs g b (timer_at opened t)) ≡ 0
+      idle t g b = grind (arith, (fresh.each t).running)
+
+  pub begins : (words : List ℕ) (slots : List (Option BaseContent)) → words ≡ replicate (word_at bases (length opened)) 0 → slots ≡ replicate bases (Some (no_base opened)) → HasOneHistory bases opened number_of (opening words slots first)
+  begins words slots is_words is_slots =
+      subst (λ ws. HasOneHistory bases opened number_of (opening ws slots first)) (sym is_words)
+      (subst (λ ss. HasOneHistory bases opened number_of (opening (replicate (word_at bases (length opened)) 0) ss first)) (sym is_slots) ([], begins_home))
+
+  pub knows_first : Knows bases opened number_of first
+  knows_first = knows_of bases opened number_of [] start begins_home 0 first refl refl refl

@@ -1,0 +1,182 @@
+-- What calls on a row say, in the words of their callers.
+use Rattle.std.proofs.Common.{◌≡◌, ℕ, ◌+◌, ◌-◌, ◌^◌, ◌<◌, ◌≤◌, ◌≢◌, ⊎_elim, List, [], ◌∷◌, ◌++◌, length, true, inl, inr, refl, ap, sym, ◌∙◌, subst, arith, if◌then◌else◌}
+use Rattle.std.specs.Prelude.{slice_index, Option, Some, None, MatchOption, IfNone}
+use Rattle.std.proofs.lemmas.Bool.{eq-eqb}
+use Rattle.atomic_table.specs.Table.{Me}
+use Rattle.pass_names.specs.Names.{IsLast}
+use Rattle.pass_names.specs.Passes.{Begins}
+use Rattle.pass_names.specs.SharedHistory.{ExtendsBy, LooksOn, MeetWith, TakesIn}
+use Rattle.pass_names.proofs.Passes.{begins_trans, begins_more}
+use Rattle.ktime.specs.declared.mode.Mode.{Mode}
+use Rattle.ktime.specs.Readings.{ClockReading}
+use Rattle.seq_timer.specs.declared.event.Event.{Event}
+use Rattle.seq_timer.specs.declared.event.Event.TheVariants.{Start}
+use Rattle.seq_timer.specs.declared.system.TimerEntry.{TimerEntry}
+use Rattle.seq_timer.specs.Steps.{Timer, after}
+use Rattle.seq_timer.specs.Tables.{timer_at}
+use Rattle.seq_timer.specs.Histories as seq
+use Rattle.seq_timer.specs.Systems.{BaseContent, changed, entries_of, first_system}
+use Rattle.seq_timer.proofs.Limits.{stamp-after_all}
+use Rattle.seq_timer.proofs.Systems.{after_entries-entries_of, entries_of-append, states_here, states_len}
+use Rattle.base_row.specs.declared.view.Locked.{Locked}
+use Rattle.base_row.specs.declared.view.Opening.{Opening}
+use Rattle.base_row.specs.declared.view.View.{View}
+use Rattle.base_row.specs.Rules.{takes_at}
+use Rattle.base_row.specs.Plays.{Caught, KnowsOwn, Lost, slots_of}
+use Rattle.base_row.specs.Calls.{Absorbs, Appended, AreFresh, Hears, LetsGo, Locks, MayAppend, Misses, Sees, Waits, entry_in, known_of, own_entry, timer_seen}
+
+-- ---- takes
+
+pub locks_caught : (o : Opening) (b : ℕ) (v w : View BaseContent) (h : Locked BaseContent) → Caught o b (v, []) (w, slots_of (Some h)) h → Locks b v w h
+locks_caught o b v w h c = record {
+  at = c.at;
+  number = c.number;
+  rest = ap (λ (m : Me (Option BaseContent) (View BaseContent)). m.0) c.rest;
+  word = c.word;
+  newer = c.newer;
+  apart = c.apart;
+  seen = c.seen;
+  steady = c.steady;
+}
+
+pub misses_lost : (o : Opening) (b : ℕ) (v w : View BaseContent) → Lost o b (v, []) (w, []) → Misses b v w
+misses_lost o b v w l =
+  let is = ap (λ (m : Me (Option BaseContent) (View BaseContent)). m.0) l.rest in record {
+  waits = record { rest = is ∙ (λ i. record v { seen = w.seen; heard = ap (λ (x : View BaseContent). x.heard) (sym is) i; met = w.met }); newer = l.newer; apart = l.apart; seen = l.seen; steady = l.steady };
+  missed = l.missed;
+}
+
+pub locks_or_misses : (o : Opening) (b : ℕ) (v w : View BaseContent) (r : Option (Locked BaseContent)) → MatchOption r (Lost o b (v, []) (w, [])) (λ h. Caught o b (v, []) (w, slots_of (Some h)) h)
+    → MatchOption r (Misses b v w) (λ h. Locks b v w h)
+locks_or_misses o b v w None l = misses_lost o b v w l
+locks_or_misses o b v w (Some h) c = locks_caught o b v w h c
+
+-- a take after looks
+pub locks_after : (b : ℕ) (u v w : View BaseContent) (h : Locked BaseContent) → Waits b u v → Locks b v w h → Locks b u w h
+locks_after b u v w h waits locks = record {
+  at = locks.at;
+  number = locks.number;
+  rest = locks.rest ∙ ap (λ (x : View BaseContent). record x { seen = w.seen; heard = []; held = Some h; takes = x.takes ++ (b, locks.number) ∷ []; met = w.met }) waits.rest;
+  word = locks.word;
+  newer = omega (arith, waits.newer, locks.newer);
+  apart = λ c n. locks.apart c n ∙ waits.apart c n;
+  seen = begins_trans waits.seen locks.seen;
+  steady = λ t e. locks.steady t (ap (λ (x : View BaseContent). x.carry) waits.rest ∙ e) ∙ waits.steady t e;
+}
+
+pub waits_after : (b : ℕ) (u v w : View BaseContent) → Waits b u v → Waits b v w → Waits b u w
+waits_after b u v w first second = record {
+  rest = second.rest ∙ ap (λ (x : View BaseContent). record x { seen = w.seen; heard = w.heard; met = w.met }) first.rest;
+  newer = omega (arith, first.newer, second.newer);
+  apart = λ c n. second.apart c n ∙ first.apart c n;
+  seen = begins_trans first.seen second.seen;
+  steady = λ t e. second.steady t (ap (λ (x : View BaseContent). x.carry) first.rest ∙ e) ∙ first.steady t e;
+}
+
+-- the last pass misses no base that may still be taken
+pub last_misses_none : (o : Opening) (b : ℕ) (v w : View BaseContent) → Misses b v w → w.opening ≡ o → KnowsOwn w → IsLast v.id → b < o.bases → 2 ^ 64 - 2 ≤ slice_index w.met b
+last_misses_none o b v w misses about knows last inside =
+    let is = misses.waits.rest in
+    ⊎_elim
+    (λ t.
+    let mine : takes_at b t.0 w ≡ takes_at b t.0 v = ap (λ (x : View BaseContent). takes_at b t.0 x) is in
+    let last' : IsLast w.id = subst (λ (x : View BaseContent). IsLast x.id) (sym is) last in
+    absurd (omega (arith, mine, t.1, t.2, knows.all_takes last' b t.0 (omega (arith, ap (λ (x : Opening). x.bases) about, inside)) (omega (arith, t.2)) (omega (arith, t.3)))))
+    (λ far. far)
+    misses.missed
+
+-- ---- what is known
+
+pub looks_locks : (b : ℕ) (v w : View BaseContent) (h : Locked BaseContent) → Locks b v w h → LooksOn (known_of v) (known_of w)
+looks_locks b v w h l = record { seen = l.seen; mine = ap (λ (x : View BaseContent). x.mine) l.rest; id = ap (λ (x : View BaseContent). x.id) l.rest; claims = ap (λ (x : View BaseContent). x.claims) l.rest }
+
+pub looks_waits : (b : ℕ) (v w : View BaseContent) → Waits b v w → LooksOn (known_of v) (known_of w)
+looks_waits b v w l = record { seen = l.seen; mine = ap (λ (x : View BaseContent). x.mine) l.rest; id = ap (λ (x : View BaseContent). x.id) l.rest; claims = ap (λ (x : View BaseContent). x.claims) l.rest }
+
+pub looks_sees : (v w : View BaseContent) → Sees v w → LooksOn (known_of v) (known_of w)
+looks_sees v w l = record { seen = l.seen; mine = ap (λ (x : View BaseContent). x.mine) l.rest; id = ap (λ (x : View BaseContent). x.id) l.rest; claims = ap (λ (x : View BaseContent). x.claims) l.rest }
+
+pub looks_freed : (o : Opening) (h : Locked BaseContent) (v w : View BaseContent) → LetsGo o h v w → LooksOn (known_of v) (known_of w)
+looks_freed o h v w l = record { seen = l.seen; mine = ap (λ (x : View BaseContent). x.mine) l.rest; id = ap (λ (x : View BaseContent). x.id) l.rest; claims = ap (λ (x : View BaseContent). x.claims) l.rest }
+
+pub takes_in : (v u w : View BaseContent) → Absorbs v u w → TakesIn (known_of v) (known_of u) (known_of w)
+takes_in v u w a = record {
+  seen = a.seen;
+  heard = a.heard;
+  mine = ap (λ (x : View BaseContent). x.mine) a.rest;
+  id = ap (λ (x : View BaseContent). x.id) a.rest;
+  claims = ap (λ (x : View BaseContent). x.claims) a.rest;
+}
+
+looks_hears : (v u w : View BaseContent) → Hears v u w → LooksOn (known_of v) (known_of w)
+looks_hears v u w l = record { seen = l.seen; mine = ap (λ (x : View BaseContent). x.mine) l.rest; id = ap (λ (x : View BaseContent). x.id) l.rest; claims = ap (λ (x : View BaseContent). x.claims) l.rest }
+
+pub meet_with : (a b new_a new_b : View BaseContent) → Hears b a new_b → Hears a new_b new_a → MeetWith (known_of a) (known_of b) (known_of new_a) (known_of new_b)
+meet_with a b new_a new_b second first = record {
+  first = looks_hears a new_b new_a first;
+  second = looks_hears b a new_b second;
+  first_heard = begins_trans second.seen first.heard;
+  second_heard = second.heard;
+  one = first.heard;
+}
+
+-- ---- an entry
+
+-- a timer's stamp is how many entries of it were seen
+pub stamp_seen : (o : Opening) → AreFresh o.timers → (v : View BaseContent) (t : ℕ) → (timer_seen o v t).stamp ≡ length (entries_of t v.seen)
+stamp_seen o fresh v t =
+    omega (arith, ap (λ (x : Timer). x.stamp) (after_entries-entries_of (first_system o.timers) t v.seen), stamp-after_all (timer_at o.timers t) (entries_of t v.seen), (fresh.each t).stamp)
+
+pub extends_appended : (o : Opening) → AreFresh o.timers → (h : Locked BaseContent) (t : ℕ) (event : Event) (v w : View BaseContent) → Appended o h t event v w → ExtendsBy entries_of (known_of v) (known_of w) t (own_entry o v t event ∷ [])
+extends_appended o fresh h t event v w told =
+    let e = entry_in o v t event in
+    let seen : w.seen ≡ told.before ++ e ∷ [] = ap (λ (x : View BaseContent). x.seen) told.rest in
+    let one : entries_of t (e ∷ []) ≡ own_entry o v t event ∷ [] = ap (λ b. if b then own_entry o v t event ∷ [] else []) (eq-eqb t t refl) in
+    record {
+      seen = subst (λ l. Begins v.seen l) (sym seen) (begins_trans told.seen (begins_more told.before (e ∷ [])));
+      own = ap (entries_of t) seen ∙ (entries_of-append t told.before (e ∷ []) ∙ (ap (λ l. l ++ entries_of t (e ∷ [])) told.own ∙ ap (λ l. entries_of t v.seen ++ l) one));
+      mine = ap (λ (x : View BaseContent). x.mine) told.rest ∙ ap (λ n. v.mine ++ (t, n + 1) ∷ []) (stamp_seen o fresh v t);
+      id = ap (λ (x : View BaseContent). x.id) told.rest;
+    }
+
+after_all-push : (t : Timer) (es : List seq.Entry) (e : seq.Entry) → seq.after_all t (es ++ e ∷ []) ≡ after (seq.after_all t es) e.event
+after_all-push t [] e = refl
+after_all-push t (x ∷ xs) e = after_all-push (after t x.event) xs e
+
+-- the timer after the entry, as the pass has then seen it
+pub seen_after : (o : Opening) → AreFresh o.timers → (h : Locked BaseContent) (t : ℕ) (event : Event) (v w : View BaseContent) → Appended o h t event v w → timer_seen o w t ≡ after (timer_seen o v t) event
+unfolding extends_appended
+seen_after o fresh h t event v w told =
+    let first : Timer = timer_at o.timers t in
+    let e = own_entry o v t event in
+    after_entries-entries_of (first_system o.timers) t w.seen ∙ (ap (seq.after_all first) (extends_appended o fresh h t event v w told).own
+    ∙ (after_all-push first (entries_of t v.seen) e ∙ ap (λ x. after x event) (sym (after_entries-entries_of (first_system o.timers) t v.seen))))
+
+some_same : (h g : Locked BaseContent) → Some h ≡ Some g → h ≡ g
+some_same h g e = cc
+
+-- and as the base then keeps it
+pub state_entered : (o : Opening) → AreFresh o.timers → (h g : Locked BaseContent) (t : ℕ) (event : Event) (v w : View BaseContent) → Appended o h t event v w → w.held ≡ Some g → t < length g.content.states
+    → timer_at g.content.states t ≡ timer_seen o w t
+state_entered o fresh h g t event v w told held room =
+    let now : Locked BaseContent = record { base = h.base; word = h.word; content = changed t (timer_seen o v t) event h.content } in
+    let is : now ≡ g = some_same now g (sym (ap (λ (x : View BaseContent). x.held) told.rest) ∙ held) in
+    let room' : t < length h.content.states = omega (arith, ap (λ (x : Locked BaseContent). length x.content.states) is, states_len t (timer_seen o v t) event h.content, room) in
+    ap (λ (x : Locked BaseContent). timer_at x.content.states t) (sym is) ∙ (states_here t (timer_seen o v t) event h.content room' ∙ sym (seen_after o fresh h t event v w told))
+
+-- a timer of which nothing more was seen is as it was
+pub seen_same : (o : Opening) (v w : View BaseContent) (t : ℕ) → entries_of t w.seen ≡ entries_of t v.seen → timer_seen o w t ≡ timer_seen o v t
+seen_same o v w t own = after_entries-entries_of (first_system o.timers) t w.seen ∙ (ap (seq.after_all (timer_at o.timers t)) own ∙ sym (after_entries-entries_of (first_system o.timers) t v.seen))
+
+-- a timer on the move may be started by who carries it, on the base that it was sent to
+pub may_start : (o : Opening) (v : View BaseContent) (h : Locked BaseContent) (t : ℕ) (mode : Mode) (ns : ℕ) (reading : ClockReading) (asked : ℕ) → t < length o.timers → v.held ≡ Some h → v.carry ≡ Some t → (timer_seen o v t).moving ≡ true → asked ≡ (timer_seen o v t).base → (timer_seen o v t).base ≡ h.base
+    → MayAppend o v h t (Start mode ns reading asked)
+may_start o v h t mode ns reading asked inside held carry moves here there = record {
+  may = record {
+    held = held;
+    allowed = record { within = inside; needs = (inr here, inr moves); reply = refl; base = tt };
+    base = there;
+    carries = λ m. carry;
+  };
+  own = λ m. carry;
+}

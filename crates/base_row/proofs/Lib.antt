@@ -1,0 +1,14 @@
+pub mod Begun
+pub mod Frames
+pub mod Knowing
+pub mod Looking
+pub mod Entering
+pub mod Splitting
+pub mod Events
+pub mod Holding
+pub mod Telling
+pub mod Catching
+pub mod Beginning
+pub mod Stable
+pub mod Calling
+pub mod Placed

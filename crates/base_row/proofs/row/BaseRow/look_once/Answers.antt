@@ -1,0 +1,14 @@
+use Rattle.std.proofs.Common.{ℕ}
+use Rattle.std.specs.Prelude.{MatchOption, Option, Some, None}
+use Rattle.seq_timer.specs.Systems.{BaseContent}
+use Rattle.base_row.specs.declared.view.Locked.{Locked}
+use Rattle.base_row.specs.declared.view.View.{View}
+use Rattle.base_row.specs.Calls.{Locks, Misses, Waits}
+use Rattle.base_row.proofs.row.BaseRow.look_once.Goals as goal
+
+waits : (b : ℕ) (v w : View BaseContent) (r : Option (Locked BaseContent)) → MatchOption r (Misses b v w) (λ h. Locks b v w h) → MatchOption r (Waits b v w) (λ h. Locks b v w h)
+waits b v w None misses = misses.waits
+waits b v w (Some h) locks = locks
+
+pub returns-clause-taken : goal.returns-clause-taken
+returns-clause-taken c = waits c.args.base c.args.pass.now.knows c.try_lock_base.new.pass.knows c.try_lock_base.result c.try_lock_base.ensures.taken

@@ -1,0 +1,9 @@
+-- A pass between a caller's calls.
+use Rattle.std.specs.Prelude.{◌≡◌, None}
+use Rattle.seq_timer.specs.Systems.{BaseContent}
+use Rattle.base_row.specs.declared.view.View.{View}
+
+-- it holds no base and carries no timer
+pub record Rests (v : View BaseContent) : Type 0 where
+  pub held : v.held ≡ None
+  pub carry : v.carry ≡ None

@@ -1,0 +1,119 @@
+-- The rule of the table: one history of all timers, of which each pass has seen a beginning; words and slots are what it says.
+use Rattle.base_row.specs.Places.{lock_at, word_at}
+use Rattle.std.specs.Prelude.{◌≡◌, ℕ, ◌+◌, ◌*◌, if◌then◌else◌, ◌<◌, ◌≤◌, Bool, true, false, ◌==◌, ◌&&◌, List, [], length, map, slice_index, Option, Some, None}
+use mathlib.Core.Option.{some, none}
+use lib.ListN.{get_elem?}
+use Rattle.atomic_table.specs.Table.{State}
+use Rattle.pass_names.specs.declared.PassId.{PassId}
+use Rattle.pass_names.specs.Counts.{one_if, total, count}
+use Rattle.pass_names.specs.Names.{IsPassTree}
+use Rattle.pass_names.specs.Passes.{Begins, within, is_place}
+use Rattle.seq_timer.specs.Steps.{Timer}
+use Rattle.timer_word.specs.Words.{packed, word_of}
+use Rattle.seq_timer.specs.declared.system.TimerEntry.{TimerEntry}
+use Rattle.base_row.specs.declared.view.Claimed.{Claimed}
+use Rattle.base_row.specs.declared.view.Locked.{Locked}
+use Rattle.base_row.specs.declared.view.View.{View}
+use Rattle.seq_timer.specs.Systems.{BaseContent, System, first_system, system_after, AreSystemSteps}
+
+abbrev pub row_pass_id : View BaseContent → PassId
+row_pass_id v = v.id
+
+abbrev pub is_claim : ℕ → ℕ → ℕ → Claimed → Bool
+is_claim t g b c = (c.timer == t) && ((c.generation == g) && (c.base == b))
+
+abbrev pub held_in : ℕ → Option (Locked BaseContent) → ℕ
+held_in b None = 0
+held_in b (Some h) = one_if (h.base == b)
+
+abbrev pub carried_in : ℕ → Option ℕ → ℕ
+carried_in t None = 0
+carried_in t (Some c) = one_if (c == t)
+
+-- how much of each kind a pass has
+abbrev pub places_at : ℕ → ℕ → View BaseContent → ℕ
+places_at t k v = count (is_place t k) v.mine
+
+abbrev pub claims_at : ℕ → ℕ → ℕ → View BaseContent → ℕ
+claims_at t g b v = count (is_claim t g b) v.claims
+
+abbrev pub holds_at : ℕ → View BaseContent → ℕ
+holds_at b v = held_in b v.held
+
+abbrev pub carries_at : ℕ → View BaseContent → ℕ
+carries_at t v = carried_in t v.carry
+
+abbrev pub takes_at : ℕ → ℕ → View BaseContent → ℕ
+takes_at b k v = count (is_place b k) v.takes
+
+-- the timer's function runs in this generation
+abbrev pub is_generation : ℕ → Option ℕ → Bool
+is_generation g None = false
+is_generation g (Some r) = r == g
+
+-- whether the timer's function runs in this generation on this base
+abbrev pub runs : ℕ → ℕ → Timer → Bool
+runs g b t = is_generation g t.running && (t.base == b)
+
+-- A base's lock word, slot, holders and takes. The word is twice the number of takes, less one while the base is held.
+pub record LockState (content : BaseContent) (home : mathlib.Core.Option.Option (mathlib.Core.Option.Option (Option BaseContent))) (word held : ℕ) (takes : ℕ → ℕ) : Type 0 where
+  pub taken : ℕ
+  pub number : word + held ≡ taken + taken
+  pub once : held ≤ 1
+  -- the slot of a free base is at home with its content; that of a held one is out
+  pub free : held ≡ 0 → home ≡ some (some (Some content))
+  pub out : 0 < held → home ≡ some none
+  pub each : (k : ℕ) → takes k ≡ one_if (within k taken)
+
+-- the number in a timer's word
+unfoldable pub number_of : Timer → ℕ
+number_of t = packed (word_of t)
+
+module _ (bases : ℕ) (opened : List Timer) (code : Timer → ℕ) where
+  abbrev pub now : List TimerEntry → System
+  now log = system_after opened log
+
+  -- what a pass holds is what the base has, by the whole history and by what the pass has seen
+  pub record HeldHolds (log : List TimerEntry) (words : List ℕ) (v : View BaseContent) (h : Locked BaseContent) : Type 0 where
+    pub within : h.base < bases
+    pub seen : h.content ≡ (now v.seen).bases h.base
+    pub whole : h.content ≡ (now log).bases h.base
+    pub word : slice_index words (lock_at h.base) ≡ slice_index v.met h.base
+    pub number : h.word ≡ slice_index v.met h.base
+
+  -- what a pass knows is true
+  pub record PassHolds (log : List TimerEntry) (words : List ℕ) (v : View BaseContent) : Type 0 where
+    -- it has seen a beginning of the history
+    pub seen : Begins v.seen log
+    pub heard : Begins v.heard log
+    pub held : (h : Locked BaseContent) → v.held ≡ Some h → HeldHolds log words v h
+    -- it has seen all of the timer that it carries
+    pub carry : (t : ℕ) → v.carry ≡ Some t → (now v.seen).timers t ≡ (now log).timers t
+    -- the lock words that it knows are no newer than they are, and its takes no later; the last take of a held base is its holder's
+    pub wide : length v.met ≤ bases
+    pub full : v.id.live ≡ true → length v.met ≡ bases
+    pub met : (b : ℕ) → b < bases → slice_index v.met b ≤ slice_index words (lock_at b)
+    pub takes : (b k : ℕ) → 0 < takes_at b k v → k + k ≤ slice_index v.met b + holds_at b v
+    -- of a pass that is gone nothing is left
+    pub gone : v.id.live ≡ false → (v.mine ≡ []) × ((v.claims ≡ []) × (v.takes ≡ []))
+
+  -- The rule: what the table holds and what each pass knows is what one history says.
+  pub record RowHolds (log : List TimerEntry) (s : State (Option BaseContent) (View BaseContent)) : Type 0 where
+    pub allowed : AreSystemSteps bases (length opened) (first_system opened) log
+    pub words_len : length s.words ≡ word_at bases (length opened)
+    pub homes_len : length s.homes ≡ bases
+    pub each_base : (b : ℕ) → b < bases → LockState ((now log).bases b) (get_elem? s.homes b) (slice_index s.words (lock_at b)) (total (holds_at b) s.views) (λ k. total (takes_at b k) s.views)
+    -- a timer's word is that of its state after the history
+    pub each_timer : (t : ℕ) → t < length opened → slice_index s.words (word_at bases t) ≡ code ((now log).timers t)
+    pub each_view : (j : ℕ) (v : View BaseContent) → get_elem? s.views j ≡ some v → PassHolds log s.words v
+    pub tree : IsPassTree (map row_pass_id s.views)
+    -- each entry is one pass's own, once
+    pub tally : (t k : ℕ) → t < length opened → total (places_at t k) s.views ≡ one_if (within k ((now log).timers t).stamp)
+    -- a function runs where one pass has the claim, once
+    pub claims : (t g b : ℕ) → t < length opened → total (claims_at t g b) s.views ≡ one_if (runs g b ((now log).timers t))
+    -- a timer is on the move where one pass carries it
+    pub carriers : (t : ℕ) → t < length opened → total (carries_at t) s.views ≡ one_if ((now log).timers t).moving
+
+  -- there is one history of all timers that says it all
+  abbrev pub HasOneHistory : State (Option BaseContent) (View BaseContent) → Type 0
+  HasOneHistory s = (log : List TimerEntry) × RowHolds log s

@@ -1,0 +1,95 @@
+//! What a caller holds: a pass, and a base whose lock it has.
+ghost use Rattle.std.specs.Prelude.{◌≡◌, ◌<◌, length};
+ghost use Rattle.seq_timer.specs.Contents.{first_due};
+ghost use Rattle.seq_timer.specs.Tables.{timer_at};
+ghost use Rattle.base_row.specs.Plays.{IsResting, KnowsOwn, slots_of};
+
+use crate::slot::BaseSlot;
+use crate::steps::BaseSeat;
+use ktime::Reading;
+use seq_timer::TimerState;
+use std::marker::Model;
+
+/// The right to call a row, with what its holder knows. It has no bytes and can't be dropped.
+pub struct Pass {
+    pub(crate) seat: BaseSeat,
+}
+
+impl Model for Pass {
+    ghost use Rattle.base_row.specs.Plays.{IsResting};
+    ghost use Rattle.base_row.specs.Calls.{PassOf};
+
+    ghost Value = { PassOf };
+
+    ghost view = { λ p. record { row = p.seat.table_id; knows = p.seat.me.0 } };
+
+    ghost invariant = { λ p. IsResting p.seat.me };
+}
+
+impl Pass {
+    pub(crate) fn into_seat(self) -> BaseSeat
+        ensures row { result.table_id ≡ self.row }
+        ensures knows { result.me ≡ (self.knows, slots_of self.knows.held) }
+        ensures resting { IsResting result.me }
+    {
+        let Pass { seat } = self;
+        seat
+    }
+
+    /// What a pass knows is true.
+    pub fn known(&self)
+        ensures { KnowsOwn self.now.knows }
+    {
+        let _seat = &self.seat;
+    }
+}
+
+/// A base whose lock a pass holds. It can't be dropped.
+pub struct HeldBase {
+    pub(crate) base: u32,
+    pub(crate) word: u64,
+    pub(crate) slot: BaseSlot,
+}
+
+impl Model for HeldBase {
+    ghost use Rattle.std.specs.Prelude.{◌+◌, ◌<◌, ◌^◌};
+    ghost use Rattle.seq_timer.specs.Systems.{BaseContent};
+    ghost use Rattle.base_row.specs.declared.view.Locked.{Locked};
+
+    ghost Value = { Locked BaseContent };
+
+    ghost view = { λ h. record { base = h.base; word = h.word; content = h.slot } };
+
+    ghost invariant = { λ h. h.word + 1 < 2 ^ 64 };
+}
+
+impl HeldBase {
+    /// The number of the base.
+    pub fn base(&self) -> u32
+        ensures { result ≡ self.now.base }
+    {
+        self.base
+    }
+
+    /// The timer that is to expire next on the base at this reading, with its expiry.
+    pub fn first(&self, reading: Reading) -> Option<(u64, u32)>
+        ensures { result ≡ first_due self.now.content.content reading }
+    {
+        self.slot.first(reading)
+    }
+
+    /// The timer whose function runs on the base, with its generation.
+    pub fn running(&self) -> Option<(u32, u64)>
+        ensures { result ≡ self.now.content.content.running }
+    {
+        self.slot.running()
+    }
+
+    /// A timer as it was when it was last on the base.
+    pub fn state(&self, timer: u32) -> TimerState
+        requires { timer < length self.now.content.states }
+        ensures { result ≡ timer_at self.now.content.states timer }
+    {
+        self.slot.state(timer)
+    }
+}

@@ -1,0 +1,20 @@
+//! Bases behind locks and timers with a word each, under one history of all timers.
+#![tactic(auto)]
+
+mod held;
+mod laws;
+mod parts;
+mod plays;
+mod row;
+mod slot;
+mod slots;
+mod steps;
+#[cfg(test)]
+mod tests;
+mod view;
+
+pub use held::{HeldBase, Pass};
+pub use laws::{an_entry_extends_its_timer, locks_and_loads_only_look, passes_tell_what_they_saw};
+pub use row::BaseRow;
+pub use slot::BaseSlot;
+pub use view::{Claimed, Locked, Opening, View};

@@ -1,0 +1,401 @@
+//! A row of bases behind locks, with timers that have a word each.
+ghost use Rattle.base_row.specs.Places.{lock_at, word_at};
+ghost use Rattle.std.specs.Prelude.{◌≡◌, ◌-◌, ◌^◌, ◌<◌, ◌≤◌, ℕ, length, slice_index, Some, None, [], MatchOption, IfOk, IfSome, IfNone, false};
+ghost use Rattle.pass_names.specs.Names.{AnswersFor, IsLast};
+ghost use Rattle.base_row.specs.Rules.{number_of};
+ghost use Rattle.seq_timer.specs.declared.event.Event.TheVariants as events;
+ghost use Rattle.seq_timer.specs.Steps.{after, greatest_limit, reply_to};
+ghost use Rattle.seq_timer.specs.Tables.{IsNextDue, is_due_on, runs_on};
+ghost use Rattle.timer_word.specs.Words.{word_of};
+ghost use Rattle.seq_timer.specs.Contents.{first_due, running_on};
+ghost use Rattle.seq_timer.specs.Systems.{IsOn};
+ghost use Rattle.base_row.specs.Plays.{KnowsOwn, first_view, Lost, Caught, slots_of, split_view, new_view, Steady};
+ghost use Rattle.base_row.specs.Calls.{AreFresh, Locks, Misses, Waits, opening_of, IsPassOf, LetsGo, Sees, Absorbs, Hears, MayAppend, Appended, timer_seen, base_seen};
+
+use crate::held::{HeldBase, Pass};
+use crate::plays::{About, Child, Known, BaseRule};
+use crate::slot::BaseSlot;
+use crossbeam_utils::Backoff;
+use crate::slots::{attempt, put_back};
+use crate::steps::{absorb, enter, free, look, tell};
+use crate::parts::{empty_slots, lock_index, make_timers, number_of, timer_index, zeros};
+use atomic_table::{Refused, Table};
+use ktime::{ClockId, Reading};
+use seq_timer::{Event, Reply, TimerState};
+use timer_word::TimerWord;
+use std::alloc::{AllocError, Global};
+use std::marker::{Brand, Model};
+use std::snapshot::Snapshot;
+use std::sync::Wait;
+
+/// Bases and timers that many threads share.
+#[derive(Drop)]
+pub struct BaseRow {
+    table: Table<Option<BaseSlot>, Known, About, BaseRule, Global>,
+    bases: usize,
+}
+
+impl Model for BaseRow {
+    ghost use Rattle.std.specs.Prelude.{◌≡◌, ◌+◌, ◌<◌, ◌≤◌, length};
+    ghost use Rattle.base_row.specs.Places.{word_at};
+    ghost use Rattle.base_row.specs.Calls.{RowOf, AreFresh};
+
+    ghost Value = { RowOf };
+
+    ghost view = { λ r. record { id = r.table.shared.table_id; about = record { bases = r.table.shared.key.0; timers = r.table.shared.key.1.value.items } } };
+
+    ghost invariant = { λ r. (r.table.shared.table_id.words ≡ word_at r.table.shared.key.0 (length r.table.shared.key.1.value.items)) × (r.table.shared.table_id.slots ≡ r.table.shared.key.0) × (r.bases ≡ r.table.shared.key.0) × (AreFresh r.table.shared.key.1.value.items) × (0 < r.table.shared.key.0) × (r.table.shared.key.0 ≤ 256) };
+}
+
+impl BaseRow {
+    /// A row of so many bases, and of timers that are declared on these clocks, with the first pass. At `max_events` entries a timer takes
+    /// no start, no forward and no restart any more. It alone takes memory, for all calls.
+    pub fn make(
+        alloc: Global,
+        bases: u32,
+        clocks: &[ClockId],
+        max_events: u64,
+    ) -> Result<(BaseRow, Pass), AllocError>
+        requires few { (0 < bases) × (bases ≤ 256) × (length clocks.now ≤ 65536) }
+        requires limit { (0 < max_events) × (max_events ≤ greatest_limit) }
+        ensures row { IfOk result (λ r. IsPassOf r.0 r.1) }
+        ensures about { IfOk result (λ r. r.0.about ≡ opening_of bases clocks.now max_events) }
+        ensures first { IfOk result (λ r. r.1.knows ≡ first_view (opening_of bases clocks.now max_events)) }
+    {
+        let timers = make_timers(alloc, clocks, max_events)?;
+        BaseRow::with_timers(alloc, bases, timers)
+    }
+
+    fn with_timers(
+        alloc: Global,
+        bases: u32,
+        timers: Vec<TimerState>,
+    ) -> Result<(BaseRow, Pass), AllocError>
+        requires fresh { AreFresh timers.items }
+        requires few { (0 < bases) × (bases ≤ 256) × (length timers.items ≤ 65536) }
+        ensures row { IfOk result (λ r. IsPassOf r.0 r.1) }
+        ensures about { IfOk result (λ r. r.0.about ≡ record { bases = bases; timers = timers.items }) }
+        ensures first { IfOk result (λ r. r.1.knows ≡ first_view (record { bases = bases; timers = timers.items })) }
+    {
+        let about = (u64::from(bases), Snapshot::of(&timers));
+        let words = zeros(alloc, timer_index(bases as usize, timers.len()))?;
+        let slots = empty_slots(alloc, bases, timers.as_slice())?;
+        match Table::new(alloc, words.as_slice(), slots, &about) {
+            Ok((table, seat)) => Ok((
+                BaseRow {
+                    table,
+                    bases: bases as usize,
+                },
+                Pass { seat },
+            )),
+            Err(Refused { slots: _ }) => Err(AllocError),
+        }
+    }
+
+    /// Adds an entry of a timer that is on the held base.
+    pub fn append(
+        &self,
+        pass: &mut Pass,
+        held: &mut HeldBase,
+        timer: u32,
+        event: Event,
+    ) -> Reply
+        requires row { IsPassOf self.now pass.old }
+        requires may { MayAppend self.now.about pass.old.knows held.old timer event }
+        requires on { IsOn held.old.base (timer_seen self.now.about pass.old.knows timer) }
+        ensures row { IsPassOf self.now pass.new }
+        ensures reply { result ≡ reply_to (timer_seen self.now.about pass.old.knows timer) event }
+        ensures held { pass.new.knows.held ≡ Some held.new }
+        ensures adds { Appended self.now.about held.old timer event pass.old.knows pass.new.knows }
+    {
+        pass.known();
+        let state = held.slot.state(timer);
+        self.enter_state(pass, held, timer, state, event)
+    }
+
+    /// Takes a timer off the held base, for another base (`switch_hrtimer_base`). The pass carries it until it arrives there.
+    pub fn out(&self, pass: &mut Pass, held: &mut HeldBase, timer: u32, to: u32) -> TimerState
+        requires row { IsPassOf self.now pass.old }
+        requires may { MayAppend self.now.about pass.old.knows held.old timer (events.Out to) }
+        requires on { IsOn held.old.base (timer_seen self.now.about pass.old.knows timer) }
+        ensures row { IsPassOf self.now pass.new }
+        ensures held { pass.new.knows.held ≡ Some held.new }
+        ensures adds { Appended self.now.about held.old timer (events.Out to) pass.old.knows pass.new.knows }
+        ensures state { result ≡ timer_seen self.now.about pass.new.knows timer }
+        ensures after { result ≡ after (timer_seen self.now.about pass.old.knows timer) (events.Out to) }
+    {
+        self.append(pass, held, timer, Event::Out { base: to });
+        pass.known();
+        self.fresh();
+        held.slot.state(timer)
+    }
+
+    /// Starts a timer that the pass carries, on the held base, to which it was sent. `state` is its state as `out` gave it.
+    pub fn arrive(
+        &self,
+        pass: &mut Pass,
+        held: &mut HeldBase,
+        timer: u32,
+        state: TimerState,
+        event: Event,
+    ) -> Reply
+        requires row { IsPassOf self.now pass.old }
+        requires may { MayAppend self.now.about pass.old.knows held.old timer event }
+        requires carried { pass.old.knows.carry ≡ Some timer }
+        requires state { state ≡ timer_seen self.now.about pass.old.knows timer }
+        ensures row { IsPassOf self.now pass.new }
+        ensures reply { result ≡ reply_to (timer_seen self.now.about pass.old.knows timer) event }
+        ensures held { pass.new.knows.held ≡ Some held.new }
+        ensures adds { Appended self.now.about held.old timer event pass.old.knows pass.new.knows }
+        ensures arrived { pass.new.knows.carry ≡ None }
+    {
+        pass.known();
+        self.enter_state(pass, held, timer, state, event)
+    }
+
+    /// Adds an entry of a timer whose state is known.
+    fn enter_state(
+        &self,
+        pass: &mut Pass,
+        held: &mut HeldBase,
+        timer: u32,
+        state: TimerState,
+        event: Event,
+    ) -> Reply
+        requires row { IsPassOf self.now pass.old }
+        requires may { MayAppend self.now.about pass.old.knows held.old timer event }
+        requires state { state ≡ timer_seen self.now.about pass.old.knows timer }
+        ensures row { IsPassOf self.now pass.new }
+        ensures reply { result ≡ reply_to (timer_seen self.now.about pass.old.knows timer) event }
+        ensures held { pass.new.knows.held ≡ Some held.new }
+        ensures adds { Appended self.now.about held.old timer event pass.old.knows pass.new.knows }
+    {
+        pass.known();
+        self.fresh();
+        let mut now = state;
+        let reply = now.apply(event);
+        held.slot.step(timer, &state, &event, &now);
+        let number = number_of(&now);
+        let word = self.word_index(timer);
+        let cells = &self.table.shared;
+        enter::<Brand>(cells, &mut pass.seat, word, timer, number, &event);
+        reply
+    }
+
+    /// Takes a base's lock if it is free: a load of the lock word and at most one exchange of it. It waits for nobody. It answers `None`
+    /// only where another pass took the base in between, or where it has been taken 2^63 - 1 times and is taken no more.
+    pub fn try_lock_base(&self, pass: &mut Pass, base: u32) -> Option<HeldBase>
+        requires row { IsPassOf self.now pass.old }
+        requires within { base < self.now.about.bases }
+        requires idle { pass.old.knows.held ≡ None }
+        ensures row { IsPassOf self.now pass.new }
+        ensures taken { MatchOption result (Misses base pass.old.knows pass.new.knows) (λ h. Locks base pass.old.knows pass.new.knows h) }
+        // The last pass always gets a base that is still taken.
+        ensures last { IfNone result (IsLast pass.old.knows.id → 2 ^ 64 - 2 ≤ slice_index pass.new.knows.met base) }
+    {
+        let held = self.attempt_base(pass, base);
+        pass.known();
+        held
+    }
+
+    fn attempt_base(&self, pass: &mut Pass, base: u32) -> Option<HeldBase>
+        requires row { IsPassOf self.now pass.old }
+        requires within { base < self.now.about.bases }
+        requires idle { pass.old.knows.held ≡ None }
+        ensures row { IsPassOf self.now pass.new }
+        ensures taken { MatchOption result (Lost self.now.about base (pass.old.knows, []) (pass.new.knows, [])) (λ h. Caught self.now.about base (pass.old.knows, []) (pass.new.knows, slots_of (Some h)) h) }
+    {
+        let word = self.lock_word(base);
+        attempt(&self.table.shared, &mut pass.seat, base, word)
+    }
+
+    /// Waits until a base's lock is free, and takes it. After 2^63 - 1 takes of the base it doesn't return.
+    pub fn lock_base<R: Wait>(&self, rt: &R, pass: &mut Pass, base: u32) -> HeldBase
+        requires row { IsPassOf self.now pass.old }
+        requires within { base < self.now.about.bases }
+        requires idle { pass.old.knows.held ≡ None }
+        ensures row { IsPassOf self.now pass.new }
+        ensures locks { Locks base pass.old.knows pass.new.knows result }
+    {
+        let backoff = Backoff::new();
+        for _ in rt.forever() {
+            if let Some(held) = self.look_once(pass, base) {
+                return held;
+            }
+            backoff.snooze();
+        }
+        unreachable!()
+    }
+
+    fn look_once(&self, pass: &mut Pass, base: u32) -> Option<HeldBase>
+        requires row { IsPassOf self.now pass.old }
+        requires within { base < self.now.about.bases }
+        requires idle { pass.old.knows.held ≡ None }
+        ensures row { IsPassOf self.now pass.new }
+        ensures taken { MatchOption result (Waits base pass.old.knows pass.new.knows) (λ h. Locks base pass.old.knows pass.new.knows h) }
+    {
+        self.try_lock_base(pass, base)
+    }
+
+    /// Lets a base go.
+    pub fn unlock_base(&self, pass: &mut Pass, held: HeldBase)
+        requires row { IsPassOf self.now pass.old }
+        requires within { held.base < self.now.about.bases }
+        requires held { pass.old.knows.held ≡ Some held }
+        ensures row { IsPassOf self.now pass.new }
+        ensures free { LetsGo self.now.about held pass.old.knows pass.new.knows }
+    {
+        let HeldBase { base, word, slot } = held;
+        let cells = &self.table.shared;
+        put_back(cells, &mut pass.seat, base, slot);
+        let index = self.lock_word(base);
+        free(cells, &mut pass.seat, index, word + 1);
+    }
+
+    /// Loads a timer's word. It waits for nobody.
+    pub fn load_word(&self, pass: &mut Pass, timer: u32) -> TimerWord
+        requires row { IsPassOf self.now pass.old }
+        requires within { timer < length self.now.about.timers }
+        ensures row { IsPassOf self.now pass.new }
+        ensures sees { Sees pass.old.knows pass.new.knows }
+        ensures steady { Steady pass.old.knows pass.new.knows }
+        ensures word { result ≡ word_of (timer_seen self.now.about pass.new.knows timer) }
+        ensures placed { result.base < self.now.about.bases }
+    {
+        let number = self.load_number(pass, timer);
+        pass.known();
+        self.fresh();
+        match TimerWord::unpack(number) {
+            Some(word) => word,
+            None => unreachable!(),
+        }
+    }
+
+    fn load_number(&self, pass: &mut Pass, timer: u32) -> u64
+        requires row { IsPassOf self.now pass.old }
+        requires within { timer < length self.now.about.timers }
+        ensures row { IsPassOf self.now pass.new }
+        ensures sees { Sees pass.old.knows pass.new.knows }
+        ensures steady { Steady pass.old.knows pass.new.knows }
+        ensures word { result ≡ number_of (timer_seen self.now.about pass.new.knows timer) }
+    {
+        let word = self.word_index(timer);
+        look(&self.table.shared, &mut pass.seat, word)
+    }
+
+    /// The timer whose function runs on a held base, with its generation.
+    pub fn running(&self, pass: &Pass, held: &HeldBase) -> Option<(u32, u64)>
+        requires row { IsPassOf self.now pass.now }
+        requires held { pass.now.knows.held ≡ Some held.now }
+        ensures running { result ≡ held.now.content.content.running }
+        ensures busy { IfSome result (λ m. running_on held.now.base (timer_seen self.now.about pass.now.knows m.0) ≡ Some m.1) }
+        ensures idle { IfNone result ((t : ℕ) → runs_on held.now.base (timer_seen self.now.about pass.now.knows t) ≡ false) }
+    {
+        pass.known();
+        self.fresh();
+        held.slot.running()
+    }
+
+    /// The timer that is the next to expire on a held base at this reading, with its expiry.
+    pub fn first(&self, pass: &Pass, held: &HeldBase, reading: Reading) -> Option<(u64, u32)>
+        requires row { IsPassOf self.now pass.now }
+        requires held { pass.now.knows.held ≡ Some held.now }
+        ensures first { result ≡ first_due held.now.content.content reading }
+        ensures next { IfSome result (λ p. IsNextDue (timer_seen self.now.about pass.now.knows) held.now.base reading p.1) }
+        ensures seen { result ≡ first_due (base_seen self.now.about pass.now.knows held.now.base).content reading }
+        ensures expires { IfSome result (λ p. p.0 ≡ (timer_seen self.now.about pass.now.knows p.1).expires) }
+        ensures within { IfSome result (λ p. p.1 < length self.now.about.timers) }
+        ensures none { IfNone result ((t : ℕ) → is_due_on held.now.base reading (timer_seen self.now.about pass.now.knows t) ≡ false) }
+    {
+        pass.known();
+        self.fresh();
+        held.slot.first(reading)
+    }
+
+    /// Makes one more pass, which has seen and met as much.
+    pub fn split(&self, pass: &mut Pass) -> Pass
+        requires row { IsPassOf self.now pass.old }
+        ensures row { IsPassOf self.now pass.new × IsPassOf self.now result }
+        ensures splitter { pass.new.knows ≡ split_view pass.old.knows }
+        ensures new { result.knows ≡ new_view pass.old.knows }
+    {
+        Pass {
+            seat: self.table.shared.split_seat::<Child>(&mut pass.seat),
+        }
+    }
+
+    /// A pass takes in another, which was split off it, or off one that it took in.
+    pub fn retire(&self, main: &mut Pass, other: Pass)
+        requires row { IsPassOf self.now main.old × IsPassOf self.now other }
+        requires idle { (main.old.knows.held ≡ None) × (other.knows.held ≡ None) × (other.knows.carry ≡ None) }
+        requires answers { AnswersFor main.old.knows.id other.knows.id }
+        ensures row { IsPassOf self.now main.new }
+        ensures retires { Absorbs main.old.knows other.knows main.new.knows }
+    {
+        absorb(&self.table.shared, &mut main.seat, other.into_seat());
+    }
+
+    /// Two passes tell each other what they have seen and met.
+    pub fn meet(&self, a: &mut Pass, b: &mut Pass)
+        requires row { IsPassOf self.now a.old × IsPassOf self.now b.old }
+        ensures row { IsPassOf self.now a.new × IsPassOf self.now b.new }
+        ensures second { Hears b.old.knows a.old.knows b.new.knows }
+        ensures first { Hears a.old.knows b.new.knows a.new.knows }
+    {
+        let cells = &self.table.shared;
+        tell(cells, &mut a.seat, &mut b.seat);
+        tell(cells, &mut b.seat, &mut a.seat);
+    }
+
+    /// Ends a row with its last pass, which has no claims. The pass has made all entries and takes.
+    pub fn close(self, pass: Pass)
+        requires row { IsPassOf self pass }
+        requires last { IsLast pass.knows.id }
+        requires idle { pass.knows.held ≡ None }
+        requires unclaimed { pass.knows.claims ≡ [] }
+        ensures known { KnowsOwn pass.knows }
+    {
+        let seat = pass.into_seat();
+        drop(seat);
+        drop(self);
+    }
+
+    /// The state that a held base keeps of a timer: the timer's, where it says that the timer is on the base.
+    pub fn state(&self, pass: &Pass, held: &HeldBase, timer: u32) -> TimerState
+        requires row { IsPassOf self.now pass.now }
+        requires held { pass.now.knows.held ≡ Some held.now }
+        requires within { timer < length self.now.about.timers }
+        ensures shown { IsOn held.now.base result → timer_seen self.now.about pass.now.knows timer ≡ result }
+        ensures kept { IsOn held.now.base (timer_seen self.now.about pass.now.knows timer) → result ≡ timer_seen self.now.about pass.now.knows timer }
+    {
+        pass.known();
+        held.slot.state(timer)
+    }
+
+    /// Which word a base's lock has.
+    fn lock_word(&self, base: u32) -> usize
+        requires { base < self.now.about.bases }
+        ensures { result ≡ lock_at base }
+    {
+        prove!((base as usize) < self.table.slot_count());
+        lock_index(base as usize)
+    }
+
+    /// The row was made of timers to which nothing had happened, and of 1 to 256 bases.
+    pub fn fresh(&self)
+        ensures fresh { AreFresh self.now.about.timers }
+        ensures some { 0 < self.now.about.bases }
+        ensures few { self.now.about.bases ≤ 256 }
+    {
+        let _table = &self.table;
+    }
+
+    /// Which word a timer has.
+    fn word_index(&self, timer: u32) -> usize
+        requires { timer < length self.now.about.timers }
+        ensures { result ≡ word_at self.now.about.bases timer }
+    {
+        prove!((timer as usize) < self.table.word_count());
+        timer_index(self.bases, timer as usize)
+    }
+}

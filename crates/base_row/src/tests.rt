@@ -1,0 +1,94 @@
+//! Rows as callers use them: by one pass, by two, and by two threads.
+ghost use Rattle.std.specs.Prelude.{◌≡◌, IfOk, [], length};
+ghost use Rattle.pass_names.specs.Names.{IsLast};
+ghost use Rattle.base_row.specs.Calls.{IsPassOf};
+ghost use Rattle.base_row.specs.Rests.{Rests};
+
+mod callers;
+mod threads;
+
+use crate::{BaseRow, Pass};
+use callers::{cancel, move_to, start};
+use ktime::{ClockId, Reading};
+use std::alloc::{AllocError, Global};
+use std::test::Fail;
+use threads::turns_of_two;
+use timer_word::TimerWord;
+
+/// A reading in which all clocks show 1000.
+fn reading() -> Reading {
+    Reading {
+        stamp: 0,
+        mono: 1000,
+        real: 1000,
+        boot: 1000,
+        changes: 0,
+    }
+}
+
+/// Two bases and three timers, one on each clock.
+fn three_timers(alloc: Global) -> Result<(BaseRow, Pass), AllocError>
+    ensures row { IfOk result (λ r. IsPassOf r.0 r.1 × Rests r.1.knows × IsLast r.1.knows.id × (r.1.knows.claims ≡ [])) }
+    ensures size { IfOk result (λ r. (length r.0.about.timers ≡ 3) × (r.0.about.bases ≡ 2)) }
+{
+    let clocks = [ClockId::Monotonic, ClockId::Realtime, ClockId::Boottime];
+    BaseRow::make(alloc, 2, &clocks, 100000)
+}
+
+fn word(stamp: u64, base: u32, enqueued: bool) -> TimerWord {
+    TimerWord {
+        stamp,
+        base,
+        enqueued,
+        running: false,
+        moving: false,
+    }
+}
+
+#[test]
+fn a_timer_starts_moves_and_is_cancelled(rt: HostRuntime) -> Result<(), Fail> {
+    let (row, mut pass) = three_timers(rt.alloc())?;
+    assert!(rt; start(&rt, &row, &mut pass, 0, 1, 500, reading()));
+    assert_eq!(rt; row.load_word(&mut pass, 1), word(1, 0, true));
+    assert!(rt; move_to(&rt, &row, &mut pass, 0, 1, 1, 700, reading()));
+    assert_eq!(rt; row.load_word(&mut pass, 1), word(3, 1, true));
+    assert!(rt; cancel(&rt, &row, &mut pass, 1, 1));
+    assert_eq!(rt; row.load_word(&mut pass, 1), word(4, 1, false));
+    assert!(rt; !cancel(&rt, &row, &mut pass, 1, 1));
+    row.close(pass);
+    Ok(())
+}
+
+#[test]
+fn a_base_held_by_one_pass_is_missed_by_another(rt: HostRuntime) -> Result<(), Fail> {
+    let (row, mut pass) = three_timers(rt.alloc())?;
+    let mut other = row.split(&mut pass);
+    let held = row.lock_base(&rt, &mut pass, 0);
+    match row.try_lock_base(&mut other, 0) {
+        Some(taken) => {
+            row.unlock_base(&mut other, taken);
+            assert!(rt; false);
+        }
+        None => {}
+    }
+    match row.try_lock_base(&mut other, 1) {
+        Some(free) => row.unlock_base(&mut other, free),
+        None => assert!(rt; false),
+    }
+    row.unlock_base(&mut pass, held);
+    row.meet(&mut pass, &mut other);
+    row.retire(&mut pass, other);
+    row.close(pass);
+    Ok(())
+}
+
+#[test]
+fn two_threads_lose_no_entry(rt: HostRuntime) -> Result<(), Fail> {
+    let (row, mut pass) = three_timers(rt.alloc())?;
+    let made = turns_of_two(&rt, &row, &mut pass, reading());
+    let stamps = row.load_word(&mut pass, 0).stamp.wrapping_add(row.load_word(&mut pass, 1).stamp);
+    let stamps = stamps.wrapping_add(row.load_word(&mut pass, 2).stamp);
+    assert_eq!(rt; stamps, made);
+    row.close(pass);
+    Ok(())
+}

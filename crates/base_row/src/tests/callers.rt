@@ -1,0 +1,127 @@
+//! Callers of a row. Each takes one base or two, adds its entries there, and lets them go.
+ghost use Rattle.std.specs.Prelude.{◌≡◌, ◌<◌, length, MatchBool, Some, None, true};
+ghost use Rattle.seq_timer.specs.Systems.{IsOn};
+ghost use Rattle.base_row.specs.Calls.{IsPassOf, timer_seen};
+ghost use Rattle.base_row.specs.Rests.{Rests};
+
+use crate::{BaseRow, HeldBase, Pass};
+use ktime::{Mode, Reading};
+use seq_timer::{Event, TimerState};
+use std::sync::Wait;
+
+/// Starts a timer that is on this base.
+pub fn start<R: Wait>(
+    rt: &R,
+    row: &BaseRow,
+    pass: &mut Pass,
+    base: u32,
+    timer: u32,
+    ns: u64,
+    reading: Reading,
+) -> bool
+    requires row { IsPassOf row.now pass.old × Rests pass.old.knows }
+    requires within { (timer < length row.now.about.timers) × (base < row.now.about.bases) }
+    ensures row { IsPassOf row.now pass.new × Rests pass.new.knows }
+    ensures same { (pass.new.knows.claims ≡ pass.old.knows.claims) × (pass.new.knows.id ≡ pass.old.knows.id) }
+{
+    let mut held = row.lock_base(rt, pass, base);
+    let state = row.state(pass, &held, timer);
+    let may = is_on(&state, base) && state.stamp() < state.limit();
+    if may {
+        let event = Event::Start {
+            mode: Mode::Abs,
+            ns,
+            reading,
+            asked: base,
+        };
+        row.append(pass, &mut held, timer, event);
+    }
+    row.unlock_base(pass, held);
+    may
+}
+
+/// Whether a timer is on this base.
+fn is_on(state: &TimerState, base: u32) -> bool
+    ensures { MatchBool result (IsOn base state.now) (Unit) }
+{
+    state.base() == base && !state.is_moving()
+}
+
+/// Cancels a timer that is armed on this base.
+pub fn cancel<R: Wait>(rt: &R, row: &BaseRow, pass: &mut Pass, base: u32, timer: u32) -> bool
+    requires row { IsPassOf row.now pass.old × Rests pass.old.knows }
+    requires within { (timer < length row.now.about.timers) × (base < row.now.about.bases) }
+    ensures row { IsPassOf row.now pass.new × Rests pass.new.knows }
+    ensures same { (pass.new.knows.claims ≡ pass.old.knows.claims) × (pass.new.knows.id ≡ pass.old.knows.id) }
+{
+    let mut held = row.lock_base(rt, pass, base);
+    let state = row.state(pass, &held, timer);
+    let may = is_on(&state, base) && state.armed().is_some() && state.running().is_none();
+    if may {
+        row.append(pass, &mut held, timer, Event::Cancel);
+    }
+    row.unlock_base(pass, held);
+    may
+}
+
+/// Moves a timer that is on one base to another, and starts it there.
+pub fn move_to<R: Wait>(
+    rt: &R,
+    row: &BaseRow,
+    pass: &mut Pass,
+    base: u32,
+    timer: u32,
+    to: u32,
+    ns: u64,
+    reading: Reading,
+) -> bool
+    requires row { IsPassOf row.now pass.old × Rests pass.old.knows }
+    requires within { (timer < length row.now.about.timers) × (base < row.now.about.bases) × (to < row.now.about.bases) }
+    ensures row { IsPassOf row.now pass.new × Rests pass.new.knows }
+    ensures same { (pass.new.knows.claims ≡ pass.old.knows.claims) × (pass.new.knows.id ≡ pass.old.knows.id) }
+{
+    let mut held = row.lock_base(rt, pass, base);
+    let state = row.state(pass, &held, timer);
+    let may = is_on(&state, base)
+        && state.running().is_none()
+        && state.stamp() < state.limit()
+        && to != base;
+    if !may {
+        row.unlock_base(pass, held);
+        return false;
+    }
+    let moving = row.out(pass, &mut held, timer, to);
+    row.unlock_base(pass, held);
+    bring(rt, row, pass, timer, moving, ns, reading);
+    true
+}
+
+/// Starts a timer that the pass carries, where it was sent.
+fn bring<R: Wait>(
+    rt: &R,
+    row: &BaseRow,
+    pass: &mut Pass,
+    timer: u32,
+    state: TimerState,
+    ns: u64,
+    reading: Reading,
+)
+    requires row { IsPassOf row.now pass.old }
+    requires within { (timer < length row.now.about.timers) × (state.base < row.now.about.bases) }
+    requires carries { (pass.old.knows.held ≡ None) × (pass.old.knows.carry ≡ Some timer) }
+    requires state { state ≡ timer_seen row.now.about pass.old.knows timer }
+    requires moving { state.moving ≡ true }
+    ensures row { IsPassOf row.now pass.new × Rests pass.new.knows }
+    ensures same { (pass.new.knows.claims ≡ pass.old.knows.claims) × (pass.new.knows.id ≡ pass.old.knows.id) }
+{
+    let asked = state.base();
+    let mut held = row.lock_base(rt, pass, asked);
+    let event = Event::Start {
+        mode: Mode::Abs,
+        ns,
+        reading,
+        asked,
+    };
+    row.arrive(pass, &mut held, timer, state, event);
+    row.unlock_base(pass, held);
+}

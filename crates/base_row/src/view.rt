@@ -1,0 +1,43 @@
+use pass_names::PassId;
+use seq_timer::{TimerEntry, TimerState};
+use std::collections::LinkedList;
+
+/// A claim that a pass has: a timer, the generation that runs, and the base. No value of it is made.
+pub struct Claimed {
+    pub timer: u64,
+    pub generation: u64,
+    pub base: u64,
+}
+
+/// A base whose lock is held, with what it has. No value of it is made.
+pub struct Locked<B> {
+    pub base: u64,
+    /// The base's lock word while it is held.
+    pub word: u64,
+    pub content: B,
+}
+
+/// What was made: so many bases, and these timers.
+pub struct Opening {
+    pub bases: u64,
+    pub timers: LinkedList<TimerState>,
+}
+
+/// What a pass knows. No value of it is made.
+pub struct View<B> {
+    pub id: PassId,
+    pub opening: Opening,
+    /// The beginning of the history of all timers that was seen.
+    pub seen: LinkedList<TimerEntry>,
+    /// What a pass that was taken in had seen, until this pass looks again.
+    pub heard: LinkedList<TimerEntry>,
+    /// The places of the pass's own entries: a timer, and the entry's number among the timer's.
+    pub mine: LinkedList<(u64, u64)>,
+    pub claims: LinkedList<Claimed>,
+    pub held: Option<Locked<B>>,
+    pub carry: Option<u64>,
+    /// The pass's own takes: a base, and the take's number.
+    pub takes: LinkedList<(u64, u64)>,
+    /// For each base the newest lock word that the pass knows.
+    pub met: LinkedList<u64>,
+}
