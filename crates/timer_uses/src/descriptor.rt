@@ -1,8 +1,10 @@
 //! A timer descriptor over its high-resolution timer, and a read of its expiries.
-ghost use Rattle.std.specs.Prelude.{◌≡◌, ◌<◌, IfSome, IsTrue, None, length};
+ghost use Rattle.std.specs.Prelude.{◌≡◌, ◌<◌, ◌≤◌, ◌↔◌, ◌⊎◌, IfNone, IfSome, IsTrue, Some, None, length};
 ghost use Rattle.timer_setting.specs.Phases.{is_expiry_of};
 ghost use Rattle.timer_core.specs.Kept.{IsSameSize};
-ghost use Rattle.timer_fd.specs.Steps.{fd_settime_refusal, total_in};
+ghost use Rattle.timer_fd.specs.declared.calls.Reply.{Reply};
+ghost use Rattle.timer_fd.specs.declared.calls.Reply.TheVariants as replies;
+ghost use Rattle.timer_fd.specs.Steps.{fd_read_answer, fd_settime_refusal, total_in};
 
 use crate::starts::make_start;
 use ktime::{Reading, TimeSpec};
@@ -21,6 +23,7 @@ pub fn set_descriptor<Q: Queue>(
 ) -> SettimeAnswer
     requires timer { id < length core.old.timers }
     requires base { descriptor.old.base < length core.old.bases }
+    ensures refused { (reply : Reply) → fd_settime_refusal descriptor.old 0 value interval ≡ Some reply → (replies.Settime result ≡ reply) × (descriptor.new ≡ descriptor.old) }
     ensures count { fd_settime_refusal descriptor.old 0 value interval ≡ None → descriptor.new.count ≡ 0 }
     ensures kept { (descriptor.new.base ≡ descriptor.old.base) × (descriptor.new.limit ≡ descriptor.old.limit) }
     ensures sizes { IsSameSize core.old core.new }
@@ -32,7 +35,7 @@ pub fn set_descriptor<Q: Queue>(
 
 /// The timer's function has run for this generation. Whether that is one more expiry to be read.
 pub fn descriptor_expired(descriptor: &mut FdState, generation: u64, reading: Reading) -> bool
-    ensures expiry { IsTrue result → IsTrue (is_expiry_of descriptor.old.phase generation reading) }
+    ensures expired { IsTrue result ↔ ((descriptor.old.stamp < descriptor.old.limit) × IsTrue (is_expiry_of descriptor.old.phase generation reading)) }
     ensures count { IsTrue result → 0 < descriptor.new.count }
     ensures kept { (descriptor.new.base ≡ descriptor.old.base) × (descriptor.new.limit ≡ descriptor.old.limit) }
 {
@@ -51,6 +54,7 @@ pub fn read_count<Q: Queue>(
 ) -> Option<u64>
     requires timer { id < length core.old.timers }
     requires base { descriptor.old.base < length core.old.bases }
+    ensures none { IfNone result ((descriptor.old.limit ≤ descriptor.old.stamp) ⊎ (fd_read_answer descriptor.old reading ≡ ReadAnswer.Again) ⊎ (fd_read_answer descriptor.old reading ≡ ReadAnswer.Canceled)) }
     ensures total { IfSome result (λ total. (total ≡ total_in descriptor.old reading) × (0 < total)) }
     ensures read { IfSome result (λ total. descriptor.new.count ≡ 0) }
     ensures sizes { IsSameSize core.old core.new }

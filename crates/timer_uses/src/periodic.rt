@@ -1,8 +1,9 @@
 //! A timer that expires at every interval.
-ghost use Rattle.std.specs.Prelude.{◌≡◌, ◌<◌, IfSome, length};
+ghost use Rattle.std.specs.Prelude.{◌≡◌, ◌<◌, ℕ, IfSome, IsNone, Some, None, length};
 ghost use Rattle.ktime.specs.Times.{next_after, passed};
 ghost use Rattle.seq_timer.specs.Steps.{now_of};
-ghost use Rattle.timer_core.specs.Kept.{IsSameSize, timer_in};
+ghost use Rattle.seq_timer.specs.Contents.{first_due};
+ghost use Rattle.timer_core.specs.Kept.{IsSameSize, IsSpent, content_at, timer_in};
 
 use ktime::Reading;
 use timer_core::{ClaimAnswer, Core, ForwardAnswer};
@@ -24,12 +25,14 @@ pub fn expire_periodic<Q: Queue>(
     interval: u64,
 ) -> Option<Tick>
     requires base { base < length core.old.bases }
+    ensures full { (expires id : ℕ) → (content_at core.old base).running ≡ None → first_due (content_at core.old base) reading ≡ Some (expires, id) → IsNone result → IsSpent (timer_in core.new id) }
     ensures count { IfSome result (λ tick. tick.count ≡ passed (timer_in core.old tick.timer).expires (now_of (timer_in core.old tick.timer) reading) interval) }
     ensures expires { IfSome result (λ tick. (timer_in core.new tick.timer).expires ≡ next_after (timer_in core.old tick.timer).expires (now_of (timer_in core.old tick.timer) reading) interval) }
     ensures sizes { IsSameSize core.old core.new }
 {
-    let ClaimAnswer::Claimed { timer, .. } = core.claim_next(base, reading) else {
-        return None;
+    let timer = match core.claim_next(base, reading) {
+        ClaimAnswer::Claimed { timer, .. } => timer,
+        ClaimAnswer::NoneDue | ClaimAnswer::BaseBusy { .. } => return None,
     };
     let forwarded = core.forward(timer, reading, interval);
     core.finish(timer, true);

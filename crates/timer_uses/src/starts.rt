@@ -1,7 +1,7 @@
 //! The start that an object wants, made on its high-resolution timer.
 ghost use Rattle.std.specs.Prelude.{◌≡◌, ◌<◌, ℕ, Some, length};
 ghost use Rattle.timer_setting.specs.Phases.{IsOutcomeOf};
-ghost use Rattle.timer_core.specs.Kept.{IsSameSize, timer_in};
+ghost use Rattle.timer_core.specs.Kept.{IsSameSize, IsSpent, timer_in};
 
 use ktime::Reading;
 use timer_core::{Core, StartAnswer};
@@ -20,6 +20,7 @@ pub fn make_start<Q: Queue>(
     requires base { base < length core.old.bases }
     ensures outcome { IsOutcomeOf result wanted }
     ensures armed { (generation : ℕ) → result ≡ Arm.Armed generation → (timer_in core.new id).armed ≡ Some generation }
+    ensures unarmed { (stamp : ℕ) → result ≡ Arm.Unarmed stamp → IsSpent (timer_in core.old id) × (core.new ≡ core.old) }
     ensures sizes { IsSameSize core.old core.new }
 {
     let Some(wanted) = wanted else {
