@@ -1,6 +1,6 @@
 -- The clock after one write and after a list of writes, and when a write is refused.
 use Rattle.std.specs.Prelude.{◌≡◌, ℕ, ◌+◌, ◌^◌, ◌≤◌, ◌<◌, ◌↔◌, max, nat_eq, if◌then◌else◌, List, [], ◌∷◌, Result, Err, take}
-use Rattle.ktime.specs.Readings.{ClockReading, IsTimely, latest}
+use Rattle.ktime.specs.Readings.{ClockReading, latest}
 use Rattle.clock_model.specs.declared.write.Write.{Write}
 use Rattle.clock_model.specs.declared.write.Write.TheVariants as writes
 use Rattle.clock_model.specs.declared.write.ClockFault.{ClockFault}
