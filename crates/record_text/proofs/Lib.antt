@@ -1,3 +1,5 @@
+pub mod Lists
+pub mod Cutting
 pub mod EntriesAndAnswers
 pub mod Lines
 pub mod RecordTexts

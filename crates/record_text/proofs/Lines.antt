@@ -7,8 +7,8 @@ use Rattle.record_text.specs.Numbers.{AreMachineNumbers, numbers_of}
 use Rattle.record_text.proofs.Words.{are_words, parts, words_again, line_again}
 use Rattle.std.proofs.lemmas.Bool.{and_parts}
 use Rattle.record_text.specs.declared.record.Label.{Label}
-use Rattle.record_text.proofs.Spelling.{value_again, word_decimal, nth, number, after, is_key, write_of, write_again, word_write}
-use Rattle.record_text.proofs.EntriesAndAnswers.{entry_of, entry_again, words_entry, reply_of, reply_again, words_reply, answer_of, answer_again, words_answer, step_of, step_again, words_step}
+use Rattle.record_text.proofs.Spelling.{value_again, word_decimal, nth, number, after, is_key, write_of, write_read}
+use Rattle.record_text.proofs.EntriesAndAnswers.{IsReadBack, entry_of, entry_read, reply_of, reply_read, answer_of, answer_read, step_of, step_read}
 
 abbrev label_at : ℕ → List (List ℕ) → Label
 label_at n ws = record { lane = number n ws; call = number (n + 1) ws }
@@ -16,7 +16,16 @@ label_at n ws = record { lane = number n ws; call = number (n + 1) ws }
 line_of : List (List ℕ) → RecordLine
 line_of ws =
     if is_key ws (codes "record") then Version
-    else if is_key ws (codes "clock") then OfClock (number 1 ws) (record { label = label_at 2 ws; write = write_of (nth 4 ws) (number 5 ws); mono = number 6 ws; real = number 7 ws; boot = number 8 ws; changes = number 9 ws })
+    else if is_key ws (codes "clock") then OfClock (number 1 ws)
+    (record {
+      label = label_at 2 ws;
+      write = write_of (nth 4 ws) (number 5 ws);
+      mono = number 6 ws;
+      real = number 7 ws;
+      boot =
+          number 8 ws;
+      changes = number 9 ws;
+    })
     else if is_key ws (codes "timer") then OfTimer (number 1 ws) (number 2 ws) (label_at 3 ws) (entry_of (after 5 ws))
     else if is_key ws (codes "look") then OfLook (number 1 ws) (number 2 ws) (record { label = label_at 3 ws; reply = reply_of (after 5 ws) })
     else if is_key ws (codes "object") then OfObject (number 1 ws) (number 2 ws) (label_at 3 ws) (step_of (after 5 ws))
@@ -24,36 +33,36 @@ line_of ws =
     else if is_key ws (codes "call") then OfCall (number 1 ws) (number 2 ws) (answer_of (after 3 ws))
     else End
 
-line_from_words : (l : RecordLine) → AreMachineNumbers (numbers_of l) → line_of (line_words l) ≡ l
+words_read : (l : RecordLine) → AreMachineNumbers (numbers_of l) → IsReadBack line_of l (line_words l)
 unfolding line_of
-line_from_words Version h = refl
-line_from_words (OfClock n w) h =
-    rw (value_again n h.0, value_again w.label.lane h.1.0, value_again w.label.call h.1.1.0, value_again (write_ns w.write) h.1.1.1.0, write_again w.write, value_again w.mono h.1.1.1.1.0, value_again w.real h.1.1.1.1.1.0, value_again w.boot h.1.1.1.1.1.1.0, value_again w.changes h.1.1.1.1.1.1.1.0) refl
-line_from_words (OfTimer timer n label entry) h =
-    rw (value_again timer h.0, value_again n h.1.0, value_again label.lane h.1.1.0, value_again label.call h.1.1.1.0, entry_again entry h.1.1.1.1) refl
-line_from_words (OfLook timer n look) h =
-    rw (value_again timer h.0, value_again n h.1.0, value_again look.label.lane h.1.1.0, value_again look.label.call h.1.1.1.0, reply_again look.reply h.1.1.1.1) refl
-line_from_words (OfObject object n label entry) h =
-    rw (value_again object h.0, value_again n h.1.0, value_again label.lane h.1.1.0, value_again label.call h.1.1.1.0, step_again entry h.1.1.1.1) refl
-line_from_words (OfSkip object n skip) h =
-    rw (value_again object h.0, value_again n h.1.0, value_again skip.label.lane h.1.1.0, value_again skip.label.call h.1.1.1.0, value_again skip.generation h.1.1.1.1.0) refl
-line_from_words (OfCall lane call answer) h = rw (value_again lane h.0, value_again call h.1.0, answer_again answer h.1.1) refl
-line_from_words End h = refl
-
-words_are_words : (l : RecordLine) → AreMachineNumbers (numbers_of l) → are_words (line_words l) ≡ true
-words_are_words Version h = refl
-words_are_words (OfClock n w) h =
-    rw (word_decimal n h.0, word_decimal w.label.lane h.1.0, word_decimal w.label.call h.1.1.0, word_decimal (write_ns w.write) h.1.1.1.0, word_write w.write, word_decimal w.mono h.1.1.1.1.0, word_decimal w.real h.1.1.1.1.1.0, word_decimal w.boot h.1.1.1.1.1.1.0, word_decimal w.changes h.1.1.1.1.1.1.1.0) refl
-words_are_words (OfTimer timer n label entry) h =
-    rw (word_decimal timer h.0, word_decimal n h.1.0, word_decimal label.lane h.1.1.0, word_decimal label.call h.1.1.1.0) (words_entry entry h.1.1.1.1)
-words_are_words (OfLook timer n look) h =
-    rw (word_decimal timer h.0, word_decimal n h.1.0, word_decimal look.label.lane h.1.1.0, word_decimal look.label.call h.1.1.1.0) (words_reply look.reply h.1.1.1.1)
-words_are_words (OfObject object n label entry) h =
-    rw (word_decimal object h.0, word_decimal n h.1.0, word_decimal label.lane h.1.1.0, word_decimal label.call h.1.1.1.0) (words_step entry h.1.1.1.1)
-words_are_words (OfSkip object n skip) h =
-    rw (word_decimal object h.0, word_decimal n h.1.0, word_decimal skip.label.lane h.1.1.0, word_decimal skip.label.call h.1.1.1.0, word_decimal skip.generation h.1.1.1.1.0) refl
-words_are_words (OfCall lane call answer) h = rw (word_decimal lane h.0, word_decimal call h.1.0) (words_answer answer h.1.1)
-words_are_words End h = refl
+words_read Version h = (refl, refl)
+words_read (OfClock n w) h =
+    rw (value_again n h.0, value_again w.label.lane h.1.0, value_again w.label.call h.1.1.0, value_again (write_ns w.write) h.1.1.1.0)
+    (rw ((write_read w.write).0, value_again w.mono h.1.1.1.1.0, value_again w.real h.1.1.1.1.1.0, value_again w.boot h.1.1.1.1.1.1.0)
+    (rw (value_again w.changes h.1.1.1.1.1.1.1.0, word_decimal n h.0, word_decimal w.label.lane h.1.0)
+    (rw (word_decimal w.label.call h.1.1.0, word_decimal (write_ns w.write) h.1.1.1.0, (write_read w.write).1)
+    (rw (word_decimal w.mono h.1.1.1.1.0, word_decimal w.real h.1.1.1.1.1.0, word_decimal w.boot h.1.1.1.1.1.1.0)
+    (rw (word_decimal w.changes h.1.1.1.1.1.1.1.0) (refl, refl))))))
+words_read (OfTimer timer n label entry) h =
+    rw (value_again timer h.0, value_again n h.1.0, value_again label.lane h.1.1.0, value_again label.call h.1.1.1.0)
+    (rw ((entry_read entry h.1.1.1.1).0, word_decimal timer h.0, word_decimal n h.1.0, word_decimal label.lane h.1.1.0)
+    (rw (word_decimal label.call h.1.1.1.0) (refl, (entry_read entry h.1.1.1.1).1)))
+words_read (OfLook timer n look) h =
+    rw (value_again timer h.0, value_again n h.1.0, value_again look.label.lane h.1.1.0, value_again look.label.call h.1.1.1.0)
+    (rw ((reply_read look.reply h.1.1.1.1).0, word_decimal timer h.0, word_decimal n h.1.0, word_decimal look.label.lane h.1.1.0)
+    (rw (word_decimal look.label.call h.1.1.1.0) (refl, (reply_read look.reply h.1.1.1.1).1)))
+words_read (OfObject object n label entry) h =
+    rw (value_again object h.0, value_again n h.1.0, value_again label.lane h.1.1.0, value_again label.call h.1.1.1.0)
+    (rw ((step_read entry h.1.1.1.1).0, word_decimal object h.0, word_decimal n h.1.0, word_decimal label.lane h.1.1.0)
+    (rw (word_decimal label.call h.1.1.1.0) (refl, (step_read entry h.1.1.1.1).1)))
+words_read (OfSkip object n skip) h =
+    rw (value_again object h.0, value_again n h.1.0, value_again skip.label.lane h.1.1.0, value_again skip.label.call h.1.1.1.0)
+    (rw (value_again skip.generation h.1.1.1.1.0, word_decimal object h.0, word_decimal n h.1.0, word_decimal skip.label.lane h.1.1.0)
+    (rw (word_decimal skip.label.call h.1.1.1.0, word_decimal skip.generation h.1.1.1.1.0) (refl, refl)))
+words_read (OfCall lane call answer) h =
+    rw (value_again lane h.0, value_again call h.1.0, (answer_read answer h.1.1).0, word_decimal lane h.0, word_decimal call h.1.0)
+    (refl, (answer_read answer h.1.1).1)
+words_read End h = (refl, refl)
 
 abbrev HasWords : List (List ℕ) → Type 0
 HasWords [] = ⊥
@@ -78,16 +87,18 @@ read_line bytes = line_of (parts 32 bytes)
 
 line_read : (l : RecordLine) → AreMachineNumbers (numbers_of l) → read_line (join_words (line_words l)) ≡ l
 unfolding read_line
-line_read l h = ap line_of (joined_again (line_words l) (each_has_words l) (words_are_words l h)) ∙ line_from_words l h
+line_read l h = ap line_of (joined_again (line_words l) (each_has_words l) (words_read l h).1) ∙ (words_read l h).0
 
 -- an end of the text is read as one line more
-lines_read : (ls : List RecordLine) → AllByRecursion (λ l. AreMachineNumbers (numbers_of l)) ls → map read_line (parts 10 (lines_text ls)) ≡ ls ++ read_line [] ∷ []
+lines_read : (ls : List RecordLine) → AllByRecursion (λ l. AreMachineNumbers (numbers_of l)) ls
+    → map read_line (parts 10 (lines_text ls)) ≡ ls ++ read_line [] ∷ []
 lines_read [] h = refl
 lines_read (l ∷ ls) h =
-    ap (λ ps. map read_line ps) (line_again (line_words l) (lines_text ls) (words_are_words l h.0))
+    ap (λ ps. map read_line ps) (line_again (line_words l) (lines_text ls) (words_read l h.0).1)
     ∙ ap (λ x. x ∷ map read_line (parts 10 (lines_text ls))) (line_read l h.0)
     ∙ ap (λ r. l ∷ r) (lines_read ls h.1)
 
-pub lines_from_text : (ls ms : List RecordLine) → AllByRecursion (λ l. AreMachineNumbers (numbers_of l)) ls → AllByRecursion (λ l. AreMachineNumbers (numbers_of l)) ms → lines_text ls ≡ lines_text ms → ls ≡ ms
+pub lines_from_text : (ls ms : List RecordLine) → AllByRecursion (λ l. AreMachineNumbers (numbers_of l)) ls
+    → AllByRecursion (λ l. AreMachineNumbers (numbers_of l)) ms → lines_text ls ≡ lines_text ms → ls ≡ ms
 lines_from_text ls ms h k e =
     append_cancel_right ls ms (read_line [] ∷ []) (sym (lines_read ls h) ∙ ap (λ text. map read_line (parts 10 text)) e ∙ lines_read ms k)

@@ -1,5 +1,5 @@
 -- The words of a line are read back, each kind of word by itself.
-use Rattle.std.proofs.Common.{◌≡◌, ◌∷◌, [], ℕ, List, ◌<◌, ◌^◌, zero, suc, Bool, true, false, nat_lt, nat_eq, if◌then◌else◌, map, codes, refl, arith}
+use Rattle.std.proofs.Common.{◌≡◌, ◌∷◌, [], ℕ, List, ◌<◌, ◌≤◌, ◌^◌, zero, suc, Bool, true, false, nat_lt, nat_eq, if◌then◌else◌, map, codes, refl, arith}
 use Rattle.std.specs.Fmt.{decimal}
 use Rattle.std.specs.List.{list_all}
 use Rattle.std.specs.Str.{bytes_eq}
@@ -30,15 +30,15 @@ pub value_again : (n : ℕ) → n < 2 ^ 128 → value (decimal n) ≡ n
 unfolding value
 value_again n small = (decimal_is_IsNumeral_wide n (omega arith)).1
 
-pub word_digits : (ds : List ℕ) → AllDigits 10 ds → is_word ds ≡ true
-word_digits [] h = refl
-word_digits (c ∷ cs) h =
+-- what holds of the byte of each digit holds of all bytes of a number's digits
+digits_are : (test : ℕ → Bool) → ((c : ℕ) → 48 ≤ c → c ≤ 57 → test c ≡ true) → (ds : List ℕ) → AllDigits 10 ds → list_all test ds ≡ true
+digits_are test each [] h = refl
+digits_are test each (c ∷ cs) h =
     let digit = digit_from_value c h.0 in
-    let past : nat_lt 32 c ≡ true = grind (arith, nat_tests) in
-    rw past (word_digits cs h.1)
+    rw (each c (omega (arith, digit.0, digit.1)) (omega (arith, digit.0, digit.1))) (digits_are test each cs h.1)
 
 pub word_decimal : (n : ℕ) → n < 2 ^ 128 → is_word (decimal n) ≡ true
-word_decimal n small = word_digits _ (decimal_is_IsNumeral_wide n (omega arith)).0.1
+word_decimal n small = digits_are (λ b. nat_lt 32 b) (λ c least most. grind (arith, nat_tests)) _ (decimal_is_IsNumeral_wide n (omega arith)).0.1
 
 pub words_decimals : (ns : List ℕ) → AreMachineNumbers ns → are_words (map decimal ns) ≡ true
 words_decimals [] h = refl
@@ -68,120 +68,76 @@ is_key ws key = bytes_eq (nth 0 ws) key
 pub flag_of : List ℕ → Bool
 flag_of w = nat_eq (value w) 1
 
-pub flag_again : (b : Bool) → flag_of (flag b) ≡ b
+pub flag_read : (b : Bool) → (flag_of (flag b) ≡ b) × (is_word (flag b) ≡ true)
 unfolding flag_of
-flag_again true = rw (value_again 1 (omega arith)) refl
-flag_again false = rw (value_again 0 (omega arith)) refl
-
-pub word_flag : (b : Bool) → is_word (flag b) ≡ true
-word_flag true = word_decimal 1 (omega arith)
-word_flag false = word_decimal 0 (omega arith)
+flag_read true = rw (value_again 1 (omega arith)) (refl, word_decimal 1 (omega arith))
+flag_read false = rw (value_again 0 (omega arith)) (refl, word_decimal 0 (omega arith))
 
 pub clock_of : List ℕ → ClockId
 clock_of w = if bytes_eq w (codes "monotonic") then clocks.Monotonic else if bytes_eq w (codes "realtime") then clocks.Realtime else clocks.Boottime
 
-pub clock_again : (c : ClockId) → clock_of (clock_word c) ≡ c
+pub clock_read : (c : ClockId) → (clock_of (clock_word c) ≡ c) × (is_word (clock_word c) ≡ true)
 unfolding clock_of
-clock_again clocks.Monotonic = refl
-clock_again clocks.Realtime = refl
-clock_again clocks.Boottime = refl
-
-pub word_clock : (c : ClockId) → is_word (clock_word c) ≡ true
-word_clock clocks.Monotonic = refl
-word_clock clocks.Realtime = refl
-word_clock clocks.Boottime = refl
+clock_read clocks.Monotonic = (refl, refl)
+clock_read clocks.Realtime = (refl, refl)
+clock_read clocks.Boottime = (refl, refl)
 
 pub mode_of : List ℕ → Mode
 mode_of w = if bytes_eq w (codes "abs") then modes.Abs else if bytes_eq w (codes "rel") then modes.Rel else modes.Keep
 
-pub mode_again : (m : Mode) → mode_of (mode_word m) ≡ m
+pub mode_read : (m : Mode) → (mode_of (mode_word m) ≡ m) × (is_word (mode_word m) ≡ true)
 unfolding mode_of
-mode_again modes.Abs = refl
-mode_again modes.Rel = refl
-mode_again modes.Keep = refl
-
-pub word_mode : (m : Mode) → is_word (mode_word m) ≡ true
-word_mode modes.Abs = refl
-word_mode modes.Rel = refl
-word_mode modes.Keep = refl
+mode_read modes.Abs = (refl, refl)
+mode_read modes.Rel = (refl, refl)
+mode_read modes.Keep = (refl, refl)
 
 pub write_of : List ℕ → ℕ → Write
-write_of w time = if bytes_eq w (codes "advance") then writes.Advance time else if bytes_eq w (codes "set") then writes.Set time else writes.Suspend time
+write_of w time = if bytes_eq w (codes "advance") then writes.Advance time else if bytes_eq w
+    (codes "set") then writes.Set time else writes.Suspend time
 
-pub write_again : (w : Write) → write_of (write_name w) (write_ns w) ≡ w
+pub write_read : (w : Write) → (write_of (write_name w) (write_ns w) ≡ w) × (is_word (write_name w) ≡ true)
 unfolding write_of
-write_again (writes.Advance by) = refl
-write_again (writes.Set to) = refl
-write_again (writes.Suspend by) = refl
-
-pub word_write : (w : Write) → is_word (write_name w) ≡ true
-word_write (writes.Advance by) = refl
-word_write (writes.Set to) = refl
-word_write (writes.Suspend by) = refl
+write_read (writes.Advance by) = (refl, refl)
+write_read (writes.Set to) = (refl, refl)
+write_read (writes.Suspend by) = (refl, refl)
 
 pub restart_of : List ℕ → Bool
 restart_of w = bytes_eq w (codes "again")
 
-pub restart_again : (b : Bool) → restart_of (restart_word b) ≡ b
+pub restart_read : (b : Bool) → (restart_of (restart_word b) ≡ b) × (is_word (restart_word b) ≡ true)
 unfolding restart_of
-restart_again true = refl
-restart_again false = refl
-
-pub word_restart : (b : Bool) → is_word (restart_word b) ≡ true
-word_restart true = refl
-word_restart false = refl
+restart_read true = (refl, refl)
+restart_read false = (refl, refl)
 
 -- bytes up to the digit 9
 abbrev pub is_number : List ℕ → Bool
 is_number w = list_all (λ b. nat_lt b 58) w
 
-pub number_digits : (ds : List ℕ) → AllDigits 10 ds → is_number ds ≡ true
-number_digits [] h = refl
-number_digits (c ∷ cs) h =
-    let digit = digit_from_value c h.0 in
-    let below : nat_lt c 58 ≡ true = grind (arith, nat_tests) in
-    rw below (number_digits cs h.1)
+is_number_decimal : (n : ℕ) → n < 2 ^ 128 → is_number (decimal n) ≡ true
+is_number_decimal n small = digits_are (λ b. nat_lt b 58) (λ c least most. grind (arith, nat_tests)) _ (decimal_is_IsNumeral_wide n (omega arith)).0.1
 
 pub rearmed_of : List ℕ → Restart
 rearmed_of w = if is_number w then restarts.Again (value w) else if bytes_eq w (codes "none") then restarts.None else restarts.Spent
 
-pub rearmed_again : (r : Restart) → AreMachineNumbers (rearmed_numbers r) → rearmed_of (rearmed_word r) ≡ r
+pub rearmed_read : (r : Restart) → AreMachineNumbers (rearmed_numbers r) → (rearmed_of (rearmed_word r) ≡ r) × (is_word (rearmed_word r) ≡ true)
 unfolding rearmed_of
-rearmed_again restarts.None h = refl
-rearmed_again (restarts.Again generation) h =
-    let numeral = number_digits _ (decimal_is_IsNumeral_wide generation (omega arith)).0.1 in
-    rw (numeral, value_again generation h.0) refl
-rearmed_again restarts.Spent h = refl
-
-pub word_rearmed : (r : Restart) → AreMachineNumbers (rearmed_numbers r) → is_word (rearmed_word r) ≡ true
-word_rearmed restarts.None h = refl
-word_rearmed (restarts.Again generation) h = word_decimal generation h.0
-word_rearmed restarts.Spent h = refl
+rearmed_read restarts.None h = (refl, refl)
+rearmed_read (restarts.Again generation) h = rw (is_number_decimal generation h.0, value_again generation h.0) (refl, word_decimal generation h.0)
+rearmed_read restarts.Spent h = (refl, refl)
 
 pub armed_of : List ℕ → Armed
 armed_of w = if is_number w then arms.Generation (value w) else if bytes_eq w (codes "none") then arms.None else arms.Unarmed
 
-pub armed_again : (a : Armed) → armed_number a < 2 ^ 128 → armed_of (armed_word a) ≡ a
+pub armed_read : (a : Armed) → armed_number a < 2 ^ 128 → (armed_of (armed_word a) ≡ a) × (is_word (armed_word a) ≡ true)
 unfolding armed_of
-armed_again arms.None h = refl
-armed_again (arms.Generation generation) h =
-    let numeral = number_digits _ (decimal_is_IsNumeral_wide generation (omega arith)).0.1 in
-    rw (numeral, value_again generation h) refl
-armed_again arms.Unarmed h = refl
-
-pub word_armed : (a : Armed) → armed_number a < 2 ^ 128 → is_word (armed_word a) ≡ true
-word_armed arms.None h = refl
-word_armed (arms.Generation generation) h = word_decimal generation h
-word_armed arms.Unarmed h = refl
+armed_read arms.None h = (refl, refl)
+armed_read (arms.Generation generation) h = rw (is_number_decimal generation h, value_again generation h) (refl, word_decimal generation h)
+armed_read arms.Unarmed h = (refl, refl)
 
 pub counted_of : List ℕ → Bool
 counted_of w = bytes_eq w (codes "counted")
 
-pub counted_again : (b : Bool) → counted_of (counted_word b) ≡ b
+pub counted_read : (b : Bool) → (counted_of (counted_word b) ≡ b) × (is_word (counted_word b) ≡ true)
 unfolding counted_of
-counted_again true = refl
-counted_again false = refl
-
-pub word_counted : (b : Bool) → is_word (counted_word b) ≡ true
-word_counted true = refl
-word_counted false = refl
+counted_read true = (refl, refl)
+counted_read false = (refl, refl)

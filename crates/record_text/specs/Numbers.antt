@@ -76,14 +76,19 @@ armed_number arms.None = 0
 armed_number (arms.Generation generation) = generation
 armed_number arms.Unarmed = 0
 
+-- the numbers of an entry of a call that arms an expired timer again, and none of another
+abbrev pub rearming_numbers : ObjectEntry → List ℕ
+rearming_numbers (steps.Accept reading arm reply) = reading ∷ armed_number arm ∷ answer_numbers (answer_of_accept reply)
+rearming_numbers (steps.Read reading arm reply) = reading ∷ armed_number arm ∷ answer_numbers (answer_of_read reply)
+rearming_numbers (steps.Gettime reading arm left interval) = reading ∷ armed_number arm ∷ left ∷ interval ∷ []
+rearming_numbers other = []
+
 -- the numbers of an object's entry
 abbrev pub step_numbers : ObjectEntry → List ℕ
 step_numbers (steps.Settime flags value interval reading arm reply) =
     flags ∷ value ∷ interval ∷ reading ∷ armed_number arm ∷ answer_numbers (answer_of_settime reply)
 step_numbers (steps.Trigger generation reading counted) = generation ∷ reading ∷ []
-step_numbers (steps.Accept reading arm reply) = reading ∷ armed_number arm ∷ answer_numbers (answer_of_accept reply)
-step_numbers (steps.Read reading arm reply) = reading ∷ armed_number arm ∷ answer_numbers (answer_of_read reply)
-step_numbers (steps.Gettime reading arm left interval) = reading ∷ armed_number arm ∷ left ∷ interval ∷ []
+step_numbers other = rearming_numbers other
 
 -- the numbers of a line
 abbrev pub numbers_of : RecordLine → List ℕ

@@ -41,6 +41,10 @@ abbrev pub numbered : {X : Type 0} → (ℕ → X → List RecordLine) → ℕ �
 numbered lines number [] = []
 numbered lines number (x ∷ xs) = lines number x ++ numbered lines (number + 1) xs
 
+-- the lines of the items of lists: the lists numbered on from a number, the items of each from `first`
+abbrev pub lines_in_lists : {X : Type 0} → (ℕ → ℕ → X → List RecordLine) → ℕ → ℕ → List (List X) → List RecordLine
+lines_in_lists lines first list xss = numbered (λ l xs. numbered (lines l) first xs) list xss
+
 -- the lines of the clock's writes, numbered on from a number
 abbrev pub clock_lines : ℕ → List ClockLine → List RecordLine
 clock_lines number ws = numbered (λ n w. OfClock n w ∷ []) number ws
@@ -49,33 +53,21 @@ clock_lines number ws = numbered (λ n w. OfClock n w ∷ []) number ws
 abbrev pub entry_and_looks : ℕ → ℕ → TimerLine → List RecordLine
 entry_and_looks timer number t = OfTimer timer number t.label t.entry ∷ map (OfLook timer number) t.looks
 
--- the lines of one timer, its entries numbered on from a number
-abbrev pub entry_lines : ℕ → ℕ → List TimerLine → List RecordLine
-entry_lines timer number ts = numbered (entry_and_looks timer) number ts
-
--- the lines of the timers, numbered on from a number
+-- the lines of the timers, numbered on from a number; the entries of each are numbered from 1
 abbrev pub timer_lines : ℕ → List (List TimerLine) → List RecordLine
-timer_lines timer tss = numbered (λ t ts. entry_lines t 1 ts) timer tss
+timer_lines timer tss = lines_in_lists entry_and_looks 1 timer tss
 
 -- the line of an object's entry, and after it those of the expiries that were refused there
 abbrev pub step_and_skips : ℕ → ℕ → ObjectLine → List RecordLine
 step_and_skips object number o = OfObject object number o.label o.entry ∷ map (OfSkip object number) o.skips
 
--- the lines of one object, its entries numbered on from a number
-abbrev pub step_lines : ℕ → ℕ → List ObjectLine → List RecordLine
-step_lines object number os = numbered (step_and_skips object) number os
-
--- the lines of the objects, numbered on from a number
+-- the lines of the objects, numbered on from a number; the entries of each are numbered from 1
 abbrev pub object_lines : ℕ → List (List ObjectLine) → List RecordLine
-object_lines object oss = numbered (λ o os. step_lines o 1 os) object oss
+object_lines object oss = lines_in_lists step_and_skips 1 object oss
 
--- the lines of one lane's answers, its calls numbered on from a number
-abbrev pub answer_lines : ℕ → ℕ → List Answer → List RecordLine
-answer_lines lane call given = numbered (λ c a. OfCall lane c a ∷ []) call given
-
--- the lines of the lanes, numbered on from a number
+-- the lines of the lanes, numbered on from a number; the calls of each are numbered from 0
 abbrev pub lane_lines : ℕ → List (List Answer) → List RecordLine
-lane_lines lane lanes = numbered (λ l given. answer_lines l 0 given) lane lanes
+lane_lines lane lanes = lines_in_lists (λ l call answer. OfCall l call answer ∷ []) 0 lane lanes
 
 -- the lines of a record
 abbrev pub record_lines : RunRecord → List RecordLine
@@ -121,7 +113,8 @@ counted_word counted = if counted then codes "counted" else codes "stale"
 abbrev pub entry_words : Entry → List (List ℕ)
 entry_words (entries.Out base was_armed) = codes "out" ∷ decimal base ∷ flag was_armed ∷ []
 entry_words (entries.Start mode ns reading asked base clock expires was_armed) =
-    codes "start" ∷ mode_word mode ∷ decimal ns ∷ decimal reading ∷ decimal asked ∷ decimal base ∷ clock_word clock ∷ decimal expires ∷ flag was_armed ∷ []
+    codes "start" ∷ mode_word mode ∷ decimal ns ∷ decimal reading ∷ decimal asked ∷ decimal base ∷ clock_word clock ∷ decimal expires ∷
+    flag was_armed ∷ []
 entry_words (entries.Cancel generation) = codes "cancel" ∷ decimal generation ∷ []
 entry_words (entries.Claim base reading generation) = codes "claim" ∷ decimal base ∷ decimal reading ∷ decimal generation ∷ []
 entry_words (entries.Forward reading interval count expires) =
@@ -141,7 +134,8 @@ object_answer_words (answers.Old left interval) = codes "old" ∷ decimal left �
 object_answer_words answers.Canceled = codes "canceled" ∷ []
 object_answer_words (answers.Unarmed stamp) = codes "unarmed" ∷ decimal stamp ∷ []
 object_answer_words answers.Invalid = codes "einval" ∷ []
-object_answer_words (answers.LeftAt left interval reading stamp) = codes "left" ∷ decimal left ∷ decimal interval ∷ decimal reading ∷ decimal stamp ∷ []
+object_answer_words (answers.LeftAt left interval reading stamp) =
+    codes "left" ∷ decimal left ∷ decimal interval ∷ decimal reading ∷ decimal stamp ∷ []
 object_answer_words (answers.Left left interval) = codes "left" ∷ decimal left ∷ decimal interval ∷ []
 object_answer_words (answers.Accepted overrun) = codes "accepted" ∷ decimal overrun ∷ []
 object_answer_words answers.NoSignal = codes "nosignal" ∷ []
@@ -169,20 +163,26 @@ answer_words (answers.Range would_be) = codes "range" ∷ decimal would_be ∷ [
 answer_words answers.ClockSpent = codes "clockspent" ∷ []
 answer_words other = object_answer_words other
 
+-- the words of an entry of a call that arms an expired timer again, and none of another
+abbrev pub rearming_words : ObjectEntry → List (List ℕ)
+rearming_words (steps.Accept reading arm reply) = codes "accept" ∷ decimal reading ∷ armed_word arm ∷ answer_words (answer_of_accept reply)
+rearming_words (steps.Read reading arm reply) = codes "read" ∷ decimal reading ∷ armed_word arm ∷ answer_words (answer_of_read reply)
+rearming_words (steps.Gettime reading arm left interval) = codes "gettime" ∷ decimal reading ∷ armed_word arm ∷ decimal left ∷ decimal interval ∷ []
+rearming_words other = []
+
 -- the words of an object's entry
 abbrev pub step_words : ObjectEntry → List (List ℕ)
 step_words (steps.Settime flags value interval reading arm reply) =
     codes "settime" ∷ decimal flags ∷ decimal value ∷ decimal interval ∷ decimal reading ∷ armed_word arm ∷ answer_words (answer_of_settime reply)
 step_words (steps.Trigger generation reading counted) = codes "trigger" ∷ decimal generation ∷ decimal reading ∷ counted_word counted ∷ []
-step_words (steps.Accept reading arm reply) = codes "accept" ∷ decimal reading ∷ armed_word arm ∷ answer_words (answer_of_accept reply)
-step_words (steps.Read reading arm reply) = codes "read" ∷ decimal reading ∷ armed_word arm ∷ answer_words (answer_of_read reply)
-step_words (steps.Gettime reading arm left interval) = codes "gettime" ∷ decimal reading ∷ armed_word arm ∷ decimal left ∷ decimal interval ∷ []
+step_words other = rearming_words other
 
 -- the words of a line
 abbrev pub line_words : RecordLine → List (List ℕ)
 line_words Version = codes "record" ∷ codes "1" ∷ []
 line_words (OfClock number w) =
-    codes "clock" ∷ decimal number ∷ decimal w.label.lane ∷ decimal w.label.call ∷ write_name w.write ∷ decimal (write_ns w.write) ∷ decimal w.mono ∷ decimal w.real ∷ decimal w.boot ∷ decimal w.changes ∷ []
+    codes "clock" ∷ decimal number ∷ decimal w.label.lane ∷ decimal w.label.call ∷ write_name w.write ∷ decimal
+    (write_ns w.write) ∷ decimal w.mono ∷ decimal w.real ∷ decimal w.boot ∷ decimal w.changes ∷ []
 line_words (OfTimer timer number label entry) =
     codes "timer" ∷ decimal timer ∷ decimal number ∷ decimal label.lane ∷ decimal label.call ∷ entry_words entry
 line_words (OfLook timer number look) =

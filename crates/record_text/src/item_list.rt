@@ -1,3 +1,4 @@
+//! A list that contracts see as its items alone.
 ghost use Rattle.std.specs.Prelude.{◌≡◌, ℕ, List, [], ◌∷◌, ◌++◌, length, MatchOption, OnOk, OnErr, IfOk};
 
 use std::alloc::{AllocError, AllocFailed, Global};

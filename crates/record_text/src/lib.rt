@@ -3,8 +3,8 @@
 
 pub use item_list::ItemList;
 pub use record::{
-    AcceptReply, Answer, Armed, ClockLine, Entry, Label, Look, ObjectEntry, ObjectLine, ReadReply,
-    Restart, RunRecord, SettimeReply, Skip, TimerLine, CallbackReply,
+    AcceptReply, Answer, Armed, CallbackReply, ClockLine, Entry, Label, Look, ObjectEntry,
+    ObjectLine, ReadReply, Restart, RunRecord, SettimeReply, Skip, TimerLine,
 };
 pub use writing::{text, text_determines_the_record};
 

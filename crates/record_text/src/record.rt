@@ -1,3 +1,4 @@
+//! What a run leaves: its types.
 ghost use Rattle.std.specs.Prelude.{◌≡◌};
 ghost use Rattle.record_text.specs.Replies.{answer_of_accept, answer_of_read, answer_of_settime};
 

@@ -8,7 +8,7 @@ mod entries;
 mod lines;
 #[cfg(test)]
 mod object_tests;
-mod objects;
+mod sections;
 mod steps;
 #[cfg(test)]
 mod tests;

@@ -1,3 +1,4 @@
+//! The words of answers.
 ghost use Rattle.std.specs.Prelude.{◌≡◌, ◌++◌, ◌∷◌, OnOk, string_bytes, codes, length, map};
 ghost use Rattle.std.specs.Fmt.{decimal};
 ghost use Rattle.record_text.specs.Numbers.{answer_numbers, object_answer_numbers, AreMachineNumbers};
@@ -36,8 +37,8 @@ pub(crate) fn write_answer(out: &mut String, answer: &Answer) -> Result<(), Allo
             let moving = u8::from(moving);
             write!(out, " peek {stamp} {base} {enqueued} {running} {moving}")?;
         }
-        Answer::Done { reading, ref fired } => write_pass(out, "done", reading, fired.as_slice())?,
-        Answer::More { reading, ref fired } => write_pass(out, "more", reading, fired.as_slice())?,
+        Answer::Done { reading, ref fired } => write_run(out, "done", reading, fired.as_slice())?,
+        Answer::More { reading, ref fired } => write_run(out, "more", reading, fired.as_slice())?,
         Answer::Busy {
             reading,
             ref fired,
@@ -87,8 +88,8 @@ fn write_object_answer(out: &mut String, answer: &Answer) -> Result<(), AllocErr
     Ok(())
 }
 
-/// Writes what a pass did that met no running timer: this word, its reading, and the timers that fired.
-fn write_pass(out: &mut String, word: &str, reading: u64, fired: &[u32]) -> Result<(), AllocError>
+/// Writes what an expiry run did that met no running timer: this word, its reading, and the timers that fired.
+fn write_run(out: &mut String, word: &str, reading: u64, fired: &[u32]) -> Result<(), AllocError>
     ensures text { OnOk result (string_bytes out.new ≡ string_bytes out.old ++ spaced (word.now ∷ decimal (length fired.now) ∷ decimal reading ∷ map decimal fired.now)) }
     ensures numbers { OnOk result (AreMachineNumbers (length fired.now ∷ reading ∷ fired.now)) }
 {
@@ -98,7 +99,7 @@ fn write_pass(out: &mut String, word: &str, reading: u64, fired: &[u32]) -> Resu
     Ok(())
 }
 
-/// Writes what a pass did that met this running timer.
+/// Writes what an expiry run did that met this running timer.
 fn write_busy(
     out: &mut String,
     reading: u64,

@@ -1,6 +1,7 @@
+//! The words of an object's entries.
 ghost use Rattle.std.specs.Prelude.{◌≡◌, ◌<◌, ◌^◌, ◌++◌, ◌∷◌, [], OnOk, string_bytes};
-ghost use Rattle.record_text.specs.Numbers.{armed_number, step_numbers, AreMachineNumbers};
-ghost use Rattle.record_text.specs.Text.{armed_word, spaced, step_words};
+ghost use Rattle.record_text.specs.Numbers.{armed_number, rearming_numbers, step_numbers, AreMachineNumbers};
+ghost use Rattle.record_text.specs.Text.{armed_word, rearming_words, spaced, step_words};
 
 use crate::record::{Armed, ObjectEntry};
 use crate::writing::answers::write_answer;
@@ -33,6 +34,17 @@ pub(crate) fn write_step(out: &mut String, entry: ObjectEntry) -> Result<(), All
             let counted = counted_word(counted);
             write!(out, " trigger {generation} {reading} {counted}")?;
         }
+        _ => write_rearming(out, entry)?,
+    }
+    Ok(())
+}
+
+/// Writes the words of an entry of a call that arms an expired timer again. It writes nothing for another entry.
+fn write_rearming(out: &mut String, entry: ObjectEntry) -> Result<(), AllocError>
+    ensures text { OnOk result (string_bytes out.new ≡ string_bytes out.old ++ spaced (rearming_words entry)) }
+    ensures numbers { OnOk result (AreMachineNumbers (rearming_numbers entry)) }
+{
+    match entry {
         ObjectEntry::Accept {
             reading,
             arm,
@@ -61,6 +73,7 @@ pub(crate) fn write_step(out: &mut String, entry: ObjectEntry) -> Result<(), All
             write_armed(out, arm)?;
             write!(out, " {left} {interval}")?;
         }
+        _ => {}
     }
     Ok(())
 }

@@ -1,37 +1,37 @@
+//! Records of timers by themselves, and their texts.
 use crate::item_list::ItemList;
-use crate::record::{Answer, ClockLine, Entry, Label, Look, Restart, RunRecord, TimerLine, CallbackReply};
+use crate::record::{
+    Answer, CallbackReply, ClockLine, Entry, Label, Look, Restart, RunRecord, TimerLine,
+};
 use crate::writing::{text, text_determines_the_record};
 use clock_model::Write;
 use ktime::{ClockId, Mode};
 use std::alloc::{AllocError, Global};
+use std::process::Abort;
 
 const FIRST: Label = Label { lane: 0, call: 0 };
 
-fn no_timers(alloc: Global, answers: Vec<Answer>) -> Result<RunRecord, AllocError> {
-    let mut lane = ItemList::new(alloc);
-    for answer in answers {
-        lane.push(answer)?;
-    }
-    let mut lanes = ItemList::new(alloc);
-    lanes.push(ItemList::new(alloc))?;
-    lanes.push(lane)?;
-    Ok(RunRecord {
-        clock: ItemList::new(alloc),
-        timers: ItemList::new(alloc),
-        objects: ItemList::new(alloc),
-        answers: lanes,
-    })
+const BUSY: Label = Label { lane: 3, call: 7 };
+
+pub(crate) fn one<T: Drop>(alloc: Global, item: T) -> Result<ItemList<T>, AllocError> {
+    let mut items = ItemList::new(alloc);
+    items.push(item)?;
+    Ok(items)
 }
 
-pub(crate) fn fired(alloc: Global, timers: &[u32]) -> Result<ItemList<u32>, AllocError> {
-    let mut fired = ItemList::new(alloc);
-    for timer in timers {
-        fired.push(*timer)?;
-    }
-    Ok(fired)
+/// Compares the text of a record.
+pub(crate) fn shows(
+    rt: &impl Abort,
+    alloc: Global,
+    record: &RunRecord,
+    want: &str,
+) -> Result<(), AllocError> {
+    let bytes = text(alloc, record)?;
+    assert_eq!(rt; bytes.as_slice(), want.as_bytes());
+    Ok(())
 }
 
-pub(crate) fn timer_line(alloc: Global, label: Label, entry: Entry) -> TimerLine {
+fn timer_line(alloc: Global, label: Label, entry: Entry) -> TimerLine {
     TimerLine {
         label,
         entry,
@@ -39,88 +39,82 @@ pub(crate) fn timer_line(alloc: Global, label: Label, entry: Entry) -> TimerLine
     }
 }
 
-fn one_shot(alloc: Global) -> Result<ItemList<TimerLine>, AllocError> {
-    let expire = Label { lane: 0, call: 2 };
-    let entries = [
-        (
-            FIRST,
-            Entry::Start {
-                mode: Mode::Rel,
-                ns: 100,
-                reading: 0,
-                asked: 0,
-                base: 0,
-                clock: ClockId::Monotonic,
-                expires: 100,
-                was_armed: false,
-            },
-        ),
-        (
-            expire,
-            Entry::Claim {
-                base: 0,
-                reading: 1,
-                generation: 1,
-            },
-        ),
-        (
-            expire,
-            Entry::Finish {
-                restart: false,
-                generation: 1,
-                rearmed: Restart::None,
-            },
-        ),
-    ];
+/// The lines of a timer with no looks.
+pub(crate) fn timer_lines(
+    alloc: Global,
+    entries: &[(Label, Entry)],
+) -> Result<ItemList<TimerLine>, AllocError> {
     let mut lines = ItemList::new(alloc);
     for (label, entry) in entries {
-        lines.push(timer_line(alloc, label, entry))?;
+        lines.push(timer_line(alloc, *label, *entry))?;
     }
     Ok(lines)
 }
 
-#[test]
-fn a_one_shot_timer_expires_once(rt: HostRuntime) -> Result<(), AllocError> {
-    let alloc = rt.alloc();
-    let mut clock = ItemList::new(alloc);
-    clock.push(ClockLine {
-        label: Label { lane: 0, call: 1 },
-        write: Write::Advance { by: 100 },
-        mono: 100,
-        real: 100,
-        boot: 100,
-        changes: 0,
-    })?;
-    let mut timers = ItemList::new(alloc);
-    timers.push(one_shot(alloc)?)?;
-    let mut lane = ItemList::new(alloc);
-    lane.push(Answer::Started {
-        generation: 1,
-        base: 0,
-        was_armed: false,
-    })?;
-    lane.push(Answer::Clock { stamp: 1 })?;
-    lane.push(Answer::Done {
-        reading: 1,
-        fired: fired(alloc, &[0])?,
-    })?;
-    lane.push(Answer::Idle { stamp: 3 })?;
-    lane.push(Answer::Peek {
-        stamp: 3,
-        base: 0,
-        enqueued: false,
-        running: false,
-        moving: false,
-    })?;
-    let mut answers = ItemList::new(alloc);
-    answers.push(lane)?;
-    let record = RunRecord {
-        clock,
-        timers,
-        objects: ItemList::new(alloc),
-        answers,
-    };
-    let want = b"record 1
+const ONE_SHOT: [(Label, Entry); 3] = [
+    (
+        FIRST,
+        Entry::Start {
+            mode: Mode::Rel,
+            ns: 100,
+            reading: 0,
+            asked: 0,
+            base: 0,
+            clock: ClockId::Monotonic,
+            expires: 100,
+            was_armed: false,
+        },
+    ),
+    (
+        Label { lane: 0, call: 2 },
+        Entry::Claim {
+            base: 0,
+            reading: 1,
+            generation: 1,
+        },
+    ),
+    (
+        Label { lane: 0, call: 2 },
+        Entry::Finish {
+            restart: false,
+            generation: 1,
+            rearmed: Restart::None,
+        },
+    ),
+];
+
+const ADVANCED: ClockLine = ClockLine {
+    label: Label { lane: 0, call: 1 },
+    write: Write::Advance { by: 100 },
+    mono: 100,
+    real: 100,
+    boot: 100,
+    changes: 0,
+};
+
+fn one_shot_answers(alloc: Global) -> Result<ItemList<Answer>, AllocError> {
+    let fired = one(alloc, 0)?;
+    let answers = vec![in alloc;
+        Answer::Started {
+            generation: 1,
+            base: 0,
+            was_armed: false,
+        },
+        Answer::Clock { stamp: 1 },
+        Answer::Done { reading: 1, fired },
+        Answer::Idle { stamp: 3 },
+        Answer::Peek {
+            stamp: 3,
+            base: 0,
+            enqueued: false,
+            running: false,
+            moving: false,
+        },
+    ]?;
+    Ok(ItemList::from_vec(answers))
+}
+
+const ONE_SHOT_TEXT: &str = "record 1
 clock 1 0 1 advance 100 100 100 100 0
 timer 0 1 0 0 start rel 100 0 0 0 monotonic 100 0
 timer 0 2 0 2 claim 0 1 1
@@ -132,98 +126,101 @@ call 0 3 idle 3
 call 0 4 peek 3 0 0 0 0
 end
 ";
-    assert_eq!(rt; text(alloc, &record)?.as_slice(), want.as_slice());
-    Ok(())
-}
-
-fn busy_timer(alloc: Global) -> Result<ItemList<TimerLine>, AllocError> {
-    let label = Label { lane: 3, call: 7 };
-    let mut lines = ItemList::new(alloc);
-    lines.push(timer_line(
-        alloc,
-        label,
-        Entry::Out {
-            base: 1,
-            was_armed: true,
-        },
-    ))?;
-    let mut looks = ItemList::new(alloc);
-    looks.push(Look {
-        label: FIRST,
-        reply: CallbackReply::Running { generation: 4 },
-    })?;
-    looks.push(Look {
-        label,
-        reply: CallbackReply::Armed { generation: 5 },
-    })?;
-    looks.push(Look {
-        label,
-        reply: CallbackReply::Spent,
-    })?;
-    lines.push(TimerLine {
-        label,
-        entry: Entry::Start {
-            mode: Mode::Keep,
-            ns: 9,
-            reading: 8,
-            asked: 2,
-            base: 1,
-            clock: ClockId::Boottime,
-            expires: 70,
-            was_armed: true,
-        },
-        looks,
-    })?;
-    let entries = [
-        Entry::Cancel { generation: 2 },
-        Entry::Forward {
-            reading: 6,
-            interval: 10,
-            count: 3,
-            expires: 100,
-        },
-        Entry::Finish {
-            restart: true,
-            generation: 2,
-            rearmed: Restart::Again { generation: 5 },
-        },
-        Entry::Finish {
-            restart: true,
-            generation: 5,
-            rearmed: Restart::Spent,
-        },
-    ];
-    for entry in entries {
-        lines.push(timer_line(alloc, label, entry))?;
-    }
-    Ok(lines)
-}
 
 #[test]
-fn looks_follow_their_entry(rt: HostRuntime) -> Result<(), AllocError> {
+fn a_one_shot_timer_expires_once(rt: HostRuntime) -> Result<(), AllocError> {
     let alloc = rt.alloc();
-    let mut clock = ItemList::new(alloc);
-    let writes = [Write::Set { to: 50 }, Write::Suspend { by: 7 }];
-    for write in writes {
-        clock.push(ClockLine {
-            label: FIRST,
-            write,
-            mono: 1,
-            real: 2,
-            boot: 3,
-            changes: 4,
-        })?;
-    }
-    let mut timers = ItemList::new(alloc);
-    timers.push(ItemList::new(alloc))?;
-    timers.push(busy_timer(alloc)?)?;
+    let clock = one(alloc, ADVANCED)?;
+    let lines = timer_lines(alloc, &ONE_SHOT)?;
+    let timers = one(alloc, lines)?;
+    let lane = one_shot_answers(alloc)?;
+    let answers = one(alloc, lane)?;
     let record = RunRecord {
         clock,
         timers,
         objects: ItemList::new(alloc),
-        answers: ItemList::new(alloc),
+        answers,
     };
-    let want = b"record 1
+    shows(&rt, alloc, &record, ONE_SHOT_TEXT)
+}
+
+const LOOKS: [Look; 3] = [
+    Look {
+        label: FIRST,
+        reply: CallbackReply::Running { generation: 4 },
+    },
+    Look {
+        label: BUSY,
+        reply: CallbackReply::Armed { generation: 5 },
+    },
+    Look {
+        label: BUSY,
+        reply: CallbackReply::Spent,
+    },
+];
+
+const MOVED: Entry = Entry::Out {
+    base: 1,
+    was_armed: true,
+};
+
+const LOOKED_AT: Entry = Entry::Start {
+    mode: Mode::Keep,
+    ns: 9,
+    reading: 8,
+    asked: 2,
+    base: 1,
+    clock: ClockId::Boottime,
+    expires: 70,
+    was_armed: true,
+};
+
+const LATER: [Entry; 4] = [
+    Entry::Cancel { generation: 2 },
+    Entry::Forward {
+        reading: 6,
+        interval: 10,
+        count: 3,
+        expires: 100,
+    },
+    Entry::Finish {
+        restart: true,
+        generation: 2,
+        rearmed: Restart::Again { generation: 5 },
+    },
+    Entry::Finish {
+        restart: true,
+        generation: 5,
+        rearmed: Restart::Spent,
+    },
+];
+
+fn busy_timer(alloc: Global) -> Result<ItemList<TimerLine>, AllocError> {
+    let looks = ItemList::from_vec(vec![in alloc; LOOKS[0], LOOKS[1], LOOKS[2]]?);
+    let looked_at = TimerLine {
+        label: BUSY,
+        entry: LOOKED_AT,
+        looks,
+    };
+    let mut lines = ItemList::from_vec(vec![in alloc; timer_line(alloc, BUSY, MOVED), looked_at]?);
+    for entry in LATER {
+        lines.push(timer_line(alloc, BUSY, entry))?;
+    }
+    Ok(lines)
+}
+
+fn shown_write(write: Write) -> ClockLine {
+    ClockLine {
+        label: FIRST,
+        write,
+        mono: 1,
+        real: 2,
+        boot: 3,
+        changes: 4,
+    }
+}
+
+const LOOKS_TEXT: &str = "record 1
 clock 1 0 0 set 50 1 2 3 4
 clock 2 0 0 suspend 7 1 2 3 4
 timer 1 1 3 7 out 1 1
@@ -237,46 +234,62 @@ timer 1 5 3 7 finish again 2 5
 timer 1 6 3 7 finish again 5 spent
 end
 ";
-    assert_eq!(rt; text(alloc, &record)?.as_slice(), want.as_slice());
-    Ok(())
-}
 
 #[test]
-fn each_answer_has_its_own_line(rt: HostRuntime) -> Result<(), AllocError> {
+fn looks_follow_their_entry(rt: HostRuntime) -> Result<(), AllocError> {
     let alloc = rt.alloc();
+    let set = shown_write(Write::Set { to: 50 });
+    let suspend = shown_write(Write::Suspend { by: 7 });
+    let clock = ItemList::from_vec(vec![in alloc; set, suspend]?);
+    let busy = busy_timer(alloc)?;
+    let timers = ItemList::from_vec(vec![in alloc; ItemList::new(alloc), busy]?);
+    let record = RunRecord {
+        clock,
+        timers,
+        objects: ItemList::new(alloc),
+        answers: ItemList::new(alloc),
+    };
+    shows(&rt, alloc, &record, LOOKS_TEXT)
+}
+
+fn each_answer(alloc: Global) -> Result<ItemList<Answer>, AllocError> {
+    let more = ItemList::from_vec(vec![in alloc; 12, 0, 7]?);
+    let fired = ItemList::from_vec(vec![in alloc; 3, 1]?);
     let answers = vec![in alloc;
         Answer::Spent { stamp: 9 },
         Answer::Cancelled { generation: 2 },
         Answer::Running {
             generation: 2,
-            stamp: 3
+            stamp: 3,
         },
         Answer::Peek {
             stamp: 5,
             base: 1,
             enqueued: true,
             running: false,
-            moving: true
+            moving: true,
         },
         Answer::Done {
             reading: 4,
-            fired: ItemList::new(alloc)
+            fired: ItemList::new(alloc),
         },
         Answer::More {
             reading: 4,
-            fired: fired(alloc, &[12, 0, 7])?
+            fired: more,
         },
         Answer::Busy {
             reading: 4,
-            fired: fired(alloc, &[3, 1])?,
+            fired,
             timer: 2,
-            generation: 8
+            generation: 8,
         },
         Answer::Range { would_be: 1 << 64 },
         Answer::ClockSpent,
     ]?;
-    let record = no_timers(alloc, answers)?;
-    let want = b"record 1
+    Ok(ItemList::from_vec(answers))
+}
+
+const ANSWERS_TEXT: &str = "record 1
 call 1 0 spent 9
 call 1 1 cancelled 2
 call 1 2 running 2 3
@@ -288,7 +301,18 @@ call 1 7 range 18446744073709551616
 call 1 8 clockspent
 end
 ";
+
+#[test]
+fn each_answer_has_its_own_line(rt: HostRuntime) -> Result<(), AllocError> {
+    let alloc = rt.alloc();
+    let lane = each_answer(alloc)?;
+    let answers = ItemList::from_vec(vec![in alloc; ItemList::new(alloc), lane]?);
+    let record = RunRecord {
+        clock: ItemList::new(alloc),
+        timers: ItemList::new(alloc),
+        objects: ItemList::new(alloc),
+        answers,
+    };
     text_determines_the_record();
-    assert_eq!(rt; text(alloc, &record)?.as_slice(), want.as_slice());
-    Ok(())
+    shows(&rt, alloc, &record, ANSWERS_TEXT)
 }

@@ -1,3 +1,4 @@
+//! That the text of a record determines it.
 ghost use Rattle.std.specs.Prelude.{◌≡◌, length};
 ghost use Rattle.record_text.specs.Numbers.{HasMachineNumbers};
 ghost use Rattle.record_text.specs.Text.{text_of};

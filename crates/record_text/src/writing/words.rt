@@ -1,3 +1,4 @@
+//! The names of clocks, modes, writes and outcomes in a record's text.
 ghost use Rattle.std.specs.Prelude.{◌≡◌};
 ghost use Rattle.record_text.specs.Text.{counted_word, restart_word, write_ns, write_name};
 ghost use Rattle.record_text.specs.Words.{clock_word, mode_word};
