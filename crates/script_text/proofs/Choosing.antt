@@ -79,13 +79,15 @@ form_again forms.Readable = (call (codes "readable") (drop 2 (row forms.Readable
 -- ---- the form that words choose has their key words
 
 -- what holds of each row of a table holds of the word and the form that it names
-named_holds : (P : List ℕ → Form → Type 0) (table : List (List ℕ × Form)) (word : List ℕ) (form : Form) → AllByRecursion (λ f. P f.0 f.1) table → find_form table word ≡ Ok form → P word form
+found_holds : (P : List ℕ → Form → Type 0) (table : List (List ℕ × Form)) (word : List ℕ) (form : Form) → AllByRecursion (λ f. P f.0 f.1) table
+    → find_form table word ≡ Ok form → P word form
 unfolding find_form
-named_holds P [] word form all e = absurd cc
-named_holds P (f ∷ table) word form all e =
-    let go : (b : Bool) → bytes_eq word f.0 ≡ b → (if b then Ok f.1 else find_form table word) ≡ Ok form → P word form = λ b. elim b as (λ b. bytes_eq word f.0 ≡ b → (if b then Ok f.1 else find_form table word) ≡ Ok form → P word form) [
+found_holds P [] word form all e = absurd cc
+found_holds P (f ∷ table) word form all e =
+    let go : (b : Bool) → bytes_eq word f.0 ≡ b → (if b then Ok f.1 else find_form table word) ≡ Ok form
+        → P word form = λ b. elim b as (λ b. bytes_eq word f.0 ≡ b → (if b then Ok f.1 else find_form table word) ≡ Ok form → P word form) [
       | true ↦ λ is k. subst (λ form. P word form) (same_Ok f.1 form k) (subst (λ w. P w f.1) (sym ((bytes_eq-Decides word f.0).0 is)) all.0)
-      | false ↦ λ is k. named_holds P table word form all.1 k
+      | false ↦ λ is k. found_holds P table word form all.1 k
     ] in
     go (bytes_eq word f.0) refl e
 
@@ -93,13 +95,13 @@ named_holds P (f ∷ table) word form all e =
 abbrev has_no_keys : List Spot → Bool
 has_no_keys [] = true
 has_no_keys (Key key ∷ spots) = false
-has_no_keys (At place ∷ spots) = has_no_keys spots
+has_no_keys (At field ∷ spots) = has_no_keys spots
 
 no_keys : (spots : List Spot) (words : List (List ℕ)) → has_no_keys spots ≡ true → HasKeys spots words
 no_keys [] words none = tt
 no_keys (Key key ∷ spots) words none = absurd cc
-no_keys (At place ∷ spots) [] none = tt
-no_keys (At place ∷ spots) (word ∷ words) none = no_keys spots words none
+no_keys (At field ∷ spots) [] none = tt
+no_keys (At field ∷ spots) (word ∷ words) none = no_keys spots words none
 
 -- the row of a form begins so with a key word, and has no other behind
 abbrev Begins : (List ℕ → List Spot → List Spot) → ℕ → List ℕ → Form → Type 0
@@ -115,33 +117,52 @@ plain_begin key more = Key key ∷ more
 
 plain_chosen : (word : List ℕ) (words : List (List ℕ)) (form : Form) → find_form plain_forms word ≡ Ok form → HasKeys (row form) (word ∷ words)
 plain_chosen word words form e =
-    chosen plain_begin 1 word form (word ∷ words) (named_holds (Begins plain_begin 1) plain_forms word form ((refl, refl), ((refl, refl), ((refl, refl), ((refl, refl), ((refl, refl), ((refl, refl), ((refl, refl), tt))))))) e)
+    chosen plain_begin 1 word form (word ∷ words)
+        (found_holds (Begins plain_begin 1) plain_forms word form
+            ((refl, refl), ((refl, refl), ((refl, refl), ((refl, refl), ((refl, refl), ((refl, refl), ((refl, refl), tt))))))) e)
     (λ more none. (refl, no_keys more words none))
 
-callback_chosen : (words : List (List ℕ)) (form : Form) → find_form_by_first raw_forms (drop 2 words) ≡ Ok form → HasKeys (row form) (codes "raw" ∷ words)
+callback_chosen : (words : List (List ℕ)) (form : Form) → find_form_by_first raw_forms (drop 2 words) ≡ Ok form
+    → HasKeys (row form) (codes "raw" ∷ words)
 unfolding find_form_by_first
 callback_chosen [] form e = absurd cc
 callback_chosen (timer ∷ []) form e = absurd cc
 callback_chosen (timer ∷ clock ∷ []) form e = absurd cc
 callback_chosen (timer ∷ clock ∷ key ∷ words) form e =
-    chosen raw 4 key form _ (named_holds (Begins raw 4) raw_forms key form ((refl, refl), ((refl, refl), ((refl, refl), ((refl, refl), tt)))) e) (λ more none. (refl, (refl, no_keys more words none)))
+    chosen raw 4 key form _ (found_holds (Begins raw 4) raw_forms key form ((refl, refl), ((refl, refl), ((refl, refl), ((refl, refl), tt)))) e)
+        (λ more none. (refl, (refl, no_keys more words none)))
 
-call_chosen : (lane : List ℕ) (words : List (List ℕ)) (form : Form) → find_form_by_first call_forms words ≡ Ok form → HasKeys (row form) (lane ∷ words)
+call_chosen : (lane : List ℕ) (words : List (List ℕ)) (form : Form) → find_form_by_first call_forms words ≡ Ok form
+    → HasKeys (row form) (lane ∷ words)
 unfolding find_form_by_first
 call_chosen lane [] form e = absurd cc
 call_chosen lane (name ∷ words) form e =
-    chosen called 2 name form _ (named_holds (Begins called 2) call_forms name form ((refl, refl), ((refl, refl), ((refl, refl), ((refl, refl), ((refl, refl), ((refl, refl), ((refl, refl), ((refl, refl), ((refl, refl), ((refl, refl), ((refl, refl), ((refl, refl), ((refl, refl), tt))))))))))))) e)
+    chosen called 2 name form _
+        (found_holds (Begins called 2) call_forms name form
+            ((refl, refl), ((refl, refl),
+                ((refl, refl), ((refl, refl),
+                    ((refl, refl), ((refl, refl),
+                        ((refl, refl), ((refl, refl), ((refl, refl), ((refl, refl), ((refl, refl), ((refl, refl), ((refl, refl), tt))))))))))))) e)
     (λ more none. (refl, no_keys more words none))
 
 pub form_spells : (words : List (List ℕ)) (form : Form) → form_in words ≡ Ok form → HasKeys (row form) words
 unfolding form_in
 form_spells [] form e = absurd cc
 form_spells (word ∷ words) form e =
-    let raw_or_plain : (b : Bool) → bytes_eq word (codes "raw") ≡ b → (if b then find_form_by_first raw_forms (drop 2 words) else find_form plain_forms word) ≡ Ok form → HasKeys (row form) (word ∷ words) = λ b. elim b as (λ b. bytes_eq word (codes "raw") ≡ b → (if b then find_form_by_first raw_forms (drop 2 words) else find_form plain_forms word) ≡ Ok form → HasKeys (row form) (word ∷ words)) [
+    let raw_or_plain : (b : Bool) → bytes_eq word (codes "raw") ≡ b
+        → (if b then find_form_by_first raw_forms (drop 2 words) else find_form plain_forms word) ≡ Ok form → HasKeys (row form) (word ∷ words) =
+        λ b. elim b as (λ b. bytes_eq word (codes "raw") ≡ b
+            → (if b then find_form_by_first raw_forms (drop 2 words) else find_form plain_forms word) ≡ Ok form → HasKeys (row form) (word ∷ words)) [
       | true ↦ λ is k. subst (λ w. HasKeys (row form) (w ∷ words)) (sym ((bytes_eq-Decides word (codes "raw")).0 is)) (callback_chosen words form k)
       | false ↦ λ is k. plain_chosen word words form k
     ] in
-    let go : (b : Bool) → (if b then find_form_by_first call_forms words else (if bytes_eq word (codes "raw") then find_form_by_first raw_forms (drop 2 words) else find_form plain_forms word)) ≡ Ok form → HasKeys (row form) (word ∷ words) = λ b. elim b as (λ b. (if b then find_form_by_first call_forms words else (if bytes_eq word (codes "raw") then find_form_by_first raw_forms (drop 2 words) else find_form plain_forms word)) ≡ Ok form → HasKeys (row form) (word ∷ words)) [
+    let go : (b : Bool) →
+        (if b then find_form_by_first call_forms words else
+            (if bytes_eq word (codes "raw") then find_form_by_first raw_forms (drop 2 words) else find_form plain_forms word)) ≡ Ok form
+                → HasKeys (row form) (word ∷ words) =
+                λ b. elim b as (λ b. (if b then find_form_by_first call_forms words else
+                    (if bytes_eq word (codes "raw") then find_form_by_first raw_forms (drop 2 words) else find_form plain_forms word)) ≡ Ok form
+                        → HasKeys (row form) (word ∷ words)) [
       | true ↦ λ k. call_chosen word words form k
       | false ↦ λ k. raw_or_plain (bytes_eq word (codes "raw")) refl k
     ] in

@@ -14,11 +14,13 @@ use Rattle.script_text.proofs.Lines.{line_again}
 use Rattle.script_text.proofs.Scripts.{kept, kept_skipped, kept_more, read_from}
 use Rattle.script_text.proofs.Steps.{Steps, script_steps}
 
-line_taken : (d : Draft) (part : List ℕ) (l : Line) → part ≡ spelled l → IsLine l → check_line d l ≡ None → with_line_in d part ≡ Ok (draft_with_line d l)
+line_taken : (d : Draft) (part : List ℕ) (l : Line) → part ≡ spelled l → IsLine l → check_line d l ≡ None
+    → with_line_in d part ≡ Ok (draft_with_line d l)
 unfolding with_line_in
 line_taken d part l is line none = rw (is, line_again l line, none) refl
 
-taken : (number : ℕ) (d e : Draft) (parts : List (List ℕ)) (ls : List Line) → kept parts ≡ map spelled ls → AllByRecursion IsLine ls → Steps d ls e → e.headers ≡ 4 → script_from number d parts ≡ Ok (script_of e)
+taken : (number : ℕ) (d e : Draft) (parts : List (List ℕ)) (ls : List Line) → kept parts ≡ map spelled ls → AllByRecursion IsLine ls → Steps d ls e
+    → e.headers ≡ 4 → script_from number d parts ≡ Ok (script_of e)
 unfolding script_from
 taken number d e [] [] spelling lines steps four =
     let done : nat_lt d.headers 4 ≡ false = ap (λ (x : Draft). nat_lt x.headers 4) steps ∙ ap (λ (n : ℕ). nat_lt n 4) four in
@@ -27,7 +29,8 @@ taken number d e [] (l ∷ ls) spelling lines steps four = absurd cc
 taken number d e (part ∷ parts) ls spelling lines steps four =
     let rest : Result Script Refused = script_from (number + 1) d parts in
     let read : Result Script Refused = continue_after number (with_line_in d part) (λ now. script_from (number + 1) now parts) in
-    let go : (b : Bool) → is_skipped part ≡ b → (if b then rest else read) ≡ Ok (script_of e) = λ b. elim b as (λ b. is_skipped part ≡ b → (if b then rest else read) ≡ Ok (script_of e)) [
+    let go : (b : Bool) → is_skipped part ≡ b
+        → (if b then rest else read) ≡ Ok (script_of e) = λ b. elim b as (λ b. is_skipped part ≡ b → (if b then rest else read) ≡ Ok (script_of e)) [
       | true ↦ λ skipped. taken (number + 1) d e parts ls (sym (kept_skipped part parts skipped) ∙ spelling) lines steps four
       | false ↦ λ here. (elim ls as (λ ls. part ∷ kept parts ≡ map spelled ls → AllByRecursion IsLine ls → Steps d ls e → read ≡ Ok (script_of e)) [
         | [] ↦ λ spelling lines steps. absurd cc
@@ -44,7 +47,8 @@ pub read_again : (bytes : List ℕ) (s : Script) → Reads bytes s → script_in
 unfolding script_in
 read_again bytes s reads =
     let all = script_steps s reads.ranges in
-    let few : nat_lt most_script_bytes (length bytes) ≡ false = false_from_ne_true _ (λ long. omega (arith, ltb-true most_script_bytes (length bytes) long, reads.few)) in
+    let few : nat_lt most_script_bytes (length bytes) ≡ false =
+        false_from_ne_true _ (λ long. omega (arith, ltb-true most_script_bytes (length bytes) long, reads.few)) in
     rw few (taken 1 empty all.0 (lines_of bytes) (script_lines s) reads.spelling reads.lines all.1 all.2 ∙ ap (λ (s : Script). Ok s) all.3)
 
 pub one_script : (bytes : List ℕ) (s t : Script) → Reads bytes s → Reads bytes t → s ≡ t

@@ -10,9 +10,9 @@ use Rattle.script_text.specs.declared.refusal.Cause.{Cause}
 use Rattle.script_text.specs.declared.refusal.Cause.TheVariants as causes
 use Rattle.script_text.specs.Forms.{row}
 use Rattle.script_text.specs.Grammar.{IsLine, fill_form, spelled}
-use Rattle.script_text.specs.Reading.{◌>>=◌, filled_by, is_bad_byte, is_empty_word, line_in, values_in, words_in}
+use Rattle.script_text.specs.Reading.{◌>>=◌, line_of_form, is_bad_byte, is_empty_word, line_in, values_in, words_in}
 use Rattle.script_text.specs.Scripts.{is_skipped}
-use Rattle.script_text.proofs.Cutting.{Without, split_joined}
+use Rattle.record_text.proofs.Cutting.{Without, split_joined}
 use Rattle.script_text.proofs.Choosing.{form_again, form_spells}
 use Rattle.script_text.proofs.Filling.{line_in-words}
 use Rattle.script_text.proofs.Rows.{AreWords, HasKeys, bind_ok, is_plain, is_word, length-filled, row_words, same_Ok, values_again, values_spell}
@@ -61,7 +61,8 @@ good_bytes : (words : List (List ℕ)) → AllWords words → list_any is_bad_by
 good_bytes [] h = refl
 good_bytes ([] ∷ words) h = absurd cc
 good_bytes ((b ∷ bs) ∷ []) h = no_bad_byte (b ∷ bs) h.0
-good_bytes ((b ∷ bs) ∷ w ∷ ws) h = list_any-append is_bad_byte (b ∷ bs) (32 ∷ join_with_byte 32 (w ∷ ws)) ∙ rw (no_bad_byte (b ∷ bs) h.0) (good_bytes (w ∷ ws) h.1)
+good_bytes ((b ∷ bs) ∷ w ∷ ws) h =
+    list_any-append is_bad_byte (b ∷ bs) (32 ∷ join_with_byte 32 (w ∷ ws)) ∙ rw (no_bad_byte (b ∷ bs) h.0) (good_bytes (w ∷ ws) h.1)
 
 kept : (words : List (List ℕ)) → AreWords words → is_skipped (join_with_byte 32 words) ≡ false
 kept [] h = absurd (omega (arith, h.0))
@@ -79,22 +80,28 @@ pub spelled_kept : (l : Line) → IsLine l → is_skipped (spelled l) ≡ false
 spelled_kept l h = kept (fill_form (row l.form) l.values) (line_words l h)
 
 pub line_again : (l : Line) → IsLine l → line_in (spelled l) ≡ Ok l
-unfolding filled_by
+unfolding line_of_form
 line_again l h =
     let words = fill_form (row l.form) l.values in
     let are = line_words l h in
     let form = (form_again l.form).0 l.values h in
-    line_in-words (spelled l) words (sym (words_again words are)) (good_bytes words are.1) (no_empty_word words are.1)
-    ∙ rw (form, eq-eqb (length words) (length (row l.form)) (length-filled (row l.form) l.values h), values_again (row l.form) l.values h) refl
+    line_in-words (spelled l) words _ (sym (words_again words are)) (good_bytes words are.1) (no_empty_word words are.1) form
+    ∙ rw (eq-eqb (length words) (length (row l.form)) (length-filled (row l.form) l.values h), values_again (row l.form) l.values h) refl
 
 unless_refused : (b : Bool) (cause : Cause) (r : Result Line Cause) (l : Line) → (if b then Err cause else r) ≡ Ok l → r ≡ Ok l
 unless_refused true cause r l e = absurd cc
 unless_refused false cause r l e = e
 
-filled_spells : (form : Form) (words : List (List ℕ)) (l : Line) → HasKeys (row form) words → filled_by form words ≡ Ok l → (words ≡ fill_form (row l.form) l.values) × IsLine l
-unfolding filled_by
+filled_spells : (form : Form) (words : List (List ℕ)) (l : Line) → HasKeys (row form) words → line_of_form form words ≡ Ok l
+    → (words ≡ fill_form (row l.form) l.values) × IsLine l
+unfolding line_of_form
 filled_spells form words l keys e =
-    let go : (b : Bool) → (length words == length (row form)) ≡ b → (if b then (values_in (row form) words >>= λ vs. Ok (record { form = form; values = vs })) else Err causes.WordCount) ≡ Ok l → (words ≡ fill_form (row l.form) l.values) × IsLine l = λ b. elim b as (λ b. (length words == length (row form)) ≡ b → (if b then (values_in (row form) words >>= λ vs. Ok (record { form = form; values = vs })) else Err causes.WordCount) ≡ Ok l → (words ≡ fill_form (row l.form) l.values) × IsLine l) [
+    let go : (b : Bool) → (length words == length (row form)) ≡ b
+        → (if b then (values_in (row form) words >>= λ vs. Ok (record { form = form; values = vs })) else Err causes.WordCount) ≡ Ok l
+        → (words ≡ fill_form (row l.form) l.values) × IsLine l =
+        λ b. elim b as (λ b. (length words == length (row form)) ≡ b
+            → (if b then (values_in (row form) words >>= λ vs. Ok (record { form = form; values = vs })) else Err causes.WordCount) ≡ Ok l
+            → (words ≡ fill_form (row l.form) l.values) × IsLine l) [
       | true ↦ λ is k.
           let vs = bind_ok _ _ l k in
           let s = values_spell (row form) words vs.0 (eqb-true _ _ is) keys vs.1 in

@@ -1,4 +1,4 @@
--- A line that nothing is said against means a declaration or a call in range, whose line it is; and such a line is accepted.
+-- A line that no cause refuses means a declaration or a call in range, whose line it is; and such a line is accepted.
 use Rattle.std.proofs.Common.{◌≡◌, ℕ, ◌<◌, Bool, true, false, List, [], ◌∷◌, length, Some, None, refl, subst, ◌&&◌}
 use Rattle.std.specs.Option.{option_or}
 use Rattle.std.proofs.lemmas.Bool.{and_from, ltb-true, lt-ltb, leb-true, le-leb, eqb-true, eq-eqb}
@@ -8,7 +8,7 @@ use Rattle.clock_model.specs.declared.write.Write.TheVariants as writes
 use Rattle.script_text.specs.declared.form.Form.{Form}
 use Rattle.script_text.specs.declared.form.Form.TheVariants as forms
 use Rattle.script_text.specs.declared.form.Part.TheVariants as parts
-use Rattle.script_text.specs.declared.form.Place.TheVariants as places
+use Rattle.script_text.specs.declared.form.Field.TheVariants as fields
 use Rattle.script_text.specs.declared.form.Value.{Value}
 use Rattle.script_text.specs.declared.form.Value.TheVariants as values
 use Rattle.script_text.specs.declared.reading.drafts.Draft.{Draft}
@@ -24,7 +24,7 @@ use Rattle.script_text.specs.Grammar.{IsOfSort, Fills}
 use Rattle.script_text.specs.Scripts.{most_budget, declaration_line, call_line, IsKindInRange, IsCallInRange, HasTimerFor}
 use Rattle.script_text.specs.Drafts.{declaration_of, plain_call_of, object_call_of, call_of}
 use Rattle.script_text.specs.Refusals.{check_number, check_values, check_kind}
-use Rattle.script_text.proofs.Against.{neither, holds}
+use Rattle.script_text.proofs.Checks.{neither, holds}
 
 -- ---- the shapes of values that fill a row
 
@@ -36,13 +36,13 @@ is_of_sort ModeName (values.Mode modes.Rel) = true
 is_of_sort Numeral (values.Number n) = true
 is_of_sort sort v = false
 
--- there are as many values as places, of their sorts
+-- there are as many values as fields, of their sorts
 abbrev pub fits : List Spot → List Value → Bool
 fits [] [] = true
 fits [] (v ∷ vs) = false
 fits (Key word ∷ spots) vs = fits spots vs
-fits (At place ∷ spots) (v ∷ vs) = is_of_sort (sort place) v && fits spots vs
-fits (At place ∷ spots) [] = false
+fits (At field ∷ spots) (v ∷ vs) = is_of_sort (sort field) v && fits spots vs
+fits (At field ∷ spots) [] = false
 
 is_of_sort_from : (s : Sort) (v : Value) → IsOfSort s v → is_of_sort s v ≡ true
 is_of_sort_from ClockName (values.Clock clock) h = refl
@@ -55,8 +55,9 @@ pub fits_from : (spots : List Spot) (vs : List Value) → Fills spots vs → fit
 fits_from [] [] h = refl
 fits_from [] (v ∷ vs) h = absurd h
 fits_from (Key word ∷ spots) vs h = fits_from spots vs h
-fits_from (At place ∷ spots) (v ∷ vs) h = and_from (is_of_sort (sort place) v) (fits spots vs) (is_of_sort_from (sort place) v h.0) (fits_from spots vs h.1)
-fits_from (At place ∷ spots) [] h = absurd h
+fits_from (At field ∷ spots) (v ∷ vs) h =
+    and_from (is_of_sort (sort field) v) (fits spots vs) (is_of_sort_from (sort field) v h.0) (fits_from spots vs h.1)
+fits_from (At field ∷ spots) [] h = absurd h
 
 -- ---- declarations
 
@@ -67,9 +68,11 @@ pub record Declares (d : Draft) (f : Form) (vs : List Value) (t : Declaration) :
   pub range : IsKindInRange d.bases t.kind
 
 -- an object's number is the next, and its base exists
-object_on : (d : Draft) (i b : ℕ) → option_or (check_number d places.NewTimer i) (option_or (check_number d places.Base b) None) ≡ None → (i ≡ length d.timers) × (b < d.bases)
+object_on : (d : Draft) (i b : ℕ) → option_or (check_number d fields.NewTimer i) (option_or (check_number d fields.Base b) None) ≡ None
+    → (i ≡ length d.timers) × (b < d.bases)
 unfolding check_number
-object_on d i b e = let both = neither _ _ e in (eqb-true i (length d.timers) (holds _ _ both.0), ltb-true b d.bases (holds _ _ (neither _ _ both.1).0))
+object_on d i b e = let both =
+    neither _ _ e in (eqb-true i (length d.timers) (holds _ _ both.0), ltb-true b d.bases (holds _ _ (neither _ _ both.1).0))
 
 pub declares : (d : Draft) (f : Form) (vs : List Value) → part f ≡ parts.Declaration → fits (row f) vs ≡ true → check_values d (row f) vs ≡ None
     → (t : Declaration) × Declares d f vs t
@@ -96,7 +99,7 @@ declares d forms.Fd (values.Number i ∷ values.Clock c ∷ values.Number b ∷ 
     (record { clock = c; kind = kinds.Fd b }, record { means = refl; line = rw own.0 refl; range = own.1 })
 declares d _ _ is fit e = absurd cc
 
--- a line means this declaration, and nothing is said against it but its place and its count
+-- a line means this declaration, and no cause refuses it but where it stands and the count of its like
 pub record IsDeclarationOf (d : Draft) (f : Form) (vs : List Value) (t : Declaration) : Type 0 where
   pub means : declaration_of f vs ≡ Some t
   pub part : part f ≡ parts.Declaration
@@ -104,14 +107,21 @@ pub record IsDeclarationOf (d : Draft) (f : Form) (vs : List Value) (t : Declara
   pub kind : check_kind d f (row f) vs ≡ None
 
 pub declaration_again : (d : Draft) (clock : ClockId) (kind : Kind) → IsKindInRange d.bases kind
-    → IsDeclarationOf d (declaration_line (length d.timers) clock kind).form (declaration_line (length d.timers) clock kind).values (record { clock = clock; kind = kind })
+    → IsDeclarationOf d (declaration_line (length d.timers) clock kind).form (declaration_line (length d.timers) clock kind).values
+    (record { clock = clock; kind = kind })
 unfolding declaration_of check_values check_number check_kind
-declaration_again d clock (kinds.Raw callbacks.Once) range = record { means = refl; part = refl; values = rw (eq-eqb (length d.timers) (length d.timers) refl) refl; kind = refl }
-declaration_again d clock (kinds.Raw (callbacks.Every n)) range = record { means = refl; part = refl; values = rw (eq-eqb (length d.timers) (length d.timers) refl) refl; kind = refl }
-declaration_again d clock (kinds.Raw callbacks.Cancels) range = record { means = refl; part = refl; values = rw (eq-eqb (length d.timers) (length d.timers) refl) refl; kind = refl }
-declaration_again d clock (kinds.Raw (callbacks.Starts n b)) range = record { means = refl; part = refl; values = rw (eq-eqb (length d.timers) (length d.timers) refl, lt-ltb b d.bases range) refl; kind = refl }
-declaration_again d clock (kinds.Posix base) range = record { means = refl; part = refl; values = rw (eq-eqb (length d.timers) (length d.timers) refl, lt-ltb base d.bases range) refl; kind = refl }
-declaration_again d clock (kinds.Fd base) range = record { means = refl; part = refl; values = rw (eq-eqb (length d.timers) (length d.timers) refl, lt-ltb base d.bases range) refl; kind = refl }
+declaration_again d clock (kinds.Raw callbacks.Once) range =
+    record { means = refl; part = refl; values = rw (eq-eqb (length d.timers) (length d.timers) refl) refl; kind = refl }
+declaration_again d clock (kinds.Raw (callbacks.Every n)) range =
+    record { means = refl; part = refl; values = rw (eq-eqb (length d.timers) (length d.timers) refl) refl; kind = refl }
+declaration_again d clock (kinds.Raw callbacks.Cancels) range =
+    record { means = refl; part = refl; values = rw (eq-eqb (length d.timers) (length d.timers) refl) refl; kind = refl }
+declaration_again d clock (kinds.Raw (callbacks.Starts n b)) range =
+    record { means = refl; part = refl; values = rw (eq-eqb (length d.timers) (length d.timers) refl, lt-ltb b d.bases range) refl; kind = refl }
+declaration_again d clock (kinds.Posix base) range =
+    record { means = refl; part = refl; values = rw (eq-eqb (length d.timers) (length d.timers) refl, lt-ltb base d.bases range) refl; kind = refl }
+declaration_again d clock (kinds.Fd base) range =
+    record { means = refl; part = refl; values = rw (eq-eqb (length d.timers) (length d.timers) refl, lt-ltb base d.bases range) refl; kind = refl }
 
 -- ---- calls
 
@@ -122,7 +132,7 @@ pub record Calls (d : Draft) (f : Form) (vs : List Value) (c : LaneCall) : Type 
   pub lane : c.lane < d.lanes
   pub range : IsCallInRange d.bases d.timers c.call
 
--- a line reads as this call, and nothing is said against it but its place and its count
+-- a line reads as this call, and no cause refuses it but where it stands and the count of its like
 pub record IsCallOf (d : Draft) (f : Form) (vs : List Value) (c : LaneCall) : Type 0 where
   pub means : call_of f vs ≡ Some c
   pub part : part f ≡ parts.Call
@@ -130,10 +140,13 @@ pub record IsCallOf (d : Draft) (f : Form) (vs : List Value) (c : LaneCall) : Ty
   pub kind : check_kind d f (row f) vs ≡ None
 
 -- a call on a timer: behind its lane and its timer stand other values
-module _ (d : Draft) (f : Form) (name : List ℕ) (spots : List Spot) (k i : ℕ) (more : List Value) (call : Call) (is : row f ≡ called name (At places.Timer ∷ spots)) where
-  timer_call : call_of f (values.Number k ∷ values.Number i ∷ more) ≡ Some (record { lane = k; call = call }) → record { form = f; values = values.Number k ∷ values.Number i ∷ more } ≡ call_line k call
+module _ (d : Draft) (f : Form) (name : List ℕ) (spots : List Spot) (k i : ℕ) (more : List Value) (call : Call)
+    (is : row f ≡ called name (At fields.Timer ∷ spots)) where
+  timer_call : call_of f (values.Number k ∷ values.Number i ∷ more) ≡ Some (record { lane = k; call = call })
+      → record { form = f; values = values.Number k ∷ values.Number i ∷ more } ≡ call_line k call
       → (check_values d spots more ≡ None → HasTimerFor d.timers i f → IsCallInRange d.bases d.timers call)
-      → check_values d (row f) (values.Number k ∷ values.Number i ∷ more) ≡ None → check_kind d f (row f) (values.Number k ∷ values.Number i ∷ more) ≡ None
+      → check_values d (row f) (values.Number k ∷ values.Number i ∷ more) ≡ None
+      → check_kind d f (row f) (values.Number k ∷ values.Number i ∷ more) ≡ None
       → (c : LaneCall) × Calls d f (values.Number k ∷ values.Number i ∷ more) c
   unfolding check_values check_number check_kind
   timer_call means line range none kind =
@@ -141,9 +154,11 @@ module _ (d : Draft) (f : Form) (name : List ℕ) (spots : List Spot) (k i : ℕ
       let lane = neither _ _ (subst (λ spots. check_values d spots vs ≡ None) is none) in
       let timer = neither _ _ lane.1 in
       let suit = holds _ _ (subst (λ spots. check_kind d f spots vs ≡ None) is kind) in
-      (record { lane = k; call = call }, record { means = means; line = line; lane = ltb-true k d.lanes (holds _ _ lane.0); range = range timer.1 (ltb-true i (length d.timers) (holds _ _ timer.0), suit) })
+      (record { lane = k; call = call }, record { means = means; line = line; lane = ltb-true k d.lanes (holds _ _ lane.0); range =
+          range timer.1 (ltb-true i (length d.timers) (holds _ _ timer.0), suit) })
 
-  timer_call_again : call_of f (values.Number k ∷ values.Number i ∷ more) ≡ Some (record { lane = k; call = call }) → part f ≡ parts.Call → k < d.lanes → HasTimerFor d.timers i f → check_values d spots more ≡ None
+  timer_call_again : call_of f (values.Number k ∷ values.Number i ∷ more) ≡ Some (record { lane = k; call = call }) → part f ≡ parts.Call
+      → k < d.lanes → HasTimerFor d.timers i f → check_values d spots more ≡ None
       → IsCallOf d f (values.Number k ∷ values.Number i ∷ more) (record { lane = k; call = call })
   unfolding check_values check_number check_kind
   timer_call_again means call_part lane suit none = record {
@@ -153,42 +168,61 @@ module _ (d : Draft) (f : Form) (name : List ℕ) (spots : List Spot) (k i : ℕ
     kind = rw (is, suit.1) refl;
   }
 
-pub calls_for : (d : Draft) (f : Form) (vs : List Value) → part f ≡ parts.Call → fits (row f) vs ≡ true → check_values d (row f) vs ≡ None → check_kind d f (row f) vs ≡ None
+pub calls_for : (d : Draft) (f : Form) (vs : List Value) → part f ≡ parts.Call → fits (row f) vs ≡ true → check_values d (row f) vs ≡ None
+    → check_kind d f (row f) vs ≡ None
     → (c : LaneCall) × Calls d f vs c
 unfolding call_of plain_call_of object_call_of check_values check_number check_kind
 calls_for d forms.Start (values.Number k ∷ values.Number i ∷ values.Mode modes.Rel ∷ values.Number n ∷ values.Number b ∷ []) is fit e kind =
-    timer_call d forms.Start _ _ k i _ (calls.Start i modes.Rel n b) refl refl refl (λ none suit. (suit, ltb-true b d.bases (holds _ _ (neither _ _ none).0))) e kind
+    timer_call d forms.Start _ _ k i _ (calls.Start i modes.Rel n b) refl refl refl
+        (λ none suit. (suit, ltb-true b d.bases (holds _ _ (neither _ _ none).0))) e kind
 calls_for d forms.Start (values.Number k ∷ values.Number i ∷ values.Mode modes.Abs ∷ values.Number n ∷ values.Number b ∷ []) is fit e kind =
-    timer_call d forms.Start _ _ k i _ (calls.Start i modes.Abs n b) refl refl refl (λ none suit. (suit, ltb-true b d.bases (holds _ _ (neither _ _ none).0))) e kind
-calls_for d forms.Cancel (values.Number k ∷ values.Number i ∷ []) is fit e kind = timer_call d forms.Cancel _ _ k i _ (calls.Cancel i) refl refl refl (λ none suit. suit) e kind
-calls_for d forms.Peek (values.Number k ∷ values.Number i ∷ []) is fit e kind = timer_call d forms.Peek _ _ k i _ (calls.Peek i) refl refl refl (λ none suit. suit) e kind
+    timer_call d forms.Start _ _ k i _ (calls.Start i modes.Abs n b) refl refl refl
+        (λ none suit. (suit, ltb-true b d.bases (holds _ _ (neither _ _ none).0))) e kind
+calls_for d forms.Cancel (values.Number k ∷ values.Number i ∷ []) is fit e kind =
+    timer_call d forms.Cancel _ _ k i _ (calls.Cancel i) refl refl refl (λ none suit. suit) e kind
+calls_for d forms.Peek (values.Number k ∷ values.Number i ∷ []) is fit e kind =
+    timer_call d forms.Peek _ _ k i _ (calls.Peek i) refl refl refl (λ none suit. suit) e kind
 calls_for d forms.Expire (values.Number k ∷ values.Number b ∷ values.Number n ∷ []) is fit e kind =
     let lane = neither _ _ e in
     let base = neither _ _ lane.1 in
     let budget = neither _ _ base.1 in
-    (record { lane = k; call = calls.Expire b n }, record { means = refl; line = refl; lane = ltb-true k d.lanes (holds _ _ lane.0); range = (ltb-true b d.bases (holds _ _ base.0), leb-true n most_budget (holds _ _ budget.0)) })
+    (record { lane = k; call = calls.Expire b n }, record { means = refl; line = refl; lane =
+        ltb-true k d.lanes (holds _ _ lane.0); range = (ltb-true b d.bases (holds _ _ base.0), leb-true n most_budget (holds _ _ budget.0)) })
 calls_for d forms.Advance (values.Number k ∷ values.Number n ∷ []) is fit e kind =
-    (record { lane = k; call = calls.Clock (writes.Advance n) }, record { means = refl; line = refl; lane = ltb-true k d.lanes (holds _ _ (neither _ _ e).0); range = tt })
+    (record { lane = k; call = calls.Clock (writes.Advance n) }, record { means = refl; line = refl; lane =
+        ltb-true k d.lanes (holds _ _ (neither _ _ e).0); range = tt })
 calls_for d forms.Set (values.Number k ∷ values.Number n ∷ []) is fit e kind =
-    (record { lane = k; call = calls.Clock (writes.Set n) }, record { means = refl; line = refl; lane = ltb-true k d.lanes (holds _ _ (neither _ _ e).0); range = tt })
+    (record { lane = k; call = calls.Clock (writes.Set n) }, record { means = refl; line = refl; lane =
+        ltb-true k d.lanes (holds _ _ (neither _ _ e).0); range = tt })
 calls_for d forms.Suspend (values.Number k ∷ values.Number n ∷ []) is fit e kind =
-    (record { lane = k; call = calls.Clock (writes.Suspend n) }, record { means = refl; line = refl; lane = ltb-true k d.lanes (holds _ _ (neither _ _ e).0); range = tt })
-calls_for d forms.Settime (values.Number k ∷ values.Number i ∷ values.Number f ∷ values.Number vs ∷ values.Number vn ∷ values.Number is ∷ values.Number in_ ∷ []) call fit e kind =
-    timer_call d forms.Settime _ _ k i _ (calls.Settime i f (record { sec = vs; nsec = vn }) (record { sec = is; nsec = in_ })) refl refl refl (λ none suit. suit) e kind
-calls_for d forms.Gettime (values.Number k ∷ values.Number i ∷ []) is fit e kind = timer_call d forms.Gettime _ _ k i _ (calls.Gettime i) refl refl refl (λ none suit. suit) e kind
-calls_for d forms.Accept (values.Number k ∷ values.Number i ∷ []) is fit e kind = timer_call d forms.Accept _ _ k i _ (calls.Accept i) refl refl refl (λ none suit. suit) e kind
-calls_for d forms.Overrun (values.Number k ∷ values.Number i ∷ []) is fit e kind = timer_call d forms.Overrun _ _ k i _ (calls.Overrun i) refl refl refl (λ none suit. suit) e kind
-calls_for d forms.Read (values.Number k ∷ values.Number i ∷ values.Number n ∷ []) is fit e kind = timer_call d forms.Read _ _ k i _ (calls.Read i n) refl refl refl (λ none suit. suit) e kind
-calls_for d forms.Readable (values.Number k ∷ values.Number i ∷ []) is fit e kind = timer_call d forms.Readable _ _ k i _ (calls.Readable i) refl refl refl (λ none suit. suit) e kind
+    (record { lane = k; call = calls.Clock (writes.Suspend n) }, record { means = refl; line = refl; lane =
+        ltb-true k d.lanes (holds _ _ (neither _ _ e).0); range = tt })
+calls_for d forms.Settime
+    (values.Number k ∷ values.Number i ∷ values.Number f ∷ values.Number vs ∷ values.Number vn ∷ values.Number is ∷ values.Number in_ ∷
+        []) call fit e kind =
+    timer_call d forms.Settime _ _ k i _ (calls.Settime i f (record { sec = vs; nsec = vn }) (record { sec = is; nsec = in_ })) refl refl refl
+        (λ none suit. suit) e kind
+calls_for d forms.Gettime (values.Number k ∷ values.Number i ∷ []) is fit e kind =
+    timer_call d forms.Gettime _ _ k i _ (calls.Gettime i) refl refl refl (λ none suit. suit) e kind
+calls_for d forms.Accept (values.Number k ∷ values.Number i ∷ []) is fit e kind =
+    timer_call d forms.Accept _ _ k i _ (calls.Accept i) refl refl refl (λ none suit. suit) e kind
+calls_for d forms.Overrun (values.Number k ∷ values.Number i ∷ []) is fit e kind =
+    timer_call d forms.Overrun _ _ k i _ (calls.Overrun i) refl refl refl (λ none suit. suit) e kind
+calls_for d forms.Read (values.Number k ∷ values.Number i ∷ values.Number n ∷ []) is fit e kind =
+    timer_call d forms.Read _ _ k i _ (calls.Read i n) refl refl refl (λ none suit. suit) e kind
+calls_for d forms.Readable (values.Number k ∷ values.Number i ∷ []) is fit e kind =
+    timer_call d forms.Readable _ _ k i _ (calls.Readable i) refl refl refl (λ none suit. suit) e kind
 calls_for d _ _ is fit e kind = absurd cc
 
 pub call_again : (d : Draft) (lane : ℕ) (call : Call) → lane < d.lanes → IsCallInRange d.bases d.timers call
     → IsCallOf d (call_line lane call).form (call_line lane call).values (record { lane = lane; call = call })
 unfolding call_of plain_call_of object_call_of check_values check_number check_kind
 call_again d lane (calls.Start timer modes.Rel ns base) own range =
-    timer_call_again d forms.Start _ _ lane timer _ (calls.Start timer modes.Rel ns base) refl refl refl own range.0 (rw (lt-ltb base d.bases range.1) refl)
+    timer_call_again d forms.Start _ _ lane timer _ (calls.Start timer modes.Rel ns base) refl refl refl own range.0
+        (rw (lt-ltb base d.bases range.1) refl)
 call_again d lane (calls.Start timer modes.Abs ns base) own range =
-    timer_call_again d forms.Start _ _ lane timer _ (calls.Start timer modes.Abs ns base) refl refl refl own range.0 (rw (lt-ltb base d.bases range.1) refl)
+    timer_call_again d forms.Start _ _ lane timer _ (calls.Start timer modes.Abs ns base) refl refl refl own range.0
+        (rw (lt-ltb base d.bases range.1) refl)
 call_again d lane (calls.Start timer modes.Keep ns base) own range = absurd range
 call_again d lane (calls.Cancel timer) own range = timer_call_again d forms.Cancel _ _ lane timer _ (calls.Cancel timer) refl refl refl own range refl
 call_again d lane (calls.Peek timer) own range = timer_call_again d forms.Peek _ _ lane timer _ (calls.Peek timer) refl refl refl own range refl
@@ -198,12 +232,20 @@ call_again d lane (calls.Expire base budget) own range = record {
   values = rw (lt-ltb lane d.lanes own, lt-ltb base d.bases range.0, le-leb budget most_budget range.1) refl;
   kind = refl;
 }
-call_again d lane (calls.Clock (writes.Advance by)) own range = record { means = refl; part = refl; values = rw (lt-ltb lane d.lanes own) refl; kind = refl }
-call_again d lane (calls.Clock (writes.Set to)) own range = record { means = refl; part = refl; values = rw (lt-ltb lane d.lanes own) refl; kind = refl }
-call_again d lane (calls.Clock (writes.Suspend by)) own range = record { means = refl; part = refl; values = rw (lt-ltb lane d.lanes own) refl; kind = refl }
-call_again d lane (calls.Settime timer flags value interval) own range = timer_call_again d forms.Settime _ _ lane timer _ (calls.Settime timer flags value interval) refl refl refl own range refl
-call_again d lane (calls.Gettime timer) own range = timer_call_again d forms.Gettime _ _ lane timer _ (calls.Gettime timer) refl refl refl own range refl
+call_again d lane (calls.Clock (writes.Advance by)) own range =
+    record { means = refl; part = refl; values = rw (lt-ltb lane d.lanes own) refl; kind = refl }
+call_again d lane (calls.Clock (writes.Set to)) own range =
+    record { means = refl; part = refl; values = rw (lt-ltb lane d.lanes own) refl; kind = refl }
+call_again d lane (calls.Clock (writes.Suspend by)) own range =
+    record { means = refl; part = refl; values = rw (lt-ltb lane d.lanes own) refl; kind = refl }
+call_again d lane (calls.Settime timer flags value interval) own range =
+    timer_call_again d forms.Settime _ _ lane timer _ (calls.Settime timer flags value interval) refl refl refl own range refl
+call_again d lane (calls.Gettime timer) own range =
+    timer_call_again d forms.Gettime _ _ lane timer _ (calls.Gettime timer) refl refl refl own range refl
 call_again d lane (calls.Accept timer) own range = timer_call_again d forms.Accept _ _ lane timer _ (calls.Accept timer) refl refl refl own range refl
-call_again d lane (calls.Overrun timer) own range = timer_call_again d forms.Overrun _ _ lane timer _ (calls.Overrun timer) refl refl refl own range refl
-call_again d lane (calls.Read timer len) own range = timer_call_again d forms.Read _ _ lane timer _ (calls.Read timer len) refl refl refl own range refl
-call_again d lane (calls.Readable timer) own range = timer_call_again d forms.Readable _ _ lane timer _ (calls.Readable timer) refl refl refl own range refl
+call_again d lane (calls.Overrun timer) own range =
+    timer_call_again d forms.Overrun _ _ lane timer _ (calls.Overrun timer) refl refl refl own range refl
+call_again d lane (calls.Read timer len) own range =
+    timer_call_again d forms.Read _ _ lane timer _ (calls.Read timer len) refl refl refl own range refl
+call_again d lane (calls.Readable timer) own range =
+    timer_call_again d forms.Readable _ _ lane timer _ (calls.Readable timer) refl refl refl own range refl

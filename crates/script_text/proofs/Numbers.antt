@@ -30,7 +30,10 @@ pub number_spells : (word : List ℕ) (n : ℕ) → number_in word ≡ Some n �
 unfolding number_in
 number_spells word n e =
     let v = digits_value 10 word in
-    let read : (b : Bool) → (nat_le v last_time && bytes_eq word (decimal v)) ≡ b → (if b then Some v else None) ≡ Some n → (word ≡ decimal n) × (n ≤ last_time) = λ b. elim b as (λ b. (nat_le v last_time && bytes_eq word (decimal v)) ≡ b → (if b then Some v else None) ≡ Some n → (word ≡ decimal n) × (n ≤ last_time)) [
+    let read : (b : Bool) → (nat_le v last_time && bytes_eq word (decimal v)) ≡ b → (if b then Some v else None) ≡ Some n
+        → (word ≡ decimal n) × (n ≤ last_time) =
+        λ b. elim b as (λ b. (nat_le v last_time && bytes_eq word (decimal v)) ≡ b → (if b then Some v else None) ≡ Some n
+            → (word ≡ decimal n) × (n ≤ last_time)) [
       | true ↦ λ is k.
           let both = and_parts (nat_le v last_time) (bytes_eq word (decimal v)) is in
           let same : v ≡ n = same_Some v n k in
@@ -63,19 +66,26 @@ none_from_front word other front = number_none word (λ n small is.
     ])
 
 pub none_from_utf8 : (word : List ℕ) → ¬ (IsUtf8 word) → None ≡ number_in word
-none_from_utf8 word other = number_none word (λ n small is. other (subst (λ w. IsUtf8 w) (sym is) (IsUtf8-from_ascii (decimal n) (IsAscii-decimal n (omega arith)))))
+none_from_utf8 word other =
+    number_none word (λ n small is. other (subst (λ w. IsUtf8 w) (sym is) (IsUtf8-from_ascii (decimal n) (IsAscii-decimal n (omega arith)))))
 
 pub none_from_parse : {E : Type 0} (word : List ℕ) (r : Result ℕ E) (e : E) → ParsesUnsigned 64 10 word r → r ≡ Err e → None ≡ number_in word
-none_from_parse word r e parses failed = number_none word (λ n small is. let read = parse-decimal 64 n word r (omega arith) (omega arith) is parses in absurd cc)
+none_from_parse word r e parses failed =
+    number_none word (λ n small is. let read = parse-decimal 64 n word r (omega arith) (omega arith) is parses in absurd cc)
 
-pub none_from_large : {E : Type 0} (word : List ℕ) (r : Result ℕ E) (m : ℕ) → ParsesUnsigned 64 10 word r → r ≡ Ok m → last_time < m → None ≡ number_in word
-none_from_large word r m parses gave large = number_none word (λ n small is. let read = parse-decimal 64 n word r (omega arith) (omega arith) is parses in let same : n ≡ m = cc in omega (arith, same))
+pub none_from_large : {E : Type 0} (word : List ℕ) (r : Result ℕ E) (m : ℕ) → ParsesUnsigned 64 10 word r → r ≡ Ok m → last_time < m
+    → None ≡ number_in word
+none_from_large word r m parses gave large =
+    number_none word (λ n small is. let read = parse-decimal 64 n word r (omega arith) (omega arith) is parses in let same : n ≡ m = cc in
+        omega (arith, same))
 
 -- what `parse` reads of digits that do not begin with 0
-pub number_from_parse : {E : Type 0} (word : List ℕ) (r : Result ℕ E) (m : ℕ) → ParsesUnsigned 64 10 word r → r ≡ Ok m → 49 ≤ get_or word 0 0 → m ≤ last_time → Some m ≡ number_in word
+pub number_from_parse : {E : Type 0} (word : List ℕ) (r : Result ℕ E) (m : ℕ) → ParsesUnsigned 64 10 word r → r ≡ Ok m → 49 ≤ get_or word 0 0
+    → m ≤ last_time → Some m ≡ number_in word
 number_from_parse word r m parses gave front small =
     let fact = parse_plain own 64 word r parses (λ plus. omega (arith, plus)) in
-    let read : (AllDigits 10 word × (0 < length word) × (digits_value 10 word < 2 ^ 64)) × (m ≡ digits_value 10 word) = subst (λ x. OkIff x (AllDigits 10 word × (0 < length word) × (digits_value 10 word < 2 ^ 64)) (digits_value 10 word)) gave fact in
+    let read : (AllDigits 10 word × (0 < length word) × (digits_value 10 word < 2 ^ 64)) × (m ≡ digits_value 10 word) =
+        subst (λ x. OkIff x (AllDigits 10 word × (0 < length word) × (digits_value 10 word < 2 ^ 64)) (digits_value 10 word)) gave fact in
     let spells : decimal (digits_value 10 word) ≡ word = decimal-digits_value own word read.0.0 read.0.1 (λ zero. omega (arith, zero)) read.0.2 in
     let is : decimal m ≡ word = ap decimal read.1 ∙ spells in
     subst (λ w. Some m ≡ number_in w) is (sym (number_again m small))

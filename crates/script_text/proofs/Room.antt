@@ -1,4 +1,4 @@
--- A draft keeps its room with one more line that nothing is said check_line.
+-- A draft keeps its room with one more line that no cause refuses.
 use Rattle.std.proofs.Common.{◌≡◌, ℕ, ◌+◌, ◌<◌, true, List, [], ◌∷◌, ◌++◌, length, Option, Some, None, refl, arith}
 use Rattle.std.proofs.lemmas.Bool.{and_parts, ltb-true, leb-true, eqb-true}
 use Rattle.std.proofs.lemmas.List.{length-append}
@@ -16,7 +16,7 @@ use Rattle.script_text.specs.Forms.{row, part}
 use Rattle.script_text.specs.Scripts.{most_bases, most_lanes, most_timers, most_calls}
 use Rattle.script_text.specs.Drafts.{IsWithinLimits, declaration_of, call_of, with_header, with_timer, with_round, with_call, with_part, draft_with_line}
 use Rattle.script_text.specs.Refusals.{is_placed, check_count, check_number, check_values, check_line}
-use Rattle.script_text.proofs.Against.{neither, holds, accepts}
+use Rattle.script_text.proofs.Checks.{neither, holds, accepts}
 
 pub header_number : (f : Form) (n : ℕ) → part f ≡ parts.Header n → n < 4
 header_number forms.Version n is = let same : 0 ≡ n = cc in omega (arith, same)
@@ -25,30 +25,42 @@ header_number forms.Lanes n is = let same : 2 ≡ n = cc in omega (arith, same)
 header_number forms.Limit n is = let same : 3 ≡ n = cc in omega (arith, same)
 header_number _ n is = absurd cc
 
-header_room : (d : Draft) (f : Form) (vs : List Value) → d.headers < 4 → check_values d (row f) vs ≡ None → IsWithinLimits d → IsWithinLimits (with_header d f vs)
+header_room : (d : Draft) (f : Form) (vs : List Value) → d.headers < 4 → check_values d (row f) vs ≡ None → IsWithinLimits d
+    → IsWithinLimits (with_header d f vs)
 unfolding with_header check_values check_number
 header_room d forms.Bases (values.Number n ∷ []) few e room =
-    record { headers = omega (arith, few); bases = leb-true n most_bases (and_parts _ _ (holds _ _ (neither _ _ e).0)).1; lanes = room.lanes; timers = room.timers; calls = room.calls }
+    record { headers = omega (arith, few); bases = leb-true n most_bases (and_parts _ _ (holds _ _ (neither _ _ e).0)).1; lanes = room.lanes; timers =
+        room.timers; calls = room.calls }
 header_room d forms.Lanes (values.Number n ∷ []) few e room =
-    record { headers = omega (arith, few); bases = room.bases; lanes = leb-true n most_lanes (and_parts _ _ (holds _ _ (neither _ _ e).0)).1; timers = room.timers; calls = room.calls }
-header_room d forms.Limit (values.Number n ∷ []) few e room = record { headers = omega (arith, few); bases = room.bases; lanes = room.lanes; timers = room.timers; calls = room.calls }
-header_room d _ _ few e room = record { headers = omega (arith, few); bases = room.bases; lanes = room.lanes; timers = room.timers; calls = room.calls }
+    record { headers = omega (arith, few); bases = room.bases; lanes = leb-true n most_lanes (and_parts _ _ (holds _ _ (neither _ _ e).0)).1; timers =
+        room.timers; calls = room.calls }
+header_room d forms.Limit (values.Number n ∷ []) few e room =
+    record { headers = omega (arith, few); bases = room.bases; lanes = room.lanes; timers = room.timers; calls = room.calls }
+header_room d _ _ few e room =
+    record { headers = omega (arith, few); bases = room.bases; lanes = room.lanes; timers = room.timers; calls = room.calls }
 
 timer_room : (d : Draft) (o : Option Declaration) → length d.timers < most_timers → IsWithinLimits d → IsWithinLimits (with_timer d o)
 unfolding with_timer
 timer_room d None few room = room
-timer_room d (Some t) few room = let sum : length (d.timers ++ t ∷ []) ≡ length d.timers + 1 = length-append _ _ in record { headers = room.headers; bases = room.bases; lanes = room.lanes; timers = omega (arith, sum, few); calls = room.calls }
+timer_room d (Some t) few room =
+    let sum : length (d.timers ++ t ∷ []) ≡ length d.timers + 1 = length-append _ _ in
+        record { headers = room.headers; bases = room.bases; lanes = room.lanes; timers = omega (arith, sum, few); calls = room.calls }
 
 call_room : (d : Draft) (o : Option LaneCall) → d.calls < most_calls → IsWithinLimits d → IsWithinLimits (with_call d o)
 unfolding with_call
 call_room d None few room = room
-call_room d (Some c) few room = record { headers = room.headers; bases = room.bases; lanes = room.lanes; timers = room.timers; calls = omega (arith, few) }
+call_room d (Some c) few room =
+    record { headers = room.headers; bases = room.bases; lanes = room.lanes; timers = room.timers; calls = omega (arith, few) }
 
-part_room : (d : Draft) (f : Form) (vs : List Value) (p : Part) → part f ≡ p → is_placed d p ≡ true → check_count d p ≡ None → check_values d (row f) vs ≡ None → IsWithinLimits d → IsWithinLimits (with_part d p f vs)
+part_room : (d : Draft) (f : Form) (vs : List Value) (p : Part) → part f ≡ p → is_placed d p ≡ true → check_count d p ≡ None
+    → check_values d (row f) vs ≡ None → IsWithinLimits d → IsWithinLimits (with_part d p f vs)
 unfolding is_placed check_count with_part with_round
-part_room d f vs (parts.Header n) is placed count e room = header_room d f vs (omega (arith, eqb-true d.headers n placed, header_number f n is)) e room
-part_room d f vs parts.Declaration is placed count e room = timer_room d (declaration_of f vs) (ltb-true (length d.timers) most_timers (holds _ _ count)) room
-part_room d f vs parts.Round is placed count e room = record { headers = room.headers; bases = room.bases; lanes = room.lanes; timers = room.timers; calls = room.calls }
+part_room d f vs (parts.Header n) is placed count e room =
+    header_room d f vs (omega (arith, eqb-true d.headers n placed, header_number f n is)) e room
+part_room d f vs parts.Declaration is placed count e room =
+    timer_room d (declaration_of f vs) (ltb-true (length d.timers) most_timers (holds _ _ count)) room
+part_room d f vs parts.Round is placed count e room =
+    record { headers = room.headers; bases = room.bases; lanes = room.lanes; timers = room.timers; calls = room.calls }
 part_room d f vs parts.Call is placed count e room = call_room d (call_of f vs) (ltb-true d.calls most_calls (holds _ _ count)) room
 
 pub room_kept : (d : Draft) (l : Line) → check_line d l ≡ None → IsWithinLimits d → IsWithinLimits (draft_with_line d l)

@@ -1,4 +1,4 @@
--- Rows, and the words that they are fill_form to: such words give the values back, and what words give fills the row to them again.
+-- Rows, and the words that they are filled to: such words give the values back, and what words give fills the row to them again.
 use Rattle.std.proofs.Common.{arith, codes, ◌≡◌, ℕ, ◌<◌, Bool, true, false, List, [], ◌∷◌, length, Option, Some, None, Result, Ok, Err, refl, ap, subst, ◌∙◌, nat_lt, if◌then◌else◌, ◌&&◌}
 use Rattle.std.specs.Prelude.{bytes_eq}
 use Rattle.std.specs.Fmt.{decimal}
@@ -36,9 +36,11 @@ found cause (Some x) a e = ap (λ y. Some y) (same_Ok x a e)
 found cause None a e = absurd cc
 
 -- where a choice by a word went well, either the word is this one, or the rest of the choice went well
-key_then : {A P : Type 0} (word key : List ℕ) (x y : Option A) (a : A) → (if bytes_eq word key then x else y) ≡ Some a → (word ≡ key → x ≡ Some a → P) → (y ≡ Some a → P) → P
+key_then : {A P : Type 0} (word key : List ℕ) (x y : Option A) (a : A) → (if bytes_eq word key then x else y) ≡ Some a → (word ≡ key → x ≡ Some a → P)
+    → (y ≡ Some a → P) → P
 key_then {A} {P} word key x y a e this other =
-    let go : (b : Bool) → bytes_eq word key ≡ b → (if b then x else y) ≡ Some a → P = λ b. elim b as (λ b. bytes_eq word key ≡ b → (if b then x else y) ≡ Some a → P) [
+    let go : (b : Bool) → bytes_eq word key ≡ b → (if b then x else y) ≡ Some a
+        → P = λ b. elim b as (λ b. bytes_eq word key ≡ b → (if b then x else y) ≡ Some a → P) [
       | true ↦ λ is k. this ((bytes_eq-Decides word key).0 is) k
       | false ↦ λ is k. other k
     ] in
@@ -102,23 +104,24 @@ unfolding values_in
 values_again [] [] h = refl
 values_again [] (v ∷ vs) h = absurd h
 values_again (Key key ∷ spots) vs h = values_again spots vs h
-values_again (At place ∷ spots) [] h = absurd h
-values_again (At place ∷ spots) (v ∷ vs) h = rw (word_again (sort place) v h.0, values_again spots vs h.1) refl
+values_again (At field ∷ spots) [] h = absurd h
+values_again (At field ∷ spots) (v ∷ vs) h = rw (word_again (sort field) v h.0, values_again spots vs h.1) refl
 
 pub length-filled : (spots : List Spot) (vs : List Value) → Fills spots vs → length (fill_form spots vs) ≡ length spots
 length-filled [] [] h = refl
 length-filled [] (v ∷ vs) h = absurd h
 length-filled (Key key ∷ spots) vs h = omega (arith, length-filled spots vs h)
-length-filled (At place ∷ spots) [] h = absurd h
-length-filled (At place ∷ spots) (v ∷ vs) h = omega (arith, length-filled spots vs h.1)
+length-filled (At field ∷ spots) [] h = absurd h
+length-filled (At field ∷ spots) (v ∷ vs) h = omega (arith, length-filled spots vs h.1)
 
 -- the row's key words stand among these words where the row has them
 abbrev pub HasKeys : List Spot → List (List ℕ) → Type 0
 HasKeys (Key key ∷ spots) (word ∷ words) = (word ≡ key) × HasKeys spots words
-HasKeys (At place ∷ spots) (word ∷ words) = HasKeys spots words
+HasKeys (At field ∷ spots) (word ∷ words) = HasKeys spots words
 HasKeys spots words = Unit
 
-pub values_spell : (spots : List Spot) (words : List (List ℕ)) (vs : List Value) → length words ≡ length spots → HasKeys spots words → values_in spots words ≡ Ok vs → (words ≡ fill_form spots vs) × Fills spots vs
+pub values_spell : (spots : List Spot) (words : List (List ℕ)) (vs : List Value) → length words ≡ length spots → HasKeys spots words
+    → values_in spots words ≡ Ok vs → (words ≡ fill_form spots vs) × Fills spots vs
 unfolding values_in
 values_spell [] [] vs long keys e = subst (λ vs. ([] ≡ fill_form [] vs) × Fills [] vs) (same_Ok [] vs e) (refl, tt)
 values_spell [] (word ∷ words) vs long keys e = absurd (omega (arith, long))
@@ -126,12 +129,13 @@ values_spell (spot ∷ spots) [] vs long keys e = absurd (omega (arith, long))
 values_spell (Key key ∷ spots) (word ∷ words) vs long keys e =
     let rest = values_spell spots words vs (omega (arith, long)) keys.1 e in
     (cc (keys.0, rest.0), rest.1)
-values_spell (At place ∷ spots) (word ∷ words) vs long keys e =
+values_spell (At field ∷ spots) (word ∷ words) vs long keys e =
     let v = bind_ok _ _ vs e in
     let more = bind_ok _ _ vs v.2 in
-    let said = word_spells (sort place) word v.0 v.1 in
+    let said = word_spells (sort field) word v.0 v.1 in
     let rest = values_spell spots words more.0 (omega (arith, long)) keys more.1 in
-    subst (λ vs. (word ∷ words ≡ fill_form (At place ∷ spots) vs) × Fills (At place ∷ spots) vs) (same_Ok _ vs more.2) (cc (said.0, rest.0), (said.1, rest.1))
+    subst (λ vs. (word ∷ words ≡ fill_form (At field ∷ spots) vs) × Fills (At field ∷ spots) vs) (same_Ok _ vs more.2)
+        (cc (said.0, rest.0), (said.1, rest.1))
 
 -- ---- words of letters and digits
 
@@ -148,7 +152,9 @@ plain_digits : (ds : List ℕ) → AllDigits 10 ds → list_all is_plain ds ≡ 
 plain_digits [] h = refl
 plain_digits (d ∷ ds) h =
     let digit = digit_from_value d h.0 in
-    and_from (is_plain d) (list_all is_plain ds) (and_from (nat_lt 47 d) (nat_lt d 127) (lt-ltb 47 d (omega (arith, digit.0, digit.1))) (lt-ltb d 127 (omega (arith, digit.0, digit.1)))) (plain_digits ds h.1)
+    and_from (is_plain d) (list_all is_plain ds)
+        (and_from (nat_lt 47 d) (nat_lt d 127) (lt-ltb 47 d (omega (arith, digit.0, digit.1))) (lt-ltb d 127 (omega (arith, digit.0, digit.1))))
+            (plain_digits ds h.1)
 
 is_word_from_digits : (ds : List ℕ) → AllDigits 10 ds → 0 < length ds → is_word ds ≡ true
 is_word_from_digits [] h some = absurd (omega (arith, some))
@@ -168,7 +174,7 @@ value_is_word Numeral (values.Number n) h = is_word_from_digits (decimal n) (dig
 abbrev has_words : List Spot → Bool
 has_words [] = true
 has_words (Key key ∷ spots) = is_word key && has_words spots
-has_words (At place ∷ spots) = has_words spots
+has_words (At field ∷ spots) = has_words spots
 
 -- there are words in a row, and the key words among them are such words
 abbrev pub is_row : List Spot → Bool
@@ -179,11 +185,12 @@ is_row (spot ∷ spots) = has_words (spot ∷ spots)
 abbrev pub AreWords : List (List ℕ) → Type 0
 AreWords words = (0 < length words) × AllByRecursion (λ w. is_word w ≡ true) words
 
-filled_words : (spots : List Spot) (vs : List Value) → Fills spots vs → has_words spots ≡ true → AllByRecursion (λ w. is_word w ≡ true) (fill_form spots vs)
+filled_words : (spots : List Spot) (vs : List Value) → Fills spots vs → has_words spots ≡ true
+    → AllByRecursion (λ w. is_word w ≡ true) (fill_form spots vs)
 filled_words [] vs h keys = tt
 filled_words (Key key ∷ spots) vs h keys = let both = and_parts (is_word key) (has_words spots) keys in (both.0, filled_words spots vs h both.1)
-filled_words (At place ∷ spots) [] h keys = tt
-filled_words (At place ∷ spots) (v ∷ vs) h keys = (value_is_word (sort place) v h.0, filled_words spots vs h.1 keys)
+filled_words (At field ∷ spots) [] h keys = tt
+filled_words (At field ∷ spots) (v ∷ vs) h keys = (value_is_word (sort field) v h.0, filled_words spots vs h.1 keys)
 
 pub row_words : (spots : List Spot) (vs : List Value) → Fills spots vs → is_row spots ≡ true → AreWords (fill_form spots vs)
 row_words [] vs h row = absurd cc

@@ -36,7 +36,7 @@ use Rattle.script_text.specs.Actions.{Action, Wrote, Entered, Looked, Made, Skip
 use Rattle.script_text.specs.Starts.{Arming, IsJustBefore, arms, was_armed_before}
 use Rattle.script_text.specs.ObjectCalls.{DoesSettime, DoesGettime, DoesAccept, DoesRead, base_of}
 
--- one callback of a pass: how many entries of each timer had been seen when it was claimed; the timer, and the number and the
+-- one callback of an expiry run: how many entries of each timer had been seen when it was claimed; the timer, and the number and the
 -- generation of its claim; what the callback did; the number of the finish, whether a restart was asked for, and what came of it
 pub record Fired : Type 0 where
   pub seen : ℕ → ℕ
@@ -48,10 +48,11 @@ pub record Fired : Type 0 where
   pub restart : Bool
   pub rearmed : Restart
 
--- all that a pass did for one callback
+-- all that an expiry run did for one callback
 abbrev pub fires : ℕ → ℕ → Fired → List Action
 fires base reading f =
-    Entered f.timer f.claim (entries.Claim base reading f.generation) ∷ f.body ++ Entered f.timer f.finish (entries.Finish f.restart f.generation f.rearmed) ∷ []
+    Entered f.timer f.claim (entries.Claim base reading f.generation) ∷ f.body
+        ++ Entered f.timer f.finish (entries.Finish f.restart f.generation f.rearmed) ∷ []
 
 -- what a raw timer's callback may do, and whether it asks for a restart, by its declaration
 abbrev pub IsCallback : Callback → ℕ → Fired → Type 0
@@ -81,7 +82,7 @@ IsBody (kinds.Raw callback) reading f = IsCallback callback reading f
 IsBody (kinds.Posix base) reading f = IsTrigger reading f
 IsBody (kinds.Fd base) reading f = IsTrigger reading f
 
--- what a pass did: each callback as its timer declares it, all by one reading, and the timers in the order of their claims
+-- what an expiry run did: each callback as its timer declares it, all by one reading, and the timers in the order of their claims
 pub record IsExpiryRun (s : Script) (reading base : ℕ) (fired : List Fired) (shown : ℕ) (timers : List ℕ) (actions : List Action) : Type 0 where
   pub one_reading : shown ≡ reading
   pub claimed : timers ≡ map (λ f. f.timer) fired
@@ -91,18 +92,24 @@ pub record IsExpiryRun (s : Script) (reading base : ℕ) (fired : List Fired) (s
 -- what a call did is what its arguments and its answer say; the answer that the clock has taken too many writes never comes
 abbrev pub Does : Script → ℕ → Call → Answer → List Fired → List Action → Type 0
 Does s reading (calls.Start timer mode ns base) (answers.Started generation on was_armed) fired actions =
-    (a : Arming) × (actions ≡ arms timer mode ns reading base a) × (generation ≡ a.number) × (on ≡ a.base) × (was_armed ≡ was_armed_before a.out a.was_armed) × IsJustBefore a.out a.number
+    (a : Arming) × (actions ≡ arms timer mode ns reading base a) × (generation ≡ a.number) × (on ≡ a.base)
+        × (was_armed ≡ was_armed_before a.out a.was_armed) × IsJustBefore a.out a.number
 Does s reading (calls.Start timer mode ns base) (answers.Spent stamp) fired actions = actions ≡ []
-Does s reading (calls.Cancel timer) (answers.Cancelled generation) fired actions = (number : ℕ) × (actions ≡ Entered timer number (entries.Cancel generation) ∷ [])
+Does s reading (calls.Cancel timer) (answers.Cancelled generation) fired actions =
+    (number : ℕ) × (actions ≡ Entered timer number (entries.Cancel generation) ∷ [])
 Does s reading (calls.Cancel timer) (answers.Running generation stamp) fired actions = actions ≡ []
 Does s reading (calls.Cancel timer) (answers.Idle stamp) fired actions = actions ≡ []
 Does s reading (calls.Peek timer) (answers.Peek stamp base enqueued running moving) fired actions = actions ≡ []
-Does s reading (calls.Expire base budget) (answers.Done shown timers) fired actions = IsExpiryRun s reading base fired shown timers actions × (length fired < budget)
-Does s reading (calls.Expire base budget) (answers.More shown timers) fired actions = IsExpiryRun s reading base fired shown timers actions × (length fired ≡ budget)
-Does s reading (calls.Expire base budget) (answers.Busy shown timers timer generation) fired actions = IsExpiryRun s reading base fired shown timers actions × (length fired < budget)
+Does s reading (calls.Expire base budget) (answers.Done shown timers) fired actions =
+    IsExpiryRun s reading base fired shown timers actions × (length fired < budget)
+Does s reading (calls.Expire base budget) (answers.More shown timers) fired actions =
+    IsExpiryRun s reading base fired shown timers actions × (length fired ≡ budget)
+Does s reading (calls.Expire base budget) (answers.Busy shown timers timer generation) fired actions =
+    IsExpiryRun s reading base fired shown timers actions × (length fired < budget)
 Does s reading (calls.Clock write) (answers.Clock stamp) fired actions = actions ≡ Wrote stamp write ∷ []
 Does s reading (calls.Clock write) (answers.Range would_be) fired actions = actions ≡ []
-Does s reading (calls.Settime timer flags value interval) answer fired actions = DoesSettime (kind_of s timer) timer flags value interval reading answer actions
+Does s reading (calls.Settime timer flags value interval) answer fired actions =
+    DoesSettime (kind_of s timer) timer flags value interval reading answer actions
 Does s reading (calls.Gettime timer) answer fired actions = DoesGettime (kind_of s timer) timer reading answer actions
 Does s reading (calls.Accept timer) answer fired actions = DoesAccept (kind_of s timer) timer reading answer actions
 Does s reading (calls.Overrun timer) (answers.Overrun overrun stamp) fired actions = actions ≡ []
@@ -155,7 +162,8 @@ IsArmedLike on_clock (Some a) generation timer = (a.generation ≡ generation) �
 -- what an entry of an object tells of its timer's start is true, after what the call did before it
 abbrev pub IsTrueStart : Script → RunRecord → Label → List Action → ℕ → ℕ → Bool → Armed → Type 0
 IsTrueStart s r c before i number on_clock armings.None = Unit
-IsTrueStart s r c before i number on_clock (armings.Generation generation) = IsArmedLike on_clock (armed_after s r i number (kind_of s i)) generation (timer_after s r i generation)
+IsTrueStart s r c before i number on_clock (armings.Generation generation) =
+    IsArmedLike on_clock (armed_after s r i number (kind_of s i)) generation (timer_after s r i generation)
 IsTrueStart s r c before i number on_clock armings.Unarmed = (stamp : ℕ) × SawRefusal s r c before i stamp
 
 -- the same, of each entry of an object
@@ -193,18 +201,23 @@ IsSeen s r c reading actions (calls.Cancel timer) (answers.Running generation st
 IsSeen s r c reading actions (calls.Cancel timer) (answers.Idle stamp) = Saw s r c actions timer stamp observations.Idle
 IsSeen s r c reading actions (calls.Peek timer) (answers.Peek stamp base enqueued running moving) =
     Saw s r c actions timer stamp (observations.Peek (record { stamp = stamp; base = base; enqueued = enqueued; running = running; moving = moving }))
-IsSeen s r c reading actions (calls.Clock write) (answers.Range would_be) = IsOutOfRange reading would_be (greatest (after_write (reading_at r.clock reading) write))
+IsSeen s r c reading actions (calls.Clock write) (answers.Range would_be) =
+    IsOutOfRange reading would_be (greatest (after_write (reading_at r.clock reading) write))
 IsSeen s r c reading actions (calls.Settime timer flags value interval) (answers.Spent stamp) = SawFull s r c actions timer stamp
 IsSeen s r c reading actions (calls.Settime timer flags value interval) (answers.Old left old) = DisarmedFirst s r c timer actions
 IsSeen s r c reading actions (calls.Settime timer flags value interval) answers.Canceled = DisarmedFirst s r c timer actions
-IsSeen s r c reading actions (calls.Settime timer flags value interval) (answers.Unarmed stamp) = DisarmedFirst s r c timer actions × SawRefusal s r c actions timer stamp
+IsSeen s r c reading actions (calls.Settime timer flags value interval) (answers.Unarmed stamp) =
+    DisarmedFirst s r c timer actions × SawRefusal s r c actions timer stamp
 IsSeen s r c reading actions (calls.Gettime timer) (answers.Spent stamp) = SawFull s r c actions timer stamp
 IsSeen s r c reading actions (calls.Gettime timer) (answers.LeftAt left interval shown stamp) =
-    IsObjectPoint s r c actions timer stamp × (setting_of (posix_after s r timer (base_of (kind_of s timer)) stamp) (reading_at r.clock reading) ≡ record { left = left; interval = interval })
+    IsObjectPoint s r c actions timer stamp
+        × (setting_of (posix_after s r timer (base_of (kind_of s timer)) stamp) (reading_at r.clock reading) ≡ record { left = left; interval =
+            interval })
 IsSeen s r c reading actions (calls.Accept timer) (answers.Spent stamp) = SawFull s r c actions timer stamp
 IsSeen s r c reading actions (calls.Overrun timer) (answers.Overrun overrun stamp) =
     IsObjectPoint s r c actions timer stamp × ((posix_after s r timer (base_of (kind_of s timer)) stamp).overrun ≡ overrun)
 IsSeen s r c reading actions (calls.Read timer len) (answers.Spent stamp) = SawFull s r c actions timer stamp
 IsSeen s r c reading actions (calls.Readable timer) (answers.Readable ready shown stamp) =
-    IsObjectPoint s r c actions timer stamp × (is_readable (fd_after s r timer (base_of (kind_of s timer)) stamp) (reading_at r.clock reading) ≡ ready)
+    IsObjectPoint s r c actions timer stamp
+        × (is_readable (fd_after s r timer (base_of (kind_of s timer)) stamp) (reading_at r.clock reading) ≡ ready)
 IsSeen s r c reading actions call answer = Unit

@@ -6,8 +6,8 @@ use Rattle.script_text.specs.declared.reading.drafts.Draft.{Draft}
 use Rattle.script_text.specs.declared.form.Form.{Form}
 use Rattle.script_text.specs.declared.form.Form.TheVariants as forms
 use Rattle.script_text.specs.declared.form.Line.{Line}
-use Rattle.script_text.specs.declared.form.Place.{Place}
-use Rattle.script_text.specs.declared.form.Place.TheVariants as places
+use Rattle.script_text.specs.declared.form.Field.{Field}
+use Rattle.script_text.specs.declared.form.Field.TheVariants as fields
 use Rattle.script_text.specs.declared.form.Part.{Part}
 use Rattle.script_text.specs.declared.form.Part.TheVariants as parts
 use Rattle.script_text.specs.declared.form.Value.{Value}
@@ -40,16 +40,19 @@ script_of d = record { bases = d.bases; lanes = d.lanes; limit = d.limit; timers
 -- what a declaration declares, by its form and values
 unfoldable pub declaration_of : Form → List Value → Option Declaration
 declaration_of forms.RawOnce (values.Number i ∷ values.Clock c ∷ []) = Some (record { clock = c; kind = kinds.Raw callbacks.Once })
-declaration_of forms.RawEvery (values.Number i ∷ values.Clock c ∷ values.Number n ∷ []) = Some (record { clock = c; kind = kinds.Raw (callbacks.Every n) })
+declaration_of forms.RawEvery (values.Number i ∷ values.Clock c ∷ values.Number n ∷ []) =
+    Some (record { clock = c; kind = kinds.Raw (callbacks.Every n) })
 declaration_of forms.RawCancels (values.Number i ∷ values.Clock c ∷ []) = Some (record { clock = c; kind = kinds.Raw callbacks.Cancels })
-declaration_of forms.RawStarts (values.Number i ∷ values.Clock c ∷ values.Number n ∷ values.Number b ∷ []) = Some (record { clock = c; kind = kinds.Raw (callbacks.Starts n b) })
+declaration_of forms.RawStarts (values.Number i ∷ values.Clock c ∷ values.Number n ∷ values.Number b ∷ []) =
+    Some (record { clock = c; kind = kinds.Raw (callbacks.Starts n b) })
 declaration_of forms.Posix (values.Number i ∷ values.Clock c ∷ values.Number b ∷ []) = Some (record { clock = c; kind = kinds.Posix b })
 declaration_of forms.Fd (values.Number i ∷ values.Clock c ∷ values.Number b ∷ []) = Some (record { clock = c; kind = kinds.Fd b })
 declaration_of form vs = None
 
 -- the call of a raw timer, of a base or of the clock that a line asks for, and its lane, by its form and values
 unfoldable pub plain_call_of : Form → List Value → Option LaneCall
-plain_call_of forms.Start (values.Number k ∷ values.Number i ∷ values.Mode m ∷ values.Number n ∷ values.Number b ∷ []) = Some (record { lane = k; call = calls.Start i m n b })
+plain_call_of forms.Start (values.Number k ∷ values.Number i ∷ values.Mode m ∷ values.Number n ∷ values.Number b ∷ []) =
+    Some (record { lane = k; call = calls.Start i m n b })
 plain_call_of forms.Cancel (values.Number k ∷ values.Number i ∷ []) = Some (record { lane = k; call = calls.Cancel i })
 plain_call_of forms.Peek (values.Number k ∷ values.Number i ∷ []) = Some (record { lane = k; call = calls.Peek i })
 plain_call_of forms.Expire (values.Number k ∷ values.Number b ∷ values.Number n ∷ []) = Some (record { lane = k; call = calls.Expire b n })
@@ -60,7 +63,8 @@ plain_call_of form vs = None
 
 -- the call of an object that a line asks for, and its lane, by its form and values
 unfoldable pub object_call_of : Form → List Value → Option LaneCall
-object_call_of forms.Settime (values.Number k ∷ values.Number i ∷ values.Number f ∷ values.Number vs ∷ values.Number vn ∷ values.Number is ∷ values.Number in_ ∷ []) =
+object_call_of forms.Settime
+    (values.Number k ∷ values.Number i ∷ values.Number f ∷ values.Number vs ∷ values.Number vn ∷ values.Number is ∷ values.Number in_ ∷ []) =
     Some (record { lane = k; call = calls.Settime i f (record { sec = vs; nsec = vn }) (record { sec = is; nsec = in_ }) })
 object_call_of forms.Gettime (values.Number k ∷ values.Number i ∷ []) = Some (record { lane = k; call = calls.Gettime i })
 object_call_of forms.Accept (values.Number k ∷ values.Number i ∷ []) = Some (record { lane = k; call = calls.Accept i })
@@ -116,17 +120,17 @@ pub record IsWithinLimits (d : Draft) : Type 0 where
   pub calls : d.calls ≤ most_calls
 
 -- the number of a timer, a base or a lane fits in 32 bits
-abbrev pub IsShort : Place → ℕ → Type 0
-IsShort places.Bases n = n < 2 ^ 32
-IsShort places.Lanes n = n < 2 ^ 32
-IsShort places.Lane n = n < 2 ^ 32
-IsShort places.Timer n = n < 2 ^ 32
-IsShort places.Base n = n < 2 ^ 32
-IsShort place n = Unit
+abbrev pub IsShort : Field → ℕ → Type 0
+IsShort fields.Bases n = n < 2 ^ 32
+IsShort fields.Lanes n = n < 2 ^ 32
+IsShort fields.Lane n = n < 2 ^ 32
+IsShort fields.Timer n = n < 2 ^ 32
+IsShort fields.Base n = n < 2 ^ 32
+IsShort field n = Unit
 
--- each number that fills the places of a row is as short as its place asks for
+-- each number that fills the fields of a row is as short as its field asks for
 abbrev pub AreShort : List Spot → List Value → Type 0
 AreShort (Key word ∷ spots) vs = AreShort spots vs
-AreShort (At place ∷ spots) (values.Number n ∷ vs) = IsShort place n × AreShort spots vs
-AreShort (At place ∷ spots) (v ∷ vs) = AreShort spots vs
+AreShort (At field ∷ spots) (values.Number n ∷ vs) = IsShort field n × AreShort spots vs
+AreShort (At field ∷ spots) (v ∷ vs) = AreShort spots vs
 AreShort spots vs = Unit

@@ -1,4 +1,4 @@
--- What an expiry pass answers for: each claim took the right timer, and the pass ended for the reason that it gives.
+-- What an expiry run answers for: each claim took the right timer, and the run ended for the reason that it gives.
 use Rattle.std.specs.Prelude.{ℕ, ◌≡◌, ◌+◌, false, Some, List, [], ◌∷◌, ◌++◌}
 use Rattle.ktime.specs.Readings.{ClockReading}
 use Rattle.seq_timer.specs.Steps.{Timer}
@@ -14,16 +14,17 @@ use Rattle.script_text.specs.Histories.{reading_at, timer_after}
 use Rattle.script_text.specs.Actions.{Action}
 use Rattle.script_text.specs.Calls.{Fired, fires, IsTimerPoint}
 
--- the timers as a pass had seen them when it claimed one: no function ran on the base, no timer was due whose clock is
+-- the timers as an expiry run had seen them when it claimed one: no function ran on the base, no timer was due whose clock is
 -- looked at before the claimed one's, and none on that clock had an earlier expiry
-pub record IsFirstDueClaim (s : Script) (r : RunRecord) (c : Label) (reading : ClockReading) (base : ℕ) (before : List Action) (f : Fired) (claimed : Timer) : Type 0 where
+pub record IsFirstDueClaim (s : Script) (r : RunRecord) (c : Label) (reading : ClockReading) (base : ℕ) (before : List Action) (f : Fired)
+    (claimed : Timer) : Type 0 where
   pub points : (t : ℕ) → IsTimerPoint s r c before t (f.seen t)
   pub next : f.seen f.timer + 1 ≡ f.claim
   pub free : (t : ℕ) → runs_on base (timer_after s r t (f.seen t)) ≡ false
   pub first : (t : ℕ) → is_ahead base reading claimed.clock (timer_after s r t (f.seen t)) ≡ false
   pub earliest : (t : ℕ) → is_smaller base claimed.clock claimed.expires (timer_after s r t (f.seen t)) ≡ false
 
--- each claim of a pass took the right timer
+-- each claim of an expiry run took the right timer
 abbrev pub AreFirstDueClaims : Script → RunRecord → Label → ℕ → ℕ → List Action → List Fired → Type 0
 AreFirstDueClaims s r c reading base before [] = Unit
 AreFirstDueClaims s r c reading base before (f ∷ fs) =
@@ -42,11 +43,12 @@ pub record IsBusy (s : Script) (r : RunRecord) (c : Label) (base : ℕ) (actions
   pub running : (timer_after s r timer (seen timer)).running ≡ Some generation
   pub there : (timer_after s r timer (seen timer)).base ≡ base
 
--- an expiry pass is right in each claim and in how it ended; the last numbers are how many entries of each timer it had seen then
+-- an expiry run is right in each claim and in how it ended; the last numbers are how many entries of each timer it had seen then
 abbrev pub IsRightExpiryRun : Script → RunRecord → Label → ℕ → Call → Answer → List Fired → List Action → (ℕ → ℕ) → Type 0
 IsRightExpiryRun s r c reading (calls.Expire base budget) (answers.Done shown timers) fired actions last =
     AreFirstDueClaims s r c reading base [] fired × IsDone s r c (reading_at r.clock reading) base actions last
-IsRightExpiryRun s r c reading (calls.Expire base budget) (answers.More shown timers) fired actions last = AreFirstDueClaims s r c reading base [] fired
+IsRightExpiryRun s r c reading (calls.Expire base budget) (answers.More shown timers) fired actions last =
+    AreFirstDueClaims s r c reading base [] fired
 IsRightExpiryRun s r c reading (calls.Expire base budget) (answers.Busy shown timers timer generation) fired actions last =
     AreFirstDueClaims s r c reading base [] fired × IsBusy s r c base actions timer generation last
 IsRightExpiryRun s r c reading call answer fired actions last = Unit

@@ -69,10 +69,12 @@ object_steps_on i call answer actions = numbers_of_object i actions ++ stamps_on
 
 -- the numbers of a timer's entries that a call had seen, in the order of what it did and was told
 abbrev pub steps_on : ℕ → ℕ → Call → Answer → List Fired → List Action → (ℕ → ℕ) → List ℕ
-steps_on t reading (calls.Start timer mode ns base) answer fired actions last = numbers_on t actions ++ (if nat_eq timer t then stamp_in answer else [])
+steps_on t reading (calls.Start timer mode ns base) answer fired actions last =
+    numbers_on t actions ++ (if nat_eq timer t then stamp_in answer else [])
 steps_on t reading (calls.Cancel timer) answer fired actions last = numbers_on t actions ++ (if nat_eq timer t then stamp_in answer else [])
 steps_on t reading (calls.Peek timer) answer fired actions last = if nat_eq timer t then stamp_in answer else []
-steps_on t reading (calls.Expire base budget) answer fired actions last = flat_map (λ f. f.seen t ∷ numbers_on t (fires base reading f)) fired ++ last t ∷ []
+steps_on t reading (calls.Expire base budget) answer fired actions last =
+    flat_map (λ f. f.seen t ∷ numbers_on t (fires base reading f)) fired ++ last t ∷ []
 steps_on t reading (calls.Clock write) answer fired actions last = []
 steps_on t reading call answer fired actions last = numbers_on t actions ++ stamps_on t (object_called call) (refused_in answer)
 

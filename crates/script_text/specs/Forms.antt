@@ -1,71 +1,72 @@
--- The forms of line of a script, one row each of a table: key words and places from left to right; the part of a script that
+-- The forms of line of a script, one row each of a table: key words and fields from left to right; the part of a script that
 -- it belongs to; whether its call suits a timer of a kind.
 use Rattle.std.specs.Prelude.{ℕ, Bool, true, false, List, [], ◌∷◌, Option, Some, None, codes}
 use Rattle.script_text.specs.declared.form.Form.{Form}
 use Rattle.script_text.specs.declared.form.Form.TheVariants as forms
-use Rattle.script_text.specs.declared.form.Place.{Place}
-use Rattle.script_text.specs.declared.form.Place.TheVariants as places
+use Rattle.script_text.specs.declared.form.Field.{Field}
+use Rattle.script_text.specs.declared.form.Field.TheVariants as fields
 use Rattle.script_text.specs.declared.form.Part.{Part}
 use Rattle.script_text.specs.declared.form.Part.TheVariants as parts
 use Rattle.script_text.specs.declared.script.Kind.{Kind}
 use Rattle.script_text.specs.declared.script.Kind.TheVariants as kinds
 
--- a word of a form: a key word, or a place to fill
+-- a word of a form: a key word, or a field to fill
 pub data Spot : Type 0 where
   Key : List ℕ → Spot
-  At : Place → Spot
+  At : Field → Spot
 
--- what a place is filled with: the name of a clock or of a mode of starting, or a number
+-- what a field is filled with: the name of a clock or of a mode of starting, or a number
 pub data Sort : Type 0 where
   ClockName : Sort
   ModeName : Sort
   Numeral : Sort
 
--- the sort of each place
-abbrev pub sort : Place → Sort
-sort places.Clock = ClockName
-sort places.Mode = ModeName
-sort place = Numeral
+-- the sort of each field
+abbrev pub sort : Field → Sort
+sort fields.Clock = ClockName
+sort fields.Mode = ModeName
+sort field = Numeral
 
--- the place at a spot, where it is one
-abbrev pub place_at : Spot → Option Place
-place_at (Key word) = None
-place_at (At place) = Some place
+-- the field at a spot, where it is one
+abbrev pub field_at : Spot → Option Field
+field_at (Key word) = None
+field_at (At field) = Some field
 
 -- the words of a raw timer's declaration
 abbrev pub raw : List ℕ → List Spot → List Spot
-raw callback more = Key (codes "raw") ∷ At places.NewTimer ∷ At places.Clock ∷ Key callback ∷ more
+raw callback more = Key (codes "raw") ∷ At fields.NewTimer ∷ At fields.Clock ∷ Key callback ∷ more
 
 -- the words of a call
 abbrev pub called : List ℕ → List Spot → List Spot
-called name more = At places.Lane ∷ Key name ∷ more
+called name more = At fields.Lane ∷ Key name ∷ more
 
 -- the words of each form
 abbrev pub row : Form → List Spot
-row forms.Version = Key (codes "hrt") ∷ At places.Version ∷ []
-row forms.Bases = Key (codes "bases") ∷ At places.Bases ∷ []
-row forms.Lanes = Key (codes "lanes") ∷ At places.Lanes ∷ []
-row forms.Limit = Key (codes "limit") ∷ At places.Limit ∷ []
+row forms.Version = Key (codes "hrt") ∷ At fields.Version ∷ []
+row forms.Bases = Key (codes "bases") ∷ At fields.Bases ∷ []
+row forms.Lanes = Key (codes "lanes") ∷ At fields.Lanes ∷ []
+row forms.Limit = Key (codes "limit") ∷ At fields.Limit ∷ []
 row forms.RawOnce = raw (codes "once") []
-row forms.RawEvery = raw (codes "every") (At places.Free ∷ [])
+row forms.RawEvery = raw (codes "every") (At fields.Free ∷ [])
 row forms.RawCancels = raw (codes "cancels") []
-row forms.RawStarts = raw (codes "starts") (At places.Free ∷ At places.Base ∷ [])
-row forms.Posix = Key (codes "posix") ∷ At places.NewTimer ∷ At places.Clock ∷ At places.Base ∷ []
-row forms.Fd = Key (codes "fd") ∷ At places.NewTimer ∷ At places.Clock ∷ At places.Base ∷ []
+row forms.RawStarts = raw (codes "starts") (At fields.Free ∷ At fields.Base ∷ [])
+row forms.Posix = Key (codes "posix") ∷ At fields.NewTimer ∷ At fields.Clock ∷ At fields.Base ∷ []
+row forms.Fd = Key (codes "fd") ∷ At fields.NewTimer ∷ At fields.Clock ∷ At fields.Base ∷ []
 row forms.Round = Key (codes "round") ∷ []
-row forms.Start = called (codes "start") (At places.Timer ∷ At places.Mode ∷ At places.Free ∷ At places.Base ∷ [])
-row forms.Cancel = called (codes "cancel") (At places.Timer ∷ [])
-row forms.Peek = called (codes "peek") (At places.Timer ∷ [])
-row forms.Expire = called (codes "expire") (At places.Base ∷ At places.Budget ∷ [])
-row forms.Advance = called (codes "advance") (At places.Free ∷ [])
-row forms.Set = called (codes "set") (At places.Free ∷ [])
-row forms.Suspend = called (codes "suspend") (At places.Free ∷ [])
-row forms.Settime = called (codes "settime") (At places.Timer ∷ At places.Free ∷ At places.Free ∷ At places.Free ∷ At places.Free ∷ At places.Free ∷ [])
-row forms.Gettime = called (codes "gettime") (At places.Timer ∷ [])
-row forms.Accept = called (codes "accept") (At places.Timer ∷ [])
-row forms.Overrun = called (codes "overrun") (At places.Timer ∷ [])
-row forms.Read = called (codes "read") (At places.Timer ∷ At places.Free ∷ [])
-row forms.Readable = called (codes "readable") (At places.Timer ∷ [])
+row forms.Start = called (codes "start") (At fields.Timer ∷ At fields.Mode ∷ At fields.Free ∷ At fields.Base ∷ [])
+row forms.Cancel = called (codes "cancel") (At fields.Timer ∷ [])
+row forms.Peek = called (codes "peek") (At fields.Timer ∷ [])
+row forms.Expire = called (codes "expire") (At fields.Base ∷ At fields.Budget ∷ [])
+row forms.Advance = called (codes "advance") (At fields.Free ∷ [])
+row forms.Set = called (codes "set") (At fields.Free ∷ [])
+row forms.Suspend = called (codes "suspend") (At fields.Free ∷ [])
+row forms.Settime = called (codes "settime")
+    (At fields.Timer ∷ At fields.Free ∷ At fields.Free ∷ At fields.Free ∷ At fields.Free ∷ At fields.Free ∷ [])
+row forms.Gettime = called (codes "gettime") (At fields.Timer ∷ [])
+row forms.Accept = called (codes "accept") (At fields.Timer ∷ [])
+row forms.Overrun = called (codes "overrun") (At fields.Timer ∷ [])
+row forms.Read = called (codes "read") (At fields.Timer ∷ At fields.Free ∷ [])
+row forms.Readable = called (codes "readable") (At fields.Timer ∷ [])
 
 -- the part of a script that each form belongs to; a header line has so many before it
 abbrev pub part : Form → Part

@@ -6,23 +6,23 @@ use Rattle.ktime.specs.Times.{last_time}
 use Rattle.ktime.specs.declared.mode.Mode.TheVariants as modes
 use Rattle.record_text.specs.Words.{clock_word, mode_word}
 use Rattle.script_text.specs.declared.form.Line.{Line}
-use Rattle.script_text.specs.declared.form.Place.{Place}
+use Rattle.script_text.specs.declared.form.Field.{Field}
 use Rattle.script_text.specs.declared.form.Value.{Value}
 use Rattle.script_text.specs.declared.form.Value.TheVariants as values
 use Rattle.script_text.specs.Forms.{Spot, Key, At, Sort, ClockName, ModeName, Numeral, row, sort}
 
--- the word that a place is fill_form with: a number in decimal, a clock or a mode by its name
+-- the word that a field is filled with: a number in decimal, a clock or a mode by its name
 abbrev pub value_word : Value → List ℕ
 value_word (values.Clock clock) = clock_word clock
 value_word (values.Mode mode) = mode_word mode
 value_word (values.Number n) = decimal n
 
--- a row's words, its places fill_form from left to right
+-- a row's words, its fields filled from left to right
 abbrev pub fill_form : List Spot → List Value → List (List ℕ)
 fill_form [] vs = []
 fill_form (Key word ∷ spots) vs = word ∷ fill_form spots vs
-fill_form (At place ∷ spots) (v ∷ vs) = value_word v ∷ fill_form spots vs
-fill_form (At place ∷ spots) [] = []
+fill_form (At field ∷ spots) (v ∷ vs) = value_word v ∷ fill_form spots vs
+fill_form (At field ∷ spots) [] = []
 
 -- it may be the name of a clock, a mode that a script can give, or a number up to the end of time
 abbrev pub IsOfSort : Sort → Value → Type 0
@@ -32,17 +32,17 @@ IsOfSort ModeName (values.Mode modes.Rel) = Unit
 IsOfSort Numeral (values.Number n) = n ≤ last_time
 IsOfSort sort v = ⊥
 
--- a place takes what is of its sort
-abbrev pub CanFill : Place → Value → Type 0
-CanFill place v = IsOfSort (sort place) v
+-- a field takes what is of its sort
+abbrev pub CanFill : Field → Value → Type 0
+CanFill field v = IsOfSort (sort field) v
 
--- each place of a row is fill_form with what it takes, and nothing is left over
+-- each field of a row is filled with what it takes, and nothing is left over
 abbrev pub Fills : List Spot → List Value → Type 0
 Fills [] [] = Unit
 Fills [] (v ∷ vs) = ⊥
 Fills (Key word ∷ spots) vs = Fills spots vs
-Fills (At place ∷ spots) (v ∷ vs) = CanFill place v × Fills spots vs
-Fills (At place ∷ spots) [] = ⊥
+Fills (At field ∷ spots) (v ∷ vs) = CanFill field v × Fills spots vs
+Fills (At field ∷ spots) [] = ⊥
 
 -- a line can be spelled
 abbrev pub IsLine : Line → Type 0

@@ -1,4 +1,4 @@
--- How one line is read by itself, and the first cause against it that needs no line before it.
+-- How one line is read by itself, and the first cause that refuses it and needs no line before it.
 use Rattle.std.specs.Prelude.{ℕ, ◌==◌, ◌&&◌, ◌||◌, Bool, false, nat_lt, nat_le, if◌then◌else◌, List, [], ◌∷◌, length, drop, bytes_eq, Option, Some, None, Result, Ok, Err, codes}
 use Rattle.std.specs.List.{list_any, slice_split}
 use Rattle.std.specs.Fmt.{decimal}
@@ -10,7 +10,7 @@ use Rattle.ktime.specs.declared.mode.Mode.{Mode}
 use Rattle.ktime.specs.declared.mode.Mode.TheVariants as modes
 use Rattle.script_text.specs.declared.form.Form.{Form}
 use Rattle.script_text.specs.declared.form.Line.{Line}
-use Rattle.script_text.specs.declared.form.Place.{Place}
+use Rattle.script_text.specs.declared.form.Field.{Field}
 use Rattle.script_text.specs.declared.form.Value.{Value}
 use Rattle.script_text.specs.declared.form.Value.TheVariants as values
 use Rattle.script_text.specs.declared.refusal.Cause.{Cause}
@@ -31,7 +31,8 @@ or_cause cause (Some x) = Ok x
 
 -- the number that has this word as its decimal
 unfoldable pub number_in : List ℕ → Option ℕ
-number_in word = if nat_le (digits_value 10 word) last_time && bytes_eq word (decimal (digits_value 10 word)) then Some (digits_value 10 word) else None
+number_in word = if nat_le (digits_value 10 word) last_time && bytes_eq word (decimal (digits_value 10 word)) then Some
+    (digits_value 10 word) else None
 
 -- the clock of this name
 unfoldable pub clock_in : List ℕ → Option ClockId
@@ -54,14 +55,14 @@ word_in ClockName word = or_cause causes.UnknownWord (clock_in word) >>= λ cloc
 word_in ModeName word = or_cause causes.UnknownWord (mode_in word) >>= λ mode. Ok (values.Mode mode)
 word_in Numeral word = or_cause causes.BadNumber (number_in word) >>= λ n. Ok (values.Number n)
 
--- what a word fills a place with
-abbrev pub value_in : Place → List ℕ → Result Value Cause
-value_in place word = word_in (sort place) word
+-- what a word fills a field with
+abbrev pub value_in : Field → List ℕ → Result Value Cause
+value_in field word = word_in (sort field) word
 
--- what words fill the places of a row with, from left to right
+-- what words fill the fields of a row with, from left to right
 unfoldable pub values_in : List Spot → List (List ℕ) → Result (List Value) Cause
 values_in (Key key ∷ spots) (word ∷ words) = values_in spots words
-values_in (At place ∷ spots) (word ∷ words) = value_in place word >>= λ v. values_in spots words >>= λ vs. Ok (v ∷ vs)
+values_in (At field ∷ spots) (word ∷ words) = value_in field word >>= λ v. values_in spots words >>= λ vs. Ok (v ∷ vs)
 values_in spots words = Ok []
 
 -- ---- forms
@@ -103,9 +104,9 @@ is_bad_byte b = nat_lt b 32 || nat_lt 126 b
 abbrev pub is_empty_word : List ℕ → Bool
 is_empty_word word = length word == 0
 
--- words of the right number fill the places of a form
-unfoldable pub filled_by : Form → List (List ℕ) → Result Line Cause
-filled_by form words =
+-- words of the right number fill the fields of a form
+unfoldable pub line_of_form : Form → List (List ℕ) → Result Line Cause
+line_of_form form words =
     if length words == length (row form) then (values_in (row form) words >>= λ vs. Ok (record { form = form; values = vs }))
     else Err causes.WordCount
 
@@ -114,4 +115,4 @@ unfoldable pub line_in : List ℕ → Result Line Cause
 line_in line =
     if list_any is_bad_byte line then Err causes.BadByte
     else if list_any is_empty_word (words_in line) then Err causes.BadSpace
-    else form_in (words_in line) >>= λ form. filled_by form (words_in line)
+    else form_in (words_in line) >>= λ form. line_of_form form (words_in line)

@@ -6,8 +6,8 @@ use Rattle.script_text.specs.declared.form.Form.{Form}
 use Rattle.script_text.specs.declared.form.Line.{Line}
 use Rattle.script_text.specs.declared.form.Part.{Part}
 use Rattle.script_text.specs.declared.form.Part.TheVariants as parts
-use Rattle.script_text.specs.declared.form.Place.{Place}
-use Rattle.script_text.specs.declared.form.Place.TheVariants as places
+use Rattle.script_text.specs.declared.form.Field.{Field}
+use Rattle.script_text.specs.declared.form.Field.TheVariants as fields
 use Rattle.script_text.specs.declared.form.Value.{Value}
 use Rattle.script_text.specs.declared.form.Value.TheVariants as values
 use Rattle.script_text.specs.declared.script.Callback.TheVariants as callbacks
@@ -39,63 +39,63 @@ is_placed d parts.Declaration = nat_eq d.headers 4 && not (is_some d.begun)
 is_placed d parts.Round = nat_eq d.headers 4
 is_placed d parts.Call = is_some d.begun
 
--- what is said check_line one more line of this part
+-- the cause that refuses one more line of this part
 unfoldable pub check_count : Draft → Part → Option Cause
 check_count d parts.Declaration = unless (nat_lt (length d.timers) most_timers) causes.TimerLimit
 check_count d parts.Call = unless (nat_lt d.calls most_calls) causes.CallLimit
 check_count d part = None
 
--- what is said check_line a number in its place
-unfoldable pub check_number : Draft → Place → ℕ → Option Cause
-check_number d places.Version n = unless (nat_eq n 1) causes.Version
-check_number d places.Bases n = unless (nat_le 1 n && nat_le n most_bases) causes.BaseLimit
-check_number d places.Base n = unless (nat_lt n d.bases) causes.BaseLimit
-check_number d places.Lanes n = unless (nat_le 1 n && nat_le n most_lanes) causes.LaneLimit
-check_number d places.Lane n = unless (nat_lt n d.lanes) causes.LaneLimit
-check_number d places.Limit n = unless (nat_le 1 n && nat_le n most_events) causes.EventLimit
-check_number d places.NewTimer n = unless (nat_eq n (length d.timers)) causes.BadId
-check_number d places.Timer n = unless (nat_lt n (length d.timers)) causes.NoTimer
-check_number d places.Budget n = unless (nat_le n most_budget) causes.BudgetLimit
-check_number d place n = None
+-- the cause that refuses a number in its field
+unfoldable pub check_number : Draft → Field → ℕ → Option Cause
+check_number d fields.Version n = unless (nat_eq n 1) causes.Version
+check_number d fields.Bases n = unless (nat_le 1 n && nat_le n most_bases) causes.BaseLimit
+check_number d fields.Base n = unless (nat_lt n d.bases) causes.BaseLimit
+check_number d fields.Lanes n = unless (nat_le 1 n && nat_le n most_lanes) causes.LaneLimit
+check_number d fields.Lane n = unless (nat_lt n d.lanes) causes.LaneLimit
+check_number d fields.Limit n = unless (nat_le 1 n && nat_le n most_events) causes.EventLimit
+check_number d fields.NewTimer n = unless (nat_eq n (length d.timers)) causes.BadId
+check_number d fields.Timer n = unless (nat_lt n (length d.timers)) causes.NoTimer
+check_number d fields.Budget n = unless (nat_le n most_budget) causes.BudgetLimit
+check_number d field n = None
 
--- what is said check_line what fills a place
-abbrev pub check_value : Draft → Place → Value → Option Cause
-check_value d place (values.Number n) = check_number d place n
-check_value d place v = None
+-- the cause that refuses what fills a field
+abbrev pub check_value : Draft → Field → Value → Option Cause
+check_value d field (values.Number n) = check_number d field n
+check_value d field v = None
 
--- what is said first check_line what fills the places of a row
+-- the first cause in what fills the fields of a row
 unfoldable pub check_values : Draft → List Spot → List Value → Option Cause
 check_values d (Key word ∷ spots) vs = check_values d spots vs
-check_values d (At place ∷ spots) (v ∷ vs) = option_or (check_value d place v) (check_values d spots vs)
+check_values d (At field ∷ spots) (v ∷ vs) = option_or (check_value d field v) (check_values d spots vs)
 check_values d spots vs = None
 
 -- the kind of the timer of a number
 abbrev pub drafted_kind : Draft → ℕ → Kind
 drafted_kind d n = get_or (map (λ t. t.kind) d.timers) n (kinds.Raw callbacks.Once)
 
--- what is said check_line a call on a timer whose kind it doesn't suit; the timer stands continue_after the call's name
+-- the cause that refuses a call on a timer whose kind it doesn't suit; the timer stands behind the call's name
 unfoldable pub check_kind : Draft → Form → List Spot → List Value → Option Cause
-check_kind d form (At k ∷ Key name ∷ At places.Timer ∷ spots) (lane ∷ values.Number n ∷ vs) = unless (suits form (drafted_kind d n)) causes.WrongKind
+check_kind d form (At k ∷ Key name ∷ At fields.Timer ∷ spots) (lane ∷ values.Number n ∷ vs) = unless (suits form (drafted_kind d n)) causes.WrongKind
 check_kind d form spots vs = None
 
--- what is said first check_line a line that was read by itself: its place, the count of its like, its numbers, its timer's kind
+-- the first cause that refuses a line that was read by itself: where it stands, the count of its like, its numbers, its timer's kind
 unfoldable pub check_line : Draft → Line → Option Cause
 check_line d l =
     option_or (unless (is_placed d (part l.form)) causes.BadPlace)
     (option_or (check_count d (part l.form)) (option_or (check_values d (row l.form) l.values) (check_kind d l.form (row l.form) l.values)))
 
--- this, where nothing is said check_line it
+-- this, unless a cause refuses it
 abbrev pub unless_refused : {A : Type 0} → Option Cause → A → Result A Cause
 unless_refused None x = Ok x
 unless_refused (Some cause) x = Err cause
 
--- what the lines have told after one more, or the first cause check_line it
+-- what the lines have told after one more, or the first cause that refuses it
 unfoldable pub with_line_in : Draft → List ℕ → Result Draft Cause
 with_line_in d line = line_in line >>= λ l. unless_refused (check_line d l) (draft_with_line d l)
 
 -- ---- scripts
 
--- what comes continue_after a line of this number, or its refusal
+-- what follows a line of this number, or its refusal
 abbrev pub continue_after : {A : Type 0} → ℕ → Result Draft Cause → (Draft → Result A Refused) → Result A Refused
 continue_after number (Ok d) next = next d
 continue_after number (Err cause) next = Err (record { line = number; cause = cause })
@@ -109,7 +109,8 @@ script_from number d (line ∷ lines) =
 
 -- the script of bytes, or why they are refused
 unfoldable pub script_in : List ℕ → Result Script Refused
-script_in bytes = if nat_lt most_script_bytes (length bytes) then Err (record { line = 0; cause = causes.TooLong }) else script_from 1 empty (lines_of bytes)
+script_in bytes = if nat_lt most_script_bytes (length bytes) then Err (record { line = 0; cause = causes.TooLong }) else script_from 1 empty
+    (lines_of bytes)
 
 -- these bytes are refused, at this line and for this cause
 abbrev pub IsRefused : List ℕ → Refused → Type 0

@@ -52,17 +52,21 @@ most_budget = 4096
 
 -- ---- the lines of a script
 
--- a line of a form whose places are all filled with numbers
+-- a line of a form whose fields are all filled with numbers
 abbrev pub of_numbers : Form → List ℕ → Line
 of_numbers form ns = record { form = form; values = map (λ n. values.Number n) ns }
 
 -- the line that declares a timer of this number, on a clock and of a kind
 abbrev pub declaration_line : ℕ → ClockId → Kind → Line
 declaration_line timer clock (kinds.Raw callbacks.Once) = record { form = forms.RawOnce; values = values.Number timer ∷ values.Clock clock ∷ [] }
-declaration_line timer clock (kinds.Raw (callbacks.Every interval)) = record { form = forms.RawEvery; values = values.Number timer ∷ values.Clock clock ∷ values.Number interval ∷ [] }
-declaration_line timer clock (kinds.Raw callbacks.Cancels) = record { form = forms.RawCancels; values = values.Number timer ∷ values.Clock clock ∷ [] }
-declaration_line timer clock (kinds.Raw (callbacks.Starts ns base)) = record { form = forms.RawStarts; values = values.Number timer ∷ values.Clock clock ∷ values.Number ns ∷ values.Number base ∷ [] }
-declaration_line timer clock (kinds.Posix base) = record { form = forms.Posix; values = values.Number timer ∷ values.Clock clock ∷ values.Number base ∷ [] }
+declaration_line timer clock (kinds.Raw (callbacks.Every interval)) =
+    record { form = forms.RawEvery; values = values.Number timer ∷ values.Clock clock ∷ values.Number interval ∷ [] }
+declaration_line timer clock (kinds.Raw callbacks.Cancels) =
+    record { form = forms.RawCancels; values = values.Number timer ∷ values.Clock clock ∷ [] }
+declaration_line timer clock (kinds.Raw (callbacks.Starts ns base)) =
+    record { form = forms.RawStarts; values = values.Number timer ∷ values.Clock clock ∷ values.Number ns ∷ values.Number base ∷ [] }
+declaration_line timer clock (kinds.Posix base) =
+    record { form = forms.Posix; values = values.Number timer ∷ values.Clock clock ∷ values.Number base ∷ [] }
 declaration_line timer clock (kinds.Fd base) = record { form = forms.Fd; values = values.Number timer ∷ values.Clock clock ∷ values.Number base ∷ [] }
 
 -- the lines that declare timers, numbered from this one on
@@ -95,7 +99,8 @@ round_lines r = of_numbers forms.Round [] ∷ map (λ c. call_line c.lane c.call
 -- the four header lines
 abbrev pub header_lines : ℕ → ℕ → ℕ → List Line
 header_lines bases lanes limit =
-    of_numbers forms.Version (1 ∷ []) ∷ of_numbers forms.Bases (bases ∷ []) ∷ of_numbers forms.Lanes (lanes ∷ []) ∷ of_numbers forms.Limit (limit ∷ []) ∷ []
+    of_numbers forms.Version (1 ∷ []) ∷ of_numbers forms.Bases (bases ∷ []) ∷ of_numbers forms.Lanes (lanes ∷ []) ∷ of_numbers forms.Limit
+        (limit ∷ []) ∷ []
 
 -- the lines of a script: the header, the declarations and the rounds
 abbrev pub script_lines : Script → List Line

@@ -1,5 +1,6 @@
+//! The forms of line of a script, as the rows of one table.
 ghost use Rattle.std.specs.Prelude.{◌≡◌, map};
-ghost use Rattle.script_text.specs.Forms.{part, place_at, row, suits};
+ghost use Rattle.script_text.specs.Forms.{part, field_at, row, suits};
 
 use crate::script::Kind;
 use ktime::{ClockId, Mode};
@@ -34,10 +35,10 @@ pub enum Form {
     Readable,
 }
 
-/// What a place of a line is filled with: the name of a clock, a mode of starting, or a number that
+/// What a field of a line is filled with: the name of a clock, a mode of starting, or a number that
 /// stands for something.
 #[derive(Clone, Copy, Debug, PartialEq, Eq)]
-pub enum Place {
+pub enum Field {
     Clock,
     Mode,
     Version,
@@ -54,7 +55,7 @@ pub enum Place {
     Free,
 }
 
-/// What a place of a line is filled with.
+/// What fills a field of a line.
 #[derive(Clone, Copy, Debug, PartialEq, Eq)]
 pub enum Value {
     Clock(ClockId),
@@ -72,44 +73,44 @@ pub enum Part {
     Call,
 }
 
-/// A line that is read: its form, and what its places are filled with, from left to right.
+/// A line that is read: its form, and what its fields are filled with, from left to right.
 #[derive(Drop)]
 pub struct Line {
     pub form: Form,
     pub values: ItemList<Value>,
 }
 
-// The words of a form's row: a key word, or a place.
-const KEY: Option<Place> = None;
+// The words of a form's row: a key word, or a field.
+const KEY: Option<Field> = None;
 
-const CLOCK: Option<Place> = Some(Place::Clock);
+const CLOCK: Option<Field> = Some(Field::Clock);
 
-const MODE: Option<Place> = Some(Place::Mode);
+const MODE: Option<Field> = Some(Field::Mode);
 
-const VERSION: Option<Place> = Some(Place::Version);
+const VERSION: Option<Field> = Some(Field::Version);
 
-const BASES: Option<Place> = Some(Place::Bases);
+const BASES: Option<Field> = Some(Field::Bases);
 
-const LANES: Option<Place> = Some(Place::Lanes);
+const LANES: Option<Field> = Some(Field::Lanes);
 
-const LIMIT: Option<Place> = Some(Place::Limit);
+const LIMIT: Option<Field> = Some(Field::Limit);
 
-const NEW_TIMER: Option<Place> = Some(Place::NewTimer);
+const NEW_TIMER: Option<Field> = Some(Field::NewTimer);
 
-const LANE: Option<Place> = Some(Place::Lane);
+const LANE: Option<Field> = Some(Field::Lane);
 
-const TIMER: Option<Place> = Some(Place::Timer);
+const TIMER: Option<Field> = Some(Field::Timer);
 
-const BASE: Option<Place> = Some(Place::Base);
+const BASE: Option<Field> = Some(Field::Base);
 
-const BUDGET: Option<Place> = Some(Place::Budget);
+const BUDGET: Option<Field> = Some(Field::Budget);
 
-const FREE: Option<Place> = Some(Place::Free);
+const FREE: Option<Field> = Some(Field::Free);
 
 impl Form {
-    /// The places of its words from left to right, `None` where a key word stands.
-    pub fn places(self) -> &'static [Option<Place>]
-        ensures { result.now ≡ map place_at (row self) }
+    /// The fields of its words from left to right, `None` where a key word stands.
+    pub fn fields(self) -> &'static [Option<Field>]
+        ensures { result.now ≡ map field_at (row self) }
     {
         match self {
             Form::Version => &[KEY, VERSION],

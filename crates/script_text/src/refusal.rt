@@ -1,3 +1,4 @@
+//! Why a script is refused, and the line that tells it.
 ghost use Rattle.std.specs.Prelude.{◌≡◌, IfOk, string_bytes};
 ghost use Rattle.script_text.specs.Refusals.{cause_word, refusal_text};
 ghost use Rattle.script_text.specs.declared.refusal.ParseError.TheVariants.{OutOfMemory};

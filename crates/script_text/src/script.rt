@@ -1,3 +1,4 @@
+//! A script: its timers, and the rounds of calls.
 use clock_model::Write;
 use ktime::{ClockId, Mode, TimeSpec};
 use record_text::ItemList;
@@ -7,11 +8,11 @@ use record_text::ItemList;
 pub enum Callback {
     /// Nothing, and asks for no restart.
     Once,
-    /// Forwards the timer by so many nanoseconds, by the reading of its pass, and asks for a restart.
+    /// Forwards the timer by so many nanoseconds, by the reading of its expiry run, and asks for a restart.
     Every { interval: u64 },
     /// Tries to cancel the timer, and asks for no restart.
     Cancels,
-    /// Starts the timer so many nanoseconds after the reading of its pass, and asks for a restart.
+    /// Starts the timer so many nanoseconds after the reading of its expiry run, and asks for a restart.
     Starts { ns: u64, base: u32 },
 }
 

@@ -1,3 +1,4 @@
+//! What the lines of a script that were read so far make together.
 ghost use Rattle.std.specs.Prelude.{◌≡◌, ◌≤◌, OnOk, IfOk};
 ghost use Rattle.script_text.specs.Forms.{row};
 ghost use Rattle.script_text.specs.Scripts.{most_calls};
@@ -41,7 +42,7 @@ impl Draft {
         }
     }
 
-    /// Adds what a line tells that was read and that nothing is said against.
+    /// Adds what a line tells that was read and that no cause refuses.
     #[tactic(auto, unfolding(crate::specs::Drafts::draft_with_line, crate::specs::Drafts::with_part))]
     pub fn add(&mut self, alloc: Global, line: &Line) -> Result<(), AllocError>
         requires room { IsWithinLimits self.old }

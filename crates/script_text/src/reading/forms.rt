@@ -1,3 +1,4 @@
+//! The form that the words of a line choose.
 ghost use Rattle.std.specs.Prelude.{◌≡◌, drop, map};
 ghost use Rattle.script_text.specs.Reading.{begins_with_digit, find_form_by_first, form_in, find_form};
 
@@ -52,8 +53,8 @@ fn find_form(forms: &[(&[u8], Form)], word: &[u8]) -> Result<Form, Cause>
     Err(Cause::UnknownWord)
 }
 
-/// The form that the word at a place of a line names among these.
-fn named_at(forms: &[(&[u8], Form)], words: &[&[u8]], at: usize) -> Result<Form, Cause>
+/// The form that the word at a position of a line names among these.
+fn find_form_at(forms: &[(&[u8], Form)], words: &[&[u8]], at: usize) -> Result<Form, Cause>
     ensures { result
         ≡ find_form_by_first (map (λ f. (f.0.now, f.1)) forms.now) (drop at (map (λ w. w.now) words.now)) }
 {
@@ -78,10 +79,10 @@ pub fn form(words: &[&[u8]]) -> Result<Form, Cause>
         return Err(Cause::WordCount);
     };
     if begins_with_digit(first) {
-        return named_at(CALLS, words, 1);
+        return find_form_at(CALLS, words, 1);
     }
     if *first == b"raw".as_slice() {
-        return named_at(RAW, words, 3);
+        return find_form_at(RAW, words, 3);
     }
-    named_at(PLAIN, words, 0)
+    find_form_at(PLAIN, words, 0)
 }

@@ -1,3 +1,4 @@
+//! Laws of reading: at most one script is read, and bytes are read or refused.
 ghost use Rattle.std.specs.Prelude.{◌≡◌, ℕ, List, ◌⊎◌};
 ghost use Rattle.script_text.specs.Scripts.{Reads};
 ghost use Rattle.script_text.specs.Refusals.{IsRefused};

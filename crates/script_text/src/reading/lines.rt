@@ -1,17 +1,18 @@
+//! Reads one line by itself.
 ghost use Rattle.std.specs.Prelude.{◌≡◌, IfOk, map};
 ghost use Rattle.std.specs.List.{list_any};
 ghost use Rattle.script_text.specs.Forms.{row};
-ghost use Rattle.script_text.specs.Reading.{filled_by, is_bad_byte, is_empty_word, line_in, values_in};
+ghost use Rattle.script_text.specs.Reading.{line_of_form, is_bad_byte, is_empty_word, line_in, values_in};
 
 use crate::form::{Form, Line, Value};
-use crate::reading::cutting::cut;
+use crate::reading::cutting::split_at;
 use crate::reading::forms::form;
 use crate::reading::words::value;
 use crate::refusal::Cause;
 use record_text::ItemList;
 use std::alloc::{AllocError, Global};
 
-/// What these words fill the places of a form with.
+/// What these words fill the fields of a form with.
 fn values(
     alloc: Global,
     form: Form,
@@ -20,11 +21,11 @@ fn values(
     ensures { IfOk result (λ r. r ≡ values_in (row form) (map (λ w. w.now) words.now)) }
 {
     let mut values = ItemList::new(alloc);
-    for (place, word) in form.places().iter().zip(words) {
-        let Some(place) = place else {
+    for (field, word) in form.fields().iter().zip(words) {
+        let Some(field) = field else {
             continue;
         };
-        match value(*place, word) {
+        match value(*field, word) {
             Ok(v) => values.push(v)?,
             Err(cause) => return Ok(Err(cause)),
         }
@@ -33,10 +34,10 @@ fn values(
 }
 
 /// The line of a form that these words spell.
-fn filled(alloc: Global, form: Form, words: &[&[u8]]) -> Result<Result<Line, Cause>, AllocError>
-    ensures { IfOk result (λ r. r ≡ filled_by form (map (λ w. w.now) words.now)) }
+fn line_of_form(alloc: Global, form: Form, words: &[&[u8]]) -> Result<Result<Line, Cause>, AllocError>
+    ensures { IfOk result (λ r. r ≡ line_of_form form (map (λ w. w.now) words.now)) }
 {
-    if words.len() != form.places().len() {
+    if words.len() != form.fields().len() {
         return Ok(Err(Cause::WordCount));
     }
     match values(alloc, form, words)? {
@@ -59,7 +60,7 @@ fn has_empty_word(words: &[&[u8]]) -> bool
     words.iter().any(|word| word.is_empty())
 }
 
-/// The line that these bytes spell, or the first cause against them that needs no line before
+/// The line that these bytes spell, or the first cause that refuses them and needs no line before
 /// them.
 pub fn read_line(alloc: Global, line: &[u8]) -> Result<Result<Line, Cause>, AllocError>
     ensures { IfOk result (λ r. r ≡ line_in line.now) }
@@ -67,12 +68,12 @@ pub fn read_line(alloc: Global, line: &[u8]) -> Result<Result<Line, Cause>, Allo
     if has_bad_byte(line) {
         return Ok(Err(Cause::BadByte));
     }
-    let words = cut(alloc, line, b' ')?;
+    let words = split_at(alloc, line, b' ')?;
     if has_empty_word(&words) {
         return Ok(Err(Cause::BadSpace));
     }
     match form(&words) {
-        Ok(form) => filled(alloc, form, &words),
+        Ok(form) => line_of_form(alloc, form, &words),
         Err(cause) => Ok(Err(cause)),
     }
 }

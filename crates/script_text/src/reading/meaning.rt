@@ -1,3 +1,4 @@
+//! The declaration or the call that a line asks for.
 ghost use Rattle.std.specs.Prelude.{◌≡◌};
 ghost use Rattle.script_text.specs.Forms.{row};
 ghost use Rattle.script_text.specs.declared.form.Form.TheVariants as forms;

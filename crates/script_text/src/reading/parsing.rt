@@ -1,3 +1,4 @@
+//! Reads a script, line after line.
 ghost use Rattle.std.specs.Prelude.{◌≡◌, ◌<◌, ◌^◌, IfOk, IfErr, Ok, Err, map, length};
 ghost use Rattle.script_text.specs.Scripts.{Reads, without_empty_tail, is_skipped};
 ghost use Rattle.script_text.specs.Drafts.{IsWithinLimits, empty};
@@ -5,7 +6,7 @@ ghost use Rattle.script_text.specs.Refusals.{Gives, IsReason, IsRefused, script_
 ghost use Rattle.script_text.specs.declared.refusal.Refused.{Refused};
 ghost use Rattle.script_text.specs.declared.script.Script.{Script};
 
-use crate::reading::cutting::cut;
+use crate::reading::cutting::split_at;
 use crate::reading::drafts::Draft;
 use crate::reading::lines::read_line;
 use crate::reading::placing::check_line;
@@ -41,7 +42,7 @@ fn read_script(alloc: Global, bytes: &[u8]) -> Result<Result<Script, Refused>, A
             cause: Cause::TooLong,
         }));
     }
-    let parts = cut(alloc, bytes, b'\n')?;
+    let parts = split_at(alloc, bytes, b'\n')?;
     read_lines(alloc, without_empty_tail(&parts))
 }
 
@@ -99,7 +100,7 @@ fn is_skipped(line: &[u8]) -> bool
     }
 }
 
-/// What the lines have told after one more, or the first cause against it.
+/// What the lines have told after one more, or the first cause that refuses it.
 #[tactic(auto, unfolding(crate::specs::Refusals::with_line_in))]
 fn with_line(
     alloc: Global,

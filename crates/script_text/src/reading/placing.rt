@@ -1,8 +1,9 @@
+//! The causes that refuse a line after the lines before it.
 ghost use Rattle.std.specs.Prelude.{◌≡◌};
 ghost use Rattle.script_text.specs.Forms.{row};
 ghost use Rattle.script_text.specs.Refusals.{check_line, check_count, check_kind, check_number, check_value, check_values, is_placed, drafted_kind};
 
-use crate::form::{Form, Line, Part, Place, Value};
+use crate::form::{Form, Line, Part, Field, Value};
 use crate::reading::drafts::Draft;
 use crate::refusal::Cause;
 use crate::script::{Callback, Kind};
@@ -25,7 +26,7 @@ const MOST_EVENTS: u64 = (1 << 40) - 4;
 /// How many timers one expire may claim.
 const MOST_BUDGET: u64 = 4096;
 
-/// What is said first check_line a line that was read by itself.
+/// The first cause that refuses a line that was read by itself.
 #[tactic(auto, unfolding(crate::specs::Refusals::check_line))]
 pub fn check_line(draft: &Draft, line: &Line) -> Option<Cause>
     ensures { result ≡ check_line draft.now line.now }
@@ -57,7 +58,7 @@ fn is_placed(draft: &Draft, part: Part) -> bool
     }
 }
 
-/// What is said check_line one more line of this part.
+/// The cause that refuses one more line of this part.
 #[tactic(auto, unfolding(crate::specs::Refusals::check_count))]
 fn check_count(draft: &Draft, part: Part) -> Option<Cause>
     ensures { result ≡ check_count draft.now part }
@@ -71,49 +72,49 @@ fn check_count(draft: &Draft, part: Part) -> Option<Cause>
     }
 }
 
-/// What is said check_line a number in its place.
+/// The cause that refuses a number in its field.
 #[tactic(auto, unfolding(crate::specs::Refusals::check_number))]
-fn check_number(draft: &Draft, place: Place, n: u64) -> Option<Cause>
-    ensures { result ≡ check_number draft.now place n }
+fn check_number(draft: &Draft, field: Field, n: u64) -> Option<Cause>
+    ensures { result ≡ check_number draft.now field n }
 {
     let timers = draft.timers.as_slice().len() as u64;
-    match place {
-        Place::Version if n != 1 => Some(Cause::Version),
-        Place::Bases if n < 1 || n > MOST_BASES => Some(Cause::BaseLimit),
-        Place::Base if n >= u64::from(draft.bases) => Some(Cause::BaseLimit),
-        Place::Lanes if n < 1 || n > MOST_LANES => Some(Cause::LaneLimit),
-        Place::Lane if n >= u64::from(draft.lanes) => Some(Cause::LaneLimit),
-        Place::Limit if n < 1 || n > MOST_EVENTS => Some(Cause::EventLimit),
-        Place::NewTimer if n != timers => Some(Cause::BadId),
-        Place::Timer if n >= timers => Some(Cause::NoTimer),
-        Place::Budget if n > MOST_BUDGET => Some(Cause::BudgetLimit),
+    match field {
+        Field::Version if n != 1 => Some(Cause::Version),
+        Field::Bases if n < 1 || n > MOST_BASES => Some(Cause::BaseLimit),
+        Field::Base if n >= u64::from(draft.bases) => Some(Cause::BaseLimit),
+        Field::Lanes if n < 1 || n > MOST_LANES => Some(Cause::LaneLimit),
+        Field::Lane if n >= u64::from(draft.lanes) => Some(Cause::LaneLimit),
+        Field::Limit if n < 1 || n > MOST_EVENTS => Some(Cause::EventLimit),
+        Field::NewTimer if n != timers => Some(Cause::BadId),
+        Field::Timer if n >= timers => Some(Cause::NoTimer),
+        Field::Budget if n > MOST_BUDGET => Some(Cause::BudgetLimit),
         _ => None,
     }
 }
 
-/// What is said check_line what fills a place.
-fn check_value(draft: &Draft, place: Place, value: Value) -> Option<Cause>
-    ensures { result ≡ check_value draft.now place value }
+/// The cause that refuses what fills a field.
+fn check_value(draft: &Draft, field: Field, value: Value) -> Option<Cause>
+    ensures { result ≡ check_value draft.now field value }
 {
     match value {
-        Value::Number(n) => check_number(draft, place, n),
+        Value::Number(n) => check_number(draft, field, n),
         _ => None,
     }
 }
 
-/// What is said first check_line what fills the places of a form.
+/// The first cause in what fills the fields of a form.
 fn check_values(draft: &Draft, form: Form, values: &[Value]) -> Option<Cause>
     ensures { result ≡ check_values draft.now (row form) values.now }
 {
     let mut rest = values;
-    for place in form.places() {
-        let Some(place) = place else {
+    for field in form.fields() {
+        let Some(field) = field else {
             continue;
         };
         let Some((value, more)) = rest.split_first() else {
             return None;
         };
-        if let Some(cause) = check_value(draft, *place, *value) {
+        if let Some(cause) = check_value(draft, *field, *value) {
             return Some(cause);
         }
         rest = more;
@@ -133,12 +134,12 @@ fn drafted_kind(draft: &Draft, timer: u64) -> Kind
     }
 }
 
-/// What is said check_line a call on a timer whose kind it doesn't suit.
+/// The cause that refuses a call on a timer whose kind it doesn't suit.
 #[tactic(auto, unfolding(crate::specs::Refusals::check_kind))]
 fn check_kind(draft: &Draft, form: Form, values: &[Value]) -> Option<Cause>
     ensures { result ≡ check_kind draft.now form (row form) values.now }
 {
-    let ([_, None, Some(Place::Timer), ..], [_, Value::Number(timer), ..]) = (form.places(), values)
+    let ([_, None, Some(Field::Timer), ..], [_, Value::Number(timer), ..]) = (form.fields(), values)
     else {
         return None;
     };

@@ -1,3 +1,4 @@
+//! Scripts that are read whole, and the refusals of others.
 use super::laws::{at_most_one_script_is_read, bytes_are_read_or_refused};
 use super::parsing::parse;
 use crate::refusal::ParseError;
@@ -30,82 +31,84 @@ fn refusal(rt: &impl Abort, alloc: Global, bytes: &[u8]) -> String {
     }
 }
 
+const REFUSED: [(&str, &str, &str); 25] = [
+    ("", "", "line 1: Unfinished\n"),
+    ("", "hrt 2\n", "line 1: Version\n"),
+    ("", "hrt  1\n", "line 1: BadSpace\n"),
+    ("", "hrt 1 1\n", "line 1: WordCount\n"),
+    ("", "hrt 1\nbas", "line 2: UnknownWord\n"),
+    ("", "hrt 1\nbases 01\n", "line 2: BadNumber\n"),
+    ("", "hrt 1\nbases 9\n", "line 2: BaseLimit\n"),
+    ("", "hrt 1\nlanes 1\n", "line 2: BadPlace\n"),
+    (HEADER, "raw 1 monotonic once\n", "line 5: BadId\n"),
+    (HEADER, "0 peek 0\n", "line 5: BadPlace\n"),
+    (HEADER, "round\n1 advance 5\n", "line 6: LaneLimit\n"),
+    (HEADER, "round\n0 peek 0\n", "line 6: NoTimer\n"),
+    (HEADER, "round\n0 expire 0 4097\n", "line 6: BudgetLimit\n"),
+    (
+        HEADER,
+        "raw 0 monotonic once\nround\n0 read 0 8\n",
+        "line 7: WrongKind\n",
+    ),
+    ("", "\n# none\nhrt 1\n", "line 4: Unfinished\n"),
+    ("", "hrt 1\nbases 1\nlanes 2\n", "line 3: LaneLimit\n"),
+    (
+        "",
+        "hrt 1\nbases 1\nlanes 1\nlimit 1099511627773\n",
+        "line 4: EventLimit\n",
+    ),
+    (HEADER, "raw 1 monotonic starts 5 1\n", "line 5: BadId\n"),
+    (
+        HEADER,
+        "raw 0 monotonic starts 5 1\n",
+        "line 5: BaseLimit\n",
+    ),
+    (HEADER, "posix 0 realtime 1\n", "line 5: BaseLimit\n"),
+    (HEADER, "fd 0 boottime 1\n", "line 5: BaseLimit\n"),
+    (HEADER, "fd 0 boottime\n", "line 5: WordCount\n"),
+    (
+        HEADER,
+        "round\nraw 7 monotonic once\n",
+        "line 6: BadPlace\n",
+    ),
+    (
+        HEADER,
+        "round\n\n#\nround\n0 expire 1 4097\n",
+        "line 9: BaseLimit\n",
+    ),
+    (HEADER, "round", ""),
+];
+
 #[test]
 fn tells_the_first_line_that_is_refused_and_why(rt: HostRuntime) {
-    let cases = [
-        ("", "", "line 1: Unfinished\n"),
-        ("", "hrt 2\n", "line 1: Version\n"),
-        ("", "hrt  1\n", "line 1: BadSpace\n"),
-        ("", "hrt 1 1\n", "line 1: WordCount\n"),
-        ("", "hrt 1\nbas", "line 2: UnknownWord\n"),
-        ("", "hrt 1\nbases 01\n", "line 2: BadNumber\n"),
-        ("", "hrt 1\nbases 9\n", "line 2: BaseLimit\n"),
-        ("", "hrt 1\nlanes 1\n", "line 2: BadPlace\n"),
-        (HEADER, "raw 1 monotonic once\n", "line 5: BadId\n"),
-        (HEADER, "0 peek 0\n", "line 5: BadPlace\n"),
-        (HEADER, "round\n1 advance 5\n", "line 6: LaneLimit\n"),
-        (HEADER, "round\n0 peek 0\n", "line 6: NoTimer\n"),
-        (HEADER, "round\n0 expire 0 4097\n", "line 6: BudgetLimit\n"),
-        (
-            HEADER,
-            "raw 0 monotonic once\nround\n0 read 0 8\n",
-            "line 7: WrongKind\n",
-        ),
-        ("", "\n# none\nhrt 1\n", "line 4: Unfinished\n"),
-        ("", "hrt 1\nbases 1\nlanes 2\n", "line 3: LaneLimit\n"),
-        (
-            "",
-            "hrt 1\nbases 1\nlanes 1\nlimit 1099511627773\n",
-            "line 4: EventLimit\n",
-        ),
-        (HEADER, "raw 1 monotonic starts 5 1\n", "line 5: BadId\n"),
-        (
-            HEADER,
-            "raw 0 monotonic starts 5 1\n",
-            "line 5: BaseLimit\n",
-        ),
-        (HEADER, "posix 0 realtime 1\n", "line 5: BaseLimit\n"),
-        (HEADER, "fd 0 boottime 1\n", "line 5: BaseLimit\n"),
-        (HEADER, "fd 0 boottime\n", "line 5: WordCount\n"),
-        (
-            HEADER,
-            "round\nraw 7 monotonic once\n",
-            "line 6: BadPlace\n",
-        ),
-        (
-            HEADER,
-            "round\n\n#\nround\n0 expire 1 4097\n",
-            "line 9: BaseLimit\n",
-        ),
-        (HEADER, "round", ""),
-    ];
-    for (before, rest, told) in cases {
+    for (before, rest, told) in REFUSED {
         let script = format!(in rt.alloc(); "{before}{rest}").expect(&rt, "memory");
         let text = refusal(&rt, rt.alloc(), script.as_bytes());
         assert_eq!(rt; text.as_str(), told, "{rest}");
     }
 }
 
+const WRONG_KINDS: [(&str, &str); 12] = [
+    ("0 settime 0 0 1 0 0 0\n", "line 9: WrongKind\n"),
+    ("0 gettime 0\n", "line 9: WrongKind\n"),
+    ("0 start 2 rel 5 0\n", "line 9: WrongKind\n"),
+    ("0 cancel 1\n", "line 9: WrongKind\n"),
+    ("0 accept 2\n", "line 9: WrongKind\n"),
+    ("0 overrun 2\n", "line 9: WrongKind\n"),
+    ("0 read 1 8\n", "line 9: WrongKind\n"),
+    ("0 readable 1\n", "line 9: WrongKind\n"),
+    ("0 start 2 rel 5 1\n", "line 9: BaseLimit\n"),
+    ("0 read 3 8\n", "line 9: NoTimer\n"),
+    (
+        "0 read 2 8\n0 accept 1\n0 gettime 3\n",
+        "line 11: NoTimer\n",
+    ),
+    ("0 peek 0\n0 peek 1\n0 peek 2\n0 settime 1 9 0 0 0 0\n", ""),
+];
+
 #[test]
 fn refuses_a_call_that_is_not_for_the_kind_of_its_timer(rt: HostRuntime) {
-    let cases = [
-        ("0 settime 0 0 1 0 0 0\n", "line 9: WrongKind\n"),
-        ("0 gettime 0\n", "line 9: WrongKind\n"),
-        ("0 start 2 rel 5 0\n", "line 9: WrongKind\n"),
-        ("0 cancel 1\n", "line 9: WrongKind\n"),
-        ("0 accept 2\n", "line 9: WrongKind\n"),
-        ("0 overrun 2\n", "line 9: WrongKind\n"),
-        ("0 read 1 8\n", "line 9: WrongKind\n"),
-        ("0 readable 1\n", "line 9: WrongKind\n"),
-        ("0 start 2 rel 5 1\n", "line 9: BaseLimit\n"),
-        ("0 read 3 8\n", "line 9: NoTimer\n"),
-        (
-            "0 read 2 8\n0 accept 1\n0 gettime 3\n",
-            "line 11: NoTimer\n",
-        ),
-        ("0 peek 0\n0 peek 1\n0 peek 2\n0 settime 1 9 0 0 0 0\n", ""),
-    ];
-    for (calls, told) in cases {
+    for (calls, told) in WRONG_KINDS {
         let script = format!(in rt.alloc(); "{HEADER}{KINDS}{calls}").expect(&rt, "memory");
         let text = refusal(&rt, rt.alloc(), script.as_bytes());
         assert_eq!(rt; text.as_str(), told, "{calls}");
@@ -154,23 +157,43 @@ fn reads_a_script_whole(rt: HostRuntime) {
         (script.bases, script.lanes, script.limit),
         (2, 1, 1099511627772)
     );
-    let timers = [
+    assert_eq!(rt; script.timers.as_slice(), declarations().as_slice());
+    let [a, b, c, d] = script.rounds.as_slice() else {
+        panic!(rt; "rounds");
+    };
+    assert_eq!(rt; a.calls.as_slice(), raw_calls().as_slice());
+    assert_eq!(rt; b.calls.as_slice(), object_calls().as_slice());
+    assert_eq!(rt; c.calls.as_slice().len(), 0);
+    assert_eq!(rt; d.calls.as_slice(), last_calls().as_slice());
+    at_most_one_script_is_read();
+    bytes_are_read_or_refused();
+}
+
+fn declarations() -> [Declaration; 6] {
+    [
         raw(ClockId::Monotonic, Callback::Once),
         raw(ClockId::Realtime, Callback::Every { interval: 10 }),
         raw(ClockId::Boottime, Callback::Cancels),
         raw(ClockId::Monotonic, Callback::Starts { ns: 5, base: 1 }),
         declared(ClockId::Realtime, Kind::Posix { base: 1 }),
         declared(ClockId::Boottime, Kind::Fd { base: 0 }),
-    ];
-    assert_eq!(rt; script.timers.as_slice(), timers.as_slice());
-    let first = [
+    ]
+}
+
+/// The calls of the first round.
+fn raw_calls() -> [LaneCall; 4] {
+    [
         start(0, Mode::Rel, 100, 0),
         start(1, Mode::Abs, 9223372036854775807, 1),
         Call::Cancel { timer: 2 },
         Call::Peek { timer: 3 },
     ]
-    .map(|call| LaneCall { lane: 0, call });
-    let last = [
+    .map(|call| LaneCall { lane: 0, call })
+}
+
+/// The calls of the last round.
+fn last_calls() -> [LaneCall; 4] {
+    [
         Call::Expire {
             base: 1,
             budget: 4096,
@@ -179,16 +202,7 @@ fn reads_a_script_whole(rt: HostRuntime) {
         write(Write::Set { to: 2 }),
         write(Write::Suspend { by: 3 }),
     ]
-    .map(|call| LaneCall { lane: 0, call });
-    let [a, b, c, d] = script.rounds.as_slice() else {
-        panic!(rt; "rounds");
-    };
-    assert_eq!(rt; a.calls.as_slice(), first.as_slice());
-    assert_eq!(rt; b.calls.as_slice(), object_calls().as_slice());
-    assert_eq!(rt; c.calls.as_slice().len(), 0);
-    assert_eq!(rt; d.calls.as_slice(), last.as_slice());
-    at_most_one_script_is_read();
-    bytes_are_read_or_refused();
+    .map(|call| LaneCall { lane: 0, call })
 }
 
 /// The calls of the second round.

@@ -1,7 +1,8 @@
+//! The clock, the mode or the number that a word spells.
 ghost use Rattle.std.specs.Prelude.{◌≡◌};
 ghost use Rattle.script_text.specs.Reading.{number_in, clock_in, mode_in, value_in};
 
-use crate::form::{Place, Value};
+use crate::form::{Field, Value};
 use crate::refusal::Cause;
 use ktime::{ClockId, LAST_TIME, Mode};
 
@@ -58,14 +59,14 @@ pub fn mode(word: &[u8]) -> Option<Mode>
     }
 }
 
-/// What this word fills a place with.
+/// What this word fills a field with.
 #[tactic(auto, unfolding(crate::specs::Reading::word_in))]
-pub fn value(place: Place, word: &[u8]) -> Result<Value, Cause>
-    ensures { result ≡ value_in place word.now }
+pub fn value(field: Field, word: &[u8]) -> Result<Value, Cause>
+    ensures { result ≡ value_in field word.now }
 {
-    match place {
-        Place::Clock => Ok(Value::Clock(clock(word).ok_or(Cause::UnknownWord)?)),
-        Place::Mode => Ok(Value::Mode(mode(word).ok_or(Cause::UnknownWord)?)),
+    match field {
+        Field::Clock => Ok(Value::Clock(clock(word).ok_or(Cause::UnknownWord)?)),
+        Field::Mode => Ok(Value::Mode(mode(word).ok_or(Cause::UnknownWord)?)),
         _ => Ok(Value::Number(number(word).ok_or(Cause::BadNumber)?)),
     }
 }

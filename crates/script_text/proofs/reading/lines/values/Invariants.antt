@@ -5,5 +5,7 @@ use Rattle.script_text.proofs.Filling.{values_from, with_front}
 use Rattle.script_text.proofs.reading.lines.values.Given as goal
 
 -- the values so far, and what the rest gives, are what the words give
-abbrev pub invariant-loop-place : goal.invariant-loop-place
-invariant-loop-place l = with_front l.values (values_from l.place-iterator.a.rest.now l.place-iterator.b.rest.now) ≡ values_in (row l.fn.form) (map (λ w. w.now) l.fn.words)
+abbrev pub invariant-loop-field : goal.invariant-loop-field
+invariant-loop-field l =
+    with_front l.values (values_from l.field-iterator.a.rest.now l.field-iterator.b.rest.now) ≡ values_in (row l.fn.form)
+        (map (λ w. w.now) l.fn.words)

@@ -13,7 +13,8 @@ refused_at cause n = Err (record { line = n + 1; cause = cause })
 pub loop-line-preserved-then-is_skipped : goal.loop-line-preserved-then-is_skipped
 loop-line-preserved-then-is_skipped c = record {
   number = omega (arith, c.loop-line.invariant.number);
-  so_far = line_skipped (λ p. p.now) c.args.lines.now c.loop-line.line-index c.loop-line.draft _ c.loop-line.invariant.so_far _ c.loop-line-test.true (sym c.is_skipped.ensures ∙ c.if-is_skipped.true);
+  so_far = line_skipped (λ p. p.now) c.args.lines.now c.loop-line.line-index c.loop-line.draft _ c.loop-line.invariant.so_far _ c.loop-line-test.true
+      (sym c.is_skipped.ensures ∙ c.if-is_skipped.true);
   room = c.loop-line.invariant.room;
 }
 
@@ -21,19 +22,27 @@ pub returns-in-Err : goal.returns-in-Err
 unfolding refused_at
 returns-in-Err c =
     ap (refused_at c.in-Err.cause) c.loop-line.invariant.number
-    ∙ line_refused (λ p. p.now) c.args.lines.now c.loop-line.line-index c.loop-line.draft _ c.loop-line.invariant.so_far _ c.in-Err.cause c.loop-line-test.true (sym c.is_skipped.ensures ∙ c.if-is_skipped.false) (sym c.in_ok-draft.ensures.read ∙ c.in-Err.is)
+    ∙ line_refused (λ p. p.now) c.args.lines.now c.loop-line.line-index c.loop-line.draft _
+        c.loop-line.invariant.so_far _ c.in-Err.cause c.loop-line-test.true
+        (sym c.is_skipped.ensures ∙ c.if-is_skipped.false) (sym c.in_ok-draft.ensures.read ∙ c.in-Err.is)
 
 pub loop-line-preserved : goal.loop-line-preserved
 loop-line-preserved c = record {
   number = omega (arith, c.loop-line.invariant.number);
-  so_far = line_taken (λ p. p.now) c.args.lines.now c.loop-line.line-index c.loop-line.draft _ c.loop-line.invariant.so_far _ c.in-Ok.draft c.loop-line-test.true (sym c.is_skipped.ensures ∙ c.if-is_skipped.false) (sym c.in_ok-draft.ensures.read ∙ c.in-Ok.is);
+  so_far = line_taken (λ p. p.now) c.args.lines.now c.loop-line.line-index c.loop-line.draft _
+      c.loop-line.invariant.so_far _ c.in-Ok.draft c.loop-line-test.true
+      (sym c.is_skipped.ensures ∙ c.if-is_skipped.false) (sym c.in_ok-draft.ensures.read ∙ c.in-Ok.is);
   room = subst (λ r. IfOk r (λ d. IsWithinLimits d)) c.in-Ok.is c.in_ok-draft.ensures.room;
 }
 
 pub returns-then-draft-lt4 : goal.returns-then-draft-lt4
 unfolding refused_at
 returns-then-draft-lt4 c =
-    ap (refused_at causes.Unfinished) c.loop-line.invariant.number ∙ lines_end_early (λ p. p.now) c.args.lines.now c.loop-line.line-index c.loop-line.draft _ c.loop-line.invariant.so_far c.loop-line-test.false c.if-draft-lt4.true
+    ap (refused_at causes.Unfinished) c.loop-line.invariant.number
+        ∙ lines_end_early (λ p. p.now) c.args.lines.now c.loop-line.line-index c.loop-line.draft _
+            c.loop-line.invariant.so_far c.loop-line-test.false c.if-draft-lt4.true
 
 pub returns : goal.returns
-returns c = ap (λ (s : Script). Ok s) c.in_ok-script.ensures ∙ lines_end (λ p. p.now) c.args.lines.now c.loop-line.line-index c.loop-line.draft _ c.loop-line.invariant.so_far c.loop-line-test.false c.if-draft-lt4.false
+returns c = ap (λ (s : Script). Ok s) c.in_ok-script.ensures
+    ∙ lines_end (λ p. p.now) c.args.lines.now c.loop-line.line-index c.loop-line.draft _
+        c.loop-line.invariant.so_far c.loop-line-test.false c.if-draft-lt4.false

@@ -1,10 +1,10 @@
--- What it takes that nothing is said check_line a line.
+-- What it takes that no cause refuses a line.
 use Rattle.std.proofs.Common.{◌≡◌, ℕ, Bool, true, false, List, [], ◌∷◌, length, Option, Some, None, refl, arith}
 use Rattle.std.specs.Option.{option_or}
 use Rattle.std.proofs.lemmas.Bool.{and_parts, ltb-true, leb-true}
 use Rattle.script_text.specs.declared.form.Line.{Line}
-use Rattle.script_text.specs.declared.form.Place.{Place}
-use Rattle.script_text.specs.declared.form.Place.TheVariants as places
+use Rattle.script_text.specs.declared.form.Field.{Field}
+use Rattle.script_text.specs.declared.form.Field.TheVariants as fields
 use Rattle.script_text.specs.declared.form.Value.{Value}
 use Rattle.script_text.specs.declared.form.Value.TheVariants as values
 use Rattle.script_text.specs.declared.reading.drafts.Draft.{Draft}
@@ -22,7 +22,7 @@ pub holds : (b : Bool) (cause : Cause) → unless b cause ≡ None → b ≡ tru
 holds true cause e = refl
 holds false cause e = absurd cc
 
--- nothing is said check_line a line, part by part
+-- no cause refuses a line, part by part
 pub record Accepts (d : Draft) (l : Line) : Type 0 where
   pub placed : is_placed d (part l.form) ≡ true
   pub count : check_count d (part l.form) ≡ None
@@ -37,29 +37,29 @@ accepts d l e =
     let values = neither _ _ count.1 in
     record { placed = holds _ _ placed.0; count = count.0; values = values.0; kind = values.1 }
 
-pub accepted_none : (d : Draft) (l : Line) → Accepts d l → check_line d l ≡ None
+pub no_cause : (d : Draft) (l : Line) → Accepts d l → check_line d l ≡ None
 unfolding check_line
-accepted_none d l a = rw (a.placed, a.count, a.values, a.kind) refl
+no_cause d l a = rw (a.placed, a.count, a.values, a.kind) refl
 
--- ---- numbers that nothing is said check_line are short
+-- ---- numbers that no cause refuses are short
 
 module _ (d : Draft) (room : IsWithinLimits d) where
-  short_number : (place : Place) (n : ℕ) → check_number d place n ≡ None → IsShort place n
+  short_number : (field : Field) (n : ℕ) → check_number d field n ≡ None → IsShort field n
   unfolding check_number
-  short_number places.Bases n e = omega (arith, leb-true n most_bases (and_parts _ _ (holds _ _ e)).1)
-  short_number places.Lanes n e = omega (arith, leb-true n most_lanes (and_parts _ _ (holds _ _ e)).1)
-  short_number places.Lane n e = omega (arith, ltb-true n d.lanes (holds _ _ e), room.lanes)
-  short_number places.Timer n e = omega (arith, ltb-true n (length d.timers) (holds _ _ e), room.timers)
-  short_number places.Base n e = omega (arith, ltb-true n d.bases (holds _ _ e), room.bases)
+  short_number fields.Bases n e = omega (arith, leb-true n most_bases (and_parts _ _ (holds _ _ e)).1)
+  short_number fields.Lanes n e = omega (arith, leb-true n most_lanes (and_parts _ _ (holds _ _ e)).1)
+  short_number fields.Lane n e = omega (arith, ltb-true n d.lanes (holds _ _ e), room.lanes)
+  short_number fields.Timer n e = omega (arith, ltb-true n (length d.timers) (holds _ _ e), room.timers)
+  short_number fields.Base n e = omega (arith, ltb-true n d.bases (holds _ _ e), room.bases)
   short_number _ n e = tt
 
   pub short_numbers : (spots : List Spot) (vs : List Value) → check_values d spots vs ≡ None → AreShort spots vs
   unfolding check_values
   short_numbers [] vs e = tt
   short_numbers (Key word ∷ spots) vs e = short_numbers spots vs e
-  short_numbers (At place ∷ spots) [] e = tt
-  short_numbers (At place ∷ spots) (values.Number n ∷ vs) e =
+  short_numbers (At field ∷ spots) [] e = tt
+  short_numbers (At field ∷ spots) (values.Number n ∷ vs) e =
       let both = neither _ _ e in
-      (short_number place n both.0, short_numbers spots vs both.1)
-  short_numbers (At place ∷ spots) (values.Clock c ∷ vs) e = short_numbers spots vs e
-  short_numbers (At place ∷ spots) (values.Mode m ∷ vs) e = short_numbers spots vs e
+      (short_number field n both.0, short_numbers spots vs both.1)
+  short_numbers (At field ∷ spots) (values.Clock c ∷ vs) e = short_numbers spots vs e
+  short_numbers (At field ∷ spots) (values.Mode m ∷ vs) e = short_numbers spots vs e
