@@ -40,21 +40,27 @@ pub record HasParts (was : Bool) (generation on : ℕ) (moved_to : Option ℕ) (
   pub clock_is : clock ≡ now.clock
   pub expires_is : expires ≡ now.expires
 
-parts_of : (w w' : Bool) (g g' o o' : ℕ) (s s' : Option ℕ) (c c' : ClockId) (x x' : ℕ) → starts.Started w g o s c x ≡ starts.Started w' g' o' s' c' x' → (w ≡ w') × (g ≡ g') × (o ≡ o') × (s ≡ s') × (c ≡ c') × (x ≡ x')
+parts_of : (w w' : Bool) (g g' o o' : ℕ) (s s' : Option ℕ) (c c' : ClockId) (x x' : ℕ)
+    → starts.Started w g o s c x ≡ starts.Started w' g' o' s' c' x' → (w ≡ w') × (g ≡ g') × (o ≡ o') × (s ≡ s') × (c ≡ c') × (x ≡ x')
 parts_of w w' g g' o o' s s' c c' x x' e = (cc, cc, cc, cc, cc, cc)
 
-pub started_parts : (was : Bool) (generation on : ℕ) (moved_to : Option ℕ) (clock : ClockId) (expires : ℕ) (t now : Timer) (asked : ℕ) → starts.Started was generation on moved_to clock expires ≡ started_as t now asked → HasParts was generation on moved_to clock expires t now asked
+pub started_parts : (was : Bool) (generation on : ℕ) (moved_to : Option ℕ) (clock : ClockId) (expires : ℕ) (t now : Timer) (asked : ℕ)
+    → starts.Started was generation on moved_to clock expires ≡ started_as t now asked → HasParts was generation on moved_to clock expires t now asked
 started_parts was generation on moved_to clock expires t now asked e =
-    let parts = parts_of was (is_some t.armed) generation now.stamp on now.base moved_to (if moves_first t asked then Some asked else None) clock now.clock expires now.expires e in
+    let parts = parts_of was (is_some t.armed) generation now.stamp on now.base moved_to
+    (if moves_first t asked then Some asked else None) clock now.clock expires now.expires e in
     record { was_is = parts.0; generation_is = parts.1; on_is = parts.2; moved_is = parts.3; clock_is = parts.4; expires_is = parts.5 }
 
 -- the run after a start that has entered these two lines
 abbrev pub start_told : RunState → Kept → Label → ℕ → Mode → ℕ → ℕ → Bool → ℕ → Option ℕ → ClockId → ℕ → RunState
 start_told r k c t mode ns asked was on moved_to clock expires =
-    with_line (with_out (record r { core = k }) c t was moved_to) c t (entries.Start mode ns r.reading.stamp asked on clock expires (was && not (is_some moved_to)))
+    with_line (with_out (record r { core = k }) c t was moved_to) c t
+    (entries.Start mode ns r.reading.stamp asked on clock expires (was && not (is_some moved_to)))
 
-pub here : (r : RunState) (k : Kept) (c : Label) (t : ℕ) (mode : Mode) (ns asked : ℕ) (was : Bool) (generation on : ℕ) (moved_to : Option ℕ) (clock : ClockId) (expires : ℕ) → t < length r.core.timers
-    → HasParts was generation on moved_to clock expires (timer_at r.core.timers t) (timer_at k.timers t) asked → moves_first (timer_at r.core.timers t) asked ≡ false
+pub here : (r : RunState) (k : Kept) (c : Label) (t : ℕ) (mode : Mode) (ns asked : ℕ) (was : Bool) (generation on : ℕ) (moved_to : Option ℕ)
+    (clock : ClockId) (expires : ℕ) → t < length r.core.timers
+    → HasParts was generation on moved_to clock expires (timer_at r.core.timers t) (timer_at k.timers t) asked
+    → moves_first (timer_at r.core.timers t) asked ≡ false
     → Makes r.core t (start_events (timer_at r.core.timers t) mode ns asked r.reading) k
     → StartsHere (progress r) c t mode ns asked generation on was (progress (start_told r k c t mode ns asked was on moved_to clock expires))
 here r k c t mode ns asked was generation on moved_to clock expires there parts stays makes =
@@ -63,7 +69,8 @@ here r k c t mode ns asked was generation on moved_to clock expires there parts 
     let now = after T start in
     let none : moved_to ≡ None = parts.moved_is ∙ ap (λ b. if b then Some asked else None) stays in
     let allowed : AreAllowed T (start ∷ []) = subst (λ b. AreAllowed T (if b then events.Out asked ∷ start ∷ [] else start ∷ [])) stays makes.allowed in
-    let timers : k.timers ≡ set r.core.timers t now = makes.timers ∙ ap (λ b. set r.core.timers t (step_all T (if b then events.Out asked ∷ start ∷ [] else start ∷ []))) stays in
+    let timers : k.timers ≡ set r.core.timers t now = makes.timers
+    ∙ ap (λ b. set r.core.timers t (step_all T (if b then events.Out asked ∷ start ∷ [] else start ∷ []))) stays in
     let is_now : timer_at k.timers t ≡ now = makes.timer ∙ ap (λ b. step_all T (if b then events.Out asked ∷ start ∷ [] else start ∷ [])) stays in
     record {
       needs = allowed.0;
@@ -74,11 +81,21 @@ here r k c t mode ns asked was generation on moved_to clock expires there parts 
           ap (λ n. progress (start_told r k c t mode ns asked was on n clock expires)) none
           ∙ ap (λ w. progress (with_line (record r { core = k }) c t (entries.Start mode ns r.reading.stamp asked on clock expires w))) (and_true was)
           ∙ ap (λ w. progress (with_line (record r { core = k }) c t (entries.Start mode ns r.reading.stamp asked on clock expires w))) parts.was_is
-          ∙ ap (λ n. progress (with_line (record r { core = k }) c t (entries.Start mode ns r.reading.stamp asked n clock expires (is_some T.armed)))) parts.on_is
-          ∙ ap (λ n. progress (with_line (record r { core = k }) c t (entries.Start mode ns r.reading.stamp asked (timer_at k.timers t).base n expires (is_some T.armed)))) parts.clock_is
-          ∙ ap (λ n. progress (with_line (record r { core = k }) c t (entries.Start mode ns r.reading.stamp asked (timer_at k.timers t).base (timer_at k.timers t).clock n (is_some T.armed)))) parts.expires_is
-          ∙ ap (λ (x : Timer). progress (with_line (record r { core = k }) c t (entries.Start mode ns r.reading.stamp asked x.base x.clock x.expires (is_some T.armed)))) is_now
-          ∙ ap (λ ts. record { timers = ts; objects = r.objects; reading = r.reading; told = (progress (with_line r c t (entries.Start mode ns r.reading.stamp asked now.base now.clock now.expires (is_some T.armed)))).told }) timers;
+          ∙ ap (λ n. progress (with_line (record r { core = k }) c t (entries.Start mode ns r.reading.stamp asked n clock expires (is_some T.armed))))
+          parts.on_is
+          ∙ ap (λ n. progress (with_line (record r { core = k }) c t
+          (entries.Start mode ns r.reading.stamp asked (timer_at k.timers t).base n expires (is_some T.armed)))) parts.clock_is
+          ∙ ap (λ n. progress (with_line (record r { core = k }) c t
+          (entries.Start mode ns r.reading.stamp asked (timer_at k.timers t).base (timer_at k.timers t).clock n (is_some T.armed)))) parts.expires_is
+          ∙ ap (λ (x : Timer). progress (with_line (record r { core = k }) c t
+          (entries.Start mode ns r.reading.stamp asked x.base x.clock x.expires (is_some T.armed)))) is_now
+          ∙ ap (λ ts. record {
+            timers = ts;
+            objects = r.objects;
+            reading = r.reading;
+            told =
+                (progress (with_line r c t (entries.Start mode ns r.reading.stamp asked now.base now.clock now.expires (is_some T.armed)))).told;
+          }) timers;
     }
   where
     and_true : (w : Bool) → (w && true) ≡ w
@@ -105,8 +122,10 @@ set_twice [] i a b = refl
 set_twice (x ∷ xs) zero a b = refl
 set_twice (x ∷ xs) (suc i) a b = ap (λ ys. x ∷ ys) (set_twice xs i a b)
 
-pub there : (r : RunState) (k : Kept) (c : Label) (t : ℕ) (mode : Mode) (ns asked : ℕ) (was : Bool) (generation on : ℕ) (moved_to : Option ℕ) (clock : ClockId) (expires : ℕ) → t < length r.core.timers
-    → HasParts was generation on moved_to clock expires (timer_at r.core.timers t) (timer_at k.timers t) asked → moves_first (timer_at r.core.timers t) asked ≡ true
+pub there : (r : RunState) (k : Kept) (c : Label) (t : ℕ) (mode : Mode) (ns asked : ℕ) (was : Bool) (generation on : ℕ)
+    (moved_to : Option ℕ) (clock : ClockId) (expires : ℕ) → t < length r.core.timers
+    → HasParts was generation on moved_to clock expires (timer_at r.core.timers t) (timer_at k.timers t) asked
+    → moves_first (timer_at r.core.timers t) asked ≡ true
     → Makes r.core t (start_events (timer_at r.core.timers t) mode ns asked r.reading) k
     → StartsThere (progress r) c t mode ns asked generation on was (progress (start_told r k c t mode ns asked was on moved_to clock expires))
 there r k c t mode ns asked was generation on moved_to clock expires some parts moves makes =
@@ -118,8 +137,10 @@ there r k c t mode ns asked was generation on moved_to clock expires some parts 
     let q = move_out p c t asked in
     let x = timer_at q.timers t in
     let some_move : moved_to ≡ Some asked = parts.moved_is ∙ ap (λ b. if b then Some asked else None) moves in
-    let allowed : AreAllowed T (events.Out asked ∷ start ∷ []) = subst (λ b. AreAllowed T (if b then events.Out asked ∷ start ∷ [] else start ∷ [])) moves makes.allowed in
-    let timers : k.timers ≡ set r.core.timers t now = makes.timers ∙ ap (λ b. set r.core.timers t (step_all T (if b then events.Out asked ∷ start ∷ [] else start ∷ []))) moves in
+    let allowed : AreAllowed T (events.Out asked ∷ start ∷ []) = subst
+    (λ b. AreAllowed T (if b then events.Out asked ∷ start ∷ [] else start ∷ [])) moves makes.allowed in
+    let timers : k.timers ≡ set r.core.timers t now = makes.timers
+    ∙ ap (λ b. set r.core.timers t (step_all T (if b then events.Out asked ∷ start ∷ [] else start ∷ []))) moves in
     let is_now : timer_at k.timers t ≡ now = makes.timer ∙ ap (λ b. step_all T (if b then events.Out asked ∷ start ∷ [] else start ∷ [])) moves in
     let is_moved : x ≡ moved = get_or-set_same r.core.timers t moved no_timer some in
     record {
@@ -132,12 +153,16 @@ there r k c t mode ns asked was generation on moved_to clock expires some parts 
           ap (λ m. progress (start_told r k c t mode ns asked was on m clock expires)) some_move
           ∙ ap (λ w. pair_told r c t asked k.timers was (entries.Start mode ns r.reading.stamp asked on clock expires w)) (and_false was)
           ∙ ap (λ n. pair_told r c t asked k.timers was (entries.Start mode ns r.reading.stamp asked n clock expires false)) parts.on_is
-          ∙ ap (λ n. pair_told r c t asked k.timers was (entries.Start mode ns r.reading.stamp asked (timer_at k.timers t).base n expires false)) parts.clock_is
-          ∙ ap (λ n. pair_told r c t asked k.timers was (entries.Start mode ns r.reading.stamp asked (timer_at k.timers t).base (timer_at k.timers t).clock n false)) parts.expires_is
+          ∙ ap (λ n. pair_told r c t asked k.timers was (entries.Start mode ns r.reading.stamp asked (timer_at k.timers t).base n expires false))
+          parts.clock_is
+          ∙ ap (λ n. pair_told r c t asked k.timers was
+          (entries.Start mode ns r.reading.stamp asked (timer_at k.timers t).base (timer_at k.timers t).clock n false)) parts.expires_is
           ∙ ap (λ (y : Timer). pair_told r c t asked k.timers was (entries.Start mode ns r.reading.stamp asked y.base y.clock y.expires false)) is_now
           ∙ ap (λ w. pair_told r c t asked k.timers w (start_line moved r.reading mode ns asked)) parts.was_is
-          ∙ ap (λ ts. pair_told r c t asked ts (is_some T.armed) (start_line moved r.reading mode ns asked)) (timers ∙ sym (set_twice r.core.timers t moved now))
-          ∙ ap (λ (y : Timer). pair_told r c t asked (set q.timers t (after y start)) (is_some T.armed) (start_line y r.reading mode ns asked)) (sym is_moved);
+          ∙ ap (λ ts. pair_told r c t asked ts (is_some T.armed) (start_line moved r.reading mode ns asked))
+          (timers ∙ sym (set_twice r.core.timers t moved now))
+          ∙ ap (λ (y : Timer). pair_told r c t asked (set q.timers t (after y start)) (is_some T.armed)
+          (start_line y r.reading mode ns asked)) (sym is_moved);
     }
   where
     two_more : (n : ℕ) → n + 1 + 1 ≡ n + 2
@@ -148,7 +173,8 @@ there r k c t mode ns asked was generation on moved_to clock expires some parts 
     and_false false = refl
 
 -- a start's turn
-pub started_turn : (r : RunState) (k : Kept) (c : Label) (t : ℕ) (mode : Mode) (ns asked : ℕ) (was : Bool) (generation on : ℕ) (moved_to : Option ℕ) (clock : ClockId) (expires : ℕ) → t < length r.core.timers
+pub started_turn : (r : RunState) (k : Kept) (c : Label) (t : ℕ) (mode : Mode) (ns asked : ℕ) (was : Bool) (generation on : ℕ)
+    (moved_to : Option ℕ) (clock : ClockId) (expires : ℕ) → t < length r.core.timers
     → starts.Started was generation on moved_to clock expires ≡ started_as (timer_at r.core.timers t) (timer_at k.timers t) asked
     → Makes r.core t (start_events (timer_at r.core.timers t) mode ns asked r.reading) k
     → StartsHere (progress r) c t mode ns asked generation on was (progress (start_told r k c t mode ns asked was on moved_to clock expires))
@@ -166,26 +192,45 @@ started_turn r k c t mode ns asked was generation on moved_to clock expires some
 -- the run after a claim, the work of its callback and the finish have entered their lines
 abbrev pub fired_told : RunState → Kept → Object → Label → ℕ → ℕ → ℕ → Option CallbackReply → Option Entry → Bool → Restart → RunState
 fired_told r k o c base t generation look entry again rearmed =
-    with_line (with_expiry_line (with_some (with_look (record r { core = k }) c t (entries.Claim base r.reading.stamp generation) look) c t entry) c t generation r.reading o) c t (entries.Finish again generation rearmed)
+    with_line (with_expiry_line (with_some (with_look (record r { core = k }) c t (entries.Claim base r.reading.stamp generation) look) c t entry)
+    c t generation r.reading o) c t (entries.Finish again generation rearmed)
 
 -- the timers after a claim, a callback's step and a finish
 abbrev pub fired_timers : List Timer → ℕ → Timer → Option Step → Bool → List Timer
-fired_timers ts t running step again = set (with_act (set ts t running) t step) t (after (timer_at (with_act (set ts t running) t step) t) (events.Finish again))
+fired_timers ts t running step again = set (with_act (set ts t running) t step) t
+    (after (timer_at (with_act (set ts t running) t step) t) (events.Finish again))
 
 -- the run after these steps
-told_steps : (r : RunState) (k : Kept) (callback : Callback) (c : Label) (base t generation : ℕ) (look : Option CallbackReply) (step : Option Step) (again : Bool) (rearmed : Restart)
+told_steps : (r : RunState) (k : Kept) (callback : Callback) (c : Label) (base t generation : ℕ) (look : Option CallbackReply)
+    (step : Option Step) (again : Bool) (rearmed : Restart)
     → k.timers ≡ fired_timers r.core.timers t (after (timer_at r.core.timers t) (events.Claim base r.reading)) step again
     → MayTakeSome (after (timer_at r.core.timers t) (events.Claim base r.reading)) r.reading step
     → progress (fired_told r k (Raw callback) c base t generation look (entry_of step) again rearmed)
-    ≡ with_steps (progress r) c t (claim_step base r.reading generation look ∷ act_then step (plain (events.Finish again) (entries.Finish again generation rearmed) ∷ []))
+    ≡ with_steps (progress r) c t (claim_step base r.reading generation look ∷ act_then step
+    (plain (events.Finish again) (entries.Finish again generation rearmed) ∷ []))
 told_steps r k callback c base t generation look None again rearmed timers takes =
-    ap (λ ts. record { timers = ts; objects = r.objects; reading = r.reading; told = (progress (fired_told r k (Raw callback) c base t generation look None again rearmed)).told }) timers
+    ap (λ ts. record {
+      timers = ts;
+      objects = r.objects;
+      reading = r.reading;
+      told =
+          (progress (fired_told r k (Raw callback) c base t generation look None again rearmed)).told;
+    }) timers
 told_steps r k callback c base t generation look (Some x) again rearmed timers takes =
-    ap (λ ts. record { timers = ts; objects = r.objects; reading = r.reading; told = (progress (fired_told r k (Raw callback) c base t generation look (Some x.entry) again rearmed)).told }) timers
-    ∙ ap (λ o. with_steps (progress r) c t (claim_step base r.reading generation look ∷ record { event = x.event; entry = x.entry; look = o } ∷ plain (events.Finish again) (entries.Finish again generation rearmed) ∷ [])) (sym takes.bare)
+    ap (λ ts. record {
+      timers = ts;
+      objects = r.objects;
+      reading = r.reading;
+      told =
+          (progress (fired_told r k (Raw callback) c base t generation look (Some x.entry) again rearmed)).told;
+    }) timers
+    ∙ ap (λ o. with_steps (progress r) c t
+    (claim_step base r.reading generation look ∷ record { event = x.event; entry = x.entry; look = o } ∷ plain (events.Finish again)
+    (entries.Finish again generation rearmed) ∷ [])) (sym takes.bare)
 
 -- the timer that is claimed is the next of the run
-pub next_turn : (r : RunState) (one : Kept) (base t generation number : ℕ) → ClaimsNext r.core base r.reading t generation number one → IsNext (progress r) base t generation
+pub next_turn : (r : RunState) (one : Kept) (base t generation number : ℕ) → ClaimsNext r.core base r.reading t generation number one
+    → IsNext (progress r) base t generation
 next_turn r one base t generation number claim = record {
   there = claim.within;
   armed = claim.armed;
@@ -198,20 +243,39 @@ next_turn r one base t generation number claim = record {
 -- the run after the claim of an object's timer, its expiry and the finish
 told_expiry : (r : RunState) (k : Kept) (c : Label) (base t generation : ℕ) (x : Option ObjectStep)
     → k.timers ≡ fired_timers r.core.timers t (after (timer_at r.core.timers t) (events.Claim base r.reading)) None false
-    → progress (with_line (with_trigger_line (with_line (record r { core = k }) c t (entries.Claim base r.reading.stamp generation)) c t generation x) c t (entries.Finish false generation restarts.None))
-    ≡ with_step (with_trigger (with_step (progress r) c t (claim_step base r.reading generation None)) c t generation x) c t (finish_step (after (timer_at r.core.timers t) (events.Claim base r.reading)) generation false)
+    → progress (with_line (with_trigger_line (with_line (record r { core = k }) c t (entries.Claim base r.reading.stamp generation)) c t generation x)
+    c t (entries.Finish false generation restarts.None))
+    ≡ with_step (with_trigger (with_step (progress r) c t (claim_step base r.reading generation None)) c t generation x) c t
+    (finish_step (after (timer_at r.core.timers t) (events.Claim base r.reading)) generation false)
 told_expiry r k c base t generation None timers =
-    ap (λ ts. record { timers = ts; objects = r.objects; reading = r.reading; told = (progress (with_line (with_trigger_line (with_line (record r { core = k }) c t (entries.Claim base r.reading.stamp generation)) c t generation None) c t (entries.Finish false generation restarts.None))).told }) timers
+    ap (λ ts. record {
+      timers = ts;
+      objects = r.objects;
+      reading = r.reading;
+      told =
+          (progress (with_line (with_trigger_line (with_line (record r { core = k }) c t (entries.Claim base r.reading.stamp generation)) c t generation
+          None) c t (entries.Finish false generation restarts.None))).told;
+    }) timers
 told_expiry r k c base t generation (Some x) timers =
-    ap (λ ts. record { timers = ts; objects = set r.objects t (after_call (object_at r.objects t) x.call); reading = r.reading; told = (progress (with_line (with_trigger_line (with_line (record r { core = k }) c t (entries.Claim base r.reading.stamp generation)) c t generation (Some x)) c t (entries.Finish false generation restarts.None))).told }) timers
+    ap (λ ts. record {
+      timers = ts;
+      objects = set r.objects t (after_call (object_at r.objects t) x.call);
+      reading = r.reading;
+      told =
+          (progress (with_line (with_trigger_line (with_line (record r { core = k }) c t (entries.Claim base r.reading.stamp generation)) c t generation
+          (Some x)) c t (entries.Finish false generation restarts.None))).told;
+    }) timers
 
 -- a claim's turn, by what the timer is declared with
-turn_by : (r : RunState) (k : Kept) (o : Object) (c : Label) (base t generation : ℕ) (running : Timer) → running ≡ after (timer_at r.core.timers t) (events.Claim base r.reading) → (timer_at r.core.timers t).armed ≡ Some generation
+turn_by : (r : RunState) (k : Kept) (o : Object) (c : Label) (base t generation : ℕ) (running : Timer)
+    → running ≡ after (timer_at r.core.timers t) (events.Claim base r.reading) → (timer_at r.core.timers t).armed ≡ Some generation
     → let act = act_of (callback_of o) running r.reading in k.timers ≡ fired_timers r.core.timers t running act.step act.again
-    → progress (fired_told r k o c base t generation act.look (entry_of act.step) act.again (restart_of (rearmed_by (after_act running act.step) act.again))) ≡ fired_by o (progress r) c base t generation
+    → progress (fired_told r k o c base t generation act.look (entry_of act.step) act.again
+    (restart_of (rearmed_by (after_act running act.step) act.again))) ≡ fired_by o (progress r) c base t generation
 turn_by r k (Raw callback) c base t generation running is armed timers =
     subst (λ x. let act = act_of callback x r.reading in k.timers ≡ fired_timers r.core.timers t x act.step act.again
-    → progress (fired_told r k (Raw callback) c base t generation act.look (entry_of act.step) act.again (restart_of (rearmed_by (after_act x act.step) act.again))) ≡ fired_by (Raw callback) (progress r) c base t generation) (sym is)
+    → progress (fired_told r k (Raw callback) c base t generation act.look (entry_of act.step) act.again
+    (restart_of (rearmed_by (after_act x act.step) act.again))) ≡ fired_by (Raw callback) (progress r) c base t generation) (sym is)
     (λ same. let now = after (timer_at r.core.timers t) (events.Claim base r.reading) in
     let act = act_of callback now r.reading in
     told_steps r k callback c base t generation act.look act.step act.again (restart_of (rearmed_by (after_act now act.step) act.again)) same
@@ -222,8 +286,10 @@ turn_by r k (Fd x) c base t generation running is armed timers =
     told_expiry r k c base t generation (trigger_step (Fd x) generation r.reading) (timers ∙ ap (λ y. fired_timers r.core.timers t y None false) is)
 
 -- a callback's turn
-pub fired_turn : (r : RunState) (one two three : Kept) (o : Object) (c : Label) (base t generation number : ℕ) (work : Work) (rearmed : Rearmed) → ClaimsNext r.core base r.reading t generation number one
-    → Acts one t (act_of (callback_of o) (timer_in one t) r.reading) work two → Makes two t (events.Finish work.again ∷ []) three → rearmed ≡ rearmed_by (timer_in two t) work.again
+pub fired_turn : (r : RunState) (one two three : Kept) (o : Object) (c : Label) (base t generation number : ℕ) (work : Work)
+    (rearmed : Rearmed) → ClaimsNext r.core base r.reading t generation number one
+    → Acts one t (act_of (callback_of o) (timer_in one t) r.reading) work two → Makes two t (events.Finish work.again ∷ []) three
+    → rearmed ≡ rearmed_by (timer_in two t) work.again
     → progress (fired_told r three o c base t generation work.told work.entry work.again (restart_of rearmed)) ≡ fired_by o (progress r) c base t generation
 fired_turn r one two three o c base t generation number work rearmed claim worked finish rearms =
     let running = after (timer_at r.core.timers t) (events.Claim base r.reading) in

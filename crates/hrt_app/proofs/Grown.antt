@@ -108,8 +108,10 @@ Grows-less call (l ∷ ls) (m ∷ ms) grows = (
 pub Grows-line : (from : ℕ) (now : List ObjectLine) (x : ObjectLine) (end : List ObjectLine) → IsSince from x.label → x.skips ≡ []
     → Grows from (now ++ x ∷ []) end → Grows from now end
 Grows-line from [] x [] since bare grows = absurd grows
-Grows-line from [] x (m ∷ ms) since bare grows =
-    ((subst (IsSince from) (sym grows.0.label) since, subst (AreSince from) (sym (grows.0.skips ∙ ap (λ ks. ks ++ grows.0.more) bare)) grows.0.later), grows.1)
+Grows-line from [] x (m ∷ ms) since bare grows = (
+  (subst (IsSince from) (sym grows.0.label) since, subst (AreSince from) (sym (grows.0.skips ∙ ap (λ ks. ks ++ grows.0.more) bare)) grows.0.later),
+  grows.1,
+)
 Grows-line from (l ∷ ls) x [] since bare grows = absurd grows
 Grows-line from (l ∷ ls) x (m ∷ ms) since bare grows = (grows.0, Grows-line from ls x ms since bare grows.1)
 
@@ -148,11 +150,17 @@ grown_labels from [] end grows = record {
 grown_labels from (l ∷ ls) [] grows = absurd grows
 grown_labels from (l ∷ ls) (m ∷ ms) grows =
     let rest = grown_labels from ls ms grows.1 in
-    record { rest = rest.rest; more = ap (λ x. x ∷ map (λ (l : ObjectLine). l.label) ms) grows.0.label ∙ ap (λ xs. l.label ∷ xs) rest.more; later = rest.later }
+    record {
+      rest = rest.rest;
+      more = ap (λ x. x ∷ map (λ (l : ObjectLine). l.label) ms) grows.0.label
+          ∙ ap (λ xs. l.label ∷ xs) rest.more;
+      later = rest.later;
+    }
 
 pub grown_entries : (from : ℕ) (now end : List ObjectLine) → Grows from now end
     → GoOn (λ e. Unit) (map (λ (l : ObjectLine). l.entry) now) (map (λ (l : ObjectLine). l.entry) end)
-grown_entries from [] end grows = record { rest = map (λ (l : ObjectLine). l.entry) end; more = refl; later = all_any (map (λ (l : ObjectLine). l.entry) end) }
+grown_entries from [] end grows = record
+    { rest = map (λ (l : ObjectLine). l.entry) end; more = refl; later = all_any (map (λ (l : ObjectLine). l.entry) end) }
   where
     all_any : (es : List ObjectEntry) → AllByRecursion (λ e. Unit) es
     all_any [] = tt
@@ -160,7 +168,12 @@ grown_entries from [] end grows = record { rest = map (λ (l : ObjectLine). l.en
 grown_entries from (l ∷ ls) [] grows = absurd grows
 grown_entries from (l ∷ ls) (m ∷ ms) grows =
     let rest = grown_entries from ls ms grows.1 in
-    record { rest = rest.rest; more = ap (λ x. x ∷ map (λ (l : ObjectLine). l.entry) ms) grows.0.entry ∙ ap (λ xs. l.entry ∷ xs) rest.more; later = rest.later }
+    record {
+      rest = rest.rest;
+      more = ap (λ x. x ∷ map (λ (l : ObjectLine). l.entry) ms) grows.0.entry
+          ∙ ap (λ xs. l.entry ∷ xs) rest.more;
+      later = rest.later;
+    }
 
 -- what the lines have under a label that is over stays
 pub grown_own : (call k : ℕ) (now end : List ObjectLine) → Grows (call + 1) now end

@@ -58,7 +58,8 @@ none_more n = omega arith
 -- a lane's calls are made round by round
 pub rounds_rise : (s : Script) (lane a b : ℕ) → a ≤ b → round_of s (record { lane = lane; call = a }) ≤ round_of s (record { lane = lane; call = b })
 rounds_rise s lane a b le =
-    subst (λ past. get_or (map (λ (c : CallInRound). c.round) (calls_of s lane)) a past ≤ get_or (map (λ (c : CallInRound). c.round) (calls_of s lane)) b past)
+    subst (λ past. get_or (map (λ (c : CallInRound). c.round) (calls_of s lane)) a past ≤ get_or
+    (map (λ (c : CallInRound). c.round) (calls_of s lane)) b past)
     (none_more (length s.rounds)) ((Rises-rounds lane 0 s.rounds).rise a b le)
 
 not_either : (w x y z m n : ℕ) → x ≤ w → z ≤ y → (nat_lt w x || (nat_eq m n && nat_lt y z)) ≡ false

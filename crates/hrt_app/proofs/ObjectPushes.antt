@@ -31,7 +31,8 @@ use Rattle.hrt_app.specs.declared.objects.Object.TheVariants.{Raw}
 pub record IsObjectStep (s : Script) (p : Progress) (call i : ℕ) (x : ObjectStep) : Type 0 where
   pub there : i < length s.timers
   pub allows : Allows (object_at p.objects i) x.call
-  pub shows : (clock : List ClockLine) → Continues (λ (l : ClockLine). l.label) call p.told.clock clock → ShowsCall clock (object_at p.objects i) x.call x.entry
+  pub shows : (clock : List ClockLine) → Continues (λ (l : ClockLine). l.label) call p.told.clock clock
+      → ShowsCall clock (object_at p.objects i) x.call x.entry
 
 -- what holds of every object's lines still holds where one of them has new lines, if it holds of these
 pub at_lines : (P : ℕ → List ObjectLine → Type 0) (p : Progress) (i : ℕ) (new : List ObjectLine) → i < length p.told.objects
@@ -161,7 +162,8 @@ tells_object s call p ds i x run there tells =
       objects = at_lines (λ u ls. own (λ (l : ObjectLine). l.label) (λ (l : ObjectLine). l.entry) (on call) 1 ls ≡ made u
           (ds ++ more)) p i (lines_of_object p.told i ++ line ∷ []) some
           (own_push _ _ (on call) 1 (lines_of_object p.told i) line refl
-          ∙ ap (λ m. own (λ (l : ObjectLine). l.label) (λ (l : ObjectLine). l.entry) (on call) 1 (lines_of_object p.told i) ++ (m, x.entry) ∷ []) (one_first n)
+          ∙ ap (λ m. own (λ (l : ObjectLine). l.label) (λ (l : ObjectLine). l.entry) (on call) 1
+          (lines_of_object p.told i) ++ (m, x.entry) ∷ []) (one_first n)
           ∙ ap (λ ps. ps ++ (n + 1, x.entry) ∷ []) (tells.objects i)
           ∙ ap (λ b. made i ds ++ also b (n + 1, x.entry) []) (sym (nat_eq_same i))
           ∙ sym (made_append i ds more))
@@ -182,7 +184,8 @@ own_under c k (l ∷ m ∷ ls) x = ap (also (is_label c l.label) (k, l.entry)) (
 skips_under_last : (c : Label) (k : ℕ) (l : ObjectLine) (ls : List ObjectLine) (x : Skip) → x.label ≡ c
     → own_skips c k (under_last (l ∷ ls) x) ≡ own_skips c k (l ∷ ls) ++ (k + length ls, x.generation) ∷ []
 skips_under_last c k l [] x own =
-    append-nil _ ∙ skips_append c k l.skips (x ∷ []) ∙ ap (λ b. skips_under c k l.skips ++ also b (k, x.generation) []) (ap (is_label c) own ∙ is_label_same c)
+    append-nil _ ∙ skips_append c k l.skips (x ∷ [])
+    ∙ ap (λ b. skips_under c k l.skips ++ also b (k, x.generation) []) (ap (is_label c) own ∙ is_label_same c)
     ∙ ap (λ n. skips_under c k l.skips ++ (n, x.generation) ∷ []) (none_more k)
     ∙ ap (λ xs. xs ++ (k + 0, x.generation) ∷ []) (sym (append-nil (skips_under c k l.skips)))
   where
@@ -238,6 +241,7 @@ point_of_object s call p end ds run e tells i =
     let now = lines_of_object p.told i in
     let more = grown_labels call now (lines_of_object end i) (e.objects i) in
     subst (λ labels. IsPoint s (on call) (length (made i ds)) (length now) labels) (sym more.more)
-    (subst (λ n. IsPoint s (on call) (length (made i ds)) n (map (λ (l : ObjectLine). l.label) now ++ more.rest)) (length-map now (λ (l : ObjectLine). l.label))
+    (subst (λ n. IsPoint s (on call) (length (made i ds)) n (map (λ (l : ObjectLine). l.label) now ++ more.rest))
+    (length-map now (λ (l : ObjectLine). l.label))
     (point_at_seam s (on call) (length (made i ds)) (map (λ (l : ObjectLine). l.label) now) more.rest (up_to call _ (run.objects i).labels_below) more.later
     (length_own (λ (l : ObjectLine). l.label) (λ (l : ObjectLine). l.entry) (on call) 1 now ∙ ap length (tells.objects i))))

@@ -122,7 +122,8 @@ IsArmed p next t (Some w) (armings.Generation generation) refused =
     (generation ≡ length (lines_of_timer next.told t)) × ((timer_at next.timers t).expires ≡ expiry_from w.0 w.1 (timer_at next.timers t).clock p.reading)
     × ((timer_at next.timers t).clock ≡ effective_clock (timer_at p.timers t).declared w.0 (timer_at p.timers t).clock)
 IsArmed p next t (Some w) armings.Unarmed refused =
-    ((timer_at p.timers t).limit ≤ (timer_at p.timers t).stamp) × (refused ≡ (timer_at p.timers t).stamp) × ((timer_at p.timers t).moving ≡ false) × (next ≡ p)
+    ((timer_at p.timers t).limit ≤ (timer_at p.timers t).stamp) × (refused ≡ (timer_at p.timers t).stamp) × ((timer_at p.timers
+    t).moving ≡ false) × (next ≡ p)
 
 pub record ArmMade (s : Script) (call t base : ℕ) (want : Option (Mode × ℕ)) (arm : Armed) (refused : ℕ) (p next : Progress) : Type 0 where
   pub ds : List Action
@@ -132,7 +133,8 @@ pub record ArmMade (s : Script) (call t base : ℕ) (want : Option (Mode × ℕ)
 
 here_armed : (s : Script) (call t base : ℕ) (mode : Mode) (ns generation on_base : ℕ) (was : Bool) (refused : ℕ)
     (p next : Progress) → IsRun s call (call + 1) p → t < length s.timers
-    → StartsHere p (on call) t mode ns base generation on_base was next → ArmMade s call t base (Some (mode, ns)) (armings.Generation generation) refused p next
+    → StartsHere p (on call) t mode ns base generation on_base was next
+    → ArmMade s call t base (Some (mode, ns)) (armings.Generation generation) refused p next
 here_armed s call t base mode ns generation on_base was refused p next run there starts =
     let timer = timer_at p.timers t in
     let now = started timer mode ns p.reading in

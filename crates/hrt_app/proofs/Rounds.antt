@@ -72,7 +72,8 @@ GoesOn-append old mid new before between after cs ds first second = record {
   counted = second.counted;
 }
 
-pub length-goes : (old new : RunState) (before after : List Answer) (cs : List Call) → GoesOn old before cs new after → length after ≡ length before + length cs
+pub length-goes : (old new : RunState) (before after : List Answer) (cs : List Call) → GoesOn old before cs new after
+    → length after ≡ length before + length cs
 length-goes old new before after cs goes =
     ap length goes.answers ∙ length-append before goes.given
     ∙ ap (λ n. length before + n) (length-turns (length before) (progress old) (progress new) cs goes.given goes.turns)

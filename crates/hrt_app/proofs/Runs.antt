@@ -120,7 +120,8 @@ before_step p call t x end some_timer some_list e = record {
         (lines_of_timer end u) → Continues (λ (l : TimerLine). l.label) call (lines_of_timer p.told u) (lines_of_timer end u)
     back = at_place (λ u ls timer. Continues (λ (l : TimerLine). l.label) call ls (lines_of_timer end u)
         → Continues (λ (l : TimerLine). l.label) call (lines_of_timer p.told u) (lines_of_timer end u)) p (on call) t x some_timer some_list
-        (before_line (λ (l : TimerLine). l.label) call (lines_of_timer p.told t) (lines_of_timer end t) (line_of (on call) x.entry x.look) (refl, omega arith))
+        (before_line (λ (l : TimerLine). l.label) call (lines_of_timer p.told t) (lines_of_timer end t) (line_of (on call) x.entry x.look)
+        (refl, omega arith))
         (λ u apart c. c)
 
 -- what a callback was told is true of the timer's state

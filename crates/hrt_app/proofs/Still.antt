@@ -127,7 +127,8 @@ renewal_still c p t call answer next turn still =
     ⊎_elim (λ full. subst IsStill (sym full.goes_on) still)
     (λ renews. subst IsStill (sym renews.goes_on) (arms_still c p t _ _ renews.arm renews.refused renews.armed renews.arms still)) turn
 
-gettime_still : (o : Object) (c : Label) (p : Progress) (t : ℕ) (answer : Answer) (next : Progress) → GettimeTurn c p t o answer next → IsStill p → IsStill next
+gettime_still : (o : Object) (c : Label) (p : Progress) (t : ℕ) (answer : Answer) (next : Progress) → GettimeTurn c p t o answer next
+    → IsStill p → IsStill next
 gettime_still (Posix x) c p t (answers.LeftAt left interval shown stamp) next turn still = subst IsStill (sym turn.3) still
 gettime_still (Fd x) c p t answer next turn still = renewal_still c p t renewals.Gettime answer next turn still
 gettime_still o c p t answer next turn still = absurd turn

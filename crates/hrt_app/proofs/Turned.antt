@@ -230,7 +230,8 @@ turn_made s number p next (calls.Accept t) answer run there suit turns =
     (suited_limit s number p t forms.Accept run (λ callback. refl) suit) full refl (λ end saw. saw) (λ end. tt)
     (λ u. no_stamp (nat_eq t u) []) (λ i. refl))
     (λ reply arm replies. accept_is s t (object_at p.objects t) p.reading arm reply replies)
-turn_made s number p next (calls.Overrun t) answer run there suit turns = overrun_made s number p next t (object_at p.objects t) answer run refl turns.0 turns.1
+turn_made s number p next (calls.Overrun t) answer run there suit turns = overrun_made s number p next t
+    (object_at p.objects t) answer run refl turns.0 turns.1
 turn_made s number p next (calls.Read t len) answer run there suit turns =
     ⊎_elim (λ short. short_made s number p next t len answer run short.0 short.1 short.2)
     (λ long. renewal_turned s number p next t renewals.Read (calls.Read t len) answer run there long.1

@@ -31,7 +31,8 @@ use Rattle.hrt_app.specs.Progress.{Progress, with_entry, with_object}
 
 -- a start that leaves the timer on its base
 abbrev pub start_here : Progress → Label → ℕ → Mode → ℕ → ℕ → Progress
-start_here p c timer mode ns asked = with_entry p c timer (events.Start mode ns p.reading asked) (start_line (timer_at p.timers timer) p.reading mode ns asked)
+start_here p c timer mode ns asked = with_entry p c timer (events.Start mode ns p.reading asked)
+    (start_line (timer_at p.timers timer) p.reading mode ns asked)
 
 -- the timer is taken off its base
 abbrev pub move_out : Progress → Label → ℕ → ℕ → Progress

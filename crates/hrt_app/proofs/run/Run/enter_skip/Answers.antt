@@ -25,4 +25,5 @@ returns c =
     let now : c.push-2.new.self ≡ under_last (get_or r.object_lines t []) k =
     c.in_ok-push-2.ensures.ok ∙ ap (λ ks. c.pop.new.self ++ record { label = line.label; entry = line.entry; skips = ks } ∷ []) c.in_ok-push.ensures.ok
     ∙ sym (under_popped c.index_mut-lines.result.now c.pop.new.self line k c.in-Some.ensures) ∙ ap (λ ls. under_last ls k) was in
-    ap (λ ls. record r { object_lines = set r.object_lines t ls }) now ∙ ap (λ (x : RunState). with_skip_line x c.args.label t c.args.generation) c.self.view_is
+    ap (λ ls. record r { object_lines = set r.object_lines t ls }) now
+    ∙ ap (λ (x : RunState). with_skip_line x c.args.label t c.args.generation) c.self.view_is
