@@ -48,7 +48,8 @@ posix_settime_answer t reading (arms.Unarmed stamp) = settings.Unarmed stamp
 -- the timer after a trigger: the expiry that is armed makes a signal pending
 abbrev pub posix_triggered : PosixTimer → ℕ → ClockReading → PosixTimer
 posix_triggered t generation reading =
-    if is_expiry_of t.phase generation reading then record t { phase = expired t.phase t.interval; pending = true; stamp = t.stamp + 1 } else record t { stamp = t.stamp + 1 }
+    if is_expiry_of t.phase generation reading then record t { phase = expired t.phase t.interval; pending = true; stamp = t.stamp + 1 }
+    else record t { stamp = t.stamp + 1 }
 
 -- the overrun of a signal that is accepted (timer_getoverrun): the periods that passed beside the one of the signal; none where the clock
 -- was set back before the expiry, and none where the timer isn't periodic
@@ -88,8 +89,10 @@ posix_step t (calls.Accept reading arm) = accepted t reading arm
 -- what a call answers
 abbrev pub posix_answer : PosixTimer → Call → Reply
 posix_answer t (calls.Settime flags value interval reading arm) = replies.Settime (posix_settime_answer t reading arm)
-posix_answer t (calls.Trigger generation reading) = replies.Trigger (if is_expiry_of t.phase generation reading then triggers.Counted else triggers.Stale)
-posix_answer t (calls.Accept reading arm) = replies.Accept (if t.pending then acceptances.Accepted (overrun_of (periods_in t.phase t.interval reading)) else acceptances.NoSignal)
+posix_answer t (calls.Trigger generation reading) =
+    replies.Trigger (if is_expiry_of t.phase generation reading then triggers.Counted else triggers.Stale)
+posix_answer t (calls.Accept reading arm) =
+    replies.Accept (if t.pending then acceptances.Accepted (overrun_of (periods_in t.phase t.interval reading)) else acceptances.NoSignal)
 
 -- the whole table
 abbrev pub posix_table : StepTable PosixTimer Call Reply
@@ -98,7 +101,8 @@ posix_table = record { allows = PosixAllows; next = posix_step; answer = posix_a
 -- why a settime is refused, if it is
 abbrev pub posix_settime_refusal : PosixTimer → ℕ → TimeSpec → TimeSpec → Option Reply
 posix_settime_refusal t flags value interval =
-    settime_refusal (replies.Settime settings.BadFlags) (replies.Settime settings.BadTime) (λ stamp. replies.Settime (settings.Spent stamp)) (bits_beyond abstime flags) value interval t.stamp t.limit
+    let spent : ℕ → Reply = λ stamp. replies.Settime (settings.Spent stamp) in
+    settime_refusal (replies.Settime settings.BadFlags) (replies.Settime settings.BadTime) spent (bits_beyond abstime flags) value interval t.stamp t.limit
 
 -- why an expiry is, and an acceptance
 abbrev pub posix_trigger_refusal : PosixTimer → Option Reply

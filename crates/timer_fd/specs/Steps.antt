@@ -47,7 +47,14 @@ gettime_wanted t reading = if nat_lt t.stamp t.limit then next_start t.phase t.i
 -- the descriptor after a settime
 abbrev pub fd_set : Descriptor → ℕ → ℕ → ℕ → ClockReading → Arm → Descriptor
 fd_set t flags value interval reading arm =
-    record t { interval = interval; phase = phase_by t.clock flags value reading arm; count = 0; cancelable = is_cancelable t.clock flags; seen = reading.changes; stamp = t.stamp + 1 }
+    record t {
+      interval = interval;
+      phase = phase_by t.clock flags value reading arm;
+      count = 0;
+      cancelable = is_cancelable t.clock flags;
+      seen = reading.changes;
+      stamp = t.stamp + 1;
+    }
 
 -- a settime answers that the real offset has changed: that canceled the old setting, and the new one arms a timer that such a change cancels too
 abbrev pub answers_canceled : Descriptor → ℕ → ℕ → ClockReading → Bool
@@ -55,7 +62,8 @@ answers_canceled t flags value reading = is_canceled t reading && is_cancelable 
 
 -- what a settime answers where no limit refused a start
 abbrev pub old_setting : Descriptor → ℕ → ℕ → ClockReading → SettimeAnswer
-old_setting t flags value reading = if answers_canceled t flags value reading then settings.Canceled else settings.Old (fd_left t reading) t.interval
+old_setting t flags value reading =
+    if answers_canceled t flags value reading then settings.Canceled else settings.Old (fd_left t reading) t.interval
 
 -- what a settime answers: the refused start comes first
 abbrev pub fd_settime_answer : Descriptor → ℕ → ℕ → ClockReading → Arm → SettimeAnswer
@@ -66,7 +74,8 @@ fd_settime_answer t flags value reading (arms.Unarmed stamp) = settings.Unarmed 
 -- the descriptor after a trigger: the expiry that is armed is one more to be read
 abbrev pub fd_triggered : Descriptor → ℕ → ClockReading → Descriptor
 fd_triggered t generation reading =
-    if is_expiry_of t.phase generation reading then record t { phase = expired t.phase t.interval; count = min (t.count + 1) most_count; stamp = t.stamp + 1 } else record t { stamp = t.stamp + 1 }
+    if is_expiry_of t.phase generation reading
+    then record t { phase = expired t.phase t.interval; count = min (t.count + 1) most_count; stamp = t.stamp + 1 } else record t { stamp = t.stamp + 1 }
 
 -- the expiries up to now: those counted, and for a periodic timer the periods that passed beside the one that was counted; one fewer where
 -- the clock was set back before the expiry
@@ -88,7 +97,8 @@ canceled (phases.Expired clock expires) = phases.Idle
 abbrev pub fd_read : Descriptor → ClockReading → Arm → Descriptor
 fd_read t reading arm =
     if is_canceled t reading then record t { phase = canceled t.phase; count = 0; seen = reading.changes; stamp = t.stamp + 1 }
-    else (if nat_eq t.count 0 then record t { stamp = t.stamp + 1 } else record t { phase = rearmed t.phase t.interval reading arm; count = 0; stamp = t.stamp + 1 })
+    else (if nat_eq t.count 0 then record t { stamp = t.stamp + 1 }
+    else record t { phase = rearmed t.phase t.interval reading arm; count = 0; stamp = t.stamp + 1 })
 
 -- a count that is read; there is none of 0
 abbrev pub counted : ℕ → ReadAnswer
@@ -96,7 +106,8 @@ counted total = if nat_eq total 0 then reads.Again else reads.Count total
 
 -- what a read answers
 abbrev pub fd_read_answer : Descriptor → ClockReading → ReadAnswer
-fd_read_answer t reading = if is_canceled t reading then reads.Canceled else (if nat_eq t.count 0 then reads.Again else counted (total_in t reading))
+fd_read_answer t reading =
+    if is_canceled t reading then reads.Canceled else (if nat_eq t.count 0 then reads.Again else counted (total_in t reading))
 
 -- the descriptor after a gettime
 abbrev pub fd_got : Descriptor → ClockReading → Arm → Descriptor
@@ -126,7 +137,8 @@ fd_step t (calls.Gettime reading arm) = fd_got t reading arm
 -- what a call answers
 abbrev pub fd_answer : Descriptor → Call → Reply
 fd_answer t (calls.Settime flags value interval reading arm) = replies.Settime (fd_settime_answer t flags value reading arm)
-fd_answer t (calls.Trigger generation reading) = replies.Trigger (if is_expiry_of t.phase generation reading then triggers.Counted else triggers.Stale)
+fd_answer t (calls.Trigger generation reading) =
+    replies.Trigger (if is_expiry_of t.phase generation reading then triggers.Counted else triggers.Stale)
 fd_answer t (calls.Read reading arm) = replies.Read (fd_read_answer t reading)
 fd_answer t (calls.Gettime reading arm) = replies.Gettime (lefts.Left (left_by arm t reading) t.interval)
 
@@ -137,7 +149,8 @@ fd_table = record { allows = FdAllows; next = fd_step; answer = fd_answer }
 -- why a settime is refused, if it is
 abbrev pub fd_settime_refusal : Descriptor → ℕ → TimeSpec → TimeSpec → Option Reply
 fd_settime_refusal t flags value interval =
-    settime_refusal (replies.Settime settings.BadFlags) (replies.Settime settings.BadTime) (λ stamp. replies.Settime (settings.Spent stamp)) (bits_beyond fd_flags flags) value interval t.stamp t.limit
+    let spent : ℕ → Reply = λ stamp. replies.Settime (settings.Spent stamp) in
+    settime_refusal (replies.Settime settings.BadFlags) (replies.Settime settings.BadTime) spent (bits_beyond fd_flags flags) value interval t.stamp t.limit
 
 -- why an expiry is
 abbrev pub fd_trigger_refusal : Descriptor → Option Reply
@@ -145,7 +158,9 @@ fd_trigger_refusal t = full_refusal (λ stamp. replies.Trigger (triggers.Spent s
 
 -- why a read into a buffer of this length is: a buffer that is too short comes first
 abbrev pub read_refusal : Descriptor → ℕ → Option Reply
-read_refusal t len = if nat_lt len count_length then Some (replies.Read reads.ShortBuffer) else full_refusal (λ stamp. replies.Read (reads.Spent stamp)) t.stamp t.limit
+read_refusal t len =
+    if nat_lt len count_length then Some (replies.Read reads.ShortBuffer)
+    else full_refusal (λ stamp. replies.Read (reads.Spent stamp)) t.stamp t.limit
 
 -- why a gettime is
 abbrev pub gettime_refusal : Descriptor → Option Reply

@@ -50,13 +50,15 @@ abbrev pub left_in : ℕ → Phase → ℕ → ClockReading → ℕ
 left_in overdue phases.Idle interval reading = 0
 left_in overdue (phases.Armed generation clock expires) interval reading =
     if nat_lt (value_of clock reading) expires then expires - value_of clock reading else overdue
-left_in overdue (phases.Expired clock expires) interval reading = next_after expires (value_of clock reading) interval - value_of clock reading
+left_in overdue (phases.Expired clock expires) interval reading =
+    next_after expires (value_of clock reading) interval - value_of clock reading
 
 -- the start for the first expiry past now of a periodic timer that has expired, on the clock that it has
 abbrev pub next_start : Phase → ℕ → ClockReading → Option Wanted
 next_start phases.Idle interval reading = None
 next_start (phases.Armed generation clock expires) interval reading = None
-next_start (phases.Expired clock expires) interval reading = Some (record { mode = modes.Keep; ns = next_after expires (value_of clock reading) interval })
+next_start (phases.Expired clock expires) interval reading =
+    Some (record { mode = modes.Keep; ns = next_after expires (value_of clock reading) interval })
 
 -- the phase after that start: a timer that hasn't expired stays as it is
 abbrev pub rearmed : Phase → ℕ → ClockReading → Arm → Phase

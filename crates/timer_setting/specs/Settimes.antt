@@ -21,7 +21,8 @@ made_timer clock base limit = record { clock = clock; base = base; interval = 0;
 -- a timer after its function ran for this generation
 abbrev pub timer_expired : ObjectTimer → ℕ → ClockReading → ObjectTimer
 timer_expired t generation reading =
-    if is_expiry_of t.phase generation reading then record t { phase = expired t.phase t.interval; stamp = t.stamp + 1 } else record t { stamp = t.stamp + 1 }
+    if is_expiry_of t.phase generation reading then record t { phase = expired t.phase t.interval; stamp = t.stamp + 1 }
+    else record t { stamp = t.stamp + 1 }
 
 -- what holds of each object's timer at all times: the limit is one that may be set, the entries are within it, and the interval is a time
 pub record IsInLimits (stamp limit interval : ℕ) : Type 0 where
@@ -32,4 +33,5 @@ pub record IsInLimits (stamp limit interval : ℕ) : Type 0 where
 -- the start that a settime wants, of an object with so many entries and this limit: none where it is refused or disarms
 abbrev pub start_wanted : ℕ → ℕ → ℕ → ℕ → TimeSpec → TimeSpec → Option Wanted
 start_wanted stamp limit unknown flags value interval =
-    if nat_eq unknown 0 && nat_lt value.nsec second && nat_lt interval.nsec second && nat_lt stamp limit then start_by flags (time_of value) else None
+    if nat_eq unknown 0 && nat_lt value.nsec second && nat_lt interval.nsec second && nat_lt stamp limit
+    then start_by flags (time_of value) else None

@@ -44,4 +44,5 @@ module _ {R : Type 0} where
   -- why a settime is refused, in this order: an unknown flag, a bad time, a full history
   abbrev pub settime_refusal : R → R → (ℕ → R) → ℕ → TimeSpec → TimeSpec → ℕ → ℕ → Option R
   settime_refusal bad_flags bad_time spent unknown value interval stamp limit =
-      if not (nat_eq unknown 0) then Some bad_flags else (if is_bad value || is_bad interval then Some bad_time else full_refusal spent stamp limit)
+      if not (nat_eq unknown 0) then Some bad_flags
+      else (if is_bad value || is_bad interval then Some bad_time else full_refusal spent stamp limit)

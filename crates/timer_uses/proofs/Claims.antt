@@ -10,7 +10,8 @@ none_apart timer generation number e = absurd cc
 pub busy_apart : (other running timer generation number : ℕ) → BaseBusy other running ≡ Claimed timer generation number → ⊥
 busy_apart other running timer generation number e = absurd cc
 
-pub no_claim : (answer : ClaimAnswer) (timer generation number : ℕ) → (answer ≡ NoneDue) ⊎ ((other : ℕ) × (running : ℕ) × (answer ≡ BaseBusy other running))
+pub no_claim : (answer : ClaimAnswer) (timer generation number : ℕ)
+    → (answer ≡ NoneDue) ⊎ ((other : ℕ) × (running : ℕ) × (answer ≡ BaseBusy other running))
     → answer ≡ Claimed timer generation number → ⊥
 no_claim answer timer generation number none claimed =
     ⊎_elim (λ due. none_apart timer generation number (sym due ∙ claimed))

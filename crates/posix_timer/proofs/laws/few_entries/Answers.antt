@@ -7,4 +7,5 @@ use Rattle.posix_timer.proofs.laws.few_entries.Goals as goal
 
 pub returns : goal.returns
 returns c = λ clock base limit history legal.
-    let few = AreCalls-length posix_table (λ t. t.stamp) (λ t. t.limit) posix_counts (posix_opening clock base limit) history (omega arith) legal in omega (arith, few)
+    let few = AreCalls-length posix_table (λ t. t.stamp) (λ t. t.limit) posix_counts (posix_opening clock base limit) history (omega arith) legal in
+    omega (arith, few)

@@ -7,4 +7,5 @@ use Rattle.timer_fd.proofs.laws.few_entries.Goals as goal
 
 pub returns : goal.returns
 returns c = λ clock base limit history legal.
-    let few = AreCalls-length fd_table (λ t. t.stamp) (λ t. t.limit) fd_counts (fd_opening clock base limit) history (omega arith) legal in omega (arith, few)
+    let few = AreCalls-length fd_table (λ t. t.stamp) (λ t. t.limit) fd_counts (fd_opening clock base limit) history (omega arith) legal in
+    omega (arith, few)
