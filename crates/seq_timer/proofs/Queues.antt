@@ -57,7 +57,7 @@ running-enqueued clocks.Boottime expires id c = refl
 pub dequeued-in_none : (id : ℕ) (c : Content) → IsInNone id (dequeued id c)
 dequeued-in_none id c = record { monotonic = has_id-without id c.monotonic; realtime = has_id-without id c.realtime; boottime = has_id-without id c.boottime }
 
-abbrev content_of : List (ℕ × ℕ) → List (ℕ × ℕ) → List (ℕ × ℕ) → Option (ℕ × ℕ) → Content
+abbrev pub content_of : List (ℕ × ℕ) → List (ℕ × ℕ) → List (ℕ × ℕ) → Option (ℕ × ℕ) → Content
 content_of m r b running = record { monotonic = m; realtime = r; boottime = b; running = running }
 
 same_queues : (m m' r r' b b' : List (ℕ × ℕ)) (running : Option (ℕ × ℕ)) → m ≡ m' → r ≡ r' → b ≡ b' → content_of m r b running ≡ content_of m' r' b' running
@@ -76,23 +76,33 @@ dequeued-unarmed id t c here none =
     (sym (without_absent id c.monotonic (here.monotonic ∙ off clocks.Monotonic)))
     (sym (without_absent id c.realtime (here.realtime ∙ off clocks.Realtime))) (sym (without_absent id c.boottime (here.boottime ∙ off clocks.Boottime)))
 
-pub dequeued-monotonic : (id : ℕ) (t : Timer) (c : Content) (queue : List (ℕ × ℕ)) → IsQueuedAs id t c → t.clock ≡ clocks.Monotonic
-    → queue ≡ without id c.monotonic → record c { monotonic = queue } ≡ dequeued id c
-dequeued-monotonic id t c queue here is off =
-    same_queues queue (without id c.monotonic) c.realtime (without id c.realtime) c.boottime (without id c.boottime) c.running off
-    (sym (without_absent id c.realtime (here.realtime ∙ not_queued t clocks.Monotonic clocks.Realtime is refl)))
-    (sym (without_absent id c.boottime (here.boottime ∙ not_queued t clocks.Monotonic clocks.Boottime is refl)))
+-- one that is, is in its clock's
+pub dequeued-monotonic : (id : ℕ) (t : Timer) (m r b queue : List (ℕ × ℕ)) (running : Option (ℕ × ℕ)) (c : Content) → content_of m r b running ≡ c
+    → IsQueuedAs id t c → t.clock ≡ clocks.Monotonic → queue ≡ without id m → content_of queue r b running ≡ dequeued id c
+dequeued-monotonic id t m r b queue running c is here on off =
+    let queued = subst (IsQueuedAs id t) (sym is) here in
+    same_queues queue (without id m) r (without id r) b (without id b) running
+    off
+    (sym (without_absent id r (queued.realtime ∙ not_queued t clocks.Monotonic clocks.Realtime on refl)))
+    (sym (without_absent id b (queued.boottime ∙ not_queued t clocks.Monotonic clocks.Boottime on refl)))
+    ∙ ap (dequeued id) is
 
-pub dequeued-realtime : (id : ℕ) (t : Timer) (c : Content) (queue : List (ℕ × ℕ)) → IsQueuedAs id t c → t.clock ≡ clocks.Realtime
-    → queue ≡ without id c.realtime → record c { realtime = queue } ≡ dequeued id c
-dequeued-realtime id t c queue here is off =
-    same_queues c.monotonic (without id c.monotonic) queue (without id c.realtime) c.boottime (without id c.boottime) c.running
-    (sym (without_absent id c.monotonic (here.monotonic ∙ not_queued t clocks.Realtime clocks.Monotonic is refl))) off
-    (sym (without_absent id c.boottime (here.boottime ∙ not_queued t clocks.Realtime clocks.Boottime is refl)))
+pub dequeued-realtime : (id : ℕ) (t : Timer) (m r b queue : List (ℕ × ℕ)) (running : Option (ℕ × ℕ)) (c : Content) → content_of m r b running ≡ c
+    → IsQueuedAs id t c → t.clock ≡ clocks.Realtime → queue ≡ without id r → content_of m queue b running ≡ dequeued id c
+dequeued-realtime id t m r b queue running c is here on off =
+    let queued = subst (IsQueuedAs id t) (sym is) here in
+    same_queues m (without id m) queue (without id r) b (without id b) running
+    (sym (without_absent id m (queued.monotonic ∙ not_queued t clocks.Realtime clocks.Monotonic on refl)))
+    off
+    (sym (without_absent id b (queued.boottime ∙ not_queued t clocks.Realtime clocks.Boottime on refl)))
+    ∙ ap (dequeued id) is
 
-pub dequeued-boottime : (id : ℕ) (t : Timer) (c : Content) (queue : List (ℕ × ℕ)) → IsQueuedAs id t c → t.clock ≡ clocks.Boottime
-    → queue ≡ without id c.boottime → record c { boottime = queue } ≡ dequeued id c
-dequeued-boottime id t c queue here is off =
-    same_queues c.monotonic (without id c.monotonic) c.realtime (without id c.realtime) queue (without id c.boottime) c.running
-    (sym (without_absent id c.monotonic (here.monotonic ∙ not_queued t clocks.Boottime clocks.Monotonic is refl)))
-    (sym (without_absent id c.realtime (here.realtime ∙ not_queued t clocks.Boottime clocks.Realtime is refl))) off
+pub dequeued-boottime : (id : ℕ) (t : Timer) (m r b queue : List (ℕ × ℕ)) (running : Option (ℕ × ℕ)) (c : Content) → content_of m r b running ≡ c
+    → IsQueuedAs id t c → t.clock ≡ clocks.Boottime → queue ≡ without id b → content_of m r queue running ≡ dequeued id c
+dequeued-boottime id t m r b queue running c is here on off =
+    let queued = subst (IsQueuedAs id t) (sym is) here in
+    same_queues m (without id m) r (without id r) queue (without id b) running
+    (sym (without_absent id m (queued.monotonic ∙ not_queued t clocks.Boottime clocks.Monotonic on refl)))
+    (sym (without_absent id r (queued.realtime ∙ not_queued t clocks.Boottime clocks.Realtime on refl)))
+    off
+    ∙ ap (dequeued id) is

@@ -193,7 +193,15 @@ fn a_base_goes_along_with_its_timer(rt: HostRuntime) -> Result<(), AllocError> {
     base.step(0, &idle, &event, &armed);
     assert_eq!(rt; base.first(Reading::at(99)), None);
     assert_eq!(rt; base.first(Reading::at(100)), Some((100, 0)));
-    assert_eq!(rt; base.running(), None);
+    let event = Event::Claim {
+        base: 0,
+        reading: Reading::at(100),
+    };
+    let mut running = armed;
+    running.apply(event);
+    base.step(0, &armed, &event, &running);
+    assert_eq!(rt; base.first(Reading::at(100)), None);
+    assert_eq!(rt; base.running(), Some((0, 1)));
     Ok(())
 }
 

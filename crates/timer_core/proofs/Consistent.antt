@@ -1,12 +1,12 @@
 -- All that is kept agrees after each event of one timer.
-use Rattle.std.proofs.Common.{◌≡◌, ◌≢◌, ◌<◌, ◌≤◌, ◌+◌, ℕ, zero, suc, true, false, List, [], ◌∷◌, get_or, set, length, None, arith, refl, sym, ap, ◌∙◌, subst}
+use Rattle.std.proofs.Common.{◌≡◌, ◌≢◌, ◌<◌, ◌≤◌, ℕ, zero, suc, true, false, List, [], ◌∷◌, set, length, None, refl, sym, ap, ◌∙◌, subst}
 use Rattle.std.proofs.Math.Logic.{⊎_elim}
 use Rattle.std.proofs.lemmas.Bool.{cases_eq, true≢false}
 use Rattle.std.proofs.lemmas.List.{get_or-set_same, get_or-set_other, length-set}
 use Rattle.seq_timer.specs.declared.event.Event.{Event}
 use Rattle.seq_timer.specs.declared.event.Event.TheVariants as events
 use Rattle.seq_timer.specs.Steps.{Timer, Needs, after}
-use Rattle.seq_timer.specs.Tables.{timer_at, no_timer}
+use Rattle.seq_timer.specs.Tables.{no_timer}
 use Rattle.seq_timer.specs.Bases.{BaseState, IsQueuedAs, base_after, empty_base}
 use Rattle.seq_timer.specs.Contents.{IsContentOf, IsFreeFor}
 use Rattle.seq_timer.proofs.Contents.{Changes, IsContentOf-after, IsContentOf-elsewhere, IsQueuedAs-from, apart-after}
@@ -130,7 +130,7 @@ makes-one k id e within needs = record {
   others = λ other apart. timer-other k id other e apart;
 }
 
-set_twice : {A : Type 0} (xs : List A) (i : ℕ) (a b : A) → set (set xs i a) i b ≡ set xs i b
+pub set_twice : {A : Type 0} (xs : List A) (i : ℕ) (a b : A) → set (set xs i a) i b ≡ set xs i b
 set_twice [] i a b = refl
 set_twice (x ∷ xs) zero a b = refl
 set_twice (x ∷ xs) (suc i) a b = ap (λ ys. x ∷ ys) (set_twice xs i a b)

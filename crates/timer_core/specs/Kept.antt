@@ -6,7 +6,7 @@ use Rattle.seq_timer.specs.declared.event.Event.{Event}
 use Rattle.seq_timer.specs.declared.event.Event.TheVariants as events
 use Rattle.seq_timer.specs.Tables.{timer_at}
 use Rattle.seq_timer.specs.Bases.{BaseState, base_after, empty_base}
-use Rattle.seq_timer.specs.Contents.{Content, IsContentOf, IsFreeFor}
+use Rattle.seq_timer.specs.Contents.{Content, IsContentOf}
 
 -- the timers and the bases, each by its number
 pub record Kept : Type 0 where
