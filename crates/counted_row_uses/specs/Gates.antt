@@ -1,10 +1,6 @@
 -- What a gate's calls mean.
 use Rattle.std.specs.Prelude.{◌≡◌, ℕ, ◌+◌, ◌^◌, ◌<◌, Bool, true, false, List, [], ◌∷◌}
-use Rattle.std.proofs.Common.{subst, sym, ◌∙◌}
-use Rattle.std.proofs.Math.Nat.{add-zero, zero-add}
-use Rattle.pass_names.specs.Counts.{one_if}
-use Rattle.pass_names.specs.Names.{same, occurrences}
-use Rattle.counted_row.specs.Meaning.{Meaning, Effect, Counts, opens, ends}
+use Rattle.counted_row.specs.Meaning.{Meaning, Effect, opens, ends}
 use Rattle.counted_row_uses.specs.declared.gate.Gate.{Gate}
 use Rattle.counted_row_uses.specs.declared.gate.Turn.{Turn}
 use Rattle.counted_row_uses.specs.declared.gate.Turn.TheVariants.{Enter, Leave}
