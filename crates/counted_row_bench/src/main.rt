@@ -14,11 +14,12 @@ use report::{Task, VALUES, report};
 use std::alloc::{AllocError, Global};
 use std::{env, io};
 
-fn counters(alloc: Global) -> Result<(Row<Counter>, RowPass<Counter>), AllocError>
+/// So many counters at 0, and the first pass.
+fn counters(alloc: Global, count: usize) -> Result<(Row<Counter>, RowPass<Counter>), AllocError>
     ensures alone { IfOk result (λ r. IsAlone r.0 r.1) }
-    ensures values { IfOk result (λ r. length r.0.made ≡ 4096) }
+    ensures values { IfOk result (λ r. length r.0.made ≡ count) }
 {
-    let values = vec![in alloc; Counter { total: 0 }; VALUES]?;
+    let values = vec![in alloc; Counter { total: 0 }; count]?;
     Row::make(alloc, values)
 }
 
@@ -27,7 +28,7 @@ fn main(rt: HostRuntime) -> io::Result<()> {
         Some(word) if word.as_str() == "check" => Task::Check,
         _ => Task::Measure,
     };
-    let (row, mut main) = counters(rt.alloc())?;
+    let (row, mut main) = counters(rt.alloc(), VALUES)?;
     let done = report(&rt, &row, &mut main, task);
     row.close(main);
     done
