@@ -1,5 +1,5 @@
 -- The text of lines that stand one after the other.
-use Rattle.std.proofs.Common.{◌≡◌, ◌++◌, ◌∷◌, [], List}
+use Rattle.std.proofs.Common.{◌≡◌, ◌++◌, List}
 use Rattle.std.proofs.lemmas.List.Concat.{flat_map-append}
 use Rattle.record_text.specs.Numbers.{AreMachineNumbers, HaveMachineNumbers, numbers_of}
 use Rattle.record_text.specs.Text.{RecordLine, line_text, lines_text}

@@ -1,6 +1,6 @@
 -- Lines of words are cut out of a text again.
 use Rattle.std.proofs.Common.{◌≡◌, ◌++◌, ◌∷◌, [], ℕ, List, ◌≤◌, Bool, true, false, nat_lt, refl, ap, ◌∙◌, append_assoc, arith, ◌==◌}
-use Rattle.std.specs.List.{AllByRecursion, list_all, slice_split}
+use Rattle.std.specs.List.{list_all, slice_split}
 use Rattle.std.proofs.lemmas.List.{append-nil}
 use Rattle.std.proofs.lemmas.Bool.{and_parts}
 use Rattle.std.proofs.lemmas.Bool.Decides.{nat_tests}
