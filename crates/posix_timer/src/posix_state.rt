@@ -93,7 +93,7 @@ impl PosixState {
         reading: Reading,
         arm: Arm,
     ) -> SettimeAnswer
-        requires asked { IsOutcomeOf arm (posix_settime_wanted self.old flags value interval) }
+        requires outcome { IsOutcomeOf arm (posix_settime_wanted self.old flags value interval) }
         ensures { IsAnswered posix_table (posix_settime_refusal self.old flags value interval) self.old (calls.Settime flags (time_of value) (time_of interval) reading arm) (replies.Settime result) self.new }
     {
         let (value, interval) = match times_of(flags, value, interval) {
@@ -144,7 +144,7 @@ impl PosixState {
 
     /// Accepts the pending signal (`sigwaitinfo`). Its overrun counts the periods that have passed since it was generated.
     pub fn accept(&mut self, reading: Reading, arm: Arm) -> AcceptAnswer
-        requires asked { IsOutcomeOf arm (accept_wanted self.old reading) }
+        requires outcome { IsOutcomeOf arm (accept_wanted self.old reading) }
         ensures { IsAnswered posix_table (accept_refusal self.old) self.old (calls.Accept reading arm) (replies.Accept result) self.new }
     {
         if self.timer.is_spent() {

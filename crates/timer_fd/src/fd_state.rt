@@ -96,7 +96,7 @@ impl FdState {
         reading: Reading,
         arm: Arm,
     ) -> SettimeAnswer
-        requires asked { IsOutcomeOf arm (fd_settime_wanted self.old flags value interval) }
+        requires outcome { IsOutcomeOf arm (fd_settime_wanted self.old flags value interval) }
         ensures { IsAnswered fd_table (fd_settime_refusal self.old flags value interval) self.old (calls.Settime flags (time_of value) (time_of interval) reading arm) (replies.Settime result) self.new }
     {
         let (value, interval) = match times_of(flags, value, interval) {
@@ -139,7 +139,7 @@ impl FdState {
 
     /// Reads how often the timer has expired, and begins to count anew. `len` is the length of the buffer in bytes.
     pub fn read(&mut self, len: u64, reading: Reading, arm: Arm) -> ReadAnswer
-        requires asked { IsOutcomeOf arm (read_wanted self.old len reading) }
+        requires outcome { IsOutcomeOf arm (read_wanted self.old len reading) }
         ensures { IsAnswered fd_table (read_refusal self.old len) self.old (calls.Read reading arm) (replies.Read result) self.new }
     {
         if len < COUNT_LENGTH {
@@ -166,7 +166,7 @@ impl FdState {
     /// How long until the next expiry, and the interval (`timerfd_gettime`). A periodic timer that has expired is armed again, and the
     /// periods that have passed are counted.
     pub fn gettime(&mut self, reading: Reading, arm: Arm) -> GettimeAnswer
-        requires asked { IsOutcomeOf arm (gettime_wanted self.old reading) }
+        requires outcome { IsOutcomeOf arm (gettime_wanted self.old reading) }
         ensures { IsAnswered fd_table (gettime_refusal self.old) self.old (calls.Gettime reading arm) (replies.Gettime result) self.new }
     {
         if self.timer.is_spent() {
@@ -184,7 +184,7 @@ impl FdState {
         self.count != 0 || self.is_canceled(reading)
     }
 
-    /// Makes the entry of a call whose arguments were taken.
+    /// Makes the entry of a call with valid arguments.
     pub fn apply(&mut self, call: Call) -> Reply
         requires allowed { FdAllows self.old call }
         ensures state { self.new ≡ fd_step self.old call }
