@@ -1,5 +1,5 @@
 -- What was seen of a history is itself a history, and of each timer the beginning of its own.
-use Rattle.std.proofs.Common.{◌≡◌, ℕ, ◌+◌, List, length, ap, sym, ◌∙◌, subst, arith}
+use Rattle.std.proofs.Common.{◌≡◌, ℕ, List, ap, sym, ◌∙◌, subst, arith}
 use Rattle.pass_names.specs.Passes.{Begins}
 use Rattle.pass_names.proofs.Passes.{begins_whole}
 use Rattle.seq_timer.specs.declared.system.TimerEntry.{TimerEntry}

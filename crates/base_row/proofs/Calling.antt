@@ -1,6 +1,6 @@
 -- What calls on a row say, in the words of their callers.
-use Rattle.std.proofs.Common.{◌≡◌, ℕ, ◌+◌, ◌-◌, ◌^◌, ◌<◌, ◌≤◌, ◌≢◌, ⊎_elim, List, [], ◌∷◌, ◌++◌, length, true, inl, inr, refl, ap, sym, ◌∙◌, subst, arith, if◌then◌else◌}
-use Rattle.std.specs.Prelude.{slice_index, Option, Some, None, MatchOption, IfNone}
+use Rattle.std.proofs.Common.{◌≡◌, ℕ, ◌+◌, ◌-◌, ◌^◌, ◌<◌, ◌≤◌, ⊎_elim, List, [], ◌∷◌, ◌++◌, length, true, inr, refl, ap, sym, ◌∙◌, subst, arith, if◌then◌else◌}
+use Rattle.std.specs.Prelude.{slice_index, Option, Some, None, MatchOption}
 use Rattle.std.proofs.lemmas.Bool.{eq-eqb}
 use Rattle.atomic_table.specs.Table.{Me}
 use Rattle.pass_names.specs.Names.{IsLast}
@@ -11,7 +11,6 @@ use Rattle.ktime.specs.declared.mode.Mode.{Mode}
 use Rattle.ktime.specs.Readings.{ClockReading}
 use Rattle.seq_timer.specs.declared.event.Event.{Event}
 use Rattle.seq_timer.specs.declared.event.Event.TheVariants.{Start}
-use Rattle.seq_timer.specs.declared.system.TimerEntry.{TimerEntry}
 use Rattle.seq_timer.specs.Steps.{Timer, after}
 use Rattle.seq_timer.specs.Tables.{timer_at}
 use Rattle.seq_timer.specs.Histories as seq
@@ -41,10 +40,10 @@ locks_caught o b v w h c = record {
 
 pub misses_lost : (o : Opening) (b : ℕ) (v w : View BaseContent) → Lost o b (v, []) (w, []) → Misses b v w
 misses_lost o b v w l =
-  let is = ap (λ (m : Me (Option BaseContent) (View BaseContent)). m.0) l.rest in record {
-  waits = record { rest = is ∙ (λ i. record v { seen = w.seen; heard = ap (λ (x : View BaseContent). x.heard) (sym is) i; met = w.met }); newer = l.newer; apart = l.apart; seen = l.seen; steady = l.steady };
-  missed = l.missed;
-}
+    let is = ap (λ (m : Me (Option BaseContent) (View BaseContent)). m.0) l.rest in record {
+      waits = record { rest = is ∙ (λ i. record v { seen = w.seen; heard = ap (λ (x : View BaseContent). x.heard) (sym is) i; met = w.met }); newer = l.newer; apart = l.apart; seen = l.seen; steady = l.steady };
+      missed = l.missed;
+    }
 
 pub locks_or_misses : (o : Opening) (b : ℕ) (v w : View BaseContent) (r : Option (Locked BaseContent)) → MatchOption r (Lost o b (v, []) (w, [])) (λ h. Caught o b (v, []) (w, slots_of (Some h)) h)
     → MatchOption r (Misses b v w) (λ h. Locks b v w h)

@@ -81,4 +81,3 @@ lost_miss o b found me new miss = record {
   steady = miss.met.steady;
   knows = miss.met.knows;
 }
-

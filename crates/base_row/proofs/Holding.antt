@@ -5,7 +5,7 @@ use Rattle.pass_names.specs.Passes.{Begins}
 use Rattle.atomic_table.specs.Table.{Me, rest}
 use Rattle.seq_timer.specs.declared.event.Event.{Event}
 use Rattle.base_row.specs.declared.view.Opening.{Opening}
-use Rattle.seq_timer.specs.Steps.{Timer, after}
+use Rattle.seq_timer.specs.Steps.{Timer}
 use Rattle.seq_timer.specs.Tables.{timer_at}
 use Rattle.seq_timer.specs.Bases.{IsQueuedAs}
 use Rattle.seq_timer.specs.Contents.{IsContentOf}

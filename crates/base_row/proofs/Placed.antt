@@ -17,7 +17,7 @@ use Rattle.seq_timer.specs.declared.system.TimerEntry.{TimerEntry}
 use Rattle.base_row.specs.declared.view.Locked.{Locked}
 use Rattle.base_row.specs.declared.view.Opening.{Opening}
 use Rattle.base_row.specs.declared.view.View.{View}
-use Rattle.seq_timer.specs.Systems.{BaseContent, System, first_system, after_entry, after_entries, IsSystemStep, AreSystemSteps, FitsBase, IsFresh}
+use Rattle.seq_timer.specs.Systems.{BaseContent, System, first_system, after_entry, after_entries, AreSystemSteps, FitsBase, IsFresh}
 use Rattle.seq_timer.specs.Tables.{IsNextDue}
 use Rattle.base_row.specs.Rules.{number_of, now}
 use Rattle.base_row.specs.Plays.{Knows}
@@ -60,7 +60,7 @@ within_all : (bases count : ℕ) (w : System) (log : List TimerEntry) → ((t : 
 within_all bases count w [] first all t = first t
 within_all bases count w (e ∷ es) first all t = within_all bases count (after_entry w e) es (λ k. ⊎_elim
     (λ (same : k ≡ e.timer). subst (λ i. IsWithin ((after_entry w e).timers i)) (sym same) (subst (λ (x : Timer). IsWithin x) (sym (timer_here w e))
-        (record { left = left-after (w.timers e.timer) e.event all.0.needs (first e.timer).left; limit = omega (arith, (stamp-after (w.timers e.timer) e.event).1, (first e.timer).limit) })))
+    (record { left = left-after (w.timers e.timer) e.event all.0.needs (first e.timer).left; limit = omega (arith, (stamp-after (w.timers e.timer) e.event).1, (first e.timer).limit) })))
     (λ apart. subst (λ (x : Timer). IsWithin x) (sym (timer_else w e k apart)) (first k))
     (cases_eq k e.timer)) all.1 t
 

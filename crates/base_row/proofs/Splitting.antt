@@ -77,8 +77,8 @@ module _ (bases : ℕ) (opened : List Timer) (code : Timer → ℕ) where
       let fits = home.each_view id v at in (
         log,
         grown bases opened code log s home id v (split_view v) (new_view v) at (fits_split log s.words v fits) (fits_reader log s.words (row_pass_id (new_view v)) v.opening v fits (λ t. fits.full live))
-        (splits_tree (map row_pass_id s.views) home.tree id (row_pass_id v) (at_map row_pass_id s.views id v at) live)
-        (record { places = λ t k. refl; claims = λ t g b. refl; holds = λ b. refl; takes = λ b k. refl; carries = λ t. refl }),
+            (splits_tree (map row_pass_id s.views) home.tree id (row_pass_id v) (at_map row_pass_id s.views id v at) live)
+            (record { places = λ t k. refl; claims = λ t g b. refl; holds = λ b. refl; takes = λ b k. refl; carries = λ t. refl }),
       )
 
   pub notes : (id : ℕ) (v : View BaseContent) → Splits (HasOneHistory bases opened code) id v v (note_of v)
@@ -86,8 +86,8 @@ module _ (bases : ℕ) (opened : List Timer) (code : Timer → ℕ) where
       let fits = home.each_view id v at in (
         log,
         grown bases opened code log s home id v v (note_of v) at fits (fits_reader log s.words gone_pass_id no_opening v fits (λ t. absurd (true≢false (sym t))))
-        (subst (λ ls. IsPassTree (ls ++ gone_pass_id ∷ [])) (sym (set_again (map row_pass_id s.views) id (row_pass_id v) (at_map row_pass_id s.views id v at))) (gone_tree (map row_pass_id s.views) home.tree))
-        (record { places = λ t k. refl; claims = λ t g b. refl; holds = λ b. refl; takes = λ b k. refl; carries = λ t. refl }),
+            (subst (λ ls. IsPassTree (ls ++ gone_pass_id ∷ [])) (sym (set_again (map row_pass_id s.views) id (row_pass_id v) (at_map row_pass_id s.views id v at))) (gone_tree (map row_pass_id s.views) home.tree))
+            (record { places = λ t k. refl; claims = λ t g b. refl; holds = λ b. refl; takes = λ b k. refl; carries = λ t. refl }),
       )
 
   fits_gone : (log : List TimerEntry) (words : List ℕ) → PassHolds bases opened code log words gone_view
@@ -131,16 +131,16 @@ module _ (bases : ℕ) (opened : List Timer) (code : Timer → ℕ) where
       ap (λ ls. get_elem? ls other) (sym (map-set row_pass_id s.views id (joined_view v u))) ∙ at_map row_pass_id (set s.views id (joined_view v u)) other u at_other in (
         log,
         merged bases opened code log s home id other v (joined_view v u) u gone_view at at_other
-        (fits_joined log s.words v u live idle idle_u (home.each_view id v at) (home.each_view other u at_u))
-        (fits_gone log s.words)
-        (joins_tree (map row_pass_id s.views) home.tree id other (row_pass_id v) (row_pass_id u) (at_map row_pass_id s.views id v at) live apart lines_at live_u answers)
-        (record {
-          places = λ t k. omega (arith, total-append (λ (p : ℕ × ℕ). one_if (is_place t k p)) v.mine u.mine);
-          claims = λ t g b. omega (arith, total-append (λ (p : Claimed). one_if (is_claim t g b p)) v.claims u.claims);
-          holds = λ b. omega (arith, ap (held_in b) idle_u);
-          takes = λ b k. omega (arith, total-append (λ (p : ℕ × ℕ). one_if (is_place b k p)) v.takes u.takes);
-          carries = λ t. omega (arith, ap (carried_in t) empty);
-        }),
+            (fits_joined log s.words v u live idle idle_u (home.each_view id v at) (home.each_view other u at_u))
+            (fits_gone log s.words)
+            (joins_tree (map row_pass_id s.views) home.tree id other (row_pass_id v) (row_pass_id u) (at_map row_pass_id s.views id v at) live apart lines_at live_u answers)
+            (record {
+              places = λ t k. omega (arith, total-append (λ (p : ℕ × ℕ). one_if (is_place t k p)) v.mine u.mine);
+              claims = λ t g b. omega (arith, total-append (λ (p : Claimed). one_if (is_claim t g b p)) v.claims u.claims);
+              holds = λ b. omega (arith, ap (held_in b) idle_u);
+              takes = λ b k. omega (arith, total-append (λ (p : ℕ × ℕ). one_if (is_place b k p)) v.takes u.takes);
+              carries = λ t. omega (arith, ap (carried_in t) empty);
+            }),
       )
 
   -- a note is taken in
@@ -155,18 +155,18 @@ module _ (bases : ℕ) (opened : List Timer) (code : Timer → ℕ) where
       ap (λ ls. set ls other gone_pass_id) (set_again (map row_pass_id s.views) id (row_pass_id v) (at_map row_pass_id s.views id v at)) ∙ set_again (map row_pass_id s.views) other gone_pass_id line_at in (
         log,
         merged bases opened code log s home id other v (told_view v u) u gone_view at at_other
-        (record {
-          seen = fits.seen;
-          heard = fits_u.seen;
-          held = λ h e. let t = fits.held h e in record { within = t.within; seen = t.seen; whole = t.whole; word = omega (arith, t.word, greater_at v.met u.met h.base, fits_u.met h.base t.within); number = omega (arith, t.number, t.word, greater_at v.met u.met h.base, fits_u.met h.base t.within) };
-          carry = fits.carry;
-          wide = omega (arith, greater_len v.met u.met, fits.wide, fits_u.wide);
-          full = λ alive. omega (arith, greater_len v.met u.met, fits.full alive, fits_u.wide);
-          met = λ b h. omega (arith, greater_at v.met u.met b, fits.met b h, fits_u.met b h);
-          takes = λ b k some_one. omega (arith, fits.takes b k some_one, greater_at v.met u.met b);
-          gone = fits.gone;
-        })
-        (fits_gone log s.words)
-        (subst (λ ls. IsPassTree ls) (sym lines) home.tree)
-        (record { places = λ t k. refl; claims = λ t g b. refl; holds = λ b. refl; takes = λ b k. refl; carries = λ t. refl }),
+            (record {
+              seen = fits.seen;
+              heard = fits_u.seen;
+              held = λ h e. let t = fits.held h e in record { within = t.within; seen = t.seen; whole = t.whole; word = omega (arith, t.word, greater_at v.met u.met h.base, fits_u.met h.base t.within); number = omega (arith, t.number, t.word, greater_at v.met u.met h.base, fits_u.met h.base t.within) };
+              carry = fits.carry;
+              wide = omega (arith, greater_len v.met u.met, fits.wide, fits_u.wide);
+              full = λ alive. omega (arith, greater_len v.met u.met, fits.full alive, fits_u.wide);
+              met = λ b h. omega (arith, greater_at v.met u.met b, fits.met b h, fits_u.met b h);
+              takes = λ b k some_one. omega (arith, fits.takes b k some_one, greater_at v.met u.met b);
+              gone = fits.gone;
+            })
+            (fits_gone log s.words)
+            (subst (λ ls. IsPassTree ls) (sym lines) home.tree)
+            (record { places = λ t k. refl; claims = λ t g b. refl; holds = λ b. refl; takes = λ b k. refl; carries = λ t. refl }),
       )

@@ -1,19 +1,13 @@
 -- What each step tells.
 use Rattle.base_row.specs.Places.{lock_at, word_at}
-use Rattle.std.specs.Prelude.{◌≡◌, ℕ, ◌+◌, ◌<◌, ◌≤◌, ◌==◌, true, List, [], ◌∷◌, ◌++◌, length, map, set, slice_index, max, replicate, ◌≢◌, ◌⊎◌, ◌^◌, ◌-◌, Option, Some, None, MatchBool, unwrap_or, if◌then◌else◌}
-use Rattle.atomic_table.specs.Seated.{TableId}
-use Rattle.seq_timer.specs.Tables.{timer_at}
-use Rattle.seq_timer.specs.Systems.{IsFresh, openings}
+use Rattle.std.specs.Prelude.{◌≡◌, ℕ, ◌+◌, ◌<◌, ◌≤◌, ◌==◌, true, List, [], ◌∷◌, ◌++◌, length, set, slice_index, max, replicate, ◌≢◌, ◌⊎◌, ◌^◌, ◌-◌, Option, Some, None, MatchBool, unwrap_or, if◌then◌else◌}
 use Rattle.atomic_table.specs.Table.{Me, Step, rest}
 use Rattle.pass_names.specs.Counts.{one_if, count, without_first}
 use Rattle.pass_names.specs.Names.{IsLast, first_pass_id, gone_pass_id, after_split, child_of, after_retire}
-use Rattle.pass_names.specs.Passes.{Begins, within, places}
-use Rattle.seq_timer.specs.Histories as seq
+use Rattle.pass_names.specs.Passes.{Begins, within}
 use Rattle.seq_timer.specs.declared.event.Event.{Event}
-use Rattle.seq_timer.specs.declared.event.Reply.{Reply}
 use Rattle.seq_timer.specs.declared.event.Event.TheVariants as events
-use Rattle.ktime.specs.declared.clock_id.ClockId.{ClockId}
-use Rattle.seq_timer.specs.Steps.{Timer, after, greatest_limit, reply_to}
+use Rattle.seq_timer.specs.Steps.{Timer, after, reply_to}
 use Rattle.seq_timer.specs.declared.system.TimerEntry.{TimerEntry}
 use Rattle.base_row.specs.declared.view.Claimed.{Claimed}
 use Rattle.base_row.specs.declared.view.Locked.{Locked}

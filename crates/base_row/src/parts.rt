@@ -9,8 +9,8 @@ ghost use Rattle.seq_timer.specs.Steps.{greatest_limit};
 use crate::slot::BaseSlot;
 use ktime::ClockId;
 use seq_timer::TimerState;
-use timer_word::TimerWord;
 use std::alloc::{AllocError, Global};
+use timer_word::TimerWord;
 
 /// The number in a timer's word.
 #[tactic(auto, unfolding(crate::specs::Rules::number_of))]

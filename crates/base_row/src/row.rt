@@ -13,20 +13,20 @@ ghost use Rattle.base_row.specs.Plays.{KnowsOwn, first_view, Lost, Caught, slots
 ghost use Rattle.base_row.specs.Calls.{AreFresh, Locks, Misses, Waits, opening_of, IsPassOf, LetsGo, Sees, Absorbs, Hears, MayAppend, Appended, timer_seen, base_seen};
 
 use crate::held::{HeldBase, Pass};
-use crate::plays::{About, Child, Known, BaseRule};
+use crate::parts::{empty_slots, lock_index, make_timers, number_of, timer_index, zeros};
+use crate::plays::{About, BaseRule, Child, Known};
 use crate::slot::BaseSlot;
-use crossbeam_utils::Backoff;
 use crate::slots::{attempt, put_back};
 use crate::steps::{absorb, enter, free, look, tell};
-use crate::parts::{empty_slots, lock_index, make_timers, number_of, timer_index, zeros};
 use atomic_table::{Refused, Table};
+use crossbeam_utils::Backoff;
 use ktime::{ClockId, Reading};
 use seq_timer::{Event, Reply, TimerState};
-use timer_word::TimerWord;
 use std::alloc::{AllocError, Global};
 use std::marker::{Brand, Model};
 use std::snapshot::Snapshot;
 use std::sync::Wait;
+use timer_word::TimerWord;
 
 /// Bases and timers that many threads share.
 #[derive(Drop)]
@@ -93,13 +93,7 @@ impl BaseRow {
     }
 
     /// Adds an entry of a timer that is on the held base.
-    pub fn append(
-        &self,
-        pass: &mut Pass,
-        held: &mut HeldBase,
-        timer: u32,
-        event: Event,
-    ) -> Reply
+    pub fn append(&self, pass: &mut Pass, held: &mut HeldBase, timer: u32, event: Event) -> Reply
         requires row { IsPassOf self.now pass.old }
         requires may { MayAppend self.now.about pass.old.knows held.old timer event }
         requires on { IsOn held.old.base (timer_seen self.now.about pass.old.knows timer) }

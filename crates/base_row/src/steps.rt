@@ -11,7 +11,7 @@ ghost use Rattle.base_row.specs.declared.view.Locked.{Locked};
 ghost use Rattle.base_row.specs.Plays.{MayEnter, OwnNeeds, EntersAs, Met, Hit, Miss, LooksOwn, FreesOwn, Knows, entry_of, seen_timer};
 ghost use Rattle.base_row.specs.Calls.{Hears, Absorbs};
 
-use crate::plays::{About, Asked, Child, Enter, Free, Known, BaseRule, Look, Meet, Note, Take};
+use crate::plays::{About, Asked, BaseRule, Child, Enter, Free, Known, Look, Meet, Note, Take};
 use crate::slot::BaseSlot;
 use atomic_table::{Seat, Shared};
 use seq_timer::Event;

@@ -86,7 +86,10 @@ fn a_base_held_by_one_pass_is_missed_by_another(rt: HostRuntime) -> Result<(), F
 fn two_threads_lose_no_entry(rt: HostRuntime) -> Result<(), Fail> {
     let (row, mut pass) = three_timers(rt.alloc())?;
     let made = turns_of_two(&rt, &row, &mut pass, reading());
-    let stamps = row.load_word(&mut pass, 0).stamp.wrapping_add(row.load_word(&mut pass, 1).stamp);
+    let stamps = row
+        .load_word(&mut pass, 0)
+        .stamp
+        .wrapping_add(row.load_word(&mut pass, 1).stamp);
     let stamps = stamps.wrapping_add(row.load_word(&mut pass, 2).stamp);
     assert_eq!(rt; stamps, made);
     row.close(pass);

@@ -1,5 +1,5 @@
 use Rattle.base_row.specs.Places.{word_at}
-use Rattle.std.proofs.Common.{◌+◌, ap, sym, subst, ◌∙◌}
+use Rattle.std.proofs.Common.{ap, sym, subst, ◌∙◌}
 use Rattle.base_row.specs.declared.view.Opening.{Opening}
 use Rattle.base_row.specs.Rules.{number_of}
 use Rattle.base_row.specs.Plays.{EntersAs}

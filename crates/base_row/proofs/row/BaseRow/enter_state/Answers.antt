@@ -1,4 +1,4 @@
-use Rattle.std.proofs.Common.{◌≡◌, ◌<◌, ◌≤◌, arith, length, ap, sym, subst, ◌∙◌}
+use Rattle.std.proofs.Common.{◌≡◌, ◌<◌, arith, length, ap, sym, subst, ◌∙◌}
 use Rattle.std.specs.Prelude.{Option, Some}
 use Rattle.atomic_table.specs.Table.{Me}
 use Rattle.base_row.specs.declared.view.View.{View}
@@ -10,7 +10,6 @@ use Rattle.seq_timer.specs.Systems.{BaseContent, changed}
 use Rattle.base_row.specs.Rules.{number_of}
 use Rattle.base_row.specs.Plays.{Knows}
 use Rattle.base_row.specs.Calls.{PassOf, RowOf, Appended, timer_seen}
-use Rattle.seq_timer.specs.Systems.{first_system}
 use Rattle.base_row.specs.Rules.{now}
 use Rattle.base_row.proofs.Placed.{placed_after, placed_seen}
 use Rattle.base_row.proofs.Holding.{room, queued, rested}

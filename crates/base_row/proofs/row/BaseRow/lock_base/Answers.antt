@@ -1,9 +1,9 @@
-use Rattle.std.proofs.Common.{ap, sym, subst, ◌∙◌}
-use Rattle.std.specs.Prelude.{MatchOption, Option, Some}
+use Rattle.std.proofs.Common.{subst}
+use Rattle.std.specs.Prelude.{MatchOption, Option}
 use Rattle.seq_timer.specs.Systems.{BaseContent}
 use Rattle.base_row.specs.declared.view.Locked.{Locked}
 use Rattle.base_row.specs.Calls.{Locks, Waits}
-use Rattle.base_row.proofs.Calling.{locks_after, waits_after}
+use Rattle.base_row.proofs.Calling.{locks_after}
 use Rattle.base_row.proofs.row.BaseRow.lock_base.Goals as goal
 
 pub returns-in-Some-look_once-clause-locks : goal.returns-in-Some-look_once-clause-locks

@@ -1,4 +1,4 @@
-use Rattle.std.proofs.Common.{ap, sym, subst, ◌∙◌}
+use Rattle.std.proofs.Common.{ap, subst, ◌∙◌}
 use Rattle.base_row.specs.declared.view.Locked.{Locked}
 use Rattle.base_row.specs.declared.view.Opening.{Opening}
 use Rattle.seq_timer.specs.Systems.{BaseContent}

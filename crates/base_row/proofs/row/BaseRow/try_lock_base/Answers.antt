@@ -1,4 +1,4 @@
-use Rattle.std.proofs.Common.{ℕ, ◌≡◌, ◌<◌, ◌≤◌, ◌-◌, ◌^◌, ap, sym, subst, ◌∙◌}
+use Rattle.std.proofs.Common.{ℕ, ◌≡◌, ◌<◌, ◌≤◌, ◌-◌, ◌^◌}
 use Rattle.std.specs.Prelude.{slice_index, MatchOption, IfNone, Option, Some, None}
 use Rattle.pass_names.specs.Names.{IsLast}
 use Rattle.seq_timer.specs.Systems.{BaseContent}

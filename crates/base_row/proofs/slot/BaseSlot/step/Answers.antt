@@ -1,8 +1,6 @@
-use Rattle.std.proofs.Common.{set, ap, sym, ◌∙◌}
-use Rattle.std.specs.Prelude.{List}
+use Rattle.std.proofs.Common.{set, ap, ◌∙◌}
 use Rattle.seq_timer.specs.Bases.{BaseState}
-use Rattle.seq_timer.specs.Steps.{Timer}
-use Rattle.seq_timer.specs.Systems.{BaseContent, changed}
+use Rattle.seq_timer.specs.Systems.{changed}
 use Rattle.base_row.proofs.slot.BaseSlot.step.Goals as goal
 
 pub returns : goal.returns

@@ -1,4 +1,4 @@
-use Rattle.std.proofs.Common.{◌≡◌, ap, sym, ◌∙◌}
+use Rattle.std.proofs.Common.{ap, sym, ◌∙◌}
 use Rattle.base_row.specs.declared.view.View.{View}
 use Rattle.seq_timer.specs.Systems.{BaseContent}
 use Rattle.base_row.proofs.Calling.{seen_same}

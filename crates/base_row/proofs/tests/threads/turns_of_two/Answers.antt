@@ -1,4 +1,4 @@
-use Rattle.std.proofs.Common.{◌≡◌, ◌<◌, ℕ, [], ◌∷◌, ◌++◌, List, Bool, true, ap, sym, ◌∙◌, subst, refl}
+use Rattle.std.proofs.Common.{◌≡◌, [], ◌∷◌, ◌++◌, ap, sym, ◌∙◌, subst}
 use Rattle.pass_names.specs.declared.PassId.{PassId}
 use Rattle.pass_names.specs.Counts.{drop_if, without_first}
 use Rattle.pass_names.specs.Names.{AnswersFor, IsLast, after_retire, after_split, child_of, next_name, same}
