@@ -93,7 +93,8 @@ module _ (bases : ℕ) (opened : List Timer) (fresh : AreFresh opened) where
       idle : (t g b : ℕ) → one_if (runs g b (timer_at opened t)) ≡ 0
       idle t g b = grind (arith, (fresh.each t).running)
 
-  pub begins : (words : List ℕ) (slots : List (Option BaseContent)) → words ≡ replicate (word_at bases (length opened)) 0 → slots ≡ replicate bases (Some (no_base opened)) → HasOneHistory bases opened number_of (opening words slots first)
+  pub begins : (words : List ℕ) (slots : List (Option BaseContent)) → words ≡ replicate (word_at bases (length opened)) 0
+      → slots ≡ replicate bases (Some (no_base opened)) → HasOneHistory bases opened number_of (opening words slots first)
   begins words slots is_words is_slots =
       subst (λ ws. HasOneHistory bases opened number_of (opening ws slots first)) (sym is_words)
       (subst (λ ss. HasOneHistory bases opened number_of (opening (replicate (word_at bases (length opened)) 0) ss first)) (sym is_slots) ([], begins_home))

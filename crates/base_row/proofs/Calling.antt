@@ -41,11 +41,13 @@ locks_caught o b v w h c = record {
 pub misses_lost : (o : Opening) (b : ℕ) (v w : View BaseContent) → Lost o b (v, []) (w, []) → Misses b v w
 misses_lost o b v w l =
     let is = ap (λ (m : Me (Option BaseContent) (View BaseContent)). m.0) l.rest in record {
-      waits = record { rest = is ∙ (λ i. record v { seen = w.seen; heard = ap (λ (x : View BaseContent). x.heard) (sym is) i; met = w.met }); newer = l.newer; apart = l.apart; seen = l.seen; steady = l.steady };
+      waits = record { rest = is ∙ (λ i. record v { seen = w.seen; heard = ap (λ (x : View BaseContent). x.heard)
+          (sym is) i; met = w.met }); newer = l.newer; apart = l.apart; seen = l.seen; steady = l.steady };
       missed = l.missed;
     }
 
-pub locks_or_misses : (o : Opening) (b : ℕ) (v w : View BaseContent) (r : Option (Locked BaseContent)) → MatchOption r (Lost o b (v, []) (w, [])) (λ h. Caught o b (v, []) (w, slots_of (Some h)) h)
+pub locks_or_misses : (o : Opening) (b : ℕ) (v w : View BaseContent) (r : Option (Locked BaseContent))
+    → MatchOption r (Lost o b (v, []) (w, [])) (λ h. Caught o b (v, []) (w, slots_of (Some h)) h)
     → MatchOption r (Misses b v w) (λ h. Locks b v w h)
 locks_or_misses o b v w None l = misses_lost o b v w l
 locks_or_misses o b v w (Some h) c = locks_caught o b v w h c
@@ -55,7 +57,8 @@ pub locks_after : (b : ℕ) (u v w : View BaseContent) (h : Locked BaseContent) 
 locks_after b u v w h waits locks = record {
   at = locks.at;
   number = locks.number;
-  rest = locks.rest ∙ ap (λ (x : View BaseContent). record x { seen = w.seen; heard = []; held = Some h; takes = x.takes ++ (b, locks.number) ∷ []; met = w.met }) waits.rest;
+  rest = locks.rest ∙ ap (λ (x : View BaseContent). record x { seen = w.seen; heard = []; held = Some h; takes = x.takes ++
+      (b, locks.number) ∷ []; met = w.met }) waits.rest;
   word = locks.word;
   newer = omega (arith, waits.newer, locks.newer);
   apart = λ c n. locks.apart c n ∙ waits.apart c n;
@@ -73,30 +76,36 @@ waits_after b u v w first second = record {
 }
 
 -- the last pass misses no base that may still be taken
-pub last_misses_none : (o : Opening) (b : ℕ) (v w : View BaseContent) → Misses b v w → w.opening ≡ o → KnowsOwn w → IsLast v.id → b < o.bases → 2 ^ 64 - 2 ≤ slice_index w.met b
+pub last_misses_none : (o : Opening) (b : ℕ) (v w : View BaseContent) → Misses b v w → w.opening ≡ o → KnowsOwn w → IsLast v.id
+    → b < o.bases → 2 ^ 64 - 2 ≤ slice_index w.met b
 last_misses_none o b v w misses about knows last inside =
     let is = misses.waits.rest in
     ⊎_elim
     (λ t.
     let mine : takes_at b t.0 w ≡ takes_at b t.0 v = ap (λ (x : View BaseContent). takes_at b t.0 x) is in
     let last' : IsLast w.id = subst (λ (x : View BaseContent). IsLast x.id) (sym is) last in
-    absurd (omega (arith, mine, t.1, t.2, knows.all_takes last' b t.0 (omega (arith, ap (λ (x : Opening). x.bases) about, inside)) (omega (arith, t.2)) (omega (arith, t.3)))))
+    absurd (omega (arith, mine, t.1, t.2, knows.all_takes last' b t.0 (omega (arith, ap (λ (x : Opening). x.bases) about, inside))
+        (omega (arith, t.2)) (omega (arith, t.3)))))
     (λ far. far)
     misses.missed
 
 -- ---- what is known
 
 pub looks_locks : (b : ℕ) (v w : View BaseContent) (h : Locked BaseContent) → Locks b v w h → LooksOn (known_of v) (known_of w)
-looks_locks b v w h l = record { seen = l.seen; mine = ap (λ (x : View BaseContent). x.mine) l.rest; id = ap (λ (x : View BaseContent). x.id) l.rest; claims = ap (λ (x : View BaseContent). x.claims) l.rest }
+looks_locks b v w h l = record { seen = l.seen; mine = ap (λ (x : View BaseContent). x.mine) l.rest; id = ap
+    (λ (x : View BaseContent). x.id) l.rest; claims = ap (λ (x : View BaseContent). x.claims) l.rest }
 
 pub looks_waits : (b : ℕ) (v w : View BaseContent) → Waits b v w → LooksOn (known_of v) (known_of w)
-looks_waits b v w l = record { seen = l.seen; mine = ap (λ (x : View BaseContent). x.mine) l.rest; id = ap (λ (x : View BaseContent). x.id) l.rest; claims = ap (λ (x : View BaseContent). x.claims) l.rest }
+looks_waits b v w l = record { seen = l.seen; mine = ap (λ (x : View BaseContent). x.mine) l.rest; id = ap
+    (λ (x : View BaseContent). x.id) l.rest; claims = ap (λ (x : View BaseContent). x.claims) l.rest }
 
 pub looks_sees : (v w : View BaseContent) → Sees v w → LooksOn (known_of v) (known_of w)
-looks_sees v w l = record { seen = l.seen; mine = ap (λ (x : View BaseContent). x.mine) l.rest; id = ap (λ (x : View BaseContent). x.id) l.rest; claims = ap (λ (x : View BaseContent). x.claims) l.rest }
+looks_sees v w l = record { seen = l.seen; mine = ap (λ (x : View BaseContent). x.mine) l.rest; id = ap
+    (λ (x : View BaseContent). x.id) l.rest; claims = ap (λ (x : View BaseContent). x.claims) l.rest }
 
 pub looks_freed : (o : Opening) (h : Locked BaseContent) (v w : View BaseContent) → LetsGo o h v w → LooksOn (known_of v) (known_of w)
-looks_freed o h v w l = record { seen = l.seen; mine = ap (λ (x : View BaseContent). x.mine) l.rest; id = ap (λ (x : View BaseContent). x.id) l.rest; claims = ap (λ (x : View BaseContent). x.claims) l.rest }
+looks_freed o h v w l = record { seen = l.seen; mine = ap (λ (x : View BaseContent). x.mine) l.rest; id = ap
+    (λ (x : View BaseContent). x.id) l.rest; claims = ap (λ (x : View BaseContent). x.claims) l.rest }
 
 pub takes_in : (v u w : View BaseContent) → Absorbs v u w → TakesIn (known_of v) (known_of u) (known_of w)
 takes_in v u w a = record {
@@ -108,9 +117,11 @@ takes_in v u w a = record {
 }
 
 looks_hears : (v u w : View BaseContent) → Hears v u w → LooksOn (known_of v) (known_of w)
-looks_hears v u w l = record { seen = l.seen; mine = ap (λ (x : View BaseContent). x.mine) l.rest; id = ap (λ (x : View BaseContent). x.id) l.rest; claims = ap (λ (x : View BaseContent). x.claims) l.rest }
+looks_hears v u w l = record { seen = l.seen; mine = ap (λ (x : View BaseContent). x.mine) l.rest; id = ap
+    (λ (x : View BaseContent). x.id) l.rest; claims = ap (λ (x : View BaseContent). x.claims) l.rest }
 
-pub meet_with : (a b new_a new_b : View BaseContent) → Hears b a new_b → Hears a new_b new_a → MeetWith (known_of a) (known_of b) (known_of new_a) (known_of new_b)
+pub meet_with : (a b new_a new_b : View BaseContent) → Hears b a new_b → Hears a new_b new_a
+    → MeetWith (known_of a) (known_of b) (known_of new_a) (known_of new_b)
 meet_with a b new_a new_b second first = record {
   first = looks_hears a new_b new_a first;
   second = looks_hears b a new_b second;
@@ -124,16 +135,19 @@ meet_with a b new_a new_b second first = record {
 -- a timer's stamp is how many entries of it were seen
 pub stamp_seen : (o : Opening) → AreFresh o.timers → (v : View BaseContent) (t : ℕ) → (timer_seen o v t).stamp ≡ length (entries_of t v.seen)
 stamp_seen o fresh v t =
-    omega (arith, ap (λ (x : Timer). x.stamp) (after_entries-entries_of (first_system o.timers) t v.seen), stamp-after_all (timer_at o.timers t) (entries_of t v.seen), (fresh.each t).stamp)
+    omega (arith, ap (λ (x : Timer). x.stamp) (after_entries-entries_of (first_system o.timers) t v.seen), stamp-after_all
+        (timer_at o.timers t) (entries_of t v.seen), (fresh.each t).stamp)
 
-pub extends_appended : (o : Opening) → AreFresh o.timers → (h : Locked BaseContent) (t : ℕ) (event : Event) (v w : View BaseContent) → Appended o h t event v w → ExtendsBy entries_of (known_of v) (known_of w) t (own_entry o v t event ∷ [])
+pub extends_appended : (o : Opening) → AreFresh o.timers → (h : Locked BaseContent) (t : ℕ) (event : Event) (v w : View BaseContent)
+    → Appended o h t event v w → ExtendsBy entries_of (known_of v) (known_of w) t (own_entry o v t event ∷ [])
 extends_appended o fresh h t event v w told =
     let e = entry_in o v t event in
     let seen : w.seen ≡ told.before ++ e ∷ [] = ap (λ (x : View BaseContent). x.seen) told.rest in
     let one : entries_of t (e ∷ []) ≡ own_entry o v t event ∷ [] = ap (λ b. if b then own_entry o v t event ∷ [] else []) (eq-eqb t t refl) in
     record {
       seen = subst (λ l. Begins v.seen l) (sym seen) (begins_trans told.seen (begins_more told.before (e ∷ [])));
-      own = ap (entries_of t) seen ∙ (entries_of-append t told.before (e ∷ []) ∙ (ap (λ l. l ++ entries_of t (e ∷ [])) told.own ∙ ap (λ l. entries_of t v.seen ++ l) one));
+      own = ap (entries_of t) seen ∙ (entries_of-append t told.before (e ∷ [])
+          ∙ (ap (λ l. l ++ entries_of t (e ∷ [])) told.own ∙ ap (λ l. entries_of t v.seen ++ l) one));
       mine = ap (λ (x : View BaseContent). x.mine) told.rest ∙ ap (λ n. v.mine ++ (t, n + 1) ∷ []) (stamp_seen o fresh v t);
       id = ap (λ (x : View BaseContent). x.id) told.rest;
     }
@@ -143,7 +157,8 @@ after_all-push t [] e = refl
 after_all-push t (x ∷ xs) e = after_all-push (after t x.event) xs e
 
 -- the timer after the entry, as the pass has then seen it
-pub seen_after : (o : Opening) → AreFresh o.timers → (h : Locked BaseContent) (t : ℕ) (event : Event) (v w : View BaseContent) → Appended o h t event v w → timer_seen o w t ≡ after (timer_seen o v t) event
+pub seen_after : (o : Opening) → AreFresh o.timers → (h : Locked BaseContent) (t : ℕ) (event : Event) (v w : View BaseContent)
+    → Appended o h t event v w → timer_seen o w t ≡ after (timer_seen o v t) event
 unfolding extends_appended
 seen_after o fresh h t event v w told =
     let first : Timer = timer_at o.timers t in
@@ -155,20 +170,26 @@ some_same : (h g : Locked BaseContent) → Some h ≡ Some g → h ≡ g
 some_same h g e = cc
 
 -- and as the base then keeps it
-pub state_entered : (o : Opening) → AreFresh o.timers → (h g : Locked BaseContent) (t : ℕ) (event : Event) (v w : View BaseContent) → Appended o h t event v w → w.held ≡ Some g → t < length g.content.states
+pub state_entered : (o : Opening) → AreFresh o.timers → (h g : Locked BaseContent) (t : ℕ) (event : Event) (v w : View BaseContent)
+    → Appended o h t event v w → w.held ≡ Some g → t < length g.content.states
     → timer_at g.content.states t ≡ timer_seen o w t
 state_entered o fresh h g t event v w told held room =
     let now : Locked BaseContent = record { base = h.base; word = h.word; content = changed t (timer_seen o v t) event h.content } in
     let is : now ≡ g = some_same now g (sym (ap (λ (x : View BaseContent). x.held) told.rest) ∙ held) in
-    let room' : t < length h.content.states = omega (arith, ap (λ (x : Locked BaseContent). length x.content.states) is, states_len t (timer_seen o v t) event h.content, room) in
-    ap (λ (x : Locked BaseContent). timer_at x.content.states t) (sym is) ∙ (states_here t (timer_seen o v t) event h.content room' ∙ sym (seen_after o fresh h t event v w told))
+    let room' : t < length h.content.states = omega (arith, ap (λ (x : Locked BaseContent). length x.content.states) is, states_len t
+        (timer_seen o v t) event h.content, room) in
+    ap (λ (x : Locked BaseContent). timer_at x.content.states t) (sym is)
+        ∙ (states_here t (timer_seen o v t) event h.content room' ∙ sym (seen_after o fresh h t event v w told))
 
 -- a timer of which nothing more was seen is as it was
 pub seen_same : (o : Opening) (v w : View BaseContent) (t : ℕ) → entries_of t w.seen ≡ entries_of t v.seen → timer_seen o w t ≡ timer_seen o v t
-seen_same o v w t own = after_entries-entries_of (first_system o.timers) t w.seen ∙ (ap (seq.after_all (timer_at o.timers t)) own ∙ sym (after_entries-entries_of (first_system o.timers) t v.seen))
+seen_same o v w t own = after_entries-entries_of (first_system o.timers) t w.seen
+    ∙ (ap (seq.after_all (timer_at o.timers t)) own ∙ sym (after_entries-entries_of (first_system o.timers) t v.seen))
 
 -- a timer on the move may be started by who carries it, on the base that it was sent to
-pub may_start : (o : Opening) (v : View BaseContent) (h : Locked BaseContent) (t : ℕ) (mode : Mode) (ns : ℕ) (reading : ClockReading) (asked : ℕ) → t < length o.timers → v.held ≡ Some h → v.carry ≡ Some t → (timer_seen o v t).moving ≡ true → asked ≡ (timer_seen o v t).base → (timer_seen o v t).base ≡ h.base
+pub may_start : (o : Opening) (v : View BaseContent) (h : Locked BaseContent) (t : ℕ) (mode : Mode) (ns : ℕ) (reading : ClockReading)
+    (asked : ℕ) → t < length o.timers → v.held ≡ Some h → v.carry ≡ Some t → (timer_seen o v t).moving ≡ true
+    → asked ≡ (timer_seen o v t).base → (timer_seen o v t).base ≡ h.base
     → MayAppend o v h t (Start mode ns reading asked)
 may_start o v h t mode ns reading asked inside held carry moves here there = record {
   may = record {

@@ -23,8 +23,10 @@ its_generation g None is = absurd (true≢false (sym is))
 its_generation g (Some r) is = refl
 
 one_claim : (id k g b a base : ℕ) (claims : List Claimed)
-    → count (is_claim k g b) (claims ++ record { timer = id; generation = a; base = base } ∷ []) ≡ count (is_claim k g b) claims + one_if (eqb id k && (eqb a g && eqb base b))
-one_claim id k g b a base claims = omega (arith, total-append (λ (c : Claimed). one_if (is_claim k g b c)) claims (record { timer = id; generation = a; base = base } ∷ []))
+    → count (is_claim k g b) (claims ++ record { timer = id; generation = a; base = base } ∷ []) ≡ count (is_claim k g b) claims + one_if
+        (eqb id k && (eqb a g && eqb base b))
+one_claim id k g b a base claims = omega (arith, total-append (λ (c : Claimed). one_if (is_claim k g b c)) claims
+    (record { timer = id; generation = a; base = base } ∷ []))
 
 claim_is : (id g b : ℕ) (c : Claimed) → is_claim id g b c ≡ true → (c.timer ≡ id) × ((c.generation ≡ g) × (c.base ≡ b))
 claim_is id g b c e =
@@ -35,11 +37,13 @@ claim_is id g b c e =
 let_go : (id k g b r base : ℕ) (c : Claimed) → is_claim id r base c ≡ true → is_claim k g b c ≡ (eqb id k && (eqb r g && eqb base b))
 let_go id k g b r base c e = let t = claim_is id r base c e in rw (t.0, t.1.0, t.1.1) refl
 
-carry_start : (id : ℕ) (m : Bool) (carry : Option ℕ) → (m ≡ true → carry ≡ Some id) → carried_in id (if m then None else carry) + one_if m ≡ carried_in id carry + 0
+carry_start : (id : ℕ) (m : Bool) (carry : Option ℕ) → (m ≡ true → carry ≡ Some id)
+    → carried_in id (if m then None else carry) + one_if m ≡ carried_in id carry + 0
 carry_start id true carry has = omega (arith, ap (carried_in id) (has refl), ap one_if (eq-eqb id id refl))
 carry_start id false carry has = refl
 
-carry_start_else : (id k : ℕ) (m : Bool) (carry : Option ℕ) → k ≢ id → (m ≡ true → carry ≡ Some id) → carried_in k (if m then None else carry) ≡ carried_in k carry
+carry_start_else : (id k : ℕ) (m : Bool) (carry : Option ℕ) → k ≢ id → (m ≡ true → carry ≡ Some id)
+    → carried_in k (if m then None else carry) ≡ carried_in k carry
 carry_start_else id k true carry n has = omega (arith, ap (carried_in k) (has refl), ap one_if (ne_eqb id k (λ e. n (sym e))))
 carry_start_else id k false carry n has = refl
 
@@ -66,14 +70,16 @@ go_along v id t (events.Claim base reading) reply needs mine = record {
     no_generation g t.running (eqb t.base b) needs.2,
     ap (λ x. one_if (x && eqb t.base b)) (its_generation g t.armed needs.0),
   );
-  apart = λ k g b n. omega (arith, one_claim id k g b (unwrap_or t.armed 0) t.base v.claims, ap (λ x. one_if (x && (eqb (unwrap_or t.armed 0) g && eqb t.base b))) (ne_eqb id k (λ e. n (sym e))));
+  apart = λ k g b n. omega (arith, one_claim id k g b (unwrap_or t.armed 0) t.base v.claims, ap
+      (λ x. one_if (x && (eqb (unwrap_or t.armed 0) g && eqb t.base b))) (ne_eqb id k (λ e. n (sym e))));
   carry_here = refl;
   carry_else = λ k n. refl;
 }
 go_along v id t (events.Forward reading interval) reply needs mine = record { own = λ g b. refl; apart = λ k g b n. refl; carry_here = refl; carry_else = λ k n. refl }
 go_along v id t (events.Finish restart) reply needs mine =
     let r = unwrap_or t.running 0 in
-    let left : (k g b : ℕ) → count (is_claim k g b) (claims_after id t (events.Finish restart) v.claims) + one_if (eqb id k && (eqb r g && eqb t.base b)) ≡ count (is_claim k g b) v.claims =
+    let left : (k g b : ℕ) → count (is_claim k g b) (claims_after id t (events.Finish restart) v.claims) + one_if
+        (eqb id k && (eqb r g && eqb t.base b)) ≡ count (is_claim k g b) v.claims =
     λ k g b. count-without_first (is_claim id r t.base) (is_claim k g b) (eqb id k && (eqb r g && eqb t.base b)) (let_go id k g b r t.base) v.claims mine in
     record {
       own = λ g b. omega (

@@ -20,7 +20,8 @@ use Rattle.seq_timer.proofs.Systems.{shows}
 use Rattle.seq_timer.proofs.Agreement.{agrees}
 use Rattle.seq_timer.proofs.Contents.{IsQueuedAs-from}
 
-module _ (bases : ℕ) (opened : List Timer) (code : Timer → ℕ) (v : View BaseContent) (h : Locked BaseContent) (knows : Knows bases opened code v) (held : v.held ≡ Some h) (t : ℕ) (within : t < length opened) where
+module _ (bases : ℕ) (opened : List Timer) (code : Timer → ℕ) (v : View BaseContent) (h : Locked BaseContent)
+    (knows : Knows bases opened code v) (held : v.held ≡ Some h) (t : ℕ) (within : t < length opened) where
   abbrev w : System
   w = now bases opened code v.seen
 
@@ -43,7 +44,8 @@ module _ (bases : ℕ) (opened : List Timer) (code : Timer → ℕ) (v : View Ba
   queued fresh here =
       let all = agrees bases opened v.seen fresh knows.allowed in
       subst (λ (b : BaseContent). IsQueuedAs t (w.timers t) b.content) (sym same)
-      (IsQueuedAs-from w.timers t (w.bases h.base).content (all.apart t) (subst (λ b. IsContentOf w.timers b (w.bases h.base).content) (sym here) (all.contents h.base)))
+      (IsQueuedAs-from w.timers t (w.bases h.base).content (all.apart t) (subst (λ b. IsContentOf w.timers b (w.bases h.base).content)
+          (sym here) (all.contents h.base)))
 
 -- what a seat is like after an entry
 pub record Rested (o : Opening) (h : Locked BaseContent) (t : ℕ) (event : Event) (me new : Me (Option BaseContent) (View BaseContent)) : Type 0 where
@@ -52,7 +54,8 @@ pub record Rested (o : Opening) (h : Locked BaseContent) (t : ℕ) (event : Even
   pub about : new.0.opening ≡ o
   pub held : new.0.held ≡ Some (record { base = h.base; word = h.word; content = changed t (timer_seen o me.0 t) event h.content })
 
-pub rested : (o : Opening) (h : Locked BaseContent) (t : ℕ) (event : Event) (me new : Me (Option BaseContent) (View BaseContent)) → me.0.opening ≡ o → IsResting me → me.0.held ≡ Some h → EntersAs o.bases o.timers number_of h t event me new → Rested o h t event me new
+pub rested : (o : Opening) (h : Locked BaseContent) (t : ℕ) (event : Event) (me new : Me (Option BaseContent) (View BaseContent))
+    → me.0.opening ≡ o → IsResting me → me.0.held ≡ Some h → EntersAs o.bases o.timers number_of h t event me new → Rested o h t event me new
 rested o h t event me new about resting held told =
     let opening : new.0.opening ≡ o = ap (λ (m : Me (Option BaseContent) (View BaseContent)). m.0.opening) told.rest ∙ about in
     let now_held = ap (λ (m : Me (Option BaseContent) (View BaseContent)). m.0.held) told.rest in
@@ -60,7 +63,8 @@ rested o h t event me new about resting held told =
       resting = record {
         live = ap (λ (m : Me (Option BaseContent) (View BaseContent)). m.0.id.live) told.rest ∙ resting.live;
         heard = ap (λ (m : Me (Option BaseContent) (View BaseContent)). m.0.heard) told.rest;
-        carried = ap (λ (m : Me (Option BaseContent) (View BaseContent)). m.1) told.rest ∙ (resting.carried ∙ (ap slots_of held ∙ sym (ap slots_of now_held)));
+        carried = ap (λ (m : Me (Option BaseContent) (View BaseContent)). m.1) told.rest
+            ∙ (resting.carried ∙ (ap slots_of held ∙ sym (ap slots_of now_held)));
         knows = subst (λ (q : Opening). Knows q.bases q.timers number_of new.0) (sym opening) told.knows;
       };
       adds = record { before = told.before; seen = told.seen; own = told.own; rest = ap (λ (m : Me (Option BaseContent) (View BaseContent)). m.0) told.rest };
@@ -74,22 +78,27 @@ pub record LetGo (o : Opening) (h : Locked BaseContent) (me new : Me (Option Bas
   pub free : LetsGo o h me.0 new.0
   pub about : new.0.opening ≡ o
 
-pub let_go : (o : Opening) (h : Locked BaseContent) (me mid new : Me (Option BaseContent) (View BaseContent)) → me.0.opening ≡ o → IsResting me → me.0.held ≡ Some h → h.base < o.bases → mid ≡ (me.0, (h.base, Some h.content) ∷ []) → Freed o.bases o.timers number_of h mid new → LetGo o h me new
+pub let_go : (o : Opening) (h : Locked BaseContent) (me mid new : Me (Option BaseContent) (View BaseContent)) → me.0.opening ≡ o
+    → IsResting me → me.0.held ≡ Some h → h.base < o.bases → mid ≡ (me.0, (h.base, Some h.content) ∷ [])
+    → Freed o.bases o.timers number_of h mid new → LetGo o h me new
 let_go o h me mid new about resting held inside is told =
-    let at_first : new ≡ (having_freed new.0.seen h.base (slice_index me.0.met h.base + 1) me.0, []) = told.rest ∙ ap (λ (m : Me (Option BaseContent) (View BaseContent)). (having_freed new.0.seen h.base (slice_index m.0.met h.base + 1) m.0, rest m.1)) is in
+    let at_first : new ≡ (having_freed new.0.seen h.base (slice_index me.0.met h.base + 1) me.0, []) = told.rest
+        ∙ ap (λ (m : Me (Option BaseContent) (View BaseContent)). (having_freed new.0.seen h.base (slice_index m.0.met h.base + 1) m.0, rest m.1)) is in
     let word : h.word ≡ slice_index me.0.met h.base = (resting.knows.held h held).1.1 in
     let opening : new.0.opening ≡ o = ap (λ (m : Me (Option BaseContent) (View BaseContent)). m.0.opening) at_first ∙ about in
     record {
       resting = record {
         live = ap (λ (m : Me (Option BaseContent) (View BaseContent)). m.0.id.live) at_first ∙ resting.live;
         heard = ap (λ (m : Me (Option BaseContent) (View BaseContent)). m.0.heard) at_first;
-        carried = ap (λ (m : Me (Option BaseContent) (View BaseContent)). m.1) at_first ∙ sym (ap slots_of (ap (λ (m : Me (Option BaseContent) (View BaseContent)). m.0.held) at_first));
+        carried = ap (λ (m : Me (Option BaseContent) (View BaseContent)). m.1) at_first
+            ∙ sym (ap slots_of (ap (λ (m : Me (Option BaseContent) (View BaseContent)). m.0.held) at_first));
         knows = subst (λ (q : Opening). Knows q.bases q.timers number_of new.0) (sym opening) told.knows;
       };
       free = record {
         rest = ap (λ (m : Me (Option BaseContent) (View BaseContent)). m.0) at_first ∙ ap (λ x. having_freed new.0.seen h.base (x + 1) me.0) (sym word);
         seen = subst (λ (m : Me (Option BaseContent) (View BaseContent)). Begins m.0.seen new.0.seen) is told.seen;
-        own = subst (λ (m : Me (Option BaseContent) (View BaseContent)). (t : ℕ) → t < length o.timers → IsOn h.base (timer_seen o m.0 t) → entries_of t new.0.seen ≡ entries_of t m.0.seen) is told.own;
+        own = subst (λ (m : Me (Option BaseContent) (View BaseContent)). (t : ℕ) → t < length o.timers → IsOn h.base (timer_seen o m.0 t)
+            → entries_of t new.0.seen ≡ entries_of t m.0.seen) is told.own;
         content = told.content;
         steady = subst (λ (m : Me (Option BaseContent) (View BaseContent)). Steady m.0 new.0) is told.steady;
       };

@@ -28,7 +28,8 @@ set_there (x ∷ xs) (suc i) a b e = set_there xs i a b e
 in_range : (k n : ℕ) → 0 < k → k ≤ n → one_if (within k n) ≡ 1
 in_range k n h le = grind (arith, nat_tests)
 
-module _ (bases : ℕ) (opened : List Timer) (code : Timer → ℕ) (log : List TimerEntry) (s : State (Option BaseContent) (View BaseContent)) (home : RowHolds bases opened code log s)
+module _ (bases : ℕ) (opened : List Timer) (code : Timer → ℕ) (log : List TimerEntry) (s : State (Option BaseContent) (View BaseContent))
+    (home : RowHolds bases opened code log s)
     (id : ℕ) (v : View BaseContent) (at : get_elem? s.views id ≡ some v) (live : v.id.live ≡ true) (whole : v.seen ≡ log) where
   fits : PassHolds bases opened code log s.words v
   fits = home.each_view id v at
@@ -36,7 +37,8 @@ module _ (bases : ℕ) (opened : List Timer) (code : Timer → ℕ) (log : List 
   others_gone : IsLast v.id → (j : ℕ) (u : View BaseContent) → j ≢ id → get_elem? s.views j ≡ some u → u.id.live ≡ false
   others_gone last j u apart at_u =
       ⊎_elim
-      (λ t. absurd (apart (last_alone (map row_pass_id s.views) home.tree id j (row_pass_id v) (row_pass_id u) (at_map row_pass_id s.views id v at) live last (at_map row_pass_id s.views j u at_u) t)))
+      (λ t. absurd (apart (last_alone (map row_pass_id s.views) home.tree id j (row_pass_id v) (row_pass_id u)
+          (at_map row_pass_id s.views id v at) live last (at_map row_pass_id s.views j u at_u) t)))
       (λ f. f)
       (cases_Bool u.id.live)
 
@@ -47,12 +49,16 @@ module _ (bases : ℕ) (opened : List Timer) (code : Timer → ℕ) (log : List 
   knows_of = record {
     allowed = subst (λ l. AreSystemSteps bases (length opened) (first_system opened) l) (sym whole) home.allowed;
     held = λ h e. let t = fits.held h e in (t.within, (t.seen, t.number));
-    carry = λ t h e. as_seen (λ (x : Timer). x.moving ≡ true) t (met ((now bases opened code log).timers t).moving (omega (arith, carries_one v t e, home.carriers t h, total_at (carries_at t) s.views id v at)));
-    claims = λ t g b h some_one. as_seen (λ (x : Timer). runs g b x ≡ true) t (met (runs g b ((now bases opened code log).timers t)) (omega (arith, home.claims t g b h, total_at (claims_at t g b) s.views id v at)));
+    carry = λ t h e. as_seen (λ (x : Timer). x.moving ≡ true) t
+        (met ((now bases opened code log).timers t).moving (omega (arith, carries_one v t e, home.carriers t h, total_at (carries_at t) s.views id v at)));
+    claims = λ t g b h some_one. as_seen (λ (x : Timer). runs g b x ≡ true) t
+        (met (runs g b ((now bases opened code log).timers t)) (omega (arith, home.claims t g b h, total_at (claims_at t g b) s.views id v at)));
     all_entries = λ last t k h. as_seen (λ (x : Timer). places_at t k v ≡ one_if (within k x.stamp)) t
-        (sym (total_only (places_at t k) s.views id v at (λ j u apart at_u. ap (count (is_place t k)) ((home.each_view j u at_u).gone (others_gone last j u apart at_u)).0)) ∙ home.tally t k h);
+        (sym (total_only (places_at t k) s.views id v at (λ j u apart at_u. ap (count (is_place t k))
+            ((home.each_view j u at_u).gone (others_gone last j u apart at_u)).0)) ∙ home.tally t k h);
     all_takes = λ last b k h some_one below.
         let c = home.each_base b h in
-        let all = total_only (takes_at b k) s.views id v at (λ j u apart at_u. ap (count (is_place b k)) ((home.each_view j u at_u).gone (others_gone last j u apart at_u)).1.1) in
+        let all = total_only (takes_at b k) s.views id v at (λ j u apart at_u. ap (count (is_place b k))
+            ((home.each_view j u at_u).gone (others_gone last j u apart at_u)).1.1) in
         omega (arith, all, c.each k, in_range k c.taken some_one (omega (arith, fits.met b h, c.number, c.once)));
   }

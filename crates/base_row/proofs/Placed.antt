@@ -36,10 +36,13 @@ placed_after bases c id t (events.Forward reading interval) fits here = here
 placed_after bases c id t (events.Finish restart) fits here = here
 
 module _ (bases count : ℕ) where
-  pub placed : (w : System) (log : List TimerEntry) → ((t : ℕ) → (w.timers t).base < bases) → AreSystemSteps bases count w log → (t : ℕ) → ((after_entries w log).timers t).base < bases
+  pub placed : (w : System) (log : List TimerEntry) → ((t : ℕ) → (w.timers t).base < bases) → AreSystemSteps bases count w log → (t : ℕ)
+      → ((after_entries w log).timers t).base < bases
   placed w [] first all t = first t
   placed w (e ∷ es) first all t = placed (after_entry w e) es (λ k. ⊎_elim
-      (λ (same : k ≡ e.timer). subst (λ i. ((after_entry w e).timers i).base < bases) (sym same) (subst (λ (x : Timer). x.base < bases) (sym (timer_here w e)) (placed_after bases (w.bases (w.timers e.timer).base).content e.timer (w.timers e.timer) e.event all.0.base (first e.timer))))
+      (λ (same : k ≡ e.timer). subst (λ i. ((after_entry w e).timers i).base < bases) (sym same)
+          (subst (λ (x : Timer). x.base < bases) (sym (timer_here w e))
+          (placed_after bases (w.bases (w.timers e.timer).base).content e.timer (w.timers e.timer) e.event all.0.base (first e.timer))))
       (λ apart. subst (λ (x : Timer). x.base < bases) (sym (timer_else w e k apart)) (first k))
       (cases_eq k e.timer)) all.1 t
 
@@ -56,11 +59,13 @@ record IsWithin (t : Timer) : Type 0 where
 fresh_left : (t : Timer) → IsFresh t → HasLeft t
 fresh_left t f = record { few = grind (arith, nat_tests, f.armed, f.running, f.still, f.stamp); apart = rw (f.armed, f.running, f.still) refl }
 
-within_all : (bases count : ℕ) (w : System) (log : List TimerEntry) → ((t : ℕ) → IsWithin (w.timers t)) → AreSystemSteps bases count w log → (t : ℕ) → IsWithin ((after_entries w log).timers t)
+within_all : (bases count : ℕ) (w : System) (log : List TimerEntry) → ((t : ℕ) → IsWithin (w.timers t)) → AreSystemSteps bases count w log
+    → (t : ℕ) → IsWithin ((after_entries w log).timers t)
 within_all bases count w [] first all t = first t
 within_all bases count w (e ∷ es) first all t = within_all bases count (after_entry w e) es (λ k. ⊎_elim
     (λ (same : k ≡ e.timer). subst (λ i. IsWithin ((after_entry w e).timers i)) (sym same) (subst (λ (x : Timer). IsWithin x) (sym (timer_here w e))
-    (record { left = left-after (w.timers e.timer) e.event all.0.needs (first e.timer).left; limit = omega (arith, (stamp-after (w.timers e.timer) e.event).1, (first e.timer).limit) })))
+    (record { left = left-after (w.timers e.timer) e.event all.0.needs (first e.timer).left; limit = omega
+        (arith, (stamp-after (w.timers e.timer) e.event).1, (first e.timer).limit) })))
     (λ apart. subst (λ (x : Timer). IsWithin x) (sym (timer_else w e k apart)) (first k))
     (cases_eq k e.timer)) all.1 t
 
@@ -72,7 +77,8 @@ module _ (o : Opening) (v : View BaseContent) (fresh : AreFresh o.timers) (knows
   none_past t past = untouched o.bases (length o.timers) (first_system o.timers) v.seen t past knows.allowed ∙ get_or_past o.timers t no_timer past
 
   left_seen : (t : ℕ) → IsWithin (timer_seen o v t)
-  left_seen = within_all o.bases (length o.timers) (first_system o.timers) v.seen (λ k. record { left = fresh_left (timer_at o.timers k) (fresh.each k); limit = fresh.limit k }) knows.allowed
+  left_seen = within_all o.bases (length o.timers) (first_system o.timers) v.seen
+      (λ k. record { left = fresh_left (timer_at o.timers k) (fresh.each k); limit = fresh.limit k }) knows.allowed
 
   -- each timer that was seen has a word
   pub has_word : 0 < o.bases → o.bases ≤ 256 → (t : ℕ) → IsWord (word_of (timer_seen o v t))
@@ -82,33 +88,40 @@ module _ (o : Opening) (v : View BaseContent) (fresh : AreFresh o.timers) (knows
       record { stamp = omega (arith, left.left.few, left.limit); base = omega (arith, placed, few); apart = left.left.apart }
 
   -- a timer's number is read back as its word
-  pub reads_back : 0 < o.bases → o.bases ≤ 256 → (t number : ℕ) → number ≡ number_of (timer_seen o v t) → (r : Option TimerWord) → ((w : TimerWord) → IsWord w → packed w ≡ number → r ≡ Some w)
+  pub reads_back : 0 < o.bases → o.bases ≤ 256 → (t number : ℕ) → number ≡ number_of (timer_seen o v t) → (r : Option TimerWord)
+      → ((w : TimerWord) → IsWord w → packed w ≡ number → r ≡ Some w)
       → r ≡ Some (word_of (timer_seen o v t))
   unfolding number_of
   reads_back some few t number is r back = back (word_of (timer_seen o v t)) (has_word some few t) (sym is)
 
   module _ (h : Locked BaseContent) (held : v.held ≡ Some h) where
     pub content_held : IsContentOf (timer_seen o v) h.base h.content.content
-    content_held = subst (λ (b : BaseContent). IsContentOf (timer_seen o v) h.base b.content) (sym (knows.held h held).1.0) ((agrees o.bases o.timers v.seen fresh.each knows.allowed).contents h.base)
+    content_held = subst (λ (b : BaseContent). IsContentOf (timer_seen o v) h.base b.content) (sym (knows.held h held).1.0)
+        ((agrees o.bases o.timers v.seen fresh.each knows.allowed).contents h.base)
 
-    pub first_next : (reading : ClockReading) (r : Option (ℕ × ℕ)) → r ≡ first_due h.content.content reading → IfSome r (λ p. IsNextDue (timer_seen o v) h.base reading p.1)
+    pub first_next : (reading : ClockReading) (r : Option (ℕ × ℕ)) → r ≡ first_due h.content.content reading
+        → IfSome r (λ p. IsNextDue (timer_seen o v) h.base reading p.1)
     first_next reading None is = tt
     first_next reading (Some p) is = (first_due-next (timer_seen o v) h.base reading h.content.content p content_held (sym is)).0
 
-    pub first_seen : (reading : ClockReading) (r : Option (ℕ × ℕ)) → r ≡ first_due h.content.content reading → r ≡ first_due ((now o.bases o.timers number_of v.seen).bases h.base).content reading
+    pub first_seen : (reading : ClockReading) (r : Option (ℕ × ℕ)) → r ≡ first_due h.content.content reading
+        → r ≡ first_due ((now o.bases o.timers number_of v.seen).bases h.base).content reading
     first_seen reading r is = is ∙ ap (λ (b : BaseContent). first_due b.content reading) (knows.held h held).1.0
 
-    pub first_expires : (reading : ClockReading) (r : Option (ℕ × ℕ)) → r ≡ first_due h.content.content reading → IfSome r (λ p. p.0 ≡ (timer_seen o v p.1).expires)
+    pub first_expires : (reading : ClockReading) (r : Option (ℕ × ℕ)) → r ≡ first_due h.content.content reading
+        → IfSome r (λ p. p.0 ≡ (timer_seen o v p.1).expires)
     first_expires reading None is = tt
     first_expires reading (Some p) is = (first_due-next (timer_seen o v) h.base reading h.content.content p content_held (sym is)).1
 
     pub first_within : (reading : ClockReading) (r : Option (ℕ × ℕ)) → r ≡ first_due h.content.content reading → IfSome r (λ p. p.1 < length o.timers)
     first_within reading None is = tt
     first_within reading (Some p) is = ⊎_elim (λ inside. inside)
-        (λ past. absurd (false≢true (subst (λ (x : Timer). is_due_on h.base reading x ≡ true) (none_past p.1 past) (first_due-next (timer_seen o v) h.base reading h.content.content p content_held (sym is)).0.due)))
+        (λ past. absurd (false≢true (subst (λ (x : Timer). is_due_on h.base reading x ≡ true) (none_past p.1 past)
+            (first_due-next (timer_seen o v) h.base reading h.content.content p content_held (sym is)).0.due)))
         (cases_lt p.1 (length o.timers))
 
-    pub first_none : (reading : ClockReading) (r : Option (ℕ × ℕ)) → r ≡ first_due h.content.content reading → IfNone r ((t : ℕ) → is_due_on h.base reading (timer_seen o v t) ≡ false)
+    pub first_none : (reading : ClockReading) (r : Option (ℕ × ℕ)) → r ≡ first_due h.content.content reading
+        → IfNone r ((t : ℕ) → is_due_on h.base reading (timer_seen o v t) ≡ false)
     first_none reading None is = first_due-none (timer_seen o v) h.base reading h.content.content content_held (sym is)
     first_none reading (Some p) is = tt
 
@@ -120,7 +133,8 @@ module _ (o : Opening) (v : View BaseContent) (fresh : AreFresh o.timers) (knows
         named_here m = grind (arith, nat_tests)
 
     pub running_idle : (r : Option (ℕ × ℕ)) → r ≡ h.content.content.running → IfNone r ((t : ℕ) → runs_on h.base (timer_seen o v t) ≡ false)
-    running_idle None is = λ t. idle (timer_seen o v t).running (nat_eq (timer_seen o v t).base h.base) (sym (content_held.running t) ∙ ap (generation_in t) (sym is))
+    running_idle None is = λ t. idle (timer_seen o v t).running (nat_eq (timer_seen o v t).base h.base) (sym (content_held.running t)
+        ∙ ap (generation_in t) (sym is))
       where
         idle : (r : Option ℕ) (b : Bool) → (if b then r else None) ≡ None → (is_some r && b) ≡ false
         idle None b e = refl

@@ -45,7 +45,8 @@ greater_len (x ∷ xs) (y ∷ ys) = omega (arith, greater_len xs ys)
 
 module _ (bases : ℕ) (opened : List Timer) (code : Timer → ℕ) where
   -- a view that has nothing of its own fits, with what was seen and met
-  fits_reader : (log : List TimerEntry) (words : List ℕ) (pass : PassId) (opening : Opening) (v : View BaseContent) → PassHolds bases opened code log words v → (pass.live ≡ true → length v.met ≡ bases)
+  fits_reader : (log : List TimerEntry) (words : List ℕ) (pass : PassId) (opening : Opening) (v : View BaseContent)
+      → PassHolds bases opened code log words v → (pass.live ≡ true → length v.met ≡ bases)
       → PassHolds bases opened code log words record { id = pass; opening = opening; seen = v.seen; heard = []; mine = []; claims = []; held = None; carry = None; takes = []; met = v.met }
   fits_reader log words pass opening v fits full = record {
     seen = fits.seen;
@@ -59,7 +60,8 @@ module _ (bases : ℕ) (opened : List Timer) (code : Timer → ℕ) where
     gone = λ off. (refl, (refl, refl));
   }
 
-  fits_split : (log : List TimerEntry) (words : List ℕ) (v : View BaseContent) → PassHolds bases opened code log words v → PassHolds bases opened code log words (split_view v)
+  fits_split : (log : List TimerEntry) (words : List ℕ) (v : View BaseContent) → PassHolds bases opened code log words v
+      → PassHolds bases opened code log words (split_view v)
   fits_split log words v fits = record {
     seen = fits.seen;
     heard = fits.heard;
@@ -76,7 +78,8 @@ module _ (bases : ℕ) (opened : List Timer) (code : Timer → ℕ) where
   splits id v live s (log, home) at =
       let fits = home.each_view id v at in (
         log,
-        grown bases opened code log s home id v (split_view v) (new_view v) at (fits_split log s.words v fits) (fits_reader log s.words (row_pass_id (new_view v)) v.opening v fits (λ t. fits.full live))
+        grown bases opened code log s home id v (split_view v) (new_view v) at (fits_split log s.words v fits)
+            (fits_reader log s.words (row_pass_id (new_view v)) v.opening v fits (λ t. fits.full live))
             (splits_tree (map row_pass_id s.views) home.tree id (row_pass_id v) (at_map row_pass_id s.views id v at) live)
             (record { places = λ t k. refl; claims = λ t g b. refl; holds = λ b. refl; takes = λ b k. refl; carries = λ t. refl }),
       )
@@ -85,8 +88,11 @@ module _ (bases : ℕ) (opened : List Timer) (code : Timer → ℕ) where
   notes id v s (log, home) at =
       let fits = home.each_view id v at in (
         log,
-        grown bases opened code log s home id v v (note_of v) at fits (fits_reader log s.words gone_pass_id no_opening v fits (λ t. absurd (true≢false (sym t))))
-            (subst (λ ls. IsPassTree (ls ++ gone_pass_id ∷ [])) (sym (set_again (map row_pass_id s.views) id (row_pass_id v) (at_map row_pass_id s.views id v at))) (gone_tree (map row_pass_id s.views) home.tree))
+        grown bases opened code log s home id v v (note_of v) at fits
+            (fits_reader log s.words gone_pass_id no_opening v fits (λ t. absurd (true≢false (sym t))))
+            (subst (λ ls. IsPassTree (ls ++ gone_pass_id ∷ []))
+                (sym (set_again (map row_pass_id s.views) id (row_pass_id v) (at_map row_pass_id s.views id v at)))
+                (gone_tree (map row_pass_id s.views) home.tree))
             (record { places = λ t k. refl; claims = λ t g b. refl; holds = λ b. refl; takes = λ b k. refl; carries = λ t. refl }),
       )
 
@@ -103,7 +109,8 @@ module _ (bases : ℕ) (opened : List Timer) (code : Timer → ℕ) where
     gone = λ off. (refl, (refl, refl));
   }
 
-  fits_joined : (log : List TimerEntry) (words : List ℕ) (v u : View BaseContent) → v.id.live ≡ true → v.held ≡ None → u.held ≡ None → PassHolds bases opened code log words v → PassHolds bases opened code log words u
+  fits_joined : (log : List TimerEntry) (words : List ℕ) (v u : View BaseContent) → v.id.live ≡ true → v.held ≡ None → u.held ≡ None
+      → PassHolds bases opened code log words v → PassHolds bases opened code log words u
       → PassHolds bases opened code log words (joined_view v u)
   fits_joined log words v u live idle idle_u fits fits_u = record {
     seen = fits.seen;
@@ -118,22 +125,26 @@ module _ (bases : ℕ) (opened : List Timer) (code : Timer → ℕ) where
         let none_u : holds_at b u ≡ 0 = ap (held_in b) idle_u in
         ⊎_elim
         (λ t. omega (arith, fits.takes b k t, greater_at v.met u.met b))
-        (λ z. omega (arith, fits_u.takes b k (omega (arith, total-append (λ (p : ℕ × ℕ). one_if (is_place b k p)) v.takes u.takes)), greater_at v.met u.met b))
+        (λ z. omega (arith, fits_u.takes b k (omega (arith, total-append (λ (p : ℕ
+            × ℕ). one_if (is_place b k p)) v.takes u.takes)), greater_at v.met u.met b))
         (cases_lt 0 (takes_at b k v));
     gone = λ off. absurd (true≢false (sym live ∙ off));
   }
 
-  pub joins : (id other : ℕ) (v u : View BaseContent) → v.id.live ≡ true → u.id.live ≡ true → v.held ≡ None → u.held ≡ None → u.carry ≡ None → AnswersFor v.id u.id
+  pub joins : (id other : ℕ) (v u : View BaseContent) → v.id.live ≡ true → u.id.live ≡ true → v.held ≡ None → u.held ≡ None
+      → u.carry ≡ None → AnswersFor v.id u.id
       → Joins (HasOneHistory bases opened code) id v other u (joined_view v u) gone_view
   joins id other v u live live_u idle idle_u empty answers s (log, home) at apart at_other =
       let at_u : get_elem? s.views other ≡ some u = sym (set_else s.views id other (joined_view v u) apart) ∙ at_other in
       let lines_at : get_elem? (set (map row_pass_id s.views) id (row_pass_id (joined_view v u))) other ≡ some (row_pass_id u) =
-      ap (λ ls. get_elem? ls other) (sym (map-set row_pass_id s.views id (joined_view v u))) ∙ at_map row_pass_id (set s.views id (joined_view v u)) other u at_other in (
+      ap (λ ls. get_elem? ls other) (sym (map-set row_pass_id s.views id (joined_view v u)))
+          ∙ at_map row_pass_id (set s.views id (joined_view v u)) other u at_other in (
         log,
         merged bases opened code log s home id other v (joined_view v u) u gone_view at at_other
             (fits_joined log s.words v u live idle idle_u (home.each_view id v at) (home.each_view other u at_u))
             (fits_gone log s.words)
-            (joins_tree (map row_pass_id s.views) home.tree id other (row_pass_id v) (row_pass_id u) (at_map row_pass_id s.views id v at) live apart lines_at live_u answers)
+            (joins_tree (map row_pass_id s.views) home.tree id other (row_pass_id v) (row_pass_id u)
+                (at_map row_pass_id s.views id v at) live apart lines_at live_u answers)
             (record {
               places = λ t k. omega (arith, total-append (λ (p : ℕ × ℕ). one_if (is_place t k p)) v.mine u.mine);
               claims = λ t g b. omega (arith, total-append (λ (p : Claimed). one_if (is_claim t g b p)) v.claims u.claims);
@@ -152,13 +163,16 @@ module _ (bases : ℕ) (opened : List Timer) (code : Timer → ℕ) where
       let fits_u = home.each_view other u at_u in
       let line_at : get_elem? (map row_pass_id s.views) other ≡ some gone_pass_id = at_map row_pass_id s.views other u at_u in
       let lines : set (set (map row_pass_id s.views) id (row_pass_id v)) other gone_pass_id ≡ map row_pass_id s.views =
-      ap (λ ls. set ls other gone_pass_id) (set_again (map row_pass_id s.views) id (row_pass_id v) (at_map row_pass_id s.views id v at)) ∙ set_again (map row_pass_id s.views) other gone_pass_id line_at in (
+      ap (λ ls. set ls other gone_pass_id) (set_again (map row_pass_id s.views) id (row_pass_id v) (at_map row_pass_id s.views id v at))
+          ∙ set_again (map row_pass_id s.views) other gone_pass_id line_at in (
         log,
         merged bases opened code log s home id other v (told_view v u) u gone_view at at_other
             (record {
               seen = fits.seen;
               heard = fits_u.seen;
-              held = λ h e. let t = fits.held h e in record { within = t.within; seen = t.seen; whole = t.whole; word = omega (arith, t.word, greater_at v.met u.met h.base, fits_u.met h.base t.within); number = omega (arith, t.number, t.word, greater_at v.met u.met h.base, fits_u.met h.base t.within) };
+              held = λ h e. let t = fits.held h e in record { within = t.within; seen = t.seen; whole = t.whole; word = omega
+                  (arith, t.word, greater_at v.met u.met h.base, fits_u.met h.base t.within); number = omega
+                  (arith, t.number, t.word, greater_at v.met u.met h.base, fits_u.met h.base t.within) };
               carry = fits.carry;
               wide = omega (arith, greater_len v.met u.met, fits.wide, fits_u.wide);
               full = λ alive. omega (arith, greater_len v.met u.met, fits.full alive, fits_u.wide);

@@ -59,7 +59,8 @@ pub record Appended (o : Opening) (h : Locked BaseContent) (t : ℕ) (event : Ev
   pub before : List TimerEntry
   pub seen : Begins v.seen before
   pub own : entries_of t before ≡ entries_of t v.seen
-  pub rest : w ≡ having_entered before (entry_in o v t event) (timer_seen o v t) h (claims_after t (timer_seen o v t) event v.claims) (carry_after t (timer_seen o v t) event v.carry) v
+  pub rest : w ≡ having_entered before (entry_in o v t event) (timer_seen o v t) h (claims_after t (timer_seen o v t) event v.claims)
+      (carry_after t (timer_seen o v t) event v.carry) v
 
 -- what callers see of what a pass knows
 abbrev pub known_of : View BaseContent → Known TimerEntry Claimed

@@ -22,7 +22,8 @@ having_met seen met v = record v { seen = seen; heard = []; met = met }
 
 -- a pass that has taken a base's lock
 abbrev pub having_taken : List TimerEntry → ℕ → BaseContent → ℕ → ℕ → View BaseContent → View BaseContent
-having_taken seen b content number word v = record v { seen = seen; heard = []; held = Some (record { base = b; word = word; content = content }); takes = v.takes ++ (b, number) ∷ []; met = set v.met b word }
+having_taken seen b content number word v = record v { seen = seen; heard = []; held = Some
+    (record { base = b; word = word; content = content }); takes = v.takes ++ (b, number) ∷ []; met = set v.met b word }
 
 -- a pass that has let a base go
 abbrev pub having_freed : List TimerEntry → ℕ → ℕ → View BaseContent → View BaseContent
@@ -95,7 +96,8 @@ module _ (bases : ℕ) (opened : List Timer) (code : Timer → ℕ) where
   -- What is known of what a pass knows.
   pub record Knows (v : View BaseContent) : Type 0 where
     pub allowed : AreSystemSteps bases (length opened) (first_system opened) v.seen
-    pub held : (h : Locked BaseContent) → v.held ≡ Some h → (h.base < bases) × ((h.content ≡ (now bases opened code v.seen).bases h.base) × (h.word ≡ slice_index v.met h.base))
+    pub held : (h : Locked BaseContent) → v.held ≡ Some h → (h.base < bases) × ((h.content ≡ (now bases opened code v.seen).bases h.base)
+        × (h.word ≡ slice_index v.met h.base))
     pub carry : (t : ℕ) → t < length opened → v.carry ≡ Some t → ((now bases opened code v.seen).timers t).moving ≡ true
     pub claims : (t g b : ℕ) → t < length opened → 0 < claims_at t g b v → runs g b ((now bases opened code v.seen).timers t) ≡ true
     -- the last pass has made each entry, each once, and each take
@@ -103,7 +105,8 @@ module _ (bases : ℕ) (opened : List Timer) (code : Timer → ℕ) where
     pub all_takes : IsLast v.id → (b k : ℕ) → b < bases → 0 < k → k + k ≤ slice_index v.met b + 1 → takes_at b k v ≡ 1
 
   -- a load of word 0 or of a timer's word
-  pub record Looked (st : Step (Option BaseContent)) (me : Me (Option BaseContent) (View BaseContent)) (found : ℕ) (new : Me (Option BaseContent) (View BaseContent)) : Type 0 where
+  pub record Looked (st : Step (Option BaseContent)) (me : Me (Option BaseContent) (View BaseContent)) (found : ℕ)
+      (new : Me (Option BaseContent) (View BaseContent)) : Type 0 where
     pub rest : new ≡ (having_met new.0.seen me.0.met me.0, me.1)
     pub seen : Begins me.0.seen new.0.seen
     pub heard : Begins me.0.heard new.0.seen
@@ -138,7 +141,8 @@ module _ (bases : ℕ) (opened : List Timer) (code : Timer → ℕ) where
     pub met : Met b me found new
     pub missed : Missed me.0 b old found
 
-  pub record Freed (h : Locked BaseContent) (me : Me (Option BaseContent) (View BaseContent)) (new : Me (Option BaseContent) (View BaseContent)) : Type 0 where
+  pub record Freed (h : Locked BaseContent) (me : Me (Option BaseContent) (View BaseContent))
+      (new : Me (Option BaseContent) (View BaseContent)) : Type 0 where
     pub rest : new ≡ (having_freed new.0.seen h.base (slice_index me.0.met h.base + 1) me.0, rest me.1)
     pub seen : Begins me.0.seen new.0.seen
     -- of the timers on the base nothing more was seen
@@ -194,7 +198,8 @@ module _ (bases : ℕ) (opened : List Timer) (code : Timer → ℕ) where
     pub carries : (seen_timer v e.timer).moving ≡ true → v.carry ≡ Some e.timer
 
   -- what the store of a timer's word tells
-  pub record Entered (h : Locked BaseContent) (e : TimerEntry) (claims : List Claimed) (carry : Option ℕ) (me : Me (Option BaseContent) (View BaseContent)) (new : Me (Option BaseContent) (View BaseContent)) : Type 0 where
+  pub record Entered (h : Locked BaseContent) (e : TimerEntry) (claims : List Claimed) (carry : Option ℕ)
+      (me : Me (Option BaseContent) (View BaseContent)) (new : Me (Option BaseContent) (View BaseContent)) : Type 0 where
     pub before : List TimerEntry
     pub seen : Begins me.0.seen before
     pub own : entries_of e.timer before ≡ entries_of e.timer me.0.seen
@@ -207,10 +212,12 @@ module _ (bases : ℕ) (opened : List Timer) (code : Timer → ℕ) where
 
   -- the store tells so of an entry with its own claims and carry
   abbrev pub EntersAs : Locked BaseContent → ℕ → Event → Me (Option BaseContent) (View BaseContent) → Me (Option BaseContent) (View BaseContent) → Type 0
-  EntersAs h t event me new = Entered h (entry_of me.0 t event) (claims_after t (seen_timer me.0 t) event me.0.claims) (carry_after t (seen_timer me.0 t) event me.0.carry) me new
+  EntersAs h t event me new = Entered h (entry_of me.0 t event) (claims_after t (seen_timer me.0 t) event me.0.claims)
+      (carry_after t (seen_timer me.0 t) event me.0.carry) me new
 
 abbrev pub EntersBy : Event → Step (Option BaseContent) → Me (Option BaseContent) (View BaseContent) → Me (Option BaseContent) (View BaseContent) → Type 0
-EntersBy event st me new = (h : Locked BaseContent) (t : ℕ) → me.0.held ≡ Some h → st.word ≡ word_at me.0.opening.bases t → EntersAs me.0.opening.bases me.0.opening.timers number_of h t event me new
+EntersBy event st me new = (h : Locked BaseContent) (t : ℕ) → me.0.held ≡ Some h → st.word ≡ word_at me.0.opening.bases t
+    → EntersAs me.0.opening.bases me.0.opening.timers number_of h t event me new
 
 -- the slot that a pass carries while it holds a base: it is empty
 abbrev pub slots_of : Option (Locked BaseContent) → List (ℕ × Option BaseContent)
@@ -235,9 +242,11 @@ LooksOwn st me found new = Looked me.0.opening.bases me.0.opening.timers number_
 abbrev pub MeetsOwn : Step (Option BaseContent) → Me (Option BaseContent) (View BaseContent) → ℕ → Me (Option BaseContent) (View BaseContent) → Type 0
 MeetsOwn st me found new = (b : ℕ) → st.word ≡ lock_at b → Met me.0.opening.bases me.0.opening.timers number_of b me found new
 
-abbrev pub TakesAt : Opening → ℕ → Step (Option BaseContent) → Me (Option BaseContent) (View BaseContent) → ℕ → Me (Option BaseContent) (View BaseContent) → Type 0
+abbrev pub TakesAt : Opening → ℕ → Step (Option BaseContent) → Me (Option BaseContent) (View BaseContent) → ℕ
+    → Me (Option BaseContent) (View BaseContent) → Type 0
 TakesAt o b st me found new =
-    MatchBool (found == st.first) ((k : ℕ) × (st.first + 2 ≡ k + k) × Hit o.bases o.timers number_of b k (st.first + 1) me new) (Miss o.bases o.timers number_of b st.first me found new)
+    MatchBool (found == st.first) ((k : ℕ) × (st.first + 2 ≡ k + k)
+        × Hit o.bases o.timers number_of b k (st.first + 1) me new) (Miss o.bases o.timers number_of b st.first me found new)
 
 abbrev pub TakesOwn : Step (Option BaseContent) → Me (Option BaseContent) (View BaseContent) → ℕ → Me (Option BaseContent) (View BaseContent) → Type 0
 TakesOwn st me found new = (b : ℕ) → st.word ≡ lock_at b → TakesAt me.0.opening b st me found new
@@ -249,7 +258,8 @@ FreesOwn st me stored new = (h : Locked BaseContent) → me.0.held ≡ Some h �
 pub record Caught (o : Opening) (base : ℕ) (me new : Me (Option BaseContent) (View BaseContent)) (h : Locked BaseContent) : Type 0 where
   pub at : h.base ≡ base
   pub number : ℕ
-  pub rest : new ≡ (record me.0 { seen = new.0.seen; heard = []; held = Some h; takes = me.0.takes ++ (base, number) ∷ []; met = new.0.met }, slots_of (Some h))
+  pub rest : new ≡ (record me.0 { seen = new.0.seen; heard = []; held = Some h; takes = me.0.takes ++
+      (base, number) ∷ []; met = new.0.met }, slots_of (Some h))
   pub word : slice_index new.0.met base + 1 ≡ number + number
   pub newer : slice_index me.0.met base ≤ slice_index new.0.met base
   pub apart : (c : ℕ) → c ≢ base → slice_index new.0.met c ≡ slice_index me.0.met c

@@ -56,7 +56,8 @@ abbrev pub runs : ℕ → ℕ → Timer → Bool
 runs g b t = is_generation g t.running && (t.base == b)
 
 -- A base's lock word, slot, holders and takes. The word is twice the number of takes, less one while the base is held.
-pub record LockState (content : BaseContent) (home : mathlib.Core.Option.Option (mathlib.Core.Option.Option (Option BaseContent))) (word held : ℕ) (takes : ℕ → ℕ) : Type 0 where
+pub record LockState (content : BaseContent) (home : mathlib.Core.Option.Option (mathlib.Core.Option.Option (Option BaseContent)))
+    (word held : ℕ) (takes : ℕ → ℕ) : Type 0 where
   pub taken : ℕ
   pub number : word + held ≡ taken + taken
   pub once : held ≤ 1
@@ -102,7 +103,8 @@ module _ (bases : ℕ) (opened : List Timer) (code : Timer → ℕ) where
     pub allowed : AreSystemSteps bases (length opened) (first_system opened) log
     pub words_len : length s.words ≡ word_at bases (length opened)
     pub homes_len : length s.homes ≡ bases
-    pub each_base : (b : ℕ) → b < bases → LockState ((now log).bases b) (get_elem? s.homes b) (slice_index s.words (lock_at b)) (total (holds_at b) s.views) (λ k. total (takes_at b k) s.views)
+    pub each_base : (b : ℕ) → b < bases → LockState ((now log).bases b) (get_elem? s.homes b) (slice_index s.words (lock_at b))
+        (total (holds_at b) s.views) (λ k. total (takes_at b k) s.views)
     -- a timer's word is that of its state after the history
     pub each_timer : (t : ℕ) → t < length opened → slice_index s.words (word_at bases t) ≡ code ((now log).timers t)
     pub each_view : (j : ℕ) (v : View BaseContent) → get_elem? s.views j ≡ some v → PassHolds log s.words v

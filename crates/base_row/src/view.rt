@@ -1,3 +1,4 @@
+//! What passes of a row know, as plain data.
 use pass_names::PassId;
 use seq_timer::{TimerEntry, TimerState};
 use std::collections::LinkedList;

@@ -1,5 +1,5 @@
 -- After each history of all timers the bases agree with the timers, and each timer's part is a history of that timer.
-use Rattle.std.proofs.Common.{◌≡◌, ◌≢◌, ℕ, zero, suc, Bool, true, false, List, [], ◌∷◌, length, Option, Some, None, nat_eq, is_some, ◌&&◌, map, refl, ap, sym, ◌∙◌, subst, ◌⊎◌, inl, inr, ◌≤◌, ◌^◌, ◌-◌, ⊎_elim, arith, if◌then◌else◌}
+use Rattle.std.proofs.Common.{◌≡◌, ℕ, zero, suc, true, List, [], ◌∷◌, length, Option, Some, None, nat_eq, map, refl, ap, sym, ◌∙◌, subst, ◌⊎◌, inl, inr, ◌≤◌, ⊎_elim, arith, if◌then◌else◌}
 use Rattle.std.specs.Prelude.{slice_get}
 use Rattle.std.specs.List.{IsDistinct}
 use Rattle.std.proofs.lemmas.List.{length-map}
@@ -15,7 +15,7 @@ use Rattle.seq_timer.specs.Tables.{timer_at, runs_on}
 use Rattle.timer_queue.specs.Pairs.{expiry_of, IsByExpiry}
 use Rattle.seq_timer.specs.Contents.{Content, IsContentOf, IsFreeFor, content_after, generation_in, no_content, queue_of, running_on, wanted}
 use Rattle.seq_timer.specs.Histories as seq
-use Rattle.seq_timer.specs.Systems.{AreSystemSteps, BaseContent, FitsBase, IsFresh, IsSystemHistory, IsSystemStep, System, after_entries, after_entry, changed, entries_of, first_system, no_base, openings, system_after, system_of}
+use Rattle.seq_timer.specs.Systems.{AreSystemSteps, BaseContent, FitsBase, IsFresh, IsSystemHistory, IsSystemStep, System, after_entries, after_entry, changed, entries_of, first_system, openings, system_after, system_of}
 use Rattle.seq_timer.proofs.Contents.{Changes, IsApart, IsContentOf-after, IsContentOf-elsewhere, apart-after}
 use Rattle.seq_timer.proofs.Limits.{stamp-after_all}
 use Rattle.seq_timer.proofs.Systems.{after_entries-entries_of, base_else, base_here, timer_else, timer_here}
@@ -53,13 +53,16 @@ module _ (bases count : ℕ) where
       record {
         contents = λ b. ⊎_elim
             (λ (q : b ≡ t.base). subst (λ x. IsContentOf w'.timers x (w'.bases x).content) (sym q)
-            (subst (λ c. IsContentOf w'.timers t.base c) (sym (ap (λ (x : BaseContent). x.content) (base_here w e) ∙ content_of_changed id t e.event (w.bases t.base)))
-            (IsContentOf-after w.timers w'.timers id e.event (w.bases t.base).content ok.needs (agrees.apart id) (free_for bases (w.bases t.base).content id t e.event ok.base) changes (agrees.contents t.base))))
+            (subst (λ c. IsContentOf w'.timers t.base c) (sym (ap (λ (x : BaseContent). x.content) (base_here w e)
+                ∙ content_of_changed id t e.event (w.bases t.base)))
+            (IsContentOf-after w.timers w'.timers id e.event (w.bases t.base).content ok.needs (agrees.apart id)
+                (free_for bases (w.bases t.base).content id t e.event ok.base) changes (agrees.contents t.base))))
             (λ n. subst (λ (x : BaseContent). IsContentOf w'.timers b x.content) (sym (base_else w e b n))
             (IsContentOf-elsewhere w.timers w'.timers id e.event b (w.bases b).content ok.needs n changes (agrees.contents b)))
             (cases_eq b t.base);
         apart = λ k. ⊎_elim
-            (λ (q : k ≡ id). subst (λ x. IsApart (w'.timers x)) (sym q) (subst IsApart (sym (timer_here w e)) (apart-after t e.event ok.needs (agrees.apart id))))
+            (λ (q : k ≡ id). subst (λ x. IsApart (w'.timers x)) (sym q)
+                (subst IsApart (sym (timer_here w e)) (apart-after t e.event ok.needs (agrees.apart id))))
             (λ n. subst IsApart (sym (timer_else w e k n)) (agrees.apart k))
             (cases_eq k id);
       }
@@ -75,9 +78,11 @@ module _ (bases count : ℕ) where
       let rest : seq.AreSteps ((after_entry w e).timers t) (entries_of t es) = parts (after_entry w e) es all.1 t in
       let here : seq.Entry = record { event = e.event; reply = e.reply } in
       ⊎_elim
-      (λ (same : t ≡ e.timer). subst (λ b. seq.AreSteps (w.timers t) (if b then here ∷ entries_of t es else entries_of t es)) (sym (eq-eqb e.timer t (sym same)))
+      (λ (same : t ≡ e.timer). subst (λ b. seq.AreSteps (w.timers t) (if b then here ∷ entries_of t es else entries_of t es))
+          (sym (eq-eqb e.timer t (sym same)))
       (subst (λ k. seq.AreSteps (w.timers k) (here ∷ entries_of k es)) (sym same)
-      (all.0.needs, all.0.reply, subst (λ x. seq.AreSteps x (entries_of e.timer es)) (timer_here w e) (subst (λ k. seq.AreSteps ((after_entry w e).timers k) (entries_of k es)) same rest))))
+      (all.0.needs, all.0.reply, subst (λ x. seq.AreSteps x (entries_of e.timer es)) (timer_here w e)
+          (subst (λ k. seq.AreSteps ((after_entry w e).timers k) (entries_of k es)) same rest))))
       (λ n. subst (λ b. seq.AreSteps (w.timers t) (if b then here ∷ entries_of t es else entries_of t es)) (sym (ne_eqb e.timer t (λ q. n (sym q))))
       (subst (λ x. seq.AreSteps x (entries_of t es)) (timer_else w e t n) rest))
       (cases_eq t e.timer)
@@ -108,11 +113,13 @@ agrees_first opened fresh = record {
     no_one b id = grind (arith, nat_tests, (fresh id).running)
 
 -- and after every history of them
-pub agrees : (bases : ℕ) (opened : List Timer) (log : List TimerEntry) → ((t : ℕ) → IsFresh (timer_at opened t)) → AreSystemSteps bases (length opened) (first_system opened) log → Agrees (system_after opened log)
+pub agrees : (bases : ℕ) (opened : List Timer) (log : List TimerEntry) → ((t : ℕ) → IsFresh (timer_at opened t))
+    → AreSystemSteps bases (length opened) (first_system opened) log → Agrees (system_after opened log)
 agrees bases opened log fresh all = agrees_all bases (length opened) (first_system opened) log all (agrees_first opened fresh)
 
 -- each timer is first as it was declared
-opening_at : (list : List ClockId) (limit t : ℕ) → (clock : ClockId) × (most : ℕ) × (timer_at (openings list limit) t ≡ opening clock most) × (most ≤ limit ⊎ (most ≡ 1))
+opening_at : (list : List ClockId) (limit t : ℕ) → (clock : ClockId) × (most : ℕ) × (timer_at (openings list limit) t ≡ opening clock most)
+    × (most ≤ limit ⊎ (most ≡ 1))
 opening_at [] limit t = (clocks.Monotonic, 1, refl, inr refl)
 opening_at (clock ∷ rest) limit zero = (clock, limit, refl, inl (omega arith))
 opening_at (clock ∷ rest) limit (suc t) = opening_at rest limit t
@@ -141,21 +148,27 @@ first_agrees list limit = agrees_first (openings list limit) (all_fresh list lim
 
 module _ (bases limit : ℕ) (list : List ClockId) (log : List TimerEntry) (history : IsSystemHistory bases list limit log) where
   pub part_legal : (t : ℕ) (clock : ClockId) → slice_get list t ≡ Some clock → seq.IsLegal clock limit (entries_of t log)
-  part_legal t clock here = subst (λ x. seq.AreSteps x (entries_of t log)) (opened_at list limit t clock here) (parts bases (length list) (first_system (openings list limit)) log history t)
+  part_legal t clock here = subst (λ x. seq.AreSteps x (entries_of t log)) (opened_at list limit t clock here)
+      (parts bases (length list) (first_system (openings list limit)) log history t)
 
   pub all_agree : Agrees (system_of list limit log)
-  all_agree = agrees bases (openings list limit) log (all_fresh list limit) (subst (λ n. AreSystemSteps bases n (first_system (openings list limit)) log) (sym (length-map list (λ clock. opening clock limit))) history)
+  all_agree = agrees bases (openings list limit) log (all_fresh list limit)
+      (subst (λ n. AreSystemSteps bases n (first_system (openings list limit)) log) (sym (length-map list (λ clock. opening clock limit))) history)
 
-  pub one_runs : (base t u : ℕ) → runs_on base ((system_of list limit log).timers t) ≡ true → runs_on base ((system_of list limit log).timers u) ≡ true → t ≡ u
+  pub one_runs : (base t u : ℕ) → runs_on base ((system_of list limit log).timers t) ≡ true
+      → runs_on base ((system_of list limit log).timers u) ≡ true → t ≡ u
   one_runs base t u first second =
       let is = (all_agree.contents base).running in
-      one_only (((system_of list limit log).bases base).content.running) base t u ((system_of list limit log).timers t) ((system_of list limit log).timers u) (is t) (is u) first second
+      one_only (((system_of list limit log).bases base).content.running) base t u ((system_of list limit log).timers t)
+          ((system_of list limit log).timers u) (is t) (is u) first second
     where
-      one_only : (r : Option (ℕ × ℕ)) (base t u : ℕ) (x y : Timer) → generation_in t r ≡ running_on base x → generation_in u r ≡ running_on base y → runs_on base x ≡ true → runs_on base y ≡ true → t ≡ u
+      one_only : (r : Option (ℕ × ℕ)) (base t u : ℕ) (x y : Timer) → generation_in t r ≡ running_on base x
+          → generation_in u r ≡ running_on base y → runs_on base x ≡ true → runs_on base y ≡ true → t ≡ u
       one_only None base t u x y a b first second = grind (arith, nat_tests)
       one_only (Some r) base t u x y a b first second = grind (arith, nat_tests)
 
 pub stamp_counts : (limit : ℕ) (list : List ClockId) (log : List TimerEntry) (t : ℕ) → ((system_of list limit log).timers t).stamp ≡ length (entries_of t log)
 stamp_counts limit list log t =
     let first = first_system (openings list limit) in
-    omega (arith, ap (λ (x : Timer). x.stamp) (after_entries-entries_of first t log), stamp-after_all (first.timers t) (entries_of t log), first_stamp list limit t)
+    omega (arith, ap (λ (x : Timer). x.stamp) (after_entries-entries_of first t log), stamp-after_all (first.timers t)
+        (entries_of t log), first_stamp list limit t)

@@ -1,6 +1,6 @@
 -- A history of all timers: an entry leaves other timers and bases as they are, bases keep the timers that are on them, and a timer is what its own
 -- entries lead to.
-use Rattle.std.proofs.Common.{◌≡◌, ℕ, ◌+◌, ◌<◌, ◌≢◌, eqb, Bool, true, false, List, [], ◌∷◌, ◌++◌, length, refl, ap, sym, ◌∙◌, subst, ◌⊎◌, inl, inr, ⊎_elim, arith, if◌then◌else◌}
+use Rattle.std.proofs.Common.{◌≡◌, ℕ, ◌<◌, ◌≢◌, eqb, Bool, true, false, List, [], ◌∷◌, ◌++◌, length, refl, ap, sym, ◌∙◌, subst, ◌⊎◌, inl, inr, ⊎_elim, arith, if◌then◌else◌}
 use Rattle.std.proofs.lemmas.Bool.{cases_eq, ne_eqb, eq-eqb, true≢false}
 use Rattle.std.proofs.lemmas.List.{get_or-set_same, get_or-set_other, length-set}
 use Rattle.seq_timer.specs.declared.event.Event.{Event}
@@ -8,7 +8,6 @@ use Rattle.seq_timer.specs.declared.event.Event.TheVariants as events
 use Rattle.seq_timer.specs.Steps.{Timer, after}
 use Rattle.seq_timer.specs.Tables.{timer_at, no_timer}
 use Rattle.seq_timer.specs.Histories as seq
-use Rattle.seq_timer.proofs.Limits.{stamp-after}
 use Rattle.seq_timer.specs.declared.system.TimerEntry.{TimerEntry}
 use Rattle.seq_timer.specs.Systems.{BaseContent, System, updated, first_system, system_after, changed, after_entry, after_entries, IsSystemStep, AreSystemSteps, entries_of, IsOn, Shows}
 
@@ -28,7 +27,8 @@ pub timer_else : (w : System) (e : TimerEntry) (t : ℕ) → t ≢ e.timer → (
 unfolding after_entry
 timer_else w e t n = updated_else w.timers e.timer t (after (w.timers e.timer) e.event) n
 
-pub base_here : (w : System) (e : TimerEntry) → (after_entry w e).bases (w.timers e.timer).base ≡ changed e.timer (w.timers e.timer) e.event (w.bases (w.timers e.timer).base)
+pub base_here : (w : System) (e : TimerEntry) → (after_entry w e).bases (w.timers e.timer).base ≡ changed e.timer
+    (w.timers e.timer) e.event (w.bases (w.timers e.timer).base)
 unfolding after_entry
 base_here w e = updated_here w.bases (w.timers e.timer).base (changed e.timer (w.timers e.timer) e.event (w.bases (w.timers e.timer).base))
 
@@ -41,7 +41,8 @@ pub states_here : (id : ℕ) (t : Timer) (event : Event) (b : BaseContent) → i
 unfolding changed
 states_here id t event b h = get_or-set_same b.states id (after t event) no_timer h
 
-pub states_else : (id other : ℕ) (t : Timer) (event : Event) (b : BaseContent) → other ≢ id → timer_at (changed id t event b).states other ≡ timer_at b.states other
+pub states_else : (id other : ℕ) (t : Timer) (event : Event) (b : BaseContent) → other ≢ id
+    → timer_at (changed id t event b).states other ≡ timer_at b.states other
 unfolding changed
 states_else id other t event b n = get_or-set_other b.states id other (after t event) no_timer n
 
@@ -65,7 +66,8 @@ after_entries-append w [] ys = refl
 after_entries-append w (x ∷ xs) ys = after_entries-append (after_entry w x) xs ys
 
 module _ (bases count : ℕ) where
-  pub steps_push : (w : System) (es : List TimerEntry) (e : TimerEntry) → AreSystemSteps bases count w es → IsSystemStep bases count (after_entries w es) e → AreSystemSteps bases count w (es ++ e ∷ [])
+  pub steps_push : (w : System) (es : List TimerEntry) (e : TimerEntry) → AreSystemSteps bases count w es
+      → IsSystemStep bases count (after_entries w es) e → AreSystemSteps bases count w (es ++ e ∷ [])
   steps_push w [] e all a = (a, tt)
   steps_push w (x ∷ xs) e all a = (all.0, steps_push (after_entry w x) xs e all.1 a)
 
@@ -103,7 +105,8 @@ module _ (bases count : ℕ) where
             (subst (λ q. (after_entry w e).timers id ≡ timer_at ((after_entry w e).bases q).states id) (sym here)
             (timer_here w e ∙ (sym (states_here id t e.event (w.bases t.base) room) ∙ ap (λ (x : BaseContent). timer_at x.states id) (sym (base_here w e))))))
             (λ there.
-            let on' : IsOn b (timer_at (w.bases b).states id) = subst (λ (x : BaseContent). IsOn b (timer_at x.states id)) (base_else w e b there) (subst (λ q. IsOn b (timer_at ((after_entry w e).bases b).states q)) same on) in
+            let on' : IsOn b (timer_at (w.bases b).states id) = subst (λ (x : BaseContent). IsOn b (timer_at x.states id))
+                (base_else w e b there) (subst (λ q. IsOn b (timer_at ((after_entry w e).bases b).states q)) same on) in
             absurd (there (sym on'.at ∙ ap (λ (x : Timer). x.base) (sym (shows.shown b id ok.within on')))))
             (cases_eq b t.base))
             (λ other.
@@ -111,7 +114,8 @@ module _ (bases count : ℕ) where
             timer_else w e k other ∙ (shows.shown b k h on' ∙ sym (states_same w e b k other)))
             (cases_eq k id);
         wide = λ b. ⊎_elim
-            (λ (here : b ≡ t.base). subst (λ q. length ((after_entry w e).bases q).states ≡ count) (sym here) (ap (λ (x : BaseContent). length x.states) (base_here w e) ∙ (states_len id t e.event (w.bases t.base) ∙ shows.wide t.base)))
+            (λ (here : b ≡ t.base). subst (λ q. length ((after_entry w e).bases q).states ≡ count) (sym here)
+                (ap (λ (x : BaseContent). length x.states) (base_here w e) ∙ (states_len id t e.event (w.bases t.base) ∙ shows.wide t.base)))
             (λ there. ap (λ (x : BaseContent). length x.states) (base_else w e b there) ∙ shows.wide b)
             (cases_eq b t.base);
       }
@@ -130,11 +134,14 @@ module _ (bases count : ℕ) where
   shows_all w [] all shows = shows
   shows_all w (e ∷ es) all shows = shows_all (after_entry w e) es all.1 (shows_next w e all.0 shows)
 
-pub shows : (bases : ℕ) (opened : List Timer) (log : List TimerEntry) → AreSystemSteps bases (length opened) (first_system opened) log → Shows (length opened) (system_after opened log)
-shows bases opened log all = shows_all bases (length opened) (first_system opened) log all (record { kept = λ b t h on. refl; shown = λ b t h on. refl; wide = λ b. refl })
+pub shows : (bases : ℕ) (opened : List Timer) (log : List TimerEntry) → AreSystemSteps bases (length opened) (first_system opened) log
+    → Shows (length opened) (system_after opened log)
+shows bases opened log all = shows_all bases (length opened) (first_system opened) log all
+    (record { kept = λ b t h on. refl; shown = λ b t h on. refl; wide = λ b. refl })
 
 -- A base that has the same after two histories has the same timers on it.
-pub same_on : (count : ℕ) (v w : System) (b t : ℕ) → Shows count v → Shows count w → v.bases b ≡ w.bases b → t < count → IsOn b (v.timers t) → w.timers t ≡ v.timers t
+pub same_on : (count : ℕ) (v w : System) (b t : ℕ) → Shows count v → Shows count w → v.bases b ≡ w.bases b → t < count
+    → IsOn b (v.timers t) → w.timers t ≡ v.timers t
 same_on count v w b t shows_v shows_w same h on =
     let here : timer_at (w.bases b).states t ≡ v.timers t = ap (λ (x : BaseContent). timer_at x.states t) (sym same) ∙ shows_v.kept b t h on in
     shows_w.shown b t h (subst (λ (x : Timer). IsOn b x) (sym here) on) ∙ here
@@ -143,7 +150,8 @@ same_on count v w b t shows_v shows_w same h on =
 
 pub entries_of-append : (t : ℕ) (xs ys : List TimerEntry) → entries_of t (xs ++ ys) ≡ entries_of t xs ++ entries_of t ys
 entries_of-append t [] ys = refl
-entries_of-append t (x ∷ xs) ys = pick (record { event = x.event; reply = x.reply }) (entries_of t (xs ++ ys)) (entries_of t xs) (entries_of t ys) (eqb x.timer t) (entries_of-append t xs ys)
+entries_of-append t (x ∷ xs) ys = pick (record { event = x.event; reply = x.reply }) (entries_of t (xs ++ ys)) (entries_of t xs)
+    (entries_of t ys) (eqb x.timer t) (entries_of-append t xs ys)
   where
     pick : (x : seq.Entry) (a b c : List seq.Entry) (q : Bool) → a ≡ b ++ c → (if q then x ∷ a else a) ≡ (if q then x ∷ b else b) ++ c
     pick x a b c true e = λ i. x ∷ e i
@@ -154,8 +162,11 @@ pub after_entries-entries_of : (w : System) (t : ℕ) (es : List TimerEntry) →
 after_entries-entries_of w t [] = refl
 after_entries-entries_of w t (e ∷ es) =
     ⊎_elim
-    (λ (same : t ≡ e.timer). subst (λ (q : Bool). (after_entries (after_entry w e) es).timers t ≡ seq.after_all (w.timers t) (if q then record { event = e.event; reply = e.reply } ∷ entries_of t es else entries_of t es)) (sym (eq-eqb e.timer t (sym same)))
-    (after_entries-entries_of (after_entry w e) t es ∙ ap (λ (x : Timer). seq.after_all x (entries_of t es)) (subst (λ q. (after_entry w e).timers q ≡ after (w.timers q) e.event) (sym same) (timer_here w e))))
-    (λ n. subst (λ (q : Bool). (after_entries (after_entry w e) es).timers t ≡ seq.after_all (w.timers t) (if q then record { event = e.event; reply = e.reply } ∷ entries_of t es else entries_of t es)) (sym (ne_eqb e.timer t (λ q. n (sym q))))
+    (λ (same : t ≡ e.timer). subst (λ (q : Bool). (after_entries (after_entry w e) es).timers t ≡ seq.after_all (w.timers t)
+        (if q then record { event = e.event; reply = e.reply } ∷ entries_of t es else entries_of t es)) (sym (eq-eqb e.timer t (sym same)))
+    (after_entries-entries_of (after_entry w e) t es ∙ ap (λ (x : Timer). seq.after_all x (entries_of t es))
+        (subst (λ q. (after_entry w e).timers q ≡ after (w.timers q) e.event) (sym same) (timer_here w e))))
+    (λ n. subst (λ (q : Bool). (after_entries (after_entry w e) es).timers t ≡ seq.after_all (w.timers t)
+        (if q then record { event = e.event; reply = e.reply } ∷ entries_of t es else entries_of t es)) (sym (ne_eqb e.timer t (λ q. n (sym q))))
     (after_entries-entries_of (after_entry w e) t es ∙ ap (λ (x : Timer). seq.after_all x (entries_of t es)) (timer_else w e t n)))
     (cases_eq t e.timer)

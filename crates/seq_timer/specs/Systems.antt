@@ -98,7 +98,8 @@ arms t (events.Finish restart) = arms_again t restart
 -- of each timer the number, among all entries, of the one that armed it last; so many entries were before these
 abbrev pub armed_after : System → (ℕ → ℕ) → ℕ → List TimerEntry → ℕ → ℕ
 armed_after w armed count [] = armed
-armed_after w armed count (e ∷ es) = armed_after (after_entry w e) (if arms (w.timers e.timer) e.event then updated armed e.timer (count + 1) else armed) (count + 1) es
+armed_after w armed count (e ∷ es) = armed_after (after_entry w e) (if arms (w.timers e.timer) e.event then updated armed e.timer
+    (count + 1) else armed) (count + 1) es
 
 -- of each timer the number of the entry that armed it last; 0 where none did
 abbrev pub armed_in : List ClockId → ℕ → List TimerEntry → ℕ → ℕ

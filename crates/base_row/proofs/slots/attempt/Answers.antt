@@ -31,4 +31,5 @@ returns-then-first-lt-LAST-clause-taken c =
     let same : mid.0.opening ≡ o = ap (λ (m : Me (Option BaseContent) (View BaseContent)). m.0.opening) met.rest ∙ c.requires.about in
     subst (λ (x : Opening). MatchOption c.take_free.result (Lost x c.args.base me new) (λ h. Caught x c.args.base me new h)) (sym c.requires.about)
     (told_after o c.args.base me mid c.meet_lock-first.result met new c.take_free.result
-    (subst (λ (x : Opening). MatchOption c.take_free.result (Lost x c.args.base mid new) (λ h. Caught x c.args.base mid new h)) same c.take_free.ensures.taken))
+    (subst (λ (x : Opening). MatchOption c.take_free.result (Lost x c.args.base mid new)
+        (λ h. Caught x c.args.base mid new h)) same c.take_free.ensures.taken))

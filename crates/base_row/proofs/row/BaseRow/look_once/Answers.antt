@@ -6,7 +6,8 @@ use Rattle.base_row.specs.declared.view.View.{View}
 use Rattle.base_row.specs.Calls.{Locks, Misses, Waits}
 use Rattle.base_row.proofs.row.BaseRow.look_once.Goals as goal
 
-waits : (b : ℕ) (v w : View BaseContent) (r : Option (Locked BaseContent)) → MatchOption r (Misses b v w) (λ h. Locks b v w h) → MatchOption r (Waits b v w) (λ h. Locks b v w h)
+waits : (b : ℕ) (v w : View BaseContent) (r : Option (Locked BaseContent)) → MatchOption r (Misses b v w) (λ h. Locks b v w h)
+    → MatchOption r (Waits b v w) (λ h. Locks b v w h)
 waits b v w None misses = misses.waits
 waits b v w (Some h) locks = locks
 

@@ -13,7 +13,8 @@ answers l m n is_m is_n = subst (λ x. AnswersFor x n) (sym is_m) (subst (λ x. 
 last_again : (l : PassId) → IsLast l → IsLast (after_retire (after_split l) (child_of l))
 last_again l last = record {
   first = last.first;
-  alone = ap (λ s. without_first (same (next_name l)) (s ++ next_name l ∷ []) ++ []) last.alone ∙ ap (λ b. drop_if b (next_name l) [] [] ++ []) (same-refl (next_name l));
+  alone = ap (λ s. without_first (same (next_name l)) (s ++ next_name l ∷ []) ++ []) last.alone
+      ∙ ap (λ b. drop_if b (next_name l) [] [] ++ []) (same-refl (next_name l));
 }
 
 last_kept : (l m n r : PassId) → m ≡ after_split l → n ≡ child_of l → r ≡ after_retire m n → IsLast l → IsLast r
