@@ -54,15 +54,15 @@ module _ (bases count : ℕ) where
         contents = λ b. ⊎_elim
             (λ (q : b ≡ t.base). subst (λ x. IsContentOf w'.timers x (w'.bases x).content) (sym q)
             (subst (λ c. IsContentOf w'.timers t.base c) (sym (ap (λ (x : BaseContent). x.content) (base_here w e)
-                ∙ content_of_changed id t e.event (w.bases t.base)))
+            ∙ content_of_changed id t e.event (w.bases t.base)))
             (IsContentOf-after w.timers w'.timers id e.event (w.bases t.base).content ok.needs (agrees.apart id)
-                (free_for bases (w.bases t.base).content id t e.event ok.base) changes (agrees.contents t.base))))
+            (free_for bases (w.bases t.base).content id t e.event ok.base) changes (agrees.contents t.base))))
             (λ n. subst (λ (x : BaseContent). IsContentOf w'.timers b x.content) (sym (base_else w e b n))
             (IsContentOf-elsewhere w.timers w'.timers id e.event b (w.bases b).content ok.needs n changes (agrees.contents b)))
             (cases_eq b t.base);
         apart = λ k. ⊎_elim
             (λ (q : k ≡ id). subst (λ x. IsApart (w'.timers x)) (sym q)
-                (subst IsApart (sym (timer_here w e)) (apart-after t e.event ok.needs (agrees.apart id))))
+            (subst IsApart (sym (timer_here w e)) (apart-after t e.event ok.needs (agrees.apart id))))
             (λ n. subst IsApart (sym (timer_else w e k n)) (agrees.apart k))
             (cases_eq k id);
       }
@@ -79,10 +79,13 @@ module _ (bases count : ℕ) where
       let here : seq.Entry = record { event = e.event; reply = e.reply } in
       ⊎_elim
       (λ (same : t ≡ e.timer). subst (λ b. seq.AreSteps (w.timers t) (if b then here ∷ entries_of t es else entries_of t es))
-          (sym (eq-eqb e.timer t (sym same)))
-      (subst (λ k. seq.AreSteps (w.timers k) (here ∷ entries_of k es)) (sym same)
-      (all.0.needs, all.0.reply, subst (λ x. seq.AreSteps x (entries_of e.timer es)) (timer_here w e)
-          (subst (λ k. seq.AreSteps ((after_entry w e).timers k) (entries_of k es)) same rest))))
+      (sym (eq-eqb e.timer t (sym same)))
+      (subst (λ k. seq.AreSteps (w.timers k) (here ∷ entries_of k es)) (sym same) (
+        all.0.needs,
+        all.0.reply,
+        subst (λ x. seq.AreSteps x (entries_of e.timer es)) (timer_here w e)
+            (subst (λ k. seq.AreSteps ((after_entry w e).timers k) (entries_of k es)) same rest),
+      )))
       (λ n. subst (λ b. seq.AreSteps (w.timers t) (if b then here ∷ entries_of t es else entries_of t es)) (sym (ne_eqb e.timer t (λ q. n (sym q))))
       (subst (λ x. seq.AreSteps x (entries_of t es)) (timer_else w e t n) rest))
       (cases_eq t e.timer)
@@ -160,7 +163,7 @@ module _ (bases limit : ℕ) (list : List ClockId) (log : List TimerEntry) (hist
   one_runs base t u first second =
       let is = (all_agree.contents base).running in
       one_only (((system_of list limit log).bases base).content.running) base t u ((system_of list limit log).timers t)
-          ((system_of list limit log).timers u) (is t) (is u) first second
+      ((system_of list limit log).timers u) (is t) (is u) first second
     where
       one_only : (r : Option (ℕ × ℕ)) (base t u : ℕ) (x y : Timer) → generation_in t r ≡ running_on base x
           → generation_in u r ≡ running_on base y → runs_on base x ≡ true → runs_on base y ≡ true → t ≡ u
@@ -170,5 +173,10 @@ module _ (bases limit : ℕ) (list : List ClockId) (log : List TimerEntry) (hist
 pub stamp_counts : (limit : ℕ) (list : List ClockId) (log : List TimerEntry) (t : ℕ) → ((system_of list limit log).timers t).stamp ≡ length (entries_of t log)
 stamp_counts limit list log t =
     let first = first_system (openings list limit) in
-    omega (arith, ap (λ (x : Timer). x.stamp) (after_entries-entries_of first t log), stamp-after_all (first.timers t)
-        (entries_of t log), first_stamp list limit t)
+    omega (
+      arith,
+      ap (λ (x : Timer). x.stamp) (after_entries-entries_of first t log),
+      stamp-after_all (first.timers t)
+          (entries_of t log),
+      first_stamp list limit t,
+    )

@@ -106,7 +106,7 @@ module _ (bases count : ℕ) where
             (timer_here w e ∙ (sym (states_here id t e.event (w.bases t.base) room) ∙ ap (λ (x : BaseContent). timer_at x.states id) (sym (base_here w e))))))
             (λ there.
             let on' : IsOn b (timer_at (w.bases b).states id) = subst (λ (x : BaseContent). IsOn b (timer_at x.states id))
-                (base_else w e b there) (subst (λ q. IsOn b (timer_at ((after_entry w e).bases b).states q)) same on) in
+            (base_else w e b there) (subst (λ q. IsOn b (timer_at ((after_entry w e).bases b).states q)) same on) in
             absurd (there (sym on'.at ∙ ap (λ (x : Timer). x.base) (sym (shows.shown b id ok.within on')))))
             (cases_eq b t.base))
             (λ other.
@@ -115,7 +115,7 @@ module _ (bases count : ℕ) where
             (cases_eq k id);
         wide = λ b. ⊎_elim
             (λ (here : b ≡ t.base). subst (λ q. length ((after_entry w e).bases q).states ≡ count) (sym here)
-                (ap (λ (x : BaseContent). length x.states) (base_here w e) ∙ (states_len id t e.event (w.bases t.base) ∙ shows.wide t.base)))
+            (ap (λ (x : BaseContent). length x.states) (base_here w e) ∙ (states_len id t e.event (w.bases t.base) ∙ shows.wide t.base)))
             (λ there. ap (λ (x : BaseContent). length x.states) (base_else w e b there) ∙ shows.wide b)
             (cases_eq b t.base);
       }
@@ -163,10 +163,10 @@ after_entries-entries_of w t [] = refl
 after_entries-entries_of w t (e ∷ es) =
     ⊎_elim
     (λ (same : t ≡ e.timer). subst (λ (q : Bool). (after_entries (after_entry w e) es).timers t ≡ seq.after_all (w.timers t)
-        (if q then record { event = e.event; reply = e.reply } ∷ entries_of t es else entries_of t es)) (sym (eq-eqb e.timer t (sym same)))
+    (if q then record { event = e.event; reply = e.reply } ∷ entries_of t es else entries_of t es)) (sym (eq-eqb e.timer t (sym same)))
     (after_entries-entries_of (after_entry w e) t es ∙ ap (λ (x : Timer). seq.after_all x (entries_of t es))
-        (subst (λ q. (after_entry w e).timers q ≡ after (w.timers q) e.event) (sym same) (timer_here w e))))
+    (subst (λ q. (after_entry w e).timers q ≡ after (w.timers q) e.event) (sym same) (timer_here w e))))
     (λ n. subst (λ (q : Bool). (after_entries (after_entry w e) es).timers t ≡ seq.after_all (w.timers t)
-        (if q then record { event = e.event; reply = e.reply } ∷ entries_of t es else entries_of t es)) (sym (ne_eqb e.timer t (λ q. n (sym q))))
+    (if q then record { event = e.event; reply = e.reply } ∷ entries_of t es else entries_of t es)) (sym (ne_eqb e.timer t (λ q. n (sym q))))
     (after_entries-entries_of (after_entry w e) t es ∙ ap (λ (x : Timer). seq.after_all x (entries_of t es)) (timer_else w e t n)))
     (cases_eq t e.timer)

@@ -42,8 +42,11 @@ order_without : (armed : ℕ → ℕ) (id : ℕ) (ps : List (ℕ × ℕ)) → In
 order_without armed id [] o = tt
 order_without armed id (p ∷ ps) o =
     let rest = order_without armed id ps o.1 in
-    elim (nat_eq p.1 id) as (λ t. InOrder armed (if not t then p ∷ without id ps else without id ps)) [ true ↦ rest | false ↦
-        (behind_without armed p id ps o.0, rest) ]
+    elim (nat_eq p.1 id) as (λ t. InOrder armed (if not t then p ∷ without id ps else without id ps)) [
+      | true ↦ rest
+      | false ↦
+          (behind_without armed p id ps o.0, rest)
+    ]
 
 -- ---- another timer is armed
 
@@ -61,8 +64,11 @@ module _ (armed new : ℕ → ℕ) (id : ℕ) (same : (k : ℕ) → k ≢ id →
 
   order_same : (ps : List (ℕ × ℕ)) → has_id id ps ≡ false → InOrder armed ps → InOrder new ps
   order_same [] absent o = tt
-  order_same (p ∷ ps) absent o = (behind_same p ps (head_apart id p ps absent) (tail_absent id p ps absent) o.0, order_same ps
-      (tail_absent id p ps absent) o.1)
+  order_same (p ∷ ps) absent o = (
+    behind_same p ps (head_apart id p ps absent) (tail_absent id p ps absent) o.0,
+    order_same ps
+        (tail_absent id p ps absent) o.1,
+  )
 
 -- ---- putting on
 
@@ -73,8 +79,11 @@ behind_later armed least e id (q ∷ qs) early all = (λ same. absurd (omega (ar
 behind_put : (armed : ℕ → ℕ) (p : ℕ × ℕ) (e id : ℕ) (qs : List (ℕ × ℕ)) → armed p.1 < armed id → Behind armed p qs → Behind armed p (put e id qs)
 behind_put armed p e id [] less b = (λ same. less, tt)
 behind_put armed p e id (q ∷ qs) less b =
-    elim (nat_lt e q.0) as (λ t. Behind armed p (if t then (e, id) ∷ q ∷ qs else q ∷ put e id qs)) [ true ↦ (λ same. less, b) | false ↦
-        (b.0, behind_put armed p e id qs less b.1) ]
+    elim (nat_lt e q.0) as (λ t. Behind armed p (if t then (e, id) ∷ q ∷ qs else q ∷ put e id qs)) [
+      | true ↦ (λ same. less, b)
+      | false ↦
+          (b.0, behind_put armed p e id qs less b.1)
+    ]
 
 order_put : (armed : ℕ → ℕ) (e id : ℕ) (ps : List (ℕ × ℕ)) → ((k : ℕ) → k ≢ id → armed k < armed id) → has_id id ps ≡ false → IsByExpiry ps
     → InOrder armed ps → InOrder armed (put e id ps)
@@ -83,8 +92,11 @@ order_put armed e id (p ∷ ps) less absent sorted o =
     elim (nat_lt e p.0) as (λ t. nat_lt e p.0 ≡ t → InOrder armed (if t then (e, id) ∷ p ∷ ps else p ∷ put e id ps)) [
       | true ↦ λ early. let before : e < p.0 = grind (arith, nat_tests) in
           ((λ same. absurd (omega (arith, same, before)), behind_later armed p.0 e id ps before sorted.0), o)
-      | false ↦ λ late. (behind_put armed p e id ps (less p.1 (head_apart id p ps absent)) o.0, order_put armed e id ps less
-          (tail_absent id p ps absent) sorted.1 o.1)
+      | false ↦ λ late. (
+        behind_put armed p e id ps (less p.1 (head_apart id p ps absent)) o.0,
+        order_put armed e id ps less
+            (tail_absent id p ps absent) sorted.1 o.1,
+      )
     ] refl
 
 -- ---- the base of an entry's timer
@@ -103,7 +115,7 @@ module _ (armed : ℕ → ℕ) (count id : ℕ) (below : (k : ℕ) → armed k �
       let absent = has_id-without id (queue_of c clock) in
       let kept = order_same armed later id (λ k apart. updated_else armed id k (count + 1) apart) off absent (order_without armed id (queue_of c clock) o) in
       subst (InOrder later) (sym (queue_of-enqueued t.clock clock t.expires id (dequeued id c)
-          ∙ ap (λ q. if nat_eq (rank t.clock) (rank clock) then put t.expires id q else q) (queue_of-dequeued id c clock)))
+      ∙ ap (λ q. if nat_eq (rank t.clock) (rank clock) then put t.expires id q else q) (queue_of-dequeued id c clock)))
       (elim (nat_eq (rank t.clock) (rank clock)) as (λ b. InOrder later (if b then put t.expires id off else off)) [
         | true ↦ order_put later t.expires id off last_armed absent (IsByExpiry-without id (queue_of c clock) sorted) kept
         | false ↦ kept
@@ -116,7 +128,7 @@ module _ (armed : ℕ → ℕ) (count id : ℕ) (below : (k : ℕ) → armed k �
   order_here t events.Cancel c clock sorted o = subst (InOrder armed) (sym (queue_of-dequeued id c clock)) (order_without armed id (queue_of c clock) o)
   order_here t (events.Claim base reading) c clock sorted o =
       subst (InOrder armed) (sym (queue_of-with_running (Some (id, unwrap_or t.armed 0)) (dequeued id c) clock
-          ∙ queue_of-dequeued id c clock)) (order_without armed id (queue_of c clock) o)
+      ∙ queue_of-dequeued id c clock)) (order_without armed id (queue_of c clock) o)
   order_here t (events.Forward reading interval) c clock sorted o = o
   order_here t (events.Finish restart) c clock sorted o =
       elim (arms_again t restart) as (λ b. InOrder (if b then later else armed) (queue_of (with_running None (if b then requeued id t c else c)) clock)) [
@@ -133,7 +145,7 @@ pub record Ordered (w : System) (armed : ℕ → ℕ) (count : ℕ) : Type 0 whe
 absent_elsewhere : (w : System) → Agrees w → (b t : ℕ) (clock : ClockId) → b ≢ (w.timers t).base → has_id t (queue_of (w.bases b).content clock) ≡ false
 absent_elsewhere w agrees b t clock apart =
     has_id-expiry_of t (queue_of (w.bases b).content clock) ∙ ap is_some (((agrees.contents b).queues clock).exact t
-        ∙ wanted-elsewhere b clock (w.timers t) apart)
+    ∙ wanted-elsewhere b clock (w.timers t) apart)
 
 module _ (bases timers : ℕ) where
   ordered_next : (w : System) (armed : ℕ → ℕ) (count : ℕ) (e : TimerEntry) → Agrees w → Ordered w armed count
@@ -151,13 +163,13 @@ module _ (bases timers : ℕ) where
         ];
         each = λ b clock. ⊎_elim
             (λ (same : b ≡ t.base). subst (λ x. InOrder (if arms t e.event then updated armed id (count + 1) else armed)
-                (queue_of ((after_entry w e).bases x).content clock)) (sym same)
+            (queue_of ((after_entry w e).bases x).content clock)) (sym same)
             (subst (λ c. InOrder (if arms t e.event then updated armed id (count + 1) else armed) (queue_of c clock))
-                (sym (ap (λ (x : BaseContent). x.content) (base_here w e) ∙ content_of_changed id t e.event (w.bases t.base)))
+            (sym (ap (λ (x : BaseContent). x.content) (base_here w e) ∙ content_of_changed id t e.event (w.bases t.base)))
             (order_here armed count id o.below t e.event (w.bases t.base).content clock ((agrees.contents t.base).queues clock).by_expiry
-                (o.each t.base clock))))
+            (o.each t.base clock))))
             (λ apart. subst (λ (x : BaseContent). InOrder (if arms t e.event then updated armed id (count + 1) else armed)
-                (queue_of x.content clock)) (sym (base_else w e b apart))
+            (queue_of x.content clock)) (sym (base_else w e b apart))
             (elim (arms t e.event) as (λ a. InOrder (if a then updated armed id (count + 1) else armed) (queue_of (w.bases b).content clock)) [
               | true ↦ order_same armed (updated armed id (count + 1)) id (λ k n. updated_else armed id k (count + 1) n)
                   (queue_of (w.bases b).content clock) (absent_elsewhere w agrees b id clock apart) (o.each b clock)
@@ -172,7 +184,7 @@ module _ (bases timers : ℕ) where
   ordered_all w armed count (e ∷ es) all agrees o =
       subst (λ n. Ordered (after_entries w (e ∷ es)) (armed_after w armed count (e ∷ es)) n) (omega arith)
       (ordered_all (after_entry w e) (if arms (w.timers e.timer) e.event then updated armed e.timer (count + 1) else armed)
-          (count + 1) es all.1 (agrees_next bases timers w e all.0 agrees) (ordered_next w armed count e agrees o))
+      (count + 1) es all.1 (agrees_next bases timers w e all.0 agrees) (ordered_next w armed count e agrees o))
 
 -- ---- what is claimed
 
@@ -200,7 +212,7 @@ first_in_queue w agrees base t reading is =
     let c = (w.bases base).content in
     ⊎_elim (λ m. on clocks.Monotonic (first_reached reading.mono c.monotonic ((w.timers t).expires, t) m).0)
     (λ rest. ⊎_elim (λ r. on clocks.Realtime (first_reached reading.real c.realtime ((w.timers t).expires, t) r.1).0)
-        (λ b. on clocks.Boottime (first_reached reading.boot c.boottime ((w.timers t).expires, t) b.2).0) rest)
+    (λ b. on clocks.Boottime (first_reached reading.boot c.boottime ((w.timers t).expires, t) b.2).0) rest)
     (or_some (reached reading.mono c.monotonic) (reached reading.real c.realtime) (reached reading.boot c.boottime) ((w.timers t).expires, t) is)
   where
     rank_of : (b : Bool) (x y : ℕ) → (b && nat_eq x y) ≡ true → x ≡ y
@@ -210,7 +222,7 @@ first_in_queue w agrees base t reading is =
         → first_of (queue_of (w.bases base).content (w.timers t).clock) ≡ Some ((w.timers t).expires, t)
     on clock first =
         let kept = expiry-kept (is_kept_on base clock (w.timers t)) (w.timers t).expires (w.timers t).expires
-            (sym (((agrees.contents base).queues clock).exact t) ∙ expiry_of-first (queue_of (w.bases base).content clock) ((w.timers t).expires, t) first) in
+        (sym (((agrees.contents base).queues clock).exact t) ∙ expiry_of-first (queue_of (w.bases base).content clock) ((w.timers t).expires, t) first) in
         let its : (w.timers t).clock ≡ clock = rank-injective (w.timers t).clock clock (rank_of _ (rank (w.timers t).clock) (rank clock) kept.0) in
         subst (λ k. first_of (queue_of (w.bases base).content k) ≡ Some ((w.timers t).expires, t)) (sym its) first
 
@@ -219,7 +231,7 @@ pub claimed_first : (w : System) (armed : ℕ → ℕ) (count : ℕ) → Agrees 
     → is_kept_on base (w.timers t).clock (w.timers u) ≡ true → (w.timers u).expires ≡ (w.timers t).expires → armed t < armed u
 claimed_first w armed count agrees o base t u reading is apart kept same =
     first_earlier armed ((w.timers t).expires, t) u (queue_of (w.bases base).content (w.timers t).clock) (o.each base (w.timers t).clock)
-        (first_in_queue w agrees base t reading is) apart
+    (first_in_queue w agrees base t reading is) apart
     (((agrees.contents base).queues (w.timers t).clock).exact u ∙ (ap (λ b. if b then Some (w.timers u).expires else None) kept ∙ ap (λ e. Some e) same))
 
 last_step : (bases timers : ℕ) (w : System) (xs : List TimerEntry) (e : TimerEntry) → AreSystemSteps bases timers w (xs ++ e ∷ [])
@@ -230,7 +242,7 @@ last_step bases timers w (x ∷ xs) e all = last_step bases timers (after_entry 
 pub ties : (bases limit : ℕ) (list : List ClockId) (log : List TimerEntry) (e : TimerEntry)
     → IsSystemHistory bases list limit (log ++ e ∷ []) → (base : ℕ) (reading : ClockReading) → e.event ≡ events.Claim base reading → (u : ℕ) → u ≢ e.timer
     → is_kept_on base ((system_of list limit log).timers e.timer).clock ((system_of list limit log).timers u) ≡ true
-        → ((system_of list limit log).timers u).expires ≡ ((system_of list limit log).timers e.timer).expires
+    → ((system_of list limit log).timers u).expires ≡ ((system_of list limit log).timers e.timer).expires
     → armed_in list limit log e.timer < armed_in list limit log u
 ties bases limit list log e history base reading is u apart kept same =
     let first = first_system (openings list limit) in
@@ -240,12 +252,12 @@ ties bases limit list log e history base reading is u apart kept same =
     let step = last_step bases (length list) first log e history in
     let there : base ≡ t.base = (subst (λ x. Needs t x) is step.needs).1 in
     let due : first_due (w.bases t.base).content reading ≡ Some (t.expires, e.timer) =
-        (subst (λ x. FitsBase bases (w.bases t.base).content e.timer t x) is step.base).1 in
+    (subst (λ x. FitsBase bases (w.bases t.base).content e.timer t x) is step.base).1 in
     let agrees = all_agree bases limit list log part in
     let start : Ordered first (λ k. 0) 0 = record { below = λ k. omega arith; each = λ b clock. empty clock } in
     let ordered = ordered_all bases (length list) first (λ k. 0) 0 log part (first_agrees list limit) start in
     claimed_first w (armed_in list limit log) (0 + length log) agrees ordered base e.timer u reading
-        (subst (λ b. first_due (w.bases b).content reading ≡ Some (t.expires, e.timer)) (sym there) due) apart kept same
+    (subst (λ b. first_due (w.bases b).content reading ≡ Some (t.expires, e.timer)) (sym there) due) apart kept same
   where
     empty : (clock : ClockId) → InOrder (λ k. 0) (queue_of no_content clock)
     empty clocks.Monotonic = tt
