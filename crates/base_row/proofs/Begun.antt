@@ -20,5 +20,10 @@ pub same_own : (w : System) (t : ℕ) (part log : List TimerEntry) → Begins pa
     → (after_entries w log).timers t ≡ (after_entries w part).timers t → entries_of t log ≡ entries_of t part
 same_own w t part log b same =
     sym (begins_whole (entries_of-begins t part log b)
-    (omega (arith, ap (λ (x : Timer). x.stamp) (sym (after_entries-entries_of w t log)
-        ∙ (same ∙ after_entries-entries_of w t part)), stamp-after_all (w.timers t) (entries_of t log), stamp-after_all (w.timers t) (entries_of t part))))
+    (omega (
+      arith,
+      ap (λ (x : Timer). x.stamp) (sym (after_entries-entries_of w t log)
+          ∙ (same ∙ after_entries-entries_of w t part)),
+      stamp-after_all (w.timers t) (entries_of t log),
+      stamp-after_all (w.timers t) (entries_of t part),
+    )))

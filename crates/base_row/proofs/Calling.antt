@@ -41,8 +41,18 @@ locks_caught o b v w h c = record {
 pub misses_lost : (o : Opening) (b : ℕ) (v w : View BaseContent) → Lost o b (v, []) (w, []) → Misses b v w
 misses_lost o b v w l =
     let is = ap (λ (m : Me (Option BaseContent) (View BaseContent)). m.0) l.rest in record {
-      waits = record { rest = is ∙ (λ i. record v { seen = w.seen; heard = ap (λ (x : View BaseContent). x.heard)
-          (sym is) i; met = w.met }); newer = l.newer; apart = l.apart; seen = l.seen; steady = l.steady };
+      waits = record {
+        rest = is ∙ (λ i. record v {
+          seen = w.seen;
+          heard = ap (λ (x : View BaseContent). x.heard)
+              (sym is) i;
+          met = w.met;
+        });
+        newer = l.newer;
+        apart = l.apart;
+        seen = l.seen;
+        steady = l.steady;
+      };
       missed = l.missed;
     }
 
@@ -57,8 +67,14 @@ pub locks_after : (b : ℕ) (u v w : View BaseContent) (h : Locked BaseContent) 
 locks_after b u v w h waits locks = record {
   at = locks.at;
   number = locks.number;
-  rest = locks.rest ∙ ap (λ (x : View BaseContent). record x { seen = w.seen; heard = []; held = Some h; takes = x.takes ++
-      (b, locks.number) ∷ []; met = w.met }) waits.rest;
+  rest = locks.rest ∙ ap (λ (x : View BaseContent). record x {
+    seen = w.seen;
+    heard = [];
+    held = Some h;
+    takes = x.takes ++
+        (b, locks.number) ∷ [];
+    met = w.met;
+  }) waits.rest;
   word = locks.word;
   newer = omega (arith, waits.newer, locks.newer);
   apart = λ c n. locks.apart c n ∙ waits.apart c n;
@@ -84,28 +100,54 @@ last_misses_none o b v w misses about knows last inside =
     (λ t.
     let mine : takes_at b t.0 w ≡ takes_at b t.0 v = ap (λ (x : View BaseContent). takes_at b t.0 x) is in
     let last' : IsLast w.id = subst (λ (x : View BaseContent). IsLast x.id) (sym is) last in
-    absurd (omega (arith, mine, t.1, t.2, knows.all_takes last' b t.0 (omega (arith, ap (λ (x : Opening). x.bases) about, inside))
-        (omega (arith, t.2)) (omega (arith, t.3)))))
+    absurd (omega (
+      arith,
+      mine,
+      t.1,
+      t.2,
+      knows.all_takes last' b t.0 (omega (arith, ap (λ (x : Opening). x.bases) about, inside))
+          (omega (arith, t.2)) (omega (arith, t.3)),
+    )))
     (λ far. far)
     misses.missed
 
 -- ---- what is known
 
 pub looks_locks : (b : ℕ) (v w : View BaseContent) (h : Locked BaseContent) → Locks b v w h → LooksOn (known_of v) (known_of w)
-looks_locks b v w h l = record { seen = l.seen; mine = ap (λ (x : View BaseContent). x.mine) l.rest; id = ap
-    (λ (x : View BaseContent). x.id) l.rest; claims = ap (λ (x : View BaseContent). x.claims) l.rest }
+looks_locks b v w h l = record {
+  seen = l.seen;
+  mine = ap (λ (x : View BaseContent). x.mine) l.rest;
+  id = ap
+      (λ (x : View BaseContent). x.id) l.rest;
+  claims = ap (λ (x : View BaseContent). x.claims) l.rest;
+}
 
 pub looks_waits : (b : ℕ) (v w : View BaseContent) → Waits b v w → LooksOn (known_of v) (known_of w)
-looks_waits b v w l = record { seen = l.seen; mine = ap (λ (x : View BaseContent). x.mine) l.rest; id = ap
-    (λ (x : View BaseContent). x.id) l.rest; claims = ap (λ (x : View BaseContent). x.claims) l.rest }
+looks_waits b v w l = record {
+  seen = l.seen;
+  mine = ap (λ (x : View BaseContent). x.mine) l.rest;
+  id = ap
+      (λ (x : View BaseContent). x.id) l.rest;
+  claims = ap (λ (x : View BaseContent). x.claims) l.rest;
+}
 
 pub looks_sees : (v w : View BaseContent) → Sees v w → LooksOn (known_of v) (known_of w)
-looks_sees v w l = record { seen = l.seen; mine = ap (λ (x : View BaseContent). x.mine) l.rest; id = ap
-    (λ (x : View BaseContent). x.id) l.rest; claims = ap (λ (x : View BaseContent). x.claims) l.rest }
+looks_sees v w l = record {
+  seen = l.seen;
+  mine = ap (λ (x : View BaseContent). x.mine) l.rest;
+  id = ap
+      (λ (x : View BaseContent). x.id) l.rest;
+  claims = ap (λ (x : View BaseContent). x.claims) l.rest;
+}
 
 pub looks_freed : (o : Opening) (h : Locked BaseContent) (v w : View BaseContent) → LetsGo o h v w → LooksOn (known_of v) (known_of w)
-looks_freed o h v w l = record { seen = l.seen; mine = ap (λ (x : View BaseContent). x.mine) l.rest; id = ap
-    (λ (x : View BaseContent). x.id) l.rest; claims = ap (λ (x : View BaseContent). x.claims) l.rest }
+looks_freed o h v w l = record {
+  seen = l.seen;
+  mine = ap (λ (x : View BaseContent). x.mine) l.rest;
+  id = ap
+      (λ (x : View BaseContent). x.id) l.rest;
+  claims = ap (λ (x : View BaseContent). x.claims) l.rest;
+}
 
 pub takes_in : (v u w : View BaseContent) → Absorbs v u w → TakesIn (known_of v) (known_of u) (known_of w)
 takes_in v u w a = record {
@@ -117,8 +159,13 @@ takes_in v u w a = record {
 }
 
 looks_hears : (v u w : View BaseContent) → Hears v u w → LooksOn (known_of v) (known_of w)
-looks_hears v u w l = record { seen = l.seen; mine = ap (λ (x : View BaseContent). x.mine) l.rest; id = ap
-    (λ (x : View BaseContent). x.id) l.rest; claims = ap (λ (x : View BaseContent). x.claims) l.rest }
+looks_hears v u w l = record {
+  seen = l.seen;
+  mine = ap (λ (x : View BaseContent). x.mine) l.rest;
+  id = ap
+      (λ (x : View BaseContent). x.id) l.rest;
+  claims = ap (λ (x : View BaseContent). x.claims) l.rest;
+}
 
 pub meet_with : (a b new_a new_b : View BaseContent) → Hears b a new_b → Hears a new_b new_a
     → MeetWith (known_of a) (known_of b) (known_of new_a) (known_of new_b)
@@ -135,8 +182,13 @@ meet_with a b new_a new_b second first = record {
 -- a timer's stamp is how many entries of it were seen
 pub stamp_seen : (o : Opening) → AreFresh o.timers → (v : View BaseContent) (t : ℕ) → (timer_seen o v t).stamp ≡ length (entries_of t v.seen)
 stamp_seen o fresh v t =
-    omega (arith, ap (λ (x : Timer). x.stamp) (after_entries-entries_of (first_system o.timers) t v.seen), stamp-after_all
-        (timer_at o.timers t) (entries_of t v.seen), (fresh.each t).stamp)
+    omega (
+      arith,
+      ap (λ (x : Timer). x.stamp) (after_entries-entries_of (first_system o.timers) t v.seen),
+      stamp-after_all
+          (timer_at o.timers t) (entries_of t v.seen),
+      (fresh.each t).stamp,
+    )
 
 pub extends_appended : (o : Opening) → AreFresh o.timers → (h : Locked BaseContent) (t : ℕ) (event : Event) (v w : View BaseContent)
     → Appended o h t event v w → ExtendsBy entries_of (known_of v) (known_of w) t (own_entry o v t event ∷ [])
@@ -176,10 +228,15 @@ pub state_entered : (o : Opening) → AreFresh o.timers → (h g : Locked BaseCo
 state_entered o fresh h g t event v w told held room =
     let now : Locked BaseContent = record { base = h.base; word = h.word; content = changed t (timer_seen o v t) event h.content } in
     let is : now ≡ g = some_same now g (sym (ap (λ (x : View BaseContent). x.held) told.rest) ∙ held) in
-    let room' : t < length h.content.states = omega (arith, ap (λ (x : Locked BaseContent). length x.content.states) is, states_len t
-        (timer_seen o v t) event h.content, room) in
+    let room' : t < length h.content.states = omega (
+      arith,
+      ap (λ (x : Locked BaseContent). length x.content.states) is,
+      states_len t
+          (timer_seen o v t) event h.content,
+      room,
+    ) in
     ap (λ (x : Locked BaseContent). timer_at x.content.states t) (sym is)
-        ∙ (states_here t (timer_seen o v t) event h.content room' ∙ sym (seen_after o fresh h t event v w told))
+    ∙ (states_here t (timer_seen o v t) event h.content room' ∙ sym (seen_after o fresh h t event v w told))
 
 -- a timer of which nothing more was seen is as it was
 pub seen_same : (o : Opening) (v w : View BaseContent) (t : ℕ) → entries_of t w.seen ≡ entries_of t v.seen → timer_seen o w t ≡ timer_seen o v t

@@ -56,8 +56,17 @@ module _ (o : Opening) (b : ℕ) (me mid : Seated) (found : ℕ) (met : Met o.ba
   caught_after new h caught = record {
     at = caught.at;
     number = caught.number;
-    rest = caught.rest ∙ ap (λ (m : Seated). (record m.0 { seen = new.0.seen; heard = []; held = Some h; takes = m.0.takes ++
-        (b, caught.number) ∷ []; met = new.0.met }, slots_of (Some h))) met.rest;
+    rest = caught.rest ∙ ap (λ (m : Seated). (
+      record m.0 {
+        seen = new.0.seen;
+        heard = [];
+        held = Some h;
+        takes = m.0.takes ++
+            (b, caught.number) ∷ [];
+        met = new.0.met;
+      },
+      slots_of (Some h),
+    )) met.rest;
     word = caught.word;
     newer = omega (arith, met.newer, met.is, caught.newer);
     apart = λ c n. caught.apart c n ∙ else_met c n;

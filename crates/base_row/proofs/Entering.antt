@@ -75,7 +75,7 @@ module _ (bases : ℕ) (opened : List Timer) (code : Timer → ℕ) (id : ℕ) (
       reply = may.allowed.reply ∙ ap (λ x. reply_to x e.event) (sym same_timer);
       base = subst (λ x. FitsBase bases (w.bases (w.timers e.timer).base).content e.timer x e.event) (sym same_timer)
           (subst (λ (x : BaseContent). FitsBase bases x.content e.timer t e.event) (ap (λ q. seen.bases q) may.base
-              ∙ (sym same_base ∙ ap (λ q. w.bases q) (sym here))) may.allowed.base);
+          ∙ (sym same_base ∙ ap (λ q. w.bases q) (sym here))) may.allowed.base);
     }
 
     followed : w' ≡ after_entry w e
@@ -134,8 +134,13 @@ module _ (bases : ℕ) (opened : List Timer) (code : Timer → ℕ) (id : ℕ) (
           ap (λ x. one_if (within i x)) (stamp-after t e.event).0,
           within_more i t.stamp,
         ))
-        (λ apart. omega (arith, more, ap (λ x. one_if (x && eqb (t.stamp + 1) i)) (ne_eqb e.timer k (λ q. apart (sym q))), ap
-            (λ (x : Timer). one_if (within i x.stamp)) (timers_else k apart)))
+        (λ apart. omega (
+          arith,
+          more,
+          ap (λ x. one_if (x && eqb (t.stamp + 1) i)) (ne_eqb e.timer k (λ q. apart (sym q))),
+          ap
+              (λ (x : Timer). one_if (within i x.stamp)) (timers_else k apart),
+        ))
         (cases_eq k e.timer)
 
     claimed : (k g b : ℕ) → claims_at k g b v' + one_if (runs g b (w.timers k)) ≡ claims_at k g b v + one_if (runs g b (w'.timers k))
@@ -154,11 +159,19 @@ module _ (bases : ℕ) (opened : List Timer) (code : Timer → ℕ) (id : ℕ) (
         (λ apart. omega (arith, along.carry_else k apart, ap (λ (x : Timer). one_if x.moving) (timers_else k apart)))
         (cases_eq k e.timer)
 
-    pub enters_home : RowHolds bases opened code (log ++ e ∷ []) record { words = slice_set s.words (word_at bases e.timer)
-        (code (after t e.event)); homes = s.homes; views = slice_set s.views id v' }
+    pub enters_home : RowHolds bases opened code (log ++ e ∷ []) record {
+      words = slice_set s.words (word_at bases e.timer)
+          (code (after t e.event));
+      homes = s.homes;
+      views = slice_set s.views id v';
+    }
     enters_home =
-        subst (λ x. RowHolds bases opened code (log ++ e ∷ []) record { words = slice_set s.words (word_at bases e.timer)
-            (code x); homes = s.homes; views = slice_set s.views id v' }) new_timer
+        subst (λ x. RowHolds bases opened code (log ++ e ∷ []) record {
+          words = slice_set s.words (word_at bases e.timer)
+              (code x);
+          homes = s.homes;
+          views = slice_set s.views id v';
+        }) new_timer
         (entered bases opened code log s home id v v' e at ok
         (ap (λ q. holds_at q v) here ∙ holds_one v h may.held)
         (λ moves. carries_one v e.timer (may.carries (ap (λ (x : Timer). x.moving) (sym same_timer) ∙ moves)))
@@ -168,7 +181,7 @@ module _ (bases : ℕ) (opened : List Timer) (code : Timer → ℕ) (id : ℕ) (
   -- the store of the timer's new word adds the entry
   pub enters : (slots : ℕ) (slot : List (ℕ × Option BaseContent)) → GoAlong t e v claims carry
       → Allows (HasOneHistory bases opened code) slots id (v, slot) (word_at bases e.timer) (λ _. code (after t e.event))
-          (λ _. Entered bases opened code h e claims carry (v, slot))
+      (λ _. Entered bases opened code h e claims carry (v, slot))
   enters slots slot along s (log, home) many at small =
       let v' : View BaseContent = having_entered log e t h claims carry v in
       let next = enters_home log s home at along in (
@@ -181,8 +194,12 @@ module _ (bases : ℕ) (opened : List Timer) (code : Timer → ℕ) (id : ℕ) (
           seen = (home.each_view id v at).seen;
           own = same_own (first_system opened) e.timer v.seen log (home.each_view id v at).seen (same_timer log s home at along);
           rest = refl;
-          knows = knows_of bases opened code (log ++ e ∷ []) record { words = slice_set s.words (word_at bases e.timer)
-              (code (after t e.event)); homes = s.homes; views = slice_set s.views id v' } next id v' (set_there s.views id v v' at) live refl;
+          knows = knows_of bases opened code (log ++ e ∷ []) record {
+            words = slice_set s.words (word_at bases e.timer)
+                (code (after t e.event));
+            homes = s.homes;
+            views = slice_set s.views id v';
+          } next id v' (set_there s.views id v v' at) live refl;
         },
       )
 
@@ -191,15 +208,15 @@ pub enters_by : (bases : ℕ) (opened : List Timer) (id : ℕ) (v : View BaseCon
     (event asked : Event) → v.opening ≡ record { bases = bases; timers = opened } → asked ≡ event → v.id.live ≡ true
     → MayEnter bases opened number_of v h (entry_of bases opened number_of v timer event) → OwnNeeds v timer (seen_timer bases opened number_of v timer) event
     → (slots : ℕ) (slot : List (ℕ × Option BaseContent)) (word stamp : ℕ) → word ≡ word_at bases timer
-        → stamp ≡ number_of (after (seen_timer bases opened number_of v timer) event)
+    → stamp ≡ number_of (after (seen_timer bases opened number_of v timer) event)
     → Allows (HasOneHistory bases opened number_of) slots id (v, slot) word (λ _. stamp) (λ _. EntersBy asked (step slots word stamp 0 none) (v, slot))
 enters_by bases opened id v h timer event asked opening picked live may own slots slot word stamp word_is stamp_is s kept many at small =
     let t = seen_timer bases opened number_of v timer in
     let e = entry_of bases opened number_of v timer event in
     let along = go_along v timer t event (reply_to t event) may.allowed.needs own in
     let r = enters bases opened number_of id v h e (claims_after timer t event v.claims)
-        (carry_after timer t event v.carry) live may slots slot along s kept many at
-        (subst (λ i. slice_index s.words i < 18446744073709551616) word_is small) in (
+    (carry_after timer t event v.carry) live may slots slot along s kept many at
+    (subst (λ i. slice_index s.words i < 18446744073709551616) word_is small) in (
       r.0,
       r.1,
       r.2,

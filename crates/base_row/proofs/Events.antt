@@ -24,9 +24,12 @@ its_generation g (Some r) is = refl
 
 one_claim : (id k g b a base : ℕ) (claims : List Claimed)
     → count (is_claim k g b) (claims ++ record { timer = id; generation = a; base = base } ∷ []) ≡ count (is_claim k g b) claims + one_if
-        (eqb id k && (eqb a g && eqb base b))
-one_claim id k g b a base claims = omega (arith, total-append (λ (c : Claimed). one_if (is_claim k g b c)) claims
-    (record { timer = id; generation = a; base = base } ∷ []))
+    (eqb id k && (eqb a g && eqb base b))
+one_claim id k g b a base claims = omega (
+  arith,
+  total-append (λ (c : Claimed). one_if (is_claim k g b c)) claims
+      (record { timer = id; generation = a; base = base } ∷ []),
+)
 
 claim_is : (id g b : ℕ) (c : Claimed) → is_claim id g b c ≡ true → (c.timer ≡ id) × ((c.generation ≡ g) × (c.base ≡ b))
 claim_is id g b c e =
@@ -70,8 +73,12 @@ go_along v id t (events.Claim base reading) reply needs mine = record {
     no_generation g t.running (eqb t.base b) needs.2,
     ap (λ x. one_if (x && eqb t.base b)) (its_generation g t.armed needs.0),
   );
-  apart = λ k g b n. omega (arith, one_claim id k g b (unwrap_or t.armed 0) t.base v.claims, ap
-      (λ x. one_if (x && (eqb (unwrap_or t.armed 0) g && eqb t.base b))) (ne_eqb id k (λ e. n (sym e))));
+  apart = λ k g b n. omega (
+    arith,
+    one_claim id k g b (unwrap_or t.armed 0) t.base v.claims,
+    ap
+        (λ x. one_if (x && (eqb (unwrap_or t.armed 0) g && eqb t.base b))) (ne_eqb id k (λ e. n (sym e))),
+  );
   carry_here = refl;
   carry_else = λ k n. refl;
 }
@@ -79,7 +86,7 @@ go_along v id t (events.Forward reading interval) reply needs mine = record { ow
 go_along v id t (events.Finish restart) reply needs mine =
     let r = unwrap_or t.running 0 in
     let left : (k g b : ℕ) → count (is_claim k g b) (claims_after id t (events.Finish restart) v.claims) + one_if
-        (eqb id k && (eqb r g && eqb t.base b)) ≡ count (is_claim k g b) v.claims =
+    (eqb id k && (eqb r g && eqb t.base b)) ≡ count (is_claim k g b) v.claims =
     λ k g b. count-without_first (is_claim id r t.base) (is_claim k g b) (eqb id k && (eqb r g && eqb t.base b)) (let_go id k g b r t.base) v.claims mine in
     record {
       own = λ g b. omega (

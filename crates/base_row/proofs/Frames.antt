@@ -78,14 +78,20 @@ module _ (bases : ℕ) (opened : List Timer) (code : Timer → ℕ) where
   pub fits_on : (log log' : List TimerEntry) (words words' : List ℕ) (v : View BaseContent) → PassHolds bases opened code log words v → Begins log log'
       → ((b : ℕ) → b < bases → slice_index words (lock_at b) ≤ slice_index words' (lock_at b))
       → ((h : Locked BaseContent) → v.held ≡ Some h → ((now bases opened code log').bases h.base ≡
-          (now bases opened code log).bases h.base) × (slice_index words' (lock_at h.base) ≡ slice_index words (lock_at h.base)))
+      (now bases opened code log).bases h.base) × (slice_index words' (lock_at h.base) ≡ slice_index words (lock_at h.base)))
       → ((t : ℕ) → v.carry ≡ Some t → (now bases opened code log').timers t ≡ (now bases opened code log).timers t)
       → PassHolds bases opened code log' words' v
   fits_on log log' words words' v fits more rise holds carries = record {
     seen = begins_trans fits.seen more;
     heard = begins_trans fits.heard more;
-    held = λ h e. let t = fits.held h e in let u = holds h e in record { within = t.within; seen = t.seen; whole = t.whole
-        ∙ sym u.0; word = u.1 ∙ t.word; number = t.number };
+    held = λ h e. let t = fits.held h e in let u = holds h e in record {
+      within = t.within;
+      seen = t.seen;
+      whole = t.whole
+          ∙ sym u.0;
+      word = u.1 ∙ t.word;
+      number = t.number;
+    };
     carry = λ t e. fits.carry t e ∙ sym (carries t e);
     wide = fits.wide;
     full = fits.full;
@@ -119,7 +125,7 @@ module _ (bases : ℕ) (opened : List Timer) (code : Timer → ℕ) where
         (rises : slice_index s.words (lock_at b) ≤ word)
         (alone : total (holds_at b) s.views ≡ holds_at b v)
         (cell : LockState ((now bases opened code log).bases b) (some slot) word (total (holds_at b) (set s.views id v'))
-            (λ k. total (takes_at b k) (set s.views id v')))
+        (λ k. total (takes_at b k) (set s.views id v')))
         (fits : PassHolds bases opened code log (set s.words (lock_at b) word) v')
         (holds_else : (c : ℕ) → c ≢ b → holds_at c v' ≡ holds_at c v)
         (takes_else : (c k : ℕ) → c ≢ b → takes_at c k v' ≡ takes_at c k v)
@@ -134,7 +140,7 @@ module _ (bases : ℕ) (opened : List Timer) (code : Timer → ℕ) where
       risen c h =
           ⊎_elim
           (λ (e : c ≡ b). subst (λ q. slice_index s.words (lock_at q) ≤ slice_index (set s.words (lock_at b) word) (lock_at q)) (sym e)
-              (omega (arith, get_or-set_same s.words (lock_at b) word 0 in_words)))
+          (omega (arith, get_or-set_same s.words (lock_at b) word 0 in_words)))
           (λ n. omega (arith, word_else (lock_at c) (λ e. n (omega arith))))
           (cases_eq c b)
 
@@ -142,20 +148,24 @@ module _ (bases : ℕ) (opened : List Timer) (code : Timer → ℕ) where
       unheld j u h n at_u e here =
           omega (arith, total_two (holds_at b) s.views id j v u (λ q. n (sym q)) at at_u, ap (λ q. holds_at q u) here, holds_one u h e)
 
-      pub locked : RowHolds bases opened code log record { words = slice_set s.words
-          (lock_at b) word; homes = slice_set s.homes b slot; views = slice_set s.views id v' }
+      pub locked : RowHolds bases opened code log record {
+        words = slice_set s.words
+            (lock_at b) word;
+        homes = slice_set s.homes b slot;
+        views = slice_set s.views id v';
+      }
       locked = record {
         allowed = home.allowed;
         words_len = length-set s.words (lock_at b) word ∙ home.words_len;
         homes_len = length-set s.homes b slot ∙ home.homes_len;
         each_base = λ c h. ⊎_elim
             (λ (e : c ≡ b). subst (λ q. LockState ((now bases opened code log).bases q) (get_elem? (set s.homes b slot) q)
-                (slice_index (set s.words (lock_at b) word) (lock_at q)) (total (holds_at q) (set s.views id v'))
-                (λ k. total (takes_at q k) (set s.views id v'))) (sym e)
+            (slice_index (set s.words (lock_at b) word) (lock_at q)) (total (holds_at q) (set s.views id v'))
+            (λ k. total (takes_at q k) (set s.views id v'))) (sym e)
             (rw (set_here s.homes b slot (omega (arith, home.homes_len)), get_or-set_same s.words (lock_at b) word 0 in_words) cell))
             (λ n. rw (set_else s.homes b c slot n, word_else (lock_at c) (λ e. n (omega arith)))
             (cell_on _ _ _ _ _ _ _ _ (home.each_base c h) (sum_same (holds_at c) s.views id v v' at (holds_else c n))
-                (λ k. sum_same (takes_at c k) s.views id v v' at (takes_else c k n)) (λ z. refl)))
+            (λ k. sum_same (takes_at c k) s.views id v v' at (takes_else c k n)) (λ z. refl)))
             (cases_eq c b);
         each_timer = λ t h. word_else (word_at bases t) (λ e. omega arith) ∙ home.each_timer t h;
         each_view = views_on (λ u. PassHolds bases opened code log (set s.words (lock_at b) word) u) s.views id v' fits
@@ -174,15 +184,15 @@ module _ (bases : ℕ) (opened : List Timer) (code : Timer → ℕ) where
         (holder : holds_at ((now bases opened code log).timers e.timer).base v ≡ 1)
         (carrier : ((now bases opened code log).timers e.timer).moving ≡ true → carries_at e.timer v ≡ 1)
         (fits : PassHolds bases opened code (log ++ e ∷ []) (set s.words (word_at bases e.timer)
-            (code ((now bases opened code (log ++ e ∷ [])).timers e.timer))) v')
+        (code ((now bases opened code (log ++ e ∷ [])).timers e.timer))) v')
         (locks : SameLocks v v') (same_id : row_pass_id v' ≡ row_pass_id v)
         (places : (t k : ℕ) → t < length opened → places_at t k v' + one_if
-            (within k ((now bases opened code log).timers t).stamp) ≡ places_at t k v + one_if
-            (within k ((now bases opened code (log ++ e ∷ [])).timers t).stamp))
+        (within k ((now bases opened code log).timers t).stamp) ≡ places_at t k v + one_if
+        (within k ((now bases opened code (log ++ e ∷ [])).timers t).stamp))
         (claims : (t g b : ℕ) → t < length opened → claims_at t g b v' + one_if
-            (runs g b ((now bases opened code log).timers t)) ≡ claims_at t g b v + one_if (runs g b ((now bases opened code (log ++ e ∷ [])).timers t)))
+        (runs g b ((now bases opened code log).timers t)) ≡ claims_at t g b v + one_if (runs g b ((now bases opened code (log ++ e ∷ [])).timers t)))
         (carries : (t : ℕ) → t < length opened → carries_at t v' + one_if
-            ((now bases opened code log).timers t).moving ≡ carries_at t v + one_if ((now bases opened code (log ++ e ∷ [])).timers t).moving) where
+        ((now bases opened code log).timers t).moving ≡ carries_at t v + one_if ((now bases opened code (log ++ e ∷ [])).timers t).moving) where
       abbrev w : System
       w = now bases opened code log
 
@@ -213,38 +223,59 @@ module _ (bases : ℕ) (opened : List Timer) (code : Timer → ℕ) where
       other_base : (j : ℕ) (u : View BaseContent) (h : Locked BaseContent) → j ≢ id → get_elem? s.views j ≡ some u → u.held ≡ Some h
           → h.base < bases → h.base ≢ b
       other_base j u h n at_u held inside here =
-          omega (arith, total_two (holds_at b) s.views id j v u (λ q. n (sym q)) at at_u, holder, ap
-              (λ q. holds_at q u) here, holds_one u h held, (home.each_base b (omega arith)).once)
+          omega (
+            arith,
+            total_two (holds_at b) s.views id j v u (λ q. n (sym q)) at at_u,
+            holder,
+            ap
+                (λ q. holds_at q u) here,
+            holds_one u h held,
+            (home.each_base b (omega arith)).once,
+          )
 
       other_timer : (j : ℕ) (u : View BaseContent) (t : ℕ) → j ≢ id → get_elem? s.views j ≡ some u → u.carry ≡ Some t → t ≢ e.timer
       other_timer j u t n at_u carry here =
           let one : carries_at e.timer u ≡ 1 = ap (λ q. carries_at q u) (sym here) ∙ carries_one u t carry in
           ⊎_elim
-          (λ moves. omega (arith, total_two (carries_at e.timer) s.views id j v u
-              (λ q. n (sym q)) at at_u, one, carrier moves, home.carriers e.timer ok.within, ap one_if moves))
+          (λ moves. omega (
+            arith,
+            total_two (carries_at e.timer) s.views id j v u
+                (λ q. n (sym q)) at at_u,
+            one,
+            carrier moves,
+            home.carriers e.timer ok.within,
+            ap one_if moves,
+          ))
           (λ still. omega (arith, total_at (carries_at e.timer) s.views j u at_u, one, home.carriers e.timer ok.within, ap one_if still))
           (cases_Bool (w.timers e.timer).moving)
 
-      pub entered : RowHolds bases opened code (log ++ e ∷ []) record { words = slice_set s.words i
-          (code (w'.timers e.timer)); homes = s.homes; views = slice_set s.views id v' }
+      pub entered : RowHolds bases opened code (log ++ e ∷ []) record {
+        words = slice_set s.words i
+            (code (w'.timers e.timer));
+        homes = s.homes;
+        views = slice_set s.views id v';
+      }
       entered = record {
         allowed = steps_push bases (length opened) (first_system opened) log e home.allowed ok;
         words_len = length-set s.words i (code (w'.timers e.timer)) ∙ home.words_len;
         homes_len = home.homes_len;
         each_base = λ c h. rw (word_same (lock_at c) (λ q. omega arith))
             (cell_on _ _ _ _ _ _ _ _ (home.each_base c h) (sum_same (holds_at c) s.views id v v' at (locks.holds c))
-                (λ k. sum_same (takes_at c k) s.views id v v' at (locks.takes c k))
+            (λ k. sum_same (takes_at c k) s.views id v v' at (locks.takes c k))
             (λ z. bases_else c (λ here. omega (arith, total_at (holds_at c) s.views id v at, ap (λ q. holds_at q v) here, holder))));
         each_timer = λ t h. ⊎_elim
             (λ (same : t ≡ e.timer). subst (λ q. slice_index new_words (word_at bases q) ≡ code (w'.timers q)) (sym same)
-                (get_or-set_same s.words i (code (w'.timers e.timer)) 0 (omega (arith, home.words_len, ok.within))))
+            (get_or-set_same s.words i (code (w'.timers e.timer)) 0 (omega (arith, home.words_len, ok.within))))
             (λ n. word_same (word_at bases t) (λ q. n (omega arith)) ∙ (home.each_timer t h ∙ ap code (sym (timers_else t n))))
             (cases_eq t e.timer);
         each_view = views_on (λ u. PassHolds bases opened code (log ++ e ∷ []) new_words u) s.views id v' fits
             (λ j u n at_u. let old = home.each_view j u at_u in
             fits_on log (log ++ e ∷ []) s.words new_words u old (begins_more log (e ∷ [])) (λ c h. omega (arith, word_same (lock_at c) (λ q. omega arith)))
-            (λ h held. let inside = (old.held h held).within in (bases_else h.base (other_base j u h n at_u held inside), word_same
-                (lock_at h.base) (λ q. omega arith)))
+            (λ h held. let inside = (old.held h held).within in (
+              bases_else h.base (other_base j u h n at_u held inside),
+              word_same
+                  (lock_at h.base) (λ q. omega arith),
+            ))
             (λ t carry. timers_else t (other_timer j u t n at_u carry)));
         tree = subst (λ ls. IsPassTree ls) (sym (map_kept row_pass_id s.views id v v' at same_id)) home.tree;
         tally = λ t k h. omega (arith, total_set (places_at t k) s.views id v v' at, places t k h, home.tally t k h);
@@ -260,8 +291,8 @@ module _ (bases : ℕ) (opened : List Timer) (code : Timer → ℕ) where
       pub grown : RowHolds bases opened code log record { words = s.words; homes = s.homes; views = slice_set s.views id v' ++ u ∷ [] }
       grown =
           let sum : (f : View BaseContent → ℕ) → f v' + f u ≡ f v + 0
-              → total f (set s.views id v' ++ u ∷ []) ≡ total f s.views = λ f q. omega
-              (arith, total_set f s.views id v v' at, total-append f (set s.views id v') (u ∷ [])) in
+          → total f (set s.views id v' ++ u ∷ []) ≡ total f s.views = λ f q. omega
+          (arith, total_set f s.views id v v' at, total-append f (set s.views id v') (u ∷ [])) in
           record {
             allowed = home.allowed;
             words_len = home.words_len;
@@ -288,8 +319,8 @@ module _ (bases : ℕ) (opened : List Timer) (code : Timer → ℕ) where
       pub merged : RowHolds bases opened code log record { words = s.words; homes = s.homes; views = slice_set (slice_set s.views id v') other u' }
       merged =
           let sum : (f : View BaseContent → ℕ) → f v' + f u' ≡ f v + f u
-              → total f (set (set s.views id v') other u') ≡ total f s.views = λ f q. omega
-              (arith, total_set f s.views id v v' at, total_set f (set s.views id v') other u u' at_other) in
+          → total f (set (set s.views id v') other u') ≡ total f s.views = λ f q. omega
+          (arith, total_set f s.views id v v' at, total_set f (set s.views id v') other u u' at_other) in
           record {
             allowed = home.allowed;
             words_len = home.words_len;

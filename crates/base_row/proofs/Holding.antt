@@ -45,7 +45,7 @@ module _ (bases : ℕ) (opened : List Timer) (code : Timer → ℕ) (v : View Ba
       let all = agrees bases opened v.seen fresh knows.allowed in
       subst (λ (b : BaseContent). IsQueuedAs t (w.timers t) b.content) (sym same)
       (IsQueuedAs-from w.timers t (w.bases h.base).content (all.apart t) (subst (λ b. IsContentOf w.timers b (w.bases h.base).content)
-          (sym here) (all.contents h.base)))
+      (sym here) (all.contents h.base)))
 
 -- what a seat is like after an entry
 pub record Rested (o : Opening) (h : Locked BaseContent) (t : ℕ) (event : Event) (me new : Me (Option BaseContent) (View BaseContent)) : Type 0 where
@@ -83,7 +83,7 @@ pub let_go : (o : Opening) (h : Locked BaseContent) (me mid new : Me (Option Bas
     → Freed o.bases o.timers number_of h mid new → LetGo o h me new
 let_go o h me mid new about resting held inside is told =
     let at_first : new ≡ (having_freed new.0.seen h.base (slice_index me.0.met h.base + 1) me.0, []) = told.rest
-        ∙ ap (λ (m : Me (Option BaseContent) (View BaseContent)). (having_freed new.0.seen h.base (slice_index m.0.met h.base + 1) m.0, rest m.1)) is in
+    ∙ ap (λ (m : Me (Option BaseContent) (View BaseContent)). (having_freed new.0.seen h.base (slice_index m.0.met h.base + 1) m.0, rest m.1)) is in
     let word : h.word ≡ slice_index me.0.met h.base = (resting.knows.held h held).1.1 in
     let opening : new.0.opening ≡ o = ap (λ (m : Me (Option BaseContent) (View BaseContent)). m.0.opening) at_first ∙ about in
     record {

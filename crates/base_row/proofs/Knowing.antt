@@ -38,7 +38,7 @@ module _ (bases : ℕ) (opened : List Timer) (code : Timer → ℕ) (log : List 
   others_gone last j u apart at_u =
       ⊎_elim
       (λ t. absurd (apart (last_alone (map row_pass_id s.views) home.tree id j (row_pass_id v) (row_pass_id u)
-          (at_map row_pass_id s.views id v at) live last (at_map row_pass_id s.views j u at_u) t)))
+      (at_map row_pass_id s.views id v at) live last (at_map row_pass_id s.views j u at_u) t)))
       (λ f. f)
       (cases_Bool u.id.live)
 
@@ -55,10 +55,10 @@ module _ (bases : ℕ) (opened : List Timer) (code : Timer → ℕ) (log : List 
         (met (runs g b ((now bases opened code log).timers t)) (omega (arith, home.claims t g b h, total_at (claims_at t g b) s.views id v at)));
     all_entries = λ last t k h. as_seen (λ (x : Timer). places_at t k v ≡ one_if (within k x.stamp)) t
         (sym (total_only (places_at t k) s.views id v at (λ j u apart at_u. ap (count (is_place t k))
-            ((home.each_view j u at_u).gone (others_gone last j u apart at_u)).0)) ∙ home.tally t k h);
+        ((home.each_view j u at_u).gone (others_gone last j u apart at_u)).0)) ∙ home.tally t k h);
     all_takes = λ last b k h some_one below.
         let c = home.each_base b h in
         let all = total_only (takes_at b k) s.views id v at (λ j u apart at_u. ap (count (is_place b k))
-            ((home.each_view j u at_u).gone (others_gone last j u apart at_u)).1.1) in
+        ((home.each_view j u at_u).gone (others_gone last j u apart at_u)).1.1) in
         omega (arith, all, c.each k, in_range k c.taken some_one (omega (arith, fits.met b h, c.number, c.once)));
   }

@@ -41,7 +41,7 @@ newer_one bases words met b word inside le below top = record {
       (cases_eq c b);
   below = λ c h. ⊎_elim
       (λ (e : c ≡ b). subst (λ q. slice_index (set met b word) q ≤ slice_index words (lock_at q)) (sym e)
-          (omega (arith, get_or-set_same met b word 0 inside)))
+      (omega (arith, get_or-set_same met b word 0 inside)))
       (λ n. omega (arith, get_or-set_other met b c word 0 n, below c h))
       (cases_eq c b);
 }
@@ -57,8 +57,14 @@ module _ (bases : ℕ) (opened : List Timer) (code : Timer → ℕ) where
   fits_seen log words met v fits more same = record {
     seen = begins_refl log;
     heard = begins_nil log;
-    held = λ h e. let t = fits.held h e in record { within = t.within; seen = t.whole; whole = t.whole; word = t.word
-        ∙ sym (same h e); number = t.number ∙ sym (same h e) };
+    held = λ h e. let t = fits.held h e in record {
+      within = t.within;
+      seen = t.whole;
+      whole = t.whole;
+      word = t.word
+          ∙ sym (same h e);
+      number = t.number ∙ sym (same h e);
+    };
     carry = λ t e. refl;
     wide = omega (arith, more.size, fits.wide);
     full = λ live. more.size ∙ fits.full live;
@@ -71,13 +77,13 @@ module _ (bases : ℕ) (opened : List Timer) (code : Timer → ℕ) where
     abbrev Goes : State (Option BaseContent) (View BaseContent) → ℕ → ℕ → (View BaseContent → Type 0) → Type 0
     Goes s i n then =
         (w : View BaseContent) × (a : Act (Option BaseContent)) × Valid s.homes carried a
-            × HasOneHistory bases opened code (stepped s i n id carried w a) × ((carried_after carried a ≡ carried) × then w)
+        × HasOneHistory bases opened code (stepped s i n id carried w a) × ((carried_after carried a ≡ carried) × then w)
 
     looks_with : (log : List TimerEntry) (s : State (Option BaseContent) (View BaseContent)) (home : RowHolds bases opened code log s)
         → get_elem? s.views id ≡ some v → (i : ℕ) (met : List ℕ) → Newer bases s.words v.met met
         → ((h : Locked BaseContent) → v.held ≡ Some h → slice_index met h.base ≡ slice_index v.met h.base)
         → RowHolds bases opened code log (stepped s i (slice_index s.words i) id carried (having_met log met v) keeps)
-            × Knows bases opened code (having_met log met v)
+        × Knows bases opened code (having_met log met v)
     looks_with log s home at i met more same =
         let v' : View BaseContent = having_met log met v in
         let next : RowHolds bases opened code log record { words = s.words; homes = s.homes; views = slice_set s.views id v' } =
@@ -111,14 +117,14 @@ module _ (bases : ℕ) (opened : List Timer) (code : Timer → ℕ) where
     meets_at : (log : List TimerEntry) (s : State (Option BaseContent) (View BaseContent)) (home : RowHolds bases opened code log s)
         → get_elem? s.views id ≡ some v → (b : ℕ) → b < bases → v.held ≡ None
         → (w : View BaseContent) × (a : Act (Option BaseContent)) × Valid s.homes carried a
-            × HasOneHistory bases opened code (stepped s (lock_at b) (slice_index s.words (lock_at b)) id carried w a)
-            × Met bases opened code b (v, carried) (slice_index s.words (lock_at b)) (w, carried_after carried a)
+        × HasOneHistory bases opened code (stepped s (lock_at b) (slice_index s.words (lock_at b)) id carried w a)
+        × Met bases opened code b (v, carried) (slice_index s.words (lock_at b)) (w, carried_after carried a)
     meets_at log s home at b inside idle =
         let fits = home.each_view id v at in
         let found : ℕ = slice_index s.words (lock_at b) in
         let l = looks_with log s home at (lock_at b) (set v.met b found)
-            (newer_one bases s.words v.met b found (omega (arith, fits.full live)) (fits.met b inside) fits.met (omega arith))
-            (λ h e. absurd (no_lock h (sym idle ∙ e))) in (
+        (newer_one bases s.words v.met b found (omega (arith, fits.full live)) (fits.met b inside) fits.met (omega arith))
+        (λ h e. absurd (no_lock h (sym idle ∙ e))) in (
           having_met log (set v.met b found) v,
           keeps,
           tt,
@@ -147,9 +153,9 @@ module _ (bases : ℕ) (opened : List Timer) (code : Timer → ℕ) where
     abbrev Told : Bool → State (Option BaseContent) (View BaseContent) → Type 0
     Told hit s =
         (w : View BaseContent) × (a : Act (Option BaseContent)) × Valid s.homes [] a
-            × HasOneHistory bases opened code (stepped s (lock_at b) (either hit (m + m + 1) (slice_index s.words (lock_at b))) id [] w a)
+        × HasOneHistory bases opened code (stepped s (lock_at b) (either hit (m + m + 1) (slice_index s.words (lock_at b))) id [] w a)
         × MatchBool hit (Hit bases opened code b (m + 1) (m + m + 1) (v, []) (w, carried_after [] a))
-            (Miss bases opened code b (m + m) (v, []) (slice_index s.words (lock_at b)) (w, carried_after [] a))
+        (Miss bases opened code b (m + m) (v, []) (slice_index s.words (lock_at b)) (w, carried_after [] a))
 
     told : (log : List TimerEntry) (s : State (Option BaseContent) (View BaseContent)) → RowHolds bases opened code log s
         → get_elem? s.views id ≡ some v → (hit : Bool) → eqb (slice_index s.words (lock_at b)) (m + m) ≡ hit → Told hit s
@@ -188,7 +194,7 @@ module _ (bases : ℕ) (opened : List Timer) (code : Timer → ℕ) where
         newer_one bases words v.met b (m + m + 1) in_met (omega arith)
         (λ c h. ⊎_elim
         (λ (e : c ≡ b). subst (λ q. slice_index v.met q ≤ slice_index words (lock_at q)) (sym e)
-            (omega (arith, get_or-set_same s.words (lock_at b) (m + m + 1) 0 in_words)))
+        (omega (arith, get_or-set_same s.words (lock_at b) (m + m + 1) 0 in_words)))
         (λ n. omega (arith, get_or-set_other s.words (lock_at b) (lock_at c) (m + m + 1) 0 (λ e. n (omega arith)), fits.met c h))
         (cases_eq c b))
         (omega (arith, get_or-set_same s.words (lock_at b) (m + m + 1) 0 in_words)) in
@@ -196,8 +202,14 @@ module _ (bases : ℕ) (opened : List Timer) (code : Timer → ℕ) where
           seen = begins_refl log;
           heard = begins_nil log;
           held = λ h e. let t : record { base = b; word = m + m + 1; content = content } ≡ h = cc in subst (λ q. HeldHolds bases opened code log words v' q) t
-              (record { within = inside; seen = refl; whole = refl; word = get_or-set_same s.words (lock_at b) (m + m + 1) 0 in_words
-                  ∙ sym (get_or-set_same v.met b (m + m + 1) 0 in_met); number = sym (get_or-set_same v.met b (m + m + 1) 0 in_met) });
+              (record {
+                within = inside;
+                seen = refl;
+                whole = refl;
+                word = get_or-set_same s.words (lock_at b) (m + m + 1) 0 in_words
+                    ∙ sym (get_or-set_same v.met b (m + m + 1) 0 in_met);
+                number = sym (get_or-set_same v.met b (m + m + 1) 0 in_met);
+              });
           carry = λ t e. refl;
           wide = omega (arith, more.size, fits.wide);
           full = λ alive. more.size ∙ fits.full alive;
@@ -207,17 +219,29 @@ module _ (bases : ℕ) (opened : List Timer) (code : Timer → ℕ) where
         } in
         let sum : total (holds_at b) (set s.views id v') ≡ 1 = omega (arith, total_set (holds_at b) s.views id v v' at, ap one_if (eq-eqb b b refl)) in
         let cell' : LockState content (some none) (m + m + 1) (total (holds_at b) (set s.views id v'))
-            (λ k. total (takes_at b k) (set s.views id v')) = record {
+        (λ k. total (takes_at b k) (set s.views id v')) = record {
           taken = m + 1;
           number = omega arith;
           once = omega arith;
           free = λ z. absurd (omega arith);
           out = λ z. refl;
-          each = λ k. omega (arith, total_set (takes_at b k) s.views id v v' at, one_more b k, ap (λ q. one_if (q && eqb (m + 1) k))
-              (eq-eqb b b refl), cell.each k, within_more k m, ap (λ n. one_if (within k n)) (half cell.taken m (omega (arith, cell.number))));
+          each = λ k. omega (
+            arith,
+            total_set (takes_at b k) s.views id v v' at,
+            one_more b k,
+            ap (λ q. one_if (q && eqb (m + 1) k))
+                (eq-eqb b b refl),
+            cell.each k,
+            within_more k m,
+            ap (λ n. one_if (within k n)) (half cell.taken m (omega (arith, cell.number))),
+          );
         } in
-        let next : RowHolds bases opened code log record { words = slice_set s.words (lock_at b)
-            (m + m + 1); homes = slice_set s.homes b none; views = slice_set s.views id v' } =
+        let next : RowHolds bases opened code log record {
+          words = slice_set s.words (lock_at b)
+              (m + m + 1);
+          homes = slice_set s.homes b none;
+          views = slice_set s.views id v';
+        } =
         locked bases opened code log s home b id v v' (m + m + 1) none at inside (omega arith) (omega arith) cell' fits'
         (λ c n. ap one_if (ne_eqb b c (λ e. n (sym e))) ∙ ap (held_in c) (sym idle))
         (λ c k n. omega (arith, one_more c k, ap (λ q. one_if (q && eqb (m + 1) k)) (ne_eqb b c (λ e. n (sym e)))))
@@ -233,8 +257,12 @@ module _ (bases : ℕ) (opened : List Timer) (code : Timer → ℕ) where
             seen = fits.seen;
             heard = fits.heard;
             steady = λ t e. carry_own bases opened code log s home v fits t e;
-            knows = knows_of bases opened code log record { words = slice_set s.words (lock_at b)
-                (m + m + 1); homes = slice_set s.homes b none; views = slice_set s.views id v' } next id v' (set_there s.views id v v' at) live refl;
+            knows = knows_of bases opened code log record {
+              words = slice_set s.words (lock_at b)
+                  (m + m + 1);
+              homes = slice_set s.homes b none;
+              views = slice_set s.views id v';
+            } next id v' (set_there s.views id v v' at) live refl;
           },
         )
       where
@@ -249,7 +277,7 @@ module _ (bases : ℕ) (opened : List Timer) (code : Timer → ℕ) where
             ⊎_elim
             (λ (e : c ≡ b).
             let here : slice_index (set v.met b (m + m + 1)) c ≡ m + m + 1 = ap (λ q. slice_index (set v.met b (m + m + 1)) q) e
-                ∙ get_or-set_same v.met b (m + m + 1) 0 in_met in
+            ∙ get_or-set_same v.met b (m + m + 1) 0 in_met in
             let known' : slice_index v.met c ≡ m + m = ap (λ q. slice_index v.met q) e ∙ known in
             ⊎_elim
             (λ was. omega (arith, old was))
@@ -264,7 +292,7 @@ module _ (bases : ℕ) (opened : List Timer) (code : Timer → ℕ) where
 
     pub takes_lock : Allows (HasOneHistory bases opened code) slots id (v, []) (lock_at b) (λ n. either (eqb n (m + m)) (m + m + 1) n)
         (λ found new. MatchBool (eqb found (m + m)) (Hit bases opened code b (m + 1) (m + m + 1) (v, []) new)
-            (Miss bases opened code b (m + m) (v, []) found new))
+        (Miss bases opened code b (m + m) (v, []) found new))
     takes_lock s home many at small = told home.0 s home.1 at (eqb (slice_index s.words (lock_at b)) (m + m)) refl
 
   -- ---- a store that lets a base go
@@ -274,8 +302,12 @@ module _ (bases : ℕ) (opened : List Timer) (code : Timer → ℕ) where
     freed_word = slice_index v.met h.base + 1
 
     frees_at : (log : List TimerEntry) (s : State (Option BaseContent) (View BaseContent)) → RowHolds bases opened code log s → get_elem? s.views id ≡ some v
-        → RowHolds bases opened code log record { words = slice_set s.words (lock_at h.base) freed_word; homes = slice_set s.homes h.base
-            (some (Some h.content)); views = slice_set s.views id (having_freed log h.base freed_word v) }
+        → RowHolds bases opened code log record {
+          words = slice_set s.words (lock_at h.base) freed_word;
+          homes = slice_set s.homes h.base
+              (some (Some h.content));
+          views = slice_set s.views id (having_freed log h.base freed_word v);
+        }
     frees_at log s home at =
         let b = h.base in
         let fits = home.each_view id v at in
@@ -291,7 +323,7 @@ module _ (bases : ℕ) (opened : List Timer) (code : Timer → ℕ) where
         newer_one bases words v.met b freed_word in_met (omega arith)
         (λ c i. ⊎_elim
         (λ (e : c ≡ b). subst (λ q. slice_index v.met q ≤ slice_index words (lock_at q)) (sym e)
-            (omega (arith, get_or-set_same s.words (lock_at b) freed_word 0 in_words)))
+        (omega (arith, get_or-set_same s.words (lock_at b) freed_word 0 in_words)))
         (λ n. omega (arith, get_or-set_other s.words (lock_at b) (lock_at c) freed_word 0 (λ e. n (omega arith)), fits.met c i))
         (cases_eq c b))
         (omega (arith, get_or-set_same s.words (lock_at b) freed_word 0 in_words)) in
@@ -306,15 +338,15 @@ module _ (bases : ℕ) (opened : List Timer) (code : Timer → ℕ) where
           met = more.below;
           takes = λ c k some_one. ⊎_elim
               (λ (e : c ≡ b). subst (λ q. 0 < takes_at q k v
-                  → k + k ≤ slice_index (set v.met b freed_word) q + 0) (sym e)
-                  (λ o. omega (arith, fits.takes b k o, get_or-set_same v.met b freed_word 0 in_met)) some_one)
+              → k + k ≤ slice_index (set v.met b freed_word) q + 0) (sym e)
+              (λ o. omega (arith, fits.takes b k o, get_or-set_same v.met b freed_word 0 in_met)) some_one)
               (λ n. omega (arith, fits.takes c k some_one, else_held c n, get_or-set_other v.met b c freed_word 0 n))
               (cases_eq c b);
           gone = λ off. absurd (true≢false (sym live ∙ off));
         } in
         let sum : total (holds_at b) (set s.views id v') ≡ 0 = omega (arith, total_set (holds_at b) s.views id v v' at) in
         let cell' : LockState ((now bases opened code log).bases b) (some (some (Some h.content))) freed_word
-            (total (holds_at b) (set s.views id v')) (λ k. total (takes_at b k) (set s.views id v')) = record {
+        (total (holds_at b) (set s.views id v')) (λ k. total (takes_at b k) (set s.views id v')) = record {
           taken = cell.taken;
           number = omega (arith, cell.number, t.word);
           once = omega arith;
@@ -342,8 +374,12 @@ module _ (bases : ℕ) (opened : List Timer) (code : Timer → ℕ) where
             steady = λ t e. carry_own bases opened code log s home v (home.each_view id v at) t e;
             own = λ t inside on. stable_own bases opened code log s home v (home.each_view id v at) h held t inside (inl on);
             content = sym ((home.each_view id v at).held h held).whole;
-            knows = knows_of bases opened code log record { words = slice_set s.words
-                (lock_at h.base) freed_word; homes = slice_set s.homes h.base
-                (some (Some h.content)); views = slice_set s.views id v' } next id v' (set_there s.views id v v' at) live refl;
+            knows = knows_of bases opened code log record {
+              words = slice_set s.words
+                  (lock_at h.base) freed_word;
+              homes = slice_set s.homes h.base
+                  (some (Some h.content));
+              views = slice_set s.views id v';
+            } next id v' (set_there s.views id v v' at) live refl;
           },
         )

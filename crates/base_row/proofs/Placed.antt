@@ -41,8 +41,8 @@ module _ (bases count : ℕ) where
   placed w [] first all t = first t
   placed w (e ∷ es) first all t = placed (after_entry w e) es (λ k. ⊎_elim
       (λ (same : k ≡ e.timer). subst (λ i. ((after_entry w e).timers i).base < bases) (sym same)
-          (subst (λ (x : Timer). x.base < bases) (sym (timer_here w e))
-          (placed_after bases (w.bases (w.timers e.timer).base).content e.timer (w.timers e.timer) e.event all.0.base (first e.timer))))
+      (subst (λ (x : Timer). x.base < bases) (sym (timer_here w e))
+      (placed_after bases (w.bases (w.timers e.timer).base).content e.timer (w.timers e.timer) e.event all.0.base (first e.timer))))
       (λ apart. subst (λ (x : Timer). x.base < bases) (sym (timer_else w e k apart)) (first k))
       (cases_eq k e.timer)) all.1 t
 
@@ -64,8 +64,11 @@ within_all : (bases count : ℕ) (w : System) (log : List TimerEntry) → ((t : 
 within_all bases count w [] first all t = first t
 within_all bases count w (e ∷ es) first all t = within_all bases count (after_entry w e) es (λ k. ⊎_elim
     (λ (same : k ≡ e.timer). subst (λ i. IsWithin ((after_entry w e).timers i)) (sym same) (subst (λ (x : Timer). IsWithin x) (sym (timer_here w e))
-    (record { left = left-after (w.timers e.timer) e.event all.0.needs (first e.timer).left; limit = omega
-        (arith, (stamp-after (w.timers e.timer) e.event).1, (first e.timer).limit) })))
+    (record {
+      left = left-after (w.timers e.timer) e.event all.0.needs (first e.timer).left;
+      limit = omega
+          (arith, (stamp-after (w.timers e.timer) e.event).1, (first e.timer).limit);
+    })))
     (λ apart. subst (λ (x : Timer). IsWithin x) (sym (timer_else w e k apart)) (first k))
     (cases_eq k e.timer)) all.1 t
 
@@ -117,7 +120,7 @@ module _ (o : Opening) (v : View BaseContent) (fresh : AreFresh o.timers) (knows
     first_within reading None is = tt
     first_within reading (Some p) is = ⊎_elim (λ inside. inside)
         (λ past. absurd (false≢true (subst (λ (x : Timer). is_due_on h.base reading x ≡ true) (none_past p.1 past)
-            (first_due-next (timer_seen o v) h.base reading h.content.content p content_held (sym is)).0.due)))
+        (first_due-next (timer_seen o v) h.base reading h.content.content p content_held (sym is)).0.due)))
         (cases_lt p.1 (length o.timers))
 
     pub first_none : (reading : ClockReading) (r : Option (ℕ × ℕ)) → r ≡ first_due h.content.content reading

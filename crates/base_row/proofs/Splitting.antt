@@ -91,8 +91,8 @@ module _ (bases : ℕ) (opened : List Timer) (code : Timer → ℕ) where
         grown bases opened code log s home id v v (note_of v) at fits
             (fits_reader log s.words gone_pass_id no_opening v fits (λ t. absurd (true≢false (sym t))))
             (subst (λ ls. IsPassTree (ls ++ gone_pass_id ∷ []))
-                (sym (set_again (map row_pass_id s.views) id (row_pass_id v) (at_map row_pass_id s.views id v at)))
-                (gone_tree (map row_pass_id s.views) home.tree))
+            (sym (set_again (map row_pass_id s.views) id (row_pass_id v) (at_map row_pass_id s.views id v at)))
+            (gone_tree (map row_pass_id s.views) home.tree))
             (record { places = λ t k. refl; claims = λ t g b. refl; holds = λ b. refl; takes = λ b k. refl; carries = λ t. refl }),
       )
 
@@ -125,8 +125,15 @@ module _ (bases : ℕ) (opened : List Timer) (code : Timer → ℕ) where
         let none_u : holds_at b u ≡ 0 = ap (held_in b) idle_u in
         ⊎_elim
         (λ t. omega (arith, fits.takes b k t, greater_at v.met u.met b))
-        (λ z. omega (arith, fits_u.takes b k (omega (arith, total-append (λ (p : ℕ
-            × ℕ). one_if (is_place b k p)) v.takes u.takes)), greater_at v.met u.met b))
+        (λ z. omega (
+          arith,
+          fits_u.takes b k (omega (
+            arith,
+            total-append (λ (p : ℕ
+                × ℕ). one_if (is_place b k p)) v.takes u.takes,
+          )),
+          greater_at v.met u.met b,
+        ))
         (cases_lt 0 (takes_at b k v));
     gone = λ off. absurd (true≢false (sym live ∙ off));
   }
@@ -138,13 +145,13 @@ module _ (bases : ℕ) (opened : List Timer) (code : Timer → ℕ) where
       let at_u : get_elem? s.views other ≡ some u = sym (set_else s.views id other (joined_view v u) apart) ∙ at_other in
       let lines_at : get_elem? (set (map row_pass_id s.views) id (row_pass_id (joined_view v u))) other ≡ some (row_pass_id u) =
       ap (λ ls. get_elem? ls other) (sym (map-set row_pass_id s.views id (joined_view v u)))
-          ∙ at_map row_pass_id (set s.views id (joined_view v u)) other u at_other in (
+      ∙ at_map row_pass_id (set s.views id (joined_view v u)) other u at_other in (
         log,
         merged bases opened code log s home id other v (joined_view v u) u gone_view at at_other
             (fits_joined log s.words v u live idle idle_u (home.each_view id v at) (home.each_view other u at_u))
             (fits_gone log s.words)
             (joins_tree (map row_pass_id s.views) home.tree id other (row_pass_id v) (row_pass_id u)
-                (at_map row_pass_id s.views id v at) live apart lines_at live_u answers)
+            (at_map row_pass_id s.views id v at) live apart lines_at live_u answers)
             (record {
               places = λ t k. omega (arith, total-append (λ (p : ℕ × ℕ). one_if (is_place t k p)) v.mine u.mine);
               claims = λ t g b. omega (arith, total-append (λ (p : Claimed). one_if (is_claim t g b p)) v.claims u.claims);
@@ -164,15 +171,21 @@ module _ (bases : ℕ) (opened : List Timer) (code : Timer → ℕ) where
       let line_at : get_elem? (map row_pass_id s.views) other ≡ some gone_pass_id = at_map row_pass_id s.views other u at_u in
       let lines : set (set (map row_pass_id s.views) id (row_pass_id v)) other gone_pass_id ≡ map row_pass_id s.views =
       ap (λ ls. set ls other gone_pass_id) (set_again (map row_pass_id s.views) id (row_pass_id v) (at_map row_pass_id s.views id v at))
-          ∙ set_again (map row_pass_id s.views) other gone_pass_id line_at in (
+      ∙ set_again (map row_pass_id s.views) other gone_pass_id line_at in (
         log,
         merged bases opened code log s home id other v (told_view v u) u gone_view at at_other
             (record {
               seen = fits.seen;
               heard = fits_u.seen;
-              held = λ h e. let t = fits.held h e in record { within = t.within; seen = t.seen; whole = t.whole; word = omega
-                  (arith, t.word, greater_at v.met u.met h.base, fits_u.met h.base t.within); number = omega
-                  (arith, t.number, t.word, greater_at v.met u.met h.base, fits_u.met h.base t.within) };
+              held = λ h e. let t = fits.held h e in record {
+                within = t.within;
+                seen = t.seen;
+                whole = t.whole;
+                word = omega
+                    (arith, t.word, greater_at v.met u.met h.base, fits_u.met h.base t.within);
+                number = omega
+                    (arith, t.number, t.word, greater_at v.met u.met h.base, fits_u.met h.base t.within);
+              };
               carry = fits.carry;
               wide = omega (arith, greater_len v.met u.met, fits.wide, fits_u.wide);
               full = λ alive. omega (arith, greater_len v.met u.met, fits.full alive, fits_u.wide);

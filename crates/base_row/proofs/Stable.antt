@@ -14,7 +14,7 @@ use Rattle.base_row.proofs.Begun.{steps_begins, same_own}
 module _ (bases : ℕ) (opened : List Timer) (code : Timer → ℕ) (log : List TimerEntry) (s : State (Option BaseContent) (View BaseContent))
     (home : RowHolds bases opened code log s)
     (v : View BaseContent) (fits : PassHolds bases opened code log s.words v) (h : Locked BaseContent) (held : v.held ≡ Some h) (t : ℕ)
-        (within : t < length opened)
+    (within : t < length opened)
     (ours : IsOn h.base ((now bases opened code v.seen).timers t) ⊎ (v.carry ≡ Some t)) where
   pub stable : (now bases opened code log).timers t ≡ (now bases opened code v.seen).timers t
   stable =
@@ -23,7 +23,7 @@ module _ (bases : ℕ) (opened : List Timer) (code : Timer → ℕ) (log : List 
       let holds = fits.held h held in
       same_on (length opened) (now bases opened code v.seen) (now bases opened code log) h.base t
       (shows bases opened v.seen (steps_begins bases (length opened) (first_system opened) v.seen log fits.seen home.allowed))
-          (shows bases opened log home.allowed)
+      (shows bases opened log home.allowed)
       (sym holds.seen ∙ holds.whole) within on)
       (λ carry. sym (fits.carry t carry))
       ours

@@ -23,7 +23,7 @@ module _ (bases : ℕ) (opened : List Timer) (id : ℕ) (v : View BaseContent)
       → Allows (HasOneHistory bases opened number_of) slots id (v, carried) word (λ n. n) (LooksOwn (step slots word 0 0 none) (v, carried))
   looks_by carried word =
       subst (λ (o : Opening). Allows (HasOneHistory bases opened number_of) slots id (v, carried) word (λ n. n)
-          (Looked o.bases o.timers number_of (step slots word 0 0 none) (v, carried))) (sym opening)
+      (Looked o.bases o.timers number_of (step slots word 0 0 none) (v, carried))) (sym opening)
       (looks bases opened number_of slots id v carried live word)
 
   pub meets_by : (carried : List (ℕ × Option BaseContent)) (b word : ℕ) → word ≡ lock_at b → b < bases → v.held ≡ None
@@ -38,27 +38,27 @@ module _ (bases : ℕ) (opened : List Timer) (id : ℕ) (v : View BaseContent)
         r.3,
         λ c e.
             subst (λ (o : Opening). Met o.bases o.timers number_of c (v, carried) (slice_index s.words (lock_at b))
-                (r.0, carried_after carried r.1)) (sym opening)
+            (r.0, carried_after carried r.1)) (sym opening)
             (subst (λ x. Met bases opened number_of x (v, carried) (slice_index s.words (lock_at b)) (r.0, carried_after carried r.1)) (omega arith) r.4),
       ))
 
   hit_or_miss : (b m : ℕ) (found : ℕ) (hit : Bool) (new : Me (Option BaseContent) (View BaseContent))
       → MatchBool hit (Hit bases opened number_of b (m + 1) (m + m + 1) (v, []) new) (Miss bases opened number_of b (m + m) (v, []) found new)
       → MatchBool hit ((k : ℕ) × (m + m + 2 ≡ k + k) × Hit bases opened number_of b k (m + m + 1) (v, []) new)
-          (Miss bases opened number_of b (m + m) (v, []) found new)
+      (Miss bases opened number_of b (m + m) (v, []) found new)
   hit_or_miss b m found true new told = (m + 1, omega arith, told)
   hit_or_miss b m found false new told = told
 
   pub takes_by : (b word m first second : ℕ) → word ≡ lock_at b → b < bases → v.held ≡ None → slice_index v.met b ≡ m + m → first ≡ m + m → second ≡ first + 1
       → Allows (HasOneHistory bases opened number_of) slots id (v, []) word (λ n. either (eqb n first) second n)
-          (TakesOwn (step slots word first second none) (v, []))
+      (TakesOwn (step slots word first second none) (v, []))
   takes_by b word m first second is inside idle known is_first is_second =
       subst (λ i. Allows (HasOneHistory bases opened number_of) slots id (v, []) i (λ n. either (eqb n first) second n)
-          (TakesOwn (step slots i first second none) (v, []))) (sym is)
+      (TakesOwn (step slots i first second none) (v, []))) (sym is)
       (subst (λ x. Allows (HasOneHistory bases opened number_of) slots id (v, []) (lock_at b) (λ n. either (eqb n first) x n)
-          (TakesOwn (step slots (lock_at b) first x none) (v, []))) (sym is_second)
+      (TakesOwn (step slots (lock_at b) first x none) (v, []))) (sym is_second)
       (subst (λ x. Allows (HasOneHistory bases opened number_of) slots id (v, []) (lock_at b) (λ n. either (eqb n x) (x + 1) n)
-          (TakesOwn (step slots (lock_at b) x (x + 1) none) (v, []))) (sym is_first)
+      (TakesOwn (step slots (lock_at b) x (x + 1) none) (v, []))) (sym is_first)
       (λ s kept many at small.
       let r = takes_lock bases opened number_of slots id v live idle b m inside known s kept many at small in (
         r.0,
@@ -67,20 +67,20 @@ module _ (bases : ℕ) (opened : List Timer) (id : ℕ) (v : View BaseContent)
         r.3,
         λ c e.
             subst (λ (o : Opening). TakesAt o c (step slots (lock_at b) (m + m) (m + m + 1) none) (v, []) (slice_index s.words (lock_at b))
-                (r.0, carried_after [] r.1)) (sym opening)
+            (r.0, carried_after [] r.1)) (sym opening)
             (subst (λ x. TakesAt (record { bases = bases; timers = opened }) x (step slots (lock_at b) (m + m) (m + m + 1) none) (v, [])
-                (slice_index s.words (lock_at b)) (r.0, carried_after [] r.1)) (omega arith)
+            (slice_index s.words (lock_at b)) (r.0, carried_after [] r.1)) (omega arith)
             (hit_or_miss b m (slice_index s.words (lock_at b)) (eqb (slice_index s.words (lock_at b)) (m + m)) (r.0, carried_after [] r.1) r.4)),
       ))))
 
   pub frees_by : (h : Locked BaseContent) (word stored : ℕ) → word ≡ lock_at h.base → stored ≡ slice_index v.met h.base + 1 → v.held ≡ Some h
       → Allows (HasOneHistory bases opened number_of) slots id (v, (h.base, Some h.content) ∷ []) word (λ _. stored)
-          (λ _. FreesOwn (step slots word stored 0 none) (v, (h.base, Some h.content) ∷ []) stored)
+      (λ _. FreesOwn (step slots word stored 0 none) (v, (h.base, Some h.content) ∷ []) stored)
   frees_by h word stored is is_stored held =
       subst (λ i. Allows (HasOneHistory bases opened number_of) slots id (v, (h.base, Some h.content) ∷ []) i (λ _. stored)
-          (λ _. FreesOwn (step slots i stored 0 none) (v, (h.base, Some h.content) ∷ []) stored)) (sym is)
+      (λ _. FreesOwn (step slots i stored 0 none) (v, (h.base, Some h.content) ∷ []) stored)) (sym is)
       (subst (λ x. Allows (HasOneHistory bases opened number_of) slots id (v, (h.base, Some h.content) ∷ []) (lock_at h.base) (λ _. x)
-          (λ _. FreesOwn (step slots (lock_at h.base) x 0 none) (v, (h.base, Some h.content) ∷ []) x)) (sym is_stored)
+      (λ _. FreesOwn (step slots (lock_at h.base) x 0 none) (v, (h.base, Some h.content) ∷ []) x)) (sym is_stored)
       (λ s kept many at small.
       let r = frees bases opened number_of slots id v h live held s kept many at small in (
         r.0,
@@ -89,7 +89,7 @@ module _ (bases : ℕ) (opened : List Timer) (id : ℕ) (v : View BaseContent)
         r.3,
         λ g e.
             subst (λ (o : Opening). Freed o.bases o.timers number_of g (v, (h.base, Some h.content) ∷ [])
-                (r.0, carried_after ((h.base, Some h.content) ∷ []) r.1)) (sym opening)
+            (r.0, carried_after ((h.base, Some h.content) ∷ []) r.1)) (sym opening)
             (subst (λ x. Freed bases opened number_of x (v, (h.base, Some h.content) ∷ [])
-                (r.0, carried_after ((h.base, Some h.content) ∷ []) r.1)) (some_same h g (sym held ∙ e)) r.4),
+            (r.0, carried_after ((h.base, Some h.content) ∷ []) r.1)) (some_same h g (sym held ∙ e)) r.4),
       )))

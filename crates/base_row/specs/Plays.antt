@@ -22,8 +22,14 @@ having_met seen met v = record v { seen = seen; heard = []; met = met }
 
 -- a pass that has taken a base's lock
 abbrev pub having_taken : List TimerEntry → ℕ → BaseContent → ℕ → ℕ → View BaseContent → View BaseContent
-having_taken seen b content number word v = record v { seen = seen; heard = []; held = Some
-    (record { base = b; word = word; content = content }); takes = v.takes ++ (b, number) ∷ []; met = set v.met b word }
+having_taken seen b content number word v = record v {
+  seen = seen;
+  heard = [];
+  held = Some
+      (record { base = b; word = word; content = content });
+  takes = v.takes ++ (b, number) ∷ [];
+  met = set v.met b word;
+}
 
 -- a pass that has let a base go
 abbrev pub having_freed : List TimerEntry → ℕ → ℕ → View BaseContent → View BaseContent
@@ -246,7 +252,7 @@ abbrev pub TakesAt : Opening → ℕ → Step (Option BaseContent) → Me (Optio
     → Me (Option BaseContent) (View BaseContent) → Type 0
 TakesAt o b st me found new =
     MatchBool (found == st.first) ((k : ℕ) × (st.first + 2 ≡ k + k)
-        × Hit o.bases o.timers number_of b k (st.first + 1) me new) (Miss o.bases o.timers number_of b st.first me found new)
+    × Hit o.bases o.timers number_of b k (st.first + 1) me new) (Miss o.bases o.timers number_of b st.first me found new)
 
 abbrev pub TakesOwn : Step (Option BaseContent) → Me (Option BaseContent) (View BaseContent) → ℕ → Me (Option BaseContent) (View BaseContent) → Type 0
 TakesOwn st me found new = (b : ℕ) → st.word ≡ lock_at b → TakesAt me.0.opening b st me found new
@@ -258,8 +264,17 @@ FreesOwn st me stored new = (h : Locked BaseContent) → me.0.held ≡ Some h �
 pub record Caught (o : Opening) (base : ℕ) (me new : Me (Option BaseContent) (View BaseContent)) (h : Locked BaseContent) : Type 0 where
   pub at : h.base ≡ base
   pub number : ℕ
-  pub rest : new ≡ (record me.0 { seen = new.0.seen; heard = []; held = Some h; takes = me.0.takes ++
-      (base, number) ∷ []; met = new.0.met }, slots_of (Some h))
+  pub rest : new ≡ (
+    record me.0 {
+      seen = new.0.seen;
+      heard = [];
+      held = Some h;
+      takes = me.0.takes ++
+          (base, number) ∷ [];
+      met = new.0.met;
+    },
+    slots_of (Some h),
+  )
   pub word : slice_index new.0.met base + 1 ≡ number + number
   pub newer : slice_index me.0.met base ≤ slice_index new.0.met base
   pub apart : (c : ℕ) → c ≢ base → slice_index new.0.met c ≡ slice_index me.0.met c

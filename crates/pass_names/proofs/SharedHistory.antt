@@ -9,8 +9,13 @@ module _ {E C : Type 0} where
   looks_refl k = record { seen = begins_refl k.seen; mine = refl; id = refl; claims = refl }
 
   pub looks_trans : (a b c : Known E C) → LooksOn a b → LooksOn b c → LooksOn a c
-  looks_trans a b c first second = record { seen = begins_trans first.seen second.seen; mine = second.mine ∙ first.mine; id = second.id
-      ∙ first.id; claims = second.claims ∙ first.claims }
+  looks_trans a b c first second = record {
+    seen = begins_trans first.seen second.seen;
+    mine = second.mine ∙ first.mine;
+    id = second.id
+        ∙ first.id;
+    claims = second.claims ∙ first.claims;
+  }
 
 pub places-append : {X : Type 0} (t n : ℕ) (xs ys : List X) → places t n (xs ++ ys) ≡ places t n xs ++ places t (n + length xs) ys
 places-append t n [] ys = ap (λ k. places t k ys) (omega arith)
@@ -26,7 +31,7 @@ module _ {E C X : Type 0} (part : ℕ → List E → List X) where
     mine = b.mine ∙ (ap (λ l. l ++ places t (length (part t v.seen)) ys) a.mine
         ∙ (append_assoc u.mine (places t (length (part t u.seen)) xs) (places t (length (part t v.seen)) ys)
         ∙ ap (λ l. u.mine ++ l) (ap (λ k. places t (length (part t u.seen)) xs ++ places t k ys)
-            (omega (arith, ap length a.own, length-append (part t u.seen) xs)) ∙ sym (places-append t (length (part t u.seen)) xs ys))));
+        (omega (arith, ap length a.own, length-append (part t u.seen) xs)) ∙ sym (places-append t (length (part t u.seen)) xs ys))));
     id = b.id ∙ a.id;
   }
 

@@ -85,7 +85,7 @@ unfolding find_form
 found_holds P [] word form all e = absurd cc
 found_holds P (f ∷ table) word form all e =
     let go : (b : Bool) → bytes_eq word f.0 ≡ b → (if b then Ok f.1 else find_form table word) ≡ Ok form
-        → P word form = λ b. elim b as (λ b. bytes_eq word f.0 ≡ b → (if b then Ok f.1 else find_form table word) ≡ Ok form → P word form) [
+    → P word form = λ b. elim b as (λ b. bytes_eq word f.0 ≡ b → (if b then Ok f.1 else find_form table word) ≡ Ok form → P word form) [
       | true ↦ λ is k. subst (λ form. P word form) (same_Ok f.1 form k) (subst (λ w. P w f.1) (sym ((bytes_eq-Decides word f.0).0 is)) all.0)
       | false ↦ λ is k. found_holds P table word form all.1 k
     ] in
@@ -118,8 +118,8 @@ plain_begin key more = Key key ∷ more
 plain_chosen : (word : List ℕ) (words : List (List ℕ)) (form : Form) → find_form plain_forms word ≡ Ok form → HasKeys (row form) (word ∷ words)
 plain_chosen word words form e =
     chosen plain_begin 1 word form (word ∷ words)
-        (found_holds (Begins plain_begin 1) plain_forms word form
-            ((refl, refl), ((refl, refl), ((refl, refl), ((refl, refl), ((refl, refl), ((refl, refl), ((refl, refl), tt))))))) e)
+    (found_holds (Begins plain_begin 1) plain_forms word form
+    ((refl, refl), ((refl, refl), ((refl, refl), ((refl, refl), ((refl, refl), ((refl, refl), ((refl, refl), tt))))))) e)
     (λ more none. (refl, no_keys more words none))
 
 callback_chosen : (words : List (List ℕ)) (form : Form) → find_form_by_first raw_forms (drop 2 words) ≡ Ok form
@@ -130,7 +130,7 @@ callback_chosen (timer ∷ []) form e = absurd cc
 callback_chosen (timer ∷ clock ∷ []) form e = absurd cc
 callback_chosen (timer ∷ clock ∷ key ∷ words) form e =
     chosen raw 4 key form _ (found_holds (Begins raw 4) raw_forms key form ((refl, refl), ((refl, refl), ((refl, refl), ((refl, refl), tt)))) e)
-        (λ more none. (refl, (refl, no_keys more words none)))
+    (λ more none. (refl, (refl, no_keys more words none)))
 
 call_chosen : (lane : List ℕ) (words : List (List ℕ)) (form : Form) → find_form_by_first call_forms words ≡ Ok form
     → HasKeys (row form) (lane ∷ words)
@@ -138,11 +138,25 @@ unfolding find_form_by_first
 call_chosen lane [] form e = absurd cc
 call_chosen lane (name ∷ words) form e =
     chosen called 2 name form _
-        (found_holds (Begins called 2) call_forms name form
-            ((refl, refl), ((refl, refl),
-                ((refl, refl), ((refl, refl),
-                    ((refl, refl), ((refl, refl),
-                        ((refl, refl), ((refl, refl), ((refl, refl), ((refl, refl), ((refl, refl), ((refl, refl), ((refl, refl), tt))))))))))))) e)
+    (found_holds (Begins called 2) call_forms name form (
+      (refl, refl),
+      (
+        (refl, refl),
+        (
+          (refl, refl),
+          (
+            (refl, refl),
+            (
+              (refl, refl),
+              (
+                (refl, refl),
+                ((refl, refl), ((refl, refl), ((refl, refl), ((refl, refl), ((refl, refl), ((refl, refl), ((refl, refl), tt))))))),
+              ),
+            ),
+          ),
+        ),
+      ),
+    ) e)
     (λ more none. (refl, no_keys more words none))
 
 pub form_spells : (words : List (List ℕ)) (form : Form) → form_in words ≡ Ok form → HasKeys (row form) words
@@ -150,19 +164,19 @@ unfolding form_in
 form_spells [] form e = absurd cc
 form_spells (word ∷ words) form e =
     let raw_or_plain : (b : Bool) → bytes_eq word (codes "raw") ≡ b
-        → (if b then find_form_by_first raw_forms (drop 2 words) else find_form plain_forms word) ≡ Ok form → HasKeys (row form) (word ∷ words) =
-        λ b. elim b as (λ b. bytes_eq word (codes "raw") ≡ b
-            → (if b then find_form_by_first raw_forms (drop 2 words) else find_form plain_forms word) ≡ Ok form → HasKeys (row form) (word ∷ words)) [
+    → (if b then find_form_by_first raw_forms (drop 2 words) else find_form plain_forms word) ≡ Ok form → HasKeys (row form) (word ∷ words) =
+    λ b. elim b as (λ b. bytes_eq word (codes "raw") ≡ b
+    → (if b then find_form_by_first raw_forms (drop 2 words) else find_form plain_forms word) ≡ Ok form → HasKeys (row form) (word ∷ words)) [
       | true ↦ λ is k. subst (λ w. HasKeys (row form) (w ∷ words)) (sym ((bytes_eq-Decides word (codes "raw")).0 is)) (callback_chosen words form k)
       | false ↦ λ is k. plain_chosen word words form k
     ] in
     let go : (b : Bool) →
-        (if b then find_form_by_first call_forms words else
-            (if bytes_eq word (codes "raw") then find_form_by_first raw_forms (drop 2 words) else find_form plain_forms word)) ≡ Ok form
-                → HasKeys (row form) (word ∷ words) =
-                λ b. elim b as (λ b. (if b then find_form_by_first call_forms words else
-                    (if bytes_eq word (codes "raw") then find_form_by_first raw_forms (drop 2 words) else find_form plain_forms word)) ≡ Ok form
-                        → HasKeys (row form) (word ∷ words)) [
+    (if b then find_form_by_first call_forms words else
+    (if bytes_eq word (codes "raw") then find_form_by_first raw_forms (drop 2 words) else find_form plain_forms word)) ≡ Ok form
+    → HasKeys (row form) (word ∷ words) =
+    λ b. elim b as (λ b. (if b then find_form_by_first call_forms words else
+    (if bytes_eq word (codes "raw") then find_form_by_first raw_forms (drop 2 words) else find_form plain_forms word)) ≡ Ok form
+    → HasKeys (row form) (word ∷ words)) [
       | true ↦ λ k. call_chosen word words form k
       | false ↦ λ k. raw_or_plain (bytes_eq word (codes "raw")) refl k
     ] in

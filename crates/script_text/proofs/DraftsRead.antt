@@ -114,7 +114,7 @@ goes_from : (d : Draft) (ls : List Line) (f : Form) (vs : List Value) (e : Draft
     → draft_with_line d (record { form = f; values = vs }) ≡ e → record { form = f; values = vs } ≡ l → DraftOf e (ls ++ l ∷ []) → Goes d ls f vs
 goes_from d ls f vs e l told is so =
     subst (λ l. DraftOf (draft_with_line d (record { form = f; values = vs })) (ls ++ l ∷ [])) (sym is)
-        (subst (λ e. DraftOf e (ls ++ l ∷ [])) (sym told) so)
+    (subst (λ e. DraftOf e (ls ++ l ∷ [])) (sym told) so)
 
 declarations-push : (n k : ℕ) (ts : List Declaration) (t : Declaration) → k ≡ n + length ts
     → declaration_lines n (ts ++ t ∷ []) ≡ declaration_lines n ts ++ declaration_line k t.clock t.kind ∷ []
@@ -130,7 +130,7 @@ one_timer b l m calls ts t stands few range =
     let D : Draft = full b l m (ts ++ t ∷ []) [] None calls in
     let lines : declaration_lines 0 (ts ++ t ∷ []) ++ [] ≡ (declaration_lines 0 ts ++ []) ++ declaration_line (length ts) t.clock t.kind ∷ [] =
     append-nil _ ∙ declarations-push 0 (length ts) ts t (omega arith)
-        ∙ ap (λ (ls : List Line). ls ++ declaration_line (length ts) t.clock t.kind ∷ []) (sym (append-nil (declaration_lines 0 ts))) in
+    ∙ ap (λ (ls : List Line). ls ++ declaration_line (length ts) t.clock t.kind ∷ []) (sym (append-nil (declaration_lines 0 ts))) in
     let still : Stands D = record {
       ranges = record {
         bases = stands.ranges.bases;
@@ -159,10 +159,10 @@ one_round b l m calls ts ended begun stands =
     let D : Draft = full b l m ts rounds (Some []) calls in
     let same = sym (round_calls rounds) in
     let lines : declaration_lines 0 ts
-        ++ flat_map round_lines (rounds ++ record { calls = [] } ∷ []) ≡ (declaration_lines 0 ts ++ flat_map round_lines rounds)
-            ++ of_numbers forms.Round [] ∷ [] =
+    ++ flat_map round_lines (rounds ++ record { calls = [] } ∷ []) ≡ (declaration_lines 0 ts ++ flat_map round_lines rounds)
+    ++ of_numbers forms.Round [] ∷ [] =
     ap (λ (ls : List Line). declaration_lines 0 ts ++ ls) (flat_map-push round_lines rounds (record { calls = [] }))
-        ∙ sym (append_assoc (declaration_lines 0 ts) (flat_map round_lines rounds) (of_numbers forms.Round [] ∷ [])) in
+    ∙ sym (append_assoc (declaration_lines 0 ts) (flat_map round_lines rounds) (of_numbers forms.Round [] ∷ [])) in
     let still : Stands D = record {
       ranges = record {
         bases = stands.ranges.bases;
@@ -184,16 +184,16 @@ calls-push : (ended : List Round) (cs : List LaneCall) (c : LaneCall)
     → all_calls (ended ++ record { calls = cs ++ c ∷ [] } ∷ []) ≡ all_calls (ended ++ record { calls = cs } ∷ []) ++ c ∷ []
 calls-push ended cs c =
     flat_map-push (λ r. r.calls) ended (record { calls = cs ++ c ∷ [] }) ∙ sym (append_assoc (all_calls ended) cs (c ∷ []))
-        ∙ ap (λ (all : List LaneCall). all ++ c ∷ []) (sym (flat_map-push (λ r. r.calls) ended (record { calls = cs })))
+    ∙ ap (λ (all : List LaneCall). all ++ c ∷ []) (sym (flat_map-push (λ r. r.calls) ended (record { calls = cs })))
 
 lines-push : (ended : List Round) (cs : List LaneCall) (c : LaneCall)
     → flat_map round_lines (ended ++ record { calls = cs ++ c ∷ [] } ∷ []) ≡ flat_map round_lines (ended ++ record { calls = cs } ∷ [])
     ++ call_line c.lane c.call ∷ []
 lines-push ended cs c =
     let one : round_lines (record { calls = cs ++ c ∷ [] }) ≡ round_lines (record { calls = cs }) ++ call_line c.lane c.call ∷ [] =
-        ap (λ (ls : List Line). of_numbers forms.Round [] ∷ ls) (map-append (λ c. call_line c.lane c.call) cs (c ∷ [])) in
+    ap (λ (ls : List Line). of_numbers forms.Round [] ∷ ls) (map-append (λ c. call_line c.lane c.call) cs (c ∷ [])) in
     flat_map-push round_lines ended (record { calls = cs ++ c ∷ [] }) ∙ ap (λ (ls : List Line). flat_map round_lines ended ++ ls) one
-        ∙ sym (append_assoc (flat_map round_lines ended) (round_lines (record { calls = cs })) (call_line c.lane c.call ∷ []))
+    ∙ sym (append_assoc (flat_map round_lines ended) (round_lines (record { calls = cs })) (call_line c.lane c.call ∷ []))
     ∙ ap (λ (ls : List Line). ls ++ call_line c.lane c.call ∷ []) (sym (flat_map-push round_lines ended (record { calls = cs })))
 
 one_call : (b l m calls : ℕ) (ts : List Declaration) (ended : List Round) (cs : List LaneCall) (c : LaneCall)
@@ -206,10 +206,10 @@ one_call b l m calls ts ended cs c stands few lane range =
     let same = sym (calls-push ended cs c) in
     let sum : length (before ++ c ∷ []) ≡ length before + 1 = length-append _ _ in
     let lines : declaration_lines 0 ts
-        ++ flat_map round_lines (ended ++ record { calls = cs ++ c ∷ [] } ∷ []) ≡
-            (declaration_lines 0 ts ++ flat_map round_lines (ended ++ record { calls = cs } ∷ [])) ++ call_line c.lane c.call ∷ [] =
+    ++ flat_map round_lines (ended ++ record { calls = cs ++ c ∷ [] } ∷ []) ≡
+    (declaration_lines 0 ts ++ flat_map round_lines (ended ++ record { calls = cs } ∷ [])) ++ call_line c.lane c.call ∷ [] =
     ap (λ (ls : List Line). declaration_lines 0 ts ++ ls) (lines-push ended cs c)
-        ∙ sym (append_assoc (declaration_lines 0 ts) (flat_map round_lines (ended ++ record { calls = cs } ∷ [])) (call_line c.lane c.call ∷ [])) in
+    ∙ sym (append_assoc (declaration_lines 0 ts) (flat_map round_lines (ended ++ record { calls = cs } ∷ [])) (call_line c.lane c.call ∷ [])) in
     let still : Stands D = record {
       ranges = record {
         bases = stands.ranges.bases;
@@ -227,7 +227,7 @@ one_call b l m calls ts ended cs c stands few lane range =
       count = subst (λ cs. length cs ≡ calls + 1) same (omega (arith, sum, stands.count));
     } in
     subst (λ ls. DraftOf D ls) (ap (λ (ls : List Line). header_lines b l m ++ ls) lines)
-        (behind_header b l m ts ended (Some (cs ++ c ∷ [])) (calls + 1) still)
+    (behind_header b l m ts ended (Some (cs ++ c ∷ [])) (calls + 1) still)
 
 -- ---- one more line
 
@@ -254,14 +254,14 @@ module _ (b l m calls : ℕ) (ts : List Declaration) (f : Form) (vs : List Value
       let t = declares (now ended None) f vs is a.line a.accepts.values in
       let few : length ts < most_timers = ltb-true (length ts) most_timers (holds _ _ count) in
       let told : draft_with_line (now ended None) (record { form = f; values = vs }) ≡ full b l m (ts ++ t.0 ∷ []) ended None calls =
-          rw (is, t.1.means) refl in
+      rw (is, t.1.means) refl in
       goes_from _ (so_far ended None) f vs _ _ told t.1.line
       (subst (λ ended. DraftOf (full b l m (ts ++ t.0 ∷ []) ended None calls)
-          (so_far ended None ++ declaration_line (length ts) t.0.clock t.0.kind ∷ [])) (sym none)
+      (so_far ended None ++ declaration_line (length ts) t.0.clock t.0.kind ∷ [])) (sym none)
       (one_timer b l m calls ts t.0 (subst (λ ended. Stands (now ended None)) none stands) few t.1.range))
   next_timer ended (Some cs) stands a is =
       let placed : is_placed (now ended (Some cs)) parts.Declaration ≡ true =
-          subst (λ p. is_placed (now ended (Some cs)) p ≡ true) is a.accepts.placed in
+      subst (λ p. is_placed (now ended (Some cs)) p ≡ true) is a.accepts.placed in
       absurd cc
 
   next_call : (ended : List Round) (begun : Option (List LaneCall)) → Stands (now ended begun) → IsAccepted (now ended begun) f vs
@@ -276,7 +276,7 @@ module _ (b l m calls : ℕ) (ts : List Declaration) (f : Form) (vs : List Value
       let c = calls_for (now ended (Some cs)) f vs is a.line a.accepts.values a.accepts.kind in
       let few : calls < most_calls = ltb-true calls most_calls (holds _ _ count) in
       let told : draft_with_line (now ended (Some cs)) (record { form = f; values = vs }) ≡ full b l m ts ended (Some (cs ++ c.0 ∷ [])) (calls + 1) =
-          rw (is, c.1.means) refl in
+      rw (is, c.1.means) refl in
       goes_from _ (so_far ended (Some cs)) f vs _ _ told c.1.line (one_call b l m calls ts ended cs c.0 stands few c.1.lane c.1.range)
 
   next_round : (ended : List Round) (begun : Option (List LaneCall)) → Stands (now ended begun) → IsAccepted (now ended begun) f vs
@@ -285,7 +285,7 @@ module _ (b l m calls : ℕ) (ts : List Declaration) (f : Form) (vs : List Value
   unfolding draft_with_line with_part with_round
   next_round ended begun stands a is =
       let told : draft_with_line (now ended begun) (record { form = f; values = vs }) ≡ full b l m ts (ended ++ last_round begun) (Some []) calls =
-          rw is refl in
+      rw is refl in
       goes_from _ (so_far ended begun) f vs _ _ told (round_line f vs is a.line) (one_round b l m calls ts ended begun stands)
 
   no_header : (ended : List Round) (begun : Option (List LaneCall)) (n : ℕ) → IsAccepted (now ended begun) f vs → part f ≡ parts.Header n → ⊥

@@ -14,9 +14,12 @@ spot_here : (spots : List Spot) (fields : List (Option Field)) (i : ℕ) (d : Op
     → (spot : Spot) × (drop i spots ≡ spot ∷ drop (i + 1) spots) × (get_or fields i d ≡ field_at spot)
 spot_here spots fields i d is inside =
     let same : length (map field_at spots) ≡ length spots = length-map _ _ in
-    let here : i < length spots = omega (arith, inside, ap (λ (ps : List (Option Field)). length ps) is, same) in
-    (get_or spots i (Key []), drop_more spots i (Key []) here, ap (λ (ps : List (Option Field)). get_or ps i d) is
-        ∙ get_or-map field_at spots i (Key []) d here)
+    let here : i < length spots = omega (arith, inside, ap (λ (ps : List (Option Field)). length ps) is, same) in (
+      get_or spots i (Key []),
+      drop_more spots i (Key []) here,
+      ap (λ (ps : List (Option Field)). get_or ps i d) is
+          ∙ get_or-map field_at spots i (Key []) d here,
+    )
 
 key_says : (d : Draft) (spot : Spot) (spots : List Spot) (vs : List Value) → field_at spot ≡ None
     → check_values d (spot ∷ spots) vs ≡ check_values d spots vs
@@ -65,7 +68,7 @@ module _ (d : Draft) (spots : List Spot) (fields : List (Option Field)) (i : ℕ
       → rest ≡ v ∷ vs → None ≡ check_value d field v → check_values d (drop i spots) rest ≡ total → check_values d (drop (i + 1) spots) vs ≡ total
   not_said field v vs rest total inside some is_rest gives so_far =
       let here : check_values d (drop i spots) rest ≡ check_values d (drop (i + 1) spots) vs =
-          rw (is_rest, at_field field v vs inside some, ← gives) refl in
+      rw (is_rest, at_field field v vs inside some, ← gives) refl in
       sym here ∙ so_far
 
   pub unfilled : (field : Field) (rest : List Value) → i < length fields → get_or fields i e ≡ Some field → length rest ≡ 0

@@ -86,8 +86,8 @@ pub line_of_form-count : (form : Form) (words : List (Bor (List ℕ))) (fields :
 unfolding line_of_form
 line_of_form-count form words fields is other =
     let counts : (length (map (λ w. w.now) words) == length (row form)) ≡ false =
-        ne_eqb _ _ (λ same. other (sym (length-map words (λ w. w.now)) ∙ same ∙ sym (length-map (row form) field_at)
-            ∙ ap (λ (ps : List (Option Field)). length ps) (sym is))) in
+    ne_eqb _ _ (λ same. other (sym (length-map words (λ w. w.now)) ∙ same ∙ sym (length-map (row form) field_at)
+    ∙ ap (λ (ps : List (Option Field)). length ps) (sym is))) in
     rw counts refl
 
 pub line_of_form-values : (form : Form) (words : List (Bor (List ℕ))) (fields : List (Option Field)) → fields ≡ map field_at (row form)
@@ -96,7 +96,7 @@ pub line_of_form-values : (form : Form) (words : List (Bor (List ℕ))) (fields 
 unfolding line_of_form
 line_of_form-values form words fields is same =
     let counts : (length (map (λ w. w.now) words) == length (row form)) ≡ true =
-        eq-eqb _ _ (length-map words (λ w. w.now) ∙ same ∙ ap (λ (ps : List (Option Field)). length ps) is ∙ length-map (row form) field_at) in
+    eq-eqb _ _ (length-map words (λ w. w.now) ∙ same ∙ ap (λ (ps : List (Option Field)). length ps) is ∙ length-map (row form) field_at) in
     rw counts refl
 
 -- ---- a line by itself

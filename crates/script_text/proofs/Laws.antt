@@ -30,7 +30,7 @@ taken number d e (part ∷ parts) ls spelling lines steps four =
     let rest : Result Script Refused = script_from (number + 1) d parts in
     let read : Result Script Refused = continue_after number (with_line_in d part) (λ now. script_from (number + 1) now parts) in
     let go : (b : Bool) → is_skipped part ≡ b
-        → (if b then rest else read) ≡ Ok (script_of e) = λ b. elim b as (λ b. is_skipped part ≡ b → (if b then rest else read) ≡ Ok (script_of e)) [
+    → (if b then rest else read) ≡ Ok (script_of e) = λ b. elim b as (λ b. is_skipped part ≡ b → (if b then rest else read) ≡ Ok (script_of e)) [
       | true ↦ λ skipped. taken (number + 1) d e parts ls (sym (kept_skipped part parts skipped) ∙ spelling) lines steps four
       | false ↦ λ here. (elim ls as (λ ls. part ∷ kept parts ≡ map spelled ls → AllByRecursion IsLine ls → Steps d ls e → read ≡ Ok (script_of e)) [
         | [] ↦ λ spelling lines steps. absurd cc
@@ -48,7 +48,7 @@ unfolding script_in
 read_again bytes s reads =
     let all = script_steps s reads.ranges in
     let few : nat_lt most_script_bytes (length bytes) ≡ false =
-        false_from_ne_true _ (λ long. omega (arith, ltb-true most_script_bytes (length bytes) long, reads.few)) in
+    false_from_ne_true _ (λ long. omega (arith, ltb-true most_script_bytes (length bytes) long, reads.few)) in
     rw few (taken 1 empty all.0 (lines_of bytes) (script_lines s) reads.spelling reads.lines all.1 all.2 ∙ ap (λ (s : Script). Ok s) all.3)
 
 pub one_script : (bytes : List ℕ) (s t : Script) → Reads bytes s → Reads bytes t → s ≡ t

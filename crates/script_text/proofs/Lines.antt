@@ -97,11 +97,11 @@ filled_spells : (form : Form) (words : List (List ℕ)) (l : Line) → HasKeys (
 unfolding line_of_form
 filled_spells form words l keys e =
     let go : (b : Bool) → (length words == length (row form)) ≡ b
-        → (if b then (values_in (row form) words >>= λ vs. Ok (record { form = form; values = vs })) else Err causes.WordCount) ≡ Ok l
-        → (words ≡ fill_form (row l.form) l.values) × IsLine l =
-        λ b. elim b as (λ b. (length words == length (row form)) ≡ b
-            → (if b then (values_in (row form) words >>= λ vs. Ok (record { form = form; values = vs })) else Err causes.WordCount) ≡ Ok l
-            → (words ≡ fill_form (row l.form) l.values) × IsLine l) [
+    → (if b then (values_in (row form) words >>= λ vs. Ok (record { form = form; values = vs })) else Err causes.WordCount) ≡ Ok l
+    → (words ≡ fill_form (row l.form) l.values) × IsLine l =
+    λ b. elim b as (λ b. (length words == length (row form)) ≡ b
+    → (if b then (values_in (row form) words >>= λ vs. Ok (record { form = form; values = vs })) else Err causes.WordCount) ≡ Ok l
+    → (words ≡ fill_form (row l.form) l.values) × IsLine l) [
       | true ↦ λ is k.
           let vs = bind_ok _ _ l k in
           let s = values_spell (row form) words vs.0 (eqb-true _ _ is) keys vs.1 in

@@ -153,9 +153,16 @@ module _ (d : Draft) (f : Form) (name : List ℕ) (spots : List Spot) (k i : ℕ
       let vs : List Value = values.Number k ∷ values.Number i ∷ more in
       let lane = neither _ _ (subst (λ spots. check_values d spots vs ≡ None) is none) in
       let timer = neither _ _ lane.1 in
-      let suit = holds _ _ (subst (λ spots. check_kind d f spots vs ≡ None) is kind) in
-      (record { lane = k; call = call }, record { means = means; line = line; lane = ltb-true k d.lanes (holds _ _ lane.0); range =
-          range timer.1 (ltb-true i (length d.timers) (holds _ _ timer.0), suit) })
+      let suit = holds _ _ (subst (λ spots. check_kind d f spots vs ≡ None) is kind) in (
+        record { lane = k; call = call },
+        record {
+          means = means;
+          line = line;
+          lane = ltb-true k d.lanes (holds _ _ lane.0);
+          range =
+              range timer.1 (ltb-true i (length d.timers) (holds _ _ timer.0), suit);
+        },
+      )
 
   timer_call_again : call_of f (values.Number k ∷ values.Number i ∷ more) ≡ Some (record { lane = k; call = call }) → part f ≡ parts.Call
       → k < d.lanes → HasTimerFor d.timers i f → check_values d spots more ≡ None
@@ -174,10 +181,10 @@ pub calls_for : (d : Draft) (f : Form) (vs : List Value) → part f ≡ parts.Ca
 unfolding call_of plain_call_of object_call_of check_values check_number check_kind
 calls_for d forms.Start (values.Number k ∷ values.Number i ∷ values.Mode modes.Rel ∷ values.Number n ∷ values.Number b ∷ []) is fit e kind =
     timer_call d forms.Start _ _ k i _ (calls.Start i modes.Rel n b) refl refl refl
-        (λ none suit. (suit, ltb-true b d.bases (holds _ _ (neither _ _ none).0))) e kind
+    (λ none suit. (suit, ltb-true b d.bases (holds _ _ (neither _ _ none).0))) e kind
 calls_for d forms.Start (values.Number k ∷ values.Number i ∷ values.Mode modes.Abs ∷ values.Number n ∷ values.Number b ∷ []) is fit e kind =
     timer_call d forms.Start _ _ k i _ (calls.Start i modes.Abs n b) refl refl refl
-        (λ none suit. (suit, ltb-true b d.bases (holds _ _ (neither _ _ none).0))) e kind
+    (λ none suit. (suit, ltb-true b d.bases (holds _ _ (neither _ _ none).0))) e kind
 calls_for d forms.Cancel (values.Number k ∷ values.Number i ∷ []) is fit e kind =
     timer_call d forms.Cancel _ _ k i _ (calls.Cancel i) refl refl refl (λ none suit. suit) e kind
 calls_for d forms.Peek (values.Number k ∷ values.Number i ∷ []) is fit e kind =
@@ -185,23 +192,51 @@ calls_for d forms.Peek (values.Number k ∷ values.Number i ∷ []) is fit e kin
 calls_for d forms.Expire (values.Number k ∷ values.Number b ∷ values.Number n ∷ []) is fit e kind =
     let lane = neither _ _ e in
     let base = neither _ _ lane.1 in
-    let budget = neither _ _ base.1 in
-    (record { lane = k; call = calls.Expire b n }, record { means = refl; line = refl; lane =
-        ltb-true k d.lanes (holds _ _ lane.0); range = (ltb-true b d.bases (holds _ _ base.0), leb-true n most_budget (holds _ _ budget.0)) })
-calls_for d forms.Advance (values.Number k ∷ values.Number n ∷ []) is fit e kind =
-    (record { lane = k; call = calls.Clock (writes.Advance n) }, record { means = refl; line = refl; lane =
-        ltb-true k d.lanes (holds _ _ (neither _ _ e).0); range = tt })
-calls_for d forms.Set (values.Number k ∷ values.Number n ∷ []) is fit e kind =
-    (record { lane = k; call = calls.Clock (writes.Set n) }, record { means = refl; line = refl; lane =
-        ltb-true k d.lanes (holds _ _ (neither _ _ e).0); range = tt })
-calls_for d forms.Suspend (values.Number k ∷ values.Number n ∷ []) is fit e kind =
-    (record { lane = k; call = calls.Clock (writes.Suspend n) }, record { means = refl; line = refl; lane =
-        ltb-true k d.lanes (holds _ _ (neither _ _ e).0); range = tt })
+    let budget = neither _ _ base.1 in (
+      record { lane = k; call = calls.Expire b n },
+      record {
+        means = refl;
+        line = refl;
+        lane =
+            ltb-true k d.lanes (holds _ _ lane.0);
+        range = (ltb-true b d.bases (holds _ _ base.0), leb-true n most_budget (holds _ _ budget.0));
+      },
+    )
+calls_for d forms.Advance (values.Number k ∷ values.Number n ∷ []) is fit e kind = (
+  record { lane = k; call = calls.Clock (writes.Advance n) },
+  record {
+    means = refl;
+    line = refl;
+    lane =
+        ltb-true k d.lanes (holds _ _ (neither _ _ e).0);
+    range = tt;
+  },
+)
+calls_for d forms.Set (values.Number k ∷ values.Number n ∷ []) is fit e kind = (
+  record { lane = k; call = calls.Clock (writes.Set n) },
+  record {
+    means = refl;
+    line = refl;
+    lane =
+        ltb-true k d.lanes (holds _ _ (neither _ _ e).0);
+    range = tt;
+  },
+)
+calls_for d forms.Suspend (values.Number k ∷ values.Number n ∷ []) is fit e kind = (
+  record { lane = k; call = calls.Clock (writes.Suspend n) },
+  record {
+    means = refl;
+    line = refl;
+    lane =
+        ltb-true k d.lanes (holds _ _ (neither _ _ e).0);
+    range = tt;
+  },
+)
 calls_for d forms.Settime
     (values.Number k ∷ values.Number i ∷ values.Number f ∷ values.Number vs ∷ values.Number vn ∷ values.Number is ∷ values.Number in_ ∷
-        []) call fit e kind =
+    []) call fit e kind =
     timer_call d forms.Settime _ _ k i _ (calls.Settime i f (record { sec = vs; nsec = vn }) (record { sec = is; nsec = in_ })) refl refl refl
-        (λ none suit. suit) e kind
+    (λ none suit. suit) e kind
 calls_for d forms.Gettime (values.Number k ∷ values.Number i ∷ []) is fit e kind =
     timer_call d forms.Gettime _ _ k i _ (calls.Gettime i) refl refl refl (λ none suit. suit) e kind
 calls_for d forms.Accept (values.Number k ∷ values.Number i ∷ []) is fit e kind =
@@ -219,10 +254,10 @@ pub call_again : (d : Draft) (lane : ℕ) (call : Call) → lane < d.lanes → I
 unfolding call_of plain_call_of object_call_of check_values check_number check_kind
 call_again d lane (calls.Start timer modes.Rel ns base) own range =
     timer_call_again d forms.Start _ _ lane timer _ (calls.Start timer modes.Rel ns base) refl refl refl own range.0
-        (rw (lt-ltb base d.bases range.1) refl)
+    (rw (lt-ltb base d.bases range.1) refl)
 call_again d lane (calls.Start timer modes.Abs ns base) own range =
     timer_call_again d forms.Start _ _ lane timer _ (calls.Start timer modes.Abs ns base) refl refl refl own range.0
-        (rw (lt-ltb base d.bases range.1) refl)
+    (rw (lt-ltb base d.bases range.1) refl)
 call_again d lane (calls.Start timer modes.Keep ns base) own range = absurd range
 call_again d lane (calls.Cancel timer) own range = timer_call_again d forms.Cancel _ _ lane timer _ (calls.Cancel timer) refl refl refl own range refl
 call_again d lane (calls.Peek timer) own range = timer_call_again d forms.Peek _ _ lane timer _ (calls.Peek timer) refl refl refl own range refl

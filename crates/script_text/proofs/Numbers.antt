@@ -31,9 +31,9 @@ unfolding number_in
 number_spells word n e =
     let v = digits_value 10 word in
     let read : (b : Bool) → (nat_le v last_time && bytes_eq word (decimal v)) ≡ b → (if b then Some v else None) ≡ Some n
-        → (word ≡ decimal n) × (n ≤ last_time) =
-        λ b. elim b as (λ b. (nat_le v last_time && bytes_eq word (decimal v)) ≡ b → (if b then Some v else None) ≡ Some n
-            → (word ≡ decimal n) × (n ≤ last_time)) [
+    → (word ≡ decimal n) × (n ≤ last_time) =
+    λ b. elim b as (λ b. (nat_le v last_time && bytes_eq word (decimal v)) ≡ b → (if b then Some v else None) ≡ Some n
+    → (word ≡ decimal n) × (n ≤ last_time)) [
       | true ↦ λ is k.
           let both = and_parts (nat_le v last_time) (bytes_eq word (decimal v)) is in
           let same : v ≡ n = same_Some v n k in
@@ -77,7 +77,7 @@ pub none_from_large : {E : Type 0} (word : List ℕ) (r : Result ℕ E) (m : ℕ
     → None ≡ number_in word
 none_from_large word r m parses gave large =
     number_none word (λ n small is. let read = parse-decimal 64 n word r (omega arith) (omega arith) is parses in let same : n ≡ m = cc in
-        omega (arith, same))
+    omega (arith, same))
 
 -- what `parse` reads of digits that do not begin with 0
 pub number_from_parse : {E : Type 0} (word : List ℕ) (r : Result ℕ E) (m : ℕ) → ParsesUnsigned 64 10 word r → r ≡ Ok m → 49 ≤ get_or word 0 0
@@ -85,7 +85,7 @@ pub number_from_parse : {E : Type 0} (word : List ℕ) (r : Result ℕ E) (m : �
 number_from_parse word r m parses gave front small =
     let fact = parse_plain own 64 word r parses (λ plus. omega (arith, plus)) in
     let read : (AllDigits 10 word × (0 < length word) × (digits_value 10 word < 2 ^ 64)) × (m ≡ digits_value 10 word) =
-        subst (λ x. OkIff x (AllDigits 10 word × (0 < length word) × (digits_value 10 word < 2 ^ 64)) (digits_value 10 word)) gave fact in
+    subst (λ x. OkIff x (AllDigits 10 word × (0 < length word) × (digits_value 10 word < 2 ^ 64)) (digits_value 10 word)) gave fact in
     let spells : decimal (digits_value 10 word) ≡ word = decimal-digits_value own word read.0.0 read.0.1 (λ zero. omega (arith, zero)) read.0.2 in
     let is : decimal m ≡ word = ap decimal read.1 ∙ spells in
     subst (λ w. Some m ≡ number_in w) is (sym (number_again m small))

@@ -29,11 +29,23 @@ header_room : (d : Draft) (f : Form) (vs : List Value) → d.headers < 4 → che
     → IsWithinLimits (with_header d f vs)
 unfolding with_header check_values check_number
 header_room d forms.Bases (values.Number n ∷ []) few e room =
-    record { headers = omega (arith, few); bases = leb-true n most_bases (and_parts _ _ (holds _ _ (neither _ _ e).0)).1; lanes = room.lanes; timers =
-        room.timers; calls = room.calls }
+    record {
+      headers = omega (arith, few);
+      bases = leb-true n most_bases (and_parts _ _ (holds _ _ (neither _ _ e).0)).1;
+      lanes = room.lanes;
+      timers =
+          room.timers;
+      calls = room.calls;
+    }
 header_room d forms.Lanes (values.Number n ∷ []) few e room =
-    record { headers = omega (arith, few); bases = room.bases; lanes = leb-true n most_lanes (and_parts _ _ (holds _ _ (neither _ _ e).0)).1; timers =
-        room.timers; calls = room.calls }
+    record {
+      headers = omega (arith, few);
+      bases = room.bases;
+      lanes = leb-true n most_lanes (and_parts _ _ (holds _ _ (neither _ _ e).0)).1;
+      timers =
+          room.timers;
+      calls = room.calls;
+    }
 header_room d forms.Limit (values.Number n ∷ []) few e room =
     record { headers = omega (arith, few); bases = room.bases; lanes = room.lanes; timers = room.timers; calls = room.calls }
 header_room d _ _ few e room =
@@ -44,7 +56,7 @@ unfolding with_timer
 timer_room d None few room = room
 timer_room d (Some t) few room =
     let sum : length (d.timers ++ t ∷ []) ≡ length d.timers + 1 = length-append _ _ in
-        record { headers = room.headers; bases = room.bases; lanes = room.lanes; timers = omega (arith, sum, few); calls = room.calls }
+    record { headers = room.headers; bases = room.bases; lanes = room.lanes; timers = omega (arith, sum, few); calls = room.calls }
 
 call_room : (d : Draft) (o : Option LaneCall) → d.calls < most_calls → IsWithinLimits d → IsWithinLimits (with_call d o)
 unfolding with_call

@@ -40,7 +40,7 @@ key_then : {A P : Type 0} (word key : List ℕ) (x y : Option A) (a : A) → (if
     → (y ≡ Some a → P) → P
 key_then {A} {P} word key x y a e this other =
     let go : (b : Bool) → bytes_eq word key ≡ b → (if b then x else y) ≡ Some a
-        → P = λ b. elim b as (λ b. bytes_eq word key ≡ b → (if b then x else y) ≡ Some a → P) [
+    → P = λ b. elim b as (λ b. bytes_eq word key ≡ b → (if b then x else y) ≡ Some a → P) [
       | true ↦ λ is k. this ((bytes_eq-Decides word key).0 is) k
       | false ↦ λ is k. other k
     ] in
@@ -135,7 +135,7 @@ values_spell (At field ∷ spots) (word ∷ words) vs long keys e =
     let said = word_spells (sort field) word v.0 v.1 in
     let rest = values_spell spots words more.0 (omega (arith, long)) keys more.1 in
     subst (λ vs. (word ∷ words ≡ fill_form (At field ∷ spots) vs) × Fills (At field ∷ spots) vs) (same_Ok _ vs more.2)
-        (cc (said.0, rest.0), (said.1, rest.1))
+    (cc (said.0, rest.0), (said.1, rest.1))
 
 -- ---- words of letters and digits
 
@@ -153,8 +153,8 @@ plain_digits [] h = refl
 plain_digits (d ∷ ds) h =
     let digit = digit_from_value d h.0 in
     and_from (is_plain d) (list_all is_plain ds)
-        (and_from (nat_lt 47 d) (nat_lt d 127) (lt-ltb 47 d (omega (arith, digit.0, digit.1))) (lt-ltb d 127 (omega (arith, digit.0, digit.1))))
-            (plain_digits ds h.1)
+    (and_from (nat_lt 47 d) (nat_lt d 127) (lt-ltb 47 d (omega (arith, digit.0, digit.1))) (lt-ltb d 127 (omega (arith, digit.0, digit.1))))
+    (plain_digits ds h.1)
 
 is_word_from_digits : (ds : List ℕ) → AllDigits 10 ds → 0 < length ds → is_word ds ≡ true
 is_word_from_digits [] h some = absurd (omega (arith, some))

@@ -40,9 +40,9 @@ line_read : (d : Draft) (part : List ℕ) (e : Draft) → with_line_in d part �
 unfolding with_line_in
 line_read d part e is =
     let go : (r : Result Line Cause) → line_in part ≡ r → (r >>= λ l. unless_refused (check_line d l) (draft_with_line d l)) ≡ Ok e
-        → (l : Line) × IsRead d part e l =
+    → (l : Line) × IsRead d part e l =
     λ r. elim r as (λ r. line_in part ≡ r → (r >>= λ l. unless_refused (check_line d l) (draft_with_line d l)) ≡ Ok e
-        → (l : Line) × IsRead d part e l) [
+    → (l : Line) × IsRead d part e l) [
       | Ok l ↦ λ read is.
           let spells = line_spells part l read in
           let both = unless_refused_is d e (draft_with_line d l) (check_line d l) is in
@@ -108,14 +108,21 @@ tells number d (part ∷ parts) ls s told lines is =
     let go : (b : Bool) → is_skipped part ≡ b → (if b then rest else read) ≡ Ok s → (ms : List Line) × Tells ls (part ∷ parts) s ms =
     λ b. elim b as (λ b. is_skipped part ≡ b → (if b then rest else read) ≡ Ok s → (ms : List Line) × Tells ls (part ∷ parts) s ms) [
       | true ↦ λ skipped is.
-          let more = tells (number + 1) d parts ls s told lines is in
-          (more.0, record { spelling = kept_skipped part parts skipped ∙ more.1.spelling; lines = more.1.lines; all = more.1.all; ranges =
-              more.1.ranges })
+          let more = tells (number + 1) d parts ls s told lines is in (
+            more.0,
+            record {
+              spelling = kept_skipped part parts skipped ∙ more.1.spelling;
+              lines = more.1.lines;
+              all = more.1.all;
+              ranges =
+                  more.1.ranges;
+            },
+          )
       | false ↦ λ here is.
           let now = behind_is number (with_line_in d part) _ s is in
           let l = line_read d part now.0 now.1 in
           let told : DraftOf now.0 (ls ++ l.0 ∷ []) =
-              subst (λ e. DraftOf e (ls ++ l.0 ∷ [])) l.1.told (draft_of_line d ls l.0 told l.1.line l.1.none) in
+          subst (λ e. DraftOf e (ls ++ l.0 ∷ [])) l.1.told (draft_of_line d ls l.0 told l.1.line l.1.none) in
           let more = tells (number + 1) now.0 parts (ls ++ l.0 ∷ []) s told (All-append IsLine ls (l.0 ∷ []) lines (l.1.line, tt)) now.2 in
           (l.0 ∷ more.0, goes_on d now.0 part parts ls l.0 s more.0 here l.1 more.1)
     ] in
@@ -127,9 +134,9 @@ unfolding script_in
 read_from bytes s is =
     let why : Refused = record { line = 0; cause = causes.TooLong } in
     let go : (b : Bool) → nat_lt most_script_bytes (length bytes) ≡ b → (if b then Err why else script_from 1 empty (lines_of bytes)) ≡ Ok s
-        → Reads bytes s =
+    → Reads bytes s =
     λ b. elim b as (λ b. nat_lt most_script_bytes (length bytes) ≡ b → (if b then Err why else script_from 1 empty (lines_of bytes)) ≡ Ok s
-        → Reads bytes s) [
+    → Reads bytes s) [
       | true ↦ λ long is. absurd cc
       | false ↦ λ few is.
           let all = tells 1 empty (lines_of bytes) [] s at_start tt is in

@@ -75,8 +75,8 @@ declaration_steps b l m ts (d ∷ ds) few ranges n is =
     let rest = declaration_steps b l m (ts ++ d ∷ []) ds (omega (arith, more, few)) ranges.1 (n + 1) (omega (arith, more, is)) in
     let f : Draft = full b l m (ts ++ d ∷ ds) [] None 0 in
     let all : Steps (full b l m (ts ++ d ∷ []) [] None 0) (declaration_lines (n + 1) ds) f =
-        subst (λ all. Steps (full b l m (ts ++ d ∷ []) [] None 0) (declaration_lines (n + 1) ds) (full b l m all [] None 0))
-            (append_assoc ts (d ∷ []) ds) rest in
+    subst (λ all. Steps (full b l m (ts ++ d ∷ []) [] None 0) (declaration_lines (n + 1) ds) (full b l m all [] None 0))
+    (append_assoc ts (d ∷ []) ds) rest in
     subst (λ k. Steps (full b l m ts [] None 0) (declaration_line k d.clock d.kind ∷ declaration_lines (n + 1) ds) f) (sym is)
     (declaration_step b l m ts d.clock d.kind f (declaration_lines (n + 1) ds) (omega (arith, few)) ranges.0 all)
 
@@ -106,15 +106,15 @@ module _ (b l m : ℕ) (ts : List Declaration) where
   call_steps ended cs [] n few lanes ranges =
       let same : n + 0 ≡ n = omega arith in
       ap (λ (cs : List LaneCall). full b l m ts ended (Some cs) n) (sym (append-nil cs))
-          ∙ ap (λ (n : ℕ). full b l m ts ended (Some (cs ++ [])) n) (sym same)
+      ∙ ap (λ (n : ℕ). full b l m ts ended (Some (cs ++ [])) n) (sym same)
   call_steps ended cs (c ∷ more) n few lanes ranges =
       let rest = call_steps ended (cs ++ c ∷ []) more (n + 1) (omega (arith, few)) lanes.1 ranges.1 in
       let count : (n + 1) + length more ≡ n + length (c ∷ more) = omega arith in
       let ls : List Line = map (λ c. call_line c.lane c.call) more in
       let all = subst (λ all. Steps (full b l m ts ended (Some (cs ++ c ∷ [])) (n + 1)) ls (full b l m ts ended (Some all) ((n + 1) + length more)))
-          (append_assoc cs (c ∷ []) more) rest in
+      (append_assoc cs (c ∷ []) more) rest in
       let counted = subst (λ k. Steps (full b l m ts ended (Some (cs ++ c ∷ [])) (n + 1)) ls
-          (full b l m ts ended (Some (cs ++ c ∷ more)) k)) count all in
+      (full b l m ts ended (Some (cs ++ c ∷ more)) k)) count all in
       call_step ended cs n c (full b l m ts ended (Some (cs ++ c ∷ more)) (n + length (c ∷ more))) ls (omega (arith, few)) lanes.0 ranges.0 counted
 
   round_step : (ended : List Round) (begun : Option (List LaneCall)) (n : ℕ) (f : Draft) (ls : List Line)
@@ -126,27 +126,35 @@ module _ (b l m : ℕ) (ts : List Declaration) where
   abbrev Ends : List Round → Option (List LaneCall) → ℕ → List Line → List Round → Type 0
   Ends ended begun n ls rounds =
       (f : Draft) × Steps (full b l m ts ended begun n) ls f × (f.headers ≡ 4)
-          × (script_of f ≡ record { bases = b; lanes = l; limit = m; timers = ts; rounds = rounds })
+      × (script_of f ≡ record { bases = b; lanes = l; limit = m; timers = ts; rounds = rounds })
 
   round_steps : (rs : List Round) (ended : List Round) (begun : Option (List LaneCall)) (n : ℕ) → n + length (all_calls rs) ≤ most_calls
       → AllByRecursion (λ c. c.lane < l) (all_calls rs) → AllByRecursion (λ c. IsCallInRange b ts c.call) (all_calls rs)
       → Ends ended begun n (flat_map round_lines rs) ((ended ++ last_round begun) ++ rs)
-  round_steps [] ended begun n few lanes ranges =
-      (full b l m ts ended begun n, refl, refl, ap (λ (rs : List Round). record { bases = b; lanes = l; limit = m; timers = ts; rounds = rs })
-          (sym (append-nil (ended ++ last_round begun))))
+  round_steps [] ended begun n few lanes ranges = (
+    full b l m ts ended begun n,
+    refl,
+    refl,
+    ap (λ (rs : List Round). record { bases = b; lanes = l; limit = m; timers = ts; rounds = rs })
+        (sym (append-nil (ended ++ last_round begun))),
+  )
   round_steps (r ∷ rs) ended begun n few lanes ranges =
       let before : List Round = ended ++ last_round begun in
       let sum : length (r.calls ++ all_calls rs) ≡ length r.calls + length (all_calls rs) = length-append _ _ in
       let here = call_steps before [] r.calls n (omega (arith, sum, few)) (All-front (λ c. c.lane < l) r.calls (all_calls rs) lanes)
-          (All-front (λ c. IsCallInRange b ts c.call) r.calls (all_calls rs) ranges) in
+      (All-front (λ c. IsCallInRange b ts c.call) r.calls (all_calls rs) ranges) in
       let rest = round_steps rs before (Some r.calls) (n + length r.calls) (omega (arith, sum, few))
-          (All-back (λ c. c.lane < l) r.calls (all_calls rs) lanes) (All-back (λ c. IsCallInRange b ts c.call) r.calls (all_calls rs) ranges) in
+      (All-back (λ c. c.lane < l) r.calls (all_calls rs) lanes) (All-back (λ c. IsCallInRange b ts c.call) r.calls (all_calls rs) ranges) in
       let ls : List Line = map (λ c. call_line c.lane c.call) r.calls ++ flat_map round_lines rs in
       let steps : Steps (full b l m ts before (Some []) n) ls rest.0 =
-          Steps-append _ (full b l m ts before (Some r.calls) (n + length r.calls)) rest.0 (map (λ c. call_line c.lane c.call) r.calls)
-              (flat_map round_lines rs) here rest.1 in
-      (rest.0, round_step ended begun n rest.0 ls steps, rest.2, rest.3
-          ∙ ap (λ (rs : List Round). record { bases = b; lanes = l; limit = m; timers = ts; rounds = rs }) (append_assoc before (r ∷ []) rs))
+      Steps-append _ (full b l m ts before (Some r.calls) (n + length r.calls)) rest.0 (map (λ c. call_line c.lane c.call) r.calls)
+      (flat_map round_lines rs) here rest.1 in (
+        rest.0,
+        round_step ended begun n rest.0 ls steps,
+        rest.2,
+        rest.3
+            ∙ ap (λ (rs : List Round). record { bases = b; lanes = l; limit = m; timers = ts; rounds = rs }) (append_assoc before (r ∷ []) rs),
+      )
 
 -- the lines of a script that keeps to the limits tell that script
 pub script_steps : (s : Script) → IsInRange s → (f : Draft) × Steps empty (script_lines s) f × (f.headers ≡ 4) × (script_of f ≡ s)
@@ -156,6 +164,10 @@ script_steps s range =
     let rounds = round_steps s.bases s.lanes s.limit s.timers s.rounds [] None 0 (omega (arith, range.count)) range.callers range.calls in
     let behind : Steps (full s.bases s.lanes s.limit [] [] None 0) (declaration_lines 0 s.timers ++ flat_map round_lines s.rounds) rounds.0 =
     Steps-append _ (full s.bases s.lanes s.limit s.timers [] None 0) rounds.0 (declaration_lines 0 s.timers)
-        (flat_map round_lines s.rounds) timers rounds.1 in
-    (rounds.0, Steps-append empty (full s.bases s.lanes s.limit [] [] None 0) rounds.0 (header_lines s.bases s.lanes s.limit)
-        (declaration_lines 0 s.timers ++ flat_map round_lines s.rounds) header behind, rounds.2, rounds.3)
+    (flat_map round_lines s.rounds) timers rounds.1 in (
+      rounds.0,
+      Steps-append empty (full s.bases s.lanes s.limit [] [] None 0) rounds.0 (header_lines s.bases s.lanes s.limit)
+          (declaration_lines 0 s.timers ++ flat_map round_lines s.rounds) header behind,
+      rounds.2,
+      rounds.3,
+    )

@@ -20,13 +20,13 @@ without_empty_tail-push : (ps : List (List ℕ)) (last : List ℕ)
 without_empty_tail-push [] last = refl
 without_empty_tail-push (p ∷ ps) last =
     without_empty_tail-cons p ps last ∙ ap (λ (qs : List (List ℕ)). p ∷ qs) (without_empty_tail-push ps last)
-        ∙ if_cons (length last == 0) p ps (ps ++ last ∷ [])
+    ∙ if_cons (length last == 0) p ps (ps ++ last ∷ [])
 
 -- the items before the last one, and it
 last_item : {X : Type 0} (xs : List X) (d : X) → 1 ≤ length xs → take (length xs - 1) xs ++ get_or xs (length xs - 1) d ∷ [] ≡ xs
 last_item xs d some =
     let more : take ((length xs - 1) + 1) xs ≡ take (length xs - 1) xs ++ get_or xs (length xs - 1) d ∷ [] =
-        take_more xs (length xs - 1) d (omega (arith, some)) in
+    take_more xs (length xs - 1) d (omega (arith, some)) in
     sym more ∙ take_all ((length xs - 1) + 1) xs (omega (arith, some))
 
 module _ {X : Type 0} (f : X → List ℕ) (xs : List X) (d : X) (some : 1 ≤ length xs) where
@@ -40,7 +40,7 @@ module _ {X : Type 0} (f : X → List ℕ) (xs : List X) (d : X) (some : 1 ≤ l
   pub empty_tail_all : (length (f (get_or xs (length xs - 1) d)) == 0) ≡ false → map f xs ≡ without_empty_tail (map f xs)
   empty_tail_all none =
       joined ∙ sym (ap without_empty_tail joined ∙ without_empty_tail-push (map f (take (length xs - 1) xs)) (f (get_or xs (length xs - 1) d))
-          ∙ rw none refl)
+      ∙ rw none refl)
 
 empty_tail_few : (ps : List (List ℕ)) → length (without_empty_tail ps) ≤ length ps
 empty_tail_few [] = omega arith
@@ -53,6 +53,13 @@ pub few_lines : {X : Type 0} (f : X → List ℕ) (lines parts : List X) (bytes 
 few_lines f lines parts bytes is cut =
     let one : length (map f lines) ≡ length lines = length-map _ _ in
     let all : length (map f lines) ≡ length (without_empty_tail (slice_split (λ b. b == 10) bytes)) =
-        ap (λ (ps : List (List ℕ)). length ps) (is ∙ ap without_empty_tail cut) in
-    omega (arith, one, all, empty_tail_few (slice_split (λ b. b == 10) bytes), length-slice_split (λ b. b == 10) bytes, count_by-le-length
-        (λ b. b == 10) bytes)
+    ap (λ (ps : List (List ℕ)). length ps) (is ∙ ap without_empty_tail cut) in
+    omega (
+      arith,
+      one,
+      all,
+      empty_tail_few (slice_split (λ b. b == 10) bytes),
+      length-slice_split (λ b. b == 10) bytes,
+      count_by-le-length
+          (λ b. b == 10) bytes,
+    )

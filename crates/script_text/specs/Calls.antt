@@ -52,7 +52,7 @@ pub record Fired : Type 0 where
 abbrev pub fires : ℕ → ℕ → Fired → List Action
 fires base reading f =
     Entered f.timer f.claim (entries.Claim base reading f.generation) ∷ f.body
-        ++ Entered f.timer f.finish (entries.Finish f.restart f.generation f.rearmed) ∷ []
+    ++ Entered f.timer f.finish (entries.Finish f.restart f.generation f.rearmed) ∷ []
 
 -- what a raw timer's callback may do, and whether it asks for a restart, by its declaration
 abbrev pub IsCallback : Callback → ℕ → Fired → Type 0
@@ -93,7 +93,7 @@ pub record IsExpiryRun (s : Script) (reading base : ℕ) (fired : List Fired) (s
 abbrev pub Does : Script → ℕ → Call → Answer → List Fired → List Action → Type 0
 Does s reading (calls.Start timer mode ns base) (answers.Started generation on was_armed) fired actions =
     (a : Arming) × (actions ≡ arms timer mode ns reading base a) × (generation ≡ a.number) × (on ≡ a.base)
-        × (was_armed ≡ was_armed_before a.out a.was_armed) × IsJustBefore a.out a.number
+    × (was_armed ≡ was_armed_before a.out a.was_armed) × IsJustBefore a.out a.number
 Does s reading (calls.Start timer mode ns base) (answers.Spent stamp) fired actions = actions ≡ []
 Does s reading (calls.Cancel timer) (answers.Cancelled generation) fired actions =
     (number : ℕ) × (actions ≡ Entered timer number (entries.Cancel generation) ∷ [])
@@ -211,13 +211,16 @@ IsSeen s r c reading actions (calls.Settime timer flags value interval) (answers
 IsSeen s r c reading actions (calls.Gettime timer) (answers.Spent stamp) = SawFull s r c actions timer stamp
 IsSeen s r c reading actions (calls.Gettime timer) (answers.LeftAt left interval shown stamp) =
     IsObjectPoint s r c actions timer stamp
-        × (setting_of (posix_after s r timer (base_of (kind_of s timer)) stamp) (reading_at r.clock reading) ≡ record { left = left; interval =
-            interval })
+    × (setting_of (posix_after s r timer (base_of (kind_of s timer)) stamp) (reading_at r.clock reading) ≡ record {
+      left = left;
+      interval =
+          interval;
+    })
 IsSeen s r c reading actions (calls.Accept timer) (answers.Spent stamp) = SawFull s r c actions timer stamp
 IsSeen s r c reading actions (calls.Overrun timer) (answers.Overrun overrun stamp) =
     IsObjectPoint s r c actions timer stamp × ((posix_after s r timer (base_of (kind_of s timer)) stamp).overrun ≡ overrun)
 IsSeen s r c reading actions (calls.Read timer len) (answers.Spent stamp) = SawFull s r c actions timer stamp
 IsSeen s r c reading actions (calls.Readable timer) (answers.Readable ready shown stamp) =
     IsObjectPoint s r c actions timer stamp
-        × (is_readable (fd_after s r timer (base_of (kind_of s timer)) stamp) (reading_at r.clock reading) ≡ ready)
+    × (is_readable (fd_after s r timer (base_of (kind_of s timer)) stamp) (reading_at r.clock reading) ≡ ready)
 IsSeen s r c reading actions call answer = Unit

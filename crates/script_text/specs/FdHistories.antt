@@ -46,11 +46,15 @@ read_answer_of reads.Canceled = read_answers.Canceled
 -- the entry that a line shows, where it is one of a descriptor
 abbrev pub fd_entry : List ClockLine → ObjectEntry → Option (AnsweredCall Call Reply)
 fd_entry clock (entries.Settime flags value interval reading arm reply) =
-    Some (record { call = calls.Settime flags value interval (reading_at clock reading) (fd_arm arm (refused_at reply));
-        reply = replies.Settime (fd_set_answer reply) })
+    Some (record {
+      call = calls.Settime flags value interval (reading_at clock reading) (fd_arm arm (refused_at reply));
+      reply = replies.Settime (fd_set_answer reply);
+    })
 fd_entry clock (entries.Trigger generation reading counted) =
-    Some (record { call = calls.Trigger generation (reading_at clock reading);
-        reply = replies.Trigger (if counted then triggers.Counted else triggers.Stale) })
+    Some (record {
+      call = calls.Trigger generation (reading_at clock reading);
+      reply = replies.Trigger (if counted then triggers.Counted else triggers.Stale);
+    })
 fd_entry clock (entries.Accept reading arm reply) = None
 fd_entry clock (entries.Read reading arm reply) =
     Some (record { call = calls.Read (reading_at clock reading) (fd_arm arm 0); reply = replies.Read (read_answer_of reply) })

@@ -61,10 +61,10 @@ abbrev pub IsLegalObject : Script → RunRecord → ℕ → Kind → Type 0
 IsLegalObject s r i (kinds.Raw callback) = lines_of_object r i ≡ []
 IsLegalObject s r i (kinds.Posix base) =
     AllByRecursion (λ e. is_some (posix_lines.posix_entry r.clock e) ≡ true) (object_entries r i)
-        × posix.IsPosixHistory (clock_of s i) base s.limit (posix_history r i)
+    × posix.IsPosixHistory (clock_of s i) base s.limit (posix_history r i)
 IsLegalObject s r i (kinds.Fd base) =
     AllByRecursion (λ e. is_some (fd_lines.fd_entry r.clock e) ≡ true) (object_entries r i)
-        × fd.IsFdHistory (clock_of s i) base s.limit (fd_history r i)
+    × fd.IsFdHistory (clock_of s i) base s.limit (fd_history r i)
 
 -- a POSIX timer after its first so many entries
 abbrev pub posix_after : Script → RunRecord → ℕ → ℕ → ℕ → PosixTimer

@@ -50,12 +50,16 @@ accept_answer_of acceptances.NoSignal = accept_answers.NoSignal
 abbrev pub posix_entry : List ClockLine → ObjectEntry → Option (AnsweredCall Call Reply)
 posix_entry clock (entries.Settime flags value interval reading arm reply) =
     option_map
-        (λ answer. record { call = calls.Settime flags value interval (reading_at clock reading) (posix_arm arm (refused_at reply));
-            reply = replies.Settime answer })
-        (posix_set_answer reply)
+    (λ answer. record {
+      call = calls.Settime flags value interval (reading_at clock reading) (posix_arm arm (refused_at reply));
+      reply = replies.Settime answer;
+    })
+    (posix_set_answer reply)
 posix_entry clock (entries.Trigger generation reading counted) =
-    Some (record { call = calls.Trigger generation (reading_at clock reading);
-        reply = replies.Trigger (if counted then triggers.Counted else triggers.Stale) })
+    Some (record {
+      call = calls.Trigger generation (reading_at clock reading);
+      reply = replies.Trigger (if counted then triggers.Counted else triggers.Stale);
+    })
 posix_entry clock (entries.Accept reading arm reply) =
     Some (record { call = calls.Accept (reading_at clock reading) (posix_arm arm 0); reply = replies.Accept (accept_answer_of reply) })
 posix_entry clock (entries.Read reading arm reply) = None

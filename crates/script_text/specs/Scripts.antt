@@ -100,7 +100,7 @@ round_lines r = of_numbers forms.Round [] ∷ map (λ c. call_line c.lane c.call
 abbrev pub header_lines : ℕ → ℕ → ℕ → List Line
 header_lines bases lanes limit =
     of_numbers forms.Version (1 ∷ []) ∷ of_numbers forms.Bases (bases ∷ []) ∷ of_numbers forms.Lanes (lanes ∷ []) ∷ of_numbers forms.Limit
-        (limit ∷ []) ∷ []
+    (limit ∷ []) ∷ []
 
 -- the lines of a script: the header, the declarations and the rounds
 abbrev pub script_lines : Script → List Line

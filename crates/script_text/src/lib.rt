@@ -1,7 +1,7 @@
 //! Scripts of timer calls, and what it means that a record fits a script.
 #![tactic(auto)]
 
-pub use form::{Form, Line, Part, Field, Value};
+pub use form::{Field, Form, Line, Part, Value};
 pub use reading::laws::{at_most_one_script_is_read, bytes_are_read_or_refused};
 pub use reading::parsing::parse;
 pub use refusal::{Cause, ParseError, Refused};

@@ -34,7 +34,11 @@ fn values(
 }
 
 /// The line of a form that these words spell.
-fn line_of_form(alloc: Global, form: Form, words: &[&[u8]]) -> Result<Result<Line, Cause>, AllocError>
+fn line_of_form(
+    alloc: Global,
+    form: Form,
+    words: &[&[u8]],
+) -> Result<Result<Line, Cause>, AllocError>
     ensures { IfOk result (λ r. r ≡ line_of_form form (map (λ w. w.now) words.now)) }
 {
     if words.len() != form.fields().len() {

@@ -3,7 +3,7 @@ ghost use Rattle.std.specs.Prelude.{◌≡◌};
 ghost use Rattle.script_text.specs.Forms.{row};
 ghost use Rattle.script_text.specs.Refusals.{check_line, check_count, check_kind, check_number, check_value, check_values, is_placed, drafted_kind};
 
-use crate::form::{Form, Line, Part, Field, Value};
+use crate::form::{Field, Form, Line, Part, Value};
 use crate::reading::drafts::Draft;
 use crate::refusal::Cause;
 use crate::script::{Callback, Kind};

@@ -32,4 +32,4 @@ returns-then-first-lt-LAST-clause-taken c =
     subst (λ (x : Opening). MatchOption c.take_free.result (Lost x c.args.base me new) (λ h. Caught x c.args.base me new h)) (sym c.requires.about)
     (told_after o c.args.base me mid c.meet_lock-first.result met new c.take_free.result
     (subst (λ (x : Opening). MatchOption c.take_free.result (Lost x c.args.base mid new)
-        (λ h. Caught x c.args.base mid new h)) same c.take_free.ensures.taken))
+    (λ h. Caught x c.args.base mid new h)) same c.take_free.ensures.taken))

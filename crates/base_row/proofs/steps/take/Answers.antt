@@ -25,7 +25,7 @@ compare_exchange-requires c =
 loose : (bases : ℕ) (opened : List Timer) (b first found : ℕ) (hit : Bool) (me new : Me (Option BaseContent) (View BaseContent))
     → MatchBool hit ((k : ℕ) × (first + 2 ≡ k + k) × Hit bases opened number_of b k (first + 1) me new) (Miss bases opened number_of b first me found new)
     → MatchBool hit ((k : ℕ) × (first + 2 ≡ k + k) × Hit bases opened number_of b k (first + 1) me new) ((x : ℕ)
-        × Miss bases opened number_of b first me x new)
+    × Miss bases opened number_of b first me x new)
 loose bases opened b first found true me new told = told
 loose bases opened b first found false me new told = (found, told)
 
@@ -33,7 +33,7 @@ pub returns-clause-took : goal.returns-clause-took
 returns-clause-took c =
     let key = c.args.cells.now.key in
     loose key.0 key.1.value.items c.args.base c.args.first c.compare_exchange.result
-        (nat_eq c.compare_exchange.result c.args.first) c.args.seat.now.me c.compare_exchange.new.seat.me
+    (nat_eq c.compare_exchange.result c.args.first) c.args.seat.now.me c.compare_exchange.new.seat.me
     (subst (λ (o : Opening). MatchBool (nat_eq c.compare_exchange.result c.args.first) ((k : ℕ) × (c.args.first + 2 ≡ k + k)
-        × Hit o.bases o.timers number_of c.args.base k (c.args.first + 1) c.args.seat.now.me c.compare_exchange.new.seat.me)
+    × Hit o.bases o.timers number_of c.args.base k (c.args.first + 1) c.args.seat.now.me c.compare_exchange.new.seat.me)
     (Miss o.bases o.timers number_of c.args.base c.args.first c.args.seat.now.me c.compare_exchange.result c.compare_exchange.new.seat.me)) c.requires.about (c.compare_exchange.ensures.2 c.args.base c.requires.word.0))

@@ -26,7 +26,7 @@ invariant_of-pass c =
     let held = ap (λ (p : PassOf). p.knows.held) c.pass.view_is ∙ c.requires.may.may.held in
     let about = ap (λ (p : PassOf). p.knows.opening) c.pass.view_is ∙ (c.requires.row.about ∙ sym (ap (λ (r : RowOf). r.about) c.self.view_is)) in
     (rested o c.args.held.now c.args.timer c.args.event c.pass.inside.seat.me c.enter.new.seat.me about c.pass.invariant held
-        (c.enter.ensures.entered c.args.held.now held)).resting
+    (c.enter.ensures.entered c.args.held.now held)).resting
 
 pub returns-clause-row : goal.returns-clause-row
 returns-clause-row c =
@@ -35,9 +35,12 @@ returns-clause-row c =
     let held = ap (λ (p : PassOf). p.knows.held) c.pass.view_is ∙ c.requires.may.may.held in
     let about = ap (λ (p : PassOf). p.knows.opening) c.pass.view_is ∙ (c.requires.row.about ∙ sym (ap (λ (r : RowOf). r.about) c.self.view_is)) in
     let r = rested o c.args.held.now c.args.timer c.args.event c.pass.inside.seat.me c.enter.new.seat.me about c.pass.invariant held
-        (c.enter.ensures.entered c.args.held.now held) in
-    record { row = c.enter.ensures.same ∙ (ap (λ (p : PassOf). p.row) c.pass.view_is ∙ c.requires.row.row); about = r.about
-        ∙ ap (λ (x : RowOf). x.about) c.self.view_is }
+    (c.enter.ensures.entered c.args.held.now held) in
+    record {
+      row = c.enter.ensures.same ∙ (ap (λ (p : PassOf). p.row) c.pass.view_is ∙ c.requires.row.row);
+      about = r.about
+          ∙ ap (λ (x : RowOf). x.about) c.self.view_is;
+    }
 
 pub returns-clause-adds : goal.returns-clause-adds
 returns-clause-adds c =
@@ -46,7 +49,7 @@ returns-clause-adds c =
     let held = ap (λ (p : PassOf). p.knows.held) c.pass.view_is ∙ c.requires.may.may.held in
     let about = ap (λ (p : PassOf). p.knows.opening) c.pass.view_is ∙ (c.requires.row.about ∙ sym (ap (λ (r : RowOf). r.about) c.self.view_is)) in
     let r = rested o c.args.held.now c.args.timer c.args.event c.pass.inside.seat.me c.enter.new.seat.me about c.pass.invariant held
-        (c.enter.ensures.entered c.args.held.now held) in
+    (c.enter.ensures.entered c.args.held.now held) in
     subst (λ (x : RowOf). Appended x.about c.args.held.now c.args.timer c.args.event c.args.pass.now.knows c.enter.new.seat.me.0) c.self.view_is
     (subst (λ (p : PassOf). Appended o c.args.held.now c.args.timer c.args.event p.knows c.enter.new.seat.me.0) c.pass.view_is r.adds)
 
@@ -57,15 +60,19 @@ returns-clause-held c =
     let held = ap (λ (p : PassOf). p.knows.held) c.pass.view_is ∙ c.requires.may.may.held in
     let about = ap (λ (p : PassOf). p.knows.opening) c.pass.view_is ∙ (c.requires.row.about ∙ sym (ap (λ (r : RowOf). r.about) c.self.view_is)) in
     let r = rested o c.args.held.now c.args.timer c.args.event c.pass.inside.seat.me c.enter.new.seat.me about c.pass.invariant held
-        (c.enter.ensures.entered c.args.held.now held) in
+    (c.enter.ensures.entered c.args.held.now held) in
     let seen : c.args.state ≡ timer_seen o c.pass.inside.seat.me.0 c.args.timer =
     c.requires.state ∙ (ap (λ (x : RowOf). timer_seen x.about c.args.pass.now.knows c.args.timer) (sym c.self.view_is)
-        ∙ ap (λ (p : PassOf). timer_seen o p.knows c.args.timer) (sym c.pass.view_is)) in
+    ∙ ap (λ (p : PassOf). timer_seen o p.knows c.args.timer) (sym c.pass.view_is)) in
     let new : c.step.new.self ≡ changed c.args.timer (timer_seen o c.pass.inside.seat.me.0 c.args.timer) c.args.event c.args.held.now.content =
     c.step.ensures ∙ (ap (λ x. changed c.args.timer x c.args.event c.held.inside.slot) seen
     ∙ ap (λ (h : Locked BaseContent). changed c.args.timer (timer_seen o c.pass.inside.seat.me.0 c.args.timer) c.args.event h.content) c.held.view_is) in
-    r.held ∙ (λ i. Some (record { base = ap (λ (h : Locked BaseContent). h.base) (sym c.held.view_is) i; word = ap
-        (λ (h : Locked BaseContent). h.word) (sym c.held.view_is) i; content = sym new i }))
+    r.held ∙ (λ i. Some (record {
+      base = ap (λ (h : Locked BaseContent). h.base) (sym c.held.view_is) i;
+      word = ap
+          (λ (h : Locked BaseContent). h.word) (sym c.held.view_is) i;
+      content = sym new i;
+    }))
 
 pub step-requires-clause-below : goal.step-requires-clause-below
 step-requires-clause-below c =
@@ -89,5 +96,12 @@ number_of-number-requires c =
     let knows = subst (λ (q : Opening). Knows q.bases q.timers number_of v) c.requires.row.about c.known.ensures in
     let t = timer_seen o v c.args.timer in
     let here = placed_after o.bases ((now o.bases o.timers number_of v.seen).bases t.base).content c.args.timer t c.args.event c.requires.may.may.allowed.base (placed_seen o v c.fresh.ensures.fresh knows c.fresh.ensures.some c.args.timer) in
-    record { base = omega (arith, c.fresh.ensures.few, here, ap (λ (x : Timer). x.base) (c.apply-reply.ensures.state
-        ∙ ap (λ x. after x c.args.event) c.requires.state)) }
+    record {
+      base = omega (
+        arith,
+        c.fresh.ensures.few,
+        here,
+        ap (λ (x : Timer). x.base) (c.apply-reply.ensures.state
+            ∙ ap (λ x. after x c.args.event) c.requires.state),
+      );
+    }

@@ -13,4 +13,4 @@ returns-in-Some-look_once-clause-locks g c =
     let w = c.look_once.new.pass.knows in
     locks_after c.args.base u v w c.in-Some-look_once.held c.loop.invariant.waits
     (subst (λ (r : Option (Locked BaseContent)). MatchOption r (Waits c.args.base v w)
-        (λ h. Locks c.args.base v w h)) c.in-Some-look_once.is c.look_once.ensures.taken)
+    (λ h. Locks c.args.base v w h)) c.in-Some-look_once.is c.look_once.ensures.taken)

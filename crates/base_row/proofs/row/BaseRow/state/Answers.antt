@@ -13,7 +13,7 @@ state-requires c =
     let o = c.args.self.now.about in
     let knows = subst (λ (q : Opening). Knows q.bases q.timers number_of c.args.pass.now.knows) c.requires.row.about c.known.ensures in
     subst (λ (h : Locked BaseContent). c.args.timer < length h.content.states) (sym c.held.view_is)
-        (room o.bases o.timers number_of c.args.pass.now.knows c.args.held.now knows c.requires.held c.args.timer c.requires.within)
+    (room o.bases o.timers number_of c.args.pass.now.knows c.args.held.now knows c.requires.held c.args.timer c.requires.within)
 
 pub returns-clause-shown : goal.returns-clause-shown
 returns-clause-shown c = λ on.
@@ -21,7 +21,7 @@ returns-clause-shown c = λ on.
     let knows = subst (λ (q : Opening). Knows q.bases q.timers number_of c.args.pass.now.knows) c.requires.row.about c.known.ensures in
     let is = c.state.ensures ∙ ap (λ (h : Locked BaseContent). timer_at h.content.states c.args.timer) c.held.view_is in
     shown_state o.bases o.timers number_of c.args.pass.now.knows c.args.held.now knows c.requires.held c.args.timer c.requires.within
-        (subst (λ x. IsOn c.args.held.now.base x) is on) ∙ sym is
+    (subst (λ x. IsOn c.args.held.now.base x) is on) ∙ sym is
 
 pub returns-clause-kept : goal.returns-clause-kept
 returns-clause-kept c = λ on.

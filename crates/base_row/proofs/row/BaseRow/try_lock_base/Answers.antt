@@ -21,4 +21,4 @@ if_none o b v w (Some h) locks about knows inside = tt
 pub returns-clause-last : goal.returns-clause-last
 returns-clause-last c =
     if_none c.args.self.now.about c.args.base c.args.pass.now.knows c.attempt_base-held.new.pass.knows c.attempt_base-held.result
-        (returns-clause-taken c) c.attempt_base-held.ensures.row.about c.known.ensures c.requires.within
+    (returns-clause-taken c) c.attempt_base-held.ensures.row.about c.known.ensures c.requires.within

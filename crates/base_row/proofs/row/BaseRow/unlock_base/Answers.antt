@@ -19,7 +19,7 @@ invariant_of-pass c =
     let told = c.free.ensures.freed h (ap (λ m. m.0.held) c.put_back.ensures.full ∙ held) in
     (let_go o h me c.put_back.new.seat.me c.free.new.seat.me about c.pass.invariant held c.requires.within mid
     (subst (λ (x : Opening). Freed x.bases x.timers number_of h c.put_back.new.seat.me c.free.new.seat.me)
-        (ap (λ m. m.0.opening) c.put_back.ensures.full ∙ about) told)).resting
+    (ap (λ m. m.0.opening) c.put_back.ensures.full ∙ about) told)).resting
 
 pub returns-clause-row : goal.returns-clause-row
 returns-clause-row c =
@@ -32,7 +32,7 @@ returns-clause-row c =
     let told = c.free.ensures.freed h (ap (λ m. m.0.held) c.put_back.ensures.full ∙ held) in
     let r = let_go o h me c.put_back.new.seat.me c.free.new.seat.me about c.pass.invariant held c.requires.within mid
     (subst (λ (x : Opening). Freed x.bases x.timers number_of h c.put_back.new.seat.me c.free.new.seat.me)
-        (ap (λ m. m.0.opening) c.put_back.ensures.full ∙ about) told) in
+    (ap (λ m. m.0.opening) c.put_back.ensures.full ∙ about) told) in
     record { row = c.free.ensures.same ∙ (c.put_back.ensures.same ∙ (ap (λ (p : PassOf). p.row) c.pass.view_is ∙ c.requires.row.row)); about = r.about }
 
 pub returns-clause-free : goal.returns-clause-free
@@ -46,5 +46,5 @@ returns-clause-free c =
     let told = c.free.ensures.freed h (ap (λ m. m.0.held) c.put_back.ensures.full ∙ held) in
     let r = let_go o h me c.put_back.new.seat.me c.free.new.seat.me about c.pass.invariant held c.requires.within mid
     (subst (λ (x : Opening). Freed x.bases x.timers number_of h c.put_back.new.seat.me c.free.new.seat.me)
-        (ap (λ m. m.0.opening) c.put_back.ensures.full ∙ about) told) in
+    (ap (λ m. m.0.opening) c.put_back.ensures.full ∙ about) told) in
     subst (λ (p : PassOf). LetsGo o h p.knows c.free.new.seat.me.0) c.pass.view_is r.free

@@ -10,7 +10,7 @@ pub arrive-requires-clause-state : goal.arrive-requires-clause-state
 arrive-requires-clause-state g c =
     let locks = c.lock_base-held.ensures.locks in
     c.requires.state ∙ sym (seen_same c.args.row.now.about c.args.pass.now.knows c.lock_base-held.new.pass.knows c.args.timer
-        (locks.steady c.args.timer c.requires.carries.1))
+    (locks.steady c.args.timer c.requires.carries.1))
 
 pub arrive-requires-clause-may : goal.arrive-requires-clause-may
 arrive-requires-clause-may g c =

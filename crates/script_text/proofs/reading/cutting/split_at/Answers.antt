@@ -6,4 +6,4 @@ use Rattle.script_text.proofs.reading.cutting.split_at.Goals as goal
 pub returns : goal.returns
 returns c = map_from_collect _ c.collect.ensures.ran
     (YieldsList-from_slice_split _ _ c.args.bytes.now c.split.ensures.rest c.split.ensures.done c.split.ensures.closure
-        (λ x r q k. search (rules, tests)))
+    (λ x r q k. search (rules, tests)))

@@ -10,20 +10,20 @@ pub returns-then-begins_with_digit : goal.returns-then-begins_with_digit
 returns-then-begins_with_digit c =
     let found = c.in-Some.ensures.item in
     c.find_form_at.ensures
-        ∙ sym (form_of_call c.args.words.now c.in-Some.first.now found.3.0 found.1 (sym c.begins_with_digit.ensures ∙ c.if-begins_with_digit.true))
+    ∙ sym (form_of_call c.args.words.now c.in-Some.first.now found.3.0 found.1 (sym c.begins_with_digit.ensures ∙ c.if-begins_with_digit.true))
 
 pub returns-then-eq : goal.returns-then-eq
 returns-then-eq c =
     let found = c.in-Some.ensures.item in
     let other = sym c.begins_with_digit.ensures ∙ c.if-begins_with_digit.false in
     c.find_form_at-then-eq.ensures
-        ∙ sym (form_of_raw c.args.words.now c.in-Some.first.now found.3.0 found.1 other
-            (ap (λ (raw : List ℕ). bytes_eq c.in-Some.first.now.now raw) (sym c.as_slice.ensures) ∙ sym c.eq.ensures ∙ c.if-eq.true))
+    ∙ sym (form_of_raw c.args.words.now c.in-Some.first.now found.3.0 found.1 other
+    (ap (λ (raw : List ℕ). bytes_eq c.in-Some.first.now.now raw) (sym c.as_slice.ensures) ∙ sym c.eq.ensures ∙ c.if-eq.true))
 
 pub returns : goal.returns
 returns c =
     let found = c.in-Some.ensures.item in
     let other = sym c.begins_with_digit.ensures ∙ c.if-begins_with_digit.false in
     c.find_form_at-2.ensures
-        ∙ sym (form_of_plain c.args.words.now c.in-Some.first.now found.3.0 found.1 other
-            (ap (λ (raw : List ℕ). bytes_eq c.in-Some.first.now.now raw) (sym c.as_slice.ensures) ∙ sym c.eq.ensures ∙ c.if-eq.false))
+    ∙ sym (form_of_plain c.args.words.now c.in-Some.first.now found.3.0 found.1 other
+    (ap (λ (raw : List ℕ). bytes_eq c.in-Some.first.now.now raw) (sym c.as_slice.ensures) ∙ sym c.eq.ensures ∙ c.if-eq.false))

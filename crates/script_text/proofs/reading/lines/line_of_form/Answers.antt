@@ -8,9 +8,9 @@ returns-then-words-fields c = sym (line_of_form-count c.args.form c.args.words.n
 pub returns-in-Ok : goal.returns-in-Ok
 returns-in-Ok c =
     ap (line_with c.args.form) (sym c.in-Ok.is ∙ c.in_ok-values.ensures)
-        ∙ sym (line_of_form-values c.args.form c.args.words.now c.fields.result.now c.fields.ensures c.if-words-fields.false)
+    ∙ sym (line_of_form-values c.args.form c.args.words.now c.fields.result.now c.fields.ensures c.if-words-fields.false)
 
 pub returns-in-Err : goal.returns-in-Err
 returns-in-Err c =
     ap (line_with c.args.form) (sym c.in-Err.is ∙ c.in_ok-values.ensures)
-        ∙ sym (line_of_form-values c.args.form c.args.words.now c.fields.result.now c.fields.ensures c.if-words-fields.false)
+    ∙ sym (line_of_form-values c.args.form c.args.words.now c.fields.result.now c.fields.ensures c.if-words-fields.false)

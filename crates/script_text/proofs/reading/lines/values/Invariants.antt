@@ -8,4 +8,4 @@ use Rattle.script_text.proofs.reading.lines.values.Given as goal
 abbrev pub invariant-loop-field : goal.invariant-loop-field
 invariant-loop-field l =
     with_front l.values (values_from l.field-iterator.a.rest.now l.field-iterator.b.rest.now) ≡ values_in (row l.fn.form)
-        (map (λ w. w.now) l.fn.words)
+    (map (λ w. w.now) l.fn.words)

@@ -23,8 +23,8 @@ unfolding refused_at
 returns-in-Err c =
     ap (refused_at c.in-Err.cause) c.loop-line.invariant.number
     ∙ line_refused (λ p. p.now) c.args.lines.now c.loop-line.line-index c.loop-line.draft _
-        c.loop-line.invariant.so_far _ c.in-Err.cause c.loop-line-test.true
-        (sym c.is_skipped.ensures ∙ c.if-is_skipped.false) (sym c.in_ok-draft.ensures.read ∙ c.in-Err.is)
+    c.loop-line.invariant.so_far _ c.in-Err.cause c.loop-line-test.true
+    (sym c.is_skipped.ensures ∙ c.if-is_skipped.false) (sym c.in_ok-draft.ensures.read ∙ c.in-Err.is)
 
 pub loop-line-preserved : goal.loop-line-preserved
 loop-line-preserved c = record {
@@ -39,10 +39,10 @@ pub returns-then-draft-lt4 : goal.returns-then-draft-lt4
 unfolding refused_at
 returns-then-draft-lt4 c =
     ap (refused_at causes.Unfinished) c.loop-line.invariant.number
-        ∙ lines_end_early (λ p. p.now) c.args.lines.now c.loop-line.line-index c.loop-line.draft _
-            c.loop-line.invariant.so_far c.loop-line-test.false c.if-draft-lt4.true
+    ∙ lines_end_early (λ p. p.now) c.args.lines.now c.loop-line.line-index c.loop-line.draft _
+    c.loop-line.invariant.so_far c.loop-line-test.false c.if-draft-lt4.true
 
 pub returns : goal.returns
 returns c = ap (λ (s : Script). Ok s) c.in_ok-script.ensures
     ∙ lines_end (λ p. p.now) c.args.lines.now c.loop-line.line-index c.loop-line.draft _
-        c.loop-line.invariant.so_far c.loop-line-test.false c.if-draft-lt4.false
+    c.loop-line.invariant.so_far c.loop-line-test.false c.if-draft-lt4.false

@@ -11,4 +11,4 @@ add-requires-clause-short c =
 pub returns-clause-room : goal.returns-clause-room
 returns-clause-room c =
     subst (λ d. IsWithinLimits d) (sym c.in_ok-add.ensures)
-        (room_kept c.args.draft c.in-Ok.line (sym c.check_line.ensures ∙ c.in_default.is) c.requires)
+    (room_kept c.args.draft c.in-Ok.line (sym c.check_line.ensures ∙ c.in_default.is) c.requires)

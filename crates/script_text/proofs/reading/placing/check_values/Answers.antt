@@ -5,7 +5,7 @@ use Rattle.script_text.proofs.reading.placing.check_values.Goals as goal
 pub loop-field-preserved-in_default : goal.loop-field-preserved-in_default
 loop-field-preserved-in_default c =
     sym (after_key c.args.draft.now _ _ _ _ c.fields-field-items.ensures c.loop-field.rest.now c.loop-field-test.true c.in_default.is)
-        ∙ c.loop-field.invariant
+    ∙ c.loop-field.invariant
 
 pub returns-in_default-split_first : goal.returns-in_default-split_first
 returns-in_default-split_first c =
@@ -15,12 +15,12 @@ returns-in_default-split_first c =
 pub returns-in-Some-check_value : goal.returns-in-Some-check_value
 returns-in-Some-check_value c =
     said c.args.draft.now _ _ _ _ c.fields-field-items.ensures _ _ _ _ _ _ c.loop-field-test.true c.in-Some.is c.in-Some-split_first.ensures.cases.0
-        (sym c.in-Some-check_value.is ∙ c.check_value.ensures) c.loop-field.invariant
+    (sym c.in-Some-check_value.is ∙ c.check_value.ensures) c.loop-field.invariant
 
 pub loop-field-preserved : goal.loop-field-preserved
 loop-field-preserved c =
     not_said c.args.draft.now _ _ _ _ c.fields-field-items.ensures _ _ _ _ _ c.loop-field-test.true c.in-Some.is c.in-Some-split_first.ensures.cases.0
-        (sym c.in_default-check_value.is ∙ c.check_value.ensures) c.loop-field.invariant
+    (sym c.in_default-check_value.is ∙ c.check_value.ensures) c.loop-field.invariant
 
 pub returns : goal.returns
 returns c = sym (past_fields c.args.draft.now _ _ _ None c.fields-field-items.ensures _ c.loop-field-test.false) ∙ c.loop-field.invariant

@@ -15,7 +15,7 @@ returns-then-is_empty c = none_from_empty c.args.word.now (eqb-true _ _ (sym c.i
 pub returns-then-word-lt49 : goal.returns-then-word-lt49
 returns-then-word-lt49 c =
     none_from_front c.args.word.now
-        (λ is. both_ways _ c.if-eq.false ((slice_eq-Decides Decides-eqb _ _ _ c.eq.ensures).1 (is ∙ sym c.as_slice.ensures))) c.if-word-lt49.true
+    (λ is. both_ways _ c.if-eq.false ((slice_eq-Decides Decides-eqb _ _ _ c.eq.ensures).1 (is ∙ sym c.as_slice.ensures))) c.if-word-lt49.true
 
 pub returns-in_default : goal.returns-in_default
 returns-in_default c = none_from_utf8 c.args.word.now c.in_default.ensures.cases.0
@@ -23,12 +23,12 @@ returns-in_default c = none_from_utf8 c.args.word.now c.in_default.ensures.cases
 pub returns-in_default-parse : goal.returns-in_default-parse
 returns-in_default-parse c =
     none_from_parse c.args.word.now c.parse.result c.in_default-parse.field-0
-        (subst (λ t. ParsesUnsigned 64 10 t c.parse.result) c.in-Ok.ensures.cases.0 c.parse.ensures.value.0) c.in_default-parse.is
+    (subst (λ t. ParsesUnsigned 64 10 t c.parse.result) c.in-Ok.ensures.cases.0 c.parse.ensures.value.0) c.in_default-parse.is
 
 pub returns-then-n-gt-LAST_TIME : goal.returns-then-n-gt-LAST_TIME
 returns-then-n-gt-LAST_TIME c =
     none_from_large c.args.word.now c.parse.result c.in-Ok-parse.n
-        (subst (λ t. ParsesUnsigned 64 10 t c.parse.result) c.in-Ok.ensures.cases.0 c.parse.ensures.value.0) c.in-Ok-parse.is c.if-n-gt-LAST_TIME.true
+    (subst (λ t. ParsesUnsigned 64 10 t c.parse.result) c.in-Ok.ensures.cases.0 c.parse.ensures.value.0) c.in-Ok-parse.is c.if-n-gt-LAST_TIME.true
 
 pub returns : goal.returns
 returns c = number_from_parse c.args.word.now c.parse.result c.in-Ok-parse.n
