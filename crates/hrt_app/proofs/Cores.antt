@@ -1,8 +1,7 @@
 -- From what the timers answer to the turns of a run.
-use Rattle.std.proofs.Common.{not, arith, refl, sym, ap, subst, ◌∙◌, ◌≡◌, ◌<◌, ◌⊎◌, inl, inr, ℕ, ◌+◌, ◌^◌, zero, suc, Bool, true, false, ◌&&◌, Option, Some, None, is_some, nat_eq, if◌then◌else◌, List, [], ◌∷◌, ◌++◌, length, get_or, set}
+use Rattle.std.proofs.Common.{not, arith, refl, sym, ap, subst, ◌∙◌, ◌≡◌, ◌<◌, ◌⊎◌, inl, inr, ℕ, ◌+◌, zero, suc, Bool, true, false, ◌&&◌, Option, Some, None, is_some, if◌then◌else◌, List, [], ◌∷◌, ◌++◌, length, get_or, set}
 use Rattle.std.proofs.lemmas.List.{get_or-set_same}
 use Rattle.std.proofs.Math.Logic.{⊎_elim}
-use Rattle.std.proofs.lemmas.Nat.{pow_pos}
 use Rattle.ktime.specs.declared.clock_id.ClockId.{ClockId}
 use Rattle.ktime.specs.declared.mode.Mode.{Mode}
 use Rattle.seq_timer.specs.declared.event.Event.TheVariants as events
@@ -29,7 +28,6 @@ use Rattle.hrt_app.specs.ObjectTurns.{StartsHere, StartsThere, move_out}
 use Rattle.hrt_app.specs.Turns.{IsNext, act_then, claim_step, finish_step, fired_by}
 use Rattle.hrt_app.specs.Runs.{Acts, RunState, progress, with_act, with_expiry_line, with_line, with_look, with_out, with_some, with_trigger_line}
 use Rattle.hrt_app.proofs.Acts.{act_allowed, MayTakeSome}
-use Rattle.hrt_app.proofs.Told.{nat_eq_apart}
 
 -- the parts of the answer of a start
 pub record HasParts (was : Bool) (generation on : ℕ) (moved_to : Option ℕ) (clock : ClockId) (expires : ℕ) (t now : Timer) (asked : ℕ) : Type 0 where

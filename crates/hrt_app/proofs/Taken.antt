@@ -1,5 +1,5 @@
 -- Steps of one timer in turn: the run goes on, and its record tells each of them.
-use Rattle.std.proofs.Common.{arith, refl, sym, ap, ◌∙◌, subst, ◌≡◌, ◌<◌, ℕ, ◌+◌, Bool, true, false, nat_eq, Option, Some, None, List, [], ◌∷◌, ◌++◌, length}
+use Rattle.std.proofs.Common.{arith, refl, sym, ap, ◌∙◌, subst, ◌≡◌, ◌<◌, ℕ, ◌+◌, false, nat_eq, Option, Some, None, List, [], ◌∷◌, ◌++◌, length}
 use Rattle.seq_timer.specs.Steps.{Timer, after}
 use Rattle.seq_timer.specs.Tables.{timer_at, no_timer}
 use Rattle.script_text.specs.declared.script.Script.{Script}

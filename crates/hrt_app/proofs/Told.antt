@@ -1,7 +1,7 @@
 -- What one call did, as the record so far tells it: one thing more, and what is told in the end.
 use Rattle.script_text.specs.Objects.{lines_of_object}
 use Rattle.record_text.specs.declared.record.ObjectLine.{ObjectLine}
-use Rattle.std.proofs.Common.{arith, refl, sym, ap, ◌∙◌, subst, ◌≡◌, ◌≢◌, ◌<◌, ℕ, ◌+◌, suc, Bool, true, false, nat_eq, Option, Some, None, List, []}
+use Rattle.std.proofs.Common.{arith, refl, sym, ap, ◌∙◌, subst, ◌≡◌, ◌≢◌, ◌<◌, ℕ, ◌+◌, suc, true, false, nat_eq, Option, Some, None, List, []}
 use Rattle.std.proofs.Common.{◌∷◌, ◌++◌, length, map}
 use Rattle.std.proofs.lemmas.Bool.Decides.{nat_tests}
 use Rattle.std.specs.List.{AllByRecursion}

@@ -12,11 +12,9 @@ use Rattle.timer_setting.specs.Phases as phased
 use Rattle.posix_timer.specs.declared.calls.Call.TheVariants as posix_calls
 use Rattle.posix_timer.specs.declared.calls.Reply.TheVariants as posix_replies
 use Rattle.posix_timer.specs.declared.answers.TriggerAnswer.TheVariants as posix_triggers
-use Rattle.posix_timer.specs.Steps as posix_steps
 use Rattle.timer_fd.specs.declared.calls.Call.TheVariants as fd_calls
 use Rattle.timer_fd.specs.declared.calls.Reply.TheVariants as fd_replies
 use Rattle.timer_fd.specs.declared.answers.TriggerAnswer.TheVariants as fd_triggers
-use Rattle.timer_fd.specs.Steps as fd_steps
 use Rattle.script_text.specs.declared.script.Script.{Script}
 use Rattle.record_text.specs.declared.record.ClockLine.{ClockLine}
 use Rattle.record_text.specs.declared.record.Entry.TheVariants as entries

@@ -1,5 +1,5 @@
 -- A run's state as its methods see it.
-use Rattle.std.specs.Prelude.{ℕ, ◌≡◌, ◌≤◌, ◌<◌, ◌+◌, replicate, List, [], ◌∷◌, ◌++◌, length, map, get_or, set, Option, Some, None, Bool, nat_eq, if◌then◌else◌}
+use Rattle.std.specs.Prelude.{ℕ, ◌≡◌, ◌≤◌, ◌<◌, ◌+◌, replicate, List, [], ◌∷◌, ◌++◌, length, map, get_or, set, Option, Some, None, Bool}
 use Rattle.ktime.specs.Readings.{ClockReading}
 use Rattle.clock_model.specs.Clocks.{at_stamp, last_stamp}
 use Rattle.seq_timer.specs.Steps.{Timer, after, greatest_limit}

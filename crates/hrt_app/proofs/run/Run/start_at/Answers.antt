@@ -1,9 +1,8 @@
-use Rattle.std.proofs.Common.{not, is_some, sym, ap, subst, ◌∙◌, ◌≡◌, ◌<◌, ◌⊎◌, ◌&&◌, nat_eq, length}
+use Rattle.std.proofs.Common.{not, is_some, sym, ap, subst, ◌∙◌, ◌≡◌, ◌<◌, ◌⊎◌, ◌&&◌, length}
 use Rattle.std.proofs.Math.Bool.{not-not}
 use Rattle.std.proofs.Math.Logic.{⊎_elim}
 use Rattle.std.proofs.lemmas.Bool.{cases_lt}
 use Rattle.ktime.specs.Readings.{ClockReading}
-use Rattle.seq_timer.specs.Steps.{Timer}
 use Rattle.seq_timer.specs.Tables.{timer_at}
 use Rattle.timer_core.specs.Kept.{HasRoom, Makes}
 use Rattle.timer_core.specs.Answers.{start_events}
