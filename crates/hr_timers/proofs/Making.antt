@@ -1,0 +1,90 @@
+-- Entries and looks of a call, at one moment of the history of all timers.
+use Rattle.std.proofs.Common.{◌≡◌, ℕ, ◌<◌, List, [], ◌∷◌, ◌++◌, length, refl, ap, sym, ◌∙◌, subst}
+use Rattle.std.specs.Prelude.{Some}
+use Rattle.pass_names.specs.Passes.{Begins, places}
+use Rattle.pass_names.specs.SharedHistory.{LooksOn}
+use Rattle.pass_names.proofs.Passes.{begins_refl, begins_trans}
+use Rattle.pass_names.proofs.SharedHistory.{extends_looks}
+use Rattle.seq_timer.specs.declared.event.Event.{Event}
+use Rattle.seq_timer.specs.declared.system.TimerEntry.{TimerEntry}
+use Rattle.seq_timer.specs.Histories as seq
+use Rattle.seq_timer.specs.Steps.{Timer, after}
+use Rattle.seq_timer.specs.Systems.{BaseContent, IsOn, changed, entries_of}
+use Rattle.base_row.specs.declared.view.Locked.{Locked}
+use Rattle.base_row.specs.declared.view.Opening.{Opening}
+use Rattle.base_row.specs.declared.view.View.{View}
+use Rattle.base_row.specs.Calls as rows
+use Rattle.base_row.proofs.Calling.{extends_appended, looks_freed, seen_after}
+use Rattle.hr_timers.specs.Known.{Extends, Known, Looks, Made}
+use Rattle.hr_timers.specs.Calls.{entry_by}
+
+-- ---- looks
+
+pub looks_refl : (v : View BaseContent) → Looks v v
+looks_refl v = record { seen = begins_refl v.seen; mine = refl; id = refl; claims = refl; carry = refl }
+
+pub looks_trans : (u v w : View BaseContent) → Looks u v → Looks v w → Looks u w
+looks_trans u v w a b =
+    record { seen = begins_trans a.seen b.seen; mine = b.mine ∙ a.mine; id = b.id ∙ a.id; claims = b.claims ∙ a.claims; carry = b.carry ∙ a.carry }
+
+pub looks_seen : (v w : View BaseContent) → rows.Sees v w → Looks v w
+looks_seen v w s = record {
+  seen = s.seen;
+  mine = ap (λ (y : View BaseContent). y.mine) s.rest;
+  id = ap (λ (y : View BaseContent). y.id) s.rest;
+  claims = ap (λ (y : View BaseContent). y.claims) s.rest;
+  carry = ap (λ (y : View BaseContent). y.carry) s.rest;
+}
+
+pub looks_locked : (base : ℕ) (v w : View BaseContent) (h : Locked BaseContent) → rows.Locks base v w h → Looks v w
+looks_locked base v w h l = record {
+  seen = l.seen;
+  mine = ap (λ (y : View BaseContent). y.mine) l.rest;
+  id = ap (λ (y : View BaseContent). y.id) l.rest;
+  claims = ap (λ (y : View BaseContent). y.claims) l.rest;
+  carry = ap (λ (y : View BaseContent). y.carry) l.rest;
+}
+
+pub looks_on : (v w : View BaseContent) → Looks v w → LooksOn (rows.known_of v) (rows.known_of w)
+looks_on v w l = record { seen = l.seen; mine = l.mine; id = l.id; claims = l.claims }
+
+-- ---- entries
+
+-- looks, and then entries behind what was seen of the timer
+pub made_then : (u v w : View BaseContent) (t : ℕ) (es : List seq.Entry) → Looks u v → Extends v w t es
+    → Made (rows.known_of u) (rows.known_of w) t v.seen es
+made_then u v w t es first adds = record {
+  from = first.seen;
+  seen = adds.seen;
+  own = adds.own;
+  mine = adds.mine ∙ ap (λ l. l ++ places t (length (entries_of t v.seen)) es) first.mine;
+  id = adds.id ∙ first.id;
+}
+
+-- looks before a call
+pub made_before : (u v : View BaseContent) (w : Known) (t : ℕ) (x : List TimerEntry) (es : List seq.Entry) → Looks u v
+    → Made (rows.known_of v) w t x es → Made (rows.known_of u) w t x es
+made_before u v w t x es first made = record {
+  from = begins_trans first.seen made.from;
+  seen = made.seen;
+  own = made.own;
+  mine = made.mine ∙ ap (λ l. l ++ places t (length (entries_of t x)) es) first.mine;
+  id = made.id ∙ first.id;
+}
+
+same_place : (h g : Locked BaseContent) → Some h ≡ Some g → h.base ≡ g.base
+same_place h g e = let t : h ≡ g = cc in ap (λ (x : Locked BaseContent). x.base) t
+
+-- an entry that leaves its timer on the held base, which is then let go
+pub extends_freed : (o : Opening) → rows.AreFresh o.timers → (h g : Locked BaseContent) (t : ℕ) (event : Event) (v w x : View BaseContent)
+    → t < length o.timers → rows.Appended o h t event v w → w.held ≡ Some g
+    → IsOn h.base (after (rows.timer_seen o v t) event) → rows.LetsGo o g w x → Extends v x t (entry_by (rows.timer_seen o v t) event ∷ [])
+extends_freed o fresh h g t event v w x inside told held on free =
+    let here : h.base ≡ g.base = same_place
+        (record { base = h.base; word = h.word; content = changed t (rows.timer_seen o v t) event h.content }) g
+            (sym (ap (λ (y : View BaseContent). y.held) told.rest) ∙ held) in
+    let on' : IsOn g.base (rows.timer_seen o w t) =
+    subst (λ (y : Timer). IsOn g.base y) (sym (seen_after o fresh h t event v w told))
+        (subst (λ b. IsOn b (after (rows.timer_seen o v t) event)) here on) in
+    extends_looks entries_of (rows.known_of v) (rows.known_of w) (rows.known_of x) t (entry_by (rows.timer_seen o v t) event ∷ [])
+    (extends_appended o fresh h t event v w told) (looks_freed o g w x free) (free.own t inside on')

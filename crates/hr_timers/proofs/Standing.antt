@@ -1,0 +1,76 @@
+-- What a claim that stands says of its timer.
+use Rattle.std.proofs.Common.{◌≡◌, ℕ, ◌<◌, ◌++◌, ◌∷◌, [], List, length, refl, ap, sym, ◌∙◌, subst, true, false}
+use Rattle.std.specs.Prelude.{Option, Some, None, Bool}
+use Rattle.std.proofs.lemmas.Bool.{eqb-true, and_parts, true≢false}
+use Rattle.ktime.specs.Readings.{ClockReading}
+use Rattle.pass_names.specs.Counts.{count}
+use Rattle.seq_timer.specs.declared.event.Rearmed.{Rearmed}
+use Rattle.seq_timer.specs.declared.event.Reply.{Reply}
+use Rattle.seq_timer.specs.declared.event.Reply.TheVariants as replies
+use Rattle.seq_timer.specs.Steps.{Timer}
+use Rattle.base_row.specs.declared.view.Claimed.{Claimed}
+use Rattle.base_row.specs.declared.view.Opening.{Opening}
+use Rattle.base_row.specs.declared.view.View.{View}
+use Rattle.seq_timer.specs.Systems.{BaseContent, IsOn}
+use Rattle.base_row.specs.Rules.{number_of, is_claim, is_generation}
+use Rattle.base_row.specs.Calls as rows
+use Rattle.base_row.specs.Plays as plays
+use Rattle.seq_timer.proofs.Agreement.{agrees}
+use Rattle.base_row.proofs.Placed.{placed_seen}
+use Rattle.hr_timers.specs.Known.{Known, Looks}
+use Rattle.hr_timers.specs.Calls.{ClaimsNext}
+use Rattle.hr_timers.specs.declared.numbers.ClaimNumbers.{ClaimNumbers}
+use Rattle.hr_timers.proofs.Making.{made_before}
+
+-- what a pass of a table knows, of that table's opening
+pub knows_in : (o : Opening) (v : View BaseContent) → v.opening ≡ o → plays.KnowsOwn v → plays.Knows o.bases o.timers number_of v
+knows_in o v is knows = subst (λ (q : Opening). plays.Knows q.bases q.timers number_of v) is knows
+
+generation_is : (g : ℕ) (r : Option ℕ) → is_generation g r ≡ true → r ≡ Some g
+generation_is g None e = absurd (true≢false (sym e))
+generation_is g (Some x) e = ap (λ y. Some y) (eqb-true x g e)
+
+module _ (o : Opening) (v : View BaseContent) (fresh : rows.AreFresh o.timers) (knows : plays.Knows o.bases o.timers number_of v) (t g b : ℕ)
+    (within : t < length o.timers) (stands : 0 < count (is_claim t g b) v.claims) where
+  pub claim_runs : (rows.timer_seen o v t).running ≡ Some g
+  claim_runs = generation_is g (rows.timer_seen o v t).running
+      (and_parts (is_generation g (rows.timer_seen o v t).running) _ (knows.claims t g b within stands)).0
+
+  pub claim_base : (rows.timer_seen o v t).base ≡ b
+  claim_base = eqb-true (rows.timer_seen o v t).base b (and_parts (is_generation g (rows.timer_seen o v t).running) _ (knows.claims t g b within stands)).1
+
+  pub claim_on : IsOn b (rows.timer_seen o v t)
+  claim_on = record { at = claim_base; still = still (rows.timer_seen o v t).moving ((agrees o.bases o.timers v.seen fresh.each knows.allowed).apart t) }
+    where
+      still : (m : Bool) → (m ≡ true → ((rows.timer_seen o v t).armed ≡ None) × ((rows.timer_seen o v t).running ≡ None)) → m ≡ false
+      still false apart = refl
+      still true apart = absurd (none_some (sym (apart refl).1 ∙ claim_runs))
+        where
+          none_some : None ≡ Some g → ⊥
+          none_some e = cc
+
+  pub claim_inside : 0 < o.bases → b < o.bases
+  claim_inside some = subst (λ x. x < o.bases) claim_base (placed_seen o v fresh knows some t)
+
+-- looks before a claim
+pub claims_before : (o : Opening) (u v : View BaseContent) (w : Known) (base : ℕ) (reading : ClockReading) (c : ClaimNumbers) → Looks u v
+    → ClaimsNext o (rows.known_of v) w base reading c → ClaimsNext o (rows.known_of u) w base reading c
+claims_before o u v w base reading c looks r = record {
+  at = r.at;
+  made = made_before u v w c.timer r.at _ looks r.made;
+  idle = r.idle;
+  next = r.next;
+  first = r.first;
+  within = r.within;
+  armed = r.armed;
+  there = r.there;
+  number = r.number;
+  fresh = ap (count (is_claim c.timer c.generation c.base)) (sym looks.claims) ∙ r.fresh;
+  claims = r.claims ∙ ap (λ l. l ++ record { timer = c.timer; generation = c.generation; base = c.base } ∷ []) looks.claims;
+}
+
+pub finish_same : (g h : ℕ) (a b : Rearmed) → replies.Finish g a ≡ replies.Finish h b → a ≡ b
+finish_same g h a b e = cc
+
+pub forward_same : (a b d e : ℕ) → replies.Forward a b ≡ replies.Forward d e → (a ≡ d) × (b ≡ e)
+forward_same a b d e is = (cc, cc)

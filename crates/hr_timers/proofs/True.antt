@@ -1,0 +1,20 @@
+-- What a pass knows is true.
+use Rattle.std.proofs.Common.{◌≡◌, ℕ, ap, ◌∙◌}
+use Rattle.pass_names.specs.Counts.{one_if}
+use Rattle.pass_names.specs.Passes.{within}
+use Rattle.seq_timer.specs.Systems.{BaseContent}
+use Rattle.base_row.specs.declared.view.Opening.{Opening}
+use Rattle.base_row.specs.declared.view.View.{View}
+use Rattle.base_row.specs.Calls as rows
+use Rattle.base_row.specs.Plays.{KnowsOwn}
+use Rattle.base_row.proofs.Calling.{stamp_seen}
+use Rattle.hr_timers.specs.Known.{IsTrue}
+use Rattle.hr_timers.proofs.Standing.{claim_base, claim_runs, knows_in}
+
+pub true_of : (o : Opening) (v : View BaseContent) → rows.AreFresh o.timers → v.opening ≡ o → KnowsOwn v → IsTrue o (rows.known_of v)
+true_of o v fresh is own =
+    let knows = knows_in o v is own in record {
+      history = knows.allowed;
+      claims = λ t g b inside stands. (claim_runs o v fresh knows t g b inside stands, claim_base o v fresh knows t g b inside stands);
+      whole = λ last. record { once = λ t n inside. knows.all_entries last t n inside ∙ ap (λ k. one_if (within n k)) (stamp_seen o fresh v t) };
+    }

@@ -1,0 +1,216 @@
+//! Claiming the next timer of a base, and what its function may do.
+ghost use Rattle.std.specs.Prelude.{◌≡◌, ◌<◌, ◌+◌, ℕ, length, Some, None, IsSome, true, false};
+ghost use Rattle.seq_timer.specs.Tables.{IsNextDue, is_due_on, runs_on};
+ghost use Rattle.seq_timer.specs.Contents.{first_due};
+ghost use Rattle.seq_timer.specs.Systems.{IsOn};
+ghost use Rattle.base_row.specs.Calls.{IsPassOf, base_seen, known_of, timer_seen};
+ghost use Rattle.base_row.specs.Rests.{Rests};
+ghost use Rattle.hr_timers.specs.Known.{HasClaim, Looks};
+ghost use Rattle.hr_timers.specs.Calls.{ClaimFits, ClaimsNext, Finishes, Forwards};
+
+use crate::answer::ClaimAnswer;
+use crate::numbers::ClaimNumbers;
+use crate::tokens::Claim;
+use crate::under_lock::{enter_once, leave, leave_base, lock};
+use base_row::{BaseRow, HeldBase, Pass};
+use ktime::Reading;
+use seq_timer::{Event, Reply, TimerState};
+use std::sync::Wait;
+use timer_core::{Finished, ForwardAnswer};
+
+/// Claims the timer that is the next to expire on a base: its function is to run (`__run_hrtimer`).
+pub fn claim_next<R: Wait>(
+    rt: &R,
+    row: &BaseRow,
+    pass: &mut Pass,
+    base: u32,
+    reading: Reading,
+) -> ClaimAnswer
+    requires row { IsPassOf row.now pass.old }
+    requires base { base < row.now.about.bases }
+    requires rests { Rests pass.old.knows }
+    ensures row { IsPassOf row.now pass.new }
+    ensures rests { Rests pass.new.knows }
+    ensures claims { ClaimFits row.now.about (known_of pass.old.knows) (known_of pass.new.knows) base reading result }
+{
+    let held = lock(rt, row, pass, base);
+    if let Some((timer, generation)) = row.running(pass, &held) {
+        leave_base(row, pass, held, base);
+        return ClaimAnswer::BaseBusy { timer, generation };
+    }
+    let Some((_, timer)) = row.first(pass, &held, reading) else {
+        leave_base(row, pass, held, base);
+        return ClaimAnswer::NoneDue;
+    };
+    let numbers = claim_held(row, pass, held, base, timer, reading);
+    ClaimAnswer::Claimed(Claim { numbers })
+}
+
+/// Claims a timer that is the next to expire on a held base, and lets the base go.
+fn claim_held(
+    row: &BaseRow,
+    pass: &mut Pass,
+    held: HeldBase,
+    base: u32,
+    timer: u32,
+    reading: Reading,
+) -> ClaimNumbers
+    requires row { IsPassOf row.now pass.old }
+    requires within { (timer < length row.now.about.timers) × (held.base < row.now.about.bases) }
+    requires held { (pass.old.knows.held ≡ Some held) × (pass.old.knows.carry ≡ None) }
+    requires base { held.base ≡ base }
+    requires unmarked { held.content.content.running ≡ None }
+    requires idle { (t : ℕ) → runs_on held.base (timer_seen row.now.about pass.old.knows t) ≡ false }
+    requires next { IsNextDue (timer_seen row.now.about pass.old.knows) held.base reading timer }
+    requires first { first_due (base_seen row.now.about pass.old.knows base).content reading ≡ Some ((timer_seen row.now.about pass.old.knows timer).expires, timer) }
+    ensures row { IsPassOf row.now pass.new }
+    ensures rests { Rests pass.new.knows }
+    ensures timer { result.timer ≡ timer }
+    ensures claimed { ClaimsNext row.now.about (known_of pass.old.knows) (known_of pass.new.knows) base reading result }
+{
+    row.fresh();
+    pass.known();
+    let state = row.state(pass, &held, timer);
+    let (generation, number) = numbers(&state);
+    enter_once(row, pass, held, timer, Event::Claim { base, reading });
+    ClaimNumbers {
+        timer,
+        generation,
+        base,
+        number,
+    }
+}
+
+/// The generation that is armed, and the number of the next entry.
+fn numbers(state: &TimerState) -> (u64, u64)
+    requires armed { IsSome state.now.armed }
+    ensures armed { state.now.armed ≡ Some result.0 }
+    ensures number { result.1 ≡ state.now.stamp + 1 }
+{
+    state.bounded();
+    match state.armed() {
+        Some(generation) => (generation, state.stamp() + 1),
+        None => unreachable!(),
+    }
+}
+
+/// Locks the base of a claim. The claim's timer is there and runs.
+fn hold_claimed<R: Wait>(
+    rt: &R,
+    row: &BaseRow,
+    pass: &mut Pass,
+    claim: ClaimNumbers,
+) -> (HeldBase, TimerState)
+    requires row { IsPassOf row.now pass.old }
+    requires claim { HasClaim row.now.about (known_of pass.old.knows) claim }
+    requires rests { Rests pass.old.knows }
+    ensures row { IsPassOf row.now pass.new }
+    ensures held { pass.new.knows.held ≡ Some result.0 }
+    ensures looks { Looks pass.old.knows pass.new.knows }
+    ensures within { result.0.base < row.now.about.bases }
+    ensures base { result.0.base ≡ claim.base }
+    ensures state { result.1 ≡ timer_seen row.now.about pass.new.knows claim.timer }
+    ensures runs { result.1.running ≡ Some claim.generation }
+    ensures on { IsOn claim.base result.1 }
+{
+    row.fresh();
+    pass.known();
+    let held = lock(rt, row, pass, claim.base);
+    pass.known();
+    let state = row.state(pass, &held, claim.timer);
+    (held, state)
+}
+
+/// Ends the run of a claim's function. `restart` is what the function answered.
+pub fn finish<R: Wait>(
+    rt: &R,
+    row: &BaseRow,
+    pass: &mut Pass,
+    claim: ClaimNumbers,
+    restart: bool,
+) -> Finished
+    requires row { IsPassOf row.now pass.old }
+    requires claim { HasClaim row.now.about (known_of pass.old.knows) claim }
+    requires rests { Rests pass.old.knows }
+    ensures row { IsPassOf row.now pass.new }
+    ensures rests { Rests pass.new.knows }
+    ensures finishes { Finishes row.now.about (known_of pass.old.knows) (known_of pass.new.knows) claim restart result }
+{
+    let (held, state) = hold_claimed(rt, row, pass, claim);
+    state.bounded();
+    let number = state.stamp() + 1;
+    let reply = enter_once(row, pass, held, claim.timer, Event::Finish { restart });
+    match reply {
+        Reply::Finish { rearmed, .. } => Finished { number, rearmed },
+        _ => unreachable!(),
+    }
+}
+
+/// Moves the expiry of a claim's timer past the reading by whole intervals (`hrtimer_forward`). It doesn't arm it.
+pub fn forward<R: Wait>(
+    rt: &R,
+    row: &BaseRow,
+    pass: &mut Pass,
+    claim: ClaimNumbers,
+    reading: Reading,
+    interval: u64,
+) -> ForwardAnswer
+    requires row { IsPassOf row.now pass.old }
+    requires claim { HasClaim row.now.about (known_of pass.old.knows) claim }
+    requires rests { Rests pass.old.knows }
+    ensures row { IsPassOf row.now pass.new }
+    ensures rests { Rests pass.new.knows }
+    ensures forwards { Forwards row.now.about (known_of pass.old.knows) (known_of pass.new.knows) claim reading interval result }
+{
+    let (held, state) = hold_claimed(rt, row, pass, claim);
+    forward_held(row, pass, held, claim, state, reading, interval)
+}
+
+/// The same on the held base, which is let go.
+fn forward_held(
+    row: &BaseRow,
+    pass: &mut Pass,
+    held: HeldBase,
+    claim: ClaimNumbers,
+    state: TimerState,
+    reading: Reading,
+    interval: u64,
+) -> ForwardAnswer
+    requires row { IsPassOf row.now pass.old }
+    requires claim { HasClaim row.now.about (known_of pass.old.knows) claim }
+    requires held { (pass.old.knows.held ≡ Some held) × (pass.old.knows.carry ≡ None) }
+    requires base { (held.base ≡ claim.base) × (held.base < row.now.about.bases) }
+    requires state { state ≡ timer_seen row.now.about pass.old.knows claim.timer }
+    requires runs { state.running ≡ Some claim.generation }
+    requires on { IsOn claim.base state }
+    ensures row { IsPassOf row.now pass.new }
+    ensures rests { Rests pass.new.knows }
+    ensures forwards { Forwards row.now.about (known_of pass.old.knows) (known_of pass.new.knows) claim reading interval result }
+{
+    let stamp = state.stamp();
+    if stamp >= state.limit() {
+        leave(row, pass, held, claim.timer);
+        return ForwardAnswer::Spent { stamp };
+    }
+    if let Some(generation) = state.armed() {
+        leave(row, pass, held, claim.timer);
+        return ForwardAnswer::Armed { generation, stamp };
+    }
+    state.bounded();
+    let number = stamp + 1;
+    let reply = enter_once(
+        row,
+        pass,
+        held,
+        claim.timer,
+        Event::Forward { reading, interval },
+    );
+    match reply {
+        Reply::Forward { count, expires } => ForwardAnswer::Forwarded {
+            number,
+            count,
+            expires,
+        },
+        _ => unreachable!(),
+    }
+}

@@ -1,0 +1,18 @@
+//! High-resolution timers for many threads: they stand on bases that are locked one at a time, under one history of all timers.
+#![tactic(auto)]
+
+mod answer;
+mod cancelling;
+mod claiming;
+mod moving;
+mod numbers;
+mod starting;
+mod timers;
+mod tokens;
+mod trying_now;
+mod under_lock;
+
+pub use answer::{ClaimAnswer, NowAnswer, StartAnswer};
+pub use numbers::ClaimNumbers;
+pub use timers::Timers;
+pub use tokens::{Claim, Pass};

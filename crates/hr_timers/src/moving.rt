@@ -1,0 +1,96 @@
+//! Moving a timer from one base to another: never both locks at once.
+ghost use Rattle.std.specs.Prelude.{◌≡◌, ◌<◌, length, Some, None, [], ◌∷◌, true};
+ghost use Rattle.seq_timer.specs.Steps.{Needs, after};
+ghost use Rattle.seq_timer.specs.declared.event.Event.TheVariants.{Out, Start};
+ghost use Rattle.seq_timer.specs.Systems.{IsOn};
+ghost use Rattle.base_row.specs.Calls.{IsPassOf, timer_seen};
+ghost use Rattle.base_row.specs.Rests.{Rests};
+ghost use Rattle.hr_timers.specs.Known.{Extends};
+ghost use Rattle.hr_timers.specs.Calls.{entries_along, entry_by};
+
+use crate::under_lock::lock;
+use base_row::{BaseRow, HeldBase, Pass};
+use ktime::{Mode, Reading};
+use seq_timer::{Event, TimerState};
+use std::sync::Wait;
+
+/// Sends a timer from a held base to another, lets the base go, and starts the timer under the other's lock.
+pub fn move_and_start<R: Wait>(
+    rt: &R,
+    row: &BaseRow,
+    pass: &mut Pass,
+    held: HeldBase,
+    timer: u32,
+    to: u32,
+    mode: Mode,
+    ns: u64,
+    reading: Reading,
+)
+    requires row { IsPassOf row.now pass.old }
+    requires within { (timer < length row.now.about.timers) × (held.base < row.now.about.bases) × (to < row.now.about.bases) }
+    requires held { (pass.old.knows.held ≡ Some held) × (pass.old.knows.carry ≡ None) }
+    requires on { IsOn held.base (timer_seen row.now.about pass.old.knows timer) }
+    requires needs { Needs (timer_seen row.now.about pass.old.knows timer) (Out to) }
+    ensures row { IsPassOf row.now pass.new }
+    ensures rests { Rests pass.new.knows }
+    ensures claims { pass.new.knows.claims ≡ pass.old.knows.claims }
+    ensures extends { Extends pass.old.knows pass.new.knows timer (entries_along (timer_seen row.now.about pass.old.knows timer) (Out to ∷ Start mode ns reading to ∷ [])) }
+{
+    let moved = send(row, pass, held, timer, to);
+    bring(rt, row, pass, timer, moved, mode, ns, reading);
+}
+
+/// Sends a timer off a held base to another, and lets the base go. The pass carries the timer then.
+fn send(row: &BaseRow, pass: &mut Pass, held: HeldBase, timer: u32, to: u32) -> TimerState
+    requires row { IsPassOf row.now pass.old }
+    requires within { (timer < length row.now.about.timers) × (held.base < row.now.about.bases) × (to < row.now.about.bases) }
+    requires held { (pass.old.knows.held ≡ Some held) × (pass.old.knows.carry ≡ None) }
+    requires on { IsOn held.base (timer_seen row.now.about pass.old.knows timer) }
+    requires needs { Needs (timer_seen row.now.about pass.old.knows timer) (Out to) }
+    ensures row { IsPassOf row.now pass.new }
+    ensures carries { (pass.new.knows.held ≡ None) × (pass.new.knows.carry ≡ Some timer) }
+    ensures claims { pass.new.knows.claims ≡ pass.old.knows.claims }
+    ensures seen { timer_seen row.now.about pass.new.knows timer ≡ after (timer_seen row.now.about pass.old.knows timer) (Out to) }
+    ensures state { result ≡ timer_seen row.now.about pass.new.knows timer }
+    ensures extends { Extends pass.old.knows pass.new.knows timer (entry_by (timer_seen row.now.about pass.old.knows timer) (Out to) ∷ []) }
+{
+    row.fresh();
+    let mut held = held;
+    let state = row.out(pass, &mut held, timer, to);
+    row.unlock_base(pass, held);
+    state
+}
+
+/// Starts a timer that the pass carries on the base that it goes to, under that base's lock.
+fn bring<R: Wait>(
+    rt: &R,
+    row: &BaseRow,
+    pass: &mut Pass,
+    timer: u32,
+    state: TimerState,
+    mode: Mode,
+    ns: u64,
+    reading: Reading,
+)
+    requires row { IsPassOf row.now pass.old }
+    requires within { (timer < length row.now.about.timers) × (state.base < row.now.about.bases) }
+    requires carries { (pass.old.knows.held ≡ None) × (pass.old.knows.carry ≡ Some timer) }
+    requires state { state ≡ timer_seen row.now.about pass.old.knows timer }
+    requires moving { state.moving ≡ true }
+    ensures row { IsPassOf row.now pass.new }
+    ensures rests { Rests pass.new.knows }
+    ensures claims { pass.new.knows.claims ≡ pass.old.knows.claims }
+    ensures extends { Extends pass.old.knows pass.new.knows timer (entry_by state (Start mode ns reading state.base) ∷ []) }
+{
+    row.fresh();
+    let asked = state.base();
+    let mut held = lock(rt, row, pass, asked);
+    let event = Event::Start {
+        mode,
+        ns,
+        reading,
+        asked,
+    };
+    row.arrive(pass, &mut held, timer, state, event);
+    row.unlock_base(pass, held);
+}

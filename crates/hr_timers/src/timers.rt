@@ -1,0 +1,265 @@
+//! The calls on timers.
+ghost use Rattle.std.specs.Prelude.{◌≡◌, ◌≤◌, ◌<◌, ◌^◌, ◌-◌, ℕ, length, slice_index, [], IfOk};
+ghost use Rattle.pass_names.specs.Names.{AnswersFor, IsLast};
+ghost use Rattle.seq_timer.specs.Steps.{greatest_limit};
+ghost use Rattle.base_row.specs.Calls.{opening_of};
+ghost use Rattle.pass_names.specs.SharedHistory.{MeetWith, TakesIn, child_known, first_known, splitter_known};
+ghost use Rattle.hr_timers.specs.Known.{IsPassOf, HasClaim, HasEachPlace};
+ghost use Rattle.hr_timers.specs.Calls.{Cancels, ClaimFits, Finishes, Forwards, NowFits, Peeks, Starts};
+ghost use Rattle.hr_timers.specs.declared.answer.NowAnswer.TheVariants as nows;
+
+use crate::answer::{ClaimAnswer, NowAnswer, StartAnswer};
+use crate::starting::Asked;
+use crate::tokens::{Claim, Pass};
+use crate::{cancelling, claiming, starting, trying_now};
+use base_row::BaseRow;
+use ktime::{ClockId, Mode, Reading};
+use seq_timer::Peek;
+use std::alloc::{AllocError, Global};
+use std::marker::Model;
+use std::sync::Wait;
+use timer_core::{CancelAnswer, Finished, ForwardAnswer};
+
+/// Timers that many threads share, each thread with a pass of its own.
+#[derive(Drop)]
+pub struct Timers {
+    row: BaseRow,
+}
+
+impl Model for Timers {
+    ghost use Rattle.std.specs.Prelude.{◌≤◌};
+    ghost use Rattle.base_row.specs.Calls.{RowOf};
+
+    ghost Value = { RowOf };
+
+    ghost view = { λ t. t.row };
+
+    ghost invariant = { λ t. t.row.about.bases ≤ 64 };
+}
+
+impl Timers {
+    /// Timers that are declared on these clocks, on so many bases, with the first pass. At `max_events` entries a timer takes no start, no
+    /// forward and no restart any more. It alone takes memory, for all calls.
+    pub fn make(
+        alloc: Global,
+        bases: u32,
+        clocks: &[ClockId],
+        max_events: u64,
+    ) -> Result<(Timers, Pass), AllocError>
+        requires few { (0 < bases) × (bases ≤ 64) × (length clocks.now ≤ 65536) }
+        requires limit { (0 < max_events) × (max_events ≤ greatest_limit) }
+        ensures pass { IfOk result (λ r. IsPassOf r.0 r.1) }
+        ensures about { IfOk result (λ r. r.0.about ≡ opening_of bases clocks.now max_events) }
+        ensures first { IfOk result (λ r. r.1.known ≡ first_known) }
+    {
+        let (row, inner) = BaseRow::make(alloc, bases, clocks, max_events)?;
+        let timers = Timers { row };
+        let pass = Pass { inner };
+        timers.check(&pass);
+        Ok((timers, pass))
+    }
+
+    /// Arms a timer on a base (`hrtimer_start_range_ns`). One whose function is running keeps its base; another one is moved there first. `ns` is
+    /// read by the mode, in nanoseconds.
+    pub fn start<R: Wait>(
+        &self,
+        rt: &R,
+        pass: &mut Pass,
+        timer: u32,
+        mode: Mode,
+        ns: u64,
+        base: u32,
+        reading: Reading,
+    ) -> StartAnswer
+        requires pass { IsPassOf self.now pass.old }
+        requires timer { timer < length self.now.about.timers }
+        requires base { base < self.now.about.bases }
+        ensures pass { IsPassOf self.now pass.new }
+        ensures starts { Starts self.now.about pass.old.known pass.new.known timer mode ns base reading result }
+    {
+        self.small();
+        let asked = Asked {
+            mode,
+            ns,
+            base,
+            reading,
+        };
+        let answer = starting::start(rt, &self.row, &mut pass.inner, timer, &asked);
+        self.check(pass);
+        answer
+    }
+
+    /// Disarms a timer, if its function isn't running (`hrtimer_try_to_cancel`). It waits only where one load doesn't show the timer idle.
+    pub fn try_to_cancel<R: Wait>(&self, rt: &R, pass: &mut Pass, timer: u32) -> CancelAnswer
+        requires pass { IsPassOf self.now pass.old }
+        requires timer { timer < length self.now.about.timers }
+        ensures pass { IsPassOf self.now pass.new }
+        ensures cancels { Cancels self.now.about pass.old.known pass.new.known timer result }
+    {
+        let answer = cancelling::try_to_cancel(rt, &self.row, &mut pass.inner, timer);
+        self.check(pass);
+        answer
+    }
+
+    /// Disarms a timer, if its function isn't running, at one try that waits for nobody. To the last pass it never answers Contended, up to
+    /// 2^63 - 1 takes of the base's lock.
+    pub fn cancel_now(&self, pass: &mut Pass, timer: u32) -> NowAnswer
+        requires pass { IsPassOf self.now pass.old }
+        requires timer { timer < length self.now.about.timers }
+        ensures pass { IsPassOf self.now pass.new }
+        ensures cancels { NowFits self.now.about pass.old pass.new timer result }
+        ensures alone { IsLast pass.old.known.id → (b : ℕ) → result ≡ nows.Contended b → 2 ^ 64 - 2 ≤ slice_index pass.new.met b }
+    {
+        let answer = trying_now::cancel_now(&self.row, &mut pass.inner, timer);
+        self.check(pass);
+        answer
+    }
+
+    /// Claims the timer that is the next to expire on a base (`__run_hrtimer`): its function is to run, by the caller that has the claim.
+    pub fn claim_next<R: Wait>(
+        &self,
+        rt: &R,
+        pass: &mut Pass,
+        base: u32,
+        reading: Reading,
+    ) -> ClaimAnswer
+        requires pass { IsPassOf self.now pass.old }
+        requires base { base < self.now.about.bases }
+        ensures pass { IsPassOf self.now pass.new }
+        ensures claims { ClaimFits self.now.about pass.old.known pass.new.known base reading result }
+    {
+        let answer = claiming::claim_next(rt, &self.row, &mut pass.inner, base, reading);
+        self.check(pass);
+        answer
+    }
+
+    /// Moves the expiry of a claim's timer past the reading by whole intervals (`hrtimer_forward`). It doesn't arm it.
+    pub fn forward<R: Wait>(
+        &self,
+        rt: &R,
+        pass: &mut Pass,
+        claim: &Claim,
+        reading: Reading,
+        interval: u64,
+    ) -> ForwardAnswer
+        requires pass { IsPassOf self.now pass.old }
+        requires claim { HasClaim self.now.about pass.old.known claim.now }
+        ensures pass { IsPassOf self.now pass.new }
+        ensures forwards { Forwards self.now.about pass.old.known pass.new.known claim.now reading interval result }
+    {
+        let answer = claiming::forward(
+            rt,
+            &self.row,
+            &mut pass.inner,
+            claim.numbers,
+            reading,
+            interval,
+        );
+        self.check(pass);
+        answer
+    }
+
+    /// Ends the run of a claim's function. `restart` is what the function answered.
+    pub fn finish<R: Wait>(&self, rt: &R, pass: &mut Pass, claim: Claim, restart: bool) -> Finished
+        requires pass { IsPassOf self.now pass.old }
+        requires claim { HasClaim self.now.about pass.old.known claim }
+        ensures pass { IsPassOf self.now pass.new }
+        ensures finishes { Finishes self.now.about pass.old.known pass.new.known claim restart result }
+    {
+        let Claim { numbers } = claim;
+        let answer = claiming::finish(rt, &self.row, &mut pass.inner, numbers, restart);
+        self.check(pass);
+        answer
+    }
+
+    /// The state word of a timer, taken apart: one load, also while another pass holds the timer's base.
+    pub fn peek(&self, pass: &mut Pass, timer: u32) -> Peek
+        requires pass { IsPassOf self.now pass.old }
+        requires timer { timer < length self.now.about.timers }
+        ensures pass { IsPassOf self.now pass.new }
+        ensures peeks { Peeks self.now.about pass.old.known pass.new.known timer result }
+    {
+        let word = self.row.load_word(&mut pass.inner, timer);
+        self.check(pass);
+        Peek {
+            stamp: word.stamp,
+            base: word.base,
+            enqueued: word.enqueued,
+            running: word.running,
+            moving: word.moving,
+        }
+    }
+
+    /// Makes one more pass, which has seen as much. The pass that it is split off answers for it.
+    pub fn split(&self, pass: &mut Pass) -> Pass
+        requires pass { IsPassOf self.now pass.old }
+        ensures pass { IsPassOf self.now pass.new × IsPassOf self.now result }
+        ensures splitter { pass.new.known ≡ splitter_known pass.old.known }
+        ensures new { result.known ≡ child_known pass.old.known }
+    {
+        let inner = self.row.split(&mut pass.inner);
+        let new = Pass { inner };
+        self.check(pass);
+        self.check(&new);
+        new
+    }
+
+    /// Two passes tell each other what they have seen.
+    pub fn meet(&self, a: &mut Pass, b: &mut Pass)
+        requires pass { IsPassOf self.now a.old × IsPassOf self.now b.old }
+        ensures pass { IsPassOf self.now a.new × IsPassOf self.now b.new }
+        ensures meets { MeetWith a.old.known b.old.known a.new.known b.new.known }
+    {
+        self.row.meet(&mut a.inner, &mut b.inner);
+        self.check(a);
+        self.check(b);
+    }
+
+    /// A pass takes in another, which was split off it, or off one that it took in.
+    pub fn retire(&self, main: &mut Pass, other: Pass)
+        requires pass { IsPassOf self.now main.old × IsPassOf self.now other }
+        requires answers { AnswersFor main.old.known.id other.known.id }
+        ensures pass { IsPassOf self.now main.new }
+        ensures retires { TakesIn main.old.known other.known main.new.known }
+    {
+        let Pass { inner } = other;
+        self.row.retire(&mut main.inner, inner);
+        self.check(main);
+    }
+
+    /// Ends the timers with their last pass, which has no claims. It has each place of each timer.
+    pub fn close(self, pass: Pass)
+        requires pass { IsPassOf self pass }
+        requires last { IsLast pass.known.id }
+        requires unclaimed { pass.known.claims ≡ [] }
+        ensures whole { HasEachPlace self.about pass.known }
+    {
+        let Timers { row } = self;
+        let Pass { inner } = pass;
+        row.close(inner);
+    }
+
+    /// The bases on which these timers stand, for the same passes.
+    pub fn base_row(&self) -> &BaseRow
+        ensures { result.now ≡ self.now }
+    {
+        &self.row
+    }
+
+    /// A pass of these timers' table knows what is true.
+    fn check(&self, pass: &Pass)
+        requires row { pass.now.row ≡ self.now.id }
+        requires opening { pass.now.opening ≡ self.now.about }
+        ensures { IsPassOf self.now pass.now }
+    {
+        self.row.fresh();
+        pass.inner.known();
+    }
+
+    /// There are at most 64 bases.
+    fn small(&self)
+        ensures { self.now.about.bases ≤ 64 }
+    {
+        let _row = &self.row;
+    }
+}

@@ -1,0 +1,69 @@
+//! Cancelling a timer at one try that waits for nobody.
+ghost use Rattle.std.specs.Prelude.{◌≡◌, ◌≤◌, ◌<◌, ◌^◌, ◌-◌, ℕ, length, slice_index, Some, None};
+ghost use Rattle.pass_names.specs.Names.{IsLast};
+ghost use Rattle.base_row.specs.Calls.{IsPassOf};
+ghost use Rattle.base_row.specs.Rests.{Rests};
+ghost use Rattle.hr_timers.specs.Known.{pass_of};
+ghost use Rattle.hr_timers.specs.Calls.{NowFits, HeldFits};
+ghost use Rattle.hr_timers.specs.declared.answer.NowAnswer.TheVariants as nows;
+
+use crate::answer::NowAnswer;
+use crate::cancelling::cancel_held;
+use crate::under_lock::leave;
+use base_row::{BaseRow, HeldBase, Pass};
+use timer_core::CancelAnswer;
+
+/// Looks at the timer's word, and tries the lock of the base that it names once.
+pub fn cancel_now(row: &BaseRow, pass: &mut Pass, timer: u32) -> NowAnswer
+    requires row { IsPassOf row.now pass.old }
+    requires timer { timer < length row.now.about.timers }
+    requires rests { Rests pass.old.knows }
+    ensures row { IsPassOf row.now pass.new }
+    ensures rests { Rests pass.new.knows }
+    ensures cancels { NowFits row.now.about (pass_of pass.old) (pass_of pass.new) timer result }
+    ensures alone { IsLast pass.old.knows.id → (b : ℕ) → result ≡ nows.Contended b → 2 ^ 64 - 2 ≤ slice_index pass.new.knows.met b }
+{
+    let word = row.load_word(pass, timer);
+    if word.moving {
+        return NowAnswer::Moving { base: word.base };
+    }
+    if !word.enqueued && !word.running {
+        return NowAnswer::Tried(CancelAnswer::Idle { stamp: word.stamp });
+    }
+    let Some(held) = row.try_lock_base(pass, word.base) else {
+        return NowAnswer::Contended { base: word.base };
+    };
+    cancel_held_now(row, pass, held, timer, word.base)
+}
+
+/// The same under the lock of the base that the timer's word named.
+fn cancel_held_now(
+    row: &BaseRow,
+    pass: &mut Pass,
+    held: HeldBase,
+    timer: u32,
+    base: u32,
+) -> NowAnswer
+    requires row { IsPassOf row.now pass.old }
+    requires within { (timer < length row.now.about.timers) × (held.base < row.now.about.bases) }
+    requires held { (pass.old.knows.held ≡ Some held) × (pass.old.knows.carry ≡ None) }
+    requires base { held.base ≡ base }
+    ensures row { IsPassOf row.now pass.new }
+    ensures rests { Rests pass.new.knows }
+    ensures cancels { HeldFits row.now.about (pass_of pass.old) (pass_of pass.new) timer base result }
+{
+    let word = row.load_word(pass, timer);
+    if word.base != base {
+        leave(row, pass, held, timer);
+        return NowAnswer::Moved {
+            from: base,
+            to: word.base,
+        };
+    }
+    if word.moving {
+        leave(row, pass, held, timer);
+        return NowAnswer::Moving { base };
+    }
+    let state = row.state(pass, &held, timer);
+    NowAnswer::Tried(cancel_held(row, pass, held, timer, state))
+}
