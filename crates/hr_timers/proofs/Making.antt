@@ -81,10 +81,10 @@ pub extends_freed : (o : Opening) → rows.AreFresh o.timers → (h g : Locked B
     → IsOn h.base (after (rows.timer_seen o v t) event) → rows.LetsGo o g w x → Extends v x t (entry_by (rows.timer_seen o v t) event ∷ [])
 extends_freed o fresh h g t event v w x inside told held on free =
     let here : h.base ≡ g.base = same_place
-        (record { base = h.base; word = h.word; content = changed t (rows.timer_seen o v t) event h.content }) g
-            (sym (ap (λ (y : View BaseContent). y.held) told.rest) ∙ held) in
+    (record { base = h.base; word = h.word; content = changed t (rows.timer_seen o v t) event h.content }) g
+    (sym (ap (λ (y : View BaseContent). y.held) told.rest) ∙ held) in
     let on' : IsOn g.base (rows.timer_seen o w t) =
     subst (λ (y : Timer). IsOn g.base y) (sym (seen_after o fresh h t event v w told))
-        (subst (λ b. IsOn b (after (rows.timer_seen o v t) event)) here on) in
+    (subst (λ b. IsOn b (after (rows.timer_seen o v t) event)) here on) in
     extends_looks entries_of (rows.known_of v) (rows.known_of w) (rows.known_of x) t (entry_by (rows.timer_seen o v t) event ∷ [])
     (extends_appended o fresh h t event v w told) (looks_freed o g w x free) (free.own t inside on')

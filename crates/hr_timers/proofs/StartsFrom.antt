@@ -38,16 +38,19 @@ module _ (t : Timer) (mode : Mode) (ns asked : ℕ) (reading : ClockReading) (mo
 pub starts_from : (o : Opening) (v w : View BaseContent) (t : ℕ) (mode : Mode) (ns asked : ℕ) (reading : ClockReading) (now : Timer)
     (armed : Bool) (g b outs : ℕ) (clock : ClockId) (expires : ℕ)
     → Extends v w t (entries_along (rows.timer_seen o v t) (start_events (rows.timer_seen o v t) mode ns asked reading)) → w.claims ≡ v.claims
-        → (rows.timer_seen o v t).moving ≡ false → (rows.timer_seen o v t).stamp < (rows.timer_seen o v t).limit
+    → (rows.timer_seen o v t).moving ≡ false → (rows.timer_seen o v t).stamp < (rows.timer_seen o v t).limit
     → now ≡ step_all (rows.timer_seen o v t) (start_events (rows.timer_seen o v t) mode ns asked reading)
     → armed ≡ is_some (rows.timer_seen o v t).armed → g ≡ now.stamp → b ≡ now.base
-        → outs ≡ (if moves_first (rows.timer_seen o v t) asked then 2 ^ asked else 0) → clock ≡ now.clock → expires ≡ now.expires
+    → outs ≡ (if moves_first (rows.timer_seen o v t) asked then 2 ^ asked else 0) → clock ≡ now.clock → expires ≡ now.expires
     → Starts o (rows.known_of v) (rows.known_of w) t mode ns asked reading (starts.Started armed g b outs clock expires)
 starts_from o v w t mode ns asked reading now armed g b outs clock expires extends claims still room is e1 e2 e3 e4 e5 e6 = record {
   at = v.seen;
   made = made_then v v w t (entries_along (rows.timer_seen o v t) (start_events (rows.timer_seen o v t) mode ns asked reading)) (looks_refl v) extends;
-  fits = (still, room,
-      (λ i. starts.Started (e1 i) ((e2 ∙ ap (λ (x : Timer). x.stamp) is) i) ((e3 ∙ ap (λ (x : Timer). x.base) is) i) (e4 i)
-          ((e5 ∙ ap (λ (x : Timer). x.clock) is) i) ((e6 ∙ ap (λ (x : Timer). x.expires) is) i)));
+  fits = (
+    still,
+    room,
+    (λ i. starts.Started (e1 i) ((e2 ∙ ap (λ (x : Timer). x.stamp) is) i) ((e3 ∙ ap (λ (x : Timer). x.base) is) i) (e4 i)
+        ((e5 ∙ ap (λ (x : Timer). x.clock) is) i) ((e6 ∙ ap (λ (x : Timer). x.expires) is) i)),
+  );
   claims = claims;
 }

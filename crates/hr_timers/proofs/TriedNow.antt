@@ -16,8 +16,12 @@ use Rattle.hr_timers.proofs.Making.{made_before, looks_trans}
 -- looks before a call that made no entry
 looks_at_before : (u v : View BaseContent) (w : Known) (x : List TimerEntry) → Looks u v → LooksAt (rows.known_of v) w x → LooksAt (rows.known_of u) w x
 looks_at_before u v w x first at = record {
-  looks = record { seen = begins_trans first.seen at.looks.seen; mine = at.looks.mine ∙ first.mine; id = at.looks.id ∙ first.id;
-      claims = at.looks.claims ∙ first.claims };
+  looks = record {
+    seen = begins_trans first.seen at.looks.seen;
+    mine = at.looks.mine ∙ first.mine;
+    id = at.looks.id ∙ first.id;
+    claims = at.looks.claims ∙ first.claims;
+  };
   from = begins_trans first.seen at.from;
   seen = at.seen;
 }
@@ -28,12 +32,21 @@ pub now_from : (o : Opening) (p l m q : rows.PassOf) (t base : ℕ) (a : NowAnsw
     → NowFits o (pass_of p) (pass_of q) t a
 now_from o p l m q t base (nows.Tried c) first second on fits =
     let looks = looks_trans p.knows l.knows m.knows first second in
-    record { at = fits.at; made = made_before p.knows m.knows (rows.known_of q.knows) t fits.at _ looks fits.made; fits = fits.fits;
-        claims = fits.claims ∙ looks.claims }
+    record {
+      at = fits.at;
+      made = made_before p.knows m.knows (rows.known_of q.knows) t fits.at _ looks fits.made;
+      fits = fits.fits;
+      claims = fits.claims ∙ looks.claims;
+    }
 now_from o p l m q t base (nows.Contended b) first second on fits = absurd fits
 now_from o p l m q t base (nows.Moving b) first second on fits =
-    record { at = fits.at; looks = looks_at_before p.knows m.knows (rows.known_of q.knows) fits.at
-        (looks_trans p.knows l.knows m.knows first second) fits.looks; moving = fits.moving; base = fits.base }
+    record {
+      at = fits.at;
+      looks = looks_at_before p.knows m.knows (rows.known_of q.knows) fits.at
+          (looks_trans p.knows l.knows m.knows first second) fits.looks;
+      moving = fits.moving;
+      base = fits.base;
+    }
 now_from o p l m q t base (nows.Moved a b) first second on fits =
     let was = fits.2 in
     let all = looks_at_before p.knows m.knows (rows.known_of q.knows) was.at (looks_trans p.knows l.knows m.knows first second) was.looks in

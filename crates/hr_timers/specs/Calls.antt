@@ -65,7 +65,7 @@ start_entries t mode ns asked reading (starts.Spent n) = []
 abbrev pub StartFits : Timer → Mode → ℕ → ℕ → ClockReading → StartAnswer → Type 0
 StartFits t mode ns asked reading (starts.Started was_armed generation base outs clock expires) =
     (t.moving ≡ false) × (t.stamp < t.limit)
-        × (starts.Started was_armed generation base outs clock expires ≡ started_as t (step_all t (start_events t mode ns asked reading)) asked)
+    × (starts.Started was_armed generation base outs clock expires ≡ started_as t (step_all t (start_events t mode ns asked reading)) asked)
 StartFits t mode ns asked reading (starts.Spent n) = (t.moving ≡ false) × (t.limit ≤ t.stamp) × (n ≡ t.stamp)
 
 pub record Starts (o : Opening) (v w : Known) (t : ℕ) (mode : Mode) (ns asked : ℕ) (reading : ClockReading) (a : StartAnswer) : Type 0 where

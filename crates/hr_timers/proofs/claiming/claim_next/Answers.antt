@@ -8,15 +8,18 @@ pub returns-in-Some-clause-claims : goal.returns-in-Some-clause-claims
 returns-in-Some-clause-claims g c =
     let u = c.args.pass.now.knows in
     let v = c.lock-held.new.pass.knows in
-    let w = c.leave_base.new.pass.knows in
-    (looks_on u w (looks_trans u v w c.lock-held.ensures.looks c.leave_base.ensures.looks), c.leave_base.ensures.busy c.in-Some.timer
-        c.in-Some.generation (sym c.in-Some.ensures.running))
+    let w = c.leave_base.new.pass.knows in (
+      looks_on u w (looks_trans u v w c.lock-held.ensures.looks c.leave_base.ensures.looks),
+      c.leave_base.ensures.busy c.in-Some.timer
+          c.in-Some.generation (sym c.in-Some.ensures.running),
+    )
 
 pub returns-in_default-first-clause-claims : goal.returns-in_default-first-clause-claims
 returns-in_default-first-clause-claims g c =
     let u = c.args.pass.now.knows in
     let v = c.lock-held.new.pass.knows in
     let w = c.leave_base-in_default-first.new.pass.knows in
-    let told = c.leave_base-in_default-first.ensures in
-    (looks_on u w (looks_trans u v w c.lock-held.ensures.looks told.looks),
-        record { idle = told.idle (sym c.in_default.ensures.running); none = told.none c.args.reading (sym c.in_default-first.ensures.first) })
+    let told = c.leave_base-in_default-first.ensures in (
+      looks_on u w (looks_trans u v w c.lock-held.ensures.looks told.looks),
+      record { idle = told.idle (sym c.in_default.ensures.running); none = told.none c.args.reading (sym c.in_default-first.ensures.first) },
+    )

@@ -26,5 +26,5 @@ returns-clause-finishes g c =
       claims = c.enter_once-reply.ensures.claims
           ∙ (ap (λ r. without_first (is_claim c.args.claim.timer (unwrap_or r 0) (timer_seen c.args.row.now.about v c.args.claim.timer).base) v.claims) runs
           ∙ (ap (λ b. without_first (is_claim c.args.claim.timer c.args.claim.generation b) v.claims) base
-              ∙ ap (without_first (is_claim c.args.claim.timer c.args.claim.generation c.args.claim.base)) h.looks.claims));
+          ∙ ap (without_first (is_claim c.args.claim.timer c.args.claim.generation c.args.claim.base)) h.looks.claims));
     }

@@ -14,7 +14,7 @@ lock-held-requires-clause-within g c =
     let claim = c.args.claim in
     let v = c.args.pass.now.knows in
     claim_inside o v c.fresh.ensures.fresh (knows_in o v c.requires.row.about c.known.ensures) claim.timer claim.generation claim.base
-        c.requires.claim.within c.requires.claim.stands c.fresh.ensures.some
+    c.requires.claim.within c.requires.claim.stands c.fresh.ensures.some
 
 pub returns-clause-within : goal.returns-clause-within
 returns-clause-within g c =
@@ -23,7 +23,7 @@ returns-clause-within g c =
     let v = c.args.pass.now.knows in
     subst (λ b. b < o.bases) (sym c.lock-held.ensures.at)
     (claim_inside o v c.fresh.ensures.fresh (knows_in o v c.requires.row.about c.known.ensures) claim.timer claim.generation claim.base
-        c.requires.claim.within c.requires.claim.stands c.fresh.ensures.some)
+    c.requires.claim.within c.requires.claim.stands c.fresh.ensures.some)
 
 pub returns-clause-state : goal.returns-clause-state
 returns-clause-state g c =
@@ -32,10 +32,10 @@ returns-clause-state g c =
     let v = c.lock-held.new.pass.knows in
     let knows = knows_in o v c.lock-held.ensures.row.about c.known-2.ensures in
     let stands = subst (λ (l : List Claimed). 0 < count (is_claim claim.timer claim.generation claim.base) l)
-        (sym c.lock-held.ensures.looks.claims) c.requires.claim.stands in
+    (sym c.lock-held.ensures.looks.claims) c.requires.claim.stands in
     c.state-state.ensures.kept
-        (subst (λ b. IsOn b (timer_seen o v claim.timer)) (sym c.lock-held.ensures.at)
-            (claim_on o v c.fresh.ensures.fresh knows claim.timer claim.generation claim.base c.requires.claim.within stands))
+    (subst (λ b. IsOn b (timer_seen o v claim.timer)) (sym c.lock-held.ensures.at)
+    (claim_on o v c.fresh.ensures.fresh knows claim.timer claim.generation claim.base c.requires.claim.within stands))
 
 pub returns-clause-runs : goal.returns-clause-runs
 returns-clause-runs g c =
@@ -44,9 +44,9 @@ returns-clause-runs g c =
     let v = c.lock-held.new.pass.knows in
     let knows = knows_in o v c.lock-held.ensures.row.about c.known-2.ensures in
     let stands = subst (λ (l : List Claimed). 0 < count (is_claim claim.timer claim.generation claim.base) l)
-        (sym c.lock-held.ensures.looks.claims) c.requires.claim.stands in
+    (sym c.lock-held.ensures.looks.claims) c.requires.claim.stands in
     ap (λ (t : Timer). t.running) (returns-clause-state g c) ∙ claim_runs o v c.fresh.ensures.fresh knows claim.timer claim.generation claim.base
-        c.requires.claim.within stands
+    c.requires.claim.within stands
 
 pub returns-clause-on : goal.returns-clause-on
 returns-clause-on g c =
@@ -55,6 +55,6 @@ returns-clause-on g c =
     let v = c.lock-held.new.pass.knows in
     let knows = knows_in o v c.lock-held.ensures.row.about c.known-2.ensures in
     let stands = subst (λ (l : List Claimed). 0 < count (is_claim claim.timer claim.generation claim.base) l)
-        (sym c.lock-held.ensures.looks.claims) c.requires.claim.stands in
+    (sym c.lock-held.ensures.looks.claims) c.requires.claim.stands in
     subst (λ (t : Timer). IsOn claim.base t) (sym (returns-clause-state g c))
-        (claim_on o v c.fresh.ensures.fresh knows claim.timer claim.generation claim.base c.requires.claim.within stands)
+    (claim_on o v c.fresh.ensures.fresh knows claim.timer claim.generation claim.base c.requires.claim.within stands)

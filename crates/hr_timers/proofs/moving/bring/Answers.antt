@@ -13,7 +13,7 @@ use Rattle.hr_timers.proofs.moving.bring.Goals as goal
 pub arrive-requires-clause-state : goal.arrive-requires-clause-state
 arrive-requires-clause-state g c = c.requires.state
     ∙ sym (seen_same c.args.row.now.about c.args.pass.now.knows c.lock-held.new.pass.knows c.args.timer
-        (c.lock-held.ensures.steady c.args.timer c.requires.carries.1))
+    (c.lock-held.ensures.steady c.args.timer c.requires.carries.1))
 
 pub arrive-requires-clause-may : goal.arrive-requires-clause-may
 arrive-requires-clause-may g c =
@@ -21,7 +21,7 @@ arrive-requires-clause-may g c =
     let w = c.lock-held.new.pass.knows in
     let same = c.requires.state ∙ sym (seen_same o c.args.pass.now.knows w c.args.timer (c.lock-held.ensures.steady c.args.timer c.requires.carries.1)) in
     may_start o w c.lock-held.result c.args.timer c.args.mode c.args.ns c.args.reading c.base-asked.result c.requires.within.0
-        c.lock-held.ensures.held (c.lock-held.ensures.looks.carry ∙ c.requires.carries.1)
+    c.lock-held.ensures.held (c.lock-held.ensures.looks.carry ∙ c.requires.carries.1)
     (ap (λ (t : Timer). t.moving) (sym same) ∙ c.requires.moving)
     (c.base-asked.ensures ∙ ap (λ (t : Timer). t.base) same)
     (ap (λ (t : Timer). t.base) (sym same) ∙ (sym c.base-asked.ensures ∙ sym c.lock-held.ensures.at))
@@ -40,5 +40,5 @@ returns-clause-extends g c =
     (looks_extends entries_of (known_of u) (known_of v) (known_of x) c.args.timer _ (looks_on u v c.lock-held.ensures.looks) steady
     (extends_freed o c.fresh.ensures.fresh c.lock-held.result c.arrive.new.held c.args.timer event v c.arrive.new.pass.knows x c.requires.within.0
     c.arrive.ensures.adds c.arrive.ensures.held
-        (record { at = ap (λ (t : Timer). t.base) (sym same) ∙ (sym c.base-asked.ensures ∙ sym c.lock-held.ensures.at); still = refl })
-            c.unlock_base.ensures.free)))
+    (record { at = ap (λ (t : Timer). t.base) (sym same) ∙ (sym c.base-asked.ensures ∙ sym c.lock-held.ensures.at); still = refl })
+    c.unlock_base.ensures.free)))

@@ -19,7 +19,7 @@ returns-clause-state c =
     let o = c.args.row.now.about in
     let carry = ap (λ (v : View BaseContent). v.carry) c.out-state.ensures.adds.rest in
     c.out-state.ensures.state
-        ∙ sym (seen_same o c.out-state.new.pass.knows c.unlock_base.new.pass.knows c.args.timer (c.unlock_base.ensures.free.steady c.args.timer carry))
+    ∙ sym (seen_same o c.out-state.new.pass.knows c.unlock_base.new.pass.knows c.args.timer (c.unlock_base.ensures.free.steady c.args.timer carry))
 
 pub returns-clause-extends : goal.returns-clause-extends
 returns-clause-extends c =
@@ -29,5 +29,5 @@ returns-clause-extends c =
     let x = c.unlock_base.new.pass.knows in
     let carry = ap (λ (y : View BaseContent). y.carry) c.out-state.ensures.adds.rest in
     extends_looks entries_of (known_of v) (known_of w) (known_of x) c.args.timer _
-        (extends_appended o c.fresh.ensures.fresh c.args.held c.args.timer (Out c.args.to) v w c.out-state.ensures.adds)
+    (extends_appended o c.fresh.ensures.fresh c.args.held c.args.timer (Out c.args.to) v w c.out-state.ensures.adds)
     (looks_freed o c.out-state.new.held w x c.unlock_base.ensures.free) (c.unlock_base.ensures.free.steady c.args.timer carry)

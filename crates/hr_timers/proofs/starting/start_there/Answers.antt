@@ -20,10 +20,10 @@ returns-clause-starts g c =
     let out = events.Out a.base in
     let begin = events.Start a.mode a.ns a.reading a.base in
     let now : c.apply-2.new.self ≡ after (after s out) begin = c.apply-2.ensures.state
-        ∙ (ap (λ e. after c.apply.new.self e) c.start_event.ensures
-            ∙ (ap (λ x. after x begin) c.apply.ensures.state ∙ ap (λ x. after (after x out) begin) is)) in
+    ∙ (ap (λ e. after c.apply.new.self e) c.start_event.ensures
+    ∙ (ap (λ x. after x begin) c.apply.ensures.state ∙ ap (λ x. after (after x out) begin) is)) in
     starts_from o v w c.args.timer a.mode a.ns a.base a.reading c.apply-2.new.self c.is_some.result c.stamp.result c.base.result c.one_bit.result
-        c.clock.result c.expires.result
+    c.clock.result c.expires.result
     (subst (Extends v w c.args.timer) (along s a.mode a.ns a.base a.reading moves) c.move_and_start.ensures.extends)
     c.move_and_start.ensures.claims
     (ap (λ (t : Timer). t.moving) (sym is) ∙ c.requires.on.still)

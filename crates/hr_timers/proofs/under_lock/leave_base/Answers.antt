@@ -15,7 +15,7 @@ returns-clause-idle c = λ is t.
     let w = c.unlock_base.new.pass.knows in
     let knows = subst (λ (q : Opening). Knows q.bases q.timers number_of w) c.unlock_base.ensures.row.about c.known.ensures in
     subst (λ b. runs_on b (timer_seen o w t) ≡ false) c.requires.base
-        (left_idle o c.args.held c.args.pass.now.knows w c.fresh.ensures.fresh knows c.unlock_base.ensures.free is t)
+    (left_idle o c.args.held c.args.pass.now.knows w c.fresh.ensures.fresh knows c.unlock_base.ensures.free is t)
 
 pub returns-clause-busy : goal.returns-clause-busy
 returns-clause-busy c = λ t g is.
@@ -23,7 +23,7 @@ returns-clause-busy c = λ t g is.
     let w = c.unlock_base.new.pass.knows in
     let knows = subst (λ (q : Opening). Knows q.bases q.timers number_of w) c.unlock_base.ensures.row.about c.known.ensures in
     subst (λ b. running_on b (timer_seen o w t) ≡ Some g) c.requires.base
-        (left_busy o c.args.held c.args.pass.now.knows w c.fresh.ensures.fresh knows c.unlock_base.ensures.free t g is)
+    (left_busy o c.args.held c.args.pass.now.knows w c.fresh.ensures.fresh knows c.unlock_base.ensures.free t g is)
 
 pub returns-clause-none : goal.returns-clause-none
 returns-clause-none c = λ reading is t.
@@ -31,4 +31,4 @@ returns-clause-none c = λ reading is t.
     let w = c.unlock_base.new.pass.knows in
     let knows = subst (λ (q : Opening). Knows q.bases q.timers number_of w) c.unlock_base.ensures.row.about c.known.ensures in
     subst (λ b. is_due_on b reading (timer_seen o w t) ≡ false) c.requires.base
-        (left_none o c.args.held c.args.pass.now.knows w c.fresh.ensures.fresh knows c.unlock_base.ensures.free reading is t)
+    (left_none o c.args.held c.args.pass.now.knows w c.fresh.ensures.fresh knows c.unlock_base.ensures.free reading is t)

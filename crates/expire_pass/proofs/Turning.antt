@@ -1,0 +1,108 @@
+-- What a turn of an expiry run leaves of what its pass knows.
+use Rattle.std.proofs.Common.{◌≡◌, ℕ, ◌<◌, ◌+◌, List, [], ◌∷◌, ◌++◌, refl, ap, sym, ◌∙◌, subst, true, false, arith, length, append_assoc}
+use Rattle.std.specs.Prelude.{Bool, ◌==◌}
+use Rattle.std.proofs.lemmas.Bool.{and_from, eq-eqb}
+use Rattle.std.proofs.lemmas.List.{append-nil}
+use Rattle.ktime.specs.Readings.{ClockReading}
+use Rattle.pass_names.specs.Counts.{count, drop_if, one_if, without_first}
+use Rattle.pass_names.specs.Passes.{Begins, places}
+use Rattle.pass_names.specs.SharedHistory.{LooksOn}
+use Rattle.pass_names.proofs.Counts.{total-append}
+use Rattle.pass_names.proofs.Passes.{begins_more, begins_refl, begins_trans}
+use Rattle.base_row.specs.declared.view.Claimed.{Claimed}
+use Rattle.base_row.specs.declared.view.Opening.{Opening}
+use Rattle.base_row.specs.Rules.{is_claim}
+use Rattle.hr_timers.specs.declared.numbers.ClaimNumbers.{ClaimNumbers}
+use Rattle.hr_timers.specs.declared.answer.ClaimAnswer.TheVariants as claimings
+use Rattle.timer_core.specs.declared.answer.Finished.{Finished}
+use Rattle.seq_timer.specs.declared.event.Event.TheVariants as events
+use Rattle.seq_timer.specs.declared.event.Reply.TheVariants as replies
+use Rattle.hr_timers.specs.Known.{HasClaim, Known, Made, count_of}
+use Rattle.hr_timers.specs.Calls.{Cancels, ClaimsNext, Finishes, cancel_entries}
+use Rattle.seq_timer.specs.Histories as seq
+use Rattle.seq_timer.specs.declared.system.TimerEntry.{TimerEntry}
+use Rattle.seq_timer.specs.Systems.{entries_of}
+use Rattle.expire_pass.specs.declared.log.Receipt.{Receipt}
+use Rattle.expire_pass.specs.Handlers.{Keeps, Meaning, asks}
+use Rattle.expire_pass.specs.declared.handler.Restart.{Restart}
+use Rattle.expire_pass.specs.Expiring.{Ran, claim_receipt, finish_receipt}
+
+-- ---- claims
+
+abbrev place_of : ClaimNumbers → Claimed
+place_of c = record { timer = c.timer; generation = c.generation; base = c.base }
+
+is_own : (c : ClaimNumbers) → is_claim c.timer c.generation c.base (place_of c) ≡ true
+is_own c = and_from (c.timer == c.timer) _ (eq-eqb c.timer c.timer refl)
+    (and_from (c.generation == c.generation) (c.base == c.base) (eq-eqb c.generation c.generation refl) (eq-eqb c.base c.base refl))
+
+-- a claim that was just made stands
+pub has_claim : (o : Opening) (v w : Known) (base : ℕ) (reading : ClockReading) (c : ClaimNumbers) → ClaimsNext o v w base reading c → HasClaim o w c
+has_claim o v w base reading c r = record {
+  within = r.within;
+  stands = omega (
+    arith,
+    ap (count (is_claim c.timer c.generation c.base)) r.claims,
+    total-append
+        (λ (d : Claimed). one_if (is_claim c.timer c.generation c.base d)) v.claims (place_of c ∷ []),
+    ap one_if (is_own c),
+  );
+}
+
+pub still_has : (o : Opening) (v w : Known) (c : ClaimNumbers) → Keeps v w → HasClaim o v c → HasClaim o w c
+still_has o v w c keeps has = record { within = has.within; stands = subst (λ (l : List Claimed). 0 < count_of c l) (sym keeps.claims) has.stands }
+
+-- what stands last, and nowhere before, is taken off again
+taken_off : (p : Claimed → Bool) (xs : List Claimed) (x : Claimed) → count p xs ≡ 0 → p x ≡ true → without_first p (xs ++ x ∷ []) ≡ xs
+taken_off p [] x none is = ap (λ b. drop_if b x [] []) is
+taken_off p (y ∷ ys) x none is = at (p y) refl (taken_off p ys x (omega (arith, none)) is)
+  where
+    at : (b : Bool) → p y ≡ b → without_first p (ys ++ x ∷ []) ≡ ys → without_first p ((y ∷ ys) ++ x ∷ []) ≡ y ∷ ys
+    at true e rest = absurd (omega (arith, none, ap one_if e))
+    at false e rest = ap (λ b. drop_if b y (ys ++ x ∷ []) (without_first p (ys ++ x ∷ []))) e ∙ ap (λ l. y ∷ l) rest
+
+-- ---- a turn
+
+pub keeps_trans : (u v w : Known) → Keeps u v → Keeps v w → Keeps u w
+keeps_trans u v w a b = record { id = b.id ∙ a.id; claims = b.claims ∙ a.claims; seen = begins_trans a.seen b.seen; mine = begins_trans a.mine b.mine }
+
+mine_begins : (v w : Known) (t : ℕ) (x : List TimerEntry) (es : List seq.Entry) → Made v w t x es → Begins v.mine w.mine
+mine_begins v w t x es made = record { rest = places t (length (entries_of t x)) es; whole = made.mine }
+
+-- a claim, its function and its finish leave the pass's name and claims
+pub turn_keeps : {A : Type 0} (m : Meaning A) (o : Opening) (base : ℕ) (reading : ClockReading) (k : Known) (h : A) (log : List Receipt)
+    (k' : Known) (h' : A) (log' : List Receipt) (c : ClaimNumbers) (claimed : Known)
+    → ClaimsNext o k claimed base reading c → Ran m o reading c claimed h log k' h' log' → Keeps k k'
+turn_keeps m o base reading k h log k' h' log' c claimed next ran =
+    let f = ran.finishes in
+    record {
+      id = f.made.id ∙ (ran.keeps.id ∙ next.made.id);
+      claims = f.claims ∙ (ap (without_first (is_claim c.timer c.generation c.base)) (ran.keeps.claims ∙ next.claims) ∙ taken_off
+          (is_claim c.timer c.generation c.base) k.claims (place_of c) next.fresh (is_own c));
+      seen = begins_trans next.made.from (begins_trans next.made.seen (begins_trans ran.keeps.seen (begins_trans f.made.from f.made.seen)));
+      mine = begins_trans (mine_begins k claimed c.timer next.at _ next.made) (begins_trans ran.keeps.mine (mine_begins ran.done k' c.timer f.at _ f.made));
+    }
+
+-- the receipts of a claim and of its finish, as they are noted
+pub two_receipts : (reading : ClockReading) (c d : ClaimNumbers) (again : Bool) (restart : Restart) (f : Finished) (log mid end : List Receipt)
+    → d ≡ c → again ≡ asks restart
+    → mid ≡ log ++ record { timer = d.timer; number = d.number; event = events.Claim d.base reading; reply = replies.Claim d.generation } ∷ []
+    → end ≡ mid ++ record { timer = d.timer; number = f.number; event = events.Finish again; reply = replies.Finish d.generation f.rearmed } ∷ []
+    → end ≡ log ++ claim_receipt reading c ∷ finish_receipt c restart f ∷ []
+two_receipts reading c d again restart f log mid end n a first second =
+    let one : Receipt = record { timer = d.timer; number = d.number; event = events.Claim d.base reading; reply = replies.Claim d.generation } in
+    let two : Receipt = record { timer = d.timer; number = f.number; event = events.Finish again; reply = replies.Finish d.generation f.rearmed } in
+    second ∙ (ap (λ l. l ++ two ∷ []) first ∙ (append_assoc log (one ∷ []) (two ∷ [])
+    ∙ (λ i. log ++ claim_receipt reading (n i) ∷
+    record { timer = (n i).timer; number = f.number; event = events.Finish (a i); reply = replies.Finish (n i).generation f.rearmed } ∷ [])))
+
+-- ---- cancel
+
+-- looks, and then a call that made no entry
+pub looks_then : (k v w : Known) (t : ℕ) (x : List TimerEntry) → LooksOn k v → Made v w t x [] → w.claims ≡ v.claims → LooksOn k w
+looks_then k v w t x first made claims = record {
+  seen = begins_trans first.seen (begins_trans made.from made.seen);
+  mine = made.mine ∙ (append-nil v.mine ∙ first.mine);
+  id = made.id ∙ first.id;
+  claims = claims ∙ first.claims;
+}

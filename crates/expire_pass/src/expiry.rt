@@ -1,0 +1,180 @@
+//! The expiry run of a base, and the cancel that waits.
+ghost use Rattle.std.specs.Prelude.{◌≡◌, ◌<◌, ◌≤◌, ◌+◌, ◌*◌, ℕ, length};
+ghost use Rattle.timer_core.specs.declared.answer.CancelAnswer.TheVariants as cancels;
+ghost use Rattle.hr_timers.specs.Known.{HasClaim, IsPassOf};
+ghost use Rattle.hr_timers.specs.Calls.{Cancels};
+ghost use Rattle.expire_pass.specs.Handlers.{Keeps, Suits};
+ghost use Rattle.expire_pass.specs.Expiring.{Expires, Nexts, Ran};
+
+use crate::handler::{Handler, asks};
+use crate::log::Log;
+use crossbeam_utils::Backoff;
+use hr_timers::{Claim, ClaimAnswer, ClaimNumbers, Pass, Timers};
+use ktime::Reading;
+use seq_timer::{Event, Reply};
+use std::sync::Wait;
+use timer_core::CancelAnswer;
+
+/// What an expiry run answers.
+#[derive(Clone, Copy, Debug, PartialEq, Eq)]
+pub enum ExpireAnswer {
+    /// As many functions ran as the budget allows; more timers may be due.
+    More {
+        fired: u64,
+    },
+    /// No timer of the base is due.
+    Done {
+        fired: u64,
+    },
+    /// Another pass runs the function of this timer on the base.
+    BaseBusy {
+        fired: u64,
+        timer: u32,
+        generation: u64,
+    },
+}
+
+/// What one turn of an expiry run came to.
+#[derive(Clone, Copy)]
+pub enum Next {
+    Fired,
+    NoneDue,
+    BaseBusy { timer: u32, generation: u64 },
+}
+
+/// Claims the timers of a base that are due at this reading, one after another, and runs their functions, at most `budget` of them
+/// (`hrtimer_run_queues`). The log gets a receipt of each claim and of each finish.
+#[tactic(auto, using(crate::proofs::Turning::keeps_trans))]
+pub fn expire<R: Wait, H: Handler>(
+    rt: &R,
+    timers: &Timers,
+    pass: &mut Pass,
+    base: u32,
+    reading: Reading,
+    budget: u64,
+    handler: &mut H,
+    log: &mut Log,
+) -> ExpireAnswer
+    requires pass { IsPassOf timers.now pass.old }
+    requires base { base < timers.now.about.bases }
+    requires room { 2 * budget ≤ log.old.spare }
+    requires ready { budget ≤ H.meaning.ready handler.old }
+    requires suits { Suits H.meaning timers.now.about handler.old }
+    ensures pass { IsPassOf timers.now pass.new }
+    ensures expires { Expires H.meaning timers.now.about base reading budget pass.old.known handler.old log.old.receipts pass.new.known handler.new log.new.receipts result }
+    ensures keeps { Keeps pass.old.known pass.new.known }
+    ensures suits { Suits H.meaning timers.now.about handler.new }
+{
+    for fired in 0..budget {
+        match turn(rt, timers, pass, base, reading, handler, log) {
+            Next::Fired => {}
+            Next::NoneDue => return ExpireAnswer::Done { fired },
+            Next::BaseBusy { timer, generation } => {
+                return ExpireAnswer::BaseBusy {
+                    fired,
+                    timer,
+                    generation,
+                };
+            }
+        }
+    }
+    ExpireAnswer::More { fired: budget }
+}
+
+/// One turn of an expiry run.
+fn turn<R: Wait, H: Handler>(
+    rt: &R,
+    timers: &Timers,
+    pass: &mut Pass,
+    base: u32,
+    reading: Reading,
+    handler: &mut H,
+    log: &mut Log,
+) -> Next
+    requires pass { IsPassOf timers.now pass.old }
+    requires base { base < timers.now.about.bases }
+    requires room { 2 ≤ log.old.spare }
+    requires ready { 0 < H.meaning.ready handler.old }
+    requires suits { Suits H.meaning timers.now.about handler.old }
+    ensures pass { IsPassOf timers.now pass.new }
+    ensures nexts { Nexts H.meaning timers.now.about base reading pass.old.known handler.old log.old.receipts pass.new.known handler.new log.new.receipts result }
+    ensures keeps { Keeps pass.old.known pass.new.known }
+    ensures room { log.old.spare ≤ log.new.spare + 2 }
+    ensures ready { H.meaning.ready handler.old ≤ H.meaning.ready handler.new + 1 }
+    ensures suits { Suits H.meaning timers.now.about handler.new }
+{
+    match timers.claim_next(rt, pass, base, reading) {
+        ClaimAnswer::NoneDue => Next::NoneDue,
+        ClaimAnswer::BaseBusy { timer, generation } => Next::BaseBusy { timer, generation },
+        ClaimAnswer::Claimed(claim) => {
+            run(rt, timers, pass, claim, reading, handler, log);
+            Next::Fired
+        }
+    }
+}
+
+/// Runs the function of a claim, and finishes the claim.
+fn run<R: Wait, H: Handler>(
+    rt: &R,
+    timers: &Timers,
+    pass: &mut Pass,
+    claim: Claim,
+    reading: Reading,
+    handler: &mut H,
+    log: &mut Log,
+)
+    requires pass { IsPassOf timers.now pass.old }
+    requires claim { HasClaim timers.now.about pass.old.known claim }
+    requires room { 2 ≤ log.old.spare }
+    requires ready { 0 < H.meaning.ready handler.old }
+    requires suits { Suits H.meaning timers.now.about handler.old }
+    ensures pass { IsPassOf timers.now pass.new }
+    ensures ran { Ran H.meaning timers.now.about reading claim pass.old.known handler.old log.old.receipts pass.new.known handler.new log.new.receipts }
+    ensures room { log.old.spare ≤ log.new.spare + 2 }
+    ensures ready { H.meaning.ready handler.old ≤ H.meaning.ready handler.new + 1 }
+    ensures suits { Suits H.meaning timers.now.about handler.new }
+{
+    let restart = handler.fire(rt, timers, pass, &claim, reading);
+    let again = asks(restart);
+    let ClaimNumbers {
+        timer,
+        generation,
+        base,
+        number,
+    } = claim.numbers();
+    let finished = timers.finish(rt, pass, claim, again);
+    log.note(
+        timer,
+        number,
+        Event::Claim { base, reading },
+        Reply::Claim { generation },
+    );
+    let rearmed = finished.rearmed;
+    log.note(
+        timer,
+        finished.number,
+        Event::Finish { restart: again },
+        Reply::Finish {
+            generation,
+            rearmed,
+        },
+    );
+}
+
+/// Disarms a timer, once its function isn't running (`hrtimer_cancel`). It never answers Running.
+pub fn cancel<R: Wait>(rt: &R, timers: &Timers, pass: &mut Pass, timer: u32) -> CancelAnswer
+    requires pass { IsPassOf timers.now pass.old }
+    requires timer { timer < length timers.now.about.timers }
+    ensures pass { IsPassOf timers.now pass.new }
+    ensures cancels { Cancels timers.now.about pass.old.known pass.new.known timer result }
+    ensures ended { (g n : ℕ) → result ≡ cancels.Running g n → ⊥ }
+{
+    let backoff = Backoff::new();
+    for _ in rt.forever() {
+        match timers.try_to_cancel(rt, pass, timer) {
+            CancelAnswer::Running { .. } => backoff.snooze(),
+            answer => return answer,
+        }
+    }
+    unreachable!()
+}

@@ -1,0 +1,10 @@
+//! Expiry runs: the timers of a base that are due run one after another, each by a handler that is called where its pass holds no base.
+#![tactic(auto)]
+
+mod expiry;
+mod handler;
+mod log;
+
+pub use expiry::{ExpireAnswer, cancel, expire};
+pub use handler::{Handler, Restart};
+pub use log::{Log, Receipt};

@@ -1,0 +1,84 @@
+//! A log of a caller's own entries.
+ghost use Rattle.std.specs.Prelude.{◌≡◌, ◌≤◌, ◌<◌, ◌+◌, [], ◌∷◌, ◌++◌, OnOk, OnErr};
+
+use seq_timer::{Event, Reply};
+use std::alloc::{AllocError, Global};
+use std::marker::Model;
+
+/// An entry of a timer, with its number among the timer's.
+#[derive(Clone, Copy, Debug, PartialEq, Eq)]
+pub struct Receipt {
+    pub timer: u32,
+    pub number: u64,
+    pub event: Event,
+    pub reply: Reply,
+}
+
+/// Receipts in order, with room for more.
+#[derive(Drop)]
+pub struct Log {
+    receipts: Vec<Receipt>,
+    spare: usize,
+}
+
+impl Model for Log {
+    ghost use Rattle.std.specs.Prelude.{◌≤◌, ◌+◌, vec_len, vec_capacity};
+    ghost use Rattle.expire_pass.specs.Logs.{LogOf};
+
+    ghost Value = { LogOf };
+
+    ghost view = { λ l. record { receipts = l.receipts.items; spare = l.spare } };
+
+    ghost invariant = { λ l. vec_len l.receipts + l.spare ≤ vec_capacity l.receipts };
+}
+
+impl Log {
+    /// A log without receipts. It takes no memory.
+    pub fn make(alloc: Global) -> Log
+        ensures { result ≡ record { receipts = []; spare = 0 } }
+    {
+        Log {
+            receipts: Vec::new(alloc),
+            spare: 0,
+        }
+    }
+
+    /// Makes room for so many receipts behind those that are there.
+    pub fn reserve(&mut self, count: usize) -> Result<(), AllocError>
+        ensures ok { OnOk result ((self.new.receipts ≡ self.old.receipts) × (count ≤ self.new.spare)) }
+        ensures err { OnErr result (self.new ≡ self.old) }
+    {
+        self.receipts.reserve(count)?;
+        self.spare = count;
+        Ok(())
+    }
+
+    /// For how many more receipts there is room.
+    pub fn spare(&self) -> usize
+        ensures { result ≡ self.now.spare }
+    {
+        self.spare
+    }
+
+    /// Adds a receipt in the room that was made. It takes no memory.
+    pub fn note(&mut self, timer: u32, number: u64, event: Event, reply: Reply)
+        requires room { 0 < self.old.spare }
+        ensures receipts { self.new.receipts ≡ self.old.receipts ++ record { timer = timer; number = number; event = event; reply = reply } ∷ [] }
+        ensures spare { self.new.spare + 1 ≡ self.old.spare }
+    {
+        self.receipts.push_reserved(Receipt {
+            timer,
+            number,
+            event,
+            reply,
+        });
+        self.spare -= 1;
+    }
+
+    /// The receipts, in the order in which they were noted.
+    pub fn receipts(&self) -> &[Receipt]
+        ensures { result.now ≡ self.now.receipts }
+    {
+        self.receipts.as_slice()
+    }
+}
