@@ -7,6 +7,8 @@ mod claiming;
 mod moving;
 mod numbers;
 mod starting;
+#[cfg(test)]
+mod tests;
 mod timers;
 mod tokens;
 mod trying_now;

@@ -1,0 +1,56 @@
+//! Timers as callers use them, by one pass.
+ghost use Rattle.std.specs.Prelude.{◌≡◌, [], length, IfOk};
+ghost use Rattle.pass_names.specs.Names.{IsLast};
+ghost use Rattle.hr_timers.specs.Known.{IsPassOf};
+
+use crate::{NowAnswer, Pass, StartAnswer, Timers};
+use ktime::{ClockId, Mode, Reading};
+use seq_timer::Peek;
+use std::alloc::{AllocError, Global};
+use std::test::Fail;
+use timer_core::CancelAnswer;
+
+/// Two bases and two timers.
+fn two_timers(alloc: Global) -> Result<(Timers, Pass), AllocError>
+    ensures pass { IfOk result (λ r. IsPassOf r.0 r.1 × IsLast r.1.known.id × (r.1.known.claims ≡ [])) }
+    ensures size { IfOk result (λ r. (length r.0.about.timers ≡ 2) × (r.0.about.bases ≡ 2)) }
+{
+    let clocks = [ClockId::Monotonic, ClockId::Monotonic];
+    Timers::make(alloc, 2, &clocks, 100)
+}
+
+#[test]
+fn a_timer_moves_and_is_cancelled(rt: HostRuntime) -> Result<(), Fail> {
+    let (timers, mut pass) = two_timers(rt.alloc())?;
+    let started = timers.start(&rt, &mut pass, 0, Mode::Rel, 7, 1, Reading::at(1000));
+    assert_eq!(rt;
+        started,
+        StartAnswer::Started {
+            was_armed: false,
+            generation: 2,
+            base: 1,
+            outs: 2,
+            clock: ClockId::Monotonic,
+            expires: 1007
+        }
+    );
+    let peek = timers.peek(&mut pass, 0);
+    assert_eq!(rt;
+        peek,
+        Peek {
+            stamp: 2,
+            base: 1,
+            enqueued: true,
+            running: false,
+            moving: false
+        }
+    );
+    let cancelled = CancelAnswer::Cancelled {
+        generation: 2,
+        number: 3,
+    };
+    assert_eq!(rt; timers.cancel_now(&mut pass, 0), NowAnswer::Tried(cancelled));
+    assert_eq!(rt; timers.try_to_cancel(&rt, &mut pass, 0), CancelAnswer::Idle { stamp: 3 });
+    timers.close(pass);
+    Ok(())
+}
