@@ -1,5 +1,6 @@
 //! Tests of a descriptor's calls.
 ghost use Rattle.std.specs.Prelude.{◌≡◌, ◌≤◌};
+ghost use Rattle.ktime.specs.Readings.{latest};
 
 use crate::{
     Arm, BadArgument, Call, FdState, GettimeAnswer, Phase, ReadAnswer, Reply, SettimeAnswer,
