@@ -13,6 +13,15 @@ fn ns(nsec: u64) -> TimeSpec
     TimeSpec { sec: 0, nsec }
 }
 
+/// The setting before a settime, as it answers it.
+fn old(left: u64, interval: u64) -> SettimeAnswer {
+    SettimeAnswer::Old { left, interval }
+}
+
+fn setting(left: u64, interval: u64) -> Setting {
+    Setting { left, interval }
+}
+
 #[test]
 fn a_new_timer_is_disarmed(rt: HostRuntime) {
     let timer = PosixState::make(ClockId::Realtime, 3, 100);
@@ -23,11 +32,7 @@ fn a_new_timer_is_disarmed(rt: HostRuntime) {
     assert_eq!(rt; timer.getoverrun(), 0);
     assert_eq!(rt; timer.timer().stamp, 0);
     assert_eq!(rt; timer.timer().limit, 100);
-    let setting = Setting {
-        left: 0,
-        interval: 0,
-    };
-    assert_eq!(rt; timer.gettime(Reading::at(5)), setting);
+    assert_eq!(rt; timer.gettime(Reading::at(5)), setting(0, 0));
 }
 
 #[test]
@@ -41,14 +46,8 @@ fn periods_that_passed_before_the_acceptance_are_overruns(rt: HostRuntime) {
             ns: 100
         })
     );
-    let old = timer.settime(1, ns(100), ns(10), Reading::at(0), Arm::Armed(1));
-    assert_eq!(rt;
-        old,
-        SettimeAnswer::Old {
-            left: 0,
-            interval: 0
-        }
-    );
+    let before = timer.settime(1, ns(100), ns(10), Reading::at(0), Arm::Armed(1));
+    assert_eq!(rt; before, old(0, 0));
     assert_eq!(rt; timer.trigger(1, Reading::at(100)), TriggerAnswer::Counted);
     let wanted = timer.accept_wants(Reading::at(135));
     assert_eq!(rt;
@@ -100,20 +99,8 @@ fn the_overrun_stops_at_its_greatest_value(rt: HostRuntime) {
 fn a_timer_whose_expiry_has_come_has_one_nanosecond_left(rt: HostRuntime) {
     let mut timer = PosixState::make(ClockId::Monotonic, 0, 100);
     timer.settime(1, ns(100), ns(10), Reading::at(0), Arm::Armed(1));
-    assert_eq!(rt;
-        timer.gettime(Reading::at(40)),
-        Setting {
-            left: 60,
-            interval: 10
-        }
-    );
-    assert_eq!(rt;
-        timer.gettime(Reading::at(130)),
-        Setting {
-            left: 1,
-            interval: 10
-        }
-    );
+    assert_eq!(rt; timer.gettime(Reading::at(40)), setting(60, 10));
+    assert_eq!(rt; timer.gettime(Reading::at(130)), setting(1, 10));
     let bad = timer.settime(1, ns(1_000_000_000), ns(0), Reading::at(130), Arm::NotAsked);
     assert_eq!(rt; bad, SettimeAnswer::BadTime);
     assert_eq!(rt; timer.trigger(2, Reading::at(130)), TriggerAnswer::Stale);
@@ -125,34 +112,16 @@ fn a_timer_whose_expiry_has_come_has_one_nanosecond_left(rt: HostRuntime) {
     };
     assert_eq!(rt; timer.timer().phase, due);
     assert!(rt; timer.is_pending());
-    assert_eq!(rt;
-        timer.gettime(Reading::at(134)),
-        Setting {
-            left: 6,
-            interval: 10
-        }
-    );
+    assert_eq!(rt; timer.gettime(Reading::at(134)), setting(6, 10));
 }
 
 #[test]
 fn the_limits_disarm_and_then_refuse(rt: HostRuntime) {
     let mut timer = PosixState::make(ClockId::Monotonic, 0, 3);
     let answer = timer.settime(1, ns(100), ns(0), Reading::at(0), Arm::Armed(1));
-    assert_eq!(rt;
-        answer,
-        SettimeAnswer::Old {
-            left: 0,
-            interval: 0
-        }
-    );
+    assert_eq!(rt; answer, old(0, 0));
     let answer = timer.settime(1, ns(100), ns(0), Reading::at(0), Arm::Armed(3));
-    assert_eq!(rt;
-        answer,
-        SettimeAnswer::Old {
-            left: 100,
-            interval: 0
-        }
-    );
+    assert_eq!(rt; answer, old(100, 0));
     let answer = timer.settime(1, ns(100), ns(0), Reading::at(0), Arm::Unarmed(4));
     assert_eq!(rt; answer, SettimeAnswer::Unarmed { stamp: 4 });
     assert_eq!(rt; timer.timer().phase, Phase::Idle);
@@ -176,12 +145,6 @@ fn a_relative_time_of_day_is_kept_on_the_monotonic_clock(rt: HostRuntime) {
         boot: 5,
         changes: 1,
     };
-    let times = times_of(0, TimeSpec { sec: 1, nsec: 10 }, ns(7));
-    assert_eq!(rt; times, Ok((1_000_000_010, 7)));
-    assert_eq!(rt;
-        times_of(2, ns(1_000_000_000), ns(0)),
-        Err(BadArgument::Flags)
-    );
     let call = Call::Settime {
         flags: 0,
         value: 1_000_000_010,
@@ -190,11 +153,7 @@ fn a_relative_time_of_day_is_kept_on_the_monotonic_clock(rt: HostRuntime) {
         arm: Arm::Armed(1),
     };
     let reply = timer.apply(call);
-    let old = SettimeAnswer::Old {
-        left: 0,
-        interval: 0,
-    };
-    assert_eq!(rt; reply, Reply::Settime(old));
+    assert_eq!(rt; reply, Reply::Settime(old(0, 0)));
     let armed = Phase::Armed {
         generation: 1,
         clock: ClockId::Monotonic,
@@ -211,12 +170,16 @@ fn a_relative_time_of_day_is_kept_on_the_monotonic_clock(rt: HostRuntime) {
         arm: Arm::Unarmed(8),
     });
     assert_eq!(rt; reply, Reply::Accept(AcceptAnswer::Accepted { overrun: 0 }));
+    assert_eq!(rt; timer.gettime(Reading::at(1_000_000_015)), setting(0, 0));
+}
+
+#[test]
+fn a_settime_checks_its_flags_first(rt: HostRuntime) {
+    let times = times_of(0, TimeSpec { sec: 1, nsec: 10 }, ns(7));
+    assert_eq!(rt; times, Ok((1_000_000_010, 7)));
     assert_eq!(rt;
-        timer.gettime(Reading::at(1_000_000_015)),
-        Setting {
-            left: 0,
-            interval: 0
-        }
+        times_of(2, ns(1_000_000_000), ns(0)),
+        Err(BadArgument::Flags)
     );
     few_entries();
     one_more_entry();
@@ -232,19 +195,7 @@ fn the_value_zero_disarms_and_clears_the_signal(rt: HostRuntime) {
         None
     );
     let answer = timer.settime(0, ns(0), ns(10), Reading::at(150), Arm::NotAsked);
-    assert_eq!(rt;
-        answer,
-        SettimeAnswer::Old {
-            left: 10,
-            interval: 10
-        }
-    );
+    assert_eq!(rt; answer, old(10, 10));
     assert!(rt; !timer.is_pending());
-    assert_eq!(rt;
-        timer.gettime(Reading::at(150)),
-        Setting {
-            left: 0,
-            interval: 0
-        }
-    );
+    assert_eq!(rt; timer.gettime(Reading::at(150)), setting(0, 0));
 }
