@@ -13,12 +13,12 @@ use Rattle.pass_names.proofs.Names.{first_tree}
 use Rattle.pass_names.proofs.Passes.{begins_refl}
 use Rattle.seq_timer.specs.Steps.{Timer}
 use Rattle.seq_timer.specs.Tables.{timer_at}
-use Rattle.base_row.specs.declared.view.Locked.{Locked}
-use Rattle.base_row.specs.declared.view.View.{View}
+use Rattle.base_row.specs.declared.view.HeldContent.{HeldContent}
+use Rattle.base_row.specs.declared.view.BaseView.{BaseView}
 use Rattle.seq_timer.specs.Systems.{BaseContent, no_base}
 use Rattle.base_row.specs.Rules.{runs, number_of, PassHolds, RowHolds, HasOneHistory}
 use Rattle.seq_timer.specs.Systems.{IsFresh}
-use Rattle.base_row.specs.Plays.{first_view, Knows}
+use Rattle.base_row.specs.Plays.{first_base_view, KnowsBases}
 use Rattle.base_row.specs.Calls.{AreFresh}
 use Rattle.base_row.proofs.Knowing.{knows_of}
 
@@ -40,10 +40,10 @@ unfolding number_of
 fresh_word t f = rw (f.stamp, f.first, f.armed, f.running, f.still) refl
 
 module _ (bases : ℕ) (opened : List Timer) (fresh : AreFresh opened) where
-  abbrev first : View BaseContent
-  first = first_view (record { bases = bases; timers = opened })
+  abbrev first : BaseView BaseContent
+  first = first_base_view (record { bases = bases; timers = opened })
 
-  abbrev start : State (Option BaseContent) (View BaseContent)
+  abbrev start : State (Option BaseContent) (BaseView BaseContent)
   start = opening (replicate (word_at bases (length opened)) 0) (replicate bases (Some (no_base opened))) first
 
   fits_first : PassHolds bases opened number_of [] start.words first
@@ -59,7 +59,7 @@ module _ (bases : ℕ) (opened : List Timer) (fresh : AreFresh opened) where
     gone = λ off. (refl, (refl, refl));
   }
     where
-      no_lock : (h : Locked BaseContent) → None ≡ Some h → ⊥
+      no_lock : (h : HeldContent BaseContent) → None ≡ Some h → ⊥
       no_lock h e = cc
 
       no_timer : (t : ℕ) → None ≡ Some t → ⊥
@@ -86,7 +86,7 @@ module _ (bases : ℕ) (opened : List Timer) (fresh : AreFresh opened) where
     carriers = λ t h. sym (ap one_if (fresh.each t).still);
   }
     where
-      here : (j : ℕ) (v : View BaseContent) → get_elem? (first ∷ []) j ≡ some v → PassHolds bases opened number_of [] start.words v
+      here : (j : ℕ) (v : BaseView BaseContent) → get_elem? (first ∷ []) j ≡ some v → PassHolds bases opened number_of [] start.words v
       here zero v e = subst (λ w. PassHolds bases opened number_of [] start.words w) (some-injective first v e) fits_first
       here (suc j) v e = absurd (some-ne-none v (sym e))
 
@@ -99,5 +99,5 @@ module _ (bases : ℕ) (opened : List Timer) (fresh : AreFresh opened) where
       subst (λ ws. HasOneHistory bases opened number_of (opening ws slots first)) (sym is_words)
       (subst (λ ss. HasOneHistory bases opened number_of (opening (replicate (word_at bases (length opened)) 0) ss first)) (sym is_slots) ([], begins_home))
 
-  pub knows_first : Knows bases opened number_of first
+  pub knows_first : KnowsBases bases opened number_of first
   knows_first = knows_of bases opened number_of [] start begins_home 0 first refl refl refl

@@ -17,20 +17,21 @@ use Rattle.seq_timer.specs.Histories as seq
 use Rattle.seq_timer.specs.Systems.{BaseContent, changed, entries_of, first_system}
 use Rattle.seq_timer.proofs.Limits.{stamp-after_all}
 use Rattle.seq_timer.proofs.Systems.{after_entries-entries_of, entries_of-append, states_here, states_len}
-use Rattle.base_row.specs.declared.view.Locked.{Locked}
+use Rattle.base_row.specs.declared.view.HeldContent.{HeldContent}
 use Rattle.base_row.specs.declared.view.Opening.{Opening}
-use Rattle.base_row.specs.declared.view.View.{View}
+use Rattle.base_row.specs.declared.view.BaseView.{BaseView}
 use Rattle.base_row.specs.Rules.{takes_at}
-use Rattle.base_row.specs.Plays.{Caught, KnowsOwn, Lost, slots_of}
-use Rattle.base_row.specs.Calls.{Absorbs, Appended, AreFresh, Hears, LetsGo, Locks, MayAppend, Misses, Sees, Waits, entry_in, known_of, own_entry, timer_seen}
+use Rattle.base_row.specs.Plays.{GotBase, KnowsOwn, Lost, carried_slots}
+use Rattle.base_row.specs.Calls.{Absorbs, Appended, AreFresh, LearnsFrom, LetsGo, GetsBase, MayAppend}
+use Rattle.base_row.specs.Calls.{MissesBase, SeesMore, Waits, entry_in, known_of, own_entry, timer_seen}
 
 -- ---- takes
 
-pub locks_caught : (o : Opening) (b : ℕ) (v w : View BaseContent) (h : Locked BaseContent) → Caught o b (v, []) (w, slots_of (Some h)) h → Locks b v w h
+pub locks_caught : (o : Opening) (b : ℕ) (v w : BaseView BaseContent) (h : HeldContent BaseContent) → GotBase o b (v, []) (w, carried_slots (Some h)) h → GetsBase b v w h
 locks_caught o b v w h c = record {
   at = c.at;
   number = c.number;
-  rest = ap (λ (m : Me (Option BaseContent) (View BaseContent)). m.0) c.rest;
+  rest = ap (λ (m : Me (Option BaseContent) (BaseView BaseContent)). m.0) c.rest;
   word = c.word;
   newer = c.newer;
   apart = c.apart;
@@ -38,13 +39,13 @@ locks_caught o b v w h c = record {
   steady = c.steady;
 }
 
-pub misses_lost : (o : Opening) (b : ℕ) (v w : View BaseContent) → Lost o b (v, []) (w, []) → Misses b v w
+pub misses_lost : (o : Opening) (b : ℕ) (v w : BaseView BaseContent) → Lost o b (v, []) (w, []) → MissesBase b v w
 misses_lost o b v w l =
-    let is = ap (λ (m : Me (Option BaseContent) (View BaseContent)). m.0) l.rest in record {
+    let is = ap (λ (m : Me (Option BaseContent) (BaseView BaseContent)). m.0) l.rest in record {
       waits = record {
         rest = is ∙ (λ i. record v {
           seen = w.seen;
-          heard = ap (λ (x : View BaseContent). x.heard)
+          heard = ap (λ (x : BaseView BaseContent). x.heard)
               (sym is) i;
           met = w.met;
         });
@@ -56,18 +57,18 @@ misses_lost o b v w l =
       missed = l.missed;
     }
 
-pub locks_or_misses : (o : Opening) (b : ℕ) (v w : View BaseContent) (r : Option (Locked BaseContent))
-    → MatchOption r (Lost o b (v, []) (w, [])) (λ h. Caught o b (v, []) (w, slots_of (Some h)) h)
-    → MatchOption r (Misses b v w) (λ h. Locks b v w h)
+pub locks_or_misses : (o : Opening) (b : ℕ) (v w : BaseView BaseContent) (r : Option (HeldContent BaseContent))
+    → MatchOption r (Lost o b (v, []) (w, [])) (λ h. GotBase o b (v, []) (w, carried_slots (Some h)) h)
+    → MatchOption r (MissesBase b v w) (λ h. GetsBase b v w h)
 locks_or_misses o b v w None l = misses_lost o b v w l
 locks_or_misses o b v w (Some h) c = locks_caught o b v w h c
 
 -- a take after looks
-pub locks_after : (b : ℕ) (u v w : View BaseContent) (h : Locked BaseContent) → Waits b u v → Locks b v w h → Locks b u w h
+pub locks_after : (b : ℕ) (u v w : BaseView BaseContent) (h : HeldContent BaseContent) → Waits b u v → GetsBase b v w h → GetsBase b u w h
 locks_after b u v w h waits locks = record {
   at = locks.at;
   number = locks.number;
-  rest = locks.rest ∙ ap (λ (x : View BaseContent). record x {
+  rest = locks.rest ∙ ap (λ (x : BaseView BaseContent). record x {
     seen = w.seen;
     heard = [];
     held = Some h;
@@ -79,27 +80,27 @@ locks_after b u v w h waits locks = record {
   newer = omega (arith, waits.newer, locks.newer);
   apart = λ c n. locks.apart c n ∙ waits.apart c n;
   seen = begins_trans waits.seen locks.seen;
-  steady = λ t e. locks.steady t (ap (λ (x : View BaseContent). x.carry) waits.rest ∙ e) ∙ waits.steady t e;
+  steady = λ t e. locks.steady t (ap (λ (x : BaseView BaseContent). x.carry) waits.rest ∙ e) ∙ waits.steady t e;
 }
 
-pub waits_after : (b : ℕ) (u v w : View BaseContent) → Waits b u v → Waits b v w → Waits b u w
+pub waits_after : (b : ℕ) (u v w : BaseView BaseContent) → Waits b u v → Waits b v w → Waits b u w
 waits_after b u v w first second = record {
-  rest = second.rest ∙ ap (λ (x : View BaseContent). record x { seen = w.seen; heard = w.heard; met = w.met }) first.rest;
+  rest = second.rest ∙ ap (λ (x : BaseView BaseContent). record x { seen = w.seen; heard = w.heard; met = w.met }) first.rest;
   newer = omega (arith, first.newer, second.newer);
   apart = λ c n. second.apart c n ∙ first.apart c n;
   seen = begins_trans first.seen second.seen;
-  steady = λ t e. second.steady t (ap (λ (x : View BaseContent). x.carry) first.rest ∙ e) ∙ first.steady t e;
+  steady = λ t e. second.steady t (ap (λ (x : BaseView BaseContent). x.carry) first.rest ∙ e) ∙ first.steady t e;
 }
 
 -- the last pass misses no base that may still be taken
-pub last_misses_none : (o : Opening) (b : ℕ) (v w : View BaseContent) → Misses b v w → w.opening ≡ o → KnowsOwn w → IsLast v.id
+pub last_misses_none : (o : Opening) (b : ℕ) (v w : BaseView BaseContent) → MissesBase b v w → w.opening ≡ o → KnowsOwn w → IsLast v.id
     → b < o.bases → 2 ^ 64 - 2 ≤ slice_index w.met b
 last_misses_none o b v w misses about knows last inside =
     let is = misses.waits.rest in
     ⊎_elim
     (λ t.
-    let mine : takes_at b t.0 w ≡ takes_at b t.0 v = ap (λ (x : View BaseContent). takes_at b t.0 x) is in
-    let last' : IsLast w.id = subst (λ (x : View BaseContent). IsLast x.id) (sym is) last in
+    let mine : takes_at b t.0 w ≡ takes_at b t.0 v = ap (λ (x : BaseView BaseContent). takes_at b t.0 x) is in
+    let last' : IsLast w.id = subst (λ (x : BaseView BaseContent). IsLast x.id) (sym is) last in
     absurd (omega (
       arith,
       mine,
@@ -113,61 +114,61 @@ last_misses_none o b v w misses about knows last inside =
 
 -- ---- what is known
 
-pub looks_locks : (b : ℕ) (v w : View BaseContent) (h : Locked BaseContent) → Locks b v w h → LooksOn (known_of v) (known_of w)
+pub looks_locks : (b : ℕ) (v w : BaseView BaseContent) (h : HeldContent BaseContent) → GetsBase b v w h → LooksOn (known_of v) (known_of w)
 looks_locks b v w h l = record {
   seen = l.seen;
-  mine = ap (λ (x : View BaseContent). x.mine) l.rest;
+  mine = ap (λ (x : BaseView BaseContent). x.mine) l.rest;
   id = ap
-      (λ (x : View BaseContent). x.id) l.rest;
-  claims = ap (λ (x : View BaseContent). x.claims) l.rest;
+      (λ (x : BaseView BaseContent). x.id) l.rest;
+  claims = ap (λ (x : BaseView BaseContent). x.claims) l.rest;
 }
 
-pub looks_waits : (b : ℕ) (v w : View BaseContent) → Waits b v w → LooksOn (known_of v) (known_of w)
+pub looks_waits : (b : ℕ) (v w : BaseView BaseContent) → Waits b v w → LooksOn (known_of v) (known_of w)
 looks_waits b v w l = record {
   seen = l.seen;
-  mine = ap (λ (x : View BaseContent). x.mine) l.rest;
+  mine = ap (λ (x : BaseView BaseContent). x.mine) l.rest;
   id = ap
-      (λ (x : View BaseContent). x.id) l.rest;
-  claims = ap (λ (x : View BaseContent). x.claims) l.rest;
+      (λ (x : BaseView BaseContent). x.id) l.rest;
+  claims = ap (λ (x : BaseView BaseContent). x.claims) l.rest;
 }
 
-pub looks_sees : (v w : View BaseContent) → Sees v w → LooksOn (known_of v) (known_of w)
+pub looks_sees : (v w : BaseView BaseContent) → SeesMore v w → LooksOn (known_of v) (known_of w)
 looks_sees v w l = record {
   seen = l.seen;
-  mine = ap (λ (x : View BaseContent). x.mine) l.rest;
+  mine = ap (λ (x : BaseView BaseContent). x.mine) l.rest;
   id = ap
-      (λ (x : View BaseContent). x.id) l.rest;
-  claims = ap (λ (x : View BaseContent). x.claims) l.rest;
+      (λ (x : BaseView BaseContent). x.id) l.rest;
+  claims = ap (λ (x : BaseView BaseContent). x.claims) l.rest;
 }
 
-pub looks_freed : (o : Opening) (h : Locked BaseContent) (v w : View BaseContent) → LetsGo o h v w → LooksOn (known_of v) (known_of w)
+pub looks_freed : (o : Opening) (h : HeldContent BaseContent) (v w : BaseView BaseContent) → LetsGo o h v w → LooksOn (known_of v) (known_of w)
 looks_freed o h v w l = record {
   seen = l.seen;
-  mine = ap (λ (x : View BaseContent). x.mine) l.rest;
+  mine = ap (λ (x : BaseView BaseContent). x.mine) l.rest;
   id = ap
-      (λ (x : View BaseContent). x.id) l.rest;
-  claims = ap (λ (x : View BaseContent). x.claims) l.rest;
+      (λ (x : BaseView BaseContent). x.id) l.rest;
+  claims = ap (λ (x : BaseView BaseContent). x.claims) l.rest;
 }
 
-pub takes_in : (v u w : View BaseContent) → Absorbs v u w → TakesIn (known_of v) (known_of u) (known_of w)
+pub takes_in : (v u w : BaseView BaseContent) → Absorbs v u w → TakesIn (known_of v) (known_of u) (known_of w)
 takes_in v u w a = record {
   seen = a.seen;
   heard = a.heard;
-  mine = ap (λ (x : View BaseContent). x.mine) a.rest;
-  id = ap (λ (x : View BaseContent). x.id) a.rest;
-  claims = ap (λ (x : View BaseContent). x.claims) a.rest;
+  mine = ap (λ (x : BaseView BaseContent). x.mine) a.rest;
+  id = ap (λ (x : BaseView BaseContent). x.id) a.rest;
+  claims = ap (λ (x : BaseView BaseContent). x.claims) a.rest;
 }
 
-looks_hears : (v u w : View BaseContent) → Hears v u w → LooksOn (known_of v) (known_of w)
+looks_hears : (v u w : BaseView BaseContent) → LearnsFrom v u w → LooksOn (known_of v) (known_of w)
 looks_hears v u w l = record {
   seen = l.seen;
-  mine = ap (λ (x : View BaseContent). x.mine) l.rest;
+  mine = ap (λ (x : BaseView BaseContent). x.mine) l.rest;
   id = ap
-      (λ (x : View BaseContent). x.id) l.rest;
-  claims = ap (λ (x : View BaseContent). x.claims) l.rest;
+      (λ (x : BaseView BaseContent). x.id) l.rest;
+  claims = ap (λ (x : BaseView BaseContent). x.claims) l.rest;
 }
 
-pub meet_with : (a b new_a new_b : View BaseContent) → Hears b a new_b → Hears a new_b new_a
+pub meet_with : (a b new_a new_b : BaseView BaseContent) → LearnsFrom b a new_b → LearnsFrom a new_b new_a
     → MeetWith (known_of a) (known_of b) (known_of new_a) (known_of new_b)
 meet_with a b new_a new_b second first = record {
   first = looks_hears a new_b new_a first;
@@ -180,7 +181,7 @@ meet_with a b new_a new_b second first = record {
 -- ---- an entry
 
 -- a timer's stamp is how many entries of it were seen
-pub stamp_seen : (o : Opening) → AreFresh o.timers → (v : View BaseContent) (t : ℕ) → (timer_seen o v t).stamp ≡ length (entries_of t v.seen)
+pub stamp_seen : (o : Opening) → AreFresh o.timers → (v : BaseView BaseContent) (t : ℕ) → (timer_seen o v t).stamp ≡ length (entries_of t v.seen)
 stamp_seen o fresh v t =
     omega (
       arith,
@@ -190,18 +191,18 @@ stamp_seen o fresh v t =
       (fresh.each t).stamp,
     )
 
-pub extends_appended : (o : Opening) → AreFresh o.timers → (h : Locked BaseContent) (t : ℕ) (event : Event) (v w : View BaseContent)
+pub extends_appended : (o : Opening) → AreFresh o.timers → (h : HeldContent BaseContent) (t : ℕ) (event : Event) (v w : BaseView BaseContent)
     → Appended o h t event v w → ExtendsBy entries_of (known_of v) (known_of w) t (own_entry o v t event ∷ [])
 extends_appended o fresh h t event v w told =
     let e = entry_in o v t event in
-    let seen : w.seen ≡ told.before ++ e ∷ [] = ap (λ (x : View BaseContent). x.seen) told.rest in
+    let seen : w.seen ≡ told.before ++ e ∷ [] = ap (λ (x : BaseView BaseContent). x.seen) told.rest in
     let one : entries_of t (e ∷ []) ≡ own_entry o v t event ∷ [] = ap (λ b. if b then own_entry o v t event ∷ [] else []) (eq-eqb t t refl) in
     record {
       seen = subst (λ l. Begins v.seen l) (sym seen) (begins_trans told.seen (begins_more told.before (e ∷ [])));
       own = ap (entries_of t) seen ∙ (entries_of-append t told.before (e ∷ [])
           ∙ (ap (λ l. l ++ entries_of t (e ∷ [])) told.own ∙ ap (λ l. entries_of t v.seen ++ l) one));
-      mine = ap (λ (x : View BaseContent). x.mine) told.rest ∙ ap (λ n. v.mine ++ (t, n + 1) ∷ []) (stamp_seen o fresh v t);
-      id = ap (λ (x : View BaseContent). x.id) told.rest;
+      mine = ap (λ (x : BaseView BaseContent). x.mine) told.rest ∙ ap (λ n. v.mine ++ (t, n + 1) ∷ []) (stamp_seen o fresh v t);
+      id = ap (λ (x : BaseView BaseContent). x.id) told.rest;
     }
 
 after_all-push : (t : Timer) (es : List seq.Entry) (e : seq.Entry) → seq.after_all t (es ++ e ∷ []) ≡ after (seq.after_all t es) e.event
@@ -209,7 +210,7 @@ after_all-push t [] e = refl
 after_all-push t (x ∷ xs) e = after_all-push (after t x.event) xs e
 
 -- the timer after the entry, as the pass has then seen it
-pub seen_after : (o : Opening) → AreFresh o.timers → (h : Locked BaseContent) (t : ℕ) (event : Event) (v w : View BaseContent)
+pub seen_after : (o : Opening) → AreFresh o.timers → (h : HeldContent BaseContent) (t : ℕ) (event : Event) (v w : BaseView BaseContent)
     → Appended o h t event v w → timer_seen o w t ≡ after (timer_seen o v t) event
 unfolding extends_appended
 seen_after o fresh h t event v w told =
@@ -218,33 +219,33 @@ seen_after o fresh h t event v w told =
     after_entries-entries_of (first_system o.timers) t w.seen ∙ (ap (seq.after_all first) (extends_appended o fresh h t event v w told).own
     ∙ (after_all-push first (entries_of t v.seen) e ∙ ap (λ x. after x event) (sym (after_entries-entries_of (first_system o.timers) t v.seen))))
 
-some_same : (h g : Locked BaseContent) → Some h ≡ Some g → h ≡ g
+some_same : (h g : HeldContent BaseContent) → Some h ≡ Some g → h ≡ g
 some_same h g e = cc
 
 -- and as the base then keeps it
-pub state_entered : (o : Opening) → AreFresh o.timers → (h g : Locked BaseContent) (t : ℕ) (event : Event) (v w : View BaseContent)
+pub state_entered : (o : Opening) → AreFresh o.timers → (h g : HeldContent BaseContent) (t : ℕ) (event : Event) (v w : BaseView BaseContent)
     → Appended o h t event v w → w.held ≡ Some g → t < length g.content.states
     → timer_at g.content.states t ≡ timer_seen o w t
 state_entered o fresh h g t event v w told held room =
-    let now : Locked BaseContent = record { base = h.base; word = h.word; content = changed t (timer_seen o v t) event h.content } in
-    let is : now ≡ g = some_same now g (sym (ap (λ (x : View BaseContent). x.held) told.rest) ∙ held) in
+    let now : HeldContent BaseContent = record { base = h.base; word = h.word; content = changed t (timer_seen o v t) event h.content } in
+    let is : now ≡ g = some_same now g (sym (ap (λ (x : BaseView BaseContent). x.held) told.rest) ∙ held) in
     let room' : t < length h.content.states = omega (
       arith,
-      ap (λ (x : Locked BaseContent). length x.content.states) is,
+      ap (λ (x : HeldContent BaseContent). length x.content.states) is,
       states_len t
           (timer_seen o v t) event h.content,
       room,
     ) in
-    ap (λ (x : Locked BaseContent). timer_at x.content.states t) (sym is)
+    ap (λ (x : HeldContent BaseContent). timer_at x.content.states t) (sym is)
     ∙ (states_here t (timer_seen o v t) event h.content room' ∙ sym (seen_after o fresh h t event v w told))
 
 -- a timer of which nothing more was seen is as it was
-pub seen_same : (o : Opening) (v w : View BaseContent) (t : ℕ) → entries_of t w.seen ≡ entries_of t v.seen → timer_seen o w t ≡ timer_seen o v t
+pub seen_same : (o : Opening) (v w : BaseView BaseContent) (t : ℕ) → entries_of t w.seen ≡ entries_of t v.seen → timer_seen o w t ≡ timer_seen o v t
 seen_same o v w t own = after_entries-entries_of (first_system o.timers) t w.seen
     ∙ (ap (seq.after_all (timer_at o.timers t)) own ∙ sym (after_entries-entries_of (first_system o.timers) t v.seen))
 
 -- a timer on the move may be started by who carries it, on the base that it was sent to
-pub may_start : (o : Opening) (v : View BaseContent) (h : Locked BaseContent) (t : ℕ) (mode : Mode) (ns : ℕ) (reading : ClockReading)
+pub may_start : (o : Opening) (v : BaseView BaseContent) (h : HeldContent BaseContent) (t : ℕ) (mode : Mode) (ns : ℕ) (reading : ClockReading)
     (asked : ℕ) → t < length o.timers → v.held ≡ Some h → v.carry ≡ Some t → (timer_seen o v t).moving ≡ true
     → asked ≡ (timer_seen o v t).base → (timer_seen o v t).base ≡ h.base
     → MayAppend o v h t (Start mode ns reading asked)

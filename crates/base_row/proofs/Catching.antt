@@ -4,15 +4,15 @@ use Rattle.std.specs.Prelude.{slice_index, Option, Some, None, MatchOption}
 use Rattle.std.proofs.lemmas.List.{get_or-set_other}
 use Rattle.atomic_table.specs.Table.{Me}
 use Rattle.pass_names.proofs.Passes.{begins_trans}
-use Rattle.base_row.specs.declared.view.Locked.{Locked}
+use Rattle.base_row.specs.declared.view.HeldContent.{HeldContent}
 use Rattle.base_row.specs.declared.view.Opening.{Opening}
-use Rattle.base_row.specs.declared.view.View.{View}
+use Rattle.base_row.specs.declared.view.BaseView.{BaseView}
 use Rattle.seq_timer.specs.Systems.{BaseContent}
 use Rattle.base_row.specs.Rules.{number_of, takes_at}
-use Rattle.base_row.specs.Plays.{Met, Miss, Caught, Lost, slots_of}
+use Rattle.base_row.specs.Plays.{Met, FoundTaken, GotBase, Lost, carried_slots}
 
 abbrev Seated : Type 0
-Seated = Me (Option BaseContent) (View BaseContent)
+Seated = Me (Option BaseContent) (BaseView BaseContent)
 
 module _ (o : Opening) (b : ℕ) (me mid : Seated) (found : ℕ) (met : Met o.bases o.timers number_of b me found mid) where
   mid_met : mid.0.met ≡ set me.0.met b found
@@ -52,7 +52,7 @@ module _ (o : Opening) (b : ℕ) (me mid : Seated) (found : ℕ) (met : Met o.ba
   }
 
   -- a hit after the look
-  pub caught_after : (new : Seated) (h : Locked BaseContent) → Caught o b mid new h → Caught o b me new h
+  pub caught_after : (new : Seated) (h : HeldContent BaseContent) → GotBase o b mid new h → GotBase o b me new h
   caught_after new h caught = record {
     at = caught.at;
     number = caught.number;
@@ -65,7 +65,7 @@ module _ (o : Opening) (b : ℕ) (me mid : Seated) (found : ℕ) (met : Met o.ba
             (b, caught.number) ∷ [];
         met = new.0.met;
       },
-      slots_of (Some h),
+      carried_slots (Some h),
     )) met.rest;
     word = caught.word;
     newer = omega (arith, met.newer, met.is, caught.newer);
@@ -76,13 +76,13 @@ module _ (o : Opening) (b : ℕ) (me mid : Seated) (found : ℕ) (met : Met o.ba
   }
 
   -- either, after the look
-  pub told_after : (new : Seated) (r : Option (Locked BaseContent)) → MatchOption r (Lost o b mid new) (λ h. Caught o b mid new h)
-      → MatchOption r (Lost o b me new) (λ h. Caught o b me new h)
+  pub told_after : (new : Seated) (r : Option (HeldContent BaseContent)) → MatchOption r (Lost o b mid new) (λ h. GotBase o b mid new h)
+      → MatchOption r (Lost o b me new) (λ h. GotBase o b me new h)
   told_after new None lost = lost_after new lost
   told_after new (Some h) caught = caught_after new h caught
 
 -- a miss from the word that was met last
-pub lost_miss : (o : Opening) (b found : ℕ) (me new : Seated) → Miss o.bases o.timers number_of b (slice_index me.0.met b) me found new → Lost o b me new
+pub lost_miss : (o : Opening) (b found : ℕ) (me new : Seated) → FoundTaken o.bases o.timers number_of b (slice_index me.0.met b) me found new → Lost o b me new
 lost_miss o b found me new miss = record {
   rest = miss.met.rest ∙ (λ i. (record me.0 { seen = new.0.seen; heard = []; met = ap (λ (m : Seated). m.0.met) (sym miss.met.rest) i }, me.1));
   missed = inl (miss.missed.0, miss.missed.1, miss.missed.2, omega (arith, miss.missed.3, miss.met.is));

@@ -13,14 +13,15 @@ use Rattle.pass_names.proofs.Passes.{begins_refl, begins_nil, count_place, withi
 use Rattle.seq_timer.specs.Steps.{Timer, Needs, after, reply_to}
 use Rattle.seq_timer.specs.declared.system.TimerEntry.{TimerEntry}
 use Rattle.base_row.specs.declared.view.Claimed.{Claimed}
-use Rattle.base_row.specs.declared.view.Locked.{Locked}
+use Rattle.base_row.specs.declared.view.HeldContent.{HeldContent}
 use Rattle.base_row.specs.declared.view.Opening.{Opening}
-use Rattle.base_row.specs.declared.view.View.{View}
+use Rattle.base_row.specs.declared.view.BaseView.{BaseView}
 use Rattle.seq_timer.specs.declared.event.Event.{Event}
 use Rattle.base_row.proofs.Events.{go_along}
 use Rattle.seq_timer.specs.Systems.{BaseContent, System, first_system, after_entry, changed, IsSystemStep, FitsBase}
-use Rattle.base_row.specs.Rules.{held_in, places_at, claims_at, holds_at, carries_at, runs, now, HeldHolds, PassHolds, RowHolds, HasOneHistory, number_of}
-use Rattle.base_row.specs.Plays.{having_entered, GoAlong, MayEnter, Entered, OwnNeeds, EntersAs, EntersBy, entry_of, seen_timer, claims_after, carry_after}
+use Rattle.base_row.specs.Rules.{held_in, places_at, base_claims_at, holds_at, carries_at, runs, now, HeldHolds, PassHolds, RowHolds, HasOneHistory, number_of}
+use Rattle.base_row.specs.Plays.{having_entered, GoAlong, MayEnter, EnteredTimer, OwnNeeds}
+use Rattle.base_row.specs.Plays.{EntersAs, EntersBy, entry_of_event, seen_timer, claims_with_event, carry_after}
 use Rattle.seq_timer.proofs.Systems.{after_entries-append, base_here, timer_here, timer_else}
 use Rattle.seq_timer.proofs.Limits.{stamp-after}
 use Rattle.base_row.proofs.Begun.{same_own}
@@ -28,7 +29,7 @@ use Rattle.base_row.proofs.Frames.{holds_one, carries_one, entered}
 use Rattle.base_row.proofs.Stable.{stable}
 use Rattle.base_row.proofs.Knowing.{set_there, knows_of}
 
-module _ (bases : ℕ) (opened : List Timer) (code : Timer → ℕ) (id : ℕ) (v : View BaseContent) (h : Locked BaseContent) (e : TimerEntry)
+module _ (bases : ℕ) (opened : List Timer) (code : Timer → ℕ) (id : ℕ) (v : BaseView BaseContent) (h : HeldContent BaseContent) (e : TimerEntry)
     (claims : List Claimed) (carry : Option ℕ)
     (live : v.id.live ≡ true) (may : MayEnter bases opened code v h e) where
   abbrev n : ℕ
@@ -40,7 +41,7 @@ module _ (bases : ℕ) (opened : List Timer) (code : Timer → ℕ) (id : ℕ) (
   abbrev t : Timer
   t = seen.timers e.timer
 
-  module _ (log : List TimerEntry) (s : State (Option BaseContent) (View BaseContent)) (home : RowHolds bases opened code log s)
+  module _ (log : List TimerEntry) (s : State (Option BaseContent) (BaseView BaseContent)) (home : RowHolds bases opened code log s)
       (at : get_elem? s.views id ≡ some v) (along : GoAlong t e v claims carry) where
     abbrev w : System
     w = now bases opened code log
@@ -48,7 +49,7 @@ module _ (bases : ℕ) (opened : List Timer) (code : Timer → ℕ) (id : ℕ) (
     abbrev w' : System
     w' = now bases opened code (log ++ e ∷ [])
 
-    abbrev v' : View BaseContent
+    abbrev v' : BaseView BaseContent
     v' = having_entered log e t h claims carry v
 
     fits : PassHolds bases opened code log s.words v
@@ -143,10 +144,10 @@ module _ (bases : ℕ) (opened : List Timer) (code : Timer → ℕ) (id : ℕ) (
         ))
         (cases_eq k e.timer)
 
-    claimed : (k g b : ℕ) → claims_at k g b v' + one_if (runs g b (w.timers k)) ≡ claims_at k g b v + one_if (runs g b (w'.timers k))
+    claimed : (k g b : ℕ) → base_claims_at k g b v' + one_if (runs g b (w.timers k)) ≡ base_claims_at k g b v + one_if (runs g b (w'.timers k))
     claimed k g b =
         ⊎_elim
-        (λ (q : k ≡ e.timer). subst (λ x. claims_at x g b v' + one_if (runs g b (w.timers x)) ≡ claims_at x g b v + one_if (runs g b (w'.timers x))) (sym q)
+        (λ (q : k ≡ e.timer). subst (λ x. base_claims_at x g b v' + one_if (runs g b (w.timers x)) ≡ base_claims_at x g b v + one_if (runs g b (w'.timers x))) (sym q)
         (omega (arith, along.own g b, ap (λ x. one_if (runs g b x)) same_timer, ap (λ x. one_if (runs g b x)) new_timer)))
         (λ apart. omega (arith, along.apart k g b apart, ap (λ x. one_if (runs g b x)) (timers_else k apart)))
         (cases_eq k e.timer)
@@ -181,9 +182,9 @@ module _ (bases : ℕ) (opened : List Timer) (code : Timer → ℕ) (id : ℕ) (
   -- the store of the timer's new word adds the entry
   pub enters : (slots : ℕ) (slot : List (ℕ × Option BaseContent)) → GoAlong t e v claims carry
       → Allows (HasOneHistory bases opened code) slots id (v, slot) (word_at bases e.timer) (λ _. code (after t e.event))
-      (λ _. Entered bases opened code h e claims carry (v, slot))
+      (λ _. EnteredTimer bases opened code h e claims carry (v, slot))
   enters slots slot along s (log, home) many at small =
-      let v' : View BaseContent = having_entered log e t h claims carry v in
+      let v' : BaseView BaseContent = having_entered log e t h claims carry v in
       let next = enters_home log s home at along in (
         v',
         keeps,
@@ -204,17 +205,17 @@ module _ (bases : ℕ) (opened : List Timer) (code : Timer → ℕ) (id : ℕ) (
       )
 
 -- the same as it is told to a seat whose event was picked
-pub enters_by : (bases : ℕ) (opened : List Timer) (id : ℕ) (v : View BaseContent) (h : Locked BaseContent) (timer : ℕ)
+pub enters_by : (bases : ℕ) (opened : List Timer) (id : ℕ) (v : BaseView BaseContent) (h : HeldContent BaseContent) (timer : ℕ)
     (event asked : Event) → v.opening ≡ record { bases = bases; timers = opened } → asked ≡ event → v.id.live ≡ true
-    → MayEnter bases opened number_of v h (entry_of bases opened number_of v timer event) → OwnNeeds v timer (seen_timer bases opened number_of v timer) event
+    → MayEnter bases opened number_of v h (entry_of_event bases opened number_of v timer event) → OwnNeeds v timer (seen_timer bases opened number_of v timer) event
     → (slots : ℕ) (slot : List (ℕ × Option BaseContent)) (word stamp : ℕ) → word ≡ word_at bases timer
     → stamp ≡ number_of (after (seen_timer bases opened number_of v timer) event)
     → Allows (HasOneHistory bases opened number_of) slots id (v, slot) word (λ _. stamp) (λ _. EntersBy asked (step slots word stamp 0 none) (v, slot))
 enters_by bases opened id v h timer event asked opening picked live may own slots slot word stamp word_is stamp_is s kept many at small =
     let t = seen_timer bases opened number_of v timer in
-    let e = entry_of bases opened number_of v timer event in
+    let e = entry_of_event bases opened number_of v timer event in
     let along = go_along v timer t event (reply_to t event) may.allowed.needs own in
-    let r = enters bases opened number_of id v h e (claims_after timer t event v.claims)
+    let r = enters bases opened number_of id v h e (claims_with_event timer t event v.claims)
     (carry_after timer t event v.carry) live may slots slot along s kept many at
     (subst (λ i. slice_index s.words i < 18446744073709551616) word_is small) in (
       r.0,
@@ -225,13 +226,13 @@ enters_by bases opened id v h timer event asked opening picked live may own slot
       λ g k held at_word.
           let same : h ≡ g = some_same h g (sym may.held ∙ held) in
           let same_timer : timer ≡ k = omega (arith, word_is, at_word, ap (λ (o : Opening). o.bases) opening) in
-          let me : Me (Option BaseContent) (View BaseContent) = (v, slot) in
-          let new : Me (Option BaseContent) (View BaseContent) = (r.0, carried_after slot r.1) in
+          let me : Me (Option BaseContent) (BaseView BaseContent) = (v, slot) in
+          let new : Me (Option BaseContent) (BaseView BaseContent) = (r.0, carried_after slot r.1) in
           subst (λ (o : Opening). EntersAs o.bases o.timers number_of g k asked me new) (sym opening)
           (subst (λ x. EntersAs bases opened number_of g k x me new) (sym picked)
           (subst (λ x. EntersAs bases opened number_of x k event me new) same
           (subst (λ x. EntersAs bases opened number_of h x event me new) same_timer r.4))),
     )
   where
-    some_same : (h g : Locked BaseContent) → Some h ≡ Some g → h ≡ g
+    some_same : (h g : HeldContent BaseContent) → Some h ≡ Some g → h ≡ g
     some_same h g e = cc

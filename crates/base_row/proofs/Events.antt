@@ -9,10 +9,10 @@ use Rattle.seq_timer.specs.Steps.{Timer, Needs}
 use Rattle.pass_names.specs.Counts.{one_if, count}
 use Rattle.pass_names.proofs.Counts.{total-append, count-without_first}
 use Rattle.base_row.specs.declared.view.Claimed.{Claimed}
-use Rattle.base_row.specs.declared.view.View.{View}
+use Rattle.base_row.specs.declared.view.BaseView.{BaseView}
 use Rattle.seq_timer.specs.Systems.{BaseContent}
-use Rattle.base_row.specs.Rules.{is_claim, carried_in, is_generation}
-use Rattle.base_row.specs.Plays.{claims_after, carry_after, OwnNeeds, GoAlong}
+use Rattle.base_row.specs.Rules.{is_base_claim, carried_in, is_generation}
+use Rattle.base_row.specs.Plays.{claims_with_event, carry_after, OwnNeeds, GoAlong}
 
 no_generation : (g : ℕ) (o : Option ℕ) (b : Bool) → IsNone o → one_if (is_generation g o && b) ≡ 0
 no_generation g None b none = refl
@@ -23,21 +23,21 @@ its_generation g None is = absurd (true≢false (sym is))
 its_generation g (Some r) is = refl
 
 one_claim : (id k g b a base : ℕ) (claims : List Claimed)
-    → count (is_claim k g b) (claims ++ record { timer = id; generation = a; base = base } ∷ []) ≡ count (is_claim k g b) claims + one_if
+    → count (is_base_claim k g b) (claims ++ record { timer = id; generation = a; base = base } ∷ []) ≡ count (is_base_claim k g b) claims + one_if
     (eqb id k && (eqb a g && eqb base b))
 one_claim id k g b a base claims = omega (
   arith,
-  total-append (λ (c : Claimed). one_if (is_claim k g b c)) claims
+  total-append (λ (c : Claimed). one_if (is_base_claim k g b c)) claims
       (record { timer = id; generation = a; base = base } ∷ []),
 )
 
-claim_is : (id g b : ℕ) (c : Claimed) → is_claim id g b c ≡ true → (c.timer ≡ id) × ((c.generation ≡ g) × (c.base ≡ b))
+claim_is : (id g b : ℕ) (c : Claimed) → is_base_claim id g b c ≡ true → (c.timer ≡ id) × ((c.generation ≡ g) × (c.base ≡ b))
 claim_is id g b c e =
     let p = and_parts (eqb c.timer id) (eqb c.generation g && eqb c.base b) e in
     let q = and_parts (eqb c.generation g) (eqb c.base b) p.1 in
     (eqb-true c.timer id p.0, (eqb-true c.generation g q.0, eqb-true c.base b q.1))
 
-let_go : (id k g b r base : ℕ) (c : Claimed) → is_claim id r base c ≡ true → is_claim k g b c ≡ (eqb id k && (eqb r g && eqb base b))
+let_go : (id k g b r base : ℕ) (c : Claimed) → is_base_claim id r base c ≡ true → is_base_claim k g b c ≡ (eqb id k && (eqb r g && eqb base b))
 let_go id k g b r base c e = let t = claim_is id r base c e in rw (t.0, t.1.0, t.1.1) refl
 
 carry_start : (id : ℕ) (m : Bool) (carry : Option ℕ) → (m ≡ true → carry ≡ Some id)
@@ -50,8 +50,8 @@ carry_start_else : (id k : ℕ) (m : Bool) (carry : Option ℕ) → k ≢ id →
 carry_start_else id k true carry n has = omega (arith, ap (carried_in k) (has refl), ap one_if (ne_eqb id k (λ e. n (sym e))))
 carry_start_else id k false carry n has = refl
 
-pub go_along : (v : View BaseContent) (id : ℕ) (t : Timer) (event : Event) (reply : Reply) → Needs t event → OwnNeeds v id t event
-    → GoAlong t (record { timer = id; event = event; reply = reply }) v (claims_after id t event v.claims) (carry_after id t event v.carry)
+pub go_along : (v : BaseView BaseContent) (id : ℕ) (t : Timer) (event : Event) (reply : Reply) → Needs t event → OwnNeeds v id t event
+    → GoAlong t (record { timer = id; event = event; reply = reply }) v (claims_with_event id t event v.claims) (carry_after id t event v.carry)
 go_along v id t (events.Out base) reply needs mine = record {
   own = λ g b. omega (arith, no_generation g t.running (eqb t.base b) needs.0, no_generation g t.running (eqb base b) needs.0);
   apart = λ k g b n. refl;
@@ -85,9 +85,9 @@ go_along v id t (events.Claim base reading) reply needs mine = record {
 go_along v id t (events.Forward reading interval) reply needs mine = record { own = λ g b. refl; apart = λ k g b n. refl; carry_here = refl; carry_else = λ k n. refl }
 go_along v id t (events.Finish restart) reply needs mine =
     let r = unwrap_or t.running 0 in
-    let left : (k g b : ℕ) → count (is_claim k g b) (claims_after id t (events.Finish restart) v.claims) + one_if
-    (eqb id k && (eqb r g && eqb t.base b)) ≡ count (is_claim k g b) v.claims =
-    λ k g b. count-without_first (is_claim id r t.base) (is_claim k g b) (eqb id k && (eqb r g && eqb t.base b)) (let_go id k g b r t.base) v.claims mine in
+    let left : (k g b : ℕ) → count (is_base_claim k g b) (claims_with_event id t (events.Finish restart) v.claims) + one_if
+    (eqb id k && (eqb r g && eqb t.base b)) ≡ count (is_base_claim k g b) v.claims =
+    λ k g b. count-without_first (is_base_claim id r t.base) (is_base_claim k g b) (eqb id k && (eqb r g && eqb t.base b)) (let_go id k g b r t.base) v.claims mine in
     record {
       own = λ g b. omega (
         arith,

@@ -15,44 +15,45 @@ use Rattle.pass_names.proofs.Counts.{total-append, total_set, total_at, total_tw
 use Rattle.pass_names.proofs.Passes.{begins_refl, begins_trans, begins_more}
 use Rattle.seq_timer.specs.Steps.{Timer}
 use Rattle.seq_timer.specs.declared.system.TimerEntry.{TimerEntry}
-use Rattle.base_row.specs.declared.view.Locked.{Locked}
-use Rattle.base_row.specs.declared.view.View.{View}
+use Rattle.base_row.specs.declared.view.HeldContent.{HeldContent}
+use Rattle.base_row.specs.declared.view.BaseView.{BaseView}
 use Rattle.seq_timer.specs.Systems.{BaseContent, System, first_system, after_entry, IsSystemStep}
-use Rattle.base_row.specs.Rules.{row_pass_id, held_in, carried_in, places_at, claims_at, holds_at, carries_at, takes_at, runs, LockState, now, PassHolds, RowHolds}
-use Rattle.base_row.specs.Plays.{gone_view}
+use Rattle.base_row.specs.Rules.{base_pass_id, held_in, carried_in, places_at, base_claims_at, holds_at}
+use Rattle.base_row.specs.Rules.{carries_at, takes_at, runs, LockState, now, PassHolds, RowHolds}
+use Rattle.base_row.specs.Plays.{gone_base_view}
 use Rattle.seq_timer.proofs.Systems.{after_entries-append, steps_push, base_else, timer_else}
 
 -- the same locks are held and were taken
-pub record SameLocks (v v' : View BaseContent) : Type 0 where
+pub record SameLocks (v v' : BaseView BaseContent) : Type 0 where
   pub holds : (b : ℕ) → holds_at b v' ≡ holds_at b v
   pub takes : (b k : ℕ) → takes_at b k v' ≡ takes_at b k v
 
 -- the pass has the same name, places, claims and carry
-pub record SameWork (v v' : View BaseContent) : Type 0 where
-  pub id : row_pass_id v' ≡ row_pass_id v
+pub record SameWork (v v' : BaseView BaseContent) : Type 0 where
+  pub id : base_pass_id v' ≡ base_pass_id v
   pub places : (t k : ℕ) → places_at t k v' ≡ places_at t k v
-  pub claims : (t g b : ℕ) → claims_at t g b v' ≡ claims_at t g b v
+  pub claims : (t g b : ℕ) → base_claims_at t g b v' ≡ base_claims_at t g b v
   pub carries : (t : ℕ) → carries_at t v' ≡ carries_at t v
 
 -- a view that has nothing
-abbrev pub empty_view : View BaseContent
-empty_view = gone_view
+abbrev pub empty_view : BaseView BaseContent
+empty_view = gone_base_view
 
 -- two passes have together as much as two had
-pub record Sums (v' u' v u : View BaseContent) : Type 0 where
+pub record Sums (v' u' v u : BaseView BaseContent) : Type 0 where
   pub places : (t k : ℕ) → places_at t k v' + places_at t k u' ≡ places_at t k v + places_at t k u
-  pub claims : (t g b : ℕ) → claims_at t g b v' + claims_at t g b u' ≡ claims_at t g b v + claims_at t g b u
+  pub claims : (t g b : ℕ) → base_claims_at t g b v' + base_claims_at t g b u' ≡ base_claims_at t g b v + base_claims_at t g b u
   pub holds : (b : ℕ) → holds_at b v' + holds_at b u' ≡ holds_at b v + holds_at b u
   pub takes : (b k : ℕ) → takes_at b k v' + takes_at b k u' ≡ takes_at b k v + takes_at b k u
   pub carries : (t : ℕ) → carries_at t v' + carries_at t u' ≡ carries_at t v + carries_at t u
 
-pub sum_same : (f : View BaseContent → ℕ) (vs : List (View BaseContent)) (id : ℕ) (v v' : View BaseContent) → get_elem? vs id ≡ some v
+pub sum_same : (f : BaseView BaseContent → ℕ) (vs : List (BaseView BaseContent)) (id : ℕ) (v v' : BaseView BaseContent) → get_elem? vs id ≡ some v
     → f v' ≡ f v → total f (set vs id v') ≡ total f vs
 sum_same f vs id v v' at e = omega (arith, total_set f vs id v v' at)
 
-pub views_on : (P : View BaseContent → Type 0) (vs : List (View BaseContent)) (id : ℕ) (v' : View BaseContent) → P v'
-    → ((j : ℕ) (u : View BaseContent) → j ≢ id → get_elem? vs j ≡ some u → P u)
-    → (j : ℕ) (u : View BaseContent) → get_elem? (set vs id v') j ≡ some u → P u
+pub views_on : (P : BaseView BaseContent → Type 0) (vs : List (BaseView BaseContent)) (id : ℕ) (v' : BaseView BaseContent) → P v'
+    → ((j : ℕ) (u : BaseView BaseContent) → j ≢ id → get_elem? vs j ≡ some u → P u)
+    → (j : ℕ) (u : BaseView BaseContent) → get_elem? (set vs id v') j ≡ some u → P u
 views_on P vs id v' here else j u e = ⊎_elim (λ t. subst P t.1 here) (λ t. else j u t.0 t.1) (at_set vs id j v' u e)
 
 pub cell_on : (c c' : BaseContent) (home : mathlib.Core.Option.Option (mathlib.Core.Option.Option (Option BaseContent)))
@@ -67,17 +68,17 @@ cell_on c c' home word held held' takes takes' cell e f g = record {
   each = λ k. f k ∙ cell.each k;
 }
 
-pub holds_one : (v : View BaseContent) (h : Locked BaseContent) → v.held ≡ Some h → holds_at h.base v ≡ 1
+pub holds_one : (v : BaseView BaseContent) (h : HeldContent BaseContent) → v.held ≡ Some h → holds_at h.base v ≡ 1
 holds_one v h e = ap (held_in h.base) e ∙ ap one_if (eq-eqb h.base h.base refl)
 
-pub carries_one : (v : View BaseContent) (t : ℕ) → v.carry ≡ Some t → carries_at t v ≡ 1
+pub carries_one : (v : BaseView BaseContent) (t : ℕ) → v.carry ≡ Some t → carries_at t v ≡ 1
 carries_one v t e = ap (carried_in t) e ∙ ap one_if (eq-eqb t t refl)
 
 module _ (bases : ℕ) (opened : List Timer) (code : Timer → ℕ) where
   -- what a seat knows stays true where the history goes on, but for what it holds and carries, and no lock word falls
-  pub fits_on : (log log' : List TimerEntry) (words words' : List ℕ) (v : View BaseContent) → PassHolds bases opened code log words v → Begins log log'
+  pub fits_on : (log log' : List TimerEntry) (words words' : List ℕ) (v : BaseView BaseContent) → PassHolds bases opened code log words v → Begins log log'
       → ((b : ℕ) → b < bases → slice_index words (lock_at b) ≤ slice_index words' (lock_at b))
-      → ((h : Locked BaseContent) → v.held ≡ Some h → ((now bases opened code log').bases h.base ≡
+      → ((h : HeldContent BaseContent) → v.held ≡ Some h → ((now bases opened code log').bases h.base ≡
       (now bases opened code log).bases h.base) × (slice_index words' (lock_at h.base) ≡ slice_index words (lock_at h.base)))
       → ((t : ℕ) → v.carry ≡ Some t → (now bases opened code log').timers t ≡ (now bases opened code log).timers t)
       → PassHolds bases opened code log' words' v
@@ -100,9 +101,9 @@ module _ (bases : ℕ) (opened : List Timer) (code : Timer → ℕ) where
     gone = fits.gone;
   }
 
-  module _ (log : List TimerEntry) (s : State (Option BaseContent) (View BaseContent)) (home : RowHolds bases opened code log s) where
+  module _ (log : List TimerEntry) (s : State (Option BaseContent) (BaseView BaseContent)) (home : RowHolds bases opened code log s) where
     -- One seat alone is other than before.
-    module _ (id : ℕ) (v v' : View BaseContent) (at : get_elem? s.views id ≡ some v) (fits : PassHolds bases opened code log s.words v')
+    module _ (id : ℕ) (v v' : BaseView BaseContent) (at : get_elem? s.views id ≡ some v) (fits : PassHolds bases opened code log s.words v')
         (locks : SameLocks v v') (work : SameWork v v') where
       pub turned : RowHolds bases opened code log record { words = s.words; homes = s.homes; views = slice_set s.views id v' }
       turned = record {
@@ -113,14 +114,14 @@ module _ (bases : ℕ) (opened : List Timer) (code : Timer → ℕ) where
             (λ k. sum_same (takes_at b k) s.views id v v' at (locks.takes b k)) (λ z. refl);
         each_timer = home.each_timer;
         each_view = views_on (λ u. PassHolds bases opened code log s.words u) s.views id v' fits (λ j u n e. home.each_view j u e);
-        tree = subst (λ ls. IsPassTree ls) (sym (map_kept row_pass_id s.views id v v' at work.id)) home.tree;
+        tree = subst (λ ls. IsPassTree ls) (sym (map_kept base_pass_id s.views id v v' at work.id)) home.tree;
         tally = λ t k h. sum_same (places_at t k) s.views id v v' at (work.places t k) ∙ home.tally t k h;
-        claims = λ t g b h. sum_same (claims_at t g b) s.views id v v' at (work.claims t g b) ∙ home.claims t g b h;
+        claims = λ t g b h. sum_same (base_claims_at t g b) s.views id v v' at (work.claims t g b) ∙ home.claims t g b h;
         carriers = λ t h. sum_same (carries_at t) s.views id v v' at (work.carries t) ∙ home.carriers t h;
       }
 
     -- One base's lock and one seat are other than before.
-    module _ (b id : ℕ) (v v' : View BaseContent) (word : ℕ) (slot : mathlib.Core.Option.Option (Option BaseContent))
+    module _ (b id : ℕ) (v v' : BaseView BaseContent) (word : ℕ) (slot : mathlib.Core.Option.Option (Option BaseContent))
         (at : get_elem? s.views id ≡ some v) (inside : b < bases)
         (rises : slice_index s.words (lock_at b) ≤ word)
         (alone : total (holds_at b) s.views ≡ holds_at b v)
@@ -144,7 +145,7 @@ module _ (bases : ℕ) (opened : List Timer) (code : Timer → ℕ) where
           (λ n. omega (arith, word_else (lock_at c) (λ e. n (omega arith))))
           (cases_eq c b)
 
-      unheld : (j : ℕ) (u : View BaseContent) (h : Locked BaseContent) → j ≢ id → get_elem? s.views j ≡ some u → u.held ≡ Some h → h.base ≢ b
+      unheld : (j : ℕ) (u : BaseView BaseContent) (h : HeldContent BaseContent) → j ≢ id → get_elem? s.views j ≡ some u → u.held ≡ Some h → h.base ≢ b
       unheld j u h n at_u e here =
           omega (arith, total_two (holds_at b) s.views id j v u (λ q. n (sym q)) at at_u, ap (λ q. holds_at q u) here, holds_one u h e)
 
@@ -172,25 +173,25 @@ module _ (bases : ℕ) (opened : List Timer) (code : Timer → ℕ) where
             (λ j u n e. fits_on log log s.words (set s.words (lock_at b) word) u (home.each_view j u e) (begins_refl log) risen
             (λ h held. (refl, word_else (lock_at h.base) (λ q. unheld j u h n e held (omega arith))))
             (λ t carry. refl));
-        tree = subst (λ ls. IsPassTree ls) (sym (map_kept row_pass_id s.views id v v' at work.id)) home.tree;
+        tree = subst (λ ls. IsPassTree ls) (sym (map_kept base_pass_id s.views id v v' at work.id)) home.tree;
         tally = λ t k h. sum_same (places_at t k) s.views id v v' at (work.places t k) ∙ home.tally t k h;
-        claims = λ t g c h. sum_same (claims_at t g c) s.views id v v' at (work.claims t g c) ∙ home.claims t g c h;
+        claims = λ t g c h. sum_same (base_claims_at t g c) s.views id v v' at (work.claims t g c) ∙ home.claims t g c h;
         carriers = λ t h. sum_same (carries_at t) s.views id v v' at (work.carries t) ∙ home.carriers t h;
       }
 
     -- One entry more, of a timer whose base the seat holds, and that it carries where it is on the move; and the seat is other than before.
-    module _ (id : ℕ) (v v' : View BaseContent) (e : TimerEntry) (at : get_elem? s.views id ≡ some v)
+    module _ (id : ℕ) (v v' : BaseView BaseContent) (e : TimerEntry) (at : get_elem? s.views id ≡ some v)
         (ok : IsSystemStep bases (length opened) (now bases opened code log) e)
         (holder : holds_at ((now bases opened code log).timers e.timer).base v ≡ 1)
         (carrier : ((now bases opened code log).timers e.timer).moving ≡ true → carries_at e.timer v ≡ 1)
         (fits : PassHolds bases opened code (log ++ e ∷ []) (set s.words (word_at bases e.timer)
         (code ((now bases opened code (log ++ e ∷ [])).timers e.timer))) v')
-        (locks : SameLocks v v') (same_id : row_pass_id v' ≡ row_pass_id v)
+        (locks : SameLocks v v') (same_id : base_pass_id v' ≡ base_pass_id v)
         (places : (t k : ℕ) → t < length opened → places_at t k v' + one_if
         (within k ((now bases opened code log).timers t).stamp) ≡ places_at t k v + one_if
         (within k ((now bases opened code (log ++ e ∷ [])).timers t).stamp))
-        (claims : (t g b : ℕ) → t < length opened → claims_at t g b v' + one_if
-        (runs g b ((now bases opened code log).timers t)) ≡ claims_at t g b v + one_if (runs g b ((now bases opened code (log ++ e ∷ [])).timers t)))
+        (claims : (t g b : ℕ) → t < length opened → base_claims_at t g b v' + one_if
+        (runs g b ((now bases opened code log).timers t)) ≡ base_claims_at t g b v + one_if (runs g b ((now bases opened code (log ++ e ∷ [])).timers t)))
         (carries : (t : ℕ) → t < length opened → carries_at t v' + one_if
         ((now bases opened code log).timers t).moving ≡ carries_at t v + one_if ((now bases opened code (log ++ e ∷ [])).timers t).moving) where
       abbrev w : System
@@ -220,7 +221,7 @@ module _ (bases : ℕ) (opened : List Timer) (code : Timer → ℕ) where
       word_same : (k : ℕ) → k ≢ i → slice_index new_words k ≡ slice_index s.words k
       word_same k n = get_or-set_other s.words i k (code (w'.timers e.timer)) 0 n
 
-      other_base : (j : ℕ) (u : View BaseContent) (h : Locked BaseContent) → j ≢ id → get_elem? s.views j ≡ some u → u.held ≡ Some h
+      other_base : (j : ℕ) (u : BaseView BaseContent) (h : HeldContent BaseContent) → j ≢ id → get_elem? s.views j ≡ some u → u.held ≡ Some h
           → h.base < bases → h.base ≢ b
       other_base j u h n at_u held inside here =
           omega (
@@ -233,7 +234,7 @@ module _ (bases : ℕ) (opened : List Timer) (code : Timer → ℕ) where
             (home.each_base b (omega arith)).once,
           )
 
-      other_timer : (j : ℕ) (u : View BaseContent) (t : ℕ) → j ≢ id → get_elem? s.views j ≡ some u → u.carry ≡ Some t → t ≢ e.timer
+      other_timer : (j : ℕ) (u : BaseView BaseContent) (t : ℕ) → j ≢ id → get_elem? s.views j ≡ some u → u.carry ≡ Some t → t ≢ e.timer
       other_timer j u t n at_u carry here =
           let one : carries_at e.timer u ≡ 1 = ap (λ q. carries_at q u) (sym here) ∙ carries_one u t carry in
           ⊎_elim
@@ -277,20 +278,20 @@ module _ (bases : ℕ) (opened : List Timer) (code : Timer → ℕ) where
                   (lock_at h.base) (λ q. omega arith),
             ))
             (λ t carry. timers_else t (other_timer j u t n at_u carry)));
-        tree = subst (λ ls. IsPassTree ls) (sym (map_kept row_pass_id s.views id v v' at same_id)) home.tree;
+        tree = subst (λ ls. IsPassTree ls) (sym (map_kept base_pass_id s.views id v v' at same_id)) home.tree;
         tally = λ t k h. omega (arith, total_set (places_at t k) s.views id v v' at, places t k h, home.tally t k h);
-        claims = λ t g c h. omega (arith, total_set (claims_at t g c) s.views id v v' at, claims t g c h, home.claims t g c h);
+        claims = λ t g c h. omega (arith, total_set (base_claims_at t g c) s.views id v v' at, claims t g c h, home.claims t g c h);
         carriers = λ t h. omega (arith, total_set (carries_at t) s.views id v v' at, carries t h, home.carriers t h);
       }
 
     -- One seat is other than before, and one came.
-    module _ (id : ℕ) (v v' u : View BaseContent) (at : get_elem? s.views id ≡ some v) (fits : PassHolds bases opened code log s.words v')
+    module _ (id : ℕ) (v v' u : BaseView BaseContent) (at : get_elem? s.views id ≡ some v) (fits : PassHolds bases opened code log s.words v')
         (fits_new : PassHolds bases opened code log s.words u)
-        (tree : IsPassTree (set (map row_pass_id s.views) id (row_pass_id v') ++ row_pass_id u ∷ []))
+        (tree : IsPassTree (set (map base_pass_id s.views) id (base_pass_id v') ++ base_pass_id u ∷ []))
         (sums : Sums v' u v empty_view) where
       pub grown : RowHolds bases opened code log record { words = s.words; homes = s.homes; views = slice_set s.views id v' ++ u ∷ [] }
       grown =
-          let sum : (f : View BaseContent → ℕ) → f v' + f u ≡ f v + 0
+          let sum : (f : BaseView BaseContent → ℕ) → f v' + f u ≡ f v + 0
           → total f (set s.views id v' ++ u ∷ []) ≡ total f s.views = λ f q. omega
           (arith, total_set f s.views id v v' at, total-append f (set s.views id v') (u ∷ [])) in
           record {
@@ -304,21 +305,21 @@ module _ (bases : ℕ) (opened : List Timer) (code : Timer → ℕ) where
                 (λ t. views_on (λ y. PassHolds bases opened code log s.words y) s.views id v' fits (λ i y n e. home.each_view i y e) j x t)
                 (λ t. subst (λ y. PassHolds bases opened code log s.words y) t fits_new)
                 (at_snoc (set s.views id v') u x j q);
-            tree = subst (λ ls. IsPassTree ls) (sym (map-append row_pass_id (set s.views id v') (u ∷ [])
-                ∙ ap (λ ls. ls ++ row_pass_id u ∷ []) (map-set row_pass_id s.views id v'))) tree;
+            tree = subst (λ ls. IsPassTree ls) (sym (map-append base_pass_id (set s.views id v') (u ∷ [])
+                ∙ ap (λ ls. ls ++ base_pass_id u ∷ []) (map-set base_pass_id s.views id v'))) tree;
             tally = λ t k h. sum (places_at t k) (sums.places t k) ∙ home.tally t k h;
-            claims = λ t g b h. sum (claims_at t g b) (sums.claims t g b) ∙ home.claims t g b h;
+            claims = λ t g b h. sum (base_claims_at t g b) (sums.claims t g b) ∙ home.claims t g b h;
             carriers = λ t h. sum (carries_at t) (sums.carries t) ∙ home.carriers t h;
           }
 
     -- One seat has taken in another.
-    module _ (id other : ℕ) (v v' u u' : View BaseContent) (at : get_elem? s.views id ≡ some v) (at_other : get_elem? (set s.views id v') other ≡ some u)
+    module _ (id other : ℕ) (v v' u u' : BaseView BaseContent) (at : get_elem? s.views id ≡ some v) (at_other : get_elem? (set s.views id v') other ≡ some u)
         (fits : PassHolds bases opened code log s.words v') (fits_left : PassHolds bases opened code log s.words u')
-        (tree : IsPassTree (set (set (map row_pass_id s.views) id (row_pass_id v')) other (row_pass_id u')))
+        (tree : IsPassTree (set (set (map base_pass_id s.views) id (base_pass_id v')) other (base_pass_id u')))
         (sums : Sums v' u' v u) where
       pub merged : RowHolds bases opened code log record { words = s.words; homes = s.homes; views = slice_set (slice_set s.views id v') other u' }
       merged =
-          let sum : (f : View BaseContent → ℕ) → f v' + f u' ≡ f v + f u
+          let sum : (f : BaseView BaseContent → ℕ) → f v' + f u' ≡ f v + f u
           → total f (set (set s.views id v') other u') ≡ total f s.views = λ f q. omega
           (arith, total_set f s.views id v v' at, total_set f (set s.views id v') other u u' at_other) in
           record {
@@ -330,9 +331,9 @@ module _ (bases : ℕ) (opened : List Timer) (code : Timer → ℕ) where
             each_timer = home.each_timer;
             each_view = views_on (λ y. PassHolds bases opened code log s.words y) (set s.views id v') other u' fits_left
                 (λ j x n q. views_on (λ y. PassHolds bases opened code log s.words y) s.views id v' fits (λ i y m e. home.each_view i y e) j x q);
-            tree = subst (λ ls. IsPassTree ls) (sym (map-set row_pass_id (set s.views id v') other u'
-                ∙ ap (λ ls. set ls other (row_pass_id u')) (map-set row_pass_id s.views id v'))) tree;
+            tree = subst (λ ls. IsPassTree ls) (sym (map-set base_pass_id (set s.views id v') other u'
+                ∙ ap (λ ls. set ls other (base_pass_id u')) (map-set base_pass_id s.views id v'))) tree;
             tally = λ t k h. sum (places_at t k) (sums.places t k) ∙ home.tally t k h;
-            claims = λ t g b h. sum (claims_at t g b) (sums.claims t g b) ∙ home.claims t g b h;
+            claims = λ t g b h. sum (base_claims_at t g b) (sums.claims t g b) ∙ home.claims t g b h;
             carriers = λ t h. sum (carries_at t) (sums.carries t) ∙ home.carriers t h;
           }

@@ -14,10 +14,10 @@ use Rattle.pass_names.proofs.Names.{last_alone}
 use Rattle.pass_names.proofs.Counts.{met, total_only, total_at}
 use Rattle.seq_timer.specs.Steps.{Timer}
 use Rattle.seq_timer.specs.declared.system.TimerEntry.{TimerEntry}
-use Rattle.base_row.specs.declared.view.View.{View}
+use Rattle.base_row.specs.declared.view.BaseView.{BaseView}
 use Rattle.seq_timer.specs.Systems.{BaseContent, first_system, AreSystemSteps}
-use Rattle.base_row.specs.Rules.{row_pass_id, places_at, claims_at, takes_at, carries_at, runs, now, PassHolds, RowHolds}
-use Rattle.base_row.specs.Plays.{Knows}
+use Rattle.base_row.specs.Rules.{base_pass_id, places_at, base_claims_at, takes_at, carries_at, runs, now, PassHolds, RowHolds}
+use Rattle.base_row.specs.Plays.{KnowsBases}
 use Rattle.base_row.proofs.Frames.{carries_one}
 
 pub set_there : {A : Type 0} (l : List A) (i : ℕ) (a b : A) → get_elem? l i ≡ some a → get_elem? (set l i b) i ≡ some b
@@ -28,31 +28,31 @@ set_there (x ∷ xs) (suc i) a b e = set_there xs i a b e
 in_range : (k n : ℕ) → 0 < k → k ≤ n → one_if (within k n) ≡ 1
 in_range k n h le = grind (arith, nat_tests)
 
-module _ (bases : ℕ) (opened : List Timer) (code : Timer → ℕ) (log : List TimerEntry) (s : State (Option BaseContent) (View BaseContent))
+module _ (bases : ℕ) (opened : List Timer) (code : Timer → ℕ) (log : List TimerEntry) (s : State (Option BaseContent) (BaseView BaseContent))
     (home : RowHolds bases opened code log s)
-    (id : ℕ) (v : View BaseContent) (at : get_elem? s.views id ≡ some v) (live : v.id.live ≡ true) (whole : v.seen ≡ log) where
+    (id : ℕ) (v : BaseView BaseContent) (at : get_elem? s.views id ≡ some v) (live : v.id.live ≡ true) (whole : v.seen ≡ log) where
   fits : PassHolds bases opened code log s.words v
   fits = home.each_view id v at
 
-  others_gone : IsLast v.id → (j : ℕ) (u : View BaseContent) → j ≢ id → get_elem? s.views j ≡ some u → u.id.live ≡ false
+  others_gone : IsLast v.id → (j : ℕ) (u : BaseView BaseContent) → j ≢ id → get_elem? s.views j ≡ some u → u.id.live ≡ false
   others_gone last j u apart at_u =
       ⊎_elim
-      (λ t. absurd (apart (last_alone (map row_pass_id s.views) home.tree id j (row_pass_id v) (row_pass_id u)
-      (at_map row_pass_id s.views id v at) live last (at_map row_pass_id s.views j u at_u) t)))
+      (λ t. absurd (apart (last_alone (map base_pass_id s.views) home.tree id j (base_pass_id v) (base_pass_id u)
+      (at_map base_pass_id s.views id v at) live last (at_map base_pass_id s.views j u at_u) t)))
       (λ f. f)
       (cases_Bool u.id.live)
 
   as_seen : (P : Timer → Type 0) (t : ℕ) → P ((now bases opened code log).timers t) → P ((now bases opened code v.seen).timers t)
   as_seen P t p = subst (λ l. P ((now bases opened code l).timers t)) (sym whole) p
 
-  pub knows_of : Knows bases opened code v
+  pub knows_of : KnowsBases bases opened code v
   knows_of = record {
     allowed = subst (λ l. AreSystemSteps bases (length opened) (first_system opened) l) (sym whole) home.allowed;
     held = λ h e. let t = fits.held h e in (t.within, (t.seen, t.number));
     carry = λ t h e. as_seen (λ (x : Timer). x.moving ≡ true) t
         (met ((now bases opened code log).timers t).moving (omega (arith, carries_one v t e, home.carriers t h, total_at (carries_at t) s.views id v at)));
     claims = λ t g b h some_one. as_seen (λ (x : Timer). runs g b x ≡ true) t
-        (met (runs g b ((now bases opened code log).timers t)) (omega (arith, home.claims t g b h, total_at (claims_at t g b) s.views id v at)));
+        (met (runs g b ((now bases opened code log).timers t)) (omega (arith, home.claims t g b h, total_at (base_claims_at t g b) s.views id v at)));
     all_entries = λ last t k h. as_seen (λ (x : Timer). places_at t k v ≡ one_if (within k x.stamp)) t
         (sym (total_only (places_at t k) s.views id v at (λ j u apart at_u. ap (count (is_place t k))
         ((home.each_view j u at_u).gone (others_gone last j u apart at_u)).0)) ∙ home.tally t k h);

@@ -1,6 +1,7 @@
 -- A load, and an exchange of a lock word, keep the rule.
 use Rattle.base_row.specs.Places.{lock_at}
-use Rattle.std.proofs.Common.{◌≡◌, ℕ, eqb, ◌&&◌, ◌+◌, ◌<◌, ◌≤◌, ◌≢◌, Bool, true, false, List, [], ◌∷◌, length, set, refl, ap, sym, ◌∙◌, subst, inl, ⊎_elim, arith}
+use Rattle.std.proofs.Common.{◌≡◌, ℕ, eqb, ◌&&◌, ◌+◌, ◌<◌, ◌≤◌, ◌≢◌, Bool, true, false, List}
+use Rattle.std.proofs.Common.{[], ◌∷◌, length, set, refl, ap, sym, ◌∙◌, subst, inl, ⊎_elim, arith}
 use Rattle.std.specs.Prelude.{slice_index, slice_set, Option, Some, None, MatchBool}
 use Rattle.std.proofs.lemmas.Bool.{and_parts, cases_eq, cases_lt, eqb-true, eq-eqb, ne_eqb, true≢false}
 use Rattle.std.proofs.lemmas.List.{set-get_or, get_or-set_same, get_or-set_other, length-set}
@@ -14,11 +15,11 @@ use Rattle.pass_names.proofs.Counts.{met, total_set, total_at}
 use Rattle.pass_names.proofs.Passes.{begins_refl, begins_nil, count_place, within_more}
 use Rattle.seq_timer.specs.Steps.{Timer}
 use Rattle.seq_timer.specs.declared.system.TimerEntry.{TimerEntry}
-use Rattle.base_row.specs.declared.view.Locked.{Locked}
-use Rattle.base_row.specs.declared.view.View.{View}
+use Rattle.base_row.specs.declared.view.HeldContent.{HeldContent}
+use Rattle.base_row.specs.declared.view.BaseView.{BaseView}
 use Rattle.seq_timer.specs.Systems.{BaseContent}
 use Rattle.base_row.specs.Rules.{held_in, holds_at, takes_at, LockState, now, HeldHolds, PassHolds, RowHolds, HasOneHistory}
-use Rattle.base_row.specs.Plays.{having_met, having_taken, having_freed, Knows, Looked, Met, Hit, Miss, Freed}
+use Rattle.base_row.specs.Plays.{having_met, having_taken, having_freed, KnowsBases, LoadedWord, Met, TookBase, FoundTaken, FreedBase}
 use Rattle.base_row.proofs.Frames.{holds_one, turned, locked}
 use Rattle.base_row.proofs.Stable.{stable_own, carry_own}
 use Rattle.base_row.proofs.Knowing.{set_there, knows_of}
@@ -46,13 +47,13 @@ newer_one bases words met b word inside le below top = record {
       (cases_eq c b);
 }
 
-no_lock : (h : Locked BaseContent) → None ≡ Some h → ⊥
+no_lock : (h : HeldContent BaseContent) → None ≡ Some h → ⊥
 no_lock h e = cc
 
 module _ (bases : ℕ) (opened : List Timer) (code : Timer → ℕ) where
   -- what a seat knows stays true once it has seen the whole history and newer lock words, and holds nothing new
-  fits_seen : (log : List TimerEntry) (words met : List ℕ) (v : View BaseContent) → PassHolds bases opened code log words v
-      → Newer bases words v.met met → ((h : Locked BaseContent) → v.held ≡ Some h → slice_index met h.base ≡ slice_index v.met h.base)
+  fits_seen : (log : List TimerEntry) (words met : List ℕ) (v : BaseView BaseContent) → PassHolds bases opened code log words v
+      → Newer bases words v.met met → ((h : HeldContent BaseContent) → v.held ≡ Some h → slice_index met h.base ≡ slice_index v.met h.base)
       → PassHolds bases opened code log words (having_met log met v)
   fits_seen log words met v fits more same = record {
     seen = begins_refl log;
@@ -73,19 +74,19 @@ module _ (bases : ℕ) (opened : List Timer) (code : Timer → ℕ) where
     gone = fits.gone;
   }
 
-  module _ (slots id : ℕ) (v : View BaseContent) (carried : List (ℕ × Option BaseContent)) (live : v.id.live ≡ true) where
-    abbrev Goes : State (Option BaseContent) (View BaseContent) → ℕ → ℕ → (View BaseContent → Type 0) → Type 0
+  module _ (slots id : ℕ) (v : BaseView BaseContent) (carried : List (ℕ × Option BaseContent)) (live : v.id.live ≡ true) where
+    abbrev Goes : State (Option BaseContent) (BaseView BaseContent) → ℕ → ℕ → (BaseView BaseContent → Type 0) → Type 0
     Goes s i n then =
-        (w : View BaseContent) × (a : Act (Option BaseContent)) × Valid s.homes carried a
+        (w : BaseView BaseContent) × (a : Act (Option BaseContent)) × Valid s.homes carried a
         × HasOneHistory bases opened code (stepped s i n id carried w a) × ((carried_after carried a ≡ carried) × then w)
 
-    looks_with : (log : List TimerEntry) (s : State (Option BaseContent) (View BaseContent)) (home : RowHolds bases opened code log s)
+    looks_with : (log : List TimerEntry) (s : State (Option BaseContent) (BaseView BaseContent)) (home : RowHolds bases opened code log s)
         → get_elem? s.views id ≡ some v → (i : ℕ) (met : List ℕ) → Newer bases s.words v.met met
-        → ((h : Locked BaseContent) → v.held ≡ Some h → slice_index met h.base ≡ slice_index v.met h.base)
+        → ((h : HeldContent BaseContent) → v.held ≡ Some h → slice_index met h.base ≡ slice_index v.met h.base)
         → RowHolds bases opened code log (stepped s i (slice_index s.words i) id carried (having_met log met v) keeps)
-        × Knows bases opened code (having_met log met v)
+        × KnowsBases bases opened code (having_met log met v)
     looks_with log s home at i met more same =
-        let v' : View BaseContent = having_met log met v in
+        let v' : BaseView BaseContent = having_met log met v in
         let next : RowHolds bases opened code log record { words = s.words; homes = s.homes; views = slice_set s.views id v' } =
         turned bases opened code log s home id v v' at (fits_seen log s.words met v (home.each_view id v at) more same)
         (record { holds = λ b. refl; takes = λ b k. refl }) (record { id = refl; places = λ t k. refl; claims = λ t g b. refl; carries = λ t. refl }) in (
@@ -96,7 +97,7 @@ module _ (bases : ℕ) (opened : List Timer) (code : Timer → ℕ) where
         )
 
     pub looks : (word : ℕ) → Allows (HasOneHistory bases opened code) slots id (v, carried) word (λ n. n)
-        (Looked bases opened code (step slots word 0 0 none) (v, carried))
+        (LoadedWord bases opened code (step slots word 0 0 none) (v, carried))
     looks word s (log, home) many at small =
         let fits = home.each_view id v at in
         let l = looks_with log s home at word v.met (record { size = refl; newer = λ b. omega arith; below = fits.met }) (λ h e. refl) in (
@@ -114,9 +115,9 @@ module _ (bases : ℕ) (opened : List Timer) (code : Timer → ℕ) where
           },
         )
 
-    meets_at : (log : List TimerEntry) (s : State (Option BaseContent) (View BaseContent)) (home : RowHolds bases opened code log s)
+    meets_at : (log : List TimerEntry) (s : State (Option BaseContent) (BaseView BaseContent)) (home : RowHolds bases opened code log s)
         → get_elem? s.views id ≡ some v → (b : ℕ) → b < bases → v.held ≡ None
-        → (w : View BaseContent) × (a : Act (Option BaseContent)) × Valid s.homes carried a
+        → (w : BaseView BaseContent) × (a : Act (Option BaseContent)) × Valid s.homes carried a
         × HasOneHistory bases opened code (stepped s (lock_at b) (slice_index s.words (lock_at b)) id carried w a)
         × Met bases opened code b (v, carried) (slice_index s.words (lock_at b)) (w, carried_after carried a)
     meets_at log s home at b inside idle =
@@ -148,16 +149,16 @@ module _ (bases : ℕ) (opened : List Timer) (code : Timer → ℕ) where
 
   -- ---- an exchange from a free lock word, as it was met last
 
-  module _ (slots id : ℕ) (v : View BaseContent) (live : v.id.live ≡ true) (idle : v.held ≡ None) (b m : ℕ) (inside : b < bases)
+  module _ (slots id : ℕ) (v : BaseView BaseContent) (live : v.id.live ≡ true) (idle : v.held ≡ None) (b m : ℕ) (inside : b < bases)
       (known : slice_index v.met b ≡ m + m) where
-    abbrev Told : Bool → State (Option BaseContent) (View BaseContent) → Type 0
+    abbrev Told : Bool → State (Option BaseContent) (BaseView BaseContent) → Type 0
     Told hit s =
-        (w : View BaseContent) × (a : Act (Option BaseContent)) × Valid s.homes [] a
+        (w : BaseView BaseContent) × (a : Act (Option BaseContent)) × Valid s.homes [] a
         × HasOneHistory bases opened code (stepped s (lock_at b) (either hit (m + m + 1) (slice_index s.words (lock_at b))) id [] w a)
-        × MatchBool hit (Hit bases opened code b (m + 1) (m + m + 1) (v, []) (w, carried_after [] a))
-        (Miss bases opened code b (m + m) (v, []) (slice_index s.words (lock_at b)) (w, carried_after [] a))
+        × MatchBool hit (TookBase bases opened code b (m + 1) (m + m + 1) (v, []) (w, carried_after [] a))
+        (FoundTaken bases opened code b (m + m) (v, []) (slice_index s.words (lock_at b)) (w, carried_after [] a))
 
-    told : (log : List TimerEntry) (s : State (Option BaseContent) (View BaseContent)) → RowHolds bases opened code log s
+    told : (log : List TimerEntry) (s : State (Option BaseContent) (BaseView BaseContent)) → RowHolds bases opened code log s
         → get_elem? s.views id ≡ some v → (hit : Bool) → eqb (slice_index s.words (lock_at b)) (m + m) ≡ hit → Told hit s
     told log s home at false miss =
         let fits = home.each_view id v at in
@@ -185,7 +186,7 @@ module _ (bases : ℕ) (opened : List Timer) (code : Timer → ℕ) where
         let content : BaseContent = (now bases opened code log).bases b in
         let free : total (holds_at b) s.views ≡ 0 = omega (arith, cell.number, cell.once) in
         let none_held : holds_at b v ≡ 0 = ap (held_in b) idle in
-        let v' : View BaseContent = having_taken log b content (m + 1) (m + m + 1) v in
+        let v' : BaseView BaseContent = having_taken log b content (m + 1) (m + m + 1) v in
         let words : List ℕ = set s.words (lock_at b) (m + m + 1) in
         let in_met : b < length v.met = omega (arith, fits.full live) in
         let in_words : lock_at b < length s.words = omega (arith, home.words_len) in
@@ -291,17 +292,17 @@ module _ (bases : ℕ) (opened : List Timer) (code : Timer → ℕ) where
             (cases_eq c b)
 
     pub takes_lock : Allows (HasOneHistory bases opened code) slots id (v, []) (lock_at b) (λ n. either (eqb n (m + m)) (m + m + 1) n)
-        (λ found new. MatchBool (eqb found (m + m)) (Hit bases opened code b (m + 1) (m + m + 1) (v, []) new)
-        (Miss bases opened code b (m + m) (v, []) found new))
+        (λ found new. MatchBool (eqb found (m + m)) (TookBase bases opened code b (m + 1) (m + m + 1) (v, []) new)
+        (FoundTaken bases opened code b (m + m) (v, []) found new))
     takes_lock s home many at small = told home.0 s home.1 at (eqb (slice_index s.words (lock_at b)) (m + m)) refl
 
   -- ---- a store that lets a base go
 
-  module _ (slots id : ℕ) (v : View BaseContent) (h : Locked BaseContent) (live : v.id.live ≡ true) (held : v.held ≡ Some h) where
+  module _ (slots id : ℕ) (v : BaseView BaseContent) (h : HeldContent BaseContent) (live : v.id.live ≡ true) (held : v.held ≡ Some h) where
     abbrev freed_word : ℕ
     freed_word = slice_index v.met h.base + 1
 
-    frees_at : (log : List TimerEntry) (s : State (Option BaseContent) (View BaseContent)) → RowHolds bases opened code log s → get_elem? s.views id ≡ some v
+    frees_at : (log : List TimerEntry) (s : State (Option BaseContent) (BaseView BaseContent)) → RowHolds bases opened code log s → get_elem? s.views id ≡ some v
         → RowHolds bases opened code log record {
           words = slice_set s.words (lock_at h.base) freed_word;
           homes = slice_set s.homes h.base
@@ -314,7 +315,7 @@ module _ (bases : ℕ) (opened : List Timer) (code : Timer → ℕ) where
         let t = fits.held h held in
         let cell = home.each_base b t.within in
         let one : holds_at b v ≡ 1 = holds_one v h held in
-        let v' : View BaseContent = having_freed log b freed_word v in
+        let v' : BaseView BaseContent = having_freed log b freed_word v in
         let in_met : b < length v.met = omega (arith, fits.full live, t.within) in
         let in_words : lock_at b < length s.words = omega (arith, home.words_len, t.within) in
         let words : List ℕ = set s.words (lock_at b) freed_word in
@@ -360,9 +361,9 @@ module _ (bases : ℕ) (opened : List Timer) (code : Timer → ℕ) where
         (record { id = refl; places = λ k i. refl; claims = λ k g c. refl; carries = λ k. refl })
 
     pub frees : Allows (HasOneHistory bases opened code) slots id (v, (h.base, Some h.content) ∷ []) (lock_at h.base) (λ _. freed_word)
-        (λ _. Freed bases opened code h (v, (h.base, Some h.content) ∷ []))
+        (λ _. FreedBase bases opened code h (v, (h.base, Some h.content) ∷ []))
     frees s (log, home) many at small =
-        let v' : View BaseContent = having_freed log h.base freed_word v in
+        let v' : BaseView BaseContent = having_freed log h.base freed_word v in
         let next = frees_at log s home at in (
           v',
           gives,

@@ -14,13 +14,13 @@ use Rattle.timer_word.specs.declared.word.TimerWord.{TimerWord}
 use Rattle.seq_timer.specs.Tables.{timer_at, no_timer, is_due_on, runs_on}
 use Rattle.seq_timer.specs.Contents.{Content, IsContentOf, first_due, generation_in, running_on}
 use Rattle.seq_timer.specs.declared.system.TimerEntry.{TimerEntry}
-use Rattle.base_row.specs.declared.view.Locked.{Locked}
+use Rattle.base_row.specs.declared.view.HeldContent.{HeldContent}
 use Rattle.base_row.specs.declared.view.Opening.{Opening}
-use Rattle.base_row.specs.declared.view.View.{View}
+use Rattle.base_row.specs.declared.view.BaseView.{BaseView}
 use Rattle.seq_timer.specs.Systems.{BaseContent, System, first_system, after_entry, after_entries, AreSystemSteps, FitsBase, IsFresh}
 use Rattle.seq_timer.specs.Tables.{IsNextDue}
 use Rattle.base_row.specs.Rules.{number_of, now}
-use Rattle.base_row.specs.Plays.{Knows}
+use Rattle.base_row.specs.Plays.{KnowsBases}
 use Rattle.base_row.specs.Calls.{AreFresh, timer_seen}
 use Rattle.seq_timer.proofs.Systems.{timer_here, timer_else}
 use Rattle.seq_timer.proofs.Agreement.{agrees}
@@ -72,7 +72,7 @@ within_all bases count w (e ∷ es) first all t = within_all bases count (after_
     (λ apart. subst (λ (x : Timer). IsWithin x) (sym (timer_else w e k apart)) (first k))
     (cases_eq k e.timer)) all.1 t
 
-module _ (o : Opening) (v : View BaseContent) (fresh : AreFresh o.timers) (knows : Knows o.bases o.timers number_of v) where
+module _ (o : Opening) (v : BaseView BaseContent) (fresh : AreFresh o.timers) (knows : KnowsBases o.bases o.timers number_of v) where
   pub placed_seen : 0 < o.bases → (t : ℕ) → (timer_seen o v t).base < o.bases
   placed_seen some t = placed o.bases (length o.timers) (first_system o.timers) v.seen (λ k. omega (arith, (fresh.each k).first)) knows.allowed t
 
@@ -97,7 +97,7 @@ module _ (o : Opening) (v : View BaseContent) (fresh : AreFresh o.timers) (knows
   unfolding number_of
   reads_back some few t number is r back = back (word_of (timer_seen o v t)) (has_word some few t) (sym is)
 
-  module _ (h : Locked BaseContent) (held : v.held ≡ Some h) where
+  module _ (h : HeldContent BaseContent) (held : v.held ≡ Some h) where
     pub content_held : IsContentOf (timer_seen o v) h.base h.content.content
     content_held = subst (λ (b : BaseContent). IsContentOf (timer_seen o v) h.base b.content) (sym (knows.held h held).1.0)
         ((agrees o.bases o.timers v.seen fresh.each knows.allowed).contents h.base)

@@ -17,15 +17,15 @@ use Rattle.pass_names.proofs.Passes.{begins_nil}
 use Rattle.seq_timer.specs.Steps.{Timer}
 use Rattle.base_row.specs.declared.view.Claimed.{Claimed}
 use Rattle.seq_timer.specs.declared.system.TimerEntry.{TimerEntry}
-use Rattle.base_row.specs.declared.view.Locked.{Locked}
+use Rattle.base_row.specs.declared.view.HeldContent.{HeldContent}
 use Rattle.base_row.specs.declared.view.Opening.{Opening}
-use Rattle.base_row.specs.declared.view.View.{View}
+use Rattle.base_row.specs.declared.view.BaseView.{BaseView}
 use Rattle.seq_timer.specs.Systems.{BaseContent}
-use Rattle.base_row.specs.Rules.{row_pass_id, held_in, carried_in, is_claim, holds_at, takes_at, PassHolds, HasOneHistory}
-use Rattle.base_row.specs.Plays.{no_opening, greater, split_view, new_view, note_of, gone_view, joined_view, told_view}
+use Rattle.base_row.specs.Rules.{base_pass_id, held_in, carried_in, is_base_claim, holds_at, takes_at, PassHolds, HasOneHistory}
+use Rattle.base_row.specs.Plays.{no_opening, greater, split_base_view, new_base_view, base_note_of, gone_base_view, joined_base_view, told_base_view}
 use Rattle.base_row.proofs.Frames.{grown, merged}
 
-no_lock : (h : Locked BaseContent) → None ≡ Some h → ⊥
+no_lock : (h : HeldContent BaseContent) → None ≡ Some h → ⊥
 no_lock h e = cc
 
 no_timer : (t : ℕ) → None ≡ Some t → ⊥
@@ -45,7 +45,7 @@ greater_len (x ∷ xs) (y ∷ ys) = omega (arith, greater_len xs ys)
 
 module _ (bases : ℕ) (opened : List Timer) (code : Timer → ℕ) where
   -- a view that has nothing of its own fits, with what was seen and met
-  fits_reader : (log : List TimerEntry) (words : List ℕ) (pass : PassId) (opening : Opening) (v : View BaseContent)
+  fits_reader : (log : List TimerEntry) (words : List ℕ) (pass : PassId) (opening : Opening) (v : BaseView BaseContent)
       → PassHolds bases opened code log words v → (pass.live ≡ true → length v.met ≡ bases)
       → PassHolds bases opened code log words record { id = pass; opening = opening; seen = v.seen; heard = []; mine = []; claims = []; held = None; carry = None; takes = []; met = v.met }
   fits_reader log words pass opening v fits full = record {
@@ -60,8 +60,8 @@ module _ (bases : ℕ) (opened : List Timer) (code : Timer → ℕ) where
     gone = λ off. (refl, (refl, refl));
   }
 
-  fits_split : (log : List TimerEntry) (words : List ℕ) (v : View BaseContent) → PassHolds bases opened code log words v
-      → PassHolds bases opened code log words (split_view v)
+  fits_split : (log : List TimerEntry) (words : List ℕ) (v : BaseView BaseContent) → PassHolds bases opened code log words v
+      → PassHolds bases opened code log words (split_base_view v)
   fits_split log words v fits = record {
     seen = fits.seen;
     heard = fits.heard;
@@ -74,29 +74,29 @@ module _ (bases : ℕ) (opened : List Timer) (code : Timer → ℕ) where
     gone = fits.gone;
   }
 
-  pub splits : (id : ℕ) (v : View BaseContent) → v.id.live ≡ true → Splits (HasOneHistory bases opened code) id v (split_view v) (new_view v)
+  pub splits : (id : ℕ) (v : BaseView BaseContent) → v.id.live ≡ true → Splits (HasOneHistory bases opened code) id v (split_base_view v) (new_base_view v)
   splits id v live s (log, home) at =
       let fits = home.each_view id v at in (
         log,
-        grown bases opened code log s home id v (split_view v) (new_view v) at (fits_split log s.words v fits)
-            (fits_reader log s.words (row_pass_id (new_view v)) v.opening v fits (λ t. fits.full live))
-            (splits_tree (map row_pass_id s.views) home.tree id (row_pass_id v) (at_map row_pass_id s.views id v at) live)
+        grown bases opened code log s home id v (split_base_view v) (new_base_view v) at (fits_split log s.words v fits)
+            (fits_reader log s.words (base_pass_id (new_base_view v)) v.opening v fits (λ t. fits.full live))
+            (splits_tree (map base_pass_id s.views) home.tree id (base_pass_id v) (at_map base_pass_id s.views id v at) live)
             (record { places = λ t k. refl; claims = λ t g b. refl; holds = λ b. refl; takes = λ b k. refl; carries = λ t. refl }),
       )
 
-  pub notes : (id : ℕ) (v : View BaseContent) → Splits (HasOneHistory bases opened code) id v v (note_of v)
+  pub notes : (id : ℕ) (v : BaseView BaseContent) → Splits (HasOneHistory bases opened code) id v v (base_note_of v)
   notes id v s (log, home) at =
       let fits = home.each_view id v at in (
         log,
-        grown bases opened code log s home id v v (note_of v) at fits
+        grown bases opened code log s home id v v (base_note_of v) at fits
             (fits_reader log s.words gone_pass_id no_opening v fits (λ t. absurd (true≢false (sym t))))
             (subst (λ ls. IsPassTree (ls ++ gone_pass_id ∷ []))
-            (sym (set_again (map row_pass_id s.views) id (row_pass_id v) (at_map row_pass_id s.views id v at)))
-            (gone_tree (map row_pass_id s.views) home.tree))
+            (sym (set_again (map base_pass_id s.views) id (base_pass_id v) (at_map base_pass_id s.views id v at)))
+            (gone_tree (map base_pass_id s.views) home.tree))
             (record { places = λ t k. refl; claims = λ t g b. refl; holds = λ b. refl; takes = λ b k. refl; carries = λ t. refl }),
       )
 
-  fits_gone : (log : List TimerEntry) (words : List ℕ) → PassHolds bases opened code log words gone_view
+  fits_gone : (log : List TimerEntry) (words : List ℕ) → PassHolds bases opened code log words gone_base_view
   fits_gone log words = record {
     seen = begins_nil log;
     heard = begins_nil log;
@@ -109,9 +109,9 @@ module _ (bases : ℕ) (opened : List Timer) (code : Timer → ℕ) where
     gone = λ off. (refl, (refl, refl));
   }
 
-  fits_joined : (log : List TimerEntry) (words : List ℕ) (v u : View BaseContent) → v.id.live ≡ true → v.held ≡ None → u.held ≡ None
+  fits_joined : (log : List TimerEntry) (words : List ℕ) (v u : BaseView BaseContent) → v.id.live ≡ true → v.held ≡ None → u.held ≡ None
       → PassHolds bases opened code log words v → PassHolds bases opened code log words u
-      → PassHolds bases opened code log words (joined_view v u)
+      → PassHolds bases opened code log words (joined_base_view v u)
   fits_joined log words v u live idle idle_u fits fits_u = record {
     seen = fits.seen;
     heard = fits_u.seen;
@@ -138,23 +138,23 @@ module _ (bases : ℕ) (opened : List Timer) (code : Timer → ℕ) where
     gone = λ off. absurd (true≢false (sym live ∙ off));
   }
 
-  pub joins : (id other : ℕ) (v u : View BaseContent) → v.id.live ≡ true → u.id.live ≡ true → v.held ≡ None → u.held ≡ None
+  pub joins : (id other : ℕ) (v u : BaseView BaseContent) → v.id.live ≡ true → u.id.live ≡ true → v.held ≡ None → u.held ≡ None
       → u.carry ≡ None → AnswersFor v.id u.id
-      → Joins (HasOneHistory bases opened code) id v other u (joined_view v u) gone_view
+      → Joins (HasOneHistory bases opened code) id v other u (joined_base_view v u) gone_base_view
   joins id other v u live live_u idle idle_u empty answers s (log, home) at apart at_other =
-      let at_u : get_elem? s.views other ≡ some u = sym (set_else s.views id other (joined_view v u) apart) ∙ at_other in
-      let lines_at : get_elem? (set (map row_pass_id s.views) id (row_pass_id (joined_view v u))) other ≡ some (row_pass_id u) =
-      ap (λ ls. get_elem? ls other) (sym (map-set row_pass_id s.views id (joined_view v u)))
-      ∙ at_map row_pass_id (set s.views id (joined_view v u)) other u at_other in (
+      let at_u : get_elem? s.views other ≡ some u = sym (set_else s.views id other (joined_base_view v u) apart) ∙ at_other in
+      let lines_at : get_elem? (set (map base_pass_id s.views) id (base_pass_id (joined_base_view v u))) other ≡ some (base_pass_id u) =
+      ap (λ ls. get_elem? ls other) (sym (map-set base_pass_id s.views id (joined_base_view v u)))
+      ∙ at_map base_pass_id (set s.views id (joined_base_view v u)) other u at_other in (
         log,
-        merged bases opened code log s home id other v (joined_view v u) u gone_view at at_other
+        merged bases opened code log s home id other v (joined_base_view v u) u gone_base_view at at_other
             (fits_joined log s.words v u live idle idle_u (home.each_view id v at) (home.each_view other u at_u))
             (fits_gone log s.words)
-            (joins_tree (map row_pass_id s.views) home.tree id other (row_pass_id v) (row_pass_id u)
-            (at_map row_pass_id s.views id v at) live apart lines_at live_u answers)
+            (joins_tree (map base_pass_id s.views) home.tree id other (base_pass_id v) (base_pass_id u)
+            (at_map base_pass_id s.views id v at) live apart lines_at live_u answers)
             (record {
               places = λ t k. omega (arith, total-append (λ (p : ℕ × ℕ). one_if (is_place t k p)) v.mine u.mine);
-              claims = λ t g b. omega (arith, total-append (λ (p : Claimed). one_if (is_claim t g b p)) v.claims u.claims);
+              claims = λ t g b. omega (arith, total-append (λ (p : Claimed). one_if (is_base_claim t g b p)) v.claims u.claims);
               holds = λ b. omega (arith, ap (held_in b) idle_u);
               takes = λ b k. omega (arith, total-append (λ (p : ℕ × ℕ). one_if (is_place b k p)) v.takes u.takes);
               carries = λ t. omega (arith, ap (carried_in t) empty);
@@ -162,18 +162,18 @@ module _ (bases : ℕ) (opened : List Timer) (code : Timer → ℕ) where
       )
 
   -- a note is taken in
-  pub tells : (id other : ℕ) (v x : View BaseContent) → Joins (HasOneHistory bases opened code) id v other (note_of x) (told_view v (note_of x)) gone_view
+  pub tells : (id other : ℕ) (v x : BaseView BaseContent) → Joins (HasOneHistory bases opened code) id v other (base_note_of x) (told_base_view v (base_note_of x)) gone_base_view
   tells id other v x s (log, home) at apart at_other =
-      let u = note_of x in
+      let u = base_note_of x in
       let fits = home.each_view id v at in
-      let at_u : get_elem? s.views other ≡ some u = sym (set_else s.views id other (told_view v u) apart) ∙ at_other in
+      let at_u : get_elem? s.views other ≡ some u = sym (set_else s.views id other (told_base_view v u) apart) ∙ at_other in
       let fits_u = home.each_view other u at_u in
-      let line_at : get_elem? (map row_pass_id s.views) other ≡ some gone_pass_id = at_map row_pass_id s.views other u at_u in
-      let lines : set (set (map row_pass_id s.views) id (row_pass_id v)) other gone_pass_id ≡ map row_pass_id s.views =
-      ap (λ ls. set ls other gone_pass_id) (set_again (map row_pass_id s.views) id (row_pass_id v) (at_map row_pass_id s.views id v at))
-      ∙ set_again (map row_pass_id s.views) other gone_pass_id line_at in (
+      let line_at : get_elem? (map base_pass_id s.views) other ≡ some gone_pass_id = at_map base_pass_id s.views other u at_u in
+      let lines : set (set (map base_pass_id s.views) id (base_pass_id v)) other gone_pass_id ≡ map base_pass_id s.views =
+      ap (λ ls. set ls other gone_pass_id) (set_again (map base_pass_id s.views) id (base_pass_id v) (at_map base_pass_id s.views id v at))
+      ∙ set_again (map base_pass_id s.views) other gone_pass_id line_at in (
         log,
-        merged bases opened code log s home id other v (told_view v u) u gone_view at at_other
+        merged bases opened code log s home id other v (told_base_view v u) u gone_base_view at at_other
             (record {
               seen = fits.seen;
               heard = fits_u.seen;

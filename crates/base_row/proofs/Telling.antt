@@ -6,24 +6,24 @@ use mathlib.Core.Option.{none}
 use prog.Atomic.{either}
 use Rattle.atomic_table.specs.Table.{Me, step, carried_after, Allows}
 use Rattle.seq_timer.specs.Steps.{Timer}
-use Rattle.base_row.specs.declared.view.Locked.{Locked}
+use Rattle.base_row.specs.declared.view.HeldContent.{HeldContent}
 use Rattle.base_row.specs.declared.view.Opening.{Opening}
-use Rattle.base_row.specs.declared.view.View.{View}
+use Rattle.base_row.specs.declared.view.BaseView.{BaseView}
 use Rattle.seq_timer.specs.Systems.{BaseContent}
 use Rattle.base_row.specs.Rules.{number_of, HasOneHistory}
-use Rattle.base_row.specs.Plays.{Looked, Met, Hit, Miss, Freed, LooksOwn, MeetsOwn, TakesAt, TakesOwn, FreesOwn}
+use Rattle.base_row.specs.Plays.{LoadedWord, Met, TookBase, FoundTaken, FreedBase, LooksOwn, MeetsOwn, TakesAt, TakesOwn, FreesOwn}
 use Rattle.base_row.proofs.Looking.{looks, meets, takes_lock, frees}
 
-some_same : (h g : Locked BaseContent) → Some h ≡ Some g → h ≡ g
+some_same : (h g : HeldContent BaseContent) → Some h ≡ Some g → h ≡ g
 some_same h g e = cc
 
-module _ (bases : ℕ) (opened : List Timer) (id : ℕ) (v : View BaseContent)
+module _ (bases : ℕ) (opened : List Timer) (id : ℕ) (v : BaseView BaseContent)
     (opening : v.opening ≡ record { bases = bases; timers = opened }) (live : v.id.live ≡ true) (slots : ℕ) where
   pub looks_by : (carried : List (ℕ × Option BaseContent)) (word : ℕ)
       → Allows (HasOneHistory bases opened number_of) slots id (v, carried) word (λ n. n) (LooksOwn (step slots word 0 0 none) (v, carried))
   looks_by carried word =
       subst (λ (o : Opening). Allows (HasOneHistory bases opened number_of) slots id (v, carried) word (λ n. n)
-      (Looked o.bases o.timers number_of (step slots word 0 0 none) (v, carried))) (sym opening)
+      (LoadedWord o.bases o.timers number_of (step slots word 0 0 none) (v, carried))) (sym opening)
       (looks bases opened number_of slots id v carried live word)
 
   pub meets_by : (carried : List (ℕ × Option BaseContent)) (b word : ℕ) → word ≡ lock_at b → b < bases → v.held ≡ None
@@ -42,10 +42,10 @@ module _ (bases : ℕ) (opened : List Timer) (id : ℕ) (v : View BaseContent)
             (subst (λ x. Met bases opened number_of x (v, carried) (slice_index s.words (lock_at b)) (r.0, carried_after carried r.1)) (omega arith) r.4),
       ))
 
-  hit_or_miss : (b m : ℕ) (found : ℕ) (hit : Bool) (new : Me (Option BaseContent) (View BaseContent))
-      → MatchBool hit (Hit bases opened number_of b (m + 1) (m + m + 1) (v, []) new) (Miss bases opened number_of b (m + m) (v, []) found new)
-      → MatchBool hit ((k : ℕ) × (m + m + 2 ≡ k + k) × Hit bases opened number_of b k (m + m + 1) (v, []) new)
-      (Miss bases opened number_of b (m + m) (v, []) found new)
+  hit_or_miss : (b m : ℕ) (found : ℕ) (hit : Bool) (new : Me (Option BaseContent) (BaseView BaseContent))
+      → MatchBool hit (TookBase bases opened number_of b (m + 1) (m + m + 1) (v, []) new) (FoundTaken bases opened number_of b (m + m) (v, []) found new)
+      → MatchBool hit ((k : ℕ) × (m + m + 2 ≡ k + k) × TookBase bases opened number_of b k (m + m + 1) (v, []) new)
+      (FoundTaken bases opened number_of b (m + m) (v, []) found new)
   hit_or_miss b m found true new told = (m + 1, omega arith, told)
   hit_or_miss b m found false new told = told
 
@@ -73,7 +73,7 @@ module _ (bases : ℕ) (opened : List Timer) (id : ℕ) (v : View BaseContent)
             (hit_or_miss b m (slice_index s.words (lock_at b)) (eqb (slice_index s.words (lock_at b)) (m + m)) (r.0, carried_after [] r.1) r.4)),
       ))))
 
-  pub frees_by : (h : Locked BaseContent) (word stored : ℕ) → word ≡ lock_at h.base → stored ≡ slice_index v.met h.base + 1 → v.held ≡ Some h
+  pub frees_by : (h : HeldContent BaseContent) (word stored : ℕ) → word ≡ lock_at h.base → stored ≡ slice_index v.met h.base + 1 → v.held ≡ Some h
       → Allows (HasOneHistory bases opened number_of) slots id (v, (h.base, Some h.content) ∷ []) word (λ _. stored)
       (λ _. FreesOwn (step slots word stored 0 none) (v, (h.base, Some h.content) ∷ []) stored)
   frees_by h word stored is is_stored held =
@@ -88,8 +88,8 @@ module _ (bases : ℕ) (opened : List Timer) (id : ℕ) (v : View BaseContent)
         r.2,
         r.3,
         λ g e.
-            subst (λ (o : Opening). Freed o.bases o.timers number_of g (v, (h.base, Some h.content) ∷ [])
+            subst (λ (o : Opening). FreedBase o.bases o.timers number_of g (v, (h.base, Some h.content) ∷ [])
             (r.0, carried_after ((h.base, Some h.content) ∷ []) r.1)) (sym opening)
-            (subst (λ x. Freed bases opened number_of x (v, (h.base, Some h.content) ∷ [])
+            (subst (λ x. FreedBase bases opened number_of x (v, (h.base, Some h.content) ∷ [])
             (r.0, carried_after ((h.base, Some h.content) ∷ []) r.1)) (some_same h g (sym held ∙ e)) r.4),
       )))

@@ -11,23 +11,24 @@ use Rattle.seq_timer.specs.Tables.{timer_at}
 use Rattle.seq_timer.specs.Histories as seq
 use Rattle.seq_timer.specs.Systems.{BaseContent, IsFresh, IsOn, entries_of, openings}
 use Rattle.base_row.specs.declared.view.Claimed.{Claimed}
-use Rattle.base_row.specs.declared.view.Locked.{Locked}
+use Rattle.base_row.specs.declared.view.HeldContent.{HeldContent}
 use Rattle.base_row.specs.declared.view.Opening.{Opening}
-use Rattle.base_row.specs.declared.view.View.{View}
+use Rattle.base_row.specs.declared.view.BaseView.{BaseView}
 use Rattle.base_row.specs.Rules.{now, number_of}
-use Rattle.base_row.specs.Plays.{MayEnter, Missed, OwnNeeds, Steady, carry_after, claims_after, entry_of, greater, having_entered, having_freed, having_met, joined_view, seen_timer}
+use Rattle.base_row.specs.Plays.{MayEnter, Missed, OwnNeeds, Steady, carry_after, claims_with_event}
+use Rattle.base_row.specs.Plays.{entry_of_event, greater, having_entered, having_freed, having_met, joined_base_view, seen_timer}
 
 -- a row, and what it was made of
-pub record RowOf : Type 0 where
+pub record BaseRowOf : Type 0 where
   pub id : TableId
   pub about : Opening
 
 -- a pass of a row, and what it knows
-pub record PassOf : Type 0 where
+pub record BasePassOf : Type 0 where
   pub row : TableId
-  pub knows : View BaseContent
+  pub knows : BaseView BaseContent
 
-pub record IsPassOf (r : RowOf) (p : PassOf) : Type 0 where
+pub record IsBasePassOf (r : BaseRowOf) (p : BasePassOf) : Type 0 where
   pub row : p.row ≡ r.id
   pub about : p.knows.opening ≡ r.about
 
@@ -40,38 +41,38 @@ pub record AreFresh (timers : List Timer) : Type 0 where
   pub each : (t : ℕ) → IsFresh (timer_at timers t)
   pub limit : (t : ℕ) → (timer_at timers t).limit ≤ greatest_limit
 
-abbrev pub timer_seen : Opening → View BaseContent → ℕ → Timer
+abbrev pub timer_seen : Opening → BaseView BaseContent → ℕ → Timer
 timer_seen o v t = seen_timer o.bases o.timers number_of v t
 
-abbrev pub base_seen : Opening → View BaseContent → ℕ → BaseContent
+abbrev pub base_seen : Opening → BaseView BaseContent → ℕ → BaseContent
 base_seen o v b = (now o.bases o.timers number_of v.seen).bases b
 
-abbrev pub entry_in : Opening → View BaseContent → ℕ → Event → TimerEntry
-entry_in o v t event = entry_of o.bases o.timers number_of v t event
+abbrev pub entry_in : Opening → BaseView BaseContent → ℕ → Event → TimerEntry
+entry_in o v t event = entry_of_event o.bases o.timers number_of v t event
 
 -- a pass may make this entry, by what it has seen
-pub record MayAppend (o : Opening) (v : View BaseContent) (h : Locked BaseContent) (t : ℕ) (event : Event) : Type 0 where
+pub record MayAppend (o : Opening) (v : BaseView BaseContent) (h : HeldContent BaseContent) (t : ℕ) (event : Event) : Type 0 where
   pub may : MayEnter o.bases o.timers number_of v h (entry_in o v t event)
   pub own : OwnNeeds v t (timer_seen o v t) event
 
 -- a pass has made this entry
-pub record Appended (o : Opening) (h : Locked BaseContent) (t : ℕ) (event : Event) (v w : View BaseContent) : Type 0 where
+pub record Appended (o : Opening) (h : HeldContent BaseContent) (t : ℕ) (event : Event) (v w : BaseView BaseContent) : Type 0 where
   pub before : List TimerEntry
   pub seen : Begins v.seen before
   pub own : entries_of t before ≡ entries_of t v.seen
-  pub rest : w ≡ having_entered before (entry_in o v t event) (timer_seen o v t) h (claims_after t (timer_seen o v t) event v.claims)
+  pub rest : w ≡ having_entered before (entry_in o v t event) (timer_seen o v t) h (claims_with_event t (timer_seen o v t) event v.claims)
       (carry_after t (timer_seen o v t) event v.carry) v
 
 -- what callers see of what a pass knows
-abbrev pub known_of : View BaseContent → Known TimerEntry Claimed
+abbrev pub known_of : BaseView BaseContent → Known TimerEntry Claimed
 known_of v = record { id = v.id; seen = v.seen; mine = v.mine; claims = v.claims }
 
 -- the entry of an event in its timer's part of the history, with the reply that it gets after what the pass has seen
-abbrev pub own_entry : Opening → View BaseContent → ℕ → Event → seq.Entry
+abbrev pub own_entry : Opening → BaseView BaseContent → ℕ → Event → seq.Entry
 own_entry o v t event = record { event = event; reply = reply_to (timer_seen o v t) event }
 
 -- a pass has got a base. The take is its own, and the lock word that it knows is the take's.
-pub record Locks (base : ℕ) (v w : View BaseContent) (h : Locked BaseContent) : Type 0 where
+pub record GetsBase (base : ℕ) (v w : BaseView BaseContent) (h : HeldContent BaseContent) : Type 0 where
   pub at : h.base ≡ base
   pub number : ℕ
   pub rest : w ≡ record v { seen = w.seen; heard = []; held = Some h; takes = v.takes ++ (base, number) ∷ []; met = w.met }
@@ -82,7 +83,7 @@ pub record Locks (base : ℕ) (v w : View BaseContent) (h : Locked BaseContent) 
   pub steady : Steady v w
 
 -- a pass has looked at a base's lock, and has not got it
-pub record Waits (base : ℕ) (v w : View BaseContent) : Type 0 where
+pub record Waits (base : ℕ) (v w : BaseView BaseContent) : Type 0 where
   pub rest : w ≡ record v { seen = w.seen; heard = w.heard; met = w.met }
   pub newer : slice_index v.met base ≤ slice_index w.met base
   pub apart : (c : ℕ) → c ≢ base → slice_index w.met c ≡ slice_index v.met c
@@ -90,17 +91,17 @@ pub record Waits (base : ℕ) (v w : View BaseContent) : Type 0 where
   pub steady : Steady v w
 
 -- and that was because another pass took it in between, or because it is taken no more
-pub record Misses (base : ℕ) (v w : View BaseContent) : Type 0 where
+pub record MissesBase (base : ℕ) (v w : BaseView BaseContent) : Type 0 where
   pub waits : Waits base v w
   pub missed : Missed v base (slice_index v.met base) (slice_index w.met base) ⊎ (2 ^ 64 - 2 ≤ slice_index w.met base)
 
 -- a pass has seen more, and nothing else is other than before
-pub record Sees (v w : View BaseContent) : Type 0 where
+pub record SeesMore (v w : BaseView BaseContent) : Type 0 where
   pub rest : w ≡ having_met w.seen v.met v
   pub seen : Begins v.seen w.seen
 
 -- a pass has let a base go
-pub record LetsGo (o : Opening) (h : Locked BaseContent) (v w : View BaseContent) : Type 0 where
+pub record LetsGo (o : Opening) (h : HeldContent BaseContent) (v w : BaseView BaseContent) : Type 0 where
   pub rest : w ≡ having_freed w.seen h.base (h.word + 1) v
   pub seen : Begins v.seen w.seen
   pub own : (t : ℕ) → t < length o.timers → IsOn h.base (timer_seen o v t) → entries_of t w.seen ≡ entries_of t v.seen
@@ -108,13 +109,13 @@ pub record LetsGo (o : Opening) (h : Locked BaseContent) (v w : View BaseContent
   pub steady : Steady v w
 
 -- a pass has taken in another
-pub record Absorbs (v u w : View BaseContent) : Type 0 where
-  pub rest : w ≡ having_met w.seen (greater v.met u.met) (joined_view v u)
+pub record Absorbs (v u w : BaseView BaseContent) : Type 0 where
+  pub rest : w ≡ having_met w.seen (greater v.met u.met) (joined_base_view v u)
   pub seen : Begins v.seen w.seen
   pub heard : Begins u.seen w.seen
 
 -- a pass was told what another has seen and met
-pub record Hears (v u w : View BaseContent) : Type 0 where
+pub record LearnsFrom (v u w : BaseView BaseContent) : Type 0 where
   pub rest : w ≡ having_met w.seen (greater v.met u.met) v
   pub seen : Begins v.seen w.seen
   pub heard : Begins u.seen w.seen

@@ -1,6 +1,7 @@
 -- What each step tells.
 use Rattle.base_row.specs.Places.{lock_at, word_at}
-use Rattle.std.specs.Prelude.{◌≡◌, ℕ, ◌+◌, ◌<◌, ◌≤◌, ◌==◌, true, List, [], ◌∷◌, ◌++◌, length, set, slice_index, max, replicate, ◌≢◌, ◌⊎◌, ◌^◌, ◌-◌, Option, Some, None, MatchBool, unwrap_or, if◌then◌else◌}
+use Rattle.std.specs.Prelude.{◌≡◌, ℕ, ◌+◌, ◌<◌, ◌≤◌, ◌==◌, true, List, [], ◌∷◌, ◌++◌, length, set}
+use Rattle.std.specs.Prelude.{slice_index, max, replicate, ◌≢◌, ◌⊎◌, ◌^◌, ◌-◌, Option, Some, None, MatchBool, unwrap_or, if◌then◌else◌}
 use Rattle.atomic_table.specs.Table.{Me, Step, rest}
 use Rattle.pass_names.specs.Counts.{one_if, count, without_first}
 use Rattle.pass_names.specs.Names.{IsLast, first_pass_id, gone_pass_id, after_split, child_of, after_retire}
@@ -10,18 +11,18 @@ use Rattle.seq_timer.specs.declared.event.Event.TheVariants as events
 use Rattle.seq_timer.specs.Steps.{Timer, after, reply_to}
 use Rattle.seq_timer.specs.declared.system.TimerEntry.{TimerEntry}
 use Rattle.base_row.specs.declared.view.Claimed.{Claimed}
-use Rattle.base_row.specs.declared.view.Locked.{Locked}
+use Rattle.base_row.specs.declared.view.HeldContent.{HeldContent}
 use Rattle.base_row.specs.declared.view.Opening.{Opening}
-use Rattle.base_row.specs.declared.view.View.{View}
+use Rattle.base_row.specs.declared.view.BaseView.{BaseView}
 use Rattle.seq_timer.specs.Systems.{BaseContent, first_system, IsSystemStep, AreSystemSteps, changed, entries_of, IsOn}
-use Rattle.base_row.specs.Rules.{is_claim, carried_in, number_of, now, runs, places_at, claims_at, carries_at, takes_at}
+use Rattle.base_row.specs.Rules.{is_base_claim, carried_in, number_of, now, runs, places_at, base_claims_at, carries_at, takes_at}
 
 -- a pass that has seen this, and knows these lock words
-abbrev pub having_met : List TimerEntry → List ℕ → View BaseContent → View BaseContent
+abbrev pub having_met : List TimerEntry → List ℕ → BaseView BaseContent → BaseView BaseContent
 having_met seen met v = record v { seen = seen; heard = []; met = met }
 
 -- a pass that has taken a base's lock
-abbrev pub having_taken : List TimerEntry → ℕ → BaseContent → ℕ → ℕ → View BaseContent → View BaseContent
+abbrev pub having_taken : List TimerEntry → ℕ → BaseContent → ℕ → ℕ → BaseView BaseContent → BaseView BaseContent
 having_taken seen b content number word v = record v {
   seen = seen;
   heard = [];
@@ -32,11 +33,12 @@ having_taken seen b content number word v = record v {
 }
 
 -- a pass that has let a base go
-abbrev pub having_freed : List TimerEntry → ℕ → ℕ → View BaseContent → View BaseContent
+abbrev pub having_freed : List TimerEntry → ℕ → ℕ → BaseView BaseContent → BaseView BaseContent
 having_freed seen b word v = record v { seen = seen; heard = []; held = None; met = set v.met b word }
 
 -- a pass that has added an entry of a timer, which was so
-abbrev pub having_entered : List TimerEntry → TimerEntry → Timer → Locked BaseContent → List Claimed → Option ℕ → View BaseContent → View BaseContent
+abbrev pub having_entered : List TimerEntry → TimerEntry → Timer → HeldContent BaseContent → List Claimed → Option ℕ
+    → BaseView BaseContent → BaseView BaseContent
 having_entered before e t h claims carry v = record v {
   seen = before ++ e ∷ [];
   heard = [];
@@ -56,28 +58,72 @@ abbrev pub no_opening : Opening
 no_opening = record { bases = 0; timers = [] }
 
 -- the first pass
-abbrev pub first_view : Opening → View BaseContent
-first_view o = record { id = first_pass_id; opening = o; seen = []; heard = []; mine = []; claims = []; held = None; carry = None; takes = []; met = replicate o.bases 0 }
+abbrev pub first_base_view : Opening → BaseView BaseContent
+first_base_view o = record {
+  id = first_pass_id;
+  opening = o;
+  seen = [];
+  heard = [];
+  mine = [];
+  claims = [];
+  held = None;
+  carry = None;
+  takes = [];
+  met = replicate o.bases 0;
+}
 
 -- after a pass was split off
-abbrev pub split_view : View BaseContent → View BaseContent
-split_view v = record v { id = after_split v.id }
+abbrev pub split_base_view : BaseView BaseContent → BaseView BaseContent
+split_base_view v = record v { id = after_split v.id }
 
 -- the pass that was split off
-abbrev pub new_view : View BaseContent → View BaseContent
-new_view v = record { id = child_of v.id; opening = v.opening; seen = v.seen; heard = []; mine = []; claims = []; held = None; carry = None; takes = []; met = v.met }
+abbrev pub new_base_view : BaseView BaseContent → BaseView BaseContent
+new_base_view v = record {
+  id = child_of v.id;
+  opening = v.opening;
+  seen = v.seen;
+  heard = [];
+  mine = [];
+  claims = [];
+  held = None;
+  carry = None;
+  takes = [];
+  met = v.met;
+}
 
 -- a note of what a pass has seen and met, which is no pass
-abbrev pub note_of : View BaseContent → View BaseContent
-note_of v = record { id = gone_pass_id; opening = no_opening; seen = v.seen; heard = []; mine = []; claims = []; held = None; carry = None; takes = []; met = v.met }
+abbrev pub base_note_of : BaseView BaseContent → BaseView BaseContent
+base_note_of v = record {
+  id = gone_pass_id;
+  opening = no_opening;
+  seen = v.seen;
+  heard = [];
+  mine = [];
+  claims = [];
+  held = None;
+  carry = None;
+  takes = [];
+  met = v.met;
+}
 
 -- what is left of a pass that was taken in
-abbrev pub gone_view : View BaseContent
-gone_view = record { id = gone_pass_id; opening = no_opening; seen = []; heard = []; mine = []; claims = []; held = None; carry = None; takes = []; met = [] }
+abbrev pub gone_base_view : BaseView BaseContent
+gone_base_view = record {
+  id = gone_pass_id;
+  opening = no_opening;
+  seen = [];
+  heard = [];
+  mine = [];
+  claims = [];
+  held = None;
+  carry = None;
+  takes = [];
+  met = [];
+}
 
 -- a pass that has taken in another
-abbrev pub joined_view : View BaseContent → View BaseContent → View BaseContent
-joined_view v u = record v {
+abbrev pub joined_base_view : BaseView BaseContent → BaseView BaseContent → BaseView BaseContent
+joined_base_view v u = record v {
   id = after_retire v.id u.id;
   heard = u.seen;
   mine = v.mine ++ u.mine;
@@ -87,41 +133,41 @@ joined_view v u = record v {
 }
 
 -- a pass that was told what another has seen and met
-abbrev pub told_view : View BaseContent → View BaseContent → View BaseContent
-told_view v u = record v { heard = u.seen; met = greater v.met u.met }
+abbrev pub told_base_view : BaseView BaseContent → BaseView BaseContent → BaseView BaseContent
+told_base_view v u = record v { heard = u.seen; met = greater v.met u.met }
 
 -- of the timer that a pass carries nothing more was seen
-abbrev pub Steady : View BaseContent → View BaseContent → Type 0
+abbrev pub Steady : BaseView BaseContent → BaseView BaseContent → Type 0
 Steady v w = (t : ℕ) → v.carry ≡ Some t → entries_of t w.seen ≡ entries_of t v.seen
 
 -- a take of the base by another pass came between
-abbrev pub Missed : View BaseContent → ℕ → ℕ → ℕ → Type 0
+abbrev pub Missed : BaseView BaseContent → ℕ → ℕ → ℕ → Type 0
 Missed v b old found = (k : ℕ) × (takes_at b k v ≡ 0) × (old < k + k) × (k + k ≤ found + 1)
 
 module _ (bases : ℕ) (opened : List Timer) (code : Timer → ℕ) where
   -- What is known of what a pass knows.
-  pub record Knows (v : View BaseContent) : Type 0 where
+  pub record KnowsBases (v : BaseView BaseContent) : Type 0 where
     pub allowed : AreSystemSteps bases (length opened) (first_system opened) v.seen
-    pub held : (h : Locked BaseContent) → v.held ≡ Some h → (h.base < bases) × ((h.content ≡ (now bases opened code v.seen).bases h.base)
+    pub held : (h : HeldContent BaseContent) → v.held ≡ Some h → (h.base < bases) × ((h.content ≡ (now bases opened code v.seen).bases h.base)
         × (h.word ≡ slice_index v.met h.base))
     pub carry : (t : ℕ) → t < length opened → v.carry ≡ Some t → ((now bases opened code v.seen).timers t).moving ≡ true
-    pub claims : (t g b : ℕ) → t < length opened → 0 < claims_at t g b v → runs g b ((now bases opened code v.seen).timers t) ≡ true
+    pub claims : (t g b : ℕ) → t < length opened → 0 < base_claims_at t g b v → runs g b ((now bases opened code v.seen).timers t) ≡ true
     -- the last pass has made each entry, each once, and each take
     pub all_entries : IsLast v.id → (t k : ℕ) → t < length opened → places_at t k v ≡ one_if (within k ((now bases opened code v.seen).timers t).stamp)
     pub all_takes : IsLast v.id → (b k : ℕ) → b < bases → 0 < k → k + k ≤ slice_index v.met b + 1 → takes_at b k v ≡ 1
 
   -- a load of word 0 or of a timer's word
-  pub record Looked (st : Step (Option BaseContent)) (me : Me (Option BaseContent) (View BaseContent)) (found : ℕ)
-      (new : Me (Option BaseContent) (View BaseContent)) : Type 0 where
+  pub record LoadedWord (st : Step (Option BaseContent)) (me : Me (Option BaseContent) (BaseView BaseContent)) (found : ℕ)
+      (new : Me (Option BaseContent) (BaseView BaseContent)) : Type 0 where
     pub rest : new ≡ (having_met new.0.seen me.0.met me.0, me.1)
     pub seen : Begins me.0.seen new.0.seen
     pub heard : Begins me.0.heard new.0.seen
     pub steady : Steady me.0 new.0
-    pub knows : Knows new.0
+    pub knows : KnowsBases new.0
     pub timer : (t : ℕ) → st.word ≡ word_at bases t → t < length opened → found ≡ code ((now bases opened code new.0.seen).timers t)
 
   -- a load of a base's lock word
-  pub record Met (b : ℕ) (me : Me (Option BaseContent) (View BaseContent)) (found : ℕ) (new : Me (Option BaseContent) (View BaseContent)) : Type 0 where
+  pub record Met (b : ℕ) (me : Me (Option BaseContent) (BaseView BaseContent)) (found : ℕ) (new : Me (Option BaseContent) (BaseView BaseContent)) : Type 0 where
     pub rest : new ≡ (having_met new.0.seen (set me.0.met b found) me.0, me.1)
     pub seen : Begins me.0.seen new.0.seen
     pub heard : Begins me.0.heard new.0.seen
@@ -130,25 +176,27 @@ module _ (bases : ℕ) (opened : List Timer) (code : Timer → ℕ) where
     -- no take since then is the pass's own
     pub others : (k : ℕ) → slice_index me.0.met b < k + k → takes_at b k me.0 ≡ 0
     pub steady : Steady me.0 new.0
-    pub knows : Knows new.0
+    pub knows : KnowsBases new.0
 
   -- an exchange that took a base's lock
-  pub record Hit (b number word : ℕ) (me : Me (Option BaseContent) (View BaseContent)) (new : Me (Option BaseContent) (View BaseContent)) : Type 0 where
+  pub record TookBase (b number word : ℕ) (me : Me (Option BaseContent) (BaseView BaseContent))
+      (new : Me (Option BaseContent) (BaseView BaseContent)) : Type 0 where
     pub content : BaseContent
     pub rest : new ≡ (having_taken new.0.seen b content number word me.0, (b, Some content) ∷ [])
     pub is : slice_index new.0.met b ≡ word
     pub seen : Begins me.0.seen new.0.seen
     pub heard : Begins me.0.heard new.0.seen
     pub steady : Steady me.0 new.0
-    pub knows : Knows new.0
+    pub knows : KnowsBases new.0
 
   -- an exchange that found the lock taken, or taken since it was met
-  pub record Miss (b old : ℕ) (me : Me (Option BaseContent) (View BaseContent)) (found : ℕ) (new : Me (Option BaseContent) (View BaseContent)) : Type 0 where
+  pub record FoundTaken (b old : ℕ) (me : Me (Option BaseContent) (BaseView BaseContent)) (found : ℕ)
+      (new : Me (Option BaseContent) (BaseView BaseContent)) : Type 0 where
     pub met : Met b me found new
     pub missed : Missed me.0 b old found
 
-  pub record Freed (h : Locked BaseContent) (me : Me (Option BaseContent) (View BaseContent))
-      (new : Me (Option BaseContent) (View BaseContent)) : Type 0 where
+  pub record FreedBase (h : HeldContent BaseContent) (me : Me (Option BaseContent) (BaseView BaseContent))
+      (new : Me (Option BaseContent) (BaseView BaseContent)) : Type 0 where
     pub rest : new ≡ (having_freed new.0.seen h.base (slice_index me.0.met h.base + 1) me.0, rest me.1)
     pub seen : Begins me.0.seen new.0.seen
     -- of the timers on the base nothing more was seen
@@ -156,16 +204,16 @@ module _ (bases : ℕ) (opened : List Timer) (code : Timer → ℕ) where
     -- the base is left as it was held
     pub content : (now bases opened code new.0.seen).bases h.base ≡ h.content
     pub steady : Steady me.0 new.0
-    pub knows : Knows new.0
+    pub knows : KnowsBases new.0
 
 -- the claims after an event of a timer, which was so
-abbrev pub claims_after : ℕ → Timer → Event → List Claimed → List Claimed
-claims_after id t (events.Out base) claims = claims
-claims_after id t (events.Start mode ns reading asked) claims = claims
-claims_after id t events.Cancel claims = claims
-claims_after id t (events.Claim base reading) claims = claims ++ record { timer = id; generation = unwrap_or t.armed 0; base = t.base } ∷ []
-claims_after id t (events.Forward reading interval) claims = claims
-claims_after id t (events.Finish restart) claims = without_first (is_claim id (unwrap_or t.running 0) t.base) claims
+abbrev pub claims_with_event : ℕ → Timer → Event → List Claimed → List Claimed
+claims_with_event id t (events.Out base) claims = claims
+claims_with_event id t (events.Start mode ns reading asked) claims = claims
+claims_with_event id t events.Cancel claims = claims
+claims_with_event id t (events.Claim base reading) claims = claims ++ record { timer = id; generation = unwrap_or t.armed 0; base = t.base } ∷ []
+claims_with_event id t (events.Forward reading interval) claims = claims
+claims_with_event id t (events.Finish restart) claims = without_first (is_base_claim id (unwrap_or t.running 0) t.base) claims
 
 -- the timer that is carried after an event of a timer, which was so
 abbrev pub carry_after : ℕ → Timer → Event → Option ℕ → Option ℕ
@@ -177,91 +225,92 @@ carry_after id t (events.Forward reading interval) carry = carry
 carry_after id t (events.Finish restart) carry = carry
 
 -- what an event needs of the pass that makes it
-abbrev pub OwnNeeds : View BaseContent → ℕ → Timer → Event → Type 0
+abbrev pub OwnNeeds : BaseView BaseContent → ℕ → Timer → Event → Type 0
 OwnNeeds v id t (events.Out base) = v.carry ≡ None
 OwnNeeds v id t (events.Start mode ns reading asked) = t.moving ≡ true → v.carry ≡ Some id
 OwnNeeds v id t events.Cancel = Unit {0}
 OwnNeeds v id t (events.Claim base reading) = Unit {0}
-OwnNeeds v id t (events.Forward reading interval) = 0 < claims_at id (unwrap_or t.running 0) t.base v
-OwnNeeds v id t (events.Finish restart) = 0 < claims_at id (unwrap_or t.running 0) t.base v
+OwnNeeds v id t (events.Forward reading interval) = 0 < base_claims_at id (unwrap_or t.running 0) t.base v
+OwnNeeds v id t (events.Finish restart) = 0 < base_claims_at id (unwrap_or t.running 0) t.base v
 
 -- a pass's claims and carry go along with an entry of a timer, which was so
-pub record GoAlong (t : Timer) (e : TimerEntry) (v : View BaseContent) (claims : List Claimed) (carry : Option ℕ) : Type 0 where
-  pub own : (g b : ℕ) → count (is_claim e.timer g b) claims + one_if (runs g b t) ≡ claims_at e.timer g b v + one_if (runs g b (after t e.event))
-  pub apart : (k g b : ℕ) → k ≢ e.timer → count (is_claim k g b) claims ≡ claims_at k g b v
+pub record GoAlong (t : Timer) (e : TimerEntry) (v : BaseView BaseContent) (claims : List Claimed) (carry : Option ℕ) : Type 0 where
+  pub own : (g b : ℕ) → count (is_base_claim e.timer g b) claims + one_if (runs g b t) ≡ base_claims_at e.timer g b v + one_if (runs g b (after t e.event))
+  pub apart : (k g b : ℕ) → k ≢ e.timer → count (is_base_claim k g b) claims ≡ base_claims_at k g b v
   pub carry_here : carried_in e.timer carry + one_if t.moving ≡ carries_at e.timer v + one_if (after t e.event).moving
   pub carry_else : (k : ℕ) → k ≢ e.timer → carried_in k carry ≡ carries_at k v
 
 module _ (bases : ℕ) (opened : List Timer) (code : Timer → ℕ) where
-  abbrev pub seen_timer : View BaseContent → ℕ → Timer
+  abbrev pub seen_timer : BaseView BaseContent → ℕ → Timer
   seen_timer v t = (now bases opened code v.seen).timers t
 
   -- a pass may add this entry, by what it has seen: it holds the timer's base, and carries the timer where that is on the move
-  pub record MayEnter (v : View BaseContent) (h : Locked BaseContent) (e : TimerEntry) : Type 0 where
+  pub record MayEnter (v : BaseView BaseContent) (h : HeldContent BaseContent) (e : TimerEntry) : Type 0 where
     pub held : v.held ≡ Some h
     pub allowed : IsSystemStep bases (length opened) (now bases opened code v.seen) e
     pub base : (seen_timer v e.timer).base ≡ h.base
     pub carries : (seen_timer v e.timer).moving ≡ true → v.carry ≡ Some e.timer
 
   -- what the store of a timer's word tells
-  pub record Entered (h : Locked BaseContent) (e : TimerEntry) (claims : List Claimed) (carry : Option ℕ)
-      (me : Me (Option BaseContent) (View BaseContent)) (new : Me (Option BaseContent) (View BaseContent)) : Type 0 where
+  pub record EnteredTimer (h : HeldContent BaseContent) (e : TimerEntry) (claims : List Claimed) (carry : Option ℕ)
+      (me : Me (Option BaseContent) (BaseView BaseContent)) (new : Me (Option BaseContent) (BaseView BaseContent)) : Type 0 where
     pub before : List TimerEntry
     pub seen : Begins me.0.seen before
     pub own : entries_of e.timer before ≡ entries_of e.timer me.0.seen
     pub rest : new ≡ (having_entered before e (seen_timer me.0 e.timer) h claims carry me.0, me.1)
-    pub knows : Knows bases opened code new.0
+    pub knows : KnowsBases bases opened code new.0
 
   -- the entry of an event, with the reply that it gets after what the pass has seen
-  abbrev pub entry_of : View BaseContent → ℕ → Event → TimerEntry
-  entry_of v t event = record { timer = t; event = event; reply = reply_to (seen_timer v t) event }
+  abbrev pub entry_of_event : BaseView BaseContent → ℕ → Event → TimerEntry
+  entry_of_event v t event = record { timer = t; event = event; reply = reply_to (seen_timer v t) event }
 
   -- the store tells so of an entry with its own claims and carry
-  abbrev pub EntersAs : Locked BaseContent → ℕ → Event → Me (Option BaseContent) (View BaseContent) → Me (Option BaseContent) (View BaseContent) → Type 0
-  EntersAs h t event me new = Entered h (entry_of me.0 t event) (claims_after t (seen_timer me.0 t) event me.0.claims)
+  abbrev pub EntersAs : HeldContent BaseContent → ℕ → Event → Me (Option BaseContent) (BaseView BaseContent)
+      → Me (Option BaseContent) (BaseView BaseContent) → Type 0
+  EntersAs h t event me new = EnteredTimer h (entry_of_event me.0 t event) (claims_with_event t (seen_timer me.0 t) event me.0.claims)
       (carry_after t (seen_timer me.0 t) event me.0.carry) me new
 
-abbrev pub EntersBy : Event → Step (Option BaseContent) → Me (Option BaseContent) (View BaseContent) → Me (Option BaseContent) (View BaseContent) → Type 0
-EntersBy event st me new = (h : Locked BaseContent) (t : ℕ) → me.0.held ≡ Some h → st.word ≡ word_at me.0.opening.bases t
+abbrev pub EntersBy : Event → Step (Option BaseContent) → Me (Option BaseContent) (BaseView BaseContent) → Me (Option BaseContent) (BaseView BaseContent) → Type 0
+EntersBy event st me new = (h : HeldContent BaseContent) (t : ℕ) → me.0.held ≡ Some h → st.word ≡ word_at me.0.opening.bases t
     → EntersAs me.0.opening.bases me.0.opening.timers number_of h t event me new
 
 -- the slot that a pass carries while it holds a base: it is empty
-abbrev pub slots_of : Option (Locked BaseContent) → List (ℕ × Option BaseContent)
-slots_of None = []
-slots_of (Some h) = (h.base, None) ∷ []
+abbrev pub carried_slots : Option (HeldContent BaseContent) → List (ℕ × Option BaseContent)
+carried_slots None = []
+carried_slots (Some h) = (h.base, None) ∷ []
 
 -- what is known of what a pass knows, of a row of its opening
-abbrev pub KnowsOwn : View BaseContent → Type 0
-KnowsOwn v = Knows v.opening.bases v.opening.timers number_of v
+abbrev pub KnowsOwn : BaseView BaseContent → Type 0
+KnowsOwn v = KnowsBases v.opening.bases v.opening.timers number_of v
 
 -- what a seat of a pass is like between calls
-pub record IsResting (me : Me (Option BaseContent) (View BaseContent)) : Type 0 where
+pub record IsResting (me : Me (Option BaseContent) (BaseView BaseContent)) : Type 0 where
   pub live : me.0.id.live ≡ true
   pub heard : me.0.heard ≡ []
-  pub carried : me.1 ≡ slots_of me.0.held
+  pub carried : me.1 ≡ carried_slots me.0.held
   pub knows : KnowsOwn me.0
 
 -- what single steps tell a seat of a row of its opening
-abbrev pub LooksOwn : Step (Option BaseContent) → Me (Option BaseContent) (View BaseContent) → ℕ → Me (Option BaseContent) (View BaseContent) → Type 0
-LooksOwn st me found new = Looked me.0.opening.bases me.0.opening.timers number_of st me found new
+abbrev pub LooksOwn : Step (Option BaseContent) → Me (Option BaseContent) (BaseView BaseContent) → ℕ → Me (Option BaseContent) (BaseView BaseContent) → Type 0
+LooksOwn st me found new = LoadedWord me.0.opening.bases me.0.opening.timers number_of st me found new
 
-abbrev pub MeetsOwn : Step (Option BaseContent) → Me (Option BaseContent) (View BaseContent) → ℕ → Me (Option BaseContent) (View BaseContent) → Type 0
+abbrev pub MeetsOwn : Step (Option BaseContent) → Me (Option BaseContent) (BaseView BaseContent) → ℕ → Me (Option BaseContent) (BaseView BaseContent) → Type 0
 MeetsOwn st me found new = (b : ℕ) → st.word ≡ lock_at b → Met me.0.opening.bases me.0.opening.timers number_of b me found new
 
-abbrev pub TakesAt : Opening → ℕ → Step (Option BaseContent) → Me (Option BaseContent) (View BaseContent) → ℕ
-    → Me (Option BaseContent) (View BaseContent) → Type 0
+abbrev pub TakesAt : Opening → ℕ → Step (Option BaseContent) → Me (Option BaseContent) (BaseView BaseContent) → ℕ
+    → Me (Option BaseContent) (BaseView BaseContent) → Type 0
 TakesAt o b st me found new =
     MatchBool (found == st.first) ((k : ℕ) × (st.first + 2 ≡ k + k)
-    × Hit o.bases o.timers number_of b k (st.first + 1) me new) (Miss o.bases o.timers number_of b st.first me found new)
+    × TookBase o.bases o.timers number_of b k (st.first + 1) me new) (FoundTaken o.bases o.timers number_of b st.first me found new)
 
-abbrev pub TakesOwn : Step (Option BaseContent) → Me (Option BaseContent) (View BaseContent) → ℕ → Me (Option BaseContent) (View BaseContent) → Type 0
+abbrev pub TakesOwn : Step (Option BaseContent) → Me (Option BaseContent) (BaseView BaseContent) → ℕ → Me (Option BaseContent) (BaseView BaseContent) → Type 0
 TakesOwn st me found new = (b : ℕ) → st.word ≡ lock_at b → TakesAt me.0.opening b st me found new
 
-abbrev pub FreesOwn : Step (Option BaseContent) → Me (Option BaseContent) (View BaseContent) → ℕ → Me (Option BaseContent) (View BaseContent) → Type 0
-FreesOwn st me stored new = (h : Locked BaseContent) → me.0.held ≡ Some h → Freed me.0.opening.bases me.0.opening.timers number_of h me new
+abbrev pub FreesOwn : Step (Option BaseContent) → Me (Option BaseContent) (BaseView BaseContent) → ℕ → Me (Option BaseContent) (BaseView BaseContent) → Type 0
+FreesOwn st me stored new = (h : HeldContent BaseContent) → me.0.held ≡ Some h → FreedBase me.0.opening.bases me.0.opening.timers number_of h me new
 
 -- a seat has got a base
-pub record Caught (o : Opening) (base : ℕ) (me new : Me (Option BaseContent) (View BaseContent)) (h : Locked BaseContent) : Type 0 where
+pub record GotBase (o : Opening) (base : ℕ) (me new : Me (Option BaseContent) (BaseView BaseContent)) (h : HeldContent BaseContent) : Type 0 where
   pub at : h.base ≡ base
   pub number : ℕ
   pub rest : new ≡ (
@@ -273,21 +322,21 @@ pub record Caught (o : Opening) (base : ℕ) (me new : Me (Option BaseContent) (
           (base, number) ∷ [];
       met = new.0.met;
     },
-    slots_of (Some h),
+    carried_slots (Some h),
   )
   pub word : slice_index new.0.met base + 1 ≡ number + number
   pub newer : slice_index me.0.met base ≤ slice_index new.0.met base
   pub apart : (c : ℕ) → c ≢ base → slice_index new.0.met c ≡ slice_index me.0.met c
   pub seen : Begins me.0.seen new.0.seen
   pub steady : Steady me.0 new.0
-  pub knows : Knows o.bases o.timers number_of new.0
+  pub knows : KnowsBases o.bases o.timers number_of new.0
 
 -- a seat has not got a base: another pass took it in between, or it is taken no more
-pub record Lost (o : Opening) (base : ℕ) (me new : Me (Option BaseContent) (View BaseContent)) : Type 0 where
+pub record Lost (o : Opening) (base : ℕ) (me new : Me (Option BaseContent) (BaseView BaseContent)) : Type 0 where
   pub rest : new ≡ (having_met new.0.seen new.0.met me.0, me.1)
   pub missed : Missed me.0 base (slice_index me.0.met base) (slice_index new.0.met base) ⊎ (2 ^ 64 - 2 ≤ slice_index new.0.met base)
   pub newer : slice_index me.0.met base ≤ slice_index new.0.met base
   pub apart : (c : ℕ) → c ≢ base → slice_index new.0.met c ≡ slice_index me.0.met c
   pub seen : Begins me.0.seen new.0.seen
   pub steady : Steady me.0 new.0
-  pub knows : Knows o.bases o.timers number_of new.0
+  pub knows : KnowsBases o.bases o.timers number_of new.0

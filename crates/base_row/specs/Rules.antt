@@ -12,17 +12,17 @@ use Rattle.seq_timer.specs.Steps.{Timer}
 use Rattle.timer_word.specs.Words.{packed, word_of}
 use Rattle.seq_timer.specs.declared.system.TimerEntry.{TimerEntry}
 use Rattle.base_row.specs.declared.view.Claimed.{Claimed}
-use Rattle.base_row.specs.declared.view.Locked.{Locked}
-use Rattle.base_row.specs.declared.view.View.{View}
+use Rattle.base_row.specs.declared.view.HeldContent.{HeldContent}
+use Rattle.base_row.specs.declared.view.BaseView.{BaseView}
 use Rattle.seq_timer.specs.Systems.{BaseContent, System, first_system, system_after, AreSystemSteps}
 
-abbrev pub row_pass_id : View BaseContent → PassId
-row_pass_id v = v.id
+abbrev pub base_pass_id : BaseView BaseContent → PassId
+base_pass_id v = v.id
 
-abbrev pub is_claim : ℕ → ℕ → ℕ → Claimed → Bool
-is_claim t g b c = (c.timer == t) && ((c.generation == g) && (c.base == b))
+abbrev pub is_base_claim : ℕ → ℕ → ℕ → Claimed → Bool
+is_base_claim t g b c = (c.timer == t) && ((c.generation == g) && (c.base == b))
 
-abbrev pub held_in : ℕ → Option (Locked BaseContent) → ℕ
+abbrev pub held_in : ℕ → Option (HeldContent BaseContent) → ℕ
 held_in b None = 0
 held_in b (Some h) = one_if (h.base == b)
 
@@ -31,19 +31,19 @@ carried_in t None = 0
 carried_in t (Some c) = one_if (c == t)
 
 -- how much of each kind a pass has
-abbrev pub places_at : ℕ → ℕ → View BaseContent → ℕ
+abbrev pub places_at : ℕ → ℕ → BaseView BaseContent → ℕ
 places_at t k v = count (is_place t k) v.mine
 
-abbrev pub claims_at : ℕ → ℕ → ℕ → View BaseContent → ℕ
-claims_at t g b v = count (is_claim t g b) v.claims
+abbrev pub base_claims_at : ℕ → ℕ → ℕ → BaseView BaseContent → ℕ
+base_claims_at t g b v = count (is_base_claim t g b) v.claims
 
-abbrev pub holds_at : ℕ → View BaseContent → ℕ
+abbrev pub holds_at : ℕ → BaseView BaseContent → ℕ
 holds_at b v = held_in b v.held
 
-abbrev pub carries_at : ℕ → View BaseContent → ℕ
+abbrev pub carries_at : ℕ → BaseView BaseContent → ℕ
 carries_at t v = carried_in t v.carry
 
-abbrev pub takes_at : ℕ → ℕ → View BaseContent → ℕ
+abbrev pub takes_at : ℕ → ℕ → BaseView BaseContent → ℕ
 takes_at b k v = count (is_place b k) v.takes
 
 -- the timer's function runs in this generation
@@ -75,7 +75,7 @@ module _ (bases : ℕ) (opened : List Timer) (code : Timer → ℕ) where
   now log = system_after opened log
 
   -- what a pass holds is what the base has, by the whole history and by what the pass has seen
-  pub record HeldHolds (log : List TimerEntry) (words : List ℕ) (v : View BaseContent) (h : Locked BaseContent) : Type 0 where
+  pub record HeldHolds (log : List TimerEntry) (words : List ℕ) (v : BaseView BaseContent) (h : HeldContent BaseContent) : Type 0 where
     pub within : h.base < bases
     pub seen : h.content ≡ (now v.seen).bases h.base
     pub whole : h.content ≡ (now log).bases h.base
@@ -83,11 +83,11 @@ module _ (bases : ℕ) (opened : List Timer) (code : Timer → ℕ) where
     pub number : h.word ≡ slice_index v.met h.base
 
   -- what a pass knows is true
-  pub record PassHolds (log : List TimerEntry) (words : List ℕ) (v : View BaseContent) : Type 0 where
+  pub record PassHolds (log : List TimerEntry) (words : List ℕ) (v : BaseView BaseContent) : Type 0 where
     -- it has seen a beginning of the history
     pub seen : Begins v.seen log
     pub heard : Begins v.heard log
-    pub held : (h : Locked BaseContent) → v.held ≡ Some h → HeldHolds log words v h
+    pub held : (h : HeldContent BaseContent) → v.held ≡ Some h → HeldHolds log words v h
     -- it has seen all of the timer that it carries
     pub carry : (t : ℕ) → v.carry ≡ Some t → (now v.seen).timers t ≡ (now log).timers t
     -- the lock words that it knows are no newer than they are, and its takes no later; the last take of a held base is its holder's
@@ -99,7 +99,7 @@ module _ (bases : ℕ) (opened : List Timer) (code : Timer → ℕ) where
     pub gone : v.id.live ≡ false → (v.mine ≡ []) × ((v.claims ≡ []) × (v.takes ≡ []))
 
   -- The rule: what the table holds and what each pass knows is what one history says.
-  pub record RowHolds (log : List TimerEntry) (s : State (Option BaseContent) (View BaseContent)) : Type 0 where
+  pub record RowHolds (log : List TimerEntry) (s : State (Option BaseContent) (BaseView BaseContent)) : Type 0 where
     pub allowed : AreSystemSteps bases (length opened) (first_system opened) log
     pub words_len : length s.words ≡ word_at bases (length opened)
     pub homes_len : length s.homes ≡ bases
@@ -107,15 +107,15 @@ module _ (bases : ℕ) (opened : List Timer) (code : Timer → ℕ) where
         (total (holds_at b) s.views) (λ k. total (takes_at b k) s.views)
     -- a timer's word is that of its state after the history
     pub each_timer : (t : ℕ) → t < length opened → slice_index s.words (word_at bases t) ≡ code ((now log).timers t)
-    pub each_view : (j : ℕ) (v : View BaseContent) → get_elem? s.views j ≡ some v → PassHolds log s.words v
-    pub tree : IsPassTree (map row_pass_id s.views)
+    pub each_view : (j : ℕ) (v : BaseView BaseContent) → get_elem? s.views j ≡ some v → PassHolds log s.words v
+    pub tree : IsPassTree (map base_pass_id s.views)
     -- each entry is one pass's own, once
     pub tally : (t k : ℕ) → t < length opened → total (places_at t k) s.views ≡ one_if (within k ((now log).timers t).stamp)
     -- a function runs where one pass has the claim, once
-    pub claims : (t g b : ℕ) → t < length opened → total (claims_at t g b) s.views ≡ one_if (runs g b ((now log).timers t))
+    pub claims : (t g b : ℕ) → t < length opened → total (base_claims_at t g b) s.views ≡ one_if (runs g b ((now log).timers t))
     -- a timer is on the move where one pass carries it
     pub carriers : (t : ℕ) → t < length opened → total (carries_at t) s.views ≡ one_if ((now log).timers t).moving
 
   -- there is one history of all timers that says it all
-  abbrev pub HasOneHistory : State (Option BaseContent) (View BaseContent) → Type 0
+  abbrev pub HasOneHistory : State (Option BaseContent) (BaseView BaseContent) → Type 0
   HasOneHistory s = (log : List TimerEntry) × RowHolds log s

@@ -2,7 +2,7 @@
 ghost use Rattle.std.specs.Prelude.{◌≡◌, ◌<◌, length};
 ghost use Rattle.seq_timer.specs.Contents.{first_due};
 ghost use Rattle.seq_timer.specs.Tables.{timer_at};
-ghost use Rattle.base_row.specs.Plays.{IsResting, KnowsOwn, slots_of};
+ghost use Rattle.base_row.specs.Plays.{IsResting, KnowsOwn, carried_slots};
 
 use crate::slot::BaseSlot;
 use crate::steps::BaseSeat;
@@ -17,9 +17,9 @@ pub struct Pass {
 
 impl Model for Pass {
     ghost use Rattle.base_row.specs.Plays.{IsResting};
-    ghost use Rattle.base_row.specs.Calls.{PassOf};
+    ghost use Rattle.base_row.specs.Calls.{BasePassOf};
 
-    ghost Value = { PassOf };
+    ghost Value = { BasePassOf };
 
     ghost view = { λ p. record { row = p.seat.table_id; knows = p.seat.me.0 } };
 
@@ -29,7 +29,7 @@ impl Model for Pass {
 impl Pass {
     pub(crate) fn into_seat(self) -> BaseSeat
         ensures row { result.table_id ≡ self.row }
-        ensures knows { result.me ≡ (self.knows, slots_of self.knows.held) }
+        ensures knows { result.me ≡ (self.knows, carried_slots self.knows.held) }
         ensures resting { IsResting result.me }
     {
         let Pass { seat } = self;
@@ -54,9 +54,9 @@ pub struct HeldBase {
 impl Model for HeldBase {
     ghost use Rattle.std.specs.Prelude.{◌+◌, ◌<◌, ◌^◌};
     ghost use Rattle.seq_timer.specs.Systems.{BaseContent};
-    ghost use Rattle.base_row.specs.declared.view.Locked.{Locked};
+    ghost use Rattle.base_row.specs.declared.view.HeldContent.{HeldContent};
 
-    ghost Value = { Locked BaseContent };
+    ghost Value = { HeldContent BaseContent };
 
     ghost view = { λ h. record { base = h.base; word = h.word; content = h.slot } };
 

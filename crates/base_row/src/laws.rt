@@ -3,26 +3,26 @@ ghost use Rattle.std.specs.Prelude.{ℕ, [], ◌∷◌};
 ghost use Rattle.pass_names.specs.SharedHistory.{ExtendsBy, LooksOn, MeetWith, TakesIn};
 ghost use Rattle.seq_timer.specs.declared.event.Event.{Event};
 ghost use Rattle.seq_timer.specs.Systems.{BaseContent, entries_of};
-ghost use Rattle.base_row.specs.declared.view.Locked as locked;
+ghost use Rattle.base_row.specs.declared.view.HeldContent as locked;
 ghost use Rattle.base_row.specs.declared.view.Opening as opening;
-ghost use Rattle.base_row.specs.declared.view.View as view;
-ghost use Rattle.base_row.specs.Calls.{Absorbs, Appended, AreFresh, Hears, LetsGo, Locks, Sees, Waits, known_of, own_entry};
+ghost use Rattle.base_row.specs.declared.view.BaseView as view;
+ghost use Rattle.base_row.specs.Calls.{Absorbs, Appended, AreFresh, LearnsFrom, LetsGo, GetsBase, SeesMore, Waits, known_of, own_entry};
 
 /// Taking a base's lock, letting it go and loading a word add no entry: what was seen goes on, and name, places and claims stay.
 pub fn locks_and_loads_only_look()
-    ensures locks { (base : ℕ) (v w : view.View BaseContent) (h : locked.Locked BaseContent) → Locks base v w h → LooksOn (known_of v) (known_of w) }
-    ensures waits { (base : ℕ) (v w : view.View BaseContent) → Waits base v w → LooksOn (known_of v) (known_of w) }
-    ensures frees { (o : opening.Opening) (h : locked.Locked BaseContent) (v w : view.View BaseContent) → LetsGo o h v w → LooksOn (known_of v) (known_of w) }
-    ensures loads { (v w : view.View BaseContent) → Sees v w → LooksOn (known_of v) (known_of w) }
+    ensures locks { (base : ℕ) (v w : view.BaseView BaseContent) (h : locked.HeldContent BaseContent) → GetsBase base v w h → LooksOn (known_of v) (known_of w) }
+    ensures waits { (base : ℕ) (v w : view.BaseView BaseContent) → Waits base v w → LooksOn (known_of v) (known_of w) }
+    ensures frees { (o : opening.Opening) (h : locked.HeldContent BaseContent) (v w : view.BaseView BaseContent) → LetsGo o h v w → LooksOn (known_of v) (known_of w) }
+    ensures loads { (v w : view.BaseView BaseContent) → SeesMore v w → LooksOn (known_of v) (known_of w) }
 {}
 
 /// An entry stands right behind what its pass had seen of the timer, and its place last in mine.
 pub fn an_entry_extends_its_timer()
-    ensures { (o : opening.Opening) → AreFresh o.timers → (h : locked.Locked BaseContent) (t : ℕ) (event : Event) (v w : view.View BaseContent) → Appended o h t event v w → ExtendsBy entries_of (known_of v) (known_of w) t (own_entry o v t event ∷ []) }
+    ensures { (o : opening.Opening) → AreFresh o.timers → (h : locked.HeldContent BaseContent) (t : ℕ) (event : Event) (v w : view.BaseView BaseContent) → Appended o h t event v w → ExtendsBy entries_of (known_of v) (known_of w) t (own_entry o v t event ∷ []) }
 {}
 
 /// Passes that are taken in and meet.
 pub fn passes_tell_what_they_saw()
-    ensures retire { (v u w : view.View BaseContent) → Absorbs v u w → TakesIn (known_of v) (known_of u) (known_of w) }
-    ensures meet { (a b new_a new_b : view.View BaseContent) → Hears b a new_b → Hears a new_b new_a → MeetWith (known_of a) (known_of b) (known_of new_a) (known_of new_b) }
+    ensures retire { (v u w : view.BaseView BaseContent) → Absorbs v u w → TakesIn (known_of v) (known_of u) (known_of w) }
+    ensures meet { (a b new_a new_b : view.BaseView BaseContent) → LearnsFrom b a new_b → LearnsFrom a new_b new_a → MeetWith (known_of a) (known_of b) (known_of new_a) (known_of new_b) }
 {}

@@ -17,4 +17,4 @@ pub use held::{HeldBase, Pass};
 pub use laws::{an_entry_extends_its_timer, locks_and_loads_only_look, passes_tell_what_they_saw};
 pub use row::BaseRow;
 pub use slot::BaseSlot;
-pub use view::{Claimed, Locked, Opening, View};
+pub use view::{BaseView, Claimed, HeldContent, Opening};

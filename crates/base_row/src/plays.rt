@@ -1,24 +1,24 @@
 //! The rule of the table, and what each step on it tells.
 use crate::slot::BaseSlot;
-use crate::view::View;
+use crate::view::BaseView;
 use atomic_table::{Join, Play, Split, TableRule};
 use seq_timer::{Event, TimerState};
 use std::marker::{Brand, PhantomData};
 use std::snapshot::Snapshot;
 
-pub type Known = View<BaseSlot>;
+pub type SlotView = BaseView<BaseSlot>;
 
 pub type About = (u64, Snapshot<Vec<TimerState>>);
 
 pub struct BaseRule;
 
-impl TableRule<Option<BaseSlot>, Known, About> for BaseRule {
+impl TableRule<Option<BaseSlot>, SlotView, About> for BaseRule {
     ghost use Rattle.base_row.specs.Rules.{HasOneHistory, number_of};
-    ghost use Rattle.base_row.specs.Plays.{first_view};
+    ghost use Rattle.base_row.specs.Plays.{first_base_view};
 
     ghost holds = { λ k s. HasOneHistory k.0 k.1.value.items number_of s };
 
-    ghost first = { λ k. first_view (record { bases = k.0; timers = k.1.value.items }) };
+    ghost first = { λ k. first_base_view (record { bases = k.0; timers = k.1.value.items }) };
 }
 
 /// Which event an entry has. Each entry picks it.
@@ -39,7 +39,7 @@ pub struct Enter<K: Asked> {
     of: PhantomData<K>,
 }
 
-impl<K: Asked> Play<Option<BaseSlot>, Known> for Enter<K> {
+impl<K: Asked> Play<Option<BaseSlot>, SlotView> for Enter<K> {
     ghost use Rattle.base_row.specs.Plays.{EntersBy};
 
     ghost then = { λ st m stored w. EntersBy K.event st m w };
@@ -48,7 +48,7 @@ impl<K: Asked> Play<Option<BaseSlot>, Known> for Enter<K> {
 /// A load of word 0 or of a timer's word.
 pub struct Look;
 
-impl Play<Option<BaseSlot>, Known> for Look {
+impl Play<Option<BaseSlot>, SlotView> for Look {
     ghost use Rattle.base_row.specs.Plays.{LooksOwn};
 
     ghost then = { LooksOwn };
@@ -57,7 +57,7 @@ impl Play<Option<BaseSlot>, Known> for Look {
 /// A load of a lock word.
 pub struct Meet;
 
-impl Play<Option<BaseSlot>, Known> for Meet {
+impl Play<Option<BaseSlot>, SlotView> for Meet {
     ghost use Rattle.base_row.specs.Plays.{MeetsOwn};
 
     ghost then = { MeetsOwn };
@@ -66,7 +66,7 @@ impl Play<Option<BaseSlot>, Known> for Meet {
 /// An exchange from a free lock word.
 pub struct Take;
 
-impl Play<Option<BaseSlot>, Known> for Take {
+impl Play<Option<BaseSlot>, SlotView> for Take {
     ghost use Rattle.base_row.specs.Plays.{TakesOwn};
 
     ghost then = { TakesOwn };
@@ -75,7 +75,7 @@ impl Play<Option<BaseSlot>, Known> for Take {
 /// A store that lets a base go.
 pub struct Free;
 
-impl Play<Option<BaseSlot>, Known> for Free {
+impl Play<Option<BaseSlot>, SlotView> for Free {
     ghost use Rattle.base_row.specs.Plays.{FreesOwn};
 
     ghost then = { FreesOwn };
@@ -84,37 +84,37 @@ impl Play<Option<BaseSlot>, Known> for Free {
 /// A pass is split off, or taken in.
 pub struct Child;
 
-impl Split<Known> for Child {
-    ghost use Rattle.base_row.specs.Plays.{split_view, new_view};
+impl Split<SlotView> for Child {
+    ghost use Rattle.base_row.specs.Plays.{split_base_view, new_base_view};
 
-    ghost left = { split_view };
+    ghost left = { split_base_view };
 
-    ghost right = { new_view };
+    ghost right = { new_base_view };
 }
 
-impl Join<Known> for Child {
-    ghost use Rattle.base_row.specs.Plays.{joined_view, gone_view};
+impl Join<SlotView> for Child {
+    ghost use Rattle.base_row.specs.Plays.{joined_base_view, gone_base_view};
 
-    ghost both = { joined_view };
+    ghost both = { joined_base_view };
 
-    ghost spent = { gone_view };
+    ghost spent = { gone_base_view };
 }
 
 /// A note of what a pass has seen is made, or taken in.
 pub struct Note;
 
-impl Split<Known> for Note {
-    ghost use Rattle.base_row.specs.Plays.{note_of};
+impl Split<SlotView> for Note {
+    ghost use Rattle.base_row.specs.Plays.{base_note_of};
 
     ghost left = { λ v. v };
 
-    ghost right = { note_of };
+    ghost right = { base_note_of };
 }
 
-impl Join<Known> for Note {
-    ghost use Rattle.base_row.specs.Plays.{told_view, gone_view};
+impl Join<SlotView> for Note {
+    ghost use Rattle.base_row.specs.Plays.{told_base_view, gone_base_view};
 
-    ghost both = { told_view };
+    ghost both = { told_base_view };
 
-    ghost spent = { gone_view };
+    ghost spent = { gone_base_view };
 }

@@ -9,12 +9,12 @@ ghost use Rattle.seq_timer.specs.Tables.{IsNextDue, is_due_on, runs_on};
 ghost use Rattle.timer_word.specs.Words.{word_of};
 ghost use Rattle.seq_timer.specs.Contents.{first_due, running_on};
 ghost use Rattle.seq_timer.specs.Systems.{IsOn};
-ghost use Rattle.base_row.specs.Plays.{KnowsOwn, first_view, Lost, Caught, slots_of, split_view, new_view, Steady};
-ghost use Rattle.base_row.specs.Calls.{AreFresh, Locks, Misses, Waits, opening_of, IsPassOf, LetsGo, Sees, Absorbs, Hears, MayAppend, Appended, timer_seen, base_seen};
+ghost use Rattle.base_row.specs.Plays.{KnowsOwn, first_base_view, Lost, GotBase, carried_slots, split_base_view, new_base_view, Steady};
+ghost use Rattle.base_row.specs.Calls.{AreFresh, GetsBase, MissesBase, Waits, opening_of, IsBasePassOf, LetsGo, SeesMore, Absorbs, LearnsFrom, MayAppend, Appended, timer_seen, base_seen};
 
 use crate::held::{HeldBase, Pass};
 use crate::parts::{empty_slots, lock_index, make_timers, number_of, timer_index, zeros};
-use crate::plays::{About, BaseRule, Child, Known};
+use crate::plays::{About, BaseRule, Child, SlotView};
 use crate::slot::BaseSlot;
 use crate::slots::{attempt, put_back};
 use crate::steps::{absorb, enter, free, look, tell};
@@ -31,16 +31,16 @@ use timer_word::TimerWord;
 /// Bases and timers that many threads share.
 #[derive(Drop)]
 pub struct BaseRow {
-    table: Table<Option<BaseSlot>, Known, About, BaseRule, Global>,
+    table: Table<Option<BaseSlot>, SlotView, About, BaseRule, Global>,
     bases: usize,
 }
 
 impl Model for BaseRow {
     ghost use Rattle.std.specs.Prelude.{◌≡◌, ◌+◌, ◌<◌, ◌≤◌, length};
     ghost use Rattle.base_row.specs.Places.{word_at};
-    ghost use Rattle.base_row.specs.Calls.{RowOf, AreFresh};
+    ghost use Rattle.base_row.specs.Calls.{BaseRowOf, AreFresh};
 
-    ghost Value = { RowOf };
+    ghost Value = { BaseRowOf };
 
     ghost view = { λ r. record { id = r.table.shared.table_id; about = record { bases = r.table.shared.key.0; timers = r.table.shared.key.1.value.items } } };
 
@@ -58,9 +58,9 @@ impl BaseRow {
     ) -> Result<(BaseRow, Pass), AllocError>
         requires few { (0 < bases) × (bases ≤ 256) × (length clocks.now ≤ 65536) }
         requires limit { (0 < max_events) × (max_events ≤ greatest_limit) }
-        ensures row { IfOk result (λ r. IsPassOf r.0 r.1) }
+        ensures row { IfOk result (λ r. IsBasePassOf r.0 r.1) }
         ensures about { IfOk result (λ r. r.0.about ≡ opening_of bases clocks.now max_events) }
-        ensures first { IfOk result (λ r. r.1.knows ≡ first_view (opening_of bases clocks.now max_events)) }
+        ensures first { IfOk result (λ r. r.1.knows ≡ first_base_view (opening_of bases clocks.now max_events)) }
     {
         let timers = make_timers(alloc, clocks, max_events)?;
         BaseRow::with_timers(alloc, bases, timers)
@@ -73,9 +73,9 @@ impl BaseRow {
     ) -> Result<(BaseRow, Pass), AllocError>
         requires fresh { AreFresh timers.items }
         requires few { (0 < bases) × (bases ≤ 256) × (length timers.items ≤ 65536) }
-        ensures row { IfOk result (λ r. IsPassOf r.0 r.1) }
+        ensures row { IfOk result (λ r. IsBasePassOf r.0 r.1) }
         ensures about { IfOk result (λ r. r.0.about ≡ record { bases = bases; timers = timers.items }) }
-        ensures first { IfOk result (λ r. r.1.knows ≡ first_view (record { bases = bases; timers = timers.items })) }
+        ensures first { IfOk result (λ r. r.1.knows ≡ first_base_view (record { bases = bases; timers = timers.items })) }
     {
         let about = (u64::from(bases), Snapshot::of(&timers));
         let words = zeros(alloc, timer_index(bases as usize, timers.len()))?;
@@ -94,10 +94,10 @@ impl BaseRow {
 
     /// Adds an entry of a timer that is on the held base.
     pub fn append(&self, pass: &mut Pass, held: &mut HeldBase, timer: u32, event: Event) -> Reply
-        requires row { IsPassOf self.now pass.old }
+        requires row { IsBasePassOf self.now pass.old }
         requires may { MayAppend self.now.about pass.old.knows held.old timer event }
         requires on { IsOn held.old.base (timer_seen self.now.about pass.old.knows timer) }
-        ensures row { IsPassOf self.now pass.new }
+        ensures row { IsBasePassOf self.now pass.new }
         ensures reply { result ≡ reply_to (timer_seen self.now.about pass.old.knows timer) event }
         ensures held { pass.new.knows.held ≡ Some held.new }
         ensures adds { Appended self.now.about held.old timer event pass.old.knows pass.new.knows }
@@ -109,10 +109,10 @@ impl BaseRow {
 
     /// Takes a timer off the held base, for another base (`switch_hrtimer_base`). The pass carries it until it arrives there.
     pub fn out(&self, pass: &mut Pass, held: &mut HeldBase, timer: u32, to: u32) -> TimerState
-        requires row { IsPassOf self.now pass.old }
+        requires row { IsBasePassOf self.now pass.old }
         requires may { MayAppend self.now.about pass.old.knows held.old timer (events.Out to) }
         requires on { IsOn held.old.base (timer_seen self.now.about pass.old.knows timer) }
-        ensures row { IsPassOf self.now pass.new }
+        ensures row { IsBasePassOf self.now pass.new }
         ensures held { pass.new.knows.held ≡ Some held.new }
         ensures adds { Appended self.now.about held.old timer (events.Out to) pass.old.knows pass.new.knows }
         ensures state { result ≡ timer_seen self.now.about pass.new.knows timer }
@@ -133,11 +133,11 @@ impl BaseRow {
         state: TimerState,
         event: Event,
     ) -> Reply
-        requires row { IsPassOf self.now pass.old }
+        requires row { IsBasePassOf self.now pass.old }
         requires may { MayAppend self.now.about pass.old.knows held.old timer event }
         requires carried { pass.old.knows.carry ≡ Some timer }
         requires state { state ≡ timer_seen self.now.about pass.old.knows timer }
-        ensures row { IsPassOf self.now pass.new }
+        ensures row { IsBasePassOf self.now pass.new }
         ensures reply { result ≡ reply_to (timer_seen self.now.about pass.old.knows timer) event }
         ensures held { pass.new.knows.held ≡ Some held.new }
         ensures adds { Appended self.now.about held.old timer event pass.old.knows pass.new.knows }
@@ -156,10 +156,10 @@ impl BaseRow {
         state: TimerState,
         event: Event,
     ) -> Reply
-        requires row { IsPassOf self.now pass.old }
+        requires row { IsBasePassOf self.now pass.old }
         requires may { MayAppend self.now.about pass.old.knows held.old timer event }
         requires state { state ≡ timer_seen self.now.about pass.old.knows timer }
-        ensures row { IsPassOf self.now pass.new }
+        ensures row { IsBasePassOf self.now pass.new }
         ensures reply { result ≡ reply_to (timer_seen self.now.about pass.old.knows timer) event }
         ensures held { pass.new.knows.held ≡ Some held.new }
         ensures adds { Appended self.now.about held.old timer event pass.old.knows pass.new.knows }
@@ -179,11 +179,11 @@ impl BaseRow {
     /// Takes a base's lock if it is free: a load of the lock word and at most one exchange of it. It waits for nobody. It answers `None`
     /// only where another pass took the base in between, or where it has been taken 2^63 - 1 times and is taken no more.
     pub fn try_lock_base(&self, pass: &mut Pass, base: u32) -> Option<HeldBase>
-        requires row { IsPassOf self.now pass.old }
+        requires row { IsBasePassOf self.now pass.old }
         requires within { base < self.now.about.bases }
         requires idle { pass.old.knows.held ≡ None }
-        ensures row { IsPassOf self.now pass.new }
-        ensures taken { MatchOption result (Misses base pass.old.knows pass.new.knows) (λ h. Locks base pass.old.knows pass.new.knows h) }
+        ensures row { IsBasePassOf self.now pass.new }
+        ensures taken { MatchOption result (MissesBase base pass.old.knows pass.new.knows) (λ h. GetsBase base pass.old.knows pass.new.knows h) }
         // The last pass always gets a base that is still taken.
         ensures last { IfNone result (IsLast pass.old.knows.id → 2 ^ 64 - 2 ≤ slice_index pass.new.knows.met base) }
     {
@@ -193,11 +193,11 @@ impl BaseRow {
     }
 
     fn attempt_base(&self, pass: &mut Pass, base: u32) -> Option<HeldBase>
-        requires row { IsPassOf self.now pass.old }
+        requires row { IsBasePassOf self.now pass.old }
         requires within { base < self.now.about.bases }
         requires idle { pass.old.knows.held ≡ None }
-        ensures row { IsPassOf self.now pass.new }
-        ensures taken { MatchOption result (Lost self.now.about base (pass.old.knows, []) (pass.new.knows, [])) (λ h. Caught self.now.about base (pass.old.knows, []) (pass.new.knows, slots_of (Some h)) h) }
+        ensures row { IsBasePassOf self.now pass.new }
+        ensures taken { MatchOption result (Lost self.now.about base (pass.old.knows, []) (pass.new.knows, [])) (λ h. GotBase self.now.about base (pass.old.knows, []) (pass.new.knows, carried_slots (Some h)) h) }
     {
         let word = self.lock_word(base);
         attempt(&self.table.shared, &mut pass.seat, base, word)
@@ -205,11 +205,11 @@ impl BaseRow {
 
     /// Waits until a base's lock is free, and takes it. After 2^63 - 1 takes of the base it doesn't return.
     pub fn lock_base<R: Wait>(&self, rt: &R, pass: &mut Pass, base: u32) -> HeldBase
-        requires row { IsPassOf self.now pass.old }
+        requires row { IsBasePassOf self.now pass.old }
         requires within { base < self.now.about.bases }
         requires idle { pass.old.knows.held ≡ None }
-        ensures row { IsPassOf self.now pass.new }
-        ensures locks { Locks base pass.old.knows pass.new.knows result }
+        ensures row { IsBasePassOf self.now pass.new }
+        ensures locks { GetsBase base pass.old.knows pass.new.knows result }
     {
         let backoff = Backoff::new();
         for _ in rt.forever() {
@@ -222,21 +222,21 @@ impl BaseRow {
     }
 
     fn look_once(&self, pass: &mut Pass, base: u32) -> Option<HeldBase>
-        requires row { IsPassOf self.now pass.old }
+        requires row { IsBasePassOf self.now pass.old }
         requires within { base < self.now.about.bases }
         requires idle { pass.old.knows.held ≡ None }
-        ensures row { IsPassOf self.now pass.new }
-        ensures taken { MatchOption result (Waits base pass.old.knows pass.new.knows) (λ h. Locks base pass.old.knows pass.new.knows h) }
+        ensures row { IsBasePassOf self.now pass.new }
+        ensures taken { MatchOption result (Waits base pass.old.knows pass.new.knows) (λ h. GetsBase base pass.old.knows pass.new.knows h) }
     {
         self.try_lock_base(pass, base)
     }
 
     /// Lets a base go.
     pub fn unlock_base(&self, pass: &mut Pass, held: HeldBase)
-        requires row { IsPassOf self.now pass.old }
+        requires row { IsBasePassOf self.now pass.old }
         requires within { held.base < self.now.about.bases }
         requires held { pass.old.knows.held ≡ Some held }
-        ensures row { IsPassOf self.now pass.new }
+        ensures row { IsBasePassOf self.now pass.new }
         ensures free { LetsGo self.now.about held pass.old.knows pass.new.knows }
     {
         let HeldBase { base, word, slot } = held;
@@ -248,10 +248,10 @@ impl BaseRow {
 
     /// Loads a timer's word. It waits for nobody.
     pub fn load_word(&self, pass: &mut Pass, timer: u32) -> TimerWord
-        requires row { IsPassOf self.now pass.old }
+        requires row { IsBasePassOf self.now pass.old }
         requires within { timer < length self.now.about.timers }
-        ensures row { IsPassOf self.now pass.new }
-        ensures sees { Sees pass.old.knows pass.new.knows }
+        ensures row { IsBasePassOf self.now pass.new }
+        ensures sees { SeesMore pass.old.knows pass.new.knows }
         ensures steady { Steady pass.old.knows pass.new.knows }
         ensures word { result ≡ word_of (timer_seen self.now.about pass.new.knows timer) }
         ensures placed { result.base < self.now.about.bases }
@@ -266,10 +266,10 @@ impl BaseRow {
     }
 
     fn load_number(&self, pass: &mut Pass, timer: u32) -> u64
-        requires row { IsPassOf self.now pass.old }
+        requires row { IsBasePassOf self.now pass.old }
         requires within { timer < length self.now.about.timers }
-        ensures row { IsPassOf self.now pass.new }
-        ensures sees { Sees pass.old.knows pass.new.knows }
+        ensures row { IsBasePassOf self.now pass.new }
+        ensures sees { SeesMore pass.old.knows pass.new.knows }
         ensures steady { Steady pass.old.knows pass.new.knows }
         ensures word { result ≡ number_of (timer_seen self.now.about pass.new.knows timer) }
     {
@@ -279,7 +279,7 @@ impl BaseRow {
 
     /// The timer whose function runs on a held base, with its generation.
     pub fn running(&self, pass: &Pass, held: &HeldBase) -> Option<(u32, u64)>
-        requires row { IsPassOf self.now pass.now }
+        requires row { IsBasePassOf self.now pass.now }
         requires held { pass.now.knows.held ≡ Some held.now }
         ensures running { result ≡ held.now.content.content.running }
         ensures busy { IfSome result (λ m. running_on held.now.base (timer_seen self.now.about pass.now.knows m.0) ≡ Some m.1) }
@@ -292,7 +292,7 @@ impl BaseRow {
 
     /// The timer that is the next to expire on a held base at this reading, with its expiry.
     pub fn first(&self, pass: &Pass, held: &HeldBase, reading: Reading) -> Option<(u64, u32)>
-        requires row { IsPassOf self.now pass.now }
+        requires row { IsBasePassOf self.now pass.now }
         requires held { pass.now.knows.held ≡ Some held.now }
         ensures first { result ≡ first_due held.now.content.content reading }
         ensures next { IfSome result (λ p. IsNextDue (timer_seen self.now.about pass.now.knows) held.now.base reading p.1) }
@@ -308,10 +308,10 @@ impl BaseRow {
 
     /// Makes one more pass, which has seen and met as much.
     pub fn split(&self, pass: &mut Pass) -> Pass
-        requires row { IsPassOf self.now pass.old }
-        ensures row { IsPassOf self.now pass.new × IsPassOf self.now result }
-        ensures splitter { pass.new.knows ≡ split_view pass.old.knows }
-        ensures new { result.knows ≡ new_view pass.old.knows }
+        requires row { IsBasePassOf self.now pass.old }
+        ensures row { IsBasePassOf self.now pass.new × IsBasePassOf self.now result }
+        ensures splitter { pass.new.knows ≡ split_base_view pass.old.knows }
+        ensures new { result.knows ≡ new_base_view pass.old.knows }
     {
         Pass {
             seat: self.table.shared.split_seat::<Child>(&mut pass.seat),
@@ -320,10 +320,10 @@ impl BaseRow {
 
     /// A pass takes in another, which was split off it, or off one that it took in.
     pub fn retire(&self, main: &mut Pass, other: Pass)
-        requires row { IsPassOf self.now main.old × IsPassOf self.now other }
+        requires row { IsBasePassOf self.now main.old × IsBasePassOf self.now other }
         requires idle { (main.old.knows.held ≡ None) × (other.knows.held ≡ None) × (other.knows.carry ≡ None) }
         requires answers { AnswersFor main.old.knows.id other.knows.id }
-        ensures row { IsPassOf self.now main.new }
+        ensures row { IsBasePassOf self.now main.new }
         ensures retires { Absorbs main.old.knows other.knows main.new.knows }
     {
         absorb(&self.table.shared, &mut main.seat, other.into_seat());
@@ -331,10 +331,10 @@ impl BaseRow {
 
     /// Two passes tell each other what they have seen and met.
     pub fn meet(&self, a: &mut Pass, b: &mut Pass)
-        requires row { IsPassOf self.now a.old × IsPassOf self.now b.old }
-        ensures row { IsPassOf self.now a.new × IsPassOf self.now b.new }
-        ensures second { Hears b.old.knows a.old.knows b.new.knows }
-        ensures first { Hears a.old.knows b.new.knows a.new.knows }
+        requires row { IsBasePassOf self.now a.old × IsBasePassOf self.now b.old }
+        ensures row { IsBasePassOf self.now a.new × IsBasePassOf self.now b.new }
+        ensures second { LearnsFrom b.old.knows a.old.knows b.new.knows }
+        ensures first { LearnsFrom a.old.knows b.new.knows a.new.knows }
     {
         let cells = &self.table.shared;
         tell(cells, &mut a.seat, &mut b.seat);
@@ -343,7 +343,7 @@ impl BaseRow {
 
     /// Ends a row with its last pass, which has no claims. The pass has made all entries and takes.
     pub fn close(self, pass: Pass)
-        requires row { IsPassOf self pass }
+        requires row { IsBasePassOf self pass }
         requires last { IsLast pass.knows.id }
         requires idle { pass.knows.held ≡ None }
         requires unclaimed { pass.knows.claims ≡ [] }
@@ -356,7 +356,7 @@ impl BaseRow {
 
     /// The state that a held base keeps of a timer: the timer's, where it says that the timer is on the base.
     pub fn state(&self, pass: &Pass, held: &HeldBase, timer: u32) -> TimerState
-        requires row { IsPassOf self.now pass.now }
+        requires row { IsBasePassOf self.now pass.now }
         requires held { pass.now.knows.held ≡ Some held.now }
         requires within { timer < length self.now.about.timers }
         ensures shown { IsOn held.now.base result → timer_seen self.now.about pass.now.knows timer ≡ result }

@@ -1,18 +1,18 @@
 //! Getting a base out of its slot, and putting it back.
 ghost use Rattle.base_row.specs.Places.{lock_at};
 ghost use Rattle.std.specs.Prelude.{◌≡◌, ◌+◌, ◌-◌, ◌^◌, ◌%◌, ◌<◌, true, None, Some, [], ◌∷◌, slice_index, MatchOption};
-ghost use Rattle.base_row.specs.Plays.{Caught, Lost};
+ghost use Rattle.base_row.specs.Plays.{GotBase, Lost};
 ghost use Rattle.seq_timer.specs.Systems.{BaseContent};
 
 use crate::held::HeldBase;
 use crate::slot::BaseSlot;
-use crate::steps::{BaseSeat, Cells, meet_lock, take};
+use crate::steps::{BaseCells, BaseSeat, meet_lock, take};
 
 /// The word at which a base is taken no more.
 const LAST: u64 = u64::MAX - 1;
 
 /// Takes the base out of the slot that the seat carries.
-pub fn take_out(cells: &Cells, seat: &mut BaseSeat, base: u32) -> BaseSlot
+pub fn take_out(cells: &BaseCells, seat: &mut BaseSeat, base: u32) -> BaseSlot
     requires same { seat.old.table_id ≡ cells.now.table_id }
     requires full { (x : BaseContent) × (seat.old.me.1 ≡ (base, Some x) ∷ []) }
     ensures same { seat.new.table_id ≡ seat.old.table_id }
@@ -26,7 +26,7 @@ pub fn take_out(cells: &Cells, seat: &mut BaseSeat, base: u32) -> BaseSlot
 }
 
 /// Puts a base into the slot that the seat carries.
-pub fn put_back(cells: &Cells, seat: &mut BaseSeat, base: u32, slot: BaseSlot)
+pub fn put_back(cells: &BaseCells, seat: &mut BaseSeat, base: u32, slot: BaseSlot)
     requires same { seat.old.table_id ≡ cells.now.table_id }
     requires empty { seat.old.me.1 ≡ (base, None) ∷ [] }
     ensures same { seat.new.table_id ≡ seat.old.table_id }
@@ -37,7 +37,7 @@ pub fn put_back(cells: &Cells, seat: &mut BaseSeat, base: u32, slot: BaseSlot)
 
 /// Takes a lock whose word was met to be `first`, if it still is.
 fn take_free(
-    cells: &Cells,
+    cells: &BaseCells,
     seat: &mut BaseSeat,
     base: u32,
     word: usize,
@@ -50,7 +50,7 @@ fn take_free(
     requires idle { (seat.old.me.0.held ≡ None) × (seat.old.me.1 ≡ []) }
     requires known { (slice_index seat.old.me.0.met base ≡ first) × (first % 2 ≡ 0) × (first < 2 ^ 64 - 2) }
     ensures same { seat.new.table_id ≡ seat.old.table_id }
-    ensures taken { MatchOption result (Lost seat.old.me.0.opening base seat.old.me seat.new.me) (λ h. Caught seat.old.me.0.opening base seat.old.me seat.new.me h) }
+    ensures taken { MatchOption result (Lost seat.old.me.0.opening base seat.old.me seat.new.me) (λ h. GotBase seat.old.me.0.opening base seat.old.me seat.new.me h) }
 {
     if take(cells, seat, base, word, first) {
         let slot = take_out(cells, seat, base);
@@ -65,14 +65,14 @@ fn take_free(
 }
 
 /// Looks at a lock, and takes it if it is free.
-pub fn attempt(cells: &Cells, seat: &mut BaseSeat, base: u32, word: usize) -> Option<HeldBase>
+pub fn attempt(cells: &BaseCells, seat: &mut BaseSeat, base: u32, word: usize) -> Option<HeldBase>
     requires same { seat.old.table_id ≡ cells.now.table_id }
     requires about { seat.old.me.0.opening ≡ record { bases = cells.now.key.0; timers = cells.now.key.1.value.items } }
     requires word { (word ≡ lock_at base) × (word < cells.now.table_id.words) × (base < cells.now.key.0) }
     requires live { seat.old.me.0.id.live ≡ true }
     requires idle { (seat.old.me.0.held ≡ None) × (seat.old.me.1 ≡ []) }
     ensures same { seat.new.table_id ≡ seat.old.table_id }
-    ensures taken { MatchOption result (Lost seat.old.me.0.opening base seat.old.me seat.new.me) (λ h. Caught seat.old.me.0.opening base seat.old.me seat.new.me h) }
+    ensures taken { MatchOption result (Lost seat.old.me.0.opening base seat.old.me seat.new.me) (λ h. GotBase seat.old.me.0.opening base seat.old.me seat.new.me h) }
 {
     let first = meet_lock(cells, seat, base, word);
     if first % 2 == 0 && first < LAST {

@@ -7,22 +7,22 @@ ghost use Rattle.pass_names.specs.Names.{AnswersFor};
 ghost use Rattle.seq_timer.specs.Steps.{after};
 ghost use Rattle.base_row.specs.Rules.{number_of};
 ghost use Rattle.seq_timer.specs.Systems.{BaseContent};
-ghost use Rattle.base_row.specs.declared.view.Locked.{Locked};
-ghost use Rattle.base_row.specs.Plays.{MayEnter, OwnNeeds, EntersAs, Met, Hit, Miss, LooksOwn, FreesOwn, Knows, entry_of, seen_timer};
-ghost use Rattle.base_row.specs.Calls.{Hears, Absorbs};
+ghost use Rattle.base_row.specs.declared.view.HeldContent.{HeldContent};
+ghost use Rattle.base_row.specs.Plays.{MayEnter, OwnNeeds, EntersAs, Met, TookBase, FoundTaken, LooksOwn, FreesOwn, KnowsBases, entry_of_event, seen_timer};
+ghost use Rattle.base_row.specs.Calls.{LearnsFrom, Absorbs};
 
-use crate::plays::{About, Asked, BaseRule, Child, Enter, Free, Known, Look, Meet, Note, Take};
+use crate::plays::{About, Asked, BaseRule, Child, Enter, Free, Look, Meet, Note, SlotView, Take};
 use crate::slot::BaseSlot;
 use atomic_table::{Seat, Shared};
 use seq_timer::Event;
 
-pub type Cells = Shared<Option<BaseSlot>, Known, About, BaseRule>;
+pub type BaseCells = Shared<Option<BaseSlot>, SlotView, About, BaseRule>;
 
-pub type BaseSeat = Seat<Option<BaseSlot>, Known>;
+pub type BaseSeat = Seat<Option<BaseSlot>, SlotView>;
 
 /// Stores a timer's new word, which adds one entry.
 pub fn enter<K: Asked>(
-    cells: &Cells,
+    cells: &BaseCells,
     seat: &mut BaseSeat,
     word: usize,
     timer: u32,
@@ -34,17 +34,17 @@ pub fn enter<K: Asked>(
     requires word { (word ≡ word_at cells.now.key.0 timer) × (word < cells.now.table_id.words) }
     requires live { seat.old.me.0.id.live ≡ true }
     requires asked { K.event ≡ event.now }
-    requires may { (h : Locked BaseContent) × MayEnter cells.now.key.0 cells.now.key.1.value.items number_of seat.old.me.0 h (entry_of cells.now.key.0 cells.now.key.1.value.items number_of seat.old.me.0 timer event.now) }
+    requires may { (h : HeldContent BaseContent) × MayEnter cells.now.key.0 cells.now.key.1.value.items number_of seat.old.me.0 h (entry_of_event cells.now.key.0 cells.now.key.1.value.items number_of seat.old.me.0 timer event.now) }
     requires own { OwnNeeds seat.old.me.0 timer (seen_timer cells.now.key.0 cells.now.key.1.value.items number_of seat.old.me.0 timer) event.now }
     requires stamp { stamp ≡ number_of (after (seen_timer cells.now.key.0 cells.now.key.1.value.items number_of seat.old.me.0 timer) event.now) }
     ensures same { seat.new.table_id ≡ seat.old.table_id }
-    ensures entered { (h : Locked BaseContent) → seat.old.me.0.held ≡ Some h → EntersAs cells.now.key.0 cells.now.key.1.value.items number_of h timer event.now seat.old.me seat.new.me }
+    ensures entered { (h : HeldContent BaseContent) → seat.old.me.0.held ≡ Some h → EntersAs cells.now.key.0 cells.now.key.1.value.items number_of h timer event.now seat.old.me seat.new.me }
 {
     cells.store::<Enter<K>>(seat, word, stamp)
 }
 
 /// Loads a timer's word, or word 0. The seat has then seen the whole history so far.
-pub fn look(cells: &Cells, seat: &mut BaseSeat, word: usize) -> u64
+pub fn look(cells: &BaseCells, seat: &mut BaseSeat, word: usize) -> u64
     requires same { seat.old.table_id ≡ cells.now.table_id }
     requires about { seat.old.me.0.opening ≡ record { bases = cells.now.key.0; timers = cells.now.key.1.value.items } }
     requires word { word < cells.now.table_id.words }
@@ -56,7 +56,7 @@ pub fn look(cells: &Cells, seat: &mut BaseSeat, word: usize) -> u64
 }
 
 /// Loads a base's lock word.
-pub fn meet_lock(cells: &Cells, seat: &mut BaseSeat, base: u32, word: usize) -> u64
+pub fn meet_lock(cells: &BaseCells, seat: &mut BaseSeat, base: u32, word: usize) -> u64
     requires same { seat.old.table_id ≡ cells.now.table_id }
     requires about { seat.old.me.0.opening ≡ record { bases = cells.now.key.0; timers = cells.now.key.1.value.items } }
     requires word { (word ≡ lock_at base) × (word < cells.now.table_id.words) × (base < cells.now.key.0) }
@@ -69,7 +69,7 @@ pub fn meet_lock(cells: &Cells, seat: &mut BaseSeat, base: u32, word: usize) -> 
 }
 
 /// Takes a base's lock, if its word still is as it was met.
-pub fn take(cells: &Cells, seat: &mut BaseSeat, base: u32, word: usize, first: u64) -> bool
+pub fn take(cells: &BaseCells, seat: &mut BaseSeat, base: u32, word: usize, first: u64) -> bool
     requires same { seat.old.table_id ≡ cells.now.table_id }
     requires about { seat.old.me.0.opening ≡ record { bases = cells.now.key.0; timers = cells.now.key.1.value.items } }
     requires word { (word ≡ lock_at base) × (word < cells.now.table_id.words) × (base < cells.now.key.0) }
@@ -78,18 +78,18 @@ pub fn take(cells: &Cells, seat: &mut BaseSeat, base: u32, word: usize, first: u
     requires known { (slice_index seat.old.me.0.met base ≡ first) × (first % 2 ≡ 0) × (first < 2 ^ 64 - 2) }
     ensures same { seat.new.table_id ≡ seat.old.table_id }
     ensures took { MatchBool result
-        ((k : ℕ) × (first + 2 ≡ k + k) × Hit cells.now.key.0 cells.now.key.1.value.items number_of base k (first + 1) seat.old.me seat.new.me)
-        ((found : ℕ) × Miss cells.now.key.0 cells.now.key.1.value.items number_of base first seat.old.me found seat.new.me) }
+        ((k : ℕ) × (first + 2 ≡ k + k) × TookBase cells.now.key.0 cells.now.key.1.value.items number_of base k (first + 1) seat.old.me seat.new.me)
+        ((found : ℕ) × FoundTaken cells.now.key.0 cells.now.key.1.value.items number_of base first seat.old.me found seat.new.me) }
 {
     cells.compare_exchange::<Take>(seat, word, first, first + 1) == first
 }
 
 /// Lets a base go, whose content is back in the slot that the seat carries.
-pub fn free(cells: &Cells, seat: &mut BaseSeat, word: usize, stored: u64)
+pub fn free(cells: &BaseCells, seat: &mut BaseSeat, word: usize, stored: u64)
     requires same { seat.old.table_id ≡ cells.now.table_id }
     requires about { seat.old.me.0.opening ≡ record { bases = cells.now.key.0; timers = cells.now.key.1.value.items } }
     requires live { seat.old.me.0.id.live ≡ true }
-    requires held { (h : Locked BaseContent) × (seat.old.me.0.held ≡ Some h) × (seat.old.me.1 ≡ (h.base, Some h.content) ∷ []) × (word ≡ lock_at h.base) × (word < cells.now.table_id.words) × (stored ≡ slice_index seat.old.me.0.met h.base + 1) }
+    requires held { (h : HeldContent BaseContent) × (seat.old.me.0.held ≡ Some h) × (seat.old.me.1 ≡ (h.base, Some h.content) ∷ []) × (word ≡ lock_at h.base) × (word < cells.now.table_id.words) × (stored ≡ slice_index seat.old.me.0.met h.base + 1) }
     ensures same { seat.new.table_id ≡ seat.old.table_id }
     ensures freed { FreesOwn (step cells.now.table_id.slots word stored 0 none) seat.old.me stored seat.new.me }
 {
@@ -97,7 +97,7 @@ pub fn free(cells: &Cells, seat: &mut BaseSeat, word: usize, stored: u64)
 }
 
 /// Tells a seat all that another has seen and met.
-pub fn tell(cells: &Cells, from: &mut BaseSeat, to: &mut BaseSeat)
+pub fn tell(cells: &BaseCells, from: &mut BaseSeat, to: &mut BaseSeat)
     requires same { (from.old.table_id ≡ cells.now.table_id) × (to.old.table_id ≡ cells.now.table_id) }
     requires about { to.old.me.0.opening ≡ record { bases = cells.now.key.0; timers = cells.now.key.1.value.items } }
     requires words { 0 < cells.now.table_id.words }
@@ -105,8 +105,8 @@ pub fn tell(cells: &Cells, from: &mut BaseSeat, to: &mut BaseSeat)
     ensures same { (from.new.table_id ≡ from.old.table_id) × (to.new.table_id ≡ to.old.table_id) }
     ensures from { from.new.me ≡ from.old.me }
     ensures to { to.new.me.1 ≡ to.old.me.1 }
-    ensures hears { Hears to.old.me.0 from.old.me.0 to.new.me.0 }
-    ensures knows { Knows cells.now.key.0 cells.now.key.1.value.items number_of to.new.me.0 }
+    ensures hears { LearnsFrom to.old.me.0 from.old.me.0 to.new.me.0 }
+    ensures knows { KnowsBases cells.now.key.0 cells.now.key.1.value.items number_of to.new.me.0 }
 {
     let note = cells.split_seat::<Note>(from);
     cells.join_seat::<Note>(to, note);
@@ -114,7 +114,7 @@ pub fn tell(cells: &Cells, from: &mut BaseSeat, to: &mut BaseSeat)
 }
 
 /// Takes in a pass's seat, and sees the whole history so far.
-pub fn absorb(cells: &Cells, main: &mut BaseSeat, other: BaseSeat)
+pub fn absorb(cells: &BaseCells, main: &mut BaseSeat, other: BaseSeat)
     requires same { (main.old.table_id ≡ cells.now.table_id) × (other.table_id ≡ cells.now.table_id) }
     requires about { main.old.me.0.opening ≡ record { bases = cells.now.key.0; timers = cells.now.key.1.value.items } }
     requires words { 0 < cells.now.table_id.words }
@@ -124,7 +124,7 @@ pub fn absorb(cells: &Cells, main: &mut BaseSeat, other: BaseSeat)
     ensures same { main.new.table_id ≡ main.old.table_id }
     ensures slots { main.new.me.1 ≡ main.old.me.1 }
     ensures retires { Absorbs main.old.me.0 other.me.0 main.new.me.0 }
-    ensures knows { Knows cells.now.key.0 cells.now.key.1.value.items number_of main.new.me.0 }
+    ensures knows { KnowsBases cells.now.key.0 cells.now.key.1.value.items number_of main.new.me.0 }
 {
     cells.join_seat::<Child>(main, other);
     look(cells, main, 0);

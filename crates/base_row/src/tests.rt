@@ -1,7 +1,7 @@
 //! Rows as callers use them: by one pass, by two, and by two threads.
 ghost use Rattle.std.specs.Prelude.{◌≡◌, IfOk, [], length};
 ghost use Rattle.pass_names.specs.Names.{IsLast};
-ghost use Rattle.base_row.specs.Calls.{IsPassOf};
+ghost use Rattle.base_row.specs.Calls.{IsBasePassOf};
 ghost use Rattle.base_row.specs.Rests.{Rests};
 
 mod callers;
@@ -28,7 +28,7 @@ fn reading() -> Reading {
 
 /// Two bases and three timers, one on each clock.
 fn three_timers(alloc: Global) -> Result<(BaseRow, Pass), AllocError>
-    ensures row { IfOk result (λ r. IsPassOf r.0 r.1 × Rests r.1.knows × IsLast r.1.knows.id × (r.1.knows.claims ≡ [])) }
+    ensures row { IfOk result (λ r. IsBasePassOf r.0 r.1 × Rests r.1.knows × IsLast r.1.knows.id × (r.1.knows.claims ≡ [])) }
     ensures size { IfOk result (λ r. (length r.0.about.timers ≡ 3) × (r.0.about.bases ≡ 2)) }
 {
     let clocks = [ClockId::Monotonic, ClockId::Realtime, ClockId::Boottime];

@@ -11,7 +11,7 @@ pub struct Claimed {
 }
 
 /// A base whose lock is held, with what it has. No value of it is made.
-pub struct Locked<B> {
+pub struct HeldContent<B> {
     pub base: u64,
     /// The base's lock word while it is held.
     pub word: u64,
@@ -25,7 +25,7 @@ pub struct Opening {
 }
 
 /// What a pass knows. No value of it is made.
-pub struct View<B> {
+pub struct BaseView<B> {
     pub id: PassId,
     pub opening: Opening,
     /// The beginning of the history of all timers that was seen.
@@ -35,7 +35,7 @@ pub struct View<B> {
     /// The places of the pass's own entries: a timer, and the entry's number among the timer's.
     pub mine: LinkedList<(u64, u64)>,
     pub claims: LinkedList<Claimed>,
-    pub held: Option<Locked<B>>,
+    pub held: Option<HeldContent<B>>,
     pub carry: Option<u64>,
     /// The pass's own takes: a base, and the take's number.
     pub takes: LinkedList<(u64, u64)>,

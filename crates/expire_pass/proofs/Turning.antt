@@ -11,7 +11,7 @@ use Rattle.pass_names.proofs.Counts.{total-append}
 use Rattle.pass_names.proofs.Passes.{begins_more, begins_refl, begins_trans}
 use Rattle.base_row.specs.declared.view.Claimed.{Claimed}
 use Rattle.base_row.specs.declared.view.Opening.{Opening}
-use Rattle.base_row.specs.Rules.{is_claim}
+use Rattle.base_row.specs.Rules.{is_base_claim}
 use Rattle.hr_timers.specs.declared.numbers.ClaimNumbers.{ClaimNumbers}
 use Rattle.hr_timers.specs.declared.answer.ClaimAnswer.TheVariants as claimings
 use Rattle.timer_core.specs.declared.answer.Finished.{Finished}
@@ -32,7 +32,7 @@ use Rattle.expire_pass.specs.Expiring.{Ran, claim_receipt, finish_receipt}
 abbrev place_of : ClaimNumbers → Claimed
 place_of c = record { timer = c.timer; generation = c.generation; base = c.base }
 
-is_own : (c : ClaimNumbers) → is_claim c.timer c.generation c.base (place_of c) ≡ true
+is_own : (c : ClaimNumbers) → is_base_claim c.timer c.generation c.base (place_of c) ≡ true
 is_own c = and_from (c.timer == c.timer) _ (eq-eqb c.timer c.timer refl)
     (and_from (c.generation == c.generation) (c.base == c.base) (eq-eqb c.generation c.generation refl) (eq-eqb c.base c.base refl))
 
@@ -42,9 +42,9 @@ has_claim o v w base reading c r = record {
   within = r.within;
   stands = omega (
     arith,
-    ap (count (is_claim c.timer c.generation c.base)) r.claims,
+    ap (count (is_base_claim c.timer c.generation c.base)) r.claims,
     total-append
-        (λ (d : Claimed). one_if (is_claim c.timer c.generation c.base d)) v.claims (place_of c ∷ []),
+        (λ (d : Claimed). one_if (is_base_claim c.timer c.generation c.base d)) v.claims (place_of c ∷ []),
     ap one_if (is_own c),
   );
 }
@@ -77,8 +77,8 @@ turn_keeps m o base reading k h log k' h' log' c claimed next ran =
     let f = ran.finishes in
     record {
       id = f.made.id ∙ (ran.keeps.id ∙ next.made.id);
-      claims = f.claims ∙ (ap (without_first (is_claim c.timer c.generation c.base)) (ran.keeps.claims ∙ next.claims) ∙ taken_off
-          (is_claim c.timer c.generation c.base) k.claims (place_of c) next.fresh (is_own c));
+      claims = f.claims ∙ (ap (without_first (is_base_claim c.timer c.generation c.base)) (ran.keeps.claims ∙ next.claims) ∙ taken_off
+          (is_base_claim c.timer c.generation c.base) k.claims (place_of c) next.fresh (is_own c));
       seen = begins_trans next.made.from (begins_trans next.made.seen (begins_trans ran.keeps.seen (begins_trans f.made.from f.made.seen)));
       mine = begins_trans (mine_begins k claimed c.timer next.at _ next.made) (begins_trans ran.keeps.mine (mine_begins ran.done k' c.timer f.at _ f.made));
     }

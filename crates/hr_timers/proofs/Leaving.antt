@@ -5,17 +5,17 @@ use Rattle.std.proofs.lemmas.Bool.Decides.{nat_tests}
 use Rattle.ktime.specs.Readings.{ClockReading}
 use Rattle.seq_timer.specs.Tables.{is_due_on, runs_on}
 use Rattle.seq_timer.specs.Contents.{IsContentOf, first_due, generation_in, running_on}
-use Rattle.base_row.specs.declared.view.Locked.{Locked}
+use Rattle.base_row.specs.declared.view.HeldContent.{HeldContent}
 use Rattle.base_row.specs.declared.view.Opening.{Opening}
-use Rattle.base_row.specs.declared.view.View.{View}
+use Rattle.base_row.specs.declared.view.BaseView.{BaseView}
 use Rattle.seq_timer.specs.Systems.{BaseContent}
 use Rattle.base_row.specs.Rules.{number_of}
-use Rattle.base_row.specs.Plays.{Knows}
+use Rattle.base_row.specs.Plays.{KnowsBases}
 use Rattle.base_row.specs.Calls.{AreFresh, LetsGo, timer_seen}
 use Rattle.seq_timer.proofs.Agreement.{agrees}
 use Rattle.seq_timer.proofs.Due.{first_due-none}
 
-module _ (o : Opening) (h : Locked BaseContent) (v w : View BaseContent) (fresh : AreFresh o.timers) (knows : Knows o.bases o.timers number_of w)
+module _ (o : Opening) (h : HeldContent BaseContent) (v w : BaseView BaseContent) (fresh : AreFresh o.timers) (knows : KnowsBases o.bases o.timers number_of w)
     (free : LetsGo o h v w) where
   content : IsContentOf (timer_seen o w) h.base h.content.content
   content = subst (λ (b : BaseContent). IsContentOf (timer_seen o w) h.base b.content) free.content

@@ -10,9 +10,9 @@ use Rattle.seq_timer.specs.declared.system.TimerEntry.{TimerEntry}
 use Rattle.seq_timer.specs.Histories as seq
 use Rattle.seq_timer.specs.Steps.{Timer, after}
 use Rattle.seq_timer.specs.Systems.{BaseContent, IsOn, changed, entries_of}
-use Rattle.base_row.specs.declared.view.Locked.{Locked}
+use Rattle.base_row.specs.declared.view.HeldContent.{HeldContent}
 use Rattle.base_row.specs.declared.view.Opening.{Opening}
-use Rattle.base_row.specs.declared.view.View.{View}
+use Rattle.base_row.specs.declared.view.BaseView.{BaseView}
 use Rattle.base_row.specs.Calls as rows
 use Rattle.base_row.proofs.Calling.{extends_appended, looks_freed, seen_after}
 use Rattle.hr_timers.specs.Known.{Extends, Known, Looks, Made}
@@ -20,38 +20,38 @@ use Rattle.hr_timers.specs.Calls.{entry_by}
 
 -- ---- looks
 
-pub looks_refl : (v : View BaseContent) → Looks v v
+pub looks_refl : (v : BaseView BaseContent) → Looks v v
 looks_refl v = record { seen = begins_refl v.seen; mine = refl; id = refl; claims = refl; carry = refl }
 
-pub looks_trans : (u v w : View BaseContent) → Looks u v → Looks v w → Looks u w
+pub looks_trans : (u v w : BaseView BaseContent) → Looks u v → Looks v w → Looks u w
 looks_trans u v w a b =
     record { seen = begins_trans a.seen b.seen; mine = b.mine ∙ a.mine; id = b.id ∙ a.id; claims = b.claims ∙ a.claims; carry = b.carry ∙ a.carry }
 
-pub looks_seen : (v w : View BaseContent) → rows.Sees v w → Looks v w
+pub looks_seen : (v w : BaseView BaseContent) → rows.SeesMore v w → Looks v w
 looks_seen v w s = record {
   seen = s.seen;
-  mine = ap (λ (y : View BaseContent). y.mine) s.rest;
-  id = ap (λ (y : View BaseContent). y.id) s.rest;
-  claims = ap (λ (y : View BaseContent). y.claims) s.rest;
-  carry = ap (λ (y : View BaseContent). y.carry) s.rest;
+  mine = ap (λ (y : BaseView BaseContent). y.mine) s.rest;
+  id = ap (λ (y : BaseView BaseContent). y.id) s.rest;
+  claims = ap (λ (y : BaseView BaseContent). y.claims) s.rest;
+  carry = ap (λ (y : BaseView BaseContent). y.carry) s.rest;
 }
 
-pub looks_locked : (base : ℕ) (v w : View BaseContent) (h : Locked BaseContent) → rows.Locks base v w h → Looks v w
+pub looks_locked : (base : ℕ) (v w : BaseView BaseContent) (h : HeldContent BaseContent) → rows.GetsBase base v w h → Looks v w
 looks_locked base v w h l = record {
   seen = l.seen;
-  mine = ap (λ (y : View BaseContent). y.mine) l.rest;
-  id = ap (λ (y : View BaseContent). y.id) l.rest;
-  claims = ap (λ (y : View BaseContent). y.claims) l.rest;
-  carry = ap (λ (y : View BaseContent). y.carry) l.rest;
+  mine = ap (λ (y : BaseView BaseContent). y.mine) l.rest;
+  id = ap (λ (y : BaseView BaseContent). y.id) l.rest;
+  claims = ap (λ (y : BaseView BaseContent). y.claims) l.rest;
+  carry = ap (λ (y : BaseView BaseContent). y.carry) l.rest;
 }
 
-pub looks_on : (v w : View BaseContent) → Looks v w → LooksOn (rows.known_of v) (rows.known_of w)
+pub looks_on : (v w : BaseView BaseContent) → Looks v w → LooksOn (rows.known_of v) (rows.known_of w)
 looks_on v w l = record { seen = l.seen; mine = l.mine; id = l.id; claims = l.claims }
 
 -- ---- entries
 
 -- looks, and then entries behind what was seen of the timer
-pub made_then : (u v w : View BaseContent) (t : ℕ) (es : List seq.Entry) → Looks u v → Extends v w t es
+pub made_then : (u v w : BaseView BaseContent) (t : ℕ) (es : List seq.Entry) → Looks u v → Extends v w t es
     → Made (rows.known_of u) (rows.known_of w) t v.seen es
 made_then u v w t es first adds = record {
   from = first.seen;
@@ -62,7 +62,7 @@ made_then u v w t es first adds = record {
 }
 
 -- looks before a call
-pub made_before : (u v : View BaseContent) (w : Known) (t : ℕ) (x : List TimerEntry) (es : List seq.Entry) → Looks u v
+pub made_before : (u v : BaseView BaseContent) (w : Known) (t : ℕ) (x : List TimerEntry) (es : List seq.Entry) → Looks u v
     → Made (rows.known_of v) w t x es → Made (rows.known_of u) w t x es
 made_before u v w t x es first made = record {
   from = begins_trans first.seen made.from;
@@ -72,17 +72,17 @@ made_before u v w t x es first made = record {
   id = made.id ∙ first.id;
 }
 
-same_place : (h g : Locked BaseContent) → Some h ≡ Some g → h.base ≡ g.base
-same_place h g e = let t : h ≡ g = cc in ap (λ (x : Locked BaseContent). x.base) t
+same_place : (h g : HeldContent BaseContent) → Some h ≡ Some g → h.base ≡ g.base
+same_place h g e = let t : h ≡ g = cc in ap (λ (x : HeldContent BaseContent). x.base) t
 
 -- an entry that leaves its timer on the held base, which is then let go
-pub extends_freed : (o : Opening) → rows.AreFresh o.timers → (h g : Locked BaseContent) (t : ℕ) (event : Event) (v w x : View BaseContent)
+pub extends_freed : (o : Opening) → rows.AreFresh o.timers → (h g : HeldContent BaseContent) (t : ℕ) (event : Event) (v w x : BaseView BaseContent)
     → t < length o.timers → rows.Appended o h t event v w → w.held ≡ Some g
     → IsOn h.base (after (rows.timer_seen o v t) event) → rows.LetsGo o g w x → Extends v x t (entry_by (rows.timer_seen o v t) event ∷ [])
 extends_freed o fresh h g t event v w x inside told held on free =
     let here : h.base ≡ g.base = same_place
     (record { base = h.base; word = h.word; content = changed t (rows.timer_seen o v t) event h.content }) g
-    (sym (ap (λ (y : View BaseContent). y.held) told.rest) ∙ held) in
+    (sym (ap (λ (y : BaseView BaseContent). y.held) told.rest) ∙ held) in
     let on' : IsOn g.base (rows.timer_seen o w t) =
     subst (λ (y : Timer). IsOn g.base y) (sym (seen_after o fresh h t event v w told))
     (subst (λ b. IsOn b (after (rows.timer_seen o v t) event)) here on) in

@@ -10,9 +10,9 @@ use Rattle.seq_timer.specs.declared.event.Reply.TheVariants as replies
 use Rattle.seq_timer.specs.Steps.{Timer}
 use Rattle.base_row.specs.declared.view.Claimed.{Claimed}
 use Rattle.base_row.specs.declared.view.Opening.{Opening}
-use Rattle.base_row.specs.declared.view.View.{View}
+use Rattle.base_row.specs.declared.view.BaseView.{BaseView}
 use Rattle.seq_timer.specs.Systems.{BaseContent, IsOn}
-use Rattle.base_row.specs.Rules.{number_of, is_claim, is_generation}
+use Rattle.base_row.specs.Rules.{number_of, is_base_claim, is_generation}
 use Rattle.base_row.specs.Calls as rows
 use Rattle.base_row.specs.Plays as plays
 use Rattle.seq_timer.proofs.Agreement.{agrees}
@@ -23,15 +23,15 @@ use Rattle.hr_timers.specs.declared.numbers.ClaimNumbers.{ClaimNumbers}
 use Rattle.hr_timers.proofs.Making.{made_before}
 
 -- what a pass of a table knows, of that table's opening
-pub knows_in : (o : Opening) (v : View BaseContent) → v.opening ≡ o → plays.KnowsOwn v → plays.Knows o.bases o.timers number_of v
-knows_in o v is knows = subst (λ (q : Opening). plays.Knows q.bases q.timers number_of v) is knows
+pub knows_in : (o : Opening) (v : BaseView BaseContent) → v.opening ≡ o → plays.KnowsOwn v → plays.KnowsBases o.bases o.timers number_of v
+knows_in o v is knows = subst (λ (q : Opening). plays.KnowsBases q.bases q.timers number_of v) is knows
 
 generation_is : (g : ℕ) (r : Option ℕ) → is_generation g r ≡ true → r ≡ Some g
 generation_is g None e = absurd (true≢false (sym e))
 generation_is g (Some x) e = ap (λ y. Some y) (eqb-true x g e)
 
-module _ (o : Opening) (v : View BaseContent) (fresh : rows.AreFresh o.timers) (knows : plays.Knows o.bases o.timers number_of v) (t g b : ℕ)
-    (within : t < length o.timers) (stands : 0 < count (is_claim t g b) v.claims) where
+module _ (o : Opening) (v : BaseView BaseContent) (fresh : rows.AreFresh o.timers) (knows : plays.KnowsBases o.bases o.timers number_of v) (t g b : ℕ)
+    (within : t < length o.timers) (stands : 0 < count (is_base_claim t g b) v.claims) where
   pub claim_runs : (rows.timer_seen o v t).running ≡ Some g
   claim_runs = generation_is g (rows.timer_seen o v t).running
       (and_parts (is_generation g (rows.timer_seen o v t).running) _ (knows.claims t g b within stands)).0
@@ -53,7 +53,7 @@ module _ (o : Opening) (v : View BaseContent) (fresh : rows.AreFresh o.timers) (
   claim_inside some = subst (λ x. x < o.bases) claim_base (placed_seen o v fresh knows some t)
 
 -- looks before a claim
-pub claims_before : (o : Opening) (u v : View BaseContent) (w : Known) (base : ℕ) (reading : ClockReading) (c : ClaimNumbers) → Looks u v
+pub claims_before : (o : Opening) (u v : BaseView BaseContent) (w : Known) (base : ℕ) (reading : ClockReading) (c : ClaimNumbers) → Looks u v
     → ClaimsNext o (rows.known_of v) w base reading c → ClaimsNext o (rows.known_of u) w base reading c
 claims_before o u v w base reading c looks r = record {
   at = r.at;
@@ -65,7 +65,7 @@ claims_before o u v w base reading c looks r = record {
   armed = r.armed;
   there = r.there;
   number = r.number;
-  fresh = ap (count (is_claim c.timer c.generation c.base)) (sym looks.claims) ∙ r.fresh;
+  fresh = ap (count (is_base_claim c.timer c.generation c.base)) (sym looks.claims) ∙ r.fresh;
   claims = r.claims ∙ ap (λ l. l ++ record { timer = c.timer; generation = c.generation; base = c.base } ∷ []) looks.claims;
 }
 

@@ -10,7 +10,7 @@ use Rattle.seq_timer.specs.Steps.{Timer, after}
 use Rattle.timer_core.specs.Answers.{moves_first, start_events}
 use Rattle.timer_core.specs.Kept.{step_all}
 use Rattle.base_row.specs.declared.view.Opening.{Opening}
-use Rattle.base_row.specs.declared.view.View.{View}
+use Rattle.base_row.specs.declared.view.BaseView.{BaseView}
 use Rattle.seq_timer.specs.Systems.{BaseContent}
 use Rattle.base_row.specs.Calls as rows
 use Rattle.hr_timers.specs.declared.answer.StartAnswer.TheVariants as starts
@@ -35,7 +35,7 @@ module _ (t : Timer) (mode : Mode) (ns asked : ℕ) (reading : ClockReading) (mo
   pub state : step_all t (start_events t mode ns asked reading) ≡ after (after t out) begin
   state = ap (step_all t) both
 
-pub starts_from : (o : Opening) (v w : View BaseContent) (t : ℕ) (mode : Mode) (ns asked : ℕ) (reading : ClockReading) (now : Timer)
+pub starts_from : (o : Opening) (v w : BaseView BaseContent) (t : ℕ) (mode : Mode) (ns asked : ℕ) (reading : ClockReading) (now : Timer)
     (armed : Bool) (g b outs : ℕ) (clock : ClockId) (expires : ℕ)
     → Extends v w t (entries_along (rows.timer_seen o v t) (start_events (rows.timer_seen o v t) mode ns asked reading)) → w.claims ≡ v.claims
     → (rows.timer_seen o v t).moving ≡ false → (rows.timer_seen o v t).stamp < (rows.timer_seen o v t).limit

@@ -4,7 +4,7 @@ use Rattle.std.specs.Prelude.{List}
 use Rattle.pass_names.proofs.Passes.{begins_trans}
 use Rattle.seq_timer.specs.declared.system.TimerEntry.{TimerEntry}
 use Rattle.base_row.specs.declared.view.Opening.{Opening}
-use Rattle.base_row.specs.declared.view.View.{View}
+use Rattle.base_row.specs.declared.view.BaseView.{BaseView}
 use Rattle.seq_timer.specs.Systems.{BaseContent}
 use Rattle.base_row.specs.Calls as rows
 use Rattle.hr_timers.specs.declared.answer.NowAnswer.{NowAnswer}
@@ -14,7 +14,7 @@ use Rattle.hr_timers.specs.Calls.{HeldFits, LooksAt, NowFits}
 use Rattle.hr_timers.proofs.Making.{made_before, looks_trans}
 
 -- looks before a call that made no entry
-looks_at_before : (u v : View BaseContent) (w : Known) (x : List TimerEntry) → Looks u v → LooksAt (rows.known_of v) w x → LooksAt (rows.known_of u) w x
+looks_at_before : (u v : BaseView BaseContent) (w : Known) (x : List TimerEntry) → Looks u v → LooksAt (rows.known_of v) w x → LooksAt (rows.known_of u) w x
 looks_at_before u v w x first at = record {
   looks = record {
     seen = begins_trans first.seen at.looks.seen;
@@ -27,7 +27,7 @@ looks_at_before u v w x first at = record {
 }
 
 -- a look that found the timer on this base, a look by which its lock was got, and then what was done under the lock
-pub now_from : (o : Opening) (p l m q : rows.PassOf) (t base : ℕ) (a : NowAnswer) → Looks p.knows l.knows → Looks l.knows m.knows
+pub now_from : (o : Opening) (p l m q : rows.BasePassOf) (t base : ℕ) (a : NowAnswer) → Looks p.knows l.knows → Looks l.knows m.knows
     → (timer_in o l.knows.seen t).base ≡ base → HeldFits o (pass_of m) (pass_of q) t base a
     → NowFits o (pass_of p) (pass_of q) t a
 now_from o p l m q t base (nows.Tried c) first second on fits =

@@ -23,7 +23,7 @@ use Rattle.timer_core.specs.Answers.{forwarded_as, moves_first, start_events}
 use Rattle.timer_core.specs.Kept.{step_all}
 use Rattle.seq_timer.specs.declared.system.TimerEntry.{TimerEntry}
 use Rattle.base_row.specs.declared.view.Opening.{Opening}
-use Rattle.base_row.specs.Rules.{is_claim}
+use Rattle.base_row.specs.Rules.{is_base_claim}
 use Rattle.seq_timer.specs.Systems.{system_after}
 use Rattle.hr_timers.specs.declared.answer.ClaimAnswer.{ClaimAnswer}
 use Rattle.hr_timers.specs.declared.answer.ClaimAnswer.TheVariants as claimings
@@ -194,4 +194,4 @@ pub record Finishes (o : Opening) (v w : Known) (c : ClaimNumbers) (restart : Bo
   pub base : (timer_in o at c.timer).base ≡ c.base
   pub number : a.number ≡ (timer_in o at c.timer).stamp + 1
   pub rearmed : a.rearmed ≡ rearmed_by (timer_in o at c.timer) restart
-  pub claims : w.claims ≡ without_first (is_claim c.timer c.generation c.base) v.claims
+  pub claims : w.claims ≡ without_first (is_base_claim c.timer c.generation c.base) v.claims

@@ -11,8 +11,8 @@ use Rattle.seq_timer.specs.Steps.{Timer}
 use Rattle.seq_timer.specs.Systems.{BaseContent, AreSystemSteps, entries_of, first_system, system_after}
 use Rattle.base_row.specs.declared.view.Claimed.{Claimed}
 use Rattle.base_row.specs.declared.view.Opening.{Opening}
-use Rattle.base_row.specs.declared.view.View.{View}
-use Rattle.base_row.specs.Rules.{is_claim}
+use Rattle.base_row.specs.declared.view.BaseView.{BaseView}
+use Rattle.base_row.specs.Rules.{is_base_claim}
 use Rattle.base_row.specs.Calls as rows
 use Rattle.hr_timers.specs.declared.numbers.ClaimNumbers.{ClaimNumbers}
 
@@ -31,7 +31,7 @@ pub record PassOf : Type 0 where
   pub met : List ℕ
 
 -- a pass of the bases' table, as callers of timers see it
-abbrev pub pass_of : rows.PassOf → PassOf
+abbrev pub pass_of : rows.BasePassOf → PassOf
 pass_of p = record { row = p.row; opening = p.knows.opening; known = rows.known_of p.knows; takes = p.knows.takes; met = p.knows.met }
 
 -- a timer after these entries of all timers
@@ -40,7 +40,7 @@ timer_in o x t = (system_after o.timers x).timers t
 
 -- how often a claim stands among claims
 abbrev pub count_of : ClaimNumbers → List Claimed → ℕ
-count_of c claims = count (is_claim c.timer c.generation c.base) claims
+count_of c claims = count (is_base_claim c.timer c.generation c.base) claims
 
 -- the pass has each place of each timer among its own, once
 abbrev pub HasEachPlace : Opening → Known → Type 0
@@ -49,12 +49,12 @@ HasEachPlace o k = shared.HasAll entries_of (length o.timers) k
 -- what is known is true: a history of all timers was seen, whose claims run, and the last pass has made each entry
 pub record IsTrue (o : Opening) (k : Known) : Type 0 where
   pub history : AreSystemSteps o.bases (length o.timers) (first_system o.timers) k.seen
-  pub claims : (t g b : ℕ) → t < length o.timers → 0 < count (is_claim t g b) k.claims
+  pub claims : (t g b : ℕ) → t < length o.timers → 0 < count (is_base_claim t g b) k.claims
       → ((timer_in o k.seen t).running ≡ Some g) × ((timer_in o k.seen t).base ≡ b)
   pub whole : IsLast k.id → HasEachPlace o k
 
 -- a pass of these timers, and what it knows is true
-pub record IsPassOf (timers : rows.RowOf) (p : PassOf) : Type 0 where
+pub record IsPassOf (timers : rows.BaseRowOf) (p : PassOf) : Type 0 where
   pub row : p.row ≡ timers.id
   pub opening : p.opening ≡ timers.about
   pub knows : IsTrue timers.about p.known
@@ -81,7 +81,7 @@ HasMissed p q b = ((k : ℕ) × (count (is_place b k) p.takes ≡ 0) × (slice_i
 -- ---- inside a call
 
 -- a pass has seen more, and has the same name, places, claims and carry
-pub record Looks (v w : View BaseContent) : Type 0 where
+pub record Looks (v w : BaseView BaseContent) : Type 0 where
   pub seen : Begins v.seen w.seen
   pub mine : w.mine ≡ v.mine
   pub id : w.id ≡ v.id
@@ -89,5 +89,5 @@ pub record Looks (v w : View BaseContent) : Type 0 where
   pub carry : w.carry ≡ v.carry
 
 -- these entries were added behind what a pass had seen of a timer
-abbrev pub Extends : View BaseContent → View BaseContent → ℕ → List seq.Entry → Type 0
+abbrev pub Extends : BaseView BaseContent → BaseView BaseContent → ℕ → List seq.Entry → Type 0
 Extends v w t es = shared.ExtendsBy entries_of (rows.known_of v) (rows.known_of w) t es

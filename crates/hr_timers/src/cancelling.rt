@@ -1,7 +1,7 @@
 //! Cancelling a timer: by a wait for its base's lock, or by one try.
 ghost use Rattle.std.specs.Prelude.{◌≡◌, ◌<◌, length, Some, None, MatchOption};
 ghost use Rattle.seq_timer.specs.Systems.{IsOn};
-ghost use Rattle.base_row.specs.Calls.{IsPassOf, known_of, timer_seen};
+ghost use Rattle.base_row.specs.Calls.{IsBasePassOf, known_of, timer_seen};
 ghost use Rattle.base_row.specs.Rests.{Rests};
 ghost use Rattle.hr_timers.specs.Known.{Looks};
 ghost use Rattle.hr_timers.specs.Calls.{Cancels};
@@ -15,10 +15,10 @@ use timer_core::CancelAnswer;
 
 /// Tries until the timer isn't on the move, after a load that may show it idle.
 pub fn try_to_cancel<R: Wait>(rt: &R, row: &BaseRow, pass: &mut Pass, timer: u32) -> CancelAnswer
-    requires row { IsPassOf row.now pass.old }
+    requires row { IsBasePassOf row.now pass.old }
     requires timer { timer < length row.now.about.timers }
     requires rests { Rests pass.old.knows }
-    ensures row { IsPassOf row.now pass.new }
+    ensures row { IsBasePassOf row.now pass.new }
     ensures rests { Rests pass.new.knows }
     ensures cancels { Cancels row.now.about (known_of pass.old.knows) (known_of pass.new.knows) timer result }
 {
@@ -37,10 +37,10 @@ pub fn try_to_cancel<R: Wait>(rt: &R, row: &BaseRow, pass: &mut Pass, timer: u32
 
 /// Answers Idle, if one load tells it.
 fn look_idle(row: &BaseRow, pass: &mut Pass, timer: u32) -> Option<CancelAnswer>
-    requires row { IsPassOf row.now pass.old }
+    requires row { IsBasePassOf row.now pass.old }
     requires timer { timer < length row.now.about.timers }
     requires rests { Rests pass.old.knows }
-    ensures row { IsPassOf row.now pass.new }
+    ensures row { IsBasePassOf row.now pass.new }
     ensures rests { Rests pass.new.knows }
     ensures cancels { MatchOption result (Looks pass.old.knows pass.new.knows) (λ a. Cancels row.now.about (known_of pass.old.knows) (known_of pass.new.knows) timer a) }
 {
@@ -53,10 +53,10 @@ fn look_idle(row: &BaseRow, pass: &mut Pass, timer: u32) -> Option<CancelAnswer>
 
 /// One try, on the base that the timer's word names.
 fn cancel_once<R: Wait>(rt: &R, row: &BaseRow, pass: &mut Pass, timer: u32) -> Option<CancelAnswer>
-    requires row { IsPassOf row.now pass.old }
+    requires row { IsBasePassOf row.now pass.old }
     requires timer { timer < length row.now.about.timers }
     requires rests { Rests pass.old.knows }
-    ensures row { IsPassOf row.now pass.new }
+    ensures row { IsBasePassOf row.now pass.new }
     ensures rests { Rests pass.new.knows }
     ensures cancels { MatchOption result (Looks pass.old.knows pass.new.knows) (λ a. Cancels row.now.about (known_of pass.old.knows) (known_of pass.new.knows) timer a) }
 {
@@ -81,12 +81,12 @@ pub fn cancel_held(
     timer: u32,
     state: TimerState,
 ) -> CancelAnswer
-    requires row { IsPassOf row.now pass.old }
+    requires row { IsBasePassOf row.now pass.old }
     requires within { (timer < length row.now.about.timers) × (held.base < row.now.about.bases) }
     requires held { (pass.old.knows.held ≡ Some held) × (pass.old.knows.carry ≡ None) }
     requires on { IsOn held.base state }
     requires state { timer_seen row.now.about pass.old.knows timer ≡ state }
-    ensures row { IsPassOf row.now pass.new }
+    ensures row { IsBasePassOf row.now pass.new }
     ensures rests { Rests pass.new.knows }
     ensures cancels { Cancels row.now.about (known_of pass.old.knows) (known_of pass.new.knows) timer result }
 {

@@ -3,7 +3,7 @@ ghost use Rattle.std.specs.Prelude.{◌≡◌, ◌<◌, ◌+◌, ℕ, length, So
 ghost use Rattle.seq_timer.specs.Tables.{IsNextDue, is_due_on, runs_on};
 ghost use Rattle.seq_timer.specs.Contents.{first_due};
 ghost use Rattle.seq_timer.specs.Systems.{IsOn};
-ghost use Rattle.base_row.specs.Calls.{IsPassOf, base_seen, known_of, timer_seen};
+ghost use Rattle.base_row.specs.Calls.{IsBasePassOf, base_seen, known_of, timer_seen};
 ghost use Rattle.base_row.specs.Rests.{Rests};
 ghost use Rattle.hr_timers.specs.Known.{HasClaim, Looks};
 ghost use Rattle.hr_timers.specs.Calls.{ClaimFits, ClaimsNext, Finishes, Forwards};
@@ -26,10 +26,10 @@ pub fn claim_next<R: Wait>(
     base: u32,
     reading: Reading,
 ) -> ClaimAnswer
-    requires row { IsPassOf row.now pass.old }
+    requires row { IsBasePassOf row.now pass.old }
     requires base { base < row.now.about.bases }
     requires rests { Rests pass.old.knows }
-    ensures row { IsPassOf row.now pass.new }
+    ensures row { IsBasePassOf row.now pass.new }
     ensures rests { Rests pass.new.knows }
     ensures claims { ClaimFits row.now.about (known_of pass.old.knows) (known_of pass.new.knows) base reading result }
 {
@@ -55,7 +55,7 @@ fn claim_held(
     timer: u32,
     reading: Reading,
 ) -> ClaimNumbers
-    requires row { IsPassOf row.now pass.old }
+    requires row { IsBasePassOf row.now pass.old }
     requires within { (timer < length row.now.about.timers) × (held.base < row.now.about.bases) }
     requires held { (pass.old.knows.held ≡ Some held) × (pass.old.knows.carry ≡ None) }
     requires base { held.base ≡ base }
@@ -63,7 +63,7 @@ fn claim_held(
     requires idle { (t : ℕ) → runs_on held.base (timer_seen row.now.about pass.old.knows t) ≡ false }
     requires next { IsNextDue (timer_seen row.now.about pass.old.knows) held.base reading timer }
     requires first { first_due (base_seen row.now.about pass.old.knows base).content reading ≡ Some ((timer_seen row.now.about pass.old.knows timer).expires, timer) }
-    ensures row { IsPassOf row.now pass.new }
+    ensures row { IsBasePassOf row.now pass.new }
     ensures rests { Rests pass.new.knows }
     ensures timer { result.timer ≡ timer }
     ensures claimed { ClaimsNext row.now.about (known_of pass.old.knows) (known_of pass.new.knows) base reading result }
@@ -101,10 +101,10 @@ fn hold_claimed<R: Wait>(
     pass: &mut Pass,
     claim: ClaimNumbers,
 ) -> (HeldBase, TimerState)
-    requires row { IsPassOf row.now pass.old }
+    requires row { IsBasePassOf row.now pass.old }
     requires claim { HasClaim row.now.about (known_of pass.old.knows) claim }
     requires rests { Rests pass.old.knows }
-    ensures row { IsPassOf row.now pass.new }
+    ensures row { IsBasePassOf row.now pass.new }
     ensures held { pass.new.knows.held ≡ Some result.0 }
     ensures looks { Looks pass.old.knows pass.new.knows }
     ensures within { result.0.base < row.now.about.bases }
@@ -129,10 +129,10 @@ pub fn finish<R: Wait>(
     claim: ClaimNumbers,
     restart: bool,
 ) -> Finished
-    requires row { IsPassOf row.now pass.old }
+    requires row { IsBasePassOf row.now pass.old }
     requires claim { HasClaim row.now.about (known_of pass.old.knows) claim }
     requires rests { Rests pass.old.knows }
-    ensures row { IsPassOf row.now pass.new }
+    ensures row { IsBasePassOf row.now pass.new }
     ensures rests { Rests pass.new.knows }
     ensures finishes { Finishes row.now.about (known_of pass.old.knows) (known_of pass.new.knows) claim restart result }
 {
@@ -155,10 +155,10 @@ pub fn forward<R: Wait>(
     reading: Reading,
     interval: u64,
 ) -> ForwardAnswer
-    requires row { IsPassOf row.now pass.old }
+    requires row { IsBasePassOf row.now pass.old }
     requires claim { HasClaim row.now.about (known_of pass.old.knows) claim }
     requires rests { Rests pass.old.knows }
-    ensures row { IsPassOf row.now pass.new }
+    ensures row { IsBasePassOf row.now pass.new }
     ensures rests { Rests pass.new.knows }
     ensures forwards { Forwards row.now.about (known_of pass.old.knows) (known_of pass.new.knows) claim reading interval result }
 {
@@ -176,14 +176,14 @@ fn forward_held(
     reading: Reading,
     interval: u64,
 ) -> ForwardAnswer
-    requires row { IsPassOf row.now pass.old }
+    requires row { IsBasePassOf row.now pass.old }
     requires claim { HasClaim row.now.about (known_of pass.old.knows) claim }
     requires held { (pass.old.knows.held ≡ Some held) × (pass.old.knows.carry ≡ None) }
     requires base { (held.base ≡ claim.base) × (held.base < row.now.about.bases) }
     requires state { state ≡ timer_seen row.now.about pass.old.knows claim.timer }
     requires runs { state.running ≡ Some claim.generation }
     requires on { IsOn claim.base state }
-    ensures row { IsPassOf row.now pass.new }
+    ensures row { IsBasePassOf row.now pass.new }
     ensures rests { Rests pass.new.knows }
     ensures forwards { Forwards row.now.about (known_of pass.old.knows) (known_of pass.new.knows) claim reading interval result }
 {

@@ -3,7 +3,7 @@ ghost use Rattle.std.specs.Prelude.{◌≡◌, ◌<◌, length, Some, None, [], 
 ghost use Rattle.seq_timer.specs.Steps.{Needs, after};
 ghost use Rattle.seq_timer.specs.declared.event.Event.TheVariants.{Out, Start};
 ghost use Rattle.seq_timer.specs.Systems.{IsOn};
-ghost use Rattle.base_row.specs.Calls.{IsPassOf, timer_seen};
+ghost use Rattle.base_row.specs.Calls.{IsBasePassOf, timer_seen};
 ghost use Rattle.base_row.specs.Rests.{Rests};
 ghost use Rattle.hr_timers.specs.Known.{Extends};
 ghost use Rattle.hr_timers.specs.Calls.{entries_along, entry_by};
@@ -26,12 +26,12 @@ pub fn move_and_start<R: Wait>(
     ns: u64,
     reading: Reading,
 )
-    requires row { IsPassOf row.now pass.old }
+    requires row { IsBasePassOf row.now pass.old }
     requires within { (timer < length row.now.about.timers) × (held.base < row.now.about.bases) × (to < row.now.about.bases) }
     requires held { (pass.old.knows.held ≡ Some held) × (pass.old.knows.carry ≡ None) }
     requires on { IsOn held.base (timer_seen row.now.about pass.old.knows timer) }
     requires needs { Needs (timer_seen row.now.about pass.old.knows timer) (Out to) }
-    ensures row { IsPassOf row.now pass.new }
+    ensures row { IsBasePassOf row.now pass.new }
     ensures rests { Rests pass.new.knows }
     ensures claims { pass.new.knows.claims ≡ pass.old.knows.claims }
     ensures extends { Extends pass.old.knows pass.new.knows timer (entries_along (timer_seen row.now.about pass.old.knows timer) (Out to ∷ Start mode ns reading to ∷ [])) }
@@ -42,12 +42,12 @@ pub fn move_and_start<R: Wait>(
 
 /// Sends a timer off a held base to another, and lets the base go. The pass carries the timer then.
 fn send(row: &BaseRow, pass: &mut Pass, held: HeldBase, timer: u32, to: u32) -> TimerState
-    requires row { IsPassOf row.now pass.old }
+    requires row { IsBasePassOf row.now pass.old }
     requires within { (timer < length row.now.about.timers) × (held.base < row.now.about.bases) × (to < row.now.about.bases) }
     requires held { (pass.old.knows.held ≡ Some held) × (pass.old.knows.carry ≡ None) }
     requires on { IsOn held.base (timer_seen row.now.about pass.old.knows timer) }
     requires needs { Needs (timer_seen row.now.about pass.old.knows timer) (Out to) }
-    ensures row { IsPassOf row.now pass.new }
+    ensures row { IsBasePassOf row.now pass.new }
     ensures carries { (pass.new.knows.held ≡ None) × (pass.new.knows.carry ≡ Some timer) }
     ensures claims { pass.new.knows.claims ≡ pass.old.knows.claims }
     ensures seen { timer_seen row.now.about pass.new.knows timer ≡ after (timer_seen row.now.about pass.old.knows timer) (Out to) }
@@ -72,12 +72,12 @@ fn bring<R: Wait>(
     ns: u64,
     reading: Reading,
 )
-    requires row { IsPassOf row.now pass.old }
+    requires row { IsBasePassOf row.now pass.old }
     requires within { (timer < length row.now.about.timers) × (state.base < row.now.about.bases) }
     requires carries { (pass.old.knows.held ≡ None) × (pass.old.knows.carry ≡ Some timer) }
     requires state { state ≡ timer_seen row.now.about pass.old.knows timer }
     requires moving { state.moving ≡ true }
-    ensures row { IsPassOf row.now pass.new }
+    ensures row { IsBasePassOf row.now pass.new }
     ensures rests { Rests pass.new.knows }
     ensures claims { pass.new.knows.claims ≡ pass.old.knows.claims }
     ensures extends { Extends pass.old.knows pass.new.knows timer (entry_by state (Start mode ns reading state.base) ∷ []) }

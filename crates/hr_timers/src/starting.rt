@@ -4,7 +4,7 @@ ghost use Rattle.seq_timer.specs.Steps.{after};
 ghost use Rattle.seq_timer.specs.declared.event.Event.TheVariants.{Start};
 ghost use Rattle.timer_core.specs.Answers.{moves_first};
 ghost use Rattle.seq_timer.specs.Systems.{IsOn};
-ghost use Rattle.base_row.specs.Calls.{IsPassOf, known_of, timer_seen};
+ghost use Rattle.base_row.specs.Calls.{IsBasePassOf, known_of, timer_seen};
 ghost use Rattle.base_row.specs.Rests.{Rests};
 ghost use Rattle.hr_timers.specs.Known.{Looks};
 ghost use Rattle.hr_timers.specs.Calls.{Starts};
@@ -35,11 +35,11 @@ pub fn start<R: Wait>(
     timer: u32,
     asked: &Asked,
 ) -> StartAnswer
-    requires row { IsPassOf row.now pass.old }
+    requires row { IsBasePassOf row.now pass.old }
     requires timer { timer < length row.now.about.timers }
     requires base { (asked.now.base < row.now.about.bases) × (row.now.about.bases ≤ 64) }
     requires rests { Rests pass.old.knows }
-    ensures row { IsPassOf row.now pass.new }
+    ensures row { IsBasePassOf row.now pass.new }
     ensures rests { Rests pass.new.knows }
     ensures starts { Starts row.now.about (known_of pass.old.knows) (known_of pass.new.knows) timer asked.now.mode asked.now.ns asked.now.base asked.now.reading result }
 {
@@ -61,11 +61,11 @@ fn start_once<R: Wait>(
     timer: u32,
     asked: &Asked,
 ) -> Option<StartAnswer>
-    requires row { IsPassOf row.now pass.old }
+    requires row { IsBasePassOf row.now pass.old }
     requires timer { timer < length row.now.about.timers }
     requires base { (asked.now.base < row.now.about.bases) × (row.now.about.bases ≤ 64) }
     requires rests { Rests pass.old.knows }
-    ensures row { IsPassOf row.now pass.new }
+    ensures row { IsBasePassOf row.now pass.new }
     ensures rests { Rests pass.new.knows }
     ensures starts { MatchOption result (Looks pass.old.knows pass.new.knows) (λ a. Starts row.now.about (known_of pass.old.knows) (known_of pass.new.knows) timer asked.now.mode asked.now.ns asked.now.base asked.now.reading a) }
 {
@@ -92,13 +92,13 @@ fn start_held<R: Wait>(
     state: TimerState,
     asked: &Asked,
 ) -> StartAnswer
-    requires row { IsPassOf row.now pass.old }
+    requires row { IsBasePassOf row.now pass.old }
     requires within { (timer < length row.now.about.timers) × (held.base < row.now.about.bases) }
     requires held { (pass.old.knows.held ≡ Some held) × (pass.old.knows.carry ≡ None) }
     requires on { IsOn held.base state }
     requires state { timer_seen row.now.about pass.old.knows timer ≡ state }
     requires base { (asked.now.base < row.now.about.bases) × (row.now.about.bases ≤ 64) }
-    ensures row { IsPassOf row.now pass.new }
+    ensures row { IsBasePassOf row.now pass.new }
     ensures rests { Rests pass.new.knows }
     ensures starts { Starts row.now.about (known_of pass.old.knows) (known_of pass.new.knows) timer asked.now.mode asked.now.ns asked.now.base asked.now.reading result }
 {
@@ -122,14 +122,14 @@ fn start_here(
     state: TimerState,
     asked: &Asked,
 ) -> StartAnswer
-    requires row { IsPassOf row.now pass.old }
+    requires row { IsBasePassOf row.now pass.old }
     requires within { (timer < length row.now.about.timers) × (held.base < row.now.about.bases) }
     requires held { (pass.old.knows.held ≡ Some held) × (pass.old.knows.carry ≡ None) }
     requires on { IsOn held.base state }
     requires state { timer_seen row.now.about pass.old.knows timer ≡ state }
     requires room { state.stamp < state.limit }
     requires stays { moves_first state asked.now.base ≡ false }
-    ensures row { IsPassOf row.now pass.new }
+    ensures row { IsBasePassOf row.now pass.new }
     ensures rests { Rests pass.new.knows }
     ensures starts { Starts row.now.about (known_of pass.old.knows) (known_of pass.new.knows) timer asked.now.mode asked.now.ns asked.now.base asked.now.reading result }
 {
@@ -156,7 +156,7 @@ fn start_there<R: Wait>(
     state: TimerState,
     asked: &Asked,
 ) -> StartAnswer
-    requires row { IsPassOf row.now pass.old }
+    requires row { IsBasePassOf row.now pass.old }
     requires within { (timer < length row.now.about.timers) × (held.base < row.now.about.bases) }
     requires held { (pass.old.knows.held ≡ Some held) × (pass.old.knows.carry ≡ None) }
     requires on { IsOn held.base state }
@@ -164,7 +164,7 @@ fn start_there<R: Wait>(
     requires room { state.stamp < state.limit }
     requires base { (asked.now.base < row.now.about.bases) × (row.now.about.bases ≤ 64) }
     requires moves { moves_first state asked.now.base ≡ true }
-    ensures row { IsPassOf row.now pass.new }
+    ensures row { IsBasePassOf row.now pass.new }
     ensures rests { Rests pass.new.knows }
     ensures starts { Starts row.now.about (known_of pass.old.knows) (known_of pass.new.knows) timer asked.now.mode asked.now.ns asked.now.base asked.now.reading result }
 {

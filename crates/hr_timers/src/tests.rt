@@ -49,8 +49,14 @@ fn a_timer_moves_and_is_cancelled(rt: HostRuntime) -> Result<(), Fail> {
         generation: 2,
         number: 3,
     };
-    assert_eq!(rt; timers.cancel_now(&mut pass, 0), NowAnswer::Tried(cancelled));
-    assert_eq!(rt; timers.try_to_cancel(&rt, &mut pass, 0), CancelAnswer::Idle { stamp: 3 });
+    assert_eq!(rt;
+        timers.cancel_now(&mut pass, 0),
+        NowAnswer::Tried(cancelled)
+    );
+    assert_eq!(rt;
+        timers.try_to_cancel(&rt, &mut pass, 0),
+        CancelAnswer::Idle { stamp: 3 }
+    );
     timers.close(pass);
     Ok(())
 }

@@ -28,9 +28,9 @@ pub struct Timers {
 
 impl Model for Timers {
     ghost use Rattle.std.specs.Prelude.{◌≤◌};
-    ghost use Rattle.base_row.specs.Calls.{RowOf};
+    ghost use Rattle.base_row.specs.Calls.{BaseRowOf};
 
-    ghost Value = { RowOf };
+    ghost Value = { BaseRowOf };
 
     ghost view = { λ t. t.row };
 

@@ -5,8 +5,8 @@ ghost use Rattle.seq_timer.specs.Tables.{is_due_on, runs_on};
 ghost use Rattle.seq_timer.specs.Contents.{first_due, running_on};
 ghost use Rattle.seq_timer.specs.Steps.{after, reply_to};
 ghost use Rattle.seq_timer.specs.Systems.{IsOn, entries_of};
-ghost use Rattle.base_row.specs.Plays.{Steady, claims_after, carry_after};
-ghost use Rattle.base_row.specs.Calls.{IsPassOf, MayAppend, timer_seen};
+ghost use Rattle.base_row.specs.Plays.{Steady, claims_with_event, carry_after};
+ghost use Rattle.base_row.specs.Calls.{IsBasePassOf, MayAppend, timer_seen};
 ghost use Rattle.hr_timers.specs.Known.{Extends, Looks};
 ghost use Rattle.hr_timers.specs.Calls.{entry_by};
 
@@ -16,10 +16,10 @@ use std::sync::Wait;
 
 /// Takes a base's lock, once it is free.
 pub fn lock<R: Wait>(rt: &R, row: &BaseRow, pass: &mut Pass, base: u32) -> HeldBase
-    requires row { IsPassOf row.now pass.old }
+    requires row { IsBasePassOf row.now pass.old }
     requires within { base < row.now.about.bases }
     requires idle { pass.old.knows.held ≡ None }
-    ensures row { IsPassOf row.now pass.new }
+    ensures row { IsBasePassOf row.now pass.new }
     ensures at { result.base ≡ base }
     ensures held { pass.new.knows.held ≡ Some result }
     ensures looks { Looks pass.old.knows pass.new.knows }
@@ -30,15 +30,15 @@ pub fn lock<R: Wait>(rt: &R, row: &BaseRow, pass: &mut Pass, base: u32) -> HeldB
 
 /// Adds an entry of a timer that stays on a held base, and lets the base go.
 pub fn enter_once(row: &BaseRow, pass: &mut Pass, held: HeldBase, timer: u32, event: Event) -> Reply
-    requires row { IsPassOf row.now pass.old }
+    requires row { IsBasePassOf row.now pass.old }
     requires within { (timer < length row.now.about.timers) × (held.base < row.now.about.bases) }
     requires may { MayAppend row.now.about pass.old.knows held timer event }
     requires on { IsOn held.base (timer_seen row.now.about pass.old.knows timer) }
     requires stays { IsOn held.base (after (timer_seen row.now.about pass.old.knows timer) event) }
-    ensures row { IsPassOf row.now pass.new }
+    ensures row { IsBasePassOf row.now pass.new }
     ensures free { pass.new.knows.held ≡ None }
     ensures carry { pass.new.knows.carry ≡ carry_after timer (timer_seen row.now.about pass.old.knows timer) event pass.old.knows.carry }
-    ensures claims { pass.new.knows.claims ≡ claims_after timer (timer_seen row.now.about pass.old.knows timer) event pass.old.knows.claims }
+    ensures claims { pass.new.knows.claims ≡ claims_with_event timer (timer_seen row.now.about pass.old.knows timer) event pass.old.knows.claims }
     ensures reply { result ≡ reply_to (timer_seen row.now.about pass.old.knows timer) event }
     ensures extends { Extends pass.old.knows pass.new.knows timer (entry_by (timer_seen row.now.about pass.old.knows timer) event ∷ []) }
 {
@@ -51,10 +51,10 @@ pub fn enter_once(row: &BaseRow, pass: &mut Pass, held: HeldBase, timer: u32, ev
 
 /// Lets a base go, of which one timer was looked at.
 pub fn leave(row: &BaseRow, pass: &mut Pass, held: HeldBase, timer: u32)
-    requires row { IsPassOf row.now pass.old }
+    requires row { IsBasePassOf row.now pass.old }
     requires within { (timer < length row.now.about.timers) × (held.base < row.now.about.bases) }
     requires held { pass.old.knows.held ≡ Some held }
-    ensures row { IsPassOf row.now pass.new }
+    ensures row { IsBasePassOf row.now pass.new }
     ensures free { pass.new.knows.held ≡ None }
     ensures looks { Looks pass.old.knows pass.new.knows }
     ensures own { IsOn held.base (timer_seen row.now.about pass.old.knows timer) → entries_of timer pass.new.knows.seen ≡ entries_of timer pass.old.knows.seen }
@@ -64,11 +64,11 @@ pub fn leave(row: &BaseRow, pass: &mut Pass, held: HeldBase, timer: u32)
 
 /// Lets a base go. What it has then is what was held.
 pub fn leave_base(row: &BaseRow, pass: &mut Pass, held: HeldBase, base: u32)
-    requires row { IsPassOf row.now pass.old }
+    requires row { IsBasePassOf row.now pass.old }
     requires within { held.base < row.now.about.bases }
     requires held { pass.old.knows.held ≡ Some held }
     requires base { held.base ≡ base }
-    ensures row { IsPassOf row.now pass.new }
+    ensures row { IsBasePassOf row.now pass.new }
     ensures free { pass.new.knows.held ≡ None }
     ensures looks { Looks pass.old.knows pass.new.knows }
     ensures idle { held.content.content.running ≡ None → (t : ℕ) → runs_on base (timer_seen row.now.about pass.new.knows t) ≡ false }

@@ -1,7 +1,7 @@
 //! Callers of a row. Each takes one base or two, adds its entries there, and lets them go.
 ghost use Rattle.std.specs.Prelude.{◌≡◌, ◌<◌, length, MatchBool, Some, None, true};
 ghost use Rattle.seq_timer.specs.Systems.{IsOn};
-ghost use Rattle.base_row.specs.Calls.{IsPassOf, timer_seen};
+ghost use Rattle.base_row.specs.Calls.{IsBasePassOf, timer_seen};
 ghost use Rattle.base_row.specs.Rests.{Rests};
 
 use crate::{BaseRow, HeldBase, Pass};
@@ -19,9 +19,9 @@ pub fn start<R: Wait>(
     ns: u64,
     reading: Reading,
 ) -> bool
-    requires row { IsPassOf row.now pass.old × Rests pass.old.knows }
+    requires row { IsBasePassOf row.now pass.old × Rests pass.old.knows }
     requires within { (timer < length row.now.about.timers) × (base < row.now.about.bases) }
-    ensures row { IsPassOf row.now pass.new × Rests pass.new.knows }
+    ensures row { IsBasePassOf row.now pass.new × Rests pass.new.knows }
     ensures same { (pass.new.knows.claims ≡ pass.old.knows.claims) × (pass.new.knows.id ≡ pass.old.knows.id) }
 {
     let mut held = row.lock_base(rt, pass, base);
@@ -49,9 +49,9 @@ fn is_on(state: &TimerState, base: u32) -> bool
 
 /// Cancels a timer that is armed on this base.
 pub fn cancel<R: Wait>(rt: &R, row: &BaseRow, pass: &mut Pass, base: u32, timer: u32) -> bool
-    requires row { IsPassOf row.now pass.old × Rests pass.old.knows }
+    requires row { IsBasePassOf row.now pass.old × Rests pass.old.knows }
     requires within { (timer < length row.now.about.timers) × (base < row.now.about.bases) }
-    ensures row { IsPassOf row.now pass.new × Rests pass.new.knows }
+    ensures row { IsBasePassOf row.now pass.new × Rests pass.new.knows }
     ensures same { (pass.new.knows.claims ≡ pass.old.knows.claims) × (pass.new.knows.id ≡ pass.old.knows.id) }
 {
     let mut held = row.lock_base(rt, pass, base);
@@ -75,9 +75,9 @@ pub fn move_to<R: Wait>(
     ns: u64,
     reading: Reading,
 ) -> bool
-    requires row { IsPassOf row.now pass.old × Rests pass.old.knows }
+    requires row { IsBasePassOf row.now pass.old × Rests pass.old.knows }
     requires within { (timer < length row.now.about.timers) × (base < row.now.about.bases) × (to < row.now.about.bases) }
-    ensures row { IsPassOf row.now pass.new × Rests pass.new.knows }
+    ensures row { IsBasePassOf row.now pass.new × Rests pass.new.knows }
     ensures same { (pass.new.knows.claims ≡ pass.old.knows.claims) × (pass.new.knows.id ≡ pass.old.knows.id) }
 {
     let mut held = row.lock_base(rt, pass, base);
@@ -106,12 +106,12 @@ fn bring<R: Wait>(
     ns: u64,
     reading: Reading,
 )
-    requires row { IsPassOf row.now pass.old }
+    requires row { IsBasePassOf row.now pass.old }
     requires within { (timer < length row.now.about.timers) × (state.base < row.now.about.bases) }
     requires carries { (pass.old.knows.held ≡ None) × (pass.old.knows.carry ≡ Some timer) }
     requires state { state ≡ timer_seen row.now.about pass.old.knows timer }
     requires moving { state.moving ≡ true }
-    ensures row { IsPassOf row.now pass.new × Rests pass.new.knows }
+    ensures row { IsBasePassOf row.now pass.new × Rests pass.new.knows }
     ensures same { (pass.new.knows.claims ≡ pass.old.knows.claims) × (pass.new.knows.id ≡ pass.old.knows.id) }
 {
     let asked = state.base();

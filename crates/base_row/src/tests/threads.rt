@@ -1,7 +1,7 @@
 //! Two threads that start, move and cancel the same timers over two bases.
 ghost use Rattle.std.specs.Prelude.{◌≡◌, ◌≤◌, ◌<◌, [], ◌++◌, length};
 ghost use Rattle.pass_names.specs.Names.{IsLast};
-ghost use Rattle.base_row.specs.Calls.{IsPassOf};
+ghost use Rattle.base_row.specs.Calls.{IsBasePassOf};
 ghost use Rattle.base_row.specs.Rests.{Rests};
 
 use super::callers::{cancel, move_to, start};
@@ -12,9 +12,9 @@ use std::thread::{Threads, join_mut};
 
 /// One turn of a thread, on the base where the timer was seen last. It answers how many entries it has made.
 fn turn<R: Wait>(rt: &R, row: &BaseRow, pass: &mut Pass, number: u32, reading: Reading) -> u64
-    requires row { IsPassOf row.now pass.old × Rests pass.old.knows }
+    requires row { IsBasePassOf row.now pass.old × Rests pass.old.knows }
     requires size { (length row.now.about.timers ≡ 3) × (row.now.about.bases ≡ 2) }
-    ensures row { IsPassOf row.now pass.new × Rests pass.new.knows }
+    ensures row { IsBasePassOf row.now pass.new × Rests pass.new.knows }
     ensures same { (pass.new.knows.claims ≡ pass.old.knows.claims) × (pass.new.knows.id ≡ pass.old.knows.id) }
     ensures few { result ≤ 2 }
 {
@@ -29,10 +29,10 @@ fn turn<R: Wait>(rt: &R, row: &BaseRow, pass: &mut Pass, number: u32, reading: R
 
 /// A thousand turns of a thread.
 fn turns<R: Wait>(rt: &R, row: &BaseRow, pass: &mut Pass, first: u32, reading: Reading) -> u64
-    requires row { IsPassOf row.now pass.old × Rests pass.old.knows }
+    requires row { IsBasePassOf row.now pass.old × Rests pass.old.knows }
     requires size { (length row.now.about.timers ≡ 3) × (row.now.about.bases ≡ 2) }
     requires small { first < 100 }
-    ensures row { IsPassOf row.now pass.new × Rests pass.new.knows }
+    ensures row { IsBasePassOf row.now pass.new × Rests pass.new.knows }
     ensures same { (pass.new.knows.claims ≡ pass.old.knows.claims) × (pass.new.knows.id ≡ pass.old.knows.id) }
     ensures few { result ≤ 2000 }
 {
@@ -51,9 +51,9 @@ fn both<R: Threads + Wait + Sync>(
     second: &mut Pass,
     reading: Reading,
 ) -> (u64, u64)
-    requires row { IsPassOf row.now first.old × Rests first.old.knows × IsPassOf row.now second.old × Rests second.old.knows }
+    requires row { IsBasePassOf row.now first.old × Rests first.old.knows × IsBasePassOf row.now second.old × Rests second.old.knows }
     requires size { (length row.now.about.timers ≡ 3) × (row.now.about.bases ≡ 2) }
-    ensures row { IsPassOf row.now first.new × Rests first.new.knows × IsPassOf row.now second.new × Rests second.new.knows }
+    ensures row { IsBasePassOf row.now first.new × Rests first.new.knows × IsBasePassOf row.now second.new × Rests second.new.knows }
     ensures same { (first.new.knows.claims ≡ first.old.knows.claims) × (first.new.knows.id ≡ first.old.knows.id) }
     ensures other { (second.new.knows.claims ≡ second.old.knows.claims) × (second.new.knows.id ≡ second.old.knows.id) }
     ensures few { (result.0 ≤ 2000) × (result.1 ≤ 2000) }
@@ -72,9 +72,9 @@ pub fn turns_of_two<R: Threads + Wait + Sync>(
     main: &mut Pass,
     reading: Reading,
 ) -> u64
-    requires row { IsPassOf row.now main.old × Rests main.old.knows }
+    requires row { IsBasePassOf row.now main.old × Rests main.old.knows }
     requires size { (length row.now.about.timers ≡ 3) × (row.now.about.bases ≡ 2) }
-    ensures row { IsPassOf row.now main.new × Rests main.new.knows }
+    ensures row { IsBasePassOf row.now main.new × Rests main.new.knows }
     ensures claims { main.new.knows.claims ≡ main.old.knows.claims ++ [] }
     ensures last { IsLast main.old.knows.id → IsLast main.new.knows.id }
 {

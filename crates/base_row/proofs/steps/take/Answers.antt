@@ -3,10 +3,10 @@ use Rattle.std.specs.Prelude.{MatchBool, Option}
 use Rattle.atomic_table.specs.Table.{Me}
 use Rattle.seq_timer.specs.Steps.{Timer}
 use Rattle.base_row.specs.declared.view.Opening.{Opening}
-use Rattle.base_row.specs.declared.view.View.{View}
+use Rattle.base_row.specs.declared.view.BaseView.{BaseView}
 use Rattle.seq_timer.specs.Systems.{BaseContent}
 use Rattle.base_row.specs.Rules.{number_of}
-use Rattle.base_row.specs.Plays.{Hit, Miss}
+use Rattle.base_row.specs.Plays.{TookBase, FoundTaken}
 use Rattle.base_row.proofs.Telling.{takes_by}
 use Rattle.base_row.proofs.steps.take.Goals as goal
 
@@ -22,10 +22,10 @@ compare_exchange-requires c =
           (c.requires.known.0 ∙ half) half (omega arith)),
     )
 
-loose : (bases : ℕ) (opened : List Timer) (b first found : ℕ) (hit : Bool) (me new : Me (Option BaseContent) (View BaseContent))
-    → MatchBool hit ((k : ℕ) × (first + 2 ≡ k + k) × Hit bases opened number_of b k (first + 1) me new) (Miss bases opened number_of b first me found new)
-    → MatchBool hit ((k : ℕ) × (first + 2 ≡ k + k) × Hit bases opened number_of b k (first + 1) me new) ((x : ℕ)
-    × Miss bases opened number_of b first me x new)
+loose : (bases : ℕ) (opened : List Timer) (b first found : ℕ) (hit : Bool) (me new : Me (Option BaseContent) (BaseView BaseContent))
+    → MatchBool hit ((k : ℕ) × (first + 2 ≡ k + k) × TookBase bases opened number_of b k (first + 1) me new) (FoundTaken bases opened number_of b first me found new)
+    → MatchBool hit ((k : ℕ) × (first + 2 ≡ k + k) × TookBase bases opened number_of b k (first + 1) me new) ((x : ℕ)
+    × FoundTaken bases opened number_of b first me x new)
 loose bases opened b first found true me new told = told
 loose bases opened b first found false me new told = (found, told)
 
@@ -35,5 +35,5 @@ returns-clause-took c =
     loose key.0 key.1.value.items c.args.base c.args.first c.compare_exchange.result
     (nat_eq c.compare_exchange.result c.args.first) c.args.seat.now.me c.compare_exchange.new.seat.me
     (subst (λ (o : Opening). MatchBool (nat_eq c.compare_exchange.result c.args.first) ((k : ℕ) × (c.args.first + 2 ≡ k + k)
-    × Hit o.bases o.timers number_of c.args.base k (c.args.first + 1) c.args.seat.now.me c.compare_exchange.new.seat.me)
-    (Miss o.bases o.timers number_of c.args.base c.args.first c.args.seat.now.me c.compare_exchange.result c.compare_exchange.new.seat.me)) c.requires.about (c.compare_exchange.ensures.2 c.args.base c.requires.word.0))
+    × TookBase o.bases o.timers number_of c.args.base k (c.args.first + 1) c.args.seat.now.me c.compare_exchange.new.seat.me)
+    (FoundTaken o.bases o.timers number_of c.args.base c.args.first c.args.seat.now.me c.compare_exchange.result c.compare_exchange.new.seat.me)) c.requires.about (c.compare_exchange.ensures.2 c.args.base c.requires.word.0))

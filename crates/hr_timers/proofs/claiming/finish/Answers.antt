@@ -2,7 +2,7 @@ use Rattle.std.proofs.Common.{◌<◌, ◌≡◌, ◌+◌, ap, sym, subst, ◌�
 use Rattle.std.specs.Prelude.{Option, unwrap_or}
 use Rattle.pass_names.specs.Counts.{without_first}
 use Rattle.base_row.specs.Calls.{timer_seen}
-use Rattle.base_row.specs.Rules.{is_claim}
+use Rattle.base_row.specs.Rules.{is_base_claim}
 use Rattle.seq_timer.specs.Steps.{Timer}
 use Rattle.hr_timers.proofs.Making.{made_then}
 use Rattle.hr_timers.proofs.Standing.{finish_same}
@@ -24,7 +24,7 @@ returns-clause-finishes g c =
       number = ap (λ n. n + 1) c.stamp-number.ensures ∙ ap (λ (t : Timer). t.stamp + 1) h.state;
       rearmed = finish_same _ _ _ _ c.in-Finish.ensures.reply;
       claims = c.enter_once-reply.ensures.claims
-          ∙ (ap (λ r. without_first (is_claim c.args.claim.timer (unwrap_or r 0) (timer_seen c.args.row.now.about v c.args.claim.timer).base) v.claims) runs
-          ∙ (ap (λ b. without_first (is_claim c.args.claim.timer c.args.claim.generation b) v.claims) base
-          ∙ ap (without_first (is_claim c.args.claim.timer c.args.claim.generation c.args.claim.base)) h.looks.claims));
+          ∙ (ap (λ r. without_first (is_base_claim c.args.claim.timer (unwrap_or r 0) (timer_seen c.args.row.now.about v c.args.claim.timer).base) v.claims) runs
+          ∙ (ap (λ b. without_first (is_base_claim c.args.claim.timer c.args.claim.generation b) v.claims) base
+          ∙ ap (without_first (is_base_claim c.args.claim.timer c.args.claim.generation c.args.claim.base)) h.looks.claims));
     }

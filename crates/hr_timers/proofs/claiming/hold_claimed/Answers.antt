@@ -1,6 +1,6 @@
 use Rattle.std.proofs.Common.{◌<◌, ◌≡◌, ap, sym, subst, ◌∙◌, List}
 use Rattle.base_row.specs.declared.view.Claimed.{Claimed}
-use Rattle.base_row.specs.Rules.{is_claim}
+use Rattle.base_row.specs.Rules.{is_base_claim}
 use Rattle.seq_timer.specs.Systems.{IsOn}
 use Rattle.base_row.specs.Calls.{timer_seen}
 use Rattle.pass_names.specs.Counts.{count}
@@ -31,7 +31,7 @@ returns-clause-state g c =
     let claim = c.args.claim in
     let v = c.lock-held.new.pass.knows in
     let knows = knows_in o v c.lock-held.ensures.row.about c.known-2.ensures in
-    let stands = subst (λ (l : List Claimed). 0 < count (is_claim claim.timer claim.generation claim.base) l)
+    let stands = subst (λ (l : List Claimed). 0 < count (is_base_claim claim.timer claim.generation claim.base) l)
     (sym c.lock-held.ensures.looks.claims) c.requires.claim.stands in
     c.state-state.ensures.kept
     (subst (λ b. IsOn b (timer_seen o v claim.timer)) (sym c.lock-held.ensures.at)
@@ -43,7 +43,7 @@ returns-clause-runs g c =
     let claim = c.args.claim in
     let v = c.lock-held.new.pass.knows in
     let knows = knows_in o v c.lock-held.ensures.row.about c.known-2.ensures in
-    let stands = subst (λ (l : List Claimed). 0 < count (is_claim claim.timer claim.generation claim.base) l)
+    let stands = subst (λ (l : List Claimed). 0 < count (is_base_claim claim.timer claim.generation claim.base) l)
     (sym c.lock-held.ensures.looks.claims) c.requires.claim.stands in
     ap (λ (t : Timer). t.running) (returns-clause-state g c) ∙ claim_runs o v c.fresh.ensures.fresh knows claim.timer claim.generation claim.base
     c.requires.claim.within stands
@@ -54,7 +54,7 @@ returns-clause-on g c =
     let claim = c.args.claim in
     let v = c.lock-held.new.pass.knows in
     let knows = knows_in o v c.lock-held.ensures.row.about c.known-2.ensures in
-    let stands = subst (λ (l : List Claimed). 0 < count (is_claim claim.timer claim.generation claim.base) l)
+    let stands = subst (λ (l : List Claimed). 0 < count (is_base_claim claim.timer claim.generation claim.base) l)
     (sym c.lock-held.ensures.looks.claims) c.requires.claim.stands in
     subst (λ (t : Timer). IsOn claim.base t) (sym (returns-clause-state g c))
     (claim_on o v c.fresh.ensures.fresh knows claim.timer claim.generation claim.base c.requires.claim.within stands)

@@ -1,7 +1,7 @@
 use Rattle.std.proofs.Common.{◌≡◌, subst, false}
 use Rattle.base_row.specs.declared.view.Opening.{Opening}
 use Rattle.base_row.specs.Rules.{number_of}
-use Rattle.base_row.specs.Plays.{Knows}
+use Rattle.base_row.specs.Plays.{KnowsBases}
 use Rattle.base_row.specs.Calls.{timer_seen}
 use Rattle.seq_timer.specs.Tables.{is_due_on, runs_on}
 use Rattle.seq_timer.specs.Contents.{running_on}
@@ -13,7 +13,7 @@ pub returns-clause-idle : goal.returns-clause-idle
 returns-clause-idle c = λ is t.
     let o = c.args.row.now.about in
     let w = c.unlock_base.new.pass.knows in
-    let knows = subst (λ (q : Opening). Knows q.bases q.timers number_of w) c.unlock_base.ensures.row.about c.known.ensures in
+    let knows = subst (λ (q : Opening). KnowsBases q.bases q.timers number_of w) c.unlock_base.ensures.row.about c.known.ensures in
     subst (λ b. runs_on b (timer_seen o w t) ≡ false) c.requires.base
     (left_idle o c.args.held c.args.pass.now.knows w c.fresh.ensures.fresh knows c.unlock_base.ensures.free is t)
 
@@ -21,7 +21,7 @@ pub returns-clause-busy : goal.returns-clause-busy
 returns-clause-busy c = λ t g is.
     let o = c.args.row.now.about in
     let w = c.unlock_base.new.pass.knows in
-    let knows = subst (λ (q : Opening). Knows q.bases q.timers number_of w) c.unlock_base.ensures.row.about c.known.ensures in
+    let knows = subst (λ (q : Opening). KnowsBases q.bases q.timers number_of w) c.unlock_base.ensures.row.about c.known.ensures in
     subst (λ b. running_on b (timer_seen o w t) ≡ Some g) c.requires.base
     (left_busy o c.args.held c.args.pass.now.knows w c.fresh.ensures.fresh knows c.unlock_base.ensures.free t g is)
 
@@ -29,6 +29,6 @@ pub returns-clause-none : goal.returns-clause-none
 returns-clause-none c = λ reading is t.
     let o = c.args.row.now.about in
     let w = c.unlock_base.new.pass.knows in
-    let knows = subst (λ (q : Opening). Knows q.bases q.timers number_of w) c.unlock_base.ensures.row.about c.known.ensures in
+    let knows = subst (λ (q : Opening). KnowsBases q.bases q.timers number_of w) c.unlock_base.ensures.row.about c.known.ensures in
     subst (λ b. is_due_on b reading (timer_seen o w t) ≡ false) c.requires.base
     (left_none o c.args.held c.args.pass.now.knows w c.fresh.ensures.fresh knows c.unlock_base.ensures.free reading is t)

@@ -4,7 +4,7 @@ use Rattle.timer_word.specs.Words.{word_of}
 use Rattle.timer_word.specs.declared.word.TimerWord.{TimerWord}
 use Rattle.base_row.specs.declared.view.Opening.{Opening}
 use Rattle.base_row.specs.Rules.{number_of}
-use Rattle.base_row.specs.Plays.{Knows}
+use Rattle.base_row.specs.Plays.{KnowsBases}
 use Rattle.base_row.specs.Calls.{timer_seen}
 use Rattle.base_row.proofs.Placed.{reads_back, placed_seen}
 use Rattle.base_row.proofs.row.BaseRow.load_word.Goals as goal
@@ -19,7 +19,7 @@ pub unreachable-requires : goal.unreachable-requires
 unreachable-requires c =
     let o = c.args.self.now.about in
     let v = c.load_number-number.new.pass.knows in
-    let knows = subst (λ (q : Opening). Knows q.bases q.timers number_of v) c.load_number-number.ensures.row.about c.known.ensures in
+    let knows = subst (λ (q : Opening). KnowsBases q.bases q.timers number_of v) c.load_number-number.ensures.row.about c.known.ensures in
     not_none c.unpack.result (word_of (timer_seen o v c.args.timer))
     (reads_back o v c.fresh.ensures.fresh knows c.fresh.ensures.some c.fresh.ensures.few c.args.timer c.load_number-number.result c.load_number-number.ensures.word c.unpack.result c.unpack.ensures.back) c.in-None.is
 
@@ -27,7 +27,7 @@ pub returns-clause-word : goal.returns-clause-word
 returns-clause-word c =
     let o = c.args.self.now.about in
     let v = c.load_number-number.new.pass.knows in
-    let knows = subst (λ (q : Opening). Knows q.bases q.timers number_of v) c.load_number-number.ensures.row.about c.known.ensures in
+    let knows = subst (λ (q : Opening). KnowsBases q.bases q.timers number_of v) c.load_number-number.ensures.row.about c.known.ensures in
     some_word c.unpack.result (word_of (timer_seen o v c.args.timer)) c.in-Some.word
     (reads_back o v c.fresh.ensures.fresh knows c.fresh.ensures.some c.fresh.ensures.few c.args.timer c.load_number-number.result c.load_number-number.ensures.word c.unpack.result c.unpack.ensures.back) c.in-Some.is
 
@@ -35,5 +35,5 @@ pub returns-clause-placed : goal.returns-clause-placed
 returns-clause-placed c =
     let o = c.args.self.now.about in
     let v = c.load_number-number.new.pass.knows in
-    let knows = subst (λ (q : Opening). Knows q.bases q.timers number_of v) c.load_number-number.ensures.row.about c.known.ensures in
+    let knows = subst (λ (q : Opening). KnowsBases q.bases q.timers number_of v) c.load_number-number.ensures.row.about c.known.ensures in
     omega (arith, ap (λ (w : TimerWord). w.base) (returns-clause-word c), placed_seen o v c.fresh.ensures.fresh knows c.fresh.ensures.some c.args.timer)

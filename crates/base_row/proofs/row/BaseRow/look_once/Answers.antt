@@ -1,13 +1,13 @@
 use Rattle.std.proofs.Common.{ℕ}
 use Rattle.std.specs.Prelude.{MatchOption, Option, Some, None}
 use Rattle.seq_timer.specs.Systems.{BaseContent}
-use Rattle.base_row.specs.declared.view.Locked.{Locked}
-use Rattle.base_row.specs.declared.view.View.{View}
-use Rattle.base_row.specs.Calls.{Locks, Misses, Waits}
+use Rattle.base_row.specs.declared.view.HeldContent.{HeldContent}
+use Rattle.base_row.specs.declared.view.BaseView.{BaseView}
+use Rattle.base_row.specs.Calls.{GetsBase, MissesBase, Waits}
 use Rattle.base_row.proofs.row.BaseRow.look_once.Goals as goal
 
-waits : (b : ℕ) (v w : View BaseContent) (r : Option (Locked BaseContent)) → MatchOption r (Misses b v w) (λ h. Locks b v w h)
-    → MatchOption r (Waits b v w) (λ h. Locks b v w h)
+waits : (b : ℕ) (v w : BaseView BaseContent) (r : Option (HeldContent BaseContent)) → MatchOption r (MissesBase b v w) (λ h. GetsBase b v w h)
+    → MatchOption r (Waits b v w) (λ h. GetsBase b v w h)
 waits b v w None misses = misses.waits
 waits b v w (Some h) locks = locks
 

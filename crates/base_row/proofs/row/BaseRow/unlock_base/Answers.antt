@@ -1,10 +1,10 @@
 use Rattle.std.proofs.Common.{Some, ◌∷◌, [], ap, subst, ◌∙◌}
-use Rattle.base_row.specs.declared.view.Locked.{Locked}
+use Rattle.base_row.specs.declared.view.HeldContent.{HeldContent}
 use Rattle.base_row.specs.declared.view.Opening.{Opening}
 use Rattle.seq_timer.specs.Systems.{BaseContent}
 use Rattle.base_row.specs.Rules.{number_of}
-use Rattle.base_row.specs.Plays.{Freed}
-use Rattle.base_row.specs.Calls.{PassOf, LetsGo}
+use Rattle.base_row.specs.Plays.{FreedBase}
+use Rattle.base_row.specs.Calls.{BasePassOf, LetsGo}
 use Rattle.base_row.proofs.Holding.{let_go}
 use Rattle.base_row.proofs.row.BaseRow.unlock_base.Goals as goal
 
@@ -13,12 +13,12 @@ invariant_of-pass c =
     let o = c.args.self.now.about in
     let h = c.args.held in
     let me = c.pass.inside.seat.me in
-    let about = ap (λ (p : PassOf). p.knows.opening) c.pass.view_is ∙ c.requires.row.about in
-    let held = ap (λ (p : PassOf). p.knows.held) c.pass.view_is ∙ c.requires.held in
-    let mid = c.put_back.ensures.full ∙ ap (λ (x : Locked BaseContent). (me.0, (x.base, Some x.content) ∷ [])) c.held.view_is in
+    let about = ap (λ (p : BasePassOf). p.knows.opening) c.pass.view_is ∙ c.requires.row.about in
+    let held = ap (λ (p : BasePassOf). p.knows.held) c.pass.view_is ∙ c.requires.held in
+    let mid = c.put_back.ensures.full ∙ ap (λ (x : HeldContent BaseContent). (me.0, (x.base, Some x.content) ∷ [])) c.held.view_is in
     let told = c.free.ensures.freed h (ap (λ m. m.0.held) c.put_back.ensures.full ∙ held) in
     (let_go o h me c.put_back.new.seat.me c.free.new.seat.me about c.pass.invariant held c.requires.within mid
-    (subst (λ (x : Opening). Freed x.bases x.timers number_of h c.put_back.new.seat.me c.free.new.seat.me)
+    (subst (λ (x : Opening). FreedBase x.bases x.timers number_of h c.put_back.new.seat.me c.free.new.seat.me)
     (ap (λ m. m.0.opening) c.put_back.ensures.full ∙ about) told)).resting
 
 pub returns-clause-row : goal.returns-clause-row
@@ -26,25 +26,25 @@ returns-clause-row c =
     let o = c.args.self.now.about in
     let h = c.args.held in
     let me = c.pass.inside.seat.me in
-    let about = ap (λ (p : PassOf). p.knows.opening) c.pass.view_is ∙ c.requires.row.about in
-    let held = ap (λ (p : PassOf). p.knows.held) c.pass.view_is ∙ c.requires.held in
-    let mid = c.put_back.ensures.full ∙ ap (λ (x : Locked BaseContent). (me.0, (x.base, Some x.content) ∷ [])) c.held.view_is in
+    let about = ap (λ (p : BasePassOf). p.knows.opening) c.pass.view_is ∙ c.requires.row.about in
+    let held = ap (λ (p : BasePassOf). p.knows.held) c.pass.view_is ∙ c.requires.held in
+    let mid = c.put_back.ensures.full ∙ ap (λ (x : HeldContent BaseContent). (me.0, (x.base, Some x.content) ∷ [])) c.held.view_is in
     let told = c.free.ensures.freed h (ap (λ m. m.0.held) c.put_back.ensures.full ∙ held) in
     let r = let_go o h me c.put_back.new.seat.me c.free.new.seat.me about c.pass.invariant held c.requires.within mid
-    (subst (λ (x : Opening). Freed x.bases x.timers number_of h c.put_back.new.seat.me c.free.new.seat.me)
+    (subst (λ (x : Opening). FreedBase x.bases x.timers number_of h c.put_back.new.seat.me c.free.new.seat.me)
     (ap (λ m. m.0.opening) c.put_back.ensures.full ∙ about) told) in
-    record { row = c.free.ensures.same ∙ (c.put_back.ensures.same ∙ (ap (λ (p : PassOf). p.row) c.pass.view_is ∙ c.requires.row.row)); about = r.about }
+    record { row = c.free.ensures.same ∙ (c.put_back.ensures.same ∙ (ap (λ (p : BasePassOf). p.row) c.pass.view_is ∙ c.requires.row.row)); about = r.about }
 
 pub returns-clause-free : goal.returns-clause-free
 returns-clause-free c =
     let o = c.args.self.now.about in
     let h = c.args.held in
     let me = c.pass.inside.seat.me in
-    let about = ap (λ (p : PassOf). p.knows.opening) c.pass.view_is ∙ c.requires.row.about in
-    let held = ap (λ (p : PassOf). p.knows.held) c.pass.view_is ∙ c.requires.held in
-    let mid = c.put_back.ensures.full ∙ ap (λ (x : Locked BaseContent). (me.0, (x.base, Some x.content) ∷ [])) c.held.view_is in
+    let about = ap (λ (p : BasePassOf). p.knows.opening) c.pass.view_is ∙ c.requires.row.about in
+    let held = ap (λ (p : BasePassOf). p.knows.held) c.pass.view_is ∙ c.requires.held in
+    let mid = c.put_back.ensures.full ∙ ap (λ (x : HeldContent BaseContent). (me.0, (x.base, Some x.content) ∷ [])) c.held.view_is in
     let told = c.free.ensures.freed h (ap (λ m. m.0.held) c.put_back.ensures.full ∙ held) in
     let r = let_go o h me c.put_back.new.seat.me c.free.new.seat.me about c.pass.invariant held c.requires.within mid
-    (subst (λ (x : Opening). Freed x.bases x.timers number_of h c.put_back.new.seat.me c.free.new.seat.me)
+    (subst (λ (x : Opening). FreedBase x.bases x.timers number_of h c.put_back.new.seat.me c.free.new.seat.me)
     (ap (λ m. m.0.opening) c.put_back.ensures.full ∙ about) told) in
-    subst (λ (p : PassOf). LetsGo o h p.knows c.free.new.seat.me.0) c.pass.view_is r.free
+    subst (λ (p : BasePassOf). LetsGo o h p.knows c.free.new.seat.me.0) c.pass.view_is r.free

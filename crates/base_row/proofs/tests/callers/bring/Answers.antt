@@ -1,7 +1,7 @@
 use Rattle.std.proofs.Common.{ap, sym, ◌∙◌}
 use Rattle.ktime.specs.declared.mode.Mode.TheVariants as modes
 use Rattle.seq_timer.specs.Steps.{Timer}
-use Rattle.base_row.specs.declared.view.View.{View}
+use Rattle.base_row.specs.declared.view.BaseView.{BaseView}
 use Rattle.seq_timer.specs.Systems.{BaseContent}
 use Rattle.base_row.proofs.Calling.{may_start, seen_same}
 use Rattle.base_row.proofs.tests.callers.bring.Goals as goal
@@ -19,7 +19,7 @@ arrive-requires-clause-may g c =
     let locks = c.lock_base-held.ensures.locks in
     let same = arrive-requires-clause-state g c in
     may_start o w c.lock_base-held.result c.args.timer modes.Abs c.args.ns c.args.reading c.base-asked.result c.requires.within.0
-    (ap (λ (v : View BaseContent). v.held) locks.rest) (ap (λ (v : View BaseContent). v.carry) locks.rest ∙ c.requires.carries.1)
+    (ap (λ (v : BaseView BaseContent). v.held) locks.rest) (ap (λ (v : BaseView BaseContent). v.carry) locks.rest ∙ c.requires.carries.1)
     (ap (λ (t : Timer). t.moving) (sym same) ∙ c.requires.moving)
     (c.base-asked.ensures ∙ ap (λ (t : Timer). t.base) same)
     (ap (λ (t : Timer). t.base) (sym same) ∙ (sym c.base-asked.ensures ∙ sym locks.at))

@@ -1,11 +1,11 @@
 use Rattle.std.proofs.Common.{◌≡◌, ◌*◌, ◌≤◌}
-use Rattle.base_row.specs.Calls.{IsPassOf}
+use Rattle.base_row.specs.Calls.{IsBasePassOf}
 use Rattle.base_row.specs.Rests.{Rests}
 use Rattle.base_row.proofs.tests.threads.turns.Given as goal
 
 abbrev pub invariant-loop-number : goal.invariant-loop-number
 invariant-loop-number g l = record {
-  row : IsPassOf l.fn.row l.pass;
+  row : IsBasePassOf l.fn.row l.pass;
   rests : Rests l.pass.knows;
   claims : l.pass.knows.claims ≡ l.fn.pass.knows.claims;
   id : l.pass.knows.id ≡ l.fn.pass.knows.id;

@@ -4,7 +4,7 @@ use Rattle.pass_names.specs.Counts.{drop_if, without_first}
 use Rattle.pass_names.specs.Names.{AnswersFor, IsLast, after_retire, after_split, child_of, next_name, same}
 use Rattle.pass_names.proofs.Names.{child_listed, same-refl}
 use Rattle.seq_timer.specs.Systems.{BaseContent}
-use Rattle.base_row.specs.declared.view.View.{View}
+use Rattle.base_row.specs.declared.view.BaseView.{BaseView}
 use Rattle.base_row.proofs.tests.threads.turns_of_two.Goals as goal
 
 answers : (l m n : PassId) → m ≡ after_split l → n ≡ child_of l → AnswersFor m n
@@ -24,12 +24,12 @@ last_kept l m n r is_m is_n is_r last =
 pub retire-requires-clause-answers : goal.retire-requires-clause-answers
 retire-requires-clause-answers g c =
     answers c.args.main.now.knows.id c.both-first.new.first.knows.id c.both-first.new.second.knows.id
-    (c.both-first.ensures.same.1 ∙ ap (λ (v : View BaseContent). v.id) c.split-other.ensures.splitter)
-    (c.both-first.ensures.other.1 ∙ ap (λ (v : View BaseContent). v.id) c.split-other.ensures.new)
+    (c.both-first.ensures.same.1 ∙ ap (λ (v : BaseView BaseContent). v.id) c.split-other.ensures.splitter)
+    (c.both-first.ensures.other.1 ∙ ap (λ (v : BaseView BaseContent). v.id) c.split-other.ensures.new)
 
 pub returns-clause-last : goal.returns-clause-last
 returns-clause-last g c =
     last_kept c.args.main.now.knows.id c.both-first.new.first.knows.id c.both-first.new.second.knows.id c.retire.new.main.knows.id
-    (c.both-first.ensures.same.1 ∙ ap (λ (v : View BaseContent). v.id) c.split-other.ensures.splitter)
-    (c.both-first.ensures.other.1 ∙ ap (λ (v : View BaseContent). v.id) c.split-other.ensures.new)
-    (ap (λ (v : View BaseContent). v.id) c.retire.ensures.retires.rest)
+    (c.both-first.ensures.same.1 ∙ ap (λ (v : BaseView BaseContent). v.id) c.split-other.ensures.splitter)
+    (c.both-first.ensures.other.1 ∙ ap (λ (v : BaseView BaseContent). v.id) c.split-other.ensures.new)
+    (ap (λ (v : BaseView BaseContent). v.id) c.retire.ensures.retires.rest)
