@@ -23,7 +23,7 @@ use Rattle.base_row.specs.declared.view.BaseView.{BaseView}
 use Rattle.base_row.specs.Rules.{takes_at}
 use Rattle.base_row.specs.Plays.{GotBase, KnowsOwn, Lost, carried_slots}
 use Rattle.base_row.specs.Calls.{Absorbs, Appended, AreFresh, LearnsFrom, LetsGo, GetsBase, MayAppend}
-use Rattle.base_row.specs.Calls.{MissesBase, SeesMore, Waits, entry_in, known_of, own_entry, timer_seen}
+use Rattle.base_row.specs.Calls.{MissesBase, SeesFurther, Waits, entry_in, known_of, own_entry, timer_seen}
 
 -- ---- takes
 
@@ -132,7 +132,7 @@ looks_waits b v w l = record {
   claims = ap (λ (x : BaseView BaseContent). x.claims) l.rest;
 }
 
-pub looks_sees : (v w : BaseView BaseContent) → SeesMore v w → LooksOn (known_of v) (known_of w)
+pub looks_sees : (v w : BaseView BaseContent) → SeesFurther v w → LooksOn (known_of v) (known_of w)
 looks_sees v w l = record {
   seen = l.seen;
   mine = ap (λ (x : BaseView BaseContent). x.mine) l.rest;

@@ -96,7 +96,7 @@ pub record MissesBase (base : ℕ) (v w : BaseView BaseContent) : Type 0 where
   pub missed : Missed v base (slice_index v.met base) (slice_index w.met base) ⊎ (2 ^ 64 - 2 ≤ slice_index w.met base)
 
 -- a pass has seen more, and nothing else is other than before
-pub record SeesMore (v w : BaseView BaseContent) : Type 0 where
+pub record SeesFurther (v w : BaseView BaseContent) : Type 0 where
   pub rest : w ≡ having_met w.seen v.met v
   pub seen : Begins v.seen w.seen
 

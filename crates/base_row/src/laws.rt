@@ -6,14 +6,14 @@ ghost use Rattle.seq_timer.specs.Systems.{BaseContent, entries_of};
 ghost use Rattle.base_row.specs.declared.view.HeldContent as locked;
 ghost use Rattle.base_row.specs.declared.view.Opening as opening;
 ghost use Rattle.base_row.specs.declared.view.BaseView as view;
-ghost use Rattle.base_row.specs.Calls.{Absorbs, Appended, AreFresh, LearnsFrom, LetsGo, GetsBase, SeesMore, Waits, known_of, own_entry};
+ghost use Rattle.base_row.specs.Calls.{Absorbs, Appended, AreFresh, LearnsFrom, LetsGo, GetsBase, SeesFurther, Waits, known_of, own_entry};
 
 /// Taking a base's lock, letting it go and loading a word add no entry: what was seen goes on, and name, places and claims stay.
 pub fn locks_and_loads_only_look()
     ensures locks { (base : ℕ) (v w : view.BaseView BaseContent) (h : locked.HeldContent BaseContent) → GetsBase base v w h → LooksOn (known_of v) (known_of w) }
     ensures waits { (base : ℕ) (v w : view.BaseView BaseContent) → Waits base v w → LooksOn (known_of v) (known_of w) }
     ensures frees { (o : opening.Opening) (h : locked.HeldContent BaseContent) (v w : view.BaseView BaseContent) → LetsGo o h v w → LooksOn (known_of v) (known_of w) }
-    ensures loads { (v w : view.BaseView BaseContent) → SeesMore v w → LooksOn (known_of v) (known_of w) }
+    ensures loads { (v w : view.BaseView BaseContent) → SeesFurther v w → LooksOn (known_of v) (known_of w) }
 {}
 
 /// An entry stands right behind what its pass had seen of the timer, and its place last in mine.

@@ -10,7 +10,7 @@ ghost use Rattle.timer_word.specs.Words.{word_of};
 ghost use Rattle.seq_timer.specs.Contents.{first_due, running_on};
 ghost use Rattle.seq_timer.specs.Systems.{IsOn};
 ghost use Rattle.base_row.specs.Plays.{KnowsOwn, first_base_view, Lost, GotBase, carried_slots, split_base_view, new_base_view, Steady};
-ghost use Rattle.base_row.specs.Calls.{AreFresh, GetsBase, MissesBase, Waits, opening_of, IsBasePassOf, LetsGo, SeesMore, Absorbs, LearnsFrom, MayAppend, Appended, timer_seen, base_seen};
+ghost use Rattle.base_row.specs.Calls.{AreFresh, GetsBase, MissesBase, Waits, opening_of, IsBasePassOf, LetsGo, SeesFurther, Absorbs, LearnsFrom, MayAppend, Appended, timer_seen, base_seen};
 
 use crate::held::{HeldBase, Pass};
 use crate::parts::{empty_slots, lock_index, make_timers, number_of, timer_index, zeros};
@@ -251,7 +251,7 @@ impl BaseRow {
         requires row { IsBasePassOf self.now pass.old }
         requires within { timer < length self.now.about.timers }
         ensures row { IsBasePassOf self.now pass.new }
-        ensures sees { SeesMore pass.old.knows pass.new.knows }
+        ensures sees { SeesFurther pass.old.knows pass.new.knows }
         ensures steady { Steady pass.old.knows pass.new.knows }
         ensures word { result ≡ word_of (timer_seen self.now.about pass.new.knows timer) }
         ensures placed { result.base < self.now.about.bases }
@@ -269,7 +269,7 @@ impl BaseRow {
         requires row { IsBasePassOf self.now pass.old }
         requires within { timer < length self.now.about.timers }
         ensures row { IsBasePassOf self.now pass.new }
-        ensures sees { SeesMore pass.old.knows pass.new.knows }
+        ensures sees { SeesFurther pass.old.knows pass.new.knows }
         ensures steady { Steady pass.old.knows pass.new.knows }
         ensures word { result ≡ number_of (timer_seen self.now.about pass.new.knows timer) }
     {

@@ -27,7 +27,7 @@ pub looks_trans : (u v w : BaseView BaseContent) → Looks u v → Looks v w →
 looks_trans u v w a b =
     record { seen = begins_trans a.seen b.seen; mine = b.mine ∙ a.mine; id = b.id ∙ a.id; claims = b.claims ∙ a.claims; carry = b.carry ∙ a.carry }
 
-pub looks_seen : (v w : BaseView BaseContent) → rows.SeesMore v w → Looks v w
+pub looks_seen : (v w : BaseView BaseContent) → rows.SeesFurther v w → Looks v w
 looks_seen v w s = record {
   seen = s.seen;
   mine = ap (λ (y : BaseView BaseContent). y.mine) s.rest;
