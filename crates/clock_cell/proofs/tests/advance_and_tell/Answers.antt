@@ -13,4 +13,4 @@ returns-clause-later g c =
     let read = c.read.ensures in
     let heard = of_one c.args.b.now.knows a c.meet.new.b.knows c.read.new.pass.knows (ap (λ v. v.heard) c.meet.ensures.second) read.heard in
     IfOk-weaker c.advance-answer.result (Accepts (Advance c.args.by) c.args.a.now.knows a) (λ (r : ClockReading). r.stamp ≤ c.read.result.stamp)
-    (λ r takes. omega (arith, takes.count, read.count, begins_length heard.1)) c.advance-answer.ensures.ok
+    (λ r takes. omega (arith, takes.count, read.count, begins_length heard.1)) c.advance-answer.ensures.answers.ok
