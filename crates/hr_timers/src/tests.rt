@@ -1,7 +1,12 @@
-//! Timers as callers use them, by one pass.
+//! Timers as callers use them: by one pass, by two, and by two threads.
 ghost use Rattle.std.specs.Prelude.{◌≡◌, [], length, IfOk};
-ghost use Rattle.pass_names.specs.Names.{IsLast};
+ghost use Rattle.pass_names.specs.Names.{IsLast, first_pass_id};
 ghost use Rattle.hr_timers.specs.Known.{IsPassOf};
+
+mod callers;
+mod claims;
+mod passes;
+mod threads;
 
 use crate::{NowAnswer, Pass, StartAnswer, Timers};
 use ktime::{ClockId, Mode, Reading};
@@ -13,10 +18,11 @@ use timer_core::CancelAnswer;
 /// Two bases and two timers.
 fn two_timers(alloc: Global) -> Result<(Timers, Pass), AllocError>
     ensures pass { IfOk result (λ r. IsPassOf r.0 r.1 × IsLast r.1.known.id × (r.1.known.claims ≡ [])) }
+    ensures first { IfOk result (λ r. r.1.known.id ≡ first_pass_id) }
     ensures size { IfOk result (λ r. (length r.0.about.timers ≡ 2) × (r.0.about.bases ≡ 2)) }
 {
     let clocks = [ClockId::Monotonic, ClockId::Monotonic];
-    Timers::make(alloc, 2, &clocks, 100)
+    Timers::make(alloc, 2, &clocks, 100000)
 }
 
 #[test]
@@ -57,6 +63,23 @@ fn a_timer_moves_and_is_cancelled(rt: HostRuntime) -> Result<(), Fail> {
         timers.try_to_cancel(&rt, &mut pass, 0),
         CancelAnswer::Idle { stamp: 3 }
     );
+    timers.close(pass);
+    Ok(())
+}
+
+#[test]
+fn a_start_at_the_limit_is_refused(rt: HostRuntime) -> Result<(), Fail> {
+    let (timers, mut pass) = Timers::make(rt.alloc(), 1, &[ClockId::Boottime], 1)?;
+    timers.start(&rt, &mut pass, 0, Mode::Abs, 7, 0, Reading::at(1000));
+    assert_eq!(rt;
+        timers.start(&rt, &mut pass, 0, Mode::Abs, 8, 0, Reading::at(1000)),
+        StartAnswer::Spent { stamp: 1 }
+    );
+    let cancelled = CancelAnswer::Cancelled {
+        generation: 1,
+        number: 2,
+    };
+    assert_eq!(rt; timers.try_to_cancel(&rt, &mut pass, 0), cancelled);
     timers.close(pass);
     Ok(())
 }

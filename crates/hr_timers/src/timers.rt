@@ -247,7 +247,7 @@ impl Timers {
     }
 
     /// A pass of these timers' table knows what is true.
-    fn check(&self, pass: &Pass)
+    pub(crate) fn check(&self, pass: &Pass)
         requires row { pass.now.row ≡ self.now.id }
         requires opening { pass.now.opening ≡ self.now.about }
         ensures { IsPassOf self.now pass.now }

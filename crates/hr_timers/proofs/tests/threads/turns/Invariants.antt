@@ -1,0 +1,11 @@
+use Rattle.std.proofs.Common.{◌≡◌, ◌*◌, ◌≤◌, []}
+use Rattle.hr_timers.specs.Known.{IsPassOf}
+use Rattle.hr_timers.proofs.tests.threads.turns.Given as goal
+
+abbrev pub invariant-loop-number : goal.invariant-loop-number
+invariant-loop-number g l = record {
+  pass : IsPassOf l.fn.timers l.pass;
+  claims : l.pass.known.claims ≡ [];
+  id : l.pass.known.id ≡ l.fn.pass.known.id;
+  few : l.made ≤ 2 * l.number;
+}

@@ -1,0 +1,165 @@
+//! Claims: when a timer is due, what its function finds while it runs, and what its end leaves.
+use super::callers::{Found, claim, finish, forward, run};
+use super::two_timers;
+use crate::{ClaimNumbers, NowAnswer};
+use ktime::{Mode, Reading};
+use seq_timer::{Peek, Rearmed};
+use std::test::Fail;
+use timer_core::{CancelAnswer, Finished, ForwardAnswer};
+
+#[test]
+fn a_timer_runs_at_its_expiry_and_once(rt: HostRuntime) -> Result<(), Fail> {
+    let (timers, mut pass) = two_timers(rt.alloc())?;
+    timers.start(&rt, &mut pass, 0, Mode::Rel, 7, 0, Reading::at(1000));
+    assert_eq!(rt;
+        run(&rt, &timers, &mut pass, 0, Reading::at(1006)),
+        Found::NoneDue
+    );
+    assert_eq!(rt;
+        run(&rt, &timers, &mut pass, 1, Reading::at(1007)),
+        Found::NoneDue
+    );
+    let Some(claim) = claim(&rt, &timers, &mut pass, 0, Reading::at(1007)) else {
+        assert!(rt; false);
+        timers.close(pass);
+        return Ok(());
+    };
+    let numbers = ClaimNumbers {
+        timer: 0,
+        generation: 1,
+        base: 0,
+        number: 2,
+    };
+    assert_eq!(rt; claim.numbers(), numbers);
+    let finished = Finished {
+        number: 3,
+        rearmed: Rearmed::No,
+    };
+    assert_eq!(rt; finish(&rt, &timers, &mut pass, claim, false), finished);
+    assert_eq!(rt;
+        run(&rt, &timers, &mut pass, 0, Reading::at(2000)),
+        Found::NoneDue
+    );
+    timers.close(pass);
+    Ok(())
+}
+
+#[test]
+fn of_two_timers_the_earlier_runs_first(rt: HostRuntime) -> Result<(), Fail> {
+    let (timers, mut pass) = two_timers(rt.alloc())?;
+    let now = Reading::at(1000);
+    timers.start(&rt, &mut pass, 0, Mode::Abs, 900, 0, now);
+    timers.start(&rt, &mut pass, 1, Mode::Abs, 800, 0, now);
+    assert_eq!(rt;
+        run(&rt, &timers, &mut pass, 0, now),
+        Found::Ran { timer: 1 }
+    );
+    timers.start(&rt, &mut pass, 1, Mode::Abs, 900, 0, now);
+    assert_eq!(rt;
+        run(&rt, &timers, &mut pass, 0, now),
+        Found::Ran { timer: 0 }
+    );
+    assert_eq!(rt;
+        run(&rt, &timers, &mut pass, 0, now),
+        Found::Ran { timer: 1 }
+    );
+    assert_eq!(rt; run(&rt, &timers, &mut pass, 0, now), Found::NoneDue);
+    timers.close(pass);
+    Ok(())
+}
+
+#[test]
+fn a_timer_whose_function_runs_is_not_cancelled(rt: HostRuntime) -> Result<(), Fail> {
+    let (timers, mut pass) = two_timers(rt.alloc())?;
+    timers.start(&rt, &mut pass, 0, Mode::Rel, 7, 0, Reading::at(1000));
+    let Some(claim) = claim(&rt, &timers, &mut pass, 0, Reading::at(1030)) else {
+        assert!(rt; false);
+        timers.close(pass);
+        return Ok(());
+    };
+    let running = CancelAnswer::Running {
+        generation: 1,
+        stamp: 2,
+    };
+    assert_eq!(rt; timers.try_to_cancel(&rt, &mut pass, 0), running);
+    assert_eq!(rt; timers.cancel_now(&mut pass, 0), NowAnswer::Tried(running));
+    let peek = Peek {
+        stamp: 2,
+        base: 0,
+        enqueued: false,
+        running: true,
+        moving: false,
+    };
+    assert_eq!(rt; timers.peek(&mut pass, 0), peek);
+    finish(&rt, &timers, &mut pass, claim, false);
+    timers.close(pass);
+    Ok(())
+}
+
+#[test]
+fn a_periodic_timer_goes_past_the_reading(rt: HostRuntime) -> Result<(), Fail> {
+    let (timers, mut pass) = two_timers(rt.alloc())?;
+    timers.start(&rt, &mut pass, 0, Mode::Rel, 7, 0, Reading::at(1000));
+    let Some(claim) = claim(&rt, &timers, &mut pass, 0, Reading::at(1030)) else {
+        assert!(rt; false);
+        timers.close(pass);
+        return Ok(());
+    };
+    let forwarded = ForwardAnswer::Forwarded {
+        number: 3,
+        count: 3,
+        expires: 1037,
+    };
+    assert_eq!(rt;
+        forward(&rt, &timers, &mut pass, &claim, Reading::at(1030), 10),
+        forwarded
+    );
+    let finished = Finished {
+        number: 4,
+        rearmed: Rearmed::Again { generation: 4 },
+    };
+    assert_eq!(rt; finish(&rt, &timers, &mut pass, claim, true), finished);
+    assert_eq!(rt;
+        run(&rt, &timers, &mut pass, 0, Reading::at(1036)),
+        Found::NoneDue
+    );
+    assert_eq!(rt;
+        run(&rt, &timers, &mut pass, 0, Reading::at(1037)),
+        Found::Ran { timer: 0 }
+    );
+    timers.close(pass);
+    Ok(())
+}
+
+#[test]
+fn a_start_while_the_function_runs_stands(rt: HostRuntime) -> Result<(), Fail> {
+    let (timers, mut pass) = two_timers(rt.alloc())?;
+    timers.start(&rt, &mut pass, 0, Mode::Rel, 7, 0, Reading::at(1000));
+    let Some(claim) = claim(&rt, &timers, &mut pass, 0, Reading::at(1030)) else {
+        assert!(rt; false);
+        timers.close(pass);
+        return Ok(());
+    };
+    timers.start(&rt, &mut pass, 0, Mode::Rel, 7, 1, Reading::at(1030));
+    let armed = ForwardAnswer::Armed {
+        generation: 3,
+        stamp: 3,
+    };
+    assert_eq!(rt;
+        forward(&rt, &timers, &mut pass, &claim, Reading::at(1030), 10),
+        armed
+    );
+    let finished = Finished {
+        number: 4,
+        rearmed: Rearmed::No,
+    };
+    assert_eq!(rt; finish(&rt, &timers, &mut pass, claim, true), finished);
+    assert_eq!(rt; timers.peek(&mut pass, 0).base, 0);
+    let cancelled = CancelAnswer::Cancelled {
+        generation: 3,
+        number: 5,
+    };
+    assert_eq!(rt; timers.try_to_cancel(&rt, &mut pass, 0), cancelled);
+    timers.close(pass);
+    Ok(())
+}

@@ -1,0 +1,79 @@
+//! Two passes: what one does while the other holds a base, moves a timer or runs a function.
+use super::callers::{Found, claim, finish, retire, run};
+use super::two_timers;
+use crate::{NowAnswer, Pass};
+use ktime::{Mode, Reading};
+use std::test::Fail;
+use timer_core::CancelAnswer;
+
+#[test]
+fn a_held_base_is_contended_and_no_other(rt: HostRuntime) -> Result<(), Fail> {
+    let (timers, mut pass) = two_timers(rt.alloc())?;
+    timers.start(&rt, &mut pass, 0, Mode::Rel, 7, 0, Reading::at(1000));
+    timers.start(&rt, &mut pass, 1, Mode::Rel, 7, 1, Reading::at(1000));
+    let other = timers.split(&mut pass);
+    let Pass { mut inner } = other;
+    let held = timers.base_row().lock_base(&rt, &mut inner, 0);
+    assert_eq!(rt;
+        timers.cancel_now(&mut pass, 0),
+        NowAnswer::Contended { base: 0 }
+    );
+    assert!(rt; timers.peek(&mut pass, 0).enqueued);
+    let free = CancelAnswer::Cancelled {
+        generation: 2,
+        number: 3,
+    };
+    assert_eq!(rt; timers.cancel_now(&mut pass, 1), NowAnswer::Tried(free));
+    timers.base_row().unlock_base(&mut inner, held);
+    let other = Pass { inner };
+    timers.check(&other);
+    retire(&timers, &mut pass, other);
+    let cancelled = CancelAnswer::Cancelled {
+        generation: 1,
+        number: 2,
+    };
+    assert_eq!(rt;
+        timers.cancel_now(&mut pass, 0),
+        NowAnswer::Tried(cancelled)
+    );
+    timers.close(pass);
+    Ok(())
+}
+
+#[test]
+fn a_base_where_a_function_runs_is_busy(rt: HostRuntime) -> Result<(), Fail> {
+    let (timers, mut pass) = two_timers(rt.alloc())?;
+    let now = Reading::at(1000);
+    timers.start(&rt, &mut pass, 0, Mode::Abs, 900, 0, now);
+    timers.start(&rt, &mut pass, 1, Mode::Abs, 950, 0, now);
+    let mut other = timers.split(&mut pass);
+    if let Some(claim) = claim(&rt, &timers, &mut pass, 0, now) {
+        let busy = Found::Busy {
+            timer: 0,
+            generation: 1,
+        };
+        assert_eq!(rt; run(&rt, &timers, &mut other, 0, now), busy);
+        assert_eq!(rt; run(&rt, &timers, &mut other, 1, now), Found::NoneDue);
+        finish(&rt, &timers, &mut pass, claim, false);
+    }
+    assert_eq!(rt;
+        run(&rt, &timers, &mut other, 0, now),
+        Found::Ran { timer: 1 }
+    );
+    retire(&timers, &mut pass, other);
+    timers.close(pass);
+    Ok(())
+}
+
+#[test]
+fn passes_that_meet_know_as_much(rt: HostRuntime) -> Result<(), Fail> {
+    let (timers, mut pass) = two_timers(rt.alloc())?;
+    let mut other = timers.split(&mut pass);
+    timers.start(&rt, &mut other, 1, Mode::Rel, 7, 0, Reading::at(1000));
+    timers.meet(&mut pass, &mut other);
+    assert_eq!(rt; timers.peek(&mut pass, 1), timers.peek(&mut other, 1));
+    retire(&timers, &mut pass, other);
+    assert!(rt; timers.peek(&mut pass, 1).enqueued);
+    timers.close(pass);
+    Ok(())
+}
