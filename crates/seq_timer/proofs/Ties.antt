@@ -1,5 +1,5 @@
 -- Of timers that expire at the same time on one queue, the one that was armed first stands first, and is claimed first.
-use Rattle.std.proofs.Common.{◌≡◌, ◌≢◌, ◌<◌, ◌≤◌, ◌+◌, ℕ, Bool, true, false, not, ◌&&◌, List, [], ◌∷◌, ◌++◌, Some, None, nat_eq, nat_lt, is_some, unwrap_or, if◌then◌else◌, arith, refl, sym, ap, ◌∙◌, subst, ⊎_elim, length}
+use Rattle.std.proofs.Common.{◌≡◌, ◌≢◌, ◌<◌, ◌≤◌, ◌+◌, ℕ, Bool, true, false, not, ◌&&◌, List, [], ◌∷◌, ◌++◌, Option, Some, None, nat_eq, nat_lt, is_some, unwrap_or, if◌then◌else◌, arith, refl, sym, ap, ◌∙◌, subst, ⊎_elim, length}
 use Rattle.std.specs.List.{AllByRecursion}
 use Rattle.std.proofs.lemmas.Bool.{cases_eq, ne_eqb, eqb-true}
 use Rattle.std.proofs.lemmas.Bool.Decides.{nat_tests}
@@ -12,12 +12,13 @@ use Rattle.seq_timer.specs.declared.event.Event.{Event}
 use Rattle.seq_timer.specs.declared.event.Event.TheVariants as events
 use Rattle.seq_timer.specs.declared.system.TimerEntry.{TimerEntry}
 use Rattle.seq_timer.specs.Steps.{Timer, Needs, after, arms_again}
-use Rattle.seq_timer.specs.Tables.{is_kept_on, rank}
-use Rattle.seq_timer.specs.Contents.{Content, content_after, dequeued, first_due, no_content, queue_of, reached, requeued, with_running}
+use Rattle.seq_timer.specs.Tables.{is_kept_on, rank, runs_on}
+use Rattle.seq_timer.specs.Contents.{Content, content_after, dequeued, first_due, generation_in, no_content, queue_of, reached, requeued, running_on, with_running}
 use Rattle.seq_timer.specs.Systems.{AreSystemSteps, BaseContent, FitsBase, IsSystemHistory, IsSystemStep, System, after_entries, after_entry, armed_after, armed_in, arms, first_system, openings, system_of, updated}
+use Rattle.seq_timer.specs.Turns.{IsTurn, MayFollow}
 use Rattle.seq_timer.proofs.Agreement.{Agrees, agrees_next, all_agree, content_of_changed, first_agrees}
 use Rattle.seq_timer.proofs.Contents.{wanted-elsewhere}
-use Rattle.seq_timer.proofs.Due.{expiry-kept, first_reached, or_some, rank-injective}
+use Rattle.seq_timer.proofs.Due.{expiry-kept, first_due-next, first_reached, or_some, rank-injective}
 use Rattle.seq_timer.proofs.Queues.{has_id-without, queue_of-dequeued, queue_of-enqueued, queue_of-with_running}
 use Rattle.seq_timer.proofs.Systems.{base_else, base_here, steps_part, updated_else, updated_here}
 
@@ -234,32 +235,53 @@ claimed_first w armed count agrees o base t u reading is apart kept same =
     (first_in_queue w agrees base t reading is) apart
     (((agrees.contents base).queues (w.timers t).clock).exact u ∙ (ap (λ b. if b then Some (w.timers u).expires else None) kept ∙ ap (λ e. Some e) same))
 
-last_step : (bases timers : ℕ) (w : System) (xs : List TimerEntry) (e : TimerEntry) → AreSystemSteps bases timers w (xs ++ e ∷ [])
-    → IsSystemStep bases timers (after_entries w xs) e
-last_step bases timers w [] e all = all.0
-last_step bases timers w (x ∷ xs) e all = last_step bases timers (after_entry w x) xs e all.1
+pub step_at : (bases timers : ℕ) (w : System) (before later : List TimerEntry) (e : TimerEntry) → AreSystemSteps bases timers w (before ++ e ∷ later)
+    → IsSystemStep bases timers (after_entries w before) e
+step_at bases timers w [] later e all = all.0
+step_at bases timers w (x ∷ xs) later e all = step_at bases timers (after_entry w x) xs later e all.1
 
-pub ties : (bases limit : ℕ) (list : List ClockId) (log : List TimerEntry) (e : TimerEntry)
-    → IsSystemHistory bases list limit (log ++ e ∷ []) → (base : ℕ) (reading : ClockReading) → e.event ≡ events.Claim base reading → (u : ℕ) → u ≢ e.timer
-    → is_kept_on base ((system_of list limit log).timers e.timer).clock ((system_of list limit log).timers u) ≡ true
-    → ((system_of list limit log).timers u).expires ≡ ((system_of list limit log).timers e.timer).expires
-    → armed_in list limit log e.timer < armed_in list limit log u
-ties bases limit list log e history base reading is u apart kept same =
-    let first = first_system (openings list limit) in
-    let w = system_of list limit log in
-    let t = w.timers e.timer in
-    let part = steps_part bases (length list) first log (e ∷ []) history in
-    let step = last_step bases (length list) first log e history in
-    let there : base ≡ t.base = (subst (λ x. Needs t x) is step.needs).1 in
-    let due : first_due (w.bases t.base).content reading ≡ Some (t.expires, e.timer) =
-    (subst (λ x. FitsBase bases (w.bases t.base).content e.timer t x) is step.base).1 in
-    let agrees = all_agree bases limit list log part in
-    let start : Ordered first (λ k. 0) 0 = record { below = λ k. omega arith; each = λ b clock. empty clock } in
-    let ordered = ordered_all bases (length list) first (λ k. 0) 0 log part (first_agrees list limit) start in
-    claimed_first w (armed_in list limit log) (0 + length log) agrees ordered base e.timer u reading
-    (subst (λ b. first_due (w.bases b).content reading ≡ Some (t.expires, e.timer)) (sym there) due) apart kept same
-  where
-    empty : (clock : ClockId) → InOrder (λ k. 0) (queue_of no_content clock)
-    empty clocks.Monotonic = tt
-    empty clocks.Realtime = tt
-    empty clocks.Boottime = tt
+no_one_runs : (running : Option (ℕ × ℕ)) (base u : ℕ) (t : Timer) → running ≡ None → generation_in u running ≡ running_on base t → runs_on base t ≡ false
+no_one_runs None base u t none is = grind (arith, nat_tests, is)
+no_one_runs (Some r) base u t none is = cc
+
+module _ (bases limit : ℕ) (list : List ClockId) (before later : List TimerEntry) (e : TimerEntry)
+    (history : IsSystemHistory bases list limit (before ++ e ∷ later)) where
+  -- a claim takes the timer whose turn it is
+  turn : (base : ℕ) (reading : ClockReading) → e.event ≡ events.Claim base reading
+      → IsTurn (system_of list limit before).timers (armed_in list limit before) base reading e.timer
+  turn base reading is =
+      let first = first_system (openings list limit) in
+      let w = system_of list limit before in
+      let t = w.timers e.timer in
+      let part = steps_part bases (length list) first before (e ∷ later) history in
+      let step = step_at bases (length list) first before later e history in
+      let there : t.base ≡ base = sym (subst (λ x. Needs t x) is step.needs).1 in
+      let fits : ((w.bases base).content.running ≡ None) × (first_due (w.bases base).content reading ≡ Some (t.expires, e.timer)) =
+      subst (λ b. ((w.bases b).content.running ≡ None) × (first_due (w.bases b).content reading ≡ Some (t.expires, e.timer))) there
+          (subst (λ x. FitsBase bases (w.bases t.base).content e.timer t x) is step.base) in
+      let agrees = all_agree bases limit list before part in
+      let start : Ordered first (λ k. 0) 0 = record { below = λ k. omega arith; each = λ b clock. empty clock } in
+      let ordered = ordered_all bases (length list) first (λ k. 0) 0 before part (first_agrees list limit) start in
+      record {
+        idle = λ u. no_one_runs (w.bases base).content.running base u (w.timers u) fits.0 ((agrees.contents base).running u);
+        next = (first_due-next w.timers base reading (w.bases base).content (t.expires, e.timer) (agrees.contents base) fits.1).0;
+        ties = λ u apart kept same.
+            claimed_first w (armed_in list limit before) (0 + length before) agrees ordered base e.timer u reading fits.1 apart kept same;
+      }
+    where
+      empty : (clock : ClockId) → InOrder (λ k. 0) (queue_of no_content clock)
+      empty clocks.Monotonic = tt
+      empty clocks.Realtime = tt
+      empty clocks.Boottime = tt
+
+  pub may_follow : MayFollow bases list limit before e
+  may_follow =
+      let step = step_at bases (length list) (first_system (openings list limit)) before later e history in
+      let w = system_of list limit before in
+      record {
+        within = step.within;
+        needs = step.needs;
+        reply = step.reply;
+        sent = λ base is. subst (λ x. FitsBase bases (w.bases (w.timers e.timer).base).content e.timer (w.timers e.timer) x) is step.base;
+        turn = turn;
+      }

@@ -5,3 +5,4 @@ pub mod Laws
 pub mod Steps
 pub mod Systems
 pub mod Tables
+pub mod Turns

@@ -10,7 +10,7 @@ pub use laws::{
 pub use observation::{Observation, Peek};
 pub use system::{
     TimerEntry, bases_agree_with_timers, each_part_is_legal,
-    of_equal_expiries_the_first_armed_is_claimed, one_function_runs_on_a_base,
+    each_claim_is_in_turn, one_function_runs_on_a_base,
     stamps_count_entries,
 };
 pub use timer_state::TimerState;

@@ -1,13 +1,12 @@
 //! The history of all timers: one list of entries, each a step of its timer and of the base that the timer is on.
-ghost use Rattle.std.specs.Prelude.{◌≡◌, ◌≢◌, ◌<◌, ℕ, true, Some, List, [], ◌∷◌, ◌++◌, length, slice_get};
+ghost use Rattle.std.specs.Prelude.{◌≡◌, ℕ, true, Some, List, length, slice_get};
 ghost use Rattle.ktime.specs.declared.clock_id.ClockId.{ClockId};
-ghost use Rattle.ktime.specs.Readings.{ClockReading};
-ghost use Rattle.seq_timer.specs.declared.event.Event.TheVariants as events;
 ghost use Rattle.seq_timer.specs.declared.system.TimerEntry as declared;
 ghost use Rattle.seq_timer.specs.Contents.{IsContentOf};
 ghost use Rattle.seq_timer.specs.Histories.{IsLegal};
-ghost use Rattle.seq_timer.specs.Tables.{is_kept_on, runs_on};
-ghost use Rattle.seq_timer.specs.Systems.{IsSystemHistory, armed_in, entries_of, system_of};
+ghost use Rattle.seq_timer.specs.Tables.{runs_on};
+ghost use Rattle.seq_timer.specs.Systems.{IsSystemHistory, entries_of, system_of};
+ghost use Rattle.seq_timer.specs.Turns.{IsInTurn};
 
 use crate::event::{Event, Reply};
 
@@ -40,11 +39,8 @@ pub fn stamps_count_entries()
     ensures { (limit : ℕ) (clocks : List ClockId) (log : List declared.TimerEntry) (t : ℕ) → ((system_of clocks limit log).timers t).stamp ≡ length (entries_of t log) }
 {}
 
-/// Of timers that are armed on a base and kept on a clock for the same time, the one that was armed first is claimed first.
-pub fn of_equal_expiries_the_first_armed_is_claimed()
-    ensures { (bases limit : ℕ) (clocks : List ClockId) (log : List declared.TimerEntry) (e : declared.TimerEntry) → IsSystemHistory bases clocks limit (log ++ e ∷ [])
-        → (base : ℕ) (reading : ClockReading) → e.event ≡ events.Claim base reading → (u : ℕ) → u ≢ e.timer
-        → is_kept_on base ((system_of clocks limit log).timers e.timer).clock ((system_of clocks limit log).timers u) ≡ true
-        → ((system_of clocks limit log).timers u).expires ≡ ((system_of clocks limit log).timers e.timer).expires
-        → armed_in clocks limit log e.timer < armed_in clocks limit log u }
+/// In a history of all timers each claim takes the timer whose turn it is, by the timers alone: on a base where no function runs, the one that is
+/// to expire next, and of those that are kept on its clock for the same time the one that was armed first.
+pub fn each_claim_is_in_turn()
+    ensures { (bases limit : ℕ) (clocks : List ClockId) (log : List declared.TimerEntry) → IsSystemHistory bases clocks limit log → IsInTurn bases clocks limit log }
 {}

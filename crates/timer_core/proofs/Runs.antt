@@ -9,18 +9,18 @@ use Rattle.seq_timer.specs.Steps.{Timer, after, opening}
 use Rattle.seq_timer.specs.Histories.{Entry, AreSteps, IsLegal, after_all, state_after}
 use Rattle.seq_timer.specs.Tables.{timer_at, no_timer}
 use Rattle.timer_core.specs.Kept.{Kept, AreAllowed, Makes, opened, step_all}
-use Rattle.timer_core.specs.Runs.{AreCalls, Call, entries_of, history_along}
+use Rattle.timer_core.specs.Runs.{AreCalls, Call, entries_along, history_along}
 
 -- entries of allowed events, and then more, are steps
-pub AreSteps-entries_of : (t : Timer) (es : List Event) (more : List Entry) → AreAllowed t es → AreSteps (step_all t es) more
-    → AreSteps t (entries_of t es ++ more)
-AreSteps-entries_of t [] more allowed steps = steps
-AreSteps-entries_of t (e ∷ es) more allowed steps = (allowed.0, refl, AreSteps-entries_of (after t e) es more allowed.1 steps)
+pub AreSteps-entries_along : (t : Timer) (es : List Event) (more : List Entry) → AreAllowed t es → AreSteps (step_all t es) more
+    → AreSteps t (entries_along t es ++ more)
+AreSteps-entries_along t [] more allowed steps = steps
+AreSteps-entries_along t (e ∷ es) more allowed steps = (allowed.0, refl, AreSteps-entries_along (after t e) es more allowed.1 steps)
 
 -- and lead to where the events lead
-pub after_all-entries_of : (t : Timer) (es : List Event) (more : List Entry) → after_all t (entries_of t es ++ more) ≡ after_all (step_all t es) more
-after_all-entries_of t [] more = refl
-after_all-entries_of t (e ∷ es) more = after_all-entries_of (after t e) es more
+pub after_all-entries_along : (t : Timer) (es : List Event) (more : List Entry) → after_all t (entries_along t es ++ more) ≡ after_all (step_all t es) more
+after_all-entries_along t [] more = refl
+after_all-entries_along t (e ∷ es) more = after_all-entries_along (after t e) es more
 
 pub steps_along : (old new : Kept) (calls : List Call) (id : ℕ) → AreCalls old calls new
     → AreSteps (timer_at old.timers id) (history_along id (timer_at old.timers id) calls)
@@ -29,10 +29,10 @@ steps_along old new (c ∷ cs) id run =
     let t = timer_at old.timers id in
     let rest = steps_along run.0 new cs id run.2 in
     elim (nat_eq c.timer id) as (λ b. nat_eq c.timer id ≡ b
-    → AreSteps t (if b then entries_of t c.events ++ history_along id (step_all t c.events) cs else history_along id t cs)) [
+    → AreSteps t (if b then entries_along t c.events ++ history_along id (step_all t c.events) cs else history_along id t cs)) [
       | true ↦ λ same.
           let made = subst (λ i. Makes old i c.events run.0) (eqb-true c.timer id same) run.1 in
-          AreSteps-entries_of t c.events (history_along id (step_all t c.events) cs) made.allowed
+          AreSteps-entries_along t c.events (history_along id (step_all t c.events) cs) made.allowed
           (subst (λ u. AreSteps u (history_along id u cs)) made.timer rest)
       | false ↦ λ apart. subst (λ u. AreSteps u (history_along id u cs)) (run.1.others id (λ same. eqb-false c.timer id apart (sym same))) rest
     ] refl
@@ -44,10 +44,10 @@ state_along old new (c ∷ cs) id run =
     let t = timer_at old.timers id in
     let rest = state_along run.0 new cs id run.2 in
     elim (nat_eq c.timer id) as (λ b. nat_eq c.timer id ≡ b
-    → after_all t (if b then entries_of t c.events ++ history_along id (step_all t c.events) cs else history_along id t cs) ≡ timer_at new.timers id) [
+    → after_all t (if b then entries_along t c.events ++ history_along id (step_all t c.events) cs else history_along id t cs) ≡ timer_at new.timers id) [
       | true ↦ λ same.
           let made = subst (λ i. Makes old i c.events run.0) (eqb-true c.timer id same) run.1 in
-          after_all-entries_of t c.events (history_along id (step_all t c.events) cs)
+          after_all-entries_along t c.events (history_along id (step_all t c.events) cs)
           ∙ subst (λ u. after_all u (history_along id u cs) ≡ timer_at new.timers id) made.timer rest
       | false ↦ λ apart. subst (λ u. after_all u (history_along id u cs) ≡ timer_at new.timers id)
           (run.1.others id (λ same. eqb-false c.timer id apart (sym same))) rest

@@ -16,11 +16,11 @@ AreCalls old [] new = new ≡ old
 AreCalls old (c ∷ cs) new = (mid : Kept) × Makes old c.timer c.events mid × AreCalls mid cs new
 
 -- events as entries, each with its reply
-abbrev pub entries_of : Timer → List Event → List Entry
-entries_of t [] = []
-entries_of t (e ∷ es) = record { event = e; reply = reply_to t e } ∷ entries_of (after t e) es
+abbrev pub entries_along : Timer → List Event → List Entry
+entries_along t [] = []
+entries_along t (e ∷ es) = record { event = e; reply = reply_to t e } ∷ entries_along (after t e) es
 
 -- the entries of one timer along calls
 abbrev pub history_along : ℕ → Timer → List Call → List Entry
 history_along id t [] = []
-history_along id t (c ∷ cs) = if nat_eq c.timer id then entries_of t c.events ++ history_along id (step_all t c.events) cs else history_along id t cs
+history_along id t (c ∷ cs) = if nat_eq c.timer id then entries_along t c.events ++ history_along id (step_all t c.events) cs else history_along id t cs
