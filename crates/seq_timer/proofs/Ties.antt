@@ -258,7 +258,7 @@ module _ (bases limit : ℕ) (list : List ClockId) (before later : List TimerEnt
       let there : t.base ≡ base = sym (subst (λ x. Needs t x) is step.needs).1 in
       let fits : ((w.bases base).content.running ≡ None) × (first_due (w.bases base).content reading ≡ Some (t.expires, e.timer)) =
       subst (λ b. ((w.bases b).content.running ≡ None) × (first_due (w.bases b).content reading ≡ Some (t.expires, e.timer))) there
-          (subst (λ x. FitsBase bases (w.bases t.base).content e.timer t x) is step.base) in
+      (subst (λ x. FitsBase bases (w.bases t.base).content e.timer t x) is step.base) in
       let agrees = all_agree bases limit list before part in
       let start : Ordered first (λ k. 0) 0 = record { below = λ k. omega arith; each = λ b clock. empty clock } in
       let ordered = ordered_all bases (length list) first (λ k. 0) 0 before part (first_agrees list limit) start in

@@ -9,9 +9,8 @@ pub use laws::{
 };
 pub use observation::{Observation, Peek};
 pub use system::{
-    TimerEntry, bases_agree_with_timers, each_part_is_legal,
-    each_claim_is_in_turn, one_function_runs_on_a_base,
-    stamps_count_entries,
+    TimerEntry, bases_agree_with_timers, each_claim_is_in_turn, each_part_is_legal,
+    one_function_runs_on_a_base, stamps_count_entries,
 };
 pub use timer_state::TimerState;
 

@@ -1,5 +1,6 @@
 //! Tests of one timer, and of a base.
-ghost use Rattle.std.specs.Prelude.{◌≡◌};
+ghost use Rattle.std.specs.Prelude.{◌≡◌, ◌≤◌};
+ghost use Rattle.ktime.specs.Readings.{latest};
 ghost use Rattle.seq_timer.specs.declared.event.Event.TheVariants as events;
 
 use crate::{
@@ -19,6 +20,23 @@ fn start(mode: Mode, ns: u64, reading: Reading) -> Event
         ns,
         reading,
         asked: 0,
+    }
+}
+
+fn claim(now: u64) -> Event
+    requires { now ≤ latest }
+    ensures { result ≡ events.Claim 0 (record { stamp = 0; mono = now; real = now; boot = now; changes = 0 }) }
+{
+    Event::Claim {
+        base: 0,
+        reading: Reading::at(now),
+    }
+}
+
+fn finished(generation: u64, rearmed: Rearmed) -> Reply {
+    Reply::Finish {
+        generation,
+        rearmed,
     }
 }
 
@@ -62,13 +80,7 @@ fn a_timer_runs_once(rt: HostRuntime) {
         Some(seen)
     );
     let reply = timer.apply(Event::Finish { restart: false });
-    assert_eq!(rt;
-        reply,
-        Reply::Finish {
-            generation: 1,
-            rearmed: Rearmed::No
-        }
-    );
+    assert_eq!(rt; reply, finished(1, Rearmed::No));
     let idle = Peek {
         stamp: 3,
         base: 0,
@@ -83,10 +95,7 @@ fn a_timer_runs_once(rt: HostRuntime) {
 fn a_periodic_timer_is_forwarded_and_armed_again(rt: HostRuntime) {
     let mut timer = TimerState::make(ClockId::Monotonic, 100);
     timer.apply(start(Mode::Rel, 100, Reading::at(0)));
-    timer.apply(Event::Claim {
-        base: 0,
-        reading: Reading::at(130),
-    });
+    timer.apply(claim(130));
     let reply = timer.apply(Event::Forward {
         reading: Reading::at(130),
         interval: 10,
@@ -99,13 +108,7 @@ fn a_periodic_timer_is_forwarded_and_armed_again(rt: HostRuntime) {
         }
     );
     let reply = timer.apply(Event::Finish { restart: true });
-    assert_eq!(rt;
-        reply,
-        Reply::Finish {
-            generation: 1,
-            rearmed: Rearmed::Again { generation: 4 }
-        }
-    );
+    assert_eq!(rt; reply, finished(1, Rearmed::Again { generation: 4 }));
     assert_eq!(rt; timer.armed(), Some(4));
     let reply = timer.apply(Event::Cancel);
     assert_eq!(rt; reply, Reply::Cancel { generation: 4 });
@@ -115,19 +118,10 @@ fn a_periodic_timer_is_forwarded_and_armed_again(rt: HostRuntime) {
 fn a_start_in_the_callback_stands(rt: HostRuntime) {
     let mut timer = TimerState::make(ClockId::Monotonic, 100);
     timer.apply(start(Mode::Abs, 0, Reading::at(0)));
-    timer.apply(Event::Claim {
-        base: 0,
-        reading: Reading::at(0),
-    });
+    timer.apply(claim(0));
     timer.apply(start(Mode::Rel, 50, Reading::at(0)));
     let reply = timer.apply(Event::Finish { restart: true });
-    assert_eq!(rt;
-        reply,
-        Reply::Finish {
-            generation: 1,
-            rearmed: Rearmed::No
-        }
-    );
+    assert_eq!(rt; reply, finished(1, Rearmed::No));
     assert_eq!(rt; timer.armed(), Some(3));
     let reply = timer.apply(Event::Out { base: 1 });
     assert_eq!(rt; reply, Reply::Out { was_armed: true });
@@ -168,18 +162,9 @@ fn a_relative_time_of_day_is_kept_on_the_monotonic_clock(rt: HostRuntime) {
 fn the_limit_refuses_a_restart(rt: HostRuntime) {
     let mut timer = TimerState::make(ClockId::Monotonic, 2);
     timer.apply(start(Mode::Rel, 0, Reading::at(0)));
-    timer.apply(Event::Claim {
-        base: 0,
-        reading: Reading::at(0),
-    });
+    timer.apply(claim(0));
     let reply = timer.apply(Event::Finish { restart: true });
-    assert_eq!(rt;
-        reply,
-        Reply::Finish {
-            generation: 1,
-            rearmed: Rearmed::Spent { stamp: 2 }
-        }
-    );
+    assert_eq!(rt; reply, finished(1, Rearmed::Spent { stamp: 2 }));
     assert_eq!(rt; timer.armed(), None);
 }
 
