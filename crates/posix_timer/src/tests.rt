@@ -22,6 +22,19 @@ fn setting(left: u64, interval: u64) -> Setting {
     Setting { left, interval }
 }
 
+/// The start that a step wants.
+fn wanted(mode: Mode, ns: u64) -> Option<Wanted> {
+    Some(Wanted { mode, ns })
+}
+
+fn armed(generation: u64, clock: ClockId, expires: u64) -> Phase {
+    Phase::Armed {
+        generation,
+        clock,
+        expires,
+    }
+}
+
 #[test]
 fn a_new_timer_is_disarmed(rt: HostRuntime) {
     let timer = PosixState::make(ClockId::Realtime, 3, 100);
@@ -38,25 +51,13 @@ fn a_new_timer_is_disarmed(rt: HostRuntime) {
 #[test]
 fn periods_that_passed_before_the_acceptance_are_overruns(rt: HostRuntime) {
     let mut timer = PosixState::make(ClockId::Monotonic, 0, 100);
-    let wanted = timer.settime_wants(1, ns(100), ns(10), Reading::at(0));
-    assert_eq!(rt;
-        wanted,
-        Some(Wanted {
-            mode: Mode::Abs,
-            ns: 100
-        })
-    );
+    let start = timer.settime_wants(1, ns(100), ns(10), Reading::at(0));
+    assert_eq!(rt; start, wanted(Mode::Abs, 100));
     let before = timer.settime(1, ns(100), ns(10), Reading::at(0), Arm::Armed(1));
     assert_eq!(rt; before, old(0, 0));
     assert_eq!(rt; timer.trigger(1, Reading::at(100)), TriggerAnswer::Counted);
-    let wanted = timer.accept_wants(Reading::at(135));
-    assert_eq!(rt;
-        wanted,
-        Some(Wanted {
-            mode: Mode::Keep,
-            ns: 140
-        })
-    );
+    let start = timer.accept_wants(Reading::at(135));
+    assert_eq!(rt; start, wanted(Mode::Keep, 140));
     let accepted = timer.accept(Reading::at(135), Arm::Armed(4));
     assert_eq!(rt; accepted, AcceptAnswer::Accepted { overrun: 3 });
     assert_eq!(rt; timer.accept_wants(Reading::at(135)), None);
@@ -73,13 +74,7 @@ fn the_overrun_stops_at_its_greatest_value(rt: HostRuntime) {
     assert_eq!(rt; timer.trigger(1, Reading::at(100)), TriggerAnswer::Counted);
     let late = Reading::at(4_294_967_396);
     let next = 4_294_967_397;
-    assert_eq!(rt;
-        timer.accept_wants(late),
-        Some(Wanted {
-            mode: Mode::Keep,
-            ns: next
-        })
-    );
+    assert_eq!(rt; timer.accept_wants(late), wanted(Mode::Keep, next));
     let accepted = timer.accept(late, Arm::Armed(2));
     assert_eq!(rt;
         accepted,
@@ -87,12 +82,8 @@ fn the_overrun_stops_at_its_greatest_value(rt: HostRuntime) {
             overrun: 2_147_483_647
         }
     );
-    let armed = Phase::Armed {
-        generation: 2,
-        clock: ClockId::Monotonic,
-        expires: next,
-    };
-    assert_eq!(rt; timer.timer().phase, armed);
+    let phase = armed(2, ClockId::Monotonic, next);
+    assert_eq!(rt; timer.timer().phase, phase);
 }
 
 #[test]
@@ -154,12 +145,8 @@ fn a_relative_time_of_day_is_kept_on_the_monotonic_clock(rt: HostRuntime) {
     };
     let reply = timer.apply(call);
     assert_eq!(rt; reply, Reply::Settime(old(0, 0)));
-    let armed = Phase::Armed {
-        generation: 1,
-        clock: ClockId::Monotonic,
-        expires: 1_000_000_015,
-    };
-    assert_eq!(rt; timer.timer().phase, armed);
+    let phase = armed(1, ClockId::Monotonic, 1_000_000_015);
+    assert_eq!(rt; timer.timer().phase, phase);
     let reply = timer.apply(Call::Trigger {
         generation: 1,
         reading: Reading::at(1_000_000_015),

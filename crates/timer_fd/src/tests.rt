@@ -28,6 +28,24 @@ fn ns(nsec: u64) -> TimeSpec
     TimeSpec { sec: 0, nsec }
 }
 
+/// The start that a step wants.
+fn wanted(mode: Mode, ns: u64) -> Option<Wanted> {
+    Some(Wanted { mode, ns })
+}
+
+/// The setting before a settime, as it answers it.
+fn old(left: u64, interval: u64) -> SettimeAnswer {
+    SettimeAnswer::Old { left, interval }
+}
+
+fn armed(generation: u64, clock: ClockId, expires: u64) -> Phase {
+    Phase::Armed {
+        generation,
+        clock,
+        expires,
+    }
+}
+
 #[test]
 fn a_new_descriptor_is_disarmed(rt: HostRuntime) {
     let descriptor = FdState::make(ClockId::Realtime, 3, 100);
@@ -43,35 +61,17 @@ fn a_new_descriptor_is_disarmed(rt: HostRuntime) {
 #[test]
 fn a_read_counts_the_periods_that_passed(rt: HostRuntime) {
     let mut descriptor = FdState::make(ClockId::Monotonic, 0, 100);
-    let wanted = descriptor.settime_wants(1, ns(100), ns(10), Reading::at(0));
-    assert_eq!(rt;
-        wanted,
-        Some(Wanted {
-            mode: Mode::Abs,
-            ns: 100
-        })
-    );
-    let old = descriptor.settime(1, ns(100), ns(10), Reading::at(0), Arm::Armed(1));
-    assert_eq!(rt;
-        old,
-        SettimeAnswer::Old {
-            left: 0,
-            interval: 0
-        }
-    );
+    let start = descriptor.settime_wants(1, ns(100), ns(10), Reading::at(0));
+    assert_eq!(rt; start, wanted(Mode::Abs, 100));
+    let before = descriptor.settime(1, ns(100), ns(10), Reading::at(0), Arm::Armed(1));
+    assert_eq!(rt; before, old(0, 0));
     assert_eq!(rt;
         descriptor.trigger(1, Reading::at(100)),
         TriggerAnswer::Counted
     );
     assert!(rt; descriptor.readable(Reading::at(100)));
-    let wanted = descriptor.read_wants(8, Reading::at(135));
-    assert_eq!(rt;
-        wanted,
-        Some(Wanted {
-            mode: Mode::Keep,
-            ns: 140
-        })
-    );
+    let start = descriptor.read_wants(8, Reading::at(135));
+    assert_eq!(rt; start, wanted(Mode::Keep, 140));
     let four = descriptor.read(8, Reading::at(135), Arm::Armed(4));
     assert_eq!(rt; four, ReadAnswer::Count { total: 4 });
     assert_eq!(rt; four.bytes(), Some([4, 0, 0, 0, 0, 0, 0, 0]));
@@ -122,14 +122,8 @@ fn a_gettime_arms_an_expired_timer_again(rt: HostRuntime) {
         expires: 100,
     };
     assert_eq!(rt; descriptor.timer().phase, expired);
-    let wanted = descriptor.gettime_wants(Reading::at(125));
-    assert_eq!(rt;
-        wanted,
-        Some(Wanted {
-            mode: Mode::Keep,
-            ns: 130
-        })
-    );
+    let start = descriptor.gettime_wants(Reading::at(125));
+    assert_eq!(rt; start, wanted(Mode::Keep, 130));
     let left = descriptor.gettime(Reading::at(125), Arm::Unarmed(8));
     assert_eq!(rt;
         left,
@@ -153,28 +147,14 @@ fn a_set_clock_cancels(rt: HostRuntime) {
     assert_eq!(rt; second, ReadAnswer::Again);
     let third = descriptor.settime(3, ns(200), ns(0), set_to(60, 2), Arm::Armed(3));
     assert_eq!(rt; third, SettimeAnswer::Canceled);
-    let armed = Phase::Armed {
-        generation: 3,
-        clock: ClockId::Realtime,
-        expires: 200,
-    };
-    assert_eq!(rt; descriptor.timer().phase, armed);
+    let phase = armed(3, ClockId::Realtime, 200);
+    assert_eq!(rt; descriptor.timer().phase, phase);
     let fourth = descriptor.settime(2, ns(10), ns(0), set_to(60, 2), Arm::Armed(5));
-    assert_eq!(rt;
-        fourth,
-        SettimeAnswer::Old {
-            left: 140,
-            interval: 0
-        }
-    );
+    assert_eq!(rt; fourth, old(140, 0));
     let fifth = descriptor.read(8, set_to(70, 3), Arm::NotAsked);
     assert_eq!(rt; fifth, ReadAnswer::Again);
-    let armed = Phase::Armed {
-        generation: 5,
-        clock: ClockId::Monotonic,
-        expires: 10,
-    };
-    assert_eq!(rt; descriptor.timer().phase, armed);
+    let phase = armed(5, ClockId::Monotonic, 10);
+    assert_eq!(rt; descriptor.timer().phase, phase);
 }
 
 #[test]
@@ -185,22 +165,12 @@ fn an_expiry_that_the_set_clock_took_back_is_not_counted(rt: HostRuntime) {
         descriptor.trigger(1, set_to(1000, 1)),
         TriggerAnswer::Counted
     );
-    let wanted = descriptor.read_wants(8, set_to(500, 2));
-    assert_eq!(rt;
-        wanted,
-        Some(Wanted {
-            mode: Mode::Keep,
-            ns: 1000
-        })
-    );
+    let start = descriptor.read_wants(8, set_to(500, 2));
+    assert_eq!(rt; start, wanted(Mode::Keep, 1000));
     let again = descriptor.read(8, set_to(500, 2), Arm::Armed(4));
     assert_eq!(rt; again, ReadAnswer::Again);
-    let armed = Phase::Armed {
-        generation: 4,
-        clock: ClockId::Realtime,
-        expires: 1000,
-    };
-    assert_eq!(rt; descriptor.timer().phase, armed);
+    let phase = armed(4, ClockId::Realtime, 1000);
+    assert_eq!(rt; descriptor.timer().phase, phase);
 }
 
 #[test]
@@ -219,11 +189,7 @@ fn a_spent_descriptor_refuses_all_but_a_look(rt: HostRuntime) {
         reading: Reading::at(0),
         arm: Arm::Armed(1),
     };
-    let old = SettimeAnswer::Old {
-        left: 0,
-        interval: 0,
-    };
-    assert_eq!(rt; descriptor.apply(call), Reply::Settime(old));
+    assert_eq!(rt; descriptor.apply(call), Reply::Settime(old(0, 0)));
     let reply = descriptor.apply(Call::Trigger {
         generation: 1,
         reading: Reading::at(100),
