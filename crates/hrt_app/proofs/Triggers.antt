@@ -11,10 +11,9 @@ use Rattle.seq_timer.specs.Tables.{no_timer, timer_at}
 use Rattle.timer_setting.specs.Phases as phased
 use Rattle.posix_timer.specs.declared.calls.Call.TheVariants as posix_calls
 use Rattle.posix_timer.specs.declared.calls.Reply.TheVariants as posix_replies
-use Rattle.posix_timer.specs.declared.answers.TriggerAnswer.TheVariants as posix_triggers
+use Rattle.timer_setting.specs.declared.trigger_answer.TriggerAnswer.TheVariants as triggers
 use Rattle.timer_fd.specs.declared.calls.Call.TheVariants as fd_calls
 use Rattle.timer_fd.specs.declared.calls.Reply.TheVariants as fd_replies
-use Rattle.timer_fd.specs.declared.answers.TriggerAnswer.TheVariants as fd_triggers
 use Rattle.script_text.specs.declared.script.Script.{Script}
 use Rattle.record_text.specs.declared.record.ClockLine.{ClockLine}
 use Rattle.record_text.specs.declared.record.Entry.TheVariants as entries
@@ -96,12 +95,12 @@ trigger_shown clock (Posix t) generation reading counted e shown =
       ap (λ r. Some (record {
         call = posix_calls.Trigger generation r;
         reply =
-            posix_replies.Trigger (if counted then posix_triggers.Counted else posix_triggers.Stale);
+            posix_replies.Trigger (if counted then triggers.Counted else triggers.Stale);
       })) shown
           ∙ ap (λ b. Some (record {
             call = posix_calls.Trigger generation reading;
             reply =
-                posix_replies.Trigger (if b then posix_triggers.Counted else posix_triggers.Stale);
+                posix_replies.Trigger (if b then triggers.Counted else triggers.Stale);
           })) (sym both.1),
     )
 trigger_shown clock (Fd t) generation reading counted e shown =
@@ -110,12 +109,12 @@ trigger_shown clock (Fd t) generation reading counted e shown =
       ap (λ r. Some (record {
         call = fd_calls.Trigger generation r;
         reply =
-            fd_replies.Trigger (if counted then fd_triggers.Counted else fd_triggers.Stale);
+            fd_replies.Trigger (if counted then triggers.Counted else triggers.Stale);
       })) shown
           ∙ ap (λ b. Some (record {
             call = fd_calls.Trigger generation reading;
             reply =
-                fd_replies.Trigger (if b then fd_triggers.Counted else fd_triggers.Stale);
+                fd_replies.Trigger (if b then triggers.Counted else triggers.Stale);
           })) (sym both.1),
     )
 

@@ -8,11 +8,11 @@ use Rattle.timer_setting.specs.declared.arming.Arm.{Arm}
 use Rattle.timer_setting.specs.declared.arming.Arm.TheVariants as arms
 use Rattle.timer_setting.specs.Arguments.{abstime, bits_beyond, start_by}
 use Rattle.timer_setting.specs.Phases.{IsOutcomeOf, expired, is_expiry_of, next_start, periods_in, phase_by, rearmed}
-use Rattle.timer_setting.specs.Settimes.{start_wanted}
+use Rattle.timer_setting.specs.Settimes.{start_wanted, trigger_answer}
 use Rattle.timer_setting.specs.StepTables.{StepTable, full_refusal, settime_refusal}
 use Rattle.posix_timer.specs.declared.answers.SettimeAnswer.{SettimeAnswer}
 use Rattle.posix_timer.specs.declared.answers.SettimeAnswer.TheVariants as settings
-use Rattle.posix_timer.specs.declared.answers.TriggerAnswer.TheVariants as triggers
+use Rattle.timer_setting.specs.declared.trigger_answer.TriggerAnswer.TheVariants as triggers
 use Rattle.posix_timer.specs.declared.answers.AcceptAnswer.TheVariants as acceptances
 use Rattle.posix_timer.specs.declared.calls.Call.{Call}
 use Rattle.posix_timer.specs.declared.calls.Call.TheVariants as calls
@@ -89,8 +89,7 @@ posix_step t (calls.Accept reading arm) = accepted t reading arm
 -- what a call answers
 abbrev pub posix_answer : PosixTimer → Call → Reply
 posix_answer t (calls.Settime flags value interval reading arm) = replies.Settime (posix_settime_answer t reading arm)
-posix_answer t (calls.Trigger generation reading) =
-    replies.Trigger (if is_expiry_of t.phase generation reading then triggers.Counted else triggers.Stale)
+posix_answer t (calls.Trigger generation reading) = replies.Trigger (trigger_answer t.phase generation reading)
 posix_answer t (calls.Accept reading arm) =
     replies.Accept (if t.pending then acceptances.Accepted (overrun_of (periods_in t.phase t.interval reading)) else acceptances.NoSignal)
 

@@ -1,7 +1,7 @@
 //! The calls that make an entry in a POSIX timer's history.
-use crate::answers::{AcceptAnswer, SettimeAnswer, TriggerAnswer};
+use crate::answers::{AcceptAnswer, SettimeAnswer};
 use ktime::Reading;
-use timer_setting::Arm;
+use timer_setting::{Arm, TriggerAnswer};
 
 /// A call that makes an entry in an object's history. A value and an interval are in nanoseconds.
 #[derive(Clone, Copy, Debug, PartialEq, Eq)]

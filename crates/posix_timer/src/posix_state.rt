@@ -6,16 +6,16 @@ ghost use Rattle.timer_setting.specs.Phases.{IsOutcomeOf};
 ghost use Rattle.timer_setting.specs.Settimes.{most_entries};
 ghost use Rattle.timer_setting.specs.StepTables.{IsAnswered};
 ghost use Rattle.posix_timer.specs.States.{PosixTimer, ArePosixArguments, PosixInvariant, posix_opening, setting_of};
-ghost use Rattle.posix_timer.specs.Steps.{PosixAllows, accept_refusal, accept_wanted, accepted, kept_by, posix_answer, posix_set, posix_settime_answer, posix_settime_wanted, posix_settime_refusal, posix_step, posix_table, posix_trigger_refusal, posix_triggered};
+ghost use Rattle.posix_timer.specs.Steps.{PosixAllows, accept_refusal, accept_wanted, accepted, kept_by, posix_answer, posix_set, posix_settime_answer, posix_settime_wanted, posix_settime_refusal, posix_step, posix_table, posix_trigger_refusal};
 ghost use Rattle.posix_timer.specs.declared.calls.Call.TheVariants as calls;
 ghost use Rattle.posix_timer.specs.declared.calls.Reply.TheVariants as replies;
 
-use crate::answers::{AcceptAnswer, SettimeAnswer, TriggerAnswer};
+use crate::answers::{AcceptAnswer, SettimeAnswer};
 use crate::calls::{Call, Reply};
 use crate::settime_arguments::{TIMER_ABSTIME, times_of};
 use ktime::{ClockId, Reading, TimeSpec};
 use std::marker::Model;
-use timer_setting::{Arm, BadArgument, ObjectTimer, Phase, Setting, Wanted};
+use timer_setting::{Arm, BadArgument, ObjectTimer, Phase, Setting, TriggerAnswer, Wanted};
 
 /// The greatest overrun that is answered, `DELAYTIMER_MAX`.
 const MOST_OVERRUN: u64 = i32::MAX as u64;
@@ -124,12 +124,11 @@ impl PosixState {
     pub fn trigger(&mut self, generation: u64, reading: Reading) -> TriggerAnswer
         ensures { IsAnswered posix_table (posix_trigger_refusal self.old) self.old (calls.Trigger generation reading) (replies.Trigger result) self.new }
     {
-        if self.timer.is_spent() {
-            return TriggerAnswer::Spent {
-                stamp: self.timer.stamp,
-            };
+        let answer = self.timer.trigger(generation, reading);
+        if let TriggerAnswer::Counted = answer {
+            self.pending = true;
         }
-        self.fire(generation, reading)
+        answer
     }
 
     /// The start that an acceptance wants: that of the next expiry, where the timer is periodic and its signal is pending.
@@ -179,7 +178,7 @@ impl PosixState {
             Call::Trigger {
                 generation,
                 reading,
-            } => Reply::Trigger(self.fire(generation, reading)),
+            } => Reply::Trigger(self.trigger(generation, reading)),
             Call::Accept { reading, arm } => Reply::Accept(self.take(reading, arm)),
         }
     }
@@ -211,19 +210,6 @@ impl PosixState {
                 interval: old.interval,
             },
         }
-    }
-
-    /// Makes the entry of a trigger.
-    fn fire(&mut self, generation: u64, reading: Reading) -> TriggerAnswer
-        requires room { self.old.stamp < self.old.limit }
-        ensures state { self.new ≡ posix_triggered self.old generation reading }
-        ensures answer { replies.Trigger result ≡ posix_answer self.old (calls.Trigger generation reading) }
-    {
-        if !self.timer.expire(generation, reading) {
-            return TriggerAnswer::Stale;
-        }
-        self.pending = true;
-        TriggerAnswer::Counted
     }
 
     /// Makes the entry of an acceptance.

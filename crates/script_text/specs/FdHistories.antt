@@ -17,7 +17,7 @@ use Rattle.timer_fd.specs.declared.calls.Reply.{Reply}
 use Rattle.timer_fd.specs.declared.calls.Reply.TheVariants as replies
 use Rattle.timer_fd.specs.declared.answers.SettimeAnswer.{SettimeAnswer}
 use Rattle.timer_fd.specs.declared.answers.SettimeAnswer.TheVariants as set_answers
-use Rattle.timer_fd.specs.declared.answers.TriggerAnswer.TheVariants as triggers
+use Rattle.timer_setting.specs.declared.trigger_answer.TriggerAnswer.TheVariants as triggers
 use Rattle.timer_fd.specs.declared.answers.ReadAnswer.{ReadAnswer}
 use Rattle.timer_fd.specs.declared.answers.ReadAnswer.TheVariants as read_answers
 use Rattle.timer_fd.specs.declared.answers.GettimeAnswer.TheVariants as lefts

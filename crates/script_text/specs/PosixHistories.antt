@@ -17,7 +17,7 @@ use Rattle.posix_timer.specs.declared.calls.Reply.{Reply}
 use Rattle.posix_timer.specs.declared.calls.Reply.TheVariants as replies
 use Rattle.posix_timer.specs.declared.answers.SettimeAnswer.{SettimeAnswer}
 use Rattle.posix_timer.specs.declared.answers.SettimeAnswer.TheVariants as set_answers
-use Rattle.posix_timer.specs.declared.answers.TriggerAnswer.TheVariants as triggers
+use Rattle.timer_setting.specs.declared.trigger_answer.TriggerAnswer.TheVariants as triggers
 use Rattle.posix_timer.specs.declared.answers.AcceptAnswer.{AcceptAnswer}
 use Rattle.posix_timer.specs.declared.answers.AcceptAnswer.TheVariants as accept_answers
 use Rattle.timer_setting.specs.StepTables.{AnsweredCall}

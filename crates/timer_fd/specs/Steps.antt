@@ -10,11 +10,11 @@ use Rattle.timer_setting.specs.declared.phase.Phase.{Phase}
 use Rattle.timer_setting.specs.declared.phase.Phase.TheVariants as phases
 use Rattle.timer_setting.specs.Arguments.{bits_beyond, start_by}
 use Rattle.timer_setting.specs.Phases.{IsOutcomeOf, expired, is_expiry_of, next_start, periods_in, phase_by, rearmed}
-use Rattle.timer_setting.specs.Settimes.{start_wanted}
+use Rattle.timer_setting.specs.Settimes.{start_wanted, trigger_answer}
 use Rattle.timer_setting.specs.StepTables.{StepTable, full_refusal, settime_refusal}
 use Rattle.timer_fd.specs.declared.answers.SettimeAnswer.{SettimeAnswer}
 use Rattle.timer_fd.specs.declared.answers.SettimeAnswer.TheVariants as settings
-use Rattle.timer_fd.specs.declared.answers.TriggerAnswer.TheVariants as triggers
+use Rattle.timer_setting.specs.declared.trigger_answer.TriggerAnswer.TheVariants as triggers
 use Rattle.timer_fd.specs.declared.answers.ReadAnswer.{ReadAnswer}
 use Rattle.timer_fd.specs.declared.answers.ReadAnswer.TheVariants as reads
 use Rattle.timer_fd.specs.declared.answers.GettimeAnswer.TheVariants as lefts
@@ -137,8 +137,7 @@ fd_step t (calls.Gettime reading arm) = fd_got t reading arm
 -- what a call answers
 abbrev pub fd_answer : Descriptor → Call → Reply
 fd_answer t (calls.Settime flags value interval reading arm) = replies.Settime (fd_settime_answer t flags value reading arm)
-fd_answer t (calls.Trigger generation reading) =
-    replies.Trigger (if is_expiry_of t.phase generation reading then triggers.Counted else triggers.Stale)
+fd_answer t (calls.Trigger generation reading) = replies.Trigger (trigger_answer t.phase generation reading)
 fd_answer t (calls.Read reading arm) = replies.Read (fd_read_answer t reading)
 fd_answer t (calls.Gettime reading arm) = replies.Gettime (lefts.Left (left_by arm t reading) t.interval)
 

@@ -19,17 +19,6 @@ pub enum SettimeAnswer {
     Canceled,
 }
 
-/// What an expiry of the high-resolution timer does.
-#[derive(Clone, Copy, Debug, PartialEq, Eq)]
-pub enum TriggerAnswer {
-    /// One more expiry can be read.
-    Counted,
-    /// The expiry is of a generation that is armed no more.
-    Stale,
-    /// The object has as many entries as its limit allows.
-    Spent { stamp: u64 },
-}
-
 /// What a read answers.
 #[derive(Clone, Copy, Debug, PartialEq, Eq)]
 pub enum ReadAnswer {

@@ -1,7 +1,7 @@
 //! The calls that make an entry in a descriptor's history.
-use crate::answers::{GettimeAnswer, ReadAnswer, SettimeAnswer, TriggerAnswer};
+use crate::answers::{GettimeAnswer, ReadAnswer, SettimeAnswer};
 use ktime::Reading;
-use timer_setting::Arm;
+use timer_setting::{Arm, TriggerAnswer};
 
 /// A call that makes an entry in an object's history. A value and an interval are in nanoseconds.
 #[derive(Clone, Copy, Debug, PartialEq, Eq)]

@@ -6,16 +6,16 @@ ghost use Rattle.timer_setting.specs.Phases.{IsOutcomeOf};
 ghost use Rattle.timer_setting.specs.Settimes.{most_entries};
 ghost use Rattle.timer_setting.specs.StepTables.{IsAnswered};
 ghost use Rattle.timer_fd.specs.States.{Descriptor, AreFdArguments, FdInvariant, fd_flags, fd_opening, is_canceled, is_readable};
-ghost use Rattle.timer_fd.specs.Steps.{FdAllows, count_length, fd_answer, fd_got, fd_read, fd_read_answer, fd_set, fd_settime_answer, fd_settime_wanted, fd_settime_refusal, fd_step, fd_table, fd_trigger_refusal, fd_triggered, gettime_refusal, gettime_wanted, read_refusal, read_wanted, total_of};
+ghost use Rattle.timer_fd.specs.Steps.{FdAllows, count_length, fd_answer, fd_got, fd_read, fd_read_answer, fd_set, fd_settime_answer, fd_settime_wanted, fd_settime_refusal, fd_step, fd_table, fd_trigger_refusal, gettime_refusal, gettime_wanted, read_refusal, read_wanted, total_of};
 ghost use Rattle.timer_fd.specs.declared.calls.Call.TheVariants as calls;
 ghost use Rattle.timer_fd.specs.declared.calls.Reply.TheVariants as replies;
 
-use crate::answers::{GettimeAnswer, ReadAnswer, SettimeAnswer, TriggerAnswer};
+use crate::answers::{GettimeAnswer, ReadAnswer, SettimeAnswer};
 use crate::calls::{Call, Reply};
 use crate::settime_arguments::{cancels_on_set, times_of, unknown_flags};
 use ktime::{ClockId, Reading, TimeSpec};
 use std::marker::Model;
-use timer_setting::{Arm, BadArgument, ObjectTimer, Phase, Wanted};
+use timer_setting::{Arm, BadArgument, ObjectTimer, Phase, TriggerAnswer, Wanted};
 
 /// The length in bytes of the buffer that a read needs.
 const COUNT_LENGTH: u64 = 8;
@@ -116,12 +116,11 @@ impl FdState {
     pub fn trigger(&mut self, generation: u64, reading: Reading) -> TriggerAnswer
         ensures { IsAnswered fd_table (fd_trigger_refusal self.old) self.old (calls.Trigger generation reading) (replies.Trigger result) self.new }
     {
-        if self.timer.is_spent() {
-            return TriggerAnswer::Spent {
-                stamp: self.timer.stamp,
-            };
+        let answer = self.timer.trigger(generation, reading);
+        if let TriggerAnswer::Counted = answer {
+            self.count = self.count.saturating_add(1);
         }
-        self.fire(generation, reading)
+        answer
     }
 
     /// The start that a read wants: that of the next expiry, where the timer is periodic and has expired.
@@ -201,7 +200,7 @@ impl FdState {
             Call::Trigger {
                 generation,
                 reading,
-            } => Reply::Trigger(self.fire(generation, reading)),
+            } => Reply::Trigger(self.trigger(generation, reading)),
             Call::Read { reading, arm } => Reply::Read(self.take(reading, arm)),
             Call::Gettime { reading, arm } => Reply::Gettime(self.get(reading, arm)),
         }
@@ -248,19 +247,6 @@ impl FdState {
             left,
             interval: old_interval,
         }
-    }
-
-    /// Makes the entry of a trigger.
-    fn fire(&mut self, generation: u64, reading: Reading) -> TriggerAnswer
-        requires room { self.old.stamp < self.old.limit }
-        ensures state { self.new ≡ fd_triggered self.old generation reading }
-        ensures answer { replies.Trigger result ≡ fd_answer self.old (calls.Trigger generation reading) }
-    {
-        if !self.timer.expire(generation, reading) {
-            return TriggerAnswer::Stale;
-        }
-        self.count = self.count.saturating_add(1);
-        TriggerAnswer::Counted
     }
 
     /// Makes the entry of a read.

@@ -6,7 +6,10 @@ use Rattle.ktime.specs.Readings.{ClockReading}
 use Rattle.ktime.specs.Times.{last_time, second}
 use Rattle.timer_setting.specs.declared.arming.Wanted.{Wanted}
 use Rattle.timer_setting.specs.declared.object_timer.ObjectTimer.{ObjectTimer}
+use Rattle.timer_setting.specs.declared.phase.Phase.{Phase}
 use Rattle.timer_setting.specs.declared.phase.Phase.TheVariants as phases
+use Rattle.timer_setting.specs.declared.trigger_answer.TriggerAnswer.{TriggerAnswer}
+use Rattle.timer_setting.specs.declared.trigger_answer.TriggerAnswer.TheVariants as triggers
 use Rattle.timer_setting.specs.Arguments.{start_by, time_of}
 use Rattle.timer_setting.specs.Phases.{expired, is_expiry_of}
 
@@ -23,6 +26,10 @@ abbrev pub timer_expired : ObjectTimer → ℕ → ClockReading → ObjectTimer
 timer_expired t generation reading =
     if is_expiry_of t.phase generation reading then record t { phase = expired t.phase t.interval; stamp = t.stamp + 1 }
     else record t { stamp = t.stamp + 1 }
+
+-- what the run of its function answers for this generation
+abbrev pub trigger_answer : Phase → ℕ → ClockReading → TriggerAnswer
+trigger_answer phase generation reading = if is_expiry_of phase generation reading then triggers.Counted else triggers.Stale
 
 -- what holds of each object's timer at all times: the limit is one that may be set, the entries are within it, and the interval is a time
 pub record IsInLimits (stamp limit interval : ℕ) : Type 0 where

@@ -7,6 +7,7 @@ pub use arming::{Arm, Wanted};
 pub use object_timer::ObjectTimer;
 pub use phase::{Phase, phase_after};
 pub use setting::Setting;
+pub use trigger_answer::TriggerAnswer;
 
 mod arguments;
 mod arming;
@@ -15,3 +16,4 @@ mod phase;
 mod setting;
 #[cfg(test)]
 mod tests;
+mod trigger_answer;

@@ -2,11 +2,12 @@
 ghost use Rattle.std.specs.Prelude.{◌≡◌, ◌≤◌, ◌<◌, ◌+◌, ◌↔◌, IsTrue};
 ghost use Rattle.ktime.specs.Times.{last_time};
 ghost use Rattle.timer_setting.specs.Phases.{HasTimelyExpiry, expired, is_expiry_of, left_in, next_start, periods_in, phase_by, rearmed};
-ghost use Rattle.timer_setting.specs.Settimes.{made_timer, most_entries, start_wanted, timer_expired};
+ghost use Rattle.timer_setting.specs.Settimes.{made_timer, most_entries, start_wanted, timer_expired, trigger_answer};
 
 use crate::arguments::{start_for, times_of};
 use crate::arming::{Arm, Wanted};
 use crate::phase::{Phase, phase_after, phase_set};
+use crate::trigger_answer::TriggerAnswer;
 use ktime::{ClockId, Forwarded, Mode, Reading, TimeSpec, forward};
 
 /// The timer that an object keeps. `clock` is the one that it was made on, `base` that of its high-resolution timer, `stamp` how many
@@ -109,18 +110,22 @@ impl ObjectTimer {
         self.stamp += 1;
     }
 
-    /// The high-resolution timer's function runs for this generation, which counts as an entry. Whether it is the expiry that is armed.
-    pub fn expire(&mut self, generation: u64, reading: Reading) -> bool
-        requires room { (self.old.stamp < self.old.limit) × (self.old.limit ≤ most_entries) }
-        ensures timer { self.new ≡ timer_expired self.old generation reading }
-        ensures expired { result ≡ is_expiry_of self.old.phase generation reading }
+    /// The high-resolution timer's function runs for this generation, which counts as an entry. Where the history is full nothing changes.
+    pub fn trigger(&mut self, generation: u64, reading: Reading) -> TriggerAnswer
+        requires few { self.old.limit ≤ most_entries }
+        ensures spent { self.old.limit ≤ self.old.stamp → (result ≡ TriggerAnswer.Spent self.old.stamp) × (self.new ≡ self.old) }
+        ensures timer { self.old.stamp < self.old.limit → self.new ≡ timer_expired self.old generation reading }
+        ensures answer { self.old.stamp < self.old.limit → result ≡ trigger_answer self.old.phase generation reading }
     {
+        if self.is_spent() {
+            return TriggerAnswer::Spent { stamp: self.stamp };
+        }
         self.stamp += 1;
         if !self.phase.is_expiry(generation, reading) {
-            return false;
+            return TriggerAnswer::Stale;
         }
         self.phase = self.phase.after_expiry(self.interval);
-        true
+        TriggerAnswer::Counted
     }
 
     /// Moves a periodic timer that has expired past now, where the start for its next expiry had this outcome. It answers how many
