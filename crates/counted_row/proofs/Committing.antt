@@ -14,7 +14,7 @@ use Rattle.pass_names.proofs.Passes.{begins_refl, begins_nil, begins_length}
 use Rattle.counted_row.specs.declared.view.Entry.{Entry}
 use Rattle.counted_row.specs.declared.view.Locked.{Locked}
 use Rattle.counted_row.specs.declared.view.View.{View}
-use Rattle.counted_row.specs.Meaning.{Meaning}
+use Rattle.counted_row.specs.Meaning.{CallMeaning}
 use Rattle.counted_row.specs.Views.{HasClaim, is_claim, StateAfter, Knows}
 use Rattle.counted_row.specs.Rules.{row_places, claims_at, Cell, HoldsValue, RowAgrees, RowInvariant}
 use Rattle.counted_row.proofs.Frames.{moved}
@@ -27,7 +27,7 @@ use Rattle.pass_names.proofs.Names.{same_eq}
 use Rattle.pass_names.proofs.Counts.{met, total-append, count-without_first}
 use Rattle.pass_names.proofs.Passes.{begins_whole, entries_here, entries_else, count_place, within_more, adds_added}
 use Rattle.counted_row.specs.Meaning.{Effect, plain, opens, uses, ends, Counts, times_opened, times_ended}
-use Rattle.counted_row.specs.Views.{Permits, claims_after, committed}
+use Rattle.counted_row.specs.Views.{HasClaimFor, claims_after, committed}
 use Rattle.counted_row.specs.Plays.{Enters}
 use Rattle.counted_row.proofs.Histories.{after_one, after_push}
 
@@ -44,7 +44,7 @@ same_value i claim name c e =
     rw p.0 (ap (same name) (sym (same_eq claim c.1 p.1)))
 
 -- claims on other values stay
-pub claims_else : (claims : List (ℕ × List ℕ)) (i : ℕ) (e : Effect) → Permits claims i e → (k : ℕ) (name : List ℕ) → k ≢ i
+pub claims_else : (claims : List (ℕ × List ℕ)) (i : ℕ) (e : Effect) → HasClaimFor claims i e → (k : ℕ) (name : List ℕ) → k ≢ i
     → count (is_claim k name) (claims_after claims i e) ≡ count (is_claim k name) claims
 claims_else claims i plain ok k name apart = refl
 claims_else claims i (opens claim) ok k name apart =
@@ -58,7 +58,7 @@ claims_else claims i (ends claim) ok k name apart =
     omega (arith, count-without_first (is_claim i claim) (is_claim k name) false (other_value i k claim name apart) claims ok)
 
 -- the claims on the value change as the effect says
-pub claims_here : (claims : List (ℕ × List ℕ)) (i : ℕ) (e : Effect) → Permits claims i e → (name : List ℕ)
+pub claims_here : (claims : List (ℕ × List ℕ)) (i : ℕ) (e : Effect) → HasClaimFor claims i e → (name : List ℕ)
     → count (is_claim i name) (claims_after claims i e) + times_ended name e ≡ count (is_claim i name) claims + times_opened name e
 claims_here claims i plain ok name = refl
 claims_here claims i (opens claim) ok name =
@@ -71,9 +71,9 @@ claims_here claims i (uses claim) ok name = refl
 claims_here claims i (ends claim) ok name =
     omega (arith, count-without_first (is_claim i claim) (is_claim i name) (same name claim) (same_value i claim name) claims ok)
 
-module _ {S C R : Type 0} (m : Meaning S C R) (counts : Counts m) (made : List S) (slots id : ℕ) (v : View S C R) (h : Locked S) (c : C)
+module _ {S C R : Type 0} (m : CallMeaning S C R) (counts : Counts m) (made : List S) (slots id : ℕ) (v : View S C R) (h : Locked S) (c : C)
     (live : v.pass.id.live ≡ true) (heard : v.heard ≡ []) (held : v.held ≡ Some h) (may : m.may h.state c)
-    (permits : Permits v.claims h.index (m.effect h.state c)) (low : h.stamp < 2 ^ 48)
+    (permits : HasClaimFor v.claims h.index (m.effect h.state c)) (low : h.stamp < 2 ^ 48)
     (s : State (Option S) (View S C R)) (inv : RowInvariant m made s) (at : get_elem? s.views id ≡ some v) where
   abbrev i : ℕ
   i = h.index
@@ -96,7 +96,7 @@ module _ {S C R : Type 0} (m : Meaning S C R) (counts : Counts m) (made : List S
   agrees : RowAgrees m made inv.logs inv.holders id v
   agrees = inv.each_view id v at
 
-  holds : HoldsValue m made inv.logs inv.holders id v h
+  holds : HoldsValue m made inv.logs inv.holders id v.pass.seen h
   holds = agrees.held h held
 
   wide : length v.pass.seen ≡ length made
@@ -255,9 +255,9 @@ module _ {S C R : Type 0} (m : Meaning S C R) (counts : Counts m) (made : List S
         views = slice_set s.views id v';
       } enters_inv id v' (set_there s.views id v v' at) live heard
 
-module _ {S C R : Type 0} (m : Meaning S C R) (counts : Counts m) (made : List S) where
+module _ {S C R : Type 0} (m : CallMeaning S C R) (counts : Counts m) (made : List S) where
   pub enters : (slots id : ℕ) (v : View S C R) (h : Locked S) (c : C) (asks : C → Type 0) → asks c
-      → v.pass.id.live ≡ true → v.heard ≡ [] → v.held ≡ Some h → m.may h.state c → Permits v.claims h.index (m.effect h.state c) → h.stamp < 2 ^ 48
+      → v.pass.id.live ≡ true → v.heard ≡ [] → v.held ≡ Some h → m.may h.state c → HasClaimFor v.claims h.index (m.effect h.state c) → h.stamp < 2 ^ 48
       → Allows (RowInvariant m made) slots id (v, (h.index, Some (m.next h.state c)) ∷ []) (h.index + 1) (λ _. h.stamp + 1)
       (λ _. Enters m asks (step slots (h.index + 1) (h.stamp + 1) 0 none) (v, (h.index, Some (m.next h.state c)) ∷ []) (h.stamp + 1))
   enters slots id v h c asks asked live heard held may permits low s inv many at small = (

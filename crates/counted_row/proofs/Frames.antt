@@ -15,11 +15,11 @@ use Rattle.pass_names.proofs.Passes.{begins_refl, begins_trans, begins_push, beg
 use Rattle.counted_row.specs.declared.view.Entry.{Entry}
 use Rattle.counted_row.specs.declared.view.Locked.{Locked}
 use Rattle.counted_row.specs.declared.view.View.{View}
-use Rattle.counted_row.specs.Meaning.{Meaning}
+use Rattle.counted_row.specs.Meaning.{CallMeaning}
 use Rattle.counted_row.specs.Views.{HasClaim, StateAfter}
 use Rattle.counted_row.specs.Rules.{row_pass_id, row_places, claims_at, Cell, HoldsValue, RowAgrees, RowInvariant}
 
-module _ {S C R : Type 0} (m : Meaning S C R) (made : List S) where
+module _ {S C R : Type 0} (m : CallMeaning S C R) (made : List S) where
   -- the history of value i stays, or gets one entry
   abbrev pub Grows : List (Entry C R) → List (Entry C R) → Type 0
   Grows log new = (new ≡ log) ⊎ ((e : Entry C R) × (new ≡ log ++ e ∷ []))
@@ -42,15 +42,15 @@ module _ {S C R : Type 0} (m : Meaning S C R) (made : List S) where
     goes_on : (seen : List (List (Entry C R))) → GoesOn seen logs → GoesOn seen logs'
     goes_on seen g = goes_set seen logs i new inside g (begins_trans (g.each i) (grows_begins (entries i logs) new grows))
 
-    apart : (j : ℕ) (v : View S C R) (h : Locked S) → j ≢ id → HoldsValue m made logs holders j v h → h.index ≢ i
-    apart j v h n holds e =
+    apart : (j : ℕ) (seen : List (List (Entry C R))) (h : Locked S) → j ≢ id → HoldsValue m made logs holders j seen h → h.index ≢ i
+    apart j seen h n holds e =
         let t : slice_index holders i ≡ j + 1 = ap (λ k. slice_index holders k) (sym e) ∙ holds.holder in
         ⊎_elim (λ u. omega arith) (λ u. n (omega arith)) idle
 
-    holds_on : (j : ℕ) (v : View S C R) (h : Locked S) → j ≢ id → HoldsValue m made logs holders j v h
-        → HoldsValue m made logs' (set holders i holder) j v h
-    holds_on j v h n holds =
-        let out = apart j v h n holds in
+    holds_on : (j : ℕ) (seen : List (List (Entry C R))) (h : Locked S) → j ≢ id → HoldsValue m made logs holders j seen h
+        → HoldsValue m made logs' (set holders i holder) j seen h
+    holds_on j seen h n holds =
+        let out = apart j seen h n holds in
         let same : entries h.index logs' ≡ entries h.index logs = entries_else logs i h.index new out in
         record {
           within = holds.within;
@@ -89,7 +89,7 @@ module _ {S C R : Type 0} (m : Meaning S C R) (made : List S) where
       wide = agrees.wide;
       seen = goes_on v.pass.seen agrees.seen;
       heard = goes_on v.heard agrees.heard;
-      held = λ h e. holds_on j v h n (agrees.held h e);
+      held = λ h e. holds_on j v.pass.seen h n (agrees.held h e);
       mine = agrees.mine;
       claims = open_on v agrees.claims last;
       gone = agrees.gone;
@@ -175,105 +175,81 @@ module _ {S C R : Type 0} (m : Meaning S C R) (made : List S) where
         claims = claims;
       }
 
+    -- No word, no slot and no history is other than before.
+    of_views : (views : List (View S C R))
+        → ((j : ℕ) (u : View S C R) → get_elem? views j ≡ some u → RowAgrees m made inv.logs inv.holders j u)
+        → IsPassTree (map row_pass_id views)
+        → ((k n : ℕ) → total (row_places k n) views ≡ total (row_places k n) s.views)
+        → ((k : ℕ) (name : List ℕ) → total (claims_at k name) views ≡ total (claims_at k name) s.views)
+        → RowInvariant m made record { words = s.words; homes = s.homes; views = views }
+    of_views views each_view tree places claims = record {
+      logs = inv.logs;
+      holders = inv.holders;
+      words_len = inv.words_len;
+      homes_len = inv.homes_len;
+      logs_len = inv.logs_len;
+      holders_len = inv.holders_len;
+      each_cell = inv.each_cell;
+      each_view = each_view;
+      tree = tree;
+      tally = λ k n. places k n ∙ inv.tally k n;
+      claims = λ k name x after. claims k name ∙ inv.claims k name x after;
+    }
+
     -- One seat alone is other than before.
     module _ (id : ℕ) (v v' : View S C R) (at : get_elem? s.views id ≡ some v)
-        (agrees : RowAgrees m made inv.logs inv.holders id v') (same_id : row_pass_id v' ≡ row_pass_id v)
-        (places : (k n : ℕ) → row_places k n v' ≡ row_places k n v)
-        (claims : (k : ℕ) (name : List ℕ) → claims_at k name v' ≡ claims_at k name v) where
-      pub turned : RowInvariant m made record { words = s.words; homes = s.homes; views = slice_set s.views id v' }
-      turned = record {
-        logs = inv.logs;
-        holders = inv.holders;
-        words_len = inv.words_len;
-        homes_len = inv.homes_len;
-        logs_len = inv.logs_len;
-        holders_len = inv.holders_len;
-        each_cell = inv.each_cell;
-        each_view = λ j u e. ⊎_elim (λ t. subst (λ w. RowAgrees m made inv.logs inv.holders j w) t.1
-            (subst (λ q. RowAgrees m made inv.logs inv.holders q v') (sym t.0) agrees)) (λ t. inv.each_view j u t.1)
-            (at_set s.views id j v' u e);
-        tree = subst (λ ls. IsPassTree ls) (sym (map_kept row_pass_id s.views id v v' at same_id)) inv.tree;
-        tally = λ k n. omega (arith, total_set (row_places k n) s.views id v v' at, places k n, inv.tally k n);
-        claims = λ k name x after. omega (arith, total_set (claims_at k name) s.views id v v' at, claims k name, inv.claims k name x after);
-      }
+        (agrees : RowAgrees m made inv.logs inv.holders id v') where
+      each_seat : (j : ℕ) (u : View S C R) → get_elem? (set s.views id v') j ≡ some u → RowAgrees m made inv.logs inv.holders j u
+      each_seat j u e =
+          ⊎_elim (λ t. subst (λ w. RowAgrees m made inv.logs inv.holders j w) t.1
+          (subst (λ q. RowAgrees m made inv.logs inv.holders q v') (sym t.0) agrees)) (λ t. inv.each_view j u t.1)
+          (at_set s.views id j v' u e)
 
-    -- One seat is other than before, and one came.
-    module _ (id : ℕ) (v v' w : View S C R) (at : get_elem? s.views id ≡ some v)
-        (agrees : RowAgrees m made inv.logs inv.holders id v') (agrees_new : (j : ℕ) → RowAgrees m made inv.logs inv.holders j w)
-        (tree : IsPassTree (set (map row_pass_id s.views) id (row_pass_id v') ++ row_pass_id w ∷ []))
-        (places : (k n : ℕ) → row_places k n v' + row_places k n w ≡ row_places k n v)
-        (claims : (k : ℕ) (name : List ℕ) → claims_at k name v' + claims_at k name w ≡ claims_at k name v) where
-      pub grown : RowInvariant m made record { words = s.words; homes = s.homes; views = slice_set s.views id v' ++ w ∷ [] }
-      grown = record {
-        logs = inv.logs;
-        holders = inv.holders;
-        words_len = inv.words_len;
-        homes_len = inv.homes_len;
-        logs_len = inv.logs_len;
-        holders_len = inv.holders_len;
-        each_cell = inv.each_cell;
-        each_view = λ j u e. ⊎_elim
-            (λ t. ⊎_elim (λ h. subst (λ x. RowAgrees m made inv.logs inv.holders j x) h.1
-            (subst (λ q. RowAgrees m made inv.logs inv.holders q v') (sym h.0) agrees)) (λ h. inv.each_view j u h.1)
-            (at_set s.views id j v' u t))
-            (λ t. subst (λ x. RowAgrees m made inv.logs inv.holders j x) t (agrees_new j))
-            (at_snoc (set s.views id v') w u j e);
-        tree = subst (λ ls. IsPassTree ls) (sym
-            (map-append row_pass_id (set s.views id v') (w ∷ []) ∙ ap (λ ls. ls ++ row_pass_id w ∷ []) (map-set row_pass_id s.views id v'))) tree;
-        tally = λ k n. omega (
-          arith,
-          total_set (row_places k n) s.views id v v' at,
-          total-append (row_places k n) (set s.views id v') (w ∷ []),
-          places k n,
-          inv.tally k n,
-        );
-        claims = λ k name x after. omega (
-          arith,
-          total_set (claims_at k name) s.views id v v' at,
-          total-append (claims_at k name) (set s.views id v') (w ∷ []),
-          claims k name,
-          inv.claims k name x after,
-        );
-      }
+      module _ (same_id : row_pass_id v' ≡ row_pass_id v) (places : (k n : ℕ) → row_places k n v' ≡ row_places k n v)
+          (claims : (k : ℕ) (name : List ℕ) → claims_at k name v' ≡ claims_at k name v) where
+        pub turned : RowInvariant m made record { words = s.words; homes = s.homes; views = slice_set s.views id v' }
+        turned =
+            of_views (set s.views id v') each_seat
+            (subst (λ ls. IsPassTree ls) (sym (map_kept row_pass_id s.views id v v' at same_id)) inv.tree)
+            (λ k n. omega (arith, total_set (row_places k n) s.views id v v' at, places k n))
+            (λ k name. omega (arith, total_set (claims_at k name) s.views id v v' at, claims k name))
 
-    -- One seat has taken in another.
-    module _ (id other : ℕ) (v v' w w' : View S C R) (at : get_elem? s.views id ≡ some v) (at_other : get_elem? (set s.views id v') other ≡ some w)
-        (agrees : RowAgrees m made inv.logs inv.holders id v') (agrees_left : (j : ℕ) → RowAgrees m made inv.logs inv.holders j w')
-        (tree : IsPassTree (set (set (map row_pass_id s.views) id (row_pass_id v')) other (row_pass_id w')))
-        (places : (k n : ℕ) → row_places k n v' + row_places k n w' ≡ row_places k n v + row_places k n w)
-        (claims : (k : ℕ) (name : List ℕ) → claims_at k name v' + claims_at k name w' ≡ claims_at k name v + claims_at k name w) where
-      pub merged : RowInvariant m made record { words = s.words; homes = s.homes; views = slice_set (slice_set s.views id v') other w' }
-      merged = record {
-        logs = inv.logs;
-        holders = inv.holders;
-        words_len = inv.words_len;
-        homes_len = inv.homes_len;
-        logs_len = inv.logs_len;
-        holders_len = inv.holders_len;
-        each_cell = inv.each_cell;
-        each_view = λ j u e. ⊎_elim
-            (λ t. subst (λ x. RowAgrees m made inv.logs inv.holders j x) t.1 (agrees_left j))
-            (λ t. ⊎_elim (λ h. subst (λ x. RowAgrees m made inv.logs inv.holders j x) h.1
-            (subst (λ q. RowAgrees m made inv.logs inv.holders q v') (sym h.0) agrees)) (λ h. inv.each_view j u h.1)
-            (at_set s.views id j v' u t.1))
-            (at_set (set s.views id v') other j w' u e);
-        tree = subst (λ ls. IsPassTree ls) (sym
-            (map-set row_pass_id (set s.views id v') other w' ∙ ap (λ ls. set ls other (row_pass_id w')) (map-set row_pass_id s.views id v'))) tree;
-        tally = λ k n. omega (
-          arith,
-          total_set (row_places k n) s.views id v v' at,
-          total_set (row_places k n) (set s.views id v') other w w' at_other,
-          places k n,
-          inv.tally k n,
-        );
-        claims = λ k name x after. omega (
-          arith,
-          total_set (claims_at k name) s.views id v v' at,
-          total_set (claims_at k name) (set s.views id v') other w w' at_other,
-          claims k name,
-          inv.claims k name x after,
-        );
-      }
+      -- And one came.
+      module _ (w : View S C R) (agrees_new : (j : ℕ) → RowAgrees m made inv.logs inv.holders j w)
+          (tree : IsPassTree (set (map row_pass_id s.views) id (row_pass_id v') ++ row_pass_id w ∷ []))
+          (places : (k n : ℕ) → row_places k n v' + row_places k n w ≡ row_places k n v)
+          (claims : (k : ℕ) (name : List ℕ) → claims_at k name v' + claims_at k name w ≡ claims_at k name v) where
+        total_one_more : (f : View S C R → ℕ) → f v' + f w ≡ f v → total f (set s.views id v' ++ w ∷ []) ≡ total f s.views
+        total_one_more f parts = omega (arith, total_set f s.views id v v' at, total-append f (set s.views id v') (w ∷ []), parts)
+
+        pub grown : RowInvariant m made record { words = s.words; homes = s.homes; views = slice_set s.views id v' ++ w ∷ [] }
+        grown =
+            of_views (set s.views id v' ++ w ∷ [])
+            (λ j u e. ⊎_elim (each_seat j u) (λ t. subst (λ x. RowAgrees m made inv.logs inv.holders j x) t (agrees_new j))
+            (at_snoc (set s.views id v') w u j e))
+            (subst (λ ls. IsPassTree ls) (sym
+            (map-append row_pass_id (set s.views id v') (w ∷ []) ∙ ap (λ ls. ls ++ row_pass_id w ∷ []) (map-set row_pass_id s.views id v'))) tree)
+            (λ k n. total_one_more (row_places k n) (places k n))
+            (λ k name. total_one_more (claims_at k name) (claims k name))
+
+      -- It has taken in another.
+      module _ (other : ℕ) (w w' : View S C R) (at_other : get_elem? (set s.views id v') other ≡ some w)
+          (agrees_left : (j : ℕ) → RowAgrees m made inv.logs inv.holders j w')
+          (tree : IsPassTree (set (set (map row_pass_id s.views) id (row_pass_id v')) other (row_pass_id w')))
+          (places : (k n : ℕ) → row_places k n v' + row_places k n w' ≡ row_places k n v + row_places k n w)
+          (claims : (k : ℕ) (name : List ℕ) → claims_at k name v' + claims_at k name w' ≡ claims_at k name v + claims_at k name w) where
+        total_both : (f : View S C R → ℕ) → f v' + f w' ≡ f v + f w → total f (set (set s.views id v') other w') ≡ total f s.views
+        total_both f parts = omega (arith, total_set f s.views id v v' at, total_set f (set s.views id v') other w w' at_other, parts)
+
+        pub merged : RowInvariant m made record { words = s.words; homes = s.homes; views = slice_set (slice_set s.views id v') other w' }
+        merged =
+            of_views (set (set s.views id v') other w')
+            (λ j u e. ⊎_elim (λ t. subst (λ x. RowAgrees m made inv.logs inv.holders j x) t.1 (agrees_left j)) (λ t. each_seat j u t.1)
+            (at_set (set s.views id v') other j w' u e))
+            (subst (λ ls. IsPassTree ls) (sym
+            (map-set row_pass_id (set s.views id v') other w' ∙ ap (λ ls. set ls other (row_pass_id w')) (map-set row_pass_id s.views id v'))) tree)
+            (λ k n. total_both (row_places k n) (places k n))
+            (λ k name. total_both (claims_at k name) (claims k name))
 
     -- One value's lock and one seat are other than before, and no history is.
     module _ (i id : ℕ) (v v' : View S C R) (word holder : ℕ) (slot : mathlib.Core.Option.Option (Option S))

@@ -3,10 +3,10 @@ use Rattle.std.proofs.Common.{◌≡◌, ℕ, List, [], ◌∷◌, ◌++◌, ref
 use mathlib.Core.Option.{some-injective}
 use Rattle.pass_names.specs.Passes.{Begins}
 use Rattle.counted_row.specs.declared.view.Entry.{Entry}
-use Rattle.counted_row.specs.Meaning.{Meaning, Leads}
+use Rattle.counted_row.specs.Meaning.{CallMeaning, Leads}
 use Rattle.counted_row.specs.Views.{StateAfter}
 
-module _ {S C R : Type 0} (m : Meaning S C R) where
+module _ {S C R : Type 0} (m : CallMeaning S C R) where
   pub leads_one : (x y z : S) (log : List (Entry C R)) → Leads m x log y → Leads m x log z → y ≡ z
   leads_one x y z [] a b = a ∙ sym b
   leads_one x y z (e ∷ es) a b = leads_one (m.next x e.call) y z es a.2 b.2

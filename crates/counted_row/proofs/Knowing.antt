@@ -17,7 +17,7 @@ use Rattle.pass_names.proofs.Passes.{begins_refl, begins_nil, begins_whole}
 use Rattle.counted_row.specs.declared.view.Entry.{Entry}
 use Rattle.counted_row.specs.declared.view.Locked.{Locked}
 use Rattle.counted_row.specs.declared.view.View.{View}
-use Rattle.counted_row.specs.Meaning.{Meaning}
+use Rattle.counted_row.specs.Meaning.{CallMeaning}
 use Rattle.counted_row.specs.Views.{is_claim, StateAfter, IsNow, Knows, PassOfRow, Locks, HasClaim, split_view, new_view}
 use Rattle.counted_row.specs.Rules.{row_pass_id, row_places, claims_at, RowAgrees, RowInvariant}
 use Rattle.counted_row.proofs.Histories.{after_part}
@@ -25,7 +25,7 @@ use Rattle.counted_row.proofs.Histories.{after_part}
 in_range : (n : ℕ) → 0 < n → one_if (within n n) ≡ 1
 in_range n h = grind (arith, nat_tests)
 
-module _ {S C R : Type 0} (m : Meaning S C R) (made : List S) (s : State (Option S) (View S C R)) (inv : RowInvariant m made s)
+module _ {S C R : Type 0} (m : CallMeaning S C R) (made : List S) (s : State (Option S) (View S C R)) (inv : RowInvariant m made s)
     (id : ℕ) (v : View S C R) (at : get_elem? s.views id ≡ some v) (live : v.pass.id.live ≡ true) (heard : v.heard ≡ []) where
   agrees : RowAgrees m made inv.logs inv.holders id v
   agrees = inv.each_view id v at
@@ -113,13 +113,13 @@ module _ {S C R : Type 0} (m : Meaning S C R) (made : List S) (s : State (Option
       }
 
 -- under the lock, the pass's claims on the value are open
-pub open_now : {S C R : Type 0} (m : Meaning S C R) (old new : PassOfRow S C R) (i : ℕ) (name : List ℕ) (h : Locked S) → Locks m old new i h
+pub open_now : {S C R : Type 0} (m : CallMeaning S C R) (old new : PassOfRow S C R) (i : ℕ) (name : List ℕ) (h : Locked S) → Locks m old new i h
     → HasClaim i name old.knows.claims → 0 < occurrences name (m.claims h.state)
 open_now m old new i name h locks has =
     locks.knows.open_claims h.index name h.state (subst (λ cs. HasClaim h.index name cs) (sym locks.claims)
     (subst (λ k. HasClaim k name old.knows.claims) (sym locks.index) has)) locks.now.state
 
-module _ {S C R : Type 0} (m : Meaning S C R) (v : View S C R) (knows : Knows m v) where
+module _ {S C R : Type 0} (m : CallMeaning S C R) (v : View S C R) (knows : Knows m v) where
   -- who has seen as much and has no claim and no lock that v hasn't knows as much, and isn't the last
   knows_less : (id : PassId) (mine : List (ℕ × ℕ)) (heard : List (List (Entry C R))) (claims : List (ℕ × List ℕ)) (held : Option (Locked S))
       → (IsLast id → ⊥)

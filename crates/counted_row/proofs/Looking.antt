@@ -10,15 +10,15 @@ use Rattle.pass_names.specs.Passes.{entries}
 use Rattle.pass_names.proofs.Passes.{begins_trans, begins_length, goes_refl, goes_nil}
 use Rattle.counted_row.specs.declared.view.Entry.{Entry}
 use Rattle.counted_row.specs.declared.view.View.{View}
-use Rattle.counted_row.specs.Meaning.{Meaning}
+use Rattle.counted_row.specs.Meaning.{CallMeaning}
 use Rattle.counted_row.specs.Views.{having_seen}
 use Rattle.counted_row.specs.Rules.{Cell, RowAgrees, RowInvariant}
-use Rattle.counted_row.specs.Plays.{IsWord, Looked, Checked}
+use Rattle.counted_row.specs.Plays.{IsLockWord, Looked, Checked}
 use Rattle.counted_row.proofs.Frames.{turned}
 use Rattle.pass_names.proofs.Counts.{set_there}
 use Rattle.counted_row.proofs.Knowing.{knows_of}
 
-module _ {S C R : Type 0} (m : Meaning S C R) (made : List S) where
+module _ {S C R : Type 0} (m : CallMeaning S C R) (made : List S) where
   -- what a seat knows stays true once it has seen all histories
   pub agrees_seen : (logs : List (List (Entry C R))) (holders : List ℕ) (id : ℕ) (v : View S C R) → length logs ≡ length made
       → RowAgrees m made logs holders id v → RowAgrees m made logs holders id (having_seen logs v)
@@ -39,7 +39,7 @@ module _ {S C R : Type 0} (m : Meaning S C R) (made : List S) where
 
   -- the word of a value tells how many entries its history has
   word_tells : (i : ℕ) (log : List (Entry C R)) (slot : mathlib.Core.Option.Option (mathlib.Core.Option.Option (Option S))) (word holder : ℕ)
-      → Cell m made i log slot word holder → IsWord (length log) word
+      → Cell m made i log slot word holder → IsLockWord (length log) word
   word_tells i log slot word holder cell = record {
     short = cell.short;
     is = ⊎_elim (λ e. inl (cell.free e).0) (λ n. inr (cell.taken n)) (cases_eq holder 0);
@@ -67,7 +67,7 @@ module _ {S C R : Type 0} (m : Meaning S C R) (made : List S) where
                 (set_there s.views id v v' at) live refl;
             counts = λ i e h.
                 let c = inv.each_cell i (omega (arith, inv.homes_len)) in
-                subst (λ k. IsWord (length (entries i inv.logs)) (slice_index s.words k)) (sym e ∙ at_word)
+                subst (λ k. IsLockWord (length (entries i inv.logs)) (slice_index s.words k)) (sym e ∙ at_word)
                 (word_tells i (entries i inv.logs) (get_elem? s.homes i) (slice_index s.words (i + 1)) (slice_index inv.holders i) c);
           },
         )

@@ -14,7 +14,7 @@ use Rattle.pass_names.proofs.Passes.{goes_nil, goes_refl, entries_replicate}
 use Rattle.counted_row.specs.declared.view.Entry.{Entry}
 use Rattle.counted_row.specs.declared.view.Locked.{Locked}
 use Rattle.counted_row.specs.declared.view.View.{View}
-use Rattle.counted_row.specs.Meaning.{Meaning}
+use Rattle.counted_row.specs.Meaning.{CallMeaning}
 use Rattle.counted_row.specs.Views.{StateAfter, Knows, first_view}
 use Rattle.counted_row.specs.Rules.{Cell, RowAgrees, RowInvariant}
 use Rattle.counted_row.proofs.Knowing.{knows_of}
@@ -32,7 +32,7 @@ slot_at (y ∷ ys) (suc i) x e = slot_at ys i x e
 word_at : (n i : ℕ) → i < n + 1 → slice_index (replicate (n + 1) 0) i ≡ 0
 word_at n i h = get_or-replicate (n + 1) i 0 0 h
 
-module _ {S C R : Type 0} (m : Meaning S C R) (made : List S) where
+module _ {S C R : Type 0} (m : CallMeaning S C R) (made : List S) where
   abbrev first : View S C R
   first = first_view made
 

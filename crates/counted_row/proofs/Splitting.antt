@@ -17,7 +17,7 @@ use Rattle.pass_names.proofs.Passes.{begins_nil, goes_nil}
 use Rattle.counted_row.specs.declared.view.Entry.{Entry}
 use Rattle.counted_row.specs.declared.view.Locked.{Locked}
 use Rattle.counted_row.specs.declared.view.View.{View}
-use Rattle.counted_row.specs.Meaning.{Meaning}
+use Rattle.counted_row.specs.Meaning.{CallMeaning}
 use Rattle.counted_row.specs.Views.{is_claim, split_view, new_view}
 use Rattle.counted_row.specs.Rules.{row_pass_id, row_places, claims_at, RowAgrees, RowInvariant}
 use Rattle.counted_row.specs.Plays.{note_of, gone_view, joined_view, told_view}
@@ -26,7 +26,7 @@ use Rattle.counted_row.proofs.Frames.{grown, merged}
 no_lock : {S : Type 0} (h : Locked S) → None ≡ Some h → ⊥
 no_lock h e = cc
 
-module _ {S C R : Type 0} (m : Meaning S C R) (made : List S) where
+module _ {S C R : Type 0} (m : CallMeaning S C R) (made : List S) where
   -- a view with no place and no claim of its own, of histories that were seen
   agrees_reader : (logs : List (List (Entry C R))) (holders : List ℕ) (j : ℕ) (id : PassId) (opening : List S) (seen : List (List (Entry C R)))
       → (id.live ≡ true → opening ≡ made) → (id.live ≡ true → length seen ≡ length made) → GoesOn seen logs
@@ -44,22 +44,13 @@ module _ {S C R : Type 0} (m : Meaning S C R) (made : List S) where
 
   agrees_split : (logs : List (List (Entry C R))) (holders : List ℕ) (id : ℕ) (v : View S C R) → RowAgrees m made logs holders id v
       → RowAgrees m made logs holders id (split_view v)
-  agrees_split logs holders id v agrees = record {
-    opening = agrees.opening;
-    wide = agrees.wide;
-    seen = agrees.seen;
-    heard = agrees.heard;
-    held = λ h e. let t = agrees.held h e in record { within = t.within; holder = t.holder; stamp = t.stamp; seen = t.seen; state = t.state };
-    mine = agrees.mine;
-    claims = agrees.claims;
-    gone = agrees.gone;
-  }
+  agrees_split logs holders id v a =
+      record { opening = a.opening; wide = a.wide; seen = a.seen; heard = a.heard; held = a.held; mine = a.mine; claims = a.claims; gone = a.gone }
 
   pub splits : (id : ℕ) (v : View S C R) → v.pass.id.live ≡ true → Splits (RowInvariant m made) id v (split_view v) (new_view v)
   splits id v live s inv at =
       let agrees = inv.each_view id v at in
-      grown m made s inv id v (split_view v) (new_view v) at
-      (agrees_split inv.logs inv.holders id v agrees)
+      grown m made s inv id v (split_view v) at (agrees_split inv.logs inv.holders id v agrees) (new_view v)
       (λ j. agrees_reader inv.logs inv.holders j (row_pass_id (new_view v)) v.opening v.pass.seen (λ t. agrees.opening live)
       (λ t. agrees.wide live) agrees.seen)
       (splits_tree (map row_pass_id s.views) inv.tree id (row_pass_id v) (at_map row_pass_id s.views id v at) live)
@@ -68,8 +59,7 @@ module _ {S C R : Type 0} (m : Meaning S C R) (made : List S) where
 
   pub notes : (id : ℕ) (v : View S C R) → Splits (RowInvariant m made) id v v (note_of v)
   notes id v s inv at =
-      grown m made s inv id v v (note_of v) at
-      (inv.each_view id v at)
+      grown m made s inv id v v at (inv.each_view id v at) (note_of v)
       (λ j. agrees_reader inv.logs inv.holders j gone_pass_id [] v.pass.seen (λ t. absurd (true≢false (sym t)))
       (λ t. absurd (true≢false (sym t))) (inv.each_view id v at).seen)
       (subst (λ ls. IsPassTree (ls ++ gone_pass_id ∷ []))
@@ -121,8 +111,9 @@ module _ {S C R : Type 0} (m : Meaning S C R) (made : List S) where
       let ids_at : get_elem? (set (map row_pass_id s.views) id (row_pass_id (joined_view v w))) other ≡ some (row_pass_id w) =
       ap (λ ls. get_elem? ls other) (sym (map-set row_pass_id s.views id (joined_view v w))) ∙ at_map row_pass_id
       (set s.views id (joined_view v w)) other w at_other in
-      merged m made s inv id other v (joined_view v w) w gone_view at at_other
+      merged m made s inv id v (joined_view v w) at
       (agrees_joined inv.logs inv.holders id other v w live v_heard w_heard idle (inv.each_view id v at) (inv.each_view other w at_w))
+      other w gone_view at_other
       (λ j. agrees_gone inv.logs inv.holders j)
       (joins_tree (map row_pass_id s.views) inv.tree id other (row_pass_id v) (row_pass_id w)
       (at_map row_pass_id s.views id v at) live apart ids_at live_w answers)
@@ -136,7 +127,7 @@ module _ {S C R : Type 0} (m : Meaning S C R) (made : List S) where
     wide = agrees.wide;
     seen = agrees.seen;
     heard = goes;
-    held = λ h e. let t = agrees.held h e in record { within = t.within; holder = t.holder; stamp = t.stamp; seen = t.seen; state = t.state };
+    held = agrees.held;
     mine = λ i k some_one. ⊎_elim (λ u. inl u) (λ u. inl (omega (arith, none_long v heard i))) (agrees.mine i k some_one);
     claims = λ i name log x has a b c after. agrees.claims i name log x has a (none_heard v heard i log) c after;
     gone = agrees.gone;
@@ -152,8 +143,9 @@ module _ {S C R : Type 0} (m : Meaning S C R) (made : List S) where
       let ids : set (set (map row_pass_id s.views) id (row_pass_id v)) other gone_pass_id ≡ map row_pass_id s.views =
       ap (λ ls. set ls other gone_pass_id) (set_again (map row_pass_id s.views) id (row_pass_id v) (at_map row_pass_id s.views id v at))
       ∙ set_again (map row_pass_id s.views) other gone_pass_id id_at in
-      merged m made s inv id other v (told_view v w) w gone_view at at_other
+      merged m made s inv id v (told_view v w) at
       (agrees_told inv.logs inv.holders id v w heard (inv.each_view id v at) (inv.each_view other w at_w).seen)
+      other w gone_view at_other
       (λ j. agrees_gone inv.logs inv.holders j)
       (subst (λ ls. IsPassTree ls) (sym ids) inv.tree)
       (λ k n. refl)

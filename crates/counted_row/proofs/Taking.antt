@@ -11,7 +11,7 @@ use Rattle.pass_names.specs.Passes.{entries}
 use Rattle.counted_row.specs.declared.view.Entry.{Entry}
 use Rattle.counted_row.specs.declared.view.Locked.{Locked}
 use Rattle.counted_row.specs.declared.view.View.{View}
-use Rattle.counted_row.specs.Meaning.{Meaning}
+use Rattle.counted_row.specs.Meaning.{CallMeaning}
 use Rattle.counted_row.specs.Views.{having_seen}
 use Rattle.counted_row.specs.Rules.{taken_mark, Cell, HoldsValue, RowAgrees, RowInvariant}
 use Rattle.counted_row.specs.Plays.{Looked, Hit, Took}
@@ -22,7 +22,7 @@ use Rattle.counted_row.specs.Plays.{Freed}
 use Rattle.counted_row.proofs.Frames.{shifted}
 use Rattle.counted_row.proofs.Looking.{agrees_seen, looks_at}
 
-module _ {S C R : Type 0} (m : Meaning S C R) (made : List S) where
+module _ {S C R : Type 0} (m : CallMeaning S C R) (made : List S) where
   -- a seat that holds nothing fits whoever holds what
   pub agrees_idle : (logs : List (List (Entry C R))) (holders holders' : List ℕ) (id : ℕ) (v : View S C R) → v.held ≡ None
       → RowAgrees m made logs holders id v → RowAgrees m made logs holders' id v
@@ -42,15 +42,14 @@ module _ {S C R : Type 0} (m : Meaning S C R) (made : List S) where
 
   -- a seat that has seen all of a history may hold its value
   agrees_holding : (logs : List (List (Entry C R))) (holders : List ℕ) (id : ℕ) (v : View S C R) (h : Locked S)
-      → RowAgrees m made logs holders id v → HoldsValue m made logs holders id v h
+      → RowAgrees m made logs holders id v → HoldsValue m made logs holders id v.pass.seen h
       → RowAgrees m made logs holders id (record v { held = Some h })
   agrees_holding logs holders id v h agrees holds = record {
     opening = agrees.opening;
     wide = agrees.wide;
     seen = agrees.seen;
     heard = agrees.heard;
-    held = λ k e. let t : h ≡ k = cc in subst (λ q. HoldsValue m made logs holders id (record v { held = Some h }) q) t
-        (record { within = holds.within; holder = holds.holder; stamp = holds.stamp; seen = holds.seen; state = holds.state });
+    held = λ k e. let t : h ≡ k = cc in subst (HoldsValue m made logs holders id v.pass.seen) t holds;
     mine = agrees.mine;
     claims = agrees.claims;
     gone = agrees.gone;
@@ -80,7 +79,7 @@ module _ {S C R : Type 0} (m : Meaning S C R) (made : List S) where
         let v1 : View S C R = having_seen inv.logs v in
         let v2 : View S C R = record v1 { held = Some h } in
         let holders : List ℕ = set inv.holders i (id + 1) in
-        let holds : HoldsValue m made inv.logs holders id v1 h = record {
+        let holds : HoldsValue m made inv.logs holders id inv.logs h = record {
           within = in_made;
           holder = get_or-set_same inv.holders i (id + 1) 0 (omega (arith, inv.holders_len));
           stamp = sym found ∙ free.0;

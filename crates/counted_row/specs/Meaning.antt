@@ -12,7 +12,7 @@ pub data Effect : Type 0 where
   ends : List ℕ → Effect
 
 -- of a state and a call: whether it may be made, the state after it, its reply, and what it does to claims; and the open claims of a state
-pub record Meaning (S C R : Type 0) : Type 1 where
+pub record CallMeaning (S C R : Type 0) : Type 1 where
   pub may : S → C → Type 0
   pub next : S → C → S
   pub reply : S → C → R
@@ -35,11 +35,11 @@ times_ended name (ends claim) = one_if (same name claim)
 
 module _ {S C R : Type 0} where
   -- a call opens and ends the claims that its effect says, and no others
-  abbrev pub Counts : Meaning S C R → Type 0
+  abbrev pub Counts : CallMeaning S C R → Type 0
   Counts m = (s : S) (c : C) (name : List ℕ) → m.may s c → occurrences name (m.claims (m.next s c)) + times_ended name (m.effect s c)
       ≡ occurrences name (m.claims s) + times_opened name (m.effect s c)
 
   -- from the first state the calls of the history may be made in turn, with these replies, and lead to the second
-  abbrev pub Leads : Meaning S C R → S → List (Entry C R) → S → Type 0
+  abbrev pub Leads : CallMeaning S C R → S → List (Entry C R) → S → Type 0
   Leads m x [] y = y ≡ x
   Leads m x (e ∷ es) y = m.may x e.call × (e.reply ≡ m.reply x e.call) × Leads m (m.next x e.call) es y

@@ -10,7 +10,7 @@ use Rattle.pass_names.specs.Passes.{Begins, entries, GoesOn, within, is_place}
 use Rattle.counted_row.specs.declared.view.Entry.{Entry}
 use Rattle.counted_row.specs.declared.view.Locked.{Locked}
 use Rattle.counted_row.specs.declared.view.View.{View}
-use Rattle.counted_row.specs.Meaning.{Meaning}
+use Rattle.counted_row.specs.Meaning.{CallMeaning}
 use Rattle.counted_row.specs.Views.{HasClaim, is_claim, StateAfter}
 
 -- what is added to a value's word while its lock is taken
@@ -29,7 +29,7 @@ row_places i k v = count (is_place i k) v.pass.mine
 abbrev pub claims_at : {S C R : Type 0} → ℕ → List ℕ → View S C R → ℕ
 claims_at i name v = count (is_claim i name) v.claims
 
-module _ {S C R : Type 0} (m : Meaning S C R) (made : List S) where
+module _ {S C R : Type 0} (m : CallMeaning S C R) (made : List S) where
   -- The word, the slot and the holder of value i. The holder is 0, or one more than the number of the seat that has the lock.
   pub record Cell (i : ℕ) (log : List (Entry C R)) (slot : mathlib.Core.Option.Option (mathlib.Core.Option.Option (Option S)))
       (word holder : ℕ) : Type 0 where
@@ -39,12 +39,12 @@ module _ {S C R : Type 0} (m : Meaning S C R) (made : List S) where
     pub free : holder ≡ 0 → (word ≡ length log) × (slot ≡ some (some (Some state)))
     pub taken : holder ≢ 0 → word ≡ length log + taken_mark
 
-  -- what seat j holds is the state after the whole history
-  pub record HoldsValue (logs : List (List (Entry C R))) (holders : List ℕ) (j : ℕ) (v : View S C R) (h : Locked S) : Type 0 where
+  -- what seat j holds, which has seen these histories, is the state after the whole history
+  pub record HoldsValue (logs : List (List (Entry C R))) (holders : List ℕ) (j : ℕ) (known : List (List (Entry C R))) (h : Locked S) : Type 0 where
     pub within : h.index < length made
     pub holder : slice_index holders h.index ≡ j + 1
     pub stamp : h.stamp ≡ length (entries h.index logs)
-    pub seen : entries h.index v.pass.seen ≡ entries h.index logs
+    pub seen : entries h.index known ≡ entries h.index logs
     pub state : StateAfter m made h.index (entries h.index logs) h.state
 
   -- what seat j knows is true
@@ -53,7 +53,7 @@ module _ {S C R : Type 0} (m : Meaning S C R) (made : List S) where
     pub wide : v.pass.id.live ≡ true → length v.pass.seen ≡ length made
     pub seen : GoesOn v.pass.seen logs
     pub heard : GoesOn v.heard logs
-    pub held : (h : Locked S) → v.held ≡ Some h → HoldsValue logs holders j v h
+    pub held : (h : Locked S) → v.held ≡ Some h → HoldsValue logs holders j v.pass.seen h
     pub mine : (i k : ℕ) → 0 < row_places i k v → (k ≤ length (entries i v.pass.seen)) ⊎ (k ≤ length (entries i v.heard))
     -- its claims are open after what it has seen, and ever after
     pub claims : (i : ℕ) (name : List ℕ) (log : List (Entry C R)) (x : S) → HasClaim i name v.claims → Begins (entries i v.pass.seen) log

@@ -9,7 +9,7 @@ use Rattle.pass_names.specs.Passes.{entries, HasEach, is_place, Looks, within, f
 use Rattle.counted_row.specs.declared.view.Entry.{Entry}
 use Rattle.counted_row.specs.declared.view.Locked.{Locked}
 use Rattle.counted_row.specs.declared.view.View.{View}
-use Rattle.counted_row.specs.Meaning.{Effect, plain, opens, uses, ends, Meaning, Leads}
+use Rattle.counted_row.specs.Meaning.{Effect, plain, opens, uses, ends, CallMeaning, Leads}
 
 -- whether this is the claim on value i
 abbrev pub is_claim : ℕ → List ℕ → ℕ × List ℕ → Bool
@@ -20,11 +20,11 @@ abbrev pub HasClaim : ℕ → List ℕ → List (ℕ × List ℕ) → Type 0
 HasClaim i name claims = 0 < count (is_claim i name) claims
 
 -- a claim that the call on value i uses or ends stands among these
-abbrev pub Permits : List (ℕ × List ℕ) → ℕ → Effect → Type 0
-Permits claims i plain = Unit {0}
-Permits claims i (opens name) = Unit {0}
-Permits claims i (uses name) = HasClaim i name claims
-Permits claims i (ends name) = HasClaim i name claims
+abbrev pub HasClaimFor : List (ℕ × List ℕ) → ℕ → Effect → Type 0
+HasClaimFor claims i plain = Unit {0}
+HasClaimFor claims i (opens name) = Unit {0}
+HasClaimFor claims i (uses name) = HasClaim i name claims
+HasClaimFor claims i (ends name) = HasClaim i name claims
 
 -- the claims after a call on value i
 abbrev pub claims_after : List (ℕ × List ℕ) → ℕ → Effect → List (ℕ × List ℕ)
@@ -48,20 +48,26 @@ pub record IsPassOfRow {S C R : Type 0} (r : RowOf S) (p : PassOfRow S C R) : Ty
   pub row : p.row ≡ r.id
   pub made : p.knows.opening ≡ r.made
 
+-- a pass of this row that holds nothing, and so may lock value i
+pub record MayLock {S C R : Type 0} (r : RowOf S) (p : PassOfRow S C R) (i : ℕ) : Type 0 where
+  pub row : IsPassOfRow r p
+  pub within : i < length r.made
+  pub idle : p.knows.held ≡ None
+
 module _ {S C R : Type 0} where
   -- a history leads value i from what it was made of to this state
-  pub record StateAfter (m : Meaning S C R) (made : List S) (i : ℕ) (log : List (Entry C R)) (state : S) : Type 0 where
+  pub record StateAfter (m : CallMeaning S C R) (made : List S) (i : ℕ) (log : List (Entry C R)) (state : S) : Type 0 where
     pub from : S
     pub at : get_elem? made i ≡ some from
     pub leads : Leads m from log state
 
   -- what is held is the state after the history that was seen, with its length
-  pub record IsNow (m : Meaning S C R) (v : View S C R) (h : Locked S) : Type 0 where
+  pub record IsNow (m : CallMeaning S C R) (v : View S C R) (h : Locked S) : Type 0 where
     pub state : StateAfter m v.opening h.index (entries h.index v.pass.seen) h.state
     pub stamp : h.stamp ≡ length (entries h.index v.pass.seen)
 
   -- What is known of what a pass knows.
-  pub record Knows (m : Meaning S C R) (v : View S C R) : Type 0 where
+  pub record Knows (m : CallMeaning S C R) (v : View S C R) : Type 0 where
     -- each history that was seen leads to a state
     pub legal : (i : ℕ) → i < length v.opening → (x : S) × StateAfter m v.opening i (entries i v.pass.seen) x
     -- in which the pass's own claims are open
@@ -87,7 +93,7 @@ module _ {S C R : Type 0} where
   having_seen seen v = record v { pass = record v.pass { seen = seen }; heard = [] }
 
   -- after a call on the held value
-  abbrev pub committed : Meaning S C R → Locked S → C → View S C R → View S C R
+  abbrev pub committed : CallMeaning S C R → Locked S → C → View S C R → View S C R
   committed m h c v = record v {
     pass = added h.index (record { call = c; reply = m.reply h.state c }) v.pass;
     claims = claims_after v.claims h.index (m.effect h.state c);
@@ -115,7 +121,7 @@ module _ {S C R : Type 0} where
     pub held : new.knows.held ≡ old.knows.held
 
   -- value i is held, and no entry was added
-  pub record Locks (m : Meaning S C R) (old new : PassOfRow S C R) (i : ℕ) (h : Locked S) : Type 0 where
+  pub record Locks (m : CallMeaning S C R) (old new : PassOfRow S C R) (i : ℕ) (h : Locked S) : Type 0 where
     pub row : new.row ≡ old.row
     pub pass : Looks old.knows.pass new.knows.pass
     pub opening : new.knows.opening ≡ old.knows.opening

@@ -1,6 +1,6 @@
 //! What a value of a row is: a state with calls that have one order.
 ghost use Rattle.std.specs.Prelude.{◌≡◌};
-ghost use Rattle.counted_row.specs.Meaning.{Meaning, Counts};
+ghost use Rattle.counted_row.specs.Meaning.{CallMeaning, Counts};
 
 /// A value with calls that have one order.
 pub trait Object: Drop {
@@ -9,7 +9,7 @@ pub trait Object: Drop {
     type Reply;
 
     // Which calls may be made, what each gives, and which claims each opens, uses or ends.
-    ghost meaning: { Meaning Self Self.Call Self.Reply };
+    ghost meaning: { CallMeaning Self Self.Call Self.Reply };
 
     /// Makes one call.
     fn apply(&mut self, call: &Self::Call) -> Self::Reply

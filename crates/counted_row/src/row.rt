@@ -2,7 +2,7 @@
 ghost use Rattle.std.specs.Prelude.{◌≡◌, ℕ, ◌+◌, ◌^◌, ◌<◌, Some, None, [], ◌∷◌, ◌++◌, length, All, IfOk, MatchOption};
 ghost use Rattle.pass_names.specs.Names.{AnswersFor, IsLast};
 ghost use Rattle.pass_names.specs.Passes.{Adds, Looks, Retires, Meets, HasEach, entries};
-ghost use Rattle.counted_row.specs.Views.{IsPassOfRow, Sees, Locks, Knows, Permits, claims_after, first_view, committed, released, split_view, new_view};
+ghost use Rattle.counted_row.specs.Views.{IsPassOfRow, Sees, Locks, Knows, HasClaimFor, claims_after, first_view, committed, released, split_view, new_view};
 
 use crate::handles::{Held, RowPass};
 use crate::object::Object;
@@ -104,7 +104,7 @@ impl<O: Object> Row<O> {
         requires held { pass.old.knows.held ≡ Some held }
         requires short { held.stamp < 2 ^ 48 }
         requires may { O.meaning.may held.state call }
-        requires claim { Permits pass.old.knows.claims held.index (O.meaning.effect held.state call) }
+        requires claim { HasClaimFor pass.old.knows.claims held.index (O.meaning.effect held.state call) }
         ensures number { result.0 ≡ held.stamp + 1 }
         ensures count { result.0 ≡ length (entries held.index pass.new.knows.pass.seen) }
         ensures reply { result.1 ≡ O.meaning.reply held.state call }

@@ -2,7 +2,7 @@
 ghost use Rattle.std.specs.Prelude.{◌≡◌, ◌+◌, ◌<◌, true, None, Some, [], ◌∷◌, MatchOption, length};
 ghost use Rattle.atomic_table.specs.Table.{rest};
 ghost use Rattle.pass_names.specs.Passes.{entries};
-ghost use Rattle.counted_row.specs.Plays.{HasLooked, Caught};
+ghost use Rattle.counted_row.specs.Plays.{HasLooked, Caught, MayTake};
 ghost use Rattle.counted_row.specs.Rules.{taken_mark};
 
 use crate::handles::Held;
@@ -42,11 +42,9 @@ fn take_free<O: Object>(
     stamp: u64,
 ) -> Option<Held<O>>
     requires same { seat.old.table_id ≡ cells.now.table_id }
-    requires word { (word ≡ index + 1) × (word < cells.now.table_id.words) × (index < cells.now.table_id.slots) }
+    requires may { MayTake cells.now.table_id seat.old.me index word }
     requires free { stamp < taken_mark }
     requires seen { stamp ≡ length (entries index seat.old.me.0.pass.seen) }
-    requires live { seat.old.me.0.pass.id.live ≡ true }
-    requires idle { (seat.old.me.0.held ≡ None) × (seat.old.me.1 ≡ []) }
     ensures same { seat.new.table_id ≡ seat.old.table_id }
     ensures taken { MatchOption result (HasLooked O.meaning seat.old.me seat.new.me) (λ h. Caught O.meaning seat.old.me index seat.new.me h) }
 {
@@ -70,9 +68,7 @@ pub fn attempt<O: Object>(
     word: usize,
 ) -> Option<Held<O>>
     requires same { seat.old.table_id ≡ cells.now.table_id }
-    requires word { (word ≡ index + 1) × (word < cells.now.table_id.words) × (index < cells.now.table_id.slots) }
-    requires live { seat.old.me.0.pass.id.live ≡ true }
-    requires idle { (seat.old.me.0.held ≡ None) × (seat.old.me.1 ≡ []) }
+    requires may { MayTake cells.now.table_id seat.old.me index word }
     ensures same { seat.new.table_id ≡ seat.old.table_id }
     ensures taken { MatchOption result (HasLooked O.meaning seat.old.me seat.new.me) (λ h. Caught O.meaning seat.old.me index seat.new.me h) }
 {

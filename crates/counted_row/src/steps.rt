@@ -4,7 +4,7 @@ ghost use mathlib.Core.Option.{none};
 ghost use Rattle.atomic_table.specs.Table.{step, rest};
 ghost use Rattle.pass_names.specs.Names.{AnswersFor};
 ghost use Rattle.pass_names.specs.Passes.{Adds, GoesOn, entries};
-ghost use Rattle.counted_row.specs.Plays.{Looked, Hit, Freed, Ready, joined_view};
+ghost use Rattle.counted_row.specs.Plays.{Looked, Hit, Freed, MayTake, Ready, joined_view};
 ghost use Rattle.counted_row.specs.Rules.{taken_mark};
 ghost use Rattle.counted_row.specs.declared.view.Locked.{Locked};
 ghost use Rattle.counted_row.specs.Views.{Knows, having_seen, committed, released};
@@ -55,11 +55,9 @@ pub fn take<O: Object>(
     stamp: u64,
 ) -> bool
     requires same { seat.old.table_id ≡ cells.now.table_id }
-    requires word { (word ≡ index + 1) × (word < cells.now.table_id.words) × (index < cells.now.table_id.slots) }
+    requires may { MayTake cells.now.table_id seat.old.me index word }
     requires free { stamp < taken_mark }
     requires seen { stamp ≡ length (entries index seat.old.me.0.pass.seen) }
-    requires live { seat.old.me.0.pass.id.live ≡ true }
-    requires idle { (seat.old.me.0.held ≡ None) × (seat.old.me.1 ≡ []) }
     ensures same { seat.new.table_id ≡ seat.old.table_id }
     ensures took { MatchBool result
         (Hit O.meaning (step cells.now.table_id.slots word stamp (stamp + taken_mark) none) seat.old.me index seat.new.me)

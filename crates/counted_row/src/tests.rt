@@ -1,7 +1,7 @@
 //! Each call of a row once, by one thread, on values that keep the last number that they were given.
 ghost use Rattle.std.specs.Prelude.{◌≡◌, ◌<◌, [], None, length, IfOk};
 ghost use Rattle.pass_names.specs.Names.{IsLast};
-ghost use Rattle.counted_row.specs.Views.{IsPassOfRow};
+ghost use Rattle.counted_row.specs.Views.{IsPassOfRow, MayLock, Sees};
 
 use crate::{Object, Row, RowPass};
 use std::alloc::{AllocError, Global};
@@ -54,9 +54,7 @@ fn give<R: Wait>(
     index: usize,
     number: u64,
 ) -> Option<(u64, u64)>
-    requires row { IsPassOfRow row.now pass.old }
-    requires within { index < length row.now.made }
-    requires idle { pass.old.knows.held ≡ None }
+    requires lock { MayLock row.now pass.old index }
     ensures row { IsPassOfRow row.now pass.new }
     ensures idle { pass.new.knows.held ≡ None }
     ensures id { pass.new.knows.pass.id ≡ pass.old.knows.pass.id }
@@ -81,13 +79,9 @@ struct Found {
 }
 
 fn find<R: Wait>(rt: &R, row: &Row<Latest>, pass: &mut RowPass<Latest>, index: usize) -> Found
-    requires row { IsPassOfRow row.now pass.old }
-    requires within { index < length row.now.made }
-    requires idle { pass.old.knows.held ≡ None }
+    requires lock { MayLock row.now pass.old index }
     ensures row { IsPassOfRow row.now pass.new }
-    ensures idle { pass.new.knows.held ≡ None }
-    ensures id { pass.new.knows.pass.id ≡ pass.old.knows.pass.id }
-    ensures claims { pass.new.knows.claims ≡ pass.old.knows.claims }
+    ensures sees { Sees pass.old pass.new }
 {
     let held = row.lock(rt, pass, index);
     let (index, stamp, number) = (held.index(), held.stamp(), held.state().number);

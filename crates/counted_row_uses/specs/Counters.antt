@@ -2,12 +2,12 @@
 use Rattle.std.specs.Prelude.{◌≡◌, ◌≢◌, ℕ, ◌+◌, ◌^◌, ◌<◌, [], length, None}
 use Rattle.pass_names.specs.Counts.{count}
 use Rattle.pass_names.specs.Passes.{GoesOn, is_place}
-use Rattle.counted_row.specs.Meaning.{Meaning, plain}
+use Rattle.counted_row.specs.Meaning.{CallMeaning, plain}
 use Rattle.counted_row.specs.Views.{PassOfRow}
 use Rattle.counted_row_uses.specs.declared.counter.Counter.{Counter}
 
 -- the call n adds n and replies the total; there are no claims
-abbrev pub adding : Meaning Counter ℕ ℕ
+abbrev pub adding : CallMeaning Counter ℕ ℕ
 adding = record {
   may = λ s n. s.total + n < 2 ^ 64;
   next = λ s n. record { total = s.total + n };

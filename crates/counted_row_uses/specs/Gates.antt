@@ -1,6 +1,6 @@
 -- What a gate's calls mean.
 use Rattle.std.specs.Prelude.{◌≡◌, ℕ, ◌+◌, ◌^◌, ◌<◌, Bool, true, false, List, [], ◌∷◌}
-use Rattle.counted_row.specs.Meaning.{Meaning, Effect, opens, ends}
+use Rattle.counted_row.specs.Meaning.{CallMeaning, Effect, opens, ends}
 use Rattle.counted_row_uses.specs.declared.gate.Gate.{Gate}
 use Rattle.counted_row_uses.specs.declared.gate.Turn.{Turn}
 use Rattle.counted_row_uses.specs.declared.gate.Turn.TheVariants.{Enter, Leave}
@@ -23,7 +23,7 @@ abbrev pub effect_of : Gate → Turn → Effect
 effect_of s Enter = opens ((s.entries + 1) ∷ [])
 effect_of s Leave = ends (s.entries ∷ [])
 
-abbrev pub gating : Meaning Gate Turn ℕ
+abbrev pub gating : CallMeaning Gate Turn ℕ
 gating = record {
   may = may_turn;
   next = turned_gate;

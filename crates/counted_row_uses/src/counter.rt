@@ -1,6 +1,6 @@
 //! A counter as a value of a row, and calls that add one to it under its lock.
 ghost use Rattle.std.specs.Prelude.{◌≡◌, ◌+◌, ◌<◌, ◌≤◌, None, length, MatchBool};
-ghost use Rattle.counted_row.specs.Views.{IsPassOfRow};
+ghost use Rattle.counted_row.specs.Views.{IsPassOfRow, MayLock};
 ghost use Rattle.counted_row_uses.specs.Counters.{Made};
 
 use counted_row::{Object, Row, RowPass};
@@ -39,9 +39,7 @@ pub fn add_one<R: Wait>(
     pass: &mut RowPass<Counter>,
     index: usize,
 ) -> bool
-    requires row { IsPassOfRow row.now pass.old }
-    requires within { index < length row.now.made }
-    requires idle { pass.old.knows.held ≡ None }
+    requires lock { MayLock row.now pass.old index }
     ensures row { IsPassOfRow row.now pass.new }
     ensures made { MatchBool result (Made index 1 pass.old pass.new) (Made index 0 pass.old pass.new) }
 {
@@ -63,9 +61,7 @@ pub fn count<R: Wait>(
     index: usize,
     times: u64,
 ) -> u64
-    requires row { IsPassOfRow row.now pass.old }
-    requires within { index < length row.now.made }
-    requires idle { pass.old.knows.held ≡ None }
+    requires lock { MayLock row.now pass.old index }
     ensures row { IsPassOfRow row.now pass.new }
     ensures made { Made index result pass.old pass.new }
     ensures most { result ≤ times }

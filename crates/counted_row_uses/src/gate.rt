@@ -1,6 +1,6 @@
 //! A gate as a value of a row: who enters gets a claim, which only its pass can end.
 ghost use Rattle.std.specs.Prelude.{◌≡◌, ℕ, ◌<◌, [], ◌∷◌, ◌++◌, None, length, IfSome, MatchOption, MatchBool};
-ghost use Rattle.counted_row.specs.Views.{IsPassOfRow, HasClaim, is_claim};
+ghost use Rattle.counted_row.specs.Views.{IsPassOfRow, MayLock, HasClaim, is_claim};
 ghost use Rattle.pass_names.specs.Counts.{without_first};
 
 use counted_row::{Object, Row, RowPass};
@@ -52,9 +52,7 @@ pub fn enter<R: Wait>(
     pass: &mut RowPass<Gate>,
     index: usize,
 ) -> Option<u64>
-    requires row { IsPassOfRow row.now pass.old }
-    requires within { index < length row.now.made }
-    requires idle { pass.old.knows.held ≡ None }
+    requires lock { MayLock row.now pass.old index }
     ensures row { IsPassOfRow row.now pass.new }
     ensures idle { pass.new.knows.held ≡ None }
     ensures id { pass.new.knows.pass.id ≡ pass.old.knows.pass.id }
@@ -82,9 +80,7 @@ pub fn leave<R: Wait>(
     index: usize,
     number: u64,
 ) -> bool
-    requires row { IsPassOfRow row.now pass.old }
-    requires within { index < length row.now.made }
-    requires idle { pass.old.knows.held ≡ None }
+    requires lock { MayLock row.now pass.old index }
     requires claim { HasClaim index (number ∷ []) pass.old.knows.claims }
     ensures row { IsPassOfRow row.now pass.new }
     ensures id { pass.new.knows.pass.id ≡ pass.old.knows.pass.id }

@@ -3,7 +3,7 @@ ghost use Rattle.std.specs.Prelude.{◌≡◌, ◌≢◌, ℕ, ◌^◌, ◌+◌,
 ghost use Rattle.pass_names.specs.Counts.{count};
 ghost use Rattle.pass_names.specs.Names.{IsLast};
 ghost use Rattle.pass_names.specs.Passes.{is_place};
-ghost use Rattle.counted_row.specs.Views.{IsPassOfRow, Knows};
+ghost use Rattle.counted_row.specs.Views.{IsPassOfRow, MayLock, Knows};
 ghost use Rattle.counted_row_uses.specs.Counters.{adding, Made};
 
 use crate::counter::{Counter, count};
@@ -21,9 +21,8 @@ fn count_both<R: Threads + Wait + Sync>(
     index: usize,
     times: u64,
 ) -> (u64, u64)
-    requires row { IsPassOfRow row.now first.old × IsPassOfRow row.now second.old }
-    requires within { index < length row.now.made }
-    requires idle { (first.old.knows.held ≡ None) × (second.old.knows.held ≡ None) }
+    requires first { MayLock row.now first.old index }
+    requires second { MayLock row.now second.old index }
     ensures row { IsPassOfRow row.now first.new × IsPassOfRow row.now second.new }
     ensures made { Made index result.0 first.old first.new × Made index result.1 second.old second.new }
     ensures most { (result.0 ≤ times) × (result.1 ≤ times) }
@@ -43,9 +42,7 @@ pub fn count_by_two<R: Threads + Wait + Sync>(
     index: usize,
     times: u64,
 ) -> (u64, u64)
-    requires row { IsPassOfRow row.now main.old }
-    requires within { index < length row.now.made }
-    requires idle { main.old.knows.held ≡ None }
+    requires lock { MayLock row.now main.old index }
     ensures row { IsPassOfRow row.now main.new }
     ensures idle { main.new.knows.held ≡ None }
     ensures mine { length main.new.knows.pass.mine ≡ length main.old.knows.pass.mine + result.0 + result.1 }

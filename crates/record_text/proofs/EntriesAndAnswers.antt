@@ -11,18 +11,22 @@ use Rattle.record_text.specs.declared.record.AcceptReply.TheVariants as accepts
 use Rattle.record_text.specs.declared.record.ReadReply.{ReadReply}
 use Rattle.record_text.specs.declared.record.ReadReply.TheVariants as reads
 use Rattle.record_text.specs.declared.record.ObjectEntry.{ObjectEntry}
-use Rattle.record_text.specs.declared.record.ObjectEntry.TheVariants as steps
+use Rattle.record_text.specs.declared.record.ObjectEntry.TheVariants as object_entries
 use Rattle.record_text.specs.declared.record.Answer.{Answer}
 use Rattle.record_text.specs.declared.record.Answer.TheVariants as answers
 use Rattle.record_text.specs.Replies.{answer_of_settime, answer_of_accept, answer_of_read}
-use Rattle.record_text.specs.Text.{entry_words, reply_words, answer_words, step_words}
-use Rattle.record_text.specs.Numbers.{AreMachineNumbers, entry_numbers, reply_numbers, answer_numbers, step_numbers}
+use Rattle.record_text.specs.Text.{entry_words, reply_words, answer_words, object_entry_words}
+use Rattle.record_text.specs.Numbers.{AreMachineNumbers, entry_numbers, reply_numbers, answer_numbers, object_entry_numbers}
 use Rattle.record_text.proofs.Words.{are_words}
 use Rattle.record_text.proofs.Spelling.{value, value_again, word_decimal, words_decimals, values_again, nth, number, after, is_key, flag_of, flag_read, clock_of, clock_read, mode_of, mode_read, restart_of, restart_read, rearmed_of, rearmed_read, armed_of, armed_read, counted_of, counted_read}
 
 -- a value is read back from these words, each of which is one
 abbrev pub IsReadBack : {X : Type 0} → (List (List ℕ) → X) → X → List (List ℕ) → Type 0
 IsReadBack of x words = (of words ≡ x) × (are_words words ≡ true)
+
+-- each value is read back from its words, where its numbers are ones that a program can hold
+abbrev pub AreReadBack : {X : Type 0} → (List (List ℕ) → X) → (X → List (List ℕ)) → (X → List ℕ) → Type 0
+AreReadBack {X} of words numbers = (x : X) → AreMachineNumbers (numbers x) → IsReadBack of x (words x)
 
 pub entry_of : List (List ℕ) → Entry
 entry_of ws =
@@ -34,7 +38,7 @@ entry_of ws =
     else if is_key ws (codes "forward") then entries.Forward (number 1 ws) (number 2 ws) (number 3 ws) (number 4 ws)
     else entries.Finish (restart_of (nth 1 ws)) (number 2 ws) (rearmed_of (nth 3 ws))
 
-pub entry_read : (e : Entry) → AreMachineNumbers (entry_numbers e) → IsReadBack entry_of e (entry_words e)
+pub entry_read : AreReadBack entry_of entry_words entry_numbers
 unfolding entry_of
 entry_read (entries.Out base was_armed) h =
     rw (value_again base h.0, (flag_read was_armed).0, word_decimal base h.0, (flag_read was_armed).1) (refl, refl)
@@ -60,7 +64,7 @@ reply_of ws =
     else if is_key ws (codes "armed") then replies.Armed (number 1 ws)
     else replies.Spent
 
-pub reply_read : (r : CallbackReply) → AreMachineNumbers (reply_numbers r) → IsReadBack reply_of r (reply_words r)
+pub reply_read : AreReadBack reply_of reply_words reply_numbers
 unfolding reply_of
 reply_read (replies.Running generation) h = rw (value_again generation h.0, word_decimal generation h.0) (refl, refl)
 reply_read (replies.Armed generation) h = rw (value_again generation h.0, word_decimal generation h.0) (refl, refl)
@@ -97,7 +101,7 @@ answer_of ws =
     else if is_key ws (codes "again") then answers.Again
     else answers.Readable (flag_of (nth 1 ws)) (number 2 ws) (number 3 ws)
 
-pub answer_read : (a : Answer) → AreMachineNumbers (answer_numbers a) → IsReadBack answer_of a (answer_words a)
+pub answer_read : AreReadBack answer_of answer_words answer_numbers
 unfolding answer_of left_of
 answer_read (answers.Started generation base was_armed) h =
     rw (value_again generation h.0, value_again base h.1.0, (flag_read was_armed).0, word_decimal generation h.0)
@@ -175,31 +179,31 @@ read_is (reads.Count total) = refl
 read_is reads.Again = refl
 read_is reads.Canceled = refl
 
-pub step_of : List (List ℕ) → ObjectEntry
-step_of ws =
-    if is_key ws (codes "settime") then steps.Settime (number 1 ws) (number 2 ws) (number 3 ws) (number 4 ws) (armed_of (nth 5 ws))
+pub object_entry_of : List (List ℕ) → ObjectEntry
+object_entry_of ws =
+    if is_key ws (codes "settime") then object_entries.Settime (number 1 ws) (number 2 ws) (number 3 ws) (number 4 ws) (armed_of (nth 5 ws))
     (settime_of (answer_of (after 6 ws)))
-    else if is_key ws (codes "trigger") then steps.Trigger (number 1 ws) (number 2 ws) (counted_of (nth 3 ws))
-    else if is_key ws (codes "accept") then steps.Accept (number 1 ws) (armed_of (nth 2 ws)) (accept_of (answer_of (after 3 ws)))
-    else if is_key ws (codes "read") then steps.Read (number 1 ws) (armed_of (nth 2 ws)) (read_of (answer_of (after 3 ws)))
-    else steps.Gettime (number 1 ws) (armed_of (nth 2 ws)) (number 3 ws) (number 4 ws)
+    else if is_key ws (codes "trigger") then object_entries.Trigger (number 1 ws) (number 2 ws) (counted_of (nth 3 ws))
+    else if is_key ws (codes "accept") then object_entries.Accept (number 1 ws) (armed_of (nth 2 ws)) (accept_of (answer_of (after 3 ws)))
+    else if is_key ws (codes "read") then object_entries.Read (number 1 ws) (armed_of (nth 2 ws)) (read_of (answer_of (after 3 ws)))
+    else object_entries.Gettime (number 1 ws) (armed_of (nth 2 ws)) (number 3 ws) (number 4 ws)
 
-pub step_read : (e : ObjectEntry) → AreMachineNumbers (step_numbers e) → IsReadBack step_of e (step_words e)
-unfolding step_of
-step_read (steps.Settime flags value interval reading arm reply) h =
+pub object_entry_read : AreReadBack object_entry_of object_entry_words object_entry_numbers
+unfolding object_entry_of
+object_entry_read (object_entries.Settime flags value interval reading arm reply) h =
     rw (value_again flags h.0, value_again value h.1.0, value_again interval h.1.1.0, value_again reading h.1.1.1.0)
     (rw ((armed_read arm h.1.1.1.1.0).0, (answer_read (answer_of_settime reply) h.1.1.1.1.1).0, settime_is reply)
     (rw (word_decimal flags h.0, word_decimal value h.1.0, word_decimal interval h.1.1.0, word_decimal reading h.1.1.1.0)
     (rw ((armed_read arm h.1.1.1.1.0).1) (refl, (answer_read (answer_of_settime reply) h.1.1.1.1.1).1))))
-step_read (steps.Trigger generation reading counted) h =
+object_entry_read (object_entries.Trigger generation reading counted) h =
     rw (value_again generation h.0, value_again reading h.1.0, (counted_read counted).0, word_decimal generation h.0)
     (rw (word_decimal reading h.1.0, (counted_read counted).1) (refl, refl))
-step_read (steps.Accept reading arm reply) h =
+object_entry_read (object_entries.Accept reading arm reply) h =
     rw (value_again reading h.0, (armed_read arm h.1.0).0, (answer_read (answer_of_accept reply) h.1.1).0, accept_is reply)
     (rw (word_decimal reading h.0, (armed_read arm h.1.0).1) (refl, (answer_read (answer_of_accept reply) h.1.1).1))
-step_read (steps.Read reading arm reply) h =
+object_entry_read (object_entries.Read reading arm reply) h =
     rw (value_again reading h.0, (armed_read arm h.1.0).0, (answer_read (answer_of_read reply) h.1.1).0, read_is reply)
     (rw (word_decimal reading h.0, (armed_read arm h.1.0).1) (refl, (answer_read (answer_of_read reply) h.1.1).1))
-step_read (steps.Gettime reading arm left interval) h =
+object_entry_read (object_entries.Gettime reading arm left interval) h =
     rw (value_again reading h.0, (armed_read arm h.1.0).0, value_again left h.1.1.0, value_again interval h.1.1.1.0)
     (rw (word_decimal reading h.0, (armed_read arm h.1.0).1, word_decimal left h.1.1.0, word_decimal interval h.1.1.1.0) (refl, refl))

@@ -65,50 +65,6 @@ after (suc n) (w ∷ ws) = after n ws
 abbrev pub is_key : List (List ℕ) → List ℕ → Bool
 is_key ws key = bytes_eq (nth 0 ws) key
 
-pub flag_of : List ℕ → Bool
-flag_of w = nat_eq (value w) 1
-
-pub flag_read : (b : Bool) → (flag_of (flag b) ≡ b) × (is_word (flag b) ≡ true)
-unfolding flag_of
-flag_read true = rw (value_again 1 (omega arith)) (refl, word_decimal 1 (omega arith))
-flag_read false = rw (value_again 0 (omega arith)) (refl, word_decimal 0 (omega arith))
-
-pub clock_of : List ℕ → ClockId
-clock_of w = if bytes_eq w (codes "monotonic") then clocks.Monotonic else if bytes_eq w (codes "realtime") then clocks.Realtime else clocks.Boottime
-
-pub clock_read : (c : ClockId) → (clock_of (clock_word c) ≡ c) × (is_word (clock_word c) ≡ true)
-unfolding clock_of
-clock_read clocks.Monotonic = (refl, refl)
-clock_read clocks.Realtime = (refl, refl)
-clock_read clocks.Boottime = (refl, refl)
-
-pub mode_of : List ℕ → Mode
-mode_of w = if bytes_eq w (codes "abs") then modes.Abs else if bytes_eq w (codes "rel") then modes.Rel else modes.Keep
-
-pub mode_read : (m : Mode) → (mode_of (mode_word m) ≡ m) × (is_word (mode_word m) ≡ true)
-unfolding mode_of
-mode_read modes.Abs = (refl, refl)
-mode_read modes.Rel = (refl, refl)
-mode_read modes.Keep = (refl, refl)
-
-pub write_of : List ℕ → ℕ → Write
-write_of w time = if bytes_eq w (codes "advance") then writes.Advance time else if bytes_eq w
-    (codes "set") then writes.Set time else writes.Suspend time
-
-pub write_read : (w : Write) → (write_of (write_name w) (write_ns w) ≡ w) × (is_word (write_name w) ≡ true)
-unfolding write_of
-write_read (writes.Advance by) = (refl, refl)
-write_read (writes.Set to) = (refl, refl)
-write_read (writes.Suspend by) = (refl, refl)
-
-pub restart_of : List ℕ → Bool
-restart_of w = bytes_eq w (codes "again")
-
-pub restart_read : (b : Bool) → (restart_of (restart_word b) ≡ b) × (is_word (restart_word b) ≡ true)
-unfolding restart_of
-restart_read true = (refl, refl)
-restart_read false = (refl, refl)
-
 -- bytes up to the digit 9
 abbrev pub is_number : List ℕ → Bool
 is_number w = list_all (λ b. nat_lt b 58) w
@@ -116,28 +72,84 @@ is_number w = list_all (λ b. nat_lt b 58) w
 is_number_decimal : (n : ℕ) → n < 2 ^ 128 → is_number (decimal n) ≡ true
 is_number_decimal n small = digits_are (λ b. nat_lt b 58) (λ c least most. grind (arith, nat_tests)) _ (decimal_is_IsNumeral_wide n (omega arith)).0.1
 
+-- ---- what a word stands for
+
+-- the value of these that has this word, and the last one where no other has it
+abbrev one_of : {X : Type 0} → (X → List ℕ) → List X → X → List ℕ → X
+one_of word [] last w = last
+one_of word (x ∷ xs) last w = if bytes_eq w (word x) then x else one_of word xs last w
+
+pub flag_of : List ℕ → Bool
+flag_of w = nat_eq (value w) 1
+
+pub clock_of : List ℕ → ClockId
+clock_of w = one_of clock_word (clocks.Monotonic ∷ clocks.Realtime ∷ []) clocks.Boottime w
+
+pub mode_of : List ℕ → Mode
+mode_of w = one_of mode_word (modes.Abs ∷ modes.Rel ∷ []) modes.Keep w
+
+pub write_of : List ℕ → ℕ → Write
+write_of w time = one_of write_name (writes.Advance time ∷ writes.Set time ∷ []) (writes.Suspend time) w
+
+pub restart_of : List ℕ → Bool
+restart_of w = one_of restart_word (true ∷ []) false w
+
+pub counted_of : List ℕ → Bool
+counted_of w = one_of counted_word (true ∷ []) false w
+
 pub rearmed_of : List ℕ → Restart
 rearmed_of w = if is_number w then restarts.Again (value w) else if bytes_eq w (codes "none") then restarts.None else restarts.Spent
 
-pub rearmed_read : (r : Restart) → AreMachineNumbers (rearmed_numbers r) → (rearmed_of (rearmed_word r) ≡ r) × (is_word (rearmed_word r) ≡ true)
+pub armed_of : List ℕ → Armed
+armed_of w = if is_number w then arms.Generation (value w) else if bytes_eq w (codes "none") then arms.None else arms.Unarmed
+
+-- ---- and that it is read back from it
+
+-- a value is read back from its word, which is one
+abbrev pub IsOfWord : {X : Type 0} → (List ℕ → X) → X → List ℕ → Type 0
+IsOfWord of x word = (of word ≡ x) × (is_word word ≡ true)
+
+pub flag_read : (b : Bool) → IsOfWord flag_of b (flag b)
+unfolding flag_of
+flag_read true = rw (value_again 1 (omega arith)) (refl, word_decimal 1 (omega arith))
+flag_read false = rw (value_again 0 (omega arith)) (refl, word_decimal 0 (omega arith))
+
+pub clock_read : (c : ClockId) → IsOfWord clock_of c (clock_word c)
+unfolding clock_of
+clock_read clocks.Monotonic = (refl, refl)
+clock_read clocks.Realtime = (refl, refl)
+clock_read clocks.Boottime = (refl, refl)
+
+pub mode_read : (m : Mode) → IsOfWord mode_of m (mode_word m)
+unfolding mode_of
+mode_read modes.Abs = (refl, refl)
+mode_read modes.Rel = (refl, refl)
+mode_read modes.Keep = (refl, refl)
+
+pub write_read : (w : Write) → IsOfWord (λ word. write_of word (write_ns w)) w (write_name w)
+unfolding write_of
+write_read (writes.Advance by) = (refl, refl)
+write_read (writes.Set to) = (refl, refl)
+write_read (writes.Suspend by) = (refl, refl)
+
+pub restart_read : (b : Bool) → IsOfWord restart_of b (restart_word b)
+unfolding restart_of
+restart_read true = (refl, refl)
+restart_read false = (refl, refl)
+
+pub counted_read : (b : Bool) → IsOfWord counted_of b (counted_word b)
+unfolding counted_of
+counted_read true = (refl, refl)
+counted_read false = (refl, refl)
+
+pub rearmed_read : (r : Restart) → AreMachineNumbers (rearmed_numbers r) → IsOfWord rearmed_of r (rearmed_word r)
 unfolding rearmed_of
 rearmed_read restarts.None h = (refl, refl)
 rearmed_read (restarts.Again generation) h = rw (is_number_decimal generation h.0, value_again generation h.0) (refl, word_decimal generation h.0)
 rearmed_read restarts.Spent h = (refl, refl)
 
-pub armed_of : List ℕ → Armed
-armed_of w = if is_number w then arms.Generation (value w) else if bytes_eq w (codes "none") then arms.None else arms.Unarmed
-
-pub armed_read : (a : Armed) → armed_number a < 2 ^ 128 → (armed_of (armed_word a) ≡ a) × (is_word (armed_word a) ≡ true)
+pub armed_read : (a : Armed) → armed_number a < 2 ^ 128 → IsOfWord armed_of a (armed_word a)
 unfolding armed_of
 armed_read arms.None h = (refl, refl)
 armed_read (arms.Generation generation) h = rw (is_number_decimal generation h, value_again generation h) (refl, word_decimal generation h)
 armed_read arms.Unarmed h = (refl, refl)
-
-pub counted_of : List ℕ → Bool
-counted_of w = bytes_eq w (codes "counted")
-
-pub counted_read : (b : Bool) → (counted_of (counted_word b) ≡ b) × (is_word (counted_word b) ≡ true)
-unfolding counted_of
-counted_read true = (refl, refl)
-counted_read false = (refl, refl)

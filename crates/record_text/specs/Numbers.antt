@@ -10,7 +10,7 @@ use Rattle.record_text.specs.declared.record.CallbackReply.TheVariants as replie
 use Rattle.record_text.specs.declared.record.Armed.{Armed}
 use Rattle.record_text.specs.declared.record.Armed.TheVariants as arms
 use Rattle.record_text.specs.declared.record.ObjectEntry.{ObjectEntry}
-use Rattle.record_text.specs.declared.record.ObjectEntry.TheVariants as steps
+use Rattle.record_text.specs.declared.record.ObjectEntry.TheVariants as object_entries
 use Rattle.record_text.specs.declared.record.Answer.{Answer}
 use Rattle.record_text.specs.declared.record.Answer.TheVariants as answers
 use Rattle.record_text.specs.declared.record.RunRecord.{RunRecord}
@@ -78,17 +78,17 @@ armed_number arms.Unarmed = 0
 
 -- the numbers of an entry of a call that arms an expired timer again, and none of another
 abbrev pub rearming_numbers : ObjectEntry → List ℕ
-rearming_numbers (steps.Accept reading arm reply) = reading ∷ armed_number arm ∷ answer_numbers (answer_of_accept reply)
-rearming_numbers (steps.Read reading arm reply) = reading ∷ armed_number arm ∷ answer_numbers (answer_of_read reply)
-rearming_numbers (steps.Gettime reading arm left interval) = reading ∷ armed_number arm ∷ left ∷ interval ∷ []
+rearming_numbers (object_entries.Accept reading arm reply) = reading ∷ armed_number arm ∷ answer_numbers (answer_of_accept reply)
+rearming_numbers (object_entries.Read reading arm reply) = reading ∷ armed_number arm ∷ answer_numbers (answer_of_read reply)
+rearming_numbers (object_entries.Gettime reading arm left interval) = reading ∷ armed_number arm ∷ left ∷ interval ∷ []
 rearming_numbers other = []
 
 -- the numbers of an object's entry
-abbrev pub step_numbers : ObjectEntry → List ℕ
-step_numbers (steps.Settime flags value interval reading arm reply) =
+abbrev pub object_entry_numbers : ObjectEntry → List ℕ
+object_entry_numbers (object_entries.Settime flags value interval reading arm reply) =
     flags ∷ value ∷ interval ∷ reading ∷ armed_number arm ∷ answer_numbers (answer_of_settime reply)
-step_numbers (steps.Trigger generation reading counted) = generation ∷ reading ∷ []
-step_numbers other = rearming_numbers other
+object_entry_numbers (object_entries.Trigger generation reading counted) = generation ∷ reading ∷ []
+object_entry_numbers other = rearming_numbers other
 
 -- the numbers of a line
 abbrev pub numbers_of : RecordLine → List ℕ
@@ -96,7 +96,7 @@ numbers_of Version = []
 numbers_of (OfClock number w) = number ∷ w.label.lane ∷ w.label.call ∷ write_ns w.write ∷ w.mono ∷ w.real ∷ w.boot ∷ w.changes ∷ []
 numbers_of (OfTimer timer number label entry) = timer ∷ number ∷ label.lane ∷ label.call ∷ entry_numbers entry
 numbers_of (OfLook timer number look) = timer ∷ number ∷ look.label.lane ∷ look.label.call ∷ reply_numbers look.reply
-numbers_of (OfObject object number label entry) = object ∷ number ∷ label.lane ∷ label.call ∷ step_numbers entry
+numbers_of (OfObject object number label entry) = object ∷ number ∷ label.lane ∷ label.call ∷ object_entry_numbers entry
 numbers_of (OfSkip object number skip) = object ∷ number ∷ skip.label.lane ∷ skip.label.call ∷ skip.generation ∷ []
 numbers_of (OfCall lane call answer) = lane ∷ call ∷ answer_numbers answer
 numbers_of End = []

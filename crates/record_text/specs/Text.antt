@@ -16,7 +16,7 @@ use Rattle.record_text.specs.declared.record.TimerLine.{TimerLine}
 use Rattle.record_text.specs.declared.record.Armed.{Armed}
 use Rattle.record_text.specs.declared.record.Armed.TheVariants as arms
 use Rattle.record_text.specs.declared.record.ObjectEntry.{ObjectEntry}
-use Rattle.record_text.specs.declared.record.ObjectEntry.TheVariants as steps
+use Rattle.record_text.specs.declared.record.ObjectEntry.TheVariants as object_entries
 use Rattle.record_text.specs.declared.record.Skip.{Skip}
 use Rattle.record_text.specs.declared.record.ObjectLine.{ObjectLine}
 use Rattle.record_text.specs.declared.record.Answer.{Answer}
@@ -58,12 +58,12 @@ abbrev pub timer_lines : ℕ → List (List TimerLine) → List RecordLine
 timer_lines timer tss = lines_in_lists entry_and_looks 1 timer tss
 
 -- the line of an object's entry, and after it those of the expiries that were refused there
-abbrev pub step_and_skips : ℕ → ℕ → ObjectLine → List RecordLine
-step_and_skips object number o = OfObject object number o.label o.entry ∷ map (OfSkip object number) o.skips
+abbrev pub object_entry_and_skips : ℕ → ℕ → ObjectLine → List RecordLine
+object_entry_and_skips object number o = OfObject object number o.label o.entry ∷ map (OfSkip object number) o.skips
 
 -- the lines of the objects, numbered on from a number; the entries of each are numbered from 1
 abbrev pub object_lines : ℕ → List (List ObjectLine) → List RecordLine
-object_lines object oss = lines_in_lists step_and_skips 1 object oss
+object_lines object oss = lines_in_lists object_entry_and_skips 1 object oss
 
 -- the lines of the lanes, numbered on from a number; the calls of each are numbered from 0
 abbrev pub lane_lines : ℕ → List (List Answer) → List RecordLine
@@ -165,17 +165,17 @@ answer_words other = object_answer_words other
 
 -- the words of an entry of a call that arms an expired timer again, and none of another
 abbrev pub rearming_words : ObjectEntry → List (List ℕ)
-rearming_words (steps.Accept reading arm reply) = codes "accept" ∷ decimal reading ∷ armed_word arm ∷ answer_words (answer_of_accept reply)
-rearming_words (steps.Read reading arm reply) = codes "read" ∷ decimal reading ∷ armed_word arm ∷ answer_words (answer_of_read reply)
-rearming_words (steps.Gettime reading arm left interval) = codes "gettime" ∷ decimal reading ∷ armed_word arm ∷ decimal left ∷ decimal interval ∷ []
+rearming_words (object_entries.Accept reading arm reply) = codes "accept" ∷ decimal reading ∷ armed_word arm ∷ answer_words (answer_of_accept reply)
+rearming_words (object_entries.Read reading arm reply) = codes "read" ∷ decimal reading ∷ armed_word arm ∷ answer_words (answer_of_read reply)
+rearming_words (object_entries.Gettime reading arm left interval) = codes "gettime" ∷ decimal reading ∷ armed_word arm ∷ decimal left ∷ decimal interval ∷ []
 rearming_words other = []
 
 -- the words of an object's entry
-abbrev pub step_words : ObjectEntry → List (List ℕ)
-step_words (steps.Settime flags value interval reading arm reply) =
+abbrev pub object_entry_words : ObjectEntry → List (List ℕ)
+object_entry_words (object_entries.Settime flags value interval reading arm reply) =
     codes "settime" ∷ decimal flags ∷ decimal value ∷ decimal interval ∷ decimal reading ∷ armed_word arm ∷ answer_words (answer_of_settime reply)
-step_words (steps.Trigger generation reading counted) = codes "trigger" ∷ decimal generation ∷ decimal reading ∷ counted_word counted ∷ []
-step_words other = rearming_words other
+object_entry_words (object_entries.Trigger generation reading counted) = codes "trigger" ∷ decimal generation ∷ decimal reading ∷ counted_word counted ∷ []
+object_entry_words other = rearming_words other
 
 -- the words of a line
 abbrev pub line_words : RecordLine → List (List ℕ)
@@ -188,7 +188,7 @@ line_words (OfTimer timer number label entry) =
 line_words (OfLook timer number look) =
     codes "look" ∷ decimal timer ∷ decimal number ∷ decimal look.label.lane ∷ decimal look.label.call ∷ reply_words look.reply
 line_words (OfObject object number label entry) =
-    codes "object" ∷ decimal object ∷ decimal number ∷ decimal label.lane ∷ decimal label.call ∷ step_words entry
+    codes "object" ∷ decimal object ∷ decimal number ∷ decimal label.lane ∷ decimal label.call ∷ object_entry_words entry
 line_words (OfSkip object number skip) =
     codes "skip" ∷ decimal object ∷ decimal number ∷ decimal skip.label.lane ∷ decimal skip.label.call ∷ decimal skip.generation ∷ []
 line_words (OfCall lane call answer) = codes "call" ∷ decimal lane ∷ decimal call ∷ answer_words answer

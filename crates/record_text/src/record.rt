@@ -81,21 +81,6 @@ pub enum CallbackReply {
     Spent,
 }
 
-/// What a callback was told, under the entry after which it holds.
-#[derive(Clone, Copy, Debug, PartialEq, Eq)]
-pub struct Look {
-    pub label: Label,
-    pub reply: CallbackReply,
-}
-
-/// An entry of a timer's history, and what callbacks were told after it.
-#[derive(Drop)]
-pub struct TimerLine {
-    pub label: Label,
-    pub entry: Entry,
-    pub looks: ItemList<Look>,
-}
-
 /// What a call made of the timer that it wanted to start for its object.
 #[derive(Clone, Copy, Debug, PartialEq, Eq)]
 pub enum Armed {
@@ -213,11 +198,26 @@ pub enum ObjectEntry {
     },
 }
 
+/// What a callback was told, under the entry after which it holds.
+#[derive(Clone, Copy, Debug, PartialEq, Eq)]
+pub struct Look {
+    pub label: Label,
+    pub reply: CallbackReply,
+}
+
 /// An expiry of this generation that an object with a full history refused, under the entry after which it came.
 #[derive(Clone, Copy, Debug, PartialEq, Eq)]
 pub struct Skip {
     pub label: Label,
     pub generation: u64,
+}
+
+/// An entry of a timer's history, and what callbacks were told after it.
+#[derive(Drop)]
+pub struct TimerLine {
+    pub label: Label,
+    pub entry: Entry,
+    pub looks: ItemList<Look>,
 }
 
 /// An entry of an object's history, and the expiries that were refused after it.

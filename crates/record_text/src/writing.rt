@@ -6,10 +6,10 @@ pub use unique::text_determines_the_record;
 mod answers;
 mod entries;
 mod lines;
+mod object_entries;
 #[cfg(test)]
 mod object_tests;
 mod sections;
-mod steps;
 #[cfg(test)]
 mod tests;
 mod unique;

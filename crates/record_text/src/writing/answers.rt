@@ -5,52 +5,65 @@ ghost use Rattle.record_text.specs.Numbers.{answer_numbers, object_answer_number
 ghost use Rattle.record_text.specs.Text.{answer_words, object_answer_words, spaced};
 
 use crate::record::Answer;
+use crate::writing::sections::HasWords;
 use std::alloc::AllocError;
 
-/// Writes the words of an answer, each after a space.
-pub(crate) fn write_answer(out: &mut String, answer: &Answer) -> Result<(), AllocError>
-    ensures text { OnOk result (string_bytes out.new ≡ string_bytes out.old ++ spaced (answer_words answer.now)) }
-    ensures numbers { OnOk result (AreMachineNumbers (answer_numbers answer.now)) }
-{
-    match *answer {
-        Answer::Started {
-            generation,
-            base,
-            was_armed,
-        } => {
-            let was = u8::from(was_armed);
-            write!(out, " started {generation} {base} {was}")?;
+impl HasWords for Answer {
+    ghost words = { answer_words };
+
+    ghost numbers = { answer_numbers };
+
+    fn write_words(&self, out: &mut String) -> Result<(), AllocError> {
+        match *self {
+            Answer::ClockSpent => out.push_str(" clockspent")?,
+            Answer::Started {
+                generation,
+                base,
+                was_armed,
+            } => {
+                let was = u8::from(was_armed);
+                write!(out, " started {generation} {base} {was}")?;
+            }
+            Answer::Spent { stamp } => write!(out, " spent {stamp}")?,
+            Answer::Cancelled { generation } => write!(out, " cancelled {generation}")?,
+            Answer::Running { generation, stamp } => write!(out, " running {generation} {stamp}")?,
+            Answer::Idle { stamp } => write!(out, " idle {stamp}")?,
+            Answer::Peek {
+                stamp,
+                base,
+                enqueued,
+                running,
+                moving,
+            } => {
+                let enqueued = u8::from(enqueued);
+                let running = u8::from(running);
+                let moving = u8::from(moving);
+                write!(out, " peek {stamp} {base} {enqueued} {running} {moving}")?;
+            }
+            Answer::Done { reading, ref fired } => write_run(
+                out,
+                "done",
+                reading,
+                fired.as_slice(),
+            )?,
+            Answer::More { reading, ref fired } => write_run(
+                out,
+                "more",
+                reading,
+                fired.as_slice(),
+            )?,
+            Answer::Busy {
+                reading,
+                ref fired,
+                timer,
+                generation,
+            } => write_busy(out, reading, timer, generation, fired.as_slice())?,
+            Answer::Clock { stamp } => write!(out, " clock {stamp}")?,
+            Answer::Range { would_be } => write!(out, " range {would_be}")?,
+            _ => write_object_answer(out, self)?,
         }
-        Answer::Spent { stamp } => write!(out, " spent {stamp}")?,
-        Answer::Cancelled { generation } => write!(out, " cancelled {generation}")?,
-        Answer::Running { generation, stamp } => write!(out, " running {generation} {stamp}")?,
-        Answer::Idle { stamp } => write!(out, " idle {stamp}")?,
-        Answer::Peek {
-            stamp,
-            base,
-            enqueued,
-            running,
-            moving,
-        } => {
-            let enqueued = u8::from(enqueued);
-            let running = u8::from(running);
-            let moving = u8::from(moving);
-            write!(out, " peek {stamp} {base} {enqueued} {running} {moving}")?;
-        }
-        Answer::Done { reading, ref fired } => write_run(out, "done", reading, fired.as_slice())?,
-        Answer::More { reading, ref fired } => write_run(out, "more", reading, fired.as_slice())?,
-        Answer::Busy {
-            reading,
-            ref fired,
-            timer,
-            generation,
-        } => write_busy(out, reading, timer, generation, fired.as_slice())?,
-        Answer::Clock { stamp } => write!(out, " clock {stamp}")?,
-        Answer::Range { would_be } => write!(out, " range {would_be}")?,
-        Answer::ClockSpent => out.push_str(" clockspent")?,
-        _ => write_object_answer(out, answer)?,
+        Ok(())
     }
-    Ok(())
 }
 
 /// Writes the words of what an object's call alone is answered, each after a space. It writes nothing for another answer.

@@ -6,52 +6,55 @@ ghost use Rattle.record_text.specs.Text.{entry_words, flag, rearmed_word, reply_
 ghost use Rattle.record_text.specs.Words.{clock_word, mode_word};
 
 use crate::record::{CallbackReply, Entry, Restart};
+use crate::writing::sections::HasWords;
 use crate::writing::words::{clock_word, mode_word, restart_word};
 use ktime::{ClockId, Mode};
 use std::alloc::AllocError;
 
-/// Writes the words of an entry, each after a space.
-pub(crate) fn write_entry(out: &mut String, entry: Entry) -> Result<(), AllocError>
-    ensures text { OnOk result (string_bytes out.new ≡ string_bytes out.old ++ spaced (entry_words entry)) }
-    ensures numbers { OnOk result (AreMachineNumbers (entry_numbers entry)) }
-{
-    match entry {
-        Entry::Out { base, was_armed } => {
-            let was = u8::from(was_armed);
-            write!(out, " out {base} {was}")?;
+impl HasWords for Entry {
+    ghost words = { entry_words };
+
+    ghost numbers = { entry_numbers };
+
+    fn write_words(&self, out: &mut String) -> Result<(), AllocError> {
+        match *self {
+            Entry::Out { base, was_armed } => {
+                let was = u8::from(was_armed);
+                write!(out, " out {base} {was}")?;
+            }
+            Entry::Start {
+                mode,
+                ns,
+                reading,
+                asked,
+                base,
+                clock,
+                expires,
+                was_armed,
+            } => {
+                write_asked(out, mode, ns, reading, asked)?;
+                write_started(out, base, clock, expires, was_armed)?;
+            }
+            Entry::Cancel { generation } => write!(out, " cancel {generation}")?,
+            Entry::Claim {
+                base,
+                reading,
+                generation,
+            } => write!(out, " claim {base} {reading} {generation}")?,
+            Entry::Forward {
+                reading,
+                interval,
+                count,
+                expires,
+            } => write!(out, " forward {reading} {interval} {count} {expires}")?,
+            Entry::Finish {
+                restart,
+                generation,
+                rearmed,
+            } => write_finish(out, restart, generation, rearmed)?,
         }
-        Entry::Start {
-            mode,
-            ns,
-            reading,
-            asked,
-            base,
-            clock,
-            expires,
-            was_armed,
-        } => {
-            write_asked(out, mode, ns, reading, asked)?;
-            write_started(out, base, clock, expires, was_armed)?;
-        }
-        Entry::Cancel { generation } => write!(out, " cancel {generation}")?,
-        Entry::Claim {
-            base,
-            reading,
-            generation,
-        } => write!(out, " claim {base} {reading} {generation}")?,
-        Entry::Forward {
-            reading,
-            interval,
-            count,
-            expires,
-        } => write!(out, " forward {reading} {interval} {count} {expires}")?,
-        Entry::Finish {
-            restart,
-            generation,
-            rearmed,
-        } => write_finish(out, restart, generation, rearmed)?,
+        Ok(())
     }
-    Ok(())
 }
 
 /// Writes what a start was asked for: a time in a mode, by a reading, on a base.
@@ -95,32 +98,34 @@ fn write_finish(
     ensures numbers { OnOk result (AreMachineNumbers (rearmed_numbers rearmed)) }
 {
     let restart = restart_word(restart);
-    write!(out, " finish {restart} {generation} ")?;
+    write!(out, " finish {restart} {generation}")?;
     write_rearmed(out, rearmed)?;
     Ok(())
 }
 
 fn write_rearmed(out: &mut String, rearmed: Restart) -> Result<(), AllocError>
-    ensures text { OnOk result (string_bytes out.new ≡ string_bytes out.old ++ rearmed_word rearmed) }
+    ensures text { OnOk result (string_bytes out.new ≡ string_bytes out.old ++ spaced (rearmed_word rearmed ∷ [])) }
     ensures numbers { OnOk result (AreMachineNumbers (rearmed_numbers rearmed)) }
 {
     match rearmed {
-        Restart::None => out.push_str("none")?,
-        Restart::Again { generation } => write!(out, "{generation}")?,
-        Restart::Spent => out.push_str("spent")?,
+        Restart::None => out.push_str(" none")?,
+        Restart::Again { generation } => write!(out, " {generation}")?,
+        Restart::Spent => out.push_str(" spent")?,
     }
     Ok(())
 }
 
-/// Writes the words of what a callback was told, each after a space.
-pub(crate) fn write_reply(out: &mut String, reply: CallbackReply) -> Result<(), AllocError>
-    ensures text { OnOk result (string_bytes out.new ≡ string_bytes out.old ++ spaced (reply_words reply)) }
-    ensures numbers { OnOk result (AreMachineNumbers (reply_numbers reply)) }
-{
-    match reply {
-        CallbackReply::Running { generation } => write!(out, " running {generation}")?,
-        CallbackReply::Armed { generation } => write!(out, " armed {generation}")?,
-        CallbackReply::Spent => out.push_str(" spent")?,
+impl HasWords for CallbackReply {
+    ghost words = { reply_words };
+
+    ghost numbers = { reply_numbers };
+
+    fn write_words(&self, out: &mut String) -> Result<(), AllocError> {
+        match *self {
+            CallbackReply::Running { generation } => write!(out, " running {generation}")?,
+            CallbackReply::Armed { generation } => write!(out, " armed {generation}")?,
+            CallbackReply::Spent => out.push_str(" spent")?,
+        }
+        Ok(())
     }
-    Ok(())
 }

@@ -2,13 +2,12 @@
 ghost use Rattle.std.specs.Prelude.{◌≡◌, ◌++◌, ◌∷◌, [], OnOk, string_bytes, IfOk};
 ghost use Rattle.std.specs.Fmt.{decimal};
 ghost use Rattle.record_text.specs.Numbers.{AreMachineNumbers, HasMachineNumbers};
-ghost use Rattle.record_text.specs.Text.{entry_and_looks, spaced, step_and_skips, text_of, OfCall, OfClock, OfLook, OfSkip};
+ghost use Rattle.record_text.specs.Text.{entry_and_looks, spaced, object_entry_and_skips, text_of, OfCall, OfClock, OfLook, OfSkip};
 
 use crate::record::{Answer, ClockLine, Label, Look, ObjectLine, RunRecord, Skip, TimerLine};
-use crate::writing::answers::write_answer;
-use crate::writing::entries::{write_entry, write_reply};
-use crate::writing::sections::{LineBelow, Section, write_below, write_list, write_lists};
-use crate::writing::steps::write_step;
+use crate::writing::sections::{
+    HasLineBelow, HasLines, HasWords, write_below, write_list, write_lists,
+};
 use crate::writing::words::{write_name, write_ns};
 use std::alloc::{AllocError, Global};
 
@@ -30,24 +29,27 @@ pub fn text(alloc: Global, run: &RunRecord) -> Result<Vec<u8>, AllocError>
     Ok(out.into_bytes())
 }
 
-/// Writes how a line begins: its kind, the numbers of its list and its item, and the call that made it.
-fn write_head(
+/// Writes a line: its kind, the numbers of its list and its item, the call that made it, and its words.
+fn write_line_of<W: HasWords>(
     out: &mut String,
     kind: &str,
     list: usize,
     number: usize,
     label: Label,
+    what: &W,
 ) -> Result<(), AllocError>
     ensures text { OnOk result (string_bytes out.new ≡ string_bytes out.old
-        ++ (kind.now ++ spaced (decimal list ∷ decimal number ∷ decimal label.lane ∷ decimal label.call ∷ []))) }
-    ensures numbers { OnOk result (AreMachineNumbers (list ∷ number ∷ label.lane ∷ label.call ∷ [])) }
+        ++ ((kind.now ++ spaced (decimal list ∷ decimal number ∷ decimal label.lane ∷ decimal label.call ∷ W.words what.now)) ++ 10 ∷ [])) }
+    ensures numbers { OnOk result (AreMachineNumbers (list ∷ number ∷ label.lane ∷ label.call ∷ W.numbers what.now)) }
 {
     let (lane, call) = (label.lane, label.call);
     write!(out, "{kind} {list} {number} {lane} {call}")?;
+    what.write_words(out)?;
+    out.push_str("\n")?;
     Ok(())
 }
 
-impl Section for ClockLine {
+impl HasLines for ClockLine {
     ghost lines = { λ list number line. OfClock number line ∷ [] };
 
     fn write_lines(&self, out: &mut String, _list: usize, number: usize) -> Result<(), AllocError> {
@@ -63,31 +65,17 @@ impl Section for ClockLine {
     }
 }
 
-impl Section for TimerLine {
+impl HasLines for TimerLine {
     ghost lines = { entry_and_looks };
 
     fn write_lines(&self, out: &mut String, timer: usize, number: usize) -> Result<(), AllocError> {
-        write_head(out, "timer", timer, number, self.label)?;
-        write_entry(out, self.entry)?;
-        out.push_str("\n")?;
-        write_below(out, timer, number, self.looks.as_slice())?;
-        Ok(())
+        write_line_of(out, "timer", timer, number, self.label, &self.entry)?;
+        write_below(out, timer, number, self.looks.as_slice())
     }
 }
 
-impl LineBelow for Look {
-    ghost line = { OfLook };
-
-    fn write_line(&self, out: &mut String, timer: usize, number: usize) -> Result<(), AllocError> {
-        write_head(out, "look", timer, number, self.label)?;
-        write_reply(out, self.reply)?;
-        out.push_str("\n")?;
-        Ok(())
-    }
-}
-
-impl Section for ObjectLine {
-    ghost lines = { step_and_skips };
+impl HasLines for ObjectLine {
+    ghost lines = { object_entry_and_skips };
 
     fn write_lines(
         &self,
@@ -95,32 +83,46 @@ impl Section for ObjectLine {
         object: usize,
         number: usize,
     ) -> Result<(), AllocError> {
-        write_head(out, "object", object, number, self.label)?;
-        write_step(out, self.entry)?;
-        out.push_str("\n")?;
-        write_below(out, object, number, self.skips.as_slice())?;
-        Ok(())
+        write_line_of(out, "object", object, number, self.label, &self.entry)?;
+        write_below(out, object, number, self.skips.as_slice())
     }
 }
 
-impl LineBelow for Skip {
-    ghost line = { OfSkip };
-
-    fn write_line(&self, out: &mut String, object: usize, number: usize) -> Result<(), AllocError> {
-        write_head(out, "skip", object, number, self.label)?;
-        let generation = self.generation;
-        writeln!(out, " {generation}")?;
-        Ok(())
-    }
-}
-
-impl Section for Answer {
+impl HasLines for Answer {
     ghost lines = { λ lane call answer. OfCall lane call answer ∷ [] };
 
     fn write_lines(&self, out: &mut String, lane: usize, call: usize) -> Result<(), AllocError> {
         write!(out, "call {lane} {call}")?;
-        write_answer(out, self)?;
+        self.write_words(out)?;
         out.push_str("\n")?;
+        Ok(())
+    }
+}
+
+impl HasLineBelow for Look {
+    ghost line = { OfLook };
+
+    fn write_line(&self, out: &mut String, timer: usize, number: usize) -> Result<(), AllocError> {
+        write_line_of(out, "look", timer, number, self.label, &self.reply)
+    }
+}
+
+impl HasLineBelow for Skip {
+    ghost line = { OfSkip };
+
+    fn write_line(&self, out: &mut String, object: usize, number: usize) -> Result<(), AllocError> {
+        write_line_of(out, "skip", object, number, self.label, self)
+    }
+}
+
+impl HasWords for Skip {
+    ghost words = { λ skip. decimal skip.generation ∷ [] };
+
+    ghost numbers = { λ skip. skip.generation ∷ [] };
+
+    fn write_words(&self, out: &mut String) -> Result<(), AllocError> {
+        let generation = self.generation;
+        write!(out, " {generation}")?;
         Ok(())
     }
 }

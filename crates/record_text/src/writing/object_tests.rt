@@ -46,10 +46,18 @@ fn settime(flags: u64, value: u64, reading: u64, arm: Armed, reply: SettimeReply
     }
 }
 
-fn read(reading: u64, reply: ReadReply) -> ObjectEntry {
+fn accept(arm: Armed, reply: AcceptReply) -> ObjectEntry {
+    ObjectEntry::Accept {
+        reading: 2,
+        arm,
+        reply,
+    }
+}
+
+fn read(reading: u64, arm: Armed, reply: ReadReply) -> ObjectEntry {
     ObjectEntry::Read {
         reading,
-        arm: Armed::None,
+        arm,
         reply,
     }
 }
@@ -86,12 +94,12 @@ fn record(
     alloc: Global,
     clock: ItemList<ClockLine>,
     entries: &[(Label, Entry)],
-    steps: &[(Label, ObjectEntry)],
+    object_entries: &[(Label, ObjectEntry)],
     answers: ItemList<Answer>,
 ) -> Result<RunRecord, AllocError> {
     let timer = timer_lines(alloc, entries)?;
     let timers = one(alloc, timer)?;
-    let object = object_lines(alloc, steps)?;
+    let object = object_lines(alloc, object_entries)?;
     let objects = one(alloc, object)?;
     let answers = one(alloc, answers)?;
     Ok(RunRecord {
@@ -107,12 +115,13 @@ const OLD: Answer = Answer::Old {
     interval: 0,
 };
 
-/// A setting of 100 with the period 10 that expires at 100, and two entries of its object at 135.
+/// A setting of 100 with the period 10 that expires at 100, then two entries of its object at 135, and what the last
+/// three calls are answered.
 fn periodic(
     alloc: Global,
     first: ObjectEntry,
     second: ObjectEntry,
-    answers: ItemList<Answer>,
+    last: [Answer; 3],
 ) -> Result<RunRecord, AllocError> {
     let advanced = wrote(1, Write::Advance { by: 100 }, 100, 100, 0);
     let again = wrote(3, Write::Advance { by: 35 }, 135, 135, 0);
@@ -123,13 +132,14 @@ fn periodic(
         (on(2), FINISH),
         (on(4), start(Mode::Keep, 140, 2, ClockId::Monotonic)),
     ];
-    let steps = [
+    let object_entries = [
         (on(0), SETTING),
         (on(2), COUNTED),
         (on(4), first),
         (on(5), second),
     ];
-    record(alloc, clock, &entries, &steps, answers)
+    let answers = periodic_answers(alloc, last)?;
+    record(alloc, clock, &entries, &object_entries, answers)
 }
 
 const CLAIM: Entry = Entry::Claim {
@@ -193,66 +203,65 @@ fn shows_periodic(
     shows(rt, alloc, record, want.as_str())
 }
 
-/// What the calls before the last three are answered.
-fn begun(alloc: Global) -> Result<ItemList<Answer>, AllocError> {
+/// What all calls are answered, by the answers of the last three.
+fn periodic_answers(alloc: Global, last: [Answer; 3]) -> Result<ItemList<Answer>, AllocError> {
     let fired = one(alloc, 0)?;
+    let [first, second, third] = last;
     let answers = vec![in alloc;
         OLD,
         Answer::Clock { stamp: 1 },
         Answer::Done { reading: 1, fired },
         Answer::Clock { stamp: 2 },
+        first,
+        second,
+        third,
     ]?;
     Ok(ItemList::from_vec(answers))
 }
 
+const ACCEPTS: &str = "object 0 3 0 4 accept 2 4 accepted 3
+object 0 4 0 5 accept 2 none nosignal
+";
+
+const ACCEPT_CALLS: &str = "call 0 4 accepted 3
+call 0 5 nosignal
+call 0 6 overrun 3 4
+";
+
 #[test]
 fn a_signal_is_accepted_once(rt: HostRuntime) -> Result<(), AllocError> {
     let alloc = rt.alloc();
-    let accepted = ObjectEntry::Accept {
-        reading: 2,
-        arm: armed(4),
-        reply: AcceptReply::Accepted { overrun: 3 },
-    };
-    let none = ObjectEntry::Accept {
-        reading: 2,
-        arm: Armed::None,
-        reply: AcceptReply::NoSignal,
-    };
-    let mut answers = begun(alloc)?;
-    answers.push(Answer::Accepted { overrun: 3 })?;
-    answers.push(Answer::NoSignal)?;
-    answers.push(Answer::Overrun {
-        overrun: 3,
-        stamp: 4,
-    })?;
-    let record = periodic(alloc, accepted, none, answers)?;
-    let entries = "object 0 3 0 4 accept 2 4 accepted 3\n\
-         object 0 4 0 5 accept 2 none nosignal\n";
-    let calls = "call 0 4 accepted 3\n\
-         call 0 5 nosignal\n\
-         call 0 6 overrun 3 4\n";
-    shows_periodic(&rt, alloc, &record, entries, calls)
+    let accepted = accept(armed(4), AcceptReply::Accepted { overrun: 3 });
+    let none = accept(Armed::None, AcceptReply::NoSignal);
+    let last = [
+        Answer::Accepted { overrun: 3 },
+        Answer::NoSignal,
+        Answer::Overrun {
+            overrun: 3,
+            stamp: 4,
+        },
+    ];
+    let record = periodic(alloc, accepted, none, last)?;
+    shows_periodic(&rt, alloc, &record, ACCEPTS, ACCEPT_CALLS)
 }
+
+const READS: &str = "object 0 3 0 4 read 2 4 count 4
+object 0 4 0 5 read 2 none again
+";
+
+const READ_CALLS: &str = "call 0 4 count 4
+call 0 5 again
+call 0 6 einval
+";
 
 #[test]
 fn expiries_are_read_once(rt: HostRuntime) -> Result<(), AllocError> {
     let alloc = rt.alloc();
-    let count = ObjectEntry::Read {
-        reading: 2,
-        arm: armed(4),
-        reply: ReadReply::Count { total: 4 },
-    };
-    let mut answers = begun(alloc)?;
-    answers.push(Answer::Count { total: 4 })?;
-    answers.push(Answer::Again)?;
-    answers.push(Answer::Invalid)?;
-    let record = periodic(alloc, count, read(2, ReadReply::Again), answers)?;
-    let entries = "object 0 3 0 4 read 2 4 count 4\n\
-         object 0 4 0 5 read 2 none again\n";
-    let calls = "call 0 4 count 4\n\
-         call 0 5 again\n\
-         call 0 6 einval\n";
-    shows_periodic(&rt, alloc, &record, entries, calls)
+    let count = read(2, armed(4), ReadReply::Count { total: 4 });
+    let again = read(2, Armed::None, ReadReply::Again);
+    let last = [Answer::Count { total: 4 }, Answer::Again, Answer::Invalid];
+    let record = periodic(alloc, count, again, last)?;
+    shows_periodic(&rt, alloc, &record, READS, READ_CALLS)
 }
 
 fn canceled_answers(alloc: Global) -> Result<ItemList<Answer>, AllocError> {
@@ -315,17 +324,17 @@ fn a_set_clock_cancels(rt: HostRuntime) -> Result<(), AllocError> {
         (on(6), Entry::Cancel { generation: 3 }),
         (on(6), start(Mode::Rel, 10, 2, ClockId::Monotonic)),
     ];
-    let steps = [
+    let object_entries = [
         (on(0), settime(3, 100, 0, armed(1), old(0))),
-        (on(2), read(1, ReadReply::Canceled)),
-        (on(3), read(1, ReadReply::Again)),
+        (on(2), read(1, Armed::None, ReadReply::Canceled)),
+        (on(3), read(1, Armed::None, ReadReply::Again)),
         (on(5), settime(3, 200, 2, armed(3), SettimeReply::Canceled)),
         (on(6), settime(2, 10, 2, armed(5), old(140))),
-        (on(8), read(3, ReadReply::Again)),
+        (on(8), read(3, Armed::None, ReadReply::Again)),
     ];
     let clock = ItemList::from_vec(clock);
     let answers = canceled_answers(alloc)?;
-    let record = record(alloc, clock, &entries, &steps, answers)?;
+    let record = record(alloc, clock, &entries, &object_entries, answers)?;
     shows(&rt, alloc, &record, CANCELED)
 }
 
@@ -355,7 +364,7 @@ fn a_full_history_disarms_its_object(rt: HostRuntime) -> Result<(), AllocError> 
         (on(2), Entry::Cancel { generation: 3 }),
     ];
     let unarmed = SettimeReply::Unarmed { stamp: 4 };
-    let steps = [
+    let object_entries = [
         (on(0), settime(1, 100, 0, armed(1), old(0))),
         (on(1), settime(1, 100, 0, armed(3), old(100))),
         (on(2), settime(1, 100, 0, Armed::Unarmed, unarmed)),
@@ -370,7 +379,13 @@ fn a_full_history_disarms_its_object(rt: HostRuntime) -> Result<(), AllocError> 
         Answer::Spent { stamp: 3 },
     ]?;
     let answers = ItemList::from_vec(answers);
-    let record = record(alloc, ItemList::new(alloc), &entries, &steps, answers)?;
+    let record = record(
+        alloc,
+        ItemList::new(alloc),
+        &entries,
+        &object_entries,
+        answers,
+    )?;
     shows(&rt, alloc, &record, FULL)
 }
 

@@ -1,13 +1,26 @@
-//! Lists written as lines, numbered on from a number.
+//! Lists written as lines, their items numbered on.
 ghost use Rattle.std.specs.Prelude.{◌≡◌, ◌≤◌, ◌++◌, ℕ, List, OnOk, string_bytes, map};
 ghost use Rattle.record_text.specs.Numbers.{numbers_of, AreMachineNumbers, HaveMachineNumbers};
-ghost use Rattle.record_text.specs.Text.{line_text, lines_in_lists, lines_text, numbered, RecordLine};
+ghost use Rattle.record_text.specs.Text.{line_text, lines_in_lists, lines_text, numbered, spaced, RecordLine};
 
 use crate::item_list::ItemList;
 use std::alloc::AllocError;
 
-/// What has lines of its own in a record's text: an item of a list that may have a number itself.
-pub(crate) trait Section {
+/// What is written as words: an entry, a reply or an answer.
+pub(crate) trait HasWords {
+    ghost words: { Self → List (List ℕ) };
+
+    /// The numbers among its words.
+    ghost numbers: { Self → List ℕ };
+
+    /// Writes its words, each after a space.
+    fn write_words(&self, out: &mut String) -> Result<(), AllocError>
+        ensures text { OnOk result (string_bytes out.new ≡ string_bytes out.old ++ spaced (words self.now)) }
+        ensures numbers { OnOk result (AreMachineNumbers (numbers self.now)) };
+}
+
+/// An item of a list that is written as lines: its own one, and one for each that stands below it.
+pub(crate) trait HasLines {
     /// Its lines, by the number of its list and its own.
     ghost lines: { ℕ → ℕ → Self → List RecordLine };
 
@@ -16,8 +29,8 @@ pub(crate) trait Section {
         ensures numbers { OnOk result (HaveMachineNumbers (lines list number self.now)) };
 }
 
-/// What has one line below an item, under the numbers of that item.
-pub(crate) trait LineBelow {
+/// What stands below an item, as one line with the numbers of that item.
+pub(crate) trait HasLineBelow {
     ghost line: { ℕ → ℕ → Self → RecordLine };
 
     fn write_line(&self, out: &mut String, list: usize, number: usize) -> Result<(), AllocError>
@@ -25,9 +38,9 @@ pub(crate) trait LineBelow {
         ensures numbers { OnOk result (AreMachineNumbers (numbers_of (line list number self.now))) };
 }
 
-/// Writes lists, which are numbered from 0, each with its items numbered from `first`.
+/// Writes the items of lists: the lists are numbered from 0, and the items of each from `first`.
 #[tactic(auto, using(crate::proofs::RecordTexts::lines_text_both, crate::proofs::RecordTexts::numbers_both))]
-pub(crate) fn write_lists<X: Section + Drop>(
+pub(crate) fn write_lists<X: HasLines + Drop>(
     out: &mut String,
     first: usize,
     lists: &[ItemList<X>],
@@ -42,9 +55,9 @@ pub(crate) fn write_lists<X: Section + Drop>(
     Ok(())
 }
 
-/// Writes the items of one list.
+/// Writes the items of the list with this number, numbered from `first`.
 #[tactic(auto, using(crate::proofs::RecordTexts::lines_text_both, crate::proofs::RecordTexts::numbers_both))]
-pub(crate) fn write_list<X: Section>(
+pub(crate) fn write_list<X: HasLines>(
     out: &mut String,
     list: usize,
     first: usize,
@@ -60,8 +73,8 @@ pub(crate) fn write_list<X: Section>(
     Ok(())
 }
 
-/// Writes what stands below an item.
-pub(crate) fn write_below<K: LineBelow>(
+/// Writes what stands below the item with these numbers.
+pub(crate) fn write_below<K: HasLineBelow>(
     out: &mut String,
     list: usize,
     number: usize,

@@ -6,9 +6,9 @@ compare_exchange-requires g c =
     let seat = c.args.seat.now in
     let cells = c.args.cells.now in
     let made = cells.key.value.items in
-    let asked = c.requires in (
+    let may = c.requires.may in (
       c.requires.same,
-      c.requires.word.1,
-      rw (c.requires.word.0, c.requires.idle.1)
-          (takes_lock g.O.Object.meaning made cells.table_id.slots seat.id seat.me.0 asked.live asked.idle.0 c.args.index c.args.stamp asked.word.2 asked.free),
+      may.in_words,
+      rw (may.word, may.carried)
+          (takes_lock g.O.Object.meaning made cells.table_id.slots seat.id seat.me.0 may.live may.held c.args.index c.args.stamp may.in_slots c.requires.free),
     )

@@ -1,0 +1,107 @@
+//! The words of an object's entries.
+ghost use Rattle.std.specs.Prelude.{◌≡◌, ◌<◌, ◌^◌, ◌++◌, ◌∷◌, [], OnOk, string_bytes};
+ghost use Rattle.std.specs.Fmt.{decimal};
+ghost use Rattle.record_text.specs.Numbers.{answer_numbers, armed_number, rearming_numbers, object_entry_numbers, AreMachineNumbers};
+ghost use Rattle.record_text.specs.Text.{answer_words, armed_word, rearming_words, spaced, object_entry_words};
+
+use crate::record::{Answer, Armed, ObjectEntry};
+use crate::writing::sections::HasWords;
+use crate::writing::words::counted_word;
+use std::alloc::AllocError;
+
+impl HasWords for ObjectEntry {
+    ghost words = { object_entry_words };
+
+    ghost numbers = { object_entry_numbers };
+
+    fn write_words(&self, out: &mut String) -> Result<(), AllocError> {
+        match *self {
+            ObjectEntry::Settime {
+                flags,
+                value,
+                interval,
+                reading,
+                arm,
+                reply,
+            } => {
+                write!(out, " settime {flags} {value} {interval}")?;
+                write_outcome(out, reading, arm, &reply.answer())?;
+            }
+            ObjectEntry::Trigger {
+                generation,
+                reading,
+                counted,
+            } => {
+                let counted = counted_word(counted);
+                write!(out, " trigger {generation} {reading} {counted}")?;
+            }
+            rearming => write_rearming(out, rearming)?,
+        }
+        Ok(())
+    }
+}
+
+/// Writes the words of an entry of a call that arms an expired timer again. It writes nothing for another entry.
+fn write_rearming(out: &mut String, entry: ObjectEntry) -> Result<(), AllocError>
+    ensures text { OnOk result (string_bytes out.new ≡ string_bytes out.old ++ spaced (rearming_words entry)) }
+    ensures numbers { OnOk result (AreMachineNumbers (rearming_numbers entry)) }
+{
+    match entry {
+        ObjectEntry::Accept {
+            reading,
+            arm,
+            reply,
+        } => {
+            out.push_str(" accept")?;
+            write_outcome(out, reading, arm, &reply.answer())?;
+        }
+        ObjectEntry::Read {
+            reading,
+            arm,
+            reply,
+        } => {
+            out.push_str(" read")?;
+            write_outcome(out, reading, arm, &reply.answer())?;
+        }
+        ObjectEntry::Gettime {
+            reading,
+            arm,
+            left,
+            interval,
+        } => {
+            write!(out, " gettime {reading}")?;
+            write_armed(out, arm)?;
+            write!(out, " {left} {interval}")?;
+        }
+        _ => {}
+    }
+    Ok(())
+}
+
+/// Writes what came of a call: its reading, what it made of the object's timer, and its answer.
+fn write_outcome(
+    out: &mut String,
+    reading: u64,
+    arm: Armed,
+    answer: &Answer,
+) -> Result<(), AllocError>
+    ensures text { OnOk result (string_bytes out.new ≡ string_bytes out.old ++ spaced (decimal reading ∷ armed_word arm ∷ answer_words answer.now)) }
+    ensures numbers { OnOk result (AreMachineNumbers (reading ∷ armed_number arm ∷ answer_numbers answer.now)) }
+{
+    write!(out, " {reading}")?;
+    write_armed(out, arm)?;
+    answer.write_words(out)?;
+    Ok(())
+}
+
+fn write_armed(out: &mut String, arm: Armed) -> Result<(), AllocError>
+    ensures text { OnOk result (string_bytes out.new ≡ string_bytes out.old ++ spaced (armed_word arm ∷ [])) }
+    ensures numbers { OnOk result (armed_number arm < 2 ^ 128) }
+{
+    match arm {
+        Armed::None => out.push_str(" none")?,
+        Armed::Generation { generation } => write!(out, " {generation}")?,
+        Armed::Unarmed => out.push_str(" unarmed")?,
+    }
+    Ok(())
+}
