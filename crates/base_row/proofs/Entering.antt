@@ -1,7 +1,7 @@
 -- One entry more, of a timer whose base the seat holds: the rule stays, whatever the event is.
 use Rattle.base_row.specs.Places.{lock_at, word_at}
 use Rattle.std.proofs.Common.{◌≡◌, ℕ, eqb, ◌&&◌, ◌+◌, ◌<◌, ◌≢◌, true, List, [], ◌∷◌, ◌++◌, length, set, refl, ap, sym, ◌∙◌, subst, inl, inr, ⊎_elim, arith}
-use Rattle.std.specs.Prelude.{slice_index, slice_set, Option, Some}
+use Rattle.std.specs.Prelude.{slice_index, slice_set, Option}
 use Rattle.std.proofs.lemmas.Bool.{cases_Bool, cases_eq, eq-eqb, ne_eqb, true≢false}
 use Rattle.std.proofs.lemmas.List.{get_or-set_other}
 use mathlib.Core.Option.{some, none}
@@ -9,6 +9,7 @@ use lib.ListN.{get_elem?}
 use Rattle.atomic_table.specs.Table.{State, Me, step, stepped, carried_after, keeps, Allows}
 use Rattle.pass_names.specs.Counts.{one_if}
 use Rattle.pass_names.specs.Passes.{within}
+use Rattle.pass_names.proofs.Counts.{set_there}
 use Rattle.pass_names.proofs.Passes.{begins_refl, begins_nil, count_place, within_more}
 use Rattle.seq_timer.specs.Steps.{Timer, Needs, after, reply_to}
 use Rattle.seq_timer.specs.declared.system.TimerEntry.{TimerEntry}
@@ -25,9 +26,9 @@ use Rattle.base_row.specs.Plays.{EntersAs, EntersBy, entry_of_event, seen_timer,
 use Rattle.seq_timer.proofs.Systems.{after_entries-append, base_here, timer_here, timer_else}
 use Rattle.seq_timer.proofs.Limits.{stamp-after}
 use Rattle.base_row.proofs.Begun.{same_own}
-use Rattle.base_row.proofs.Frames.{holds_one, carries_one, entered}
+use Rattle.base_row.proofs.Frames.{some_same, holds_one, carries_one, entered}
 use Rattle.base_row.proofs.Stable.{stable}
-use Rattle.base_row.proofs.Knowing.{set_there, knows_of}
+use Rattle.base_row.proofs.Knowing.{knows_of}
 
 module _ (bases : ℕ) (opened : List Timer) (code : Timer → ℕ) (id : ℕ) (v : BaseView BaseContent) (h : HeldContent BaseContent) (e : TimerEntry)
     (claims : List Claimed) (carry : Option ℕ)
@@ -233,6 +234,3 @@ enters_by bases opened id v h timer event asked opening picked live may own slot
           (subst (λ x. EntersAs bases opened number_of x k event me new) same
           (subst (λ x. EntersAs bases opened number_of h x event me new) same_timer r.4))),
     )
-  where
-    some_same : (h g : HeldContent BaseContent) → Some h ≡ Some g → h ≡ g
-    some_same h g e = cc

@@ -11,14 +11,17 @@ use Rattle.seq_timer.specs.Bases.{IsQueuedAs}
 use Rattle.seq_timer.specs.Contents.{IsContentOf}
 use Rattle.base_row.specs.declared.view.HeldContent.{HeldContent}
 use Rattle.base_row.specs.declared.view.BaseView.{BaseView}
-use Rattle.seq_timer.specs.Systems.{BaseContent, System, IsOn, changed, entries_of}
-use Rattle.seq_timer.specs.Systems.{IsFresh}
+use Rattle.seq_timer.specs.Systems.{BaseContent, System, IsFresh, IsOn, changed, entries_of}
 use Rattle.base_row.specs.Rules.{now, number_of}
-use Rattle.base_row.specs.Plays.{KnowsBases, IsResting, EntersAs, carried_slots, FreedBase, Steady, having_freed}
+use Rattle.base_row.specs.Plays.{KnowsBases, KnowsOwn, IsResting, EntersAs, carried_slots, FreedBase, Steady, having_freed}
 use Rattle.base_row.specs.Calls.{Appended, timer_seen, LetsGo}
 use Rattle.seq_timer.proofs.Systems.{shows}
 use Rattle.seq_timer.proofs.Agreement.{agrees}
 use Rattle.seq_timer.proofs.Contents.{IsQueuedAs-from}
+
+-- what a pass of a row knows, in the words of the row
+pub knows_about : (o : Opening) (v : BaseView BaseContent) → v.opening ≡ o → KnowsOwn v → KnowsBases o.bases o.timers number_of v
+knows_about o v about knows = subst (λ (q : Opening). KnowsBases q.bases q.timers number_of v) about knows
 
 module _ (bases : ℕ) (opened : List Timer) (code : Timer → ℕ) (v : BaseView BaseContent) (h : HeldContent BaseContent)
     (knows : KnowsBases bases opened code v) (held : v.held ≡ Some h) (t : ℕ) (within : t < length opened) where
@@ -46,6 +49,12 @@ module _ (bases : ℕ) (opened : List Timer) (code : Timer → ℕ) (v : BaseVie
       subst (λ (b : BaseContent). IsQueuedAs t (w.timers t) b.content) (sym same)
       (IsQueuedAs-from w.timers t (w.bases h.base).content (all.apart t) (subst (λ b. IsContentOf w.timers b (w.bases h.base).content)
       (sym here) (all.contents h.base)))
+
+-- a held base has a state of each timer
+pub room_held : (o : Opening) (v : BaseView BaseContent) (h g : HeldContent BaseContent) → v.opening ≡ o → KnowsOwn v → v.held ≡ Some h → g ≡ h
+    → (t : ℕ) → t < length o.timers → t < length g.content.states
+room_held o v h g about knows held is t within = subst (λ (x : HeldContent BaseContent). t < length x.content.states) (sym is)
+    (room o.bases o.timers number_of v h (knows_about o v about knows) held t within)
 
 -- what a seat is like after an entry
 pub record Rested (o : Opening) (h : HeldContent BaseContent) (t : ℕ) (event : Event) (me new : Me (Option BaseContent) (BaseView BaseContent)) : Type 0 where

@@ -12,10 +12,8 @@ use Rattle.base_row.specs.declared.view.BaseView.{BaseView}
 use Rattle.seq_timer.specs.Systems.{BaseContent}
 use Rattle.base_row.specs.Rules.{number_of, HasOneHistory}
 use Rattle.base_row.specs.Plays.{LoadedWord, Met, TookBase, FoundTaken, FreedBase, LooksOwn, MeetsOwn, TakesAt, TakesOwn, FreesOwn}
+use Rattle.base_row.proofs.Frames.{some_same}
 use Rattle.base_row.proofs.Looking.{looks, meets, takes_lock, frees}
-
-some_same : (h g : HeldContent BaseContent) → Some h ≡ Some g → h ≡ g
-some_same h g e = cc
 
 module _ (bases : ℕ) (opened : List Timer) (id : ℕ) (v : BaseView BaseContent)
     (opening : v.opening ≡ record { bases = bases; timers = opened }) (live : v.id.live ≡ true) (slots : ℕ) where
