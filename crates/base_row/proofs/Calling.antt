@@ -3,7 +3,6 @@ use Rattle.std.proofs.Common.{◌≡◌, ℕ, ◌+◌, ◌-◌, ◌^◌, ◌<◌
 use Rattle.std.proofs.Common.{if◌then◌else◌}
 use Rattle.std.specs.Prelude.{slice_index, Option, Some, None, MatchOption}
 use Rattle.std.proofs.lemmas.Bool.{eq-eqb}
-use Rattle.atomic_table.specs.Table.{Me}
 use Rattle.pass_names.specs.Names.{IsLast}
 use Rattle.pass_names.specs.Passes.{Begins}
 use Rattle.pass_names.specs.SharedHistory.{ExtendsBy, Known, LooksOn, MeetWith, TakesIn}
@@ -24,7 +23,7 @@ use Rattle.base_row.specs.declared.view.HeldContent.{HeldContent}
 use Rattle.base_row.specs.declared.view.Opening.{Opening}
 use Rattle.base_row.specs.declared.view.BaseView.{BaseView}
 use Rattle.base_row.specs.Rules.{takes_at}
-use Rattle.base_row.specs.Plays.{GotBase, KnowsOwn, Lost, carried_slots}
+use Rattle.base_row.specs.Plays.{SeatState, GotBase, KnowsOwn, Lost, carried_slots}
 use Rattle.base_row.specs.Calls.{Absorbs, Appended, AreFresh, LearnsFrom, LetsGo, GetsBase, MayAppend}
 use Rattle.base_row.specs.Calls.{MissesBase, SeesFurther, Waits, entry_in, known_of, own_entry, timer_seen}
 use Rattle.base_row.proofs.Frames.{some_same}
@@ -36,7 +35,7 @@ pub locks_caught : (o : Opening) (b : ℕ) (v w : BaseView BaseContent) (h : Hel
 locks_caught o b v w h c = record {
   at = c.at;
   number = c.number;
-  rest = ap (λ (m : Me (Option BaseContent) (BaseView BaseContent)). m.0) c.rest;
+  rest = ap (λ (m : SeatState). m.0) c.rest;
   word = c.word;
   newer = c.newer;
   apart = c.apart;
@@ -46,7 +45,7 @@ locks_caught o b v w h c = record {
 
 pub misses_lost : (o : Opening) (b : ℕ) (v w : BaseView BaseContent) → Lost o b (v, []) (w, []) → MissesBase b v w
 misses_lost o b v w l =
-    let is = ap (λ (m : Me (Option BaseContent) (BaseView BaseContent)). m.0) l.rest in record {
+    let is = ap (λ (m : SeatState). m.0) l.rest in record {
       waits = record {
         rest = is ∙ (λ i. record v {
           seen = w.seen;

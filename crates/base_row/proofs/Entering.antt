@@ -6,7 +6,7 @@ use Rattle.std.proofs.lemmas.Bool.{cases_Bool, cases_eq, eq-eqb, ne_eqb, true≢
 use Rattle.std.proofs.lemmas.List.{get_or-set_other}
 use mathlib.Core.Option.{some, none}
 use lib.ListN.{get_elem?}
-use Rattle.atomic_table.specs.Table.{State, Me, step, stepped, carried_after, keeps, Allows}
+use Rattle.atomic_table.specs.Table.{State, step, stepped, carried_after, keeps, Allows}
 use Rattle.pass_names.specs.Counts.{one_if}
 use Rattle.pass_names.specs.Passes.{within}
 use Rattle.pass_names.proofs.Counts.{set_there}
@@ -21,7 +21,7 @@ use Rattle.seq_timer.specs.declared.event.Event.{Event}
 use Rattle.base_row.proofs.Events.{go_along}
 use Rattle.seq_timer.specs.Systems.{BaseContent, System, first_system, after_entry, changed, IsSystemStep, FitsBase}
 use Rattle.base_row.specs.Rules.{held_in, places_at, base_claims_at, holds_at, carries_at, runs, now, HeldHolds, PassHolds, RowHolds, HasOneHistory, number_of}
-use Rattle.base_row.specs.Plays.{having_entered, GoAlong, MayEnter, EnteredTimer, OwnNeeds}
+use Rattle.base_row.specs.Plays.{SeatState, having_entered, GoAlong, MayEnter, EnteredTimer, OwnNeeds}
 use Rattle.base_row.specs.Plays.{EntersAs, EntersBy, entry_of_event, seen_timer, claims_with_event, carry_after}
 use Rattle.seq_timer.proofs.Systems.{after_entries-append, base_here, timer_here, timer_else}
 use Rattle.seq_timer.proofs.Limits.{stamp-after}
@@ -227,8 +227,8 @@ enters_by bases opened id v h timer event asked opening picked live may own slot
       λ g k held at_word.
           let same : h ≡ g = some_same h g (sym may.held ∙ held) in
           let same_timer : timer ≡ k = omega (arith, word_is, at_word, ap (λ (o : Opening). o.bases) opening) in
-          let me : Me (Option BaseContent) (BaseView BaseContent) = (v, slot) in
-          let new : Me (Option BaseContent) (BaseView BaseContent) = (r.0, carried_after slot r.1) in
+          let me : SeatState = (v, slot) in
+          let new : SeatState = (r.0, carried_after slot r.1) in
           subst (λ (o : Opening). EntersAs o.bases o.timers number_of g k asked me new) (sym opening)
           (subst (λ x. EntersAs bases opened number_of g k x me new) (sym picked)
           (subst (λ x. EntersAs bases opened number_of x k event me new) same

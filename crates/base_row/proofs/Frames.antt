@@ -20,7 +20,6 @@ use Rattle.base_row.specs.declared.view.BaseView.{BaseView}
 use Rattle.seq_timer.specs.Systems.{BaseContent, System, first_system, after_entry, IsSystemStep}
 use Rattle.base_row.specs.Rules.{base_pass_id, held_in, carried_in, places_at, base_claims_at, holds_at}
 use Rattle.base_row.specs.Rules.{carries_at, takes_at, runs, LockState, now, PassHolds, RowHolds}
-use Rattle.base_row.specs.Plays.{gone_base_view}
 use Rattle.seq_timer.proofs.Systems.{after_entries-append, steps_push, base_else, timer_else}
 
 -- the same locks are held and were taken
@@ -35,22 +34,6 @@ pub record SameWork (v v' : BaseView BaseContent) : Type 0 where
   pub claims : (t g b : ℕ) → base_claims_at t g b v' ≡ base_claims_at t g b v
   pub carries : (t : ℕ) → carries_at t v' ≡ carries_at t v
 
--- a view that has nothing
-abbrev pub empty_view : BaseView BaseContent
-empty_view = gone_base_view
-
--- two passes have together as much of this as two had
-abbrev pub SameSum : (v' u' v u : BaseView BaseContent) (f : BaseView BaseContent → ℕ) → Type 0
-SameSum v' u' v u f = f v' + f u' ≡ f v + f u
-
--- and as much of each kind
-pub record Sums (v' u' v u : BaseView BaseContent) : Type 0 where
-  pub places : (t k : ℕ) → SameSum v' u' v u (places_at t k)
-  pub claims : (t g b : ℕ) → SameSum v' u' v u (base_claims_at t g b)
-  pub holds : (b : ℕ) → SameSum v' u' v u (holds_at b)
-  pub takes : (b k : ℕ) → SameSum v' u' v u (takes_at b k)
-  pub carries : (t : ℕ) → SameSum v' u' v u (carries_at t)
-
 -- so many passes have together as much of this as others had
 abbrev pub SameTotal : (old new : List (BaseView BaseContent)) (f : BaseView BaseContent → ℕ) → Type 0
 SameTotal old new f = total f new ≡ total f old
@@ -62,6 +45,16 @@ pub record SameTotals (old new : List (BaseView BaseContent)) : Type 0 where
   pub holds : (b : ℕ) → SameTotal old new (holds_at b)
   pub takes : (b k : ℕ) → SameTotal old new (takes_at b k)
   pub carries : (t : ℕ) → SameTotal old new (carries_at t)
+
+totalled : (a b old new : List (BaseView BaseContent)) → SameTotals a b
+    → ((f : BaseView BaseContent → ℕ) → SameTotal a b f → SameTotal old new f) → SameTotals old new
+totalled a b old new same on = record {
+  places = λ t k. on (places_at t k) (same.places t k);
+  claims = λ t g b. on (base_claims_at t g b) (same.claims t g b);
+  holds = λ b. on (holds_at b) (same.holds b);
+  takes = λ b k. on (takes_at b k) (same.takes b k);
+  carries = λ t. on (carries_at t) (same.carries t);
+}
 
 pub sum_same : (f : BaseView BaseContent → ℕ) (vs : List (BaseView BaseContent)) (id : ℕ) (v v' : BaseView BaseContent) → get_elem? vs id ≡ some v
     → f v' ≡ f v → total f (set vs id v') ≡ total f vs
@@ -321,20 +314,12 @@ module _ (bases : ℕ) (opened : List Timer) (code : Timer → ℕ) where
     module _ (id : ℕ) (v v' u : BaseView BaseContent) (at : get_elem? s.views id ≡ some v) (fits : PassHolds bases opened code log s.words v')
         (fits_new : PassHolds bases opened code log s.words u)
         (tree : IsPassTree (set (map base_pass_id s.views) id (base_pass_id v') ++ base_pass_id u ∷ []))
-        (sums : Sums v' u v empty_view) where
+        (same : SameTotals (v ∷ []) (v' ∷ u ∷ [])) where
       pub grown : RowHolds bases opened code log record { words = s.words; homes = s.homes; views = slice_set s.views id v' ++ u ∷ [] }
       grown =
-          let sum : (f : BaseView BaseContent → ℕ) → f v' + f u ≡ f v + 0
-          → total f (set s.views id v' ++ u ∷ []) ≡ total f s.views = λ f q. omega
-          (arith, total_set f s.views id v v' at, total-append f (set s.views id v') (u ∷ [])) in
           reviewed (slice_set s.views id v' ++ u ∷ [])
-          (record {
-            places = λ t k. sum (places_at t k) (sums.places t k);
-            claims = λ t g b. sum (base_claims_at t g b) (sums.claims t g b);
-            holds = λ b. sum (holds_at b) (sums.holds b);
-            takes = λ b k. sum (takes_at b k) (sums.takes b k);
-            carries = λ t. sum (carries_at t) (sums.carries t);
-          })
+          (totalled (v ∷ []) (v' ∷ u ∷ []) s.views (slice_set s.views id v' ++ u ∷ []) same
+          (λ f q. omega (arith, q, total_set f s.views id v v' at, total-append f (set s.views id v') (u ∷ []))))
           (λ j x q. ⊎_elim
           (λ t. views_on (λ y. PassHolds bases opened code log s.words y) s.views id v' fits (λ i y n e. home.each_view i y e) j x t)
           (λ t. subst (λ y. PassHolds bases opened code log s.words y) t fits_new)
@@ -346,20 +331,12 @@ module _ (bases : ℕ) (opened : List Timer) (code : Timer → ℕ) where
     module _ (id other : ℕ) (v v' u u' : BaseView BaseContent) (at : get_elem? s.views id ≡ some v) (at_other : get_elem? (set s.views id v') other ≡ some u)
         (fits : PassHolds bases opened code log s.words v') (fits_left : PassHolds bases opened code log s.words u')
         (tree : IsPassTree (set (set (map base_pass_id s.views) id (base_pass_id v')) other (base_pass_id u')))
-        (sums : Sums v' u' v u) where
+        (same : SameTotals (v ∷ u ∷ []) (v' ∷ u' ∷ [])) where
       pub merged : RowHolds bases opened code log record { words = s.words; homes = s.homes; views = slice_set (slice_set s.views id v') other u' }
       merged =
-          let sum : (f : BaseView BaseContent → ℕ) → f v' + f u' ≡ f v + f u
-          → total f (set (set s.views id v') other u') ≡ total f s.views = λ f q. omega
-          (arith, total_set f s.views id v v' at, total_set f (set s.views id v') other u u' at_other) in
           reviewed (slice_set (slice_set s.views id v') other u')
-          (record {
-            places = λ t k. sum (places_at t k) (sums.places t k);
-            claims = λ t g b. sum (base_claims_at t g b) (sums.claims t g b);
-            holds = λ b. sum (holds_at b) (sums.holds b);
-            takes = λ b k. sum (takes_at b k) (sums.takes b k);
-            carries = λ t. sum (carries_at t) (sums.carries t);
-          })
+          (totalled (v ∷ u ∷ []) (v' ∷ u' ∷ []) s.views (slice_set (slice_set s.views id v') other u') same
+          (λ f q. omega (arith, q, total_set f s.views id v v' at, total_set f (set s.views id v') other u u' at_other)))
           (views_on (λ y. PassHolds bases opened code log s.words y) (set s.views id v') other u' fits_left
           (λ j x n q. views_on (λ y. PassHolds bases opened code log s.words y) s.views id v' fits (λ i y m e. home.each_view i y e) j x q))
           (subst (λ ls. IsPassTree ls) (sym (map-set base_pass_id (set s.views id v') other u'

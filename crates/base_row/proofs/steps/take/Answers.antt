@@ -1,12 +1,9 @@
 use Rattle.std.proofs.Common.{◌≡◌, ℕ, ◌+◌, ◌/◌, Bool, true, false, List, nat_eq, subst, ◌∙◌, arith}
-use Rattle.std.specs.Prelude.{MatchBool, Option}
-use Rattle.atomic_table.specs.Table.{Me}
+use Rattle.std.specs.Prelude.{MatchBool}
 use Rattle.seq_timer.specs.Steps.{Timer}
 use Rattle.base_row.specs.declared.view.Opening.{Opening}
-use Rattle.base_row.specs.declared.view.BaseView.{BaseView}
-use Rattle.seq_timer.specs.Systems.{BaseContent}
 use Rattle.base_row.specs.Rules.{number_of}
-use Rattle.base_row.specs.Plays.{TookBase, FoundTaken}
+use Rattle.base_row.specs.Plays.{SeatState, TookBase, FoundTaken}
 use Rattle.base_row.proofs.Telling.{takes_by}
 use Rattle.base_row.proofs.steps.take.Goals as goal
 
@@ -22,7 +19,7 @@ compare_exchange-requires c =
           (c.requires.known.0 ∙ half) half (omega arith)),
     )
 
-loose : (bases : ℕ) (opened : List Timer) (b first found : ℕ) (hit : Bool) (me new : Me (Option BaseContent) (BaseView BaseContent))
+loose : (bases : ℕ) (opened : List Timer) (b first found : ℕ) (hit : Bool) (me new : SeatState)
     → MatchBool hit ((k : ℕ) × (first + 2 ≡ k + k) × TookBase bases opened number_of b k (first + 1) me new) (FoundTaken bases opened number_of b first me found new)
     → MatchBool hit ((k : ℕ) × (first + 2 ≡ k + k) × TookBase bases opened number_of b k (first + 1) me new) ((x : ℕ)
     × FoundTaken bases opened number_of b first me x new)
