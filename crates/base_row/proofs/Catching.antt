@@ -77,7 +77,8 @@ module _ (o : Opening) (b : ℕ) (me mid : SeatState) (found : ℕ) (met : Met o
   told_after new (Some h) caught = caught_after new h caught
 
 -- a miss from the word that was met last
-pub lost_miss : (o : Opening) (b found : ℕ) (me new : SeatState) → FoundTaken o.bases o.timers number_of b (slice_index me.0.met b) me found new → Lost o b me new
+pub lost_miss : (o : Opening) (b found : ℕ) (me new : SeatState)
+    → FoundTaken o.bases o.timers number_of b (slice_index me.0.met b) me found new → Lost o b me new
 lost_miss o b found me new miss = record {
   rest = miss.met.rest ∙ (λ i. (record me.0 { seen = new.0.seen; heard = []; met = ap (λ (m : SeatState). m.0.met) (sym miss.met.rest) i }, me.1));
   missed = inl (miss.missed.0, miss.missed.1, miss.missed.2, omega (arith, miss.missed.3, miss.met.is));

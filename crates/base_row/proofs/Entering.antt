@@ -148,7 +148,8 @@ module _ (bases : ℕ) (opened : List Timer) (code : Timer → ℕ) (id : ℕ) (
     claimed : (k g b : ℕ) → base_claims_at k g b v' + one_if (runs g b (w.timers k)) ≡ base_claims_at k g b v + one_if (runs g b (w'.timers k))
     claimed k g b =
         ⊎_elim
-        (λ (q : k ≡ e.timer). subst (λ x. base_claims_at x g b v' + one_if (runs g b (w.timers x)) ≡ base_claims_at x g b v + one_if (runs g b (w'.timers x))) (sym q)
+        (λ (q : k ≡ e.timer). subst (λ x. base_claims_at x g b v' + one_if (runs g b (w.timers x))
+        ≡ base_claims_at x g b v + one_if (runs g b (w'.timers x))) (sym q)
         (omega (arith, along.own g b, ap (λ x. one_if (runs g b x)) same_timer, ap (λ x. one_if (runs g b x)) new_timer)))
         (λ apart. omega (arith, along.apart k g b apart, ap (λ x. one_if (runs g b x)) (timers_else k apart)))
         (cases_eq k e.timer)
@@ -208,7 +209,8 @@ module _ (bases : ℕ) (opened : List Timer) (code : Timer → ℕ) (id : ℕ) (
 -- the same as it is told to a seat whose event was picked
 pub enters_by : (bases : ℕ) (opened : List Timer) (id : ℕ) (v : BaseView BaseContent) (h : HeldContent BaseContent) (timer : ℕ)
     (event asked : Event) → v.opening ≡ record { bases = bases; timers = opened } → asked ≡ event → v.id.live ≡ true
-    → MayEnter bases opened number_of v h (entry_of_event bases opened number_of v timer event) → OwnNeeds v timer (seen_timer bases opened number_of v timer) event
+    → MayEnter bases opened number_of v h (entry_of_event bases opened number_of v timer event)
+    → OwnNeeds v timer (seen_timer bases opened number_of v timer) event
     → (slots : ℕ) (slot : List (ℕ × Option BaseContent)) (word stamp : ℕ) → word ≡ word_at bases timer
     → stamp ≡ number_of (after (seen_timer bases opened number_of v timer) event)
     → Allows (HasOneHistory bases opened number_of) slots id (v, slot) word (λ _. stamp) (λ _. EntersBy asked (step slots word stamp 0 none) (v, slot))

@@ -302,7 +302,8 @@ module _ (bases : ℕ) (opened : List Timer) (code : Timer → ℕ) where
     abbrev freed_word : ℕ
     freed_word = slice_index v.met h.base + 1
 
-    frees_at : (log : List TimerEntry) (s : State (Option BaseContent) (BaseView BaseContent)) → RowHolds bases opened code log s → get_elem? s.views id ≡ some v
+    frees_at : (log : List TimerEntry) (s : State (Option BaseContent) (BaseView BaseContent)) → RowHolds bases opened code log s
+        → get_elem? s.views id ≡ some v
         → RowHolds bases opened code log record {
           words = slice_set s.words (lock_at h.base) freed_word;
           homes = slice_set s.homes h.base
