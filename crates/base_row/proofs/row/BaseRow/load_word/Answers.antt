@@ -1,11 +1,9 @@
-use Rattle.std.proofs.Common.{◌≡◌, ◌∙◌, ap, sym, subst, arith}
+use Rattle.std.proofs.Common.{◌≡◌, ◌∙◌, ap, sym, arith}
 use Rattle.std.specs.Prelude.{Some, None, Option}
 use Rattle.timer_word.specs.Words.{word_of}
 use Rattle.timer_word.specs.declared.word.TimerWord.{TimerWord}
-use Rattle.base_row.specs.declared.view.Opening.{Opening}
-use Rattle.base_row.specs.Rules.{number_of}
-use Rattle.base_row.specs.Plays.{KnowsBases}
 use Rattle.base_row.specs.Calls.{timer_seen}
+use Rattle.base_row.proofs.Holding.{knows_about}
 use Rattle.base_row.proofs.Placed.{reads_back, placed_seen}
 use Rattle.base_row.proofs.row.BaseRow.load_word.Goals as goal
 
@@ -19,21 +17,25 @@ pub unreachable-requires : goal.unreachable-requires
 unreachable-requires c =
     let o = c.args.self.now.about in
     let v = c.load_number-number.new.pass.knows in
-    let knows = subst (λ (q : Opening). KnowsBases q.bases q.timers number_of v) c.load_number-number.ensures.row.about c.known.ensures in
-    not_none c.unpack.result (word_of (timer_seen o v c.args.timer))
-    (reads_back o v c.fresh.ensures.fresh knows c.fresh.ensures.some c.fresh.ensures.few c.args.timer c.load_number-number.result c.load_number-number.ensures.word c.unpack.result c.unpack.ensures.back) c.in-None.is
+    not_none c.unpack.result (word_of (timer_seen o v c.args.timer)) (reads_back o v c.fresh.ensures.fresh
+    (knows_about o v c.load_number-number.ensures.row.about c.known.ensures) c.fresh.ensures.some c.fresh.ensures.few c.args.timer
+    c.load_number-number.result c.load_number-number.ensures.word c.unpack.result c.unpack.ensures.back) c.in-None.is
 
 pub returns-clause-word : goal.returns-clause-word
 returns-clause-word c =
     let o = c.args.self.now.about in
     let v = c.load_number-number.new.pass.knows in
-    let knows = subst (λ (q : Opening). KnowsBases q.bases q.timers number_of v) c.load_number-number.ensures.row.about c.known.ensures in
-    some_word c.unpack.result (word_of (timer_seen o v c.args.timer)) c.in-Some.word
-    (reads_back o v c.fresh.ensures.fresh knows c.fresh.ensures.some c.fresh.ensures.few c.args.timer c.load_number-number.result c.load_number-number.ensures.word c.unpack.result c.unpack.ensures.back) c.in-Some.is
+    let knows = knows_about o v c.load_number-number.ensures.row.about c.known.ensures in
+    some_word c.unpack.result (word_of (timer_seen o v c.args.timer)) c.in-Some.word (reads_back o v c.fresh.ensures.fresh knows c.fresh.ensures.some
+    c.fresh.ensures.few c.args.timer c.load_number-number.result c.load_number-number.ensures.word c.unpack.result c.unpack.ensures.back) c.in-Some.is
 
 pub returns-clause-placed : goal.returns-clause-placed
 returns-clause-placed c =
     let o = c.args.self.now.about in
     let v = c.load_number-number.new.pass.knows in
-    let knows = subst (λ (q : Opening). KnowsBases q.bases q.timers number_of v) c.load_number-number.ensures.row.about c.known.ensures in
-    omega (arith, ap (λ (w : TimerWord). w.base) (returns-clause-word c), placed_seen o v c.fresh.ensures.fresh knows c.fresh.ensures.some c.args.timer)
+    omega (
+      arith,
+      ap (λ (w : TimerWord). w.base) (returns-clause-word c),
+      placed_seen o v c.fresh.ensures.fresh
+          (knows_about o v c.load_number-number.ensures.row.about c.known.ensures) c.fresh.ensures.some c.args.timer,
+    )
