@@ -81,7 +81,7 @@ pub record IsPosixNext (t n : PosixTimer) : Type 0 where
   pub counted : n.stamp ≡ t.stamp + 1
 
 pub posix_next : (t : PosixTimer) (call : posix_calls.Call) → IsPosixNext t (posix_steps.posix_step t call)
-posix_next t (posix_variants.Settime flags value interval reading arm) = record { clock = refl; base = refl; limit = refl; counted = refl }
+posix_next t (posix_variants.Settime c) = record { clock = refl; base = refl; limit = refl; counted = refl }
 posix_next t (posix_variants.Trigger generation reading) =
     either (IsPosixNext t) (phased.is_expiry_of t.phase generation reading) _ _
     (record { clock = refl; base = refl; limit = refl; counted = refl }) (record { clock = refl; base = refl; limit = refl; counted = refl })
@@ -96,7 +96,7 @@ pub record IsFdNext (t n : Descriptor) : Type 0 where
   pub counted : n.stamp ≡ t.stamp + 1
 
 pub fd_next : (t : Descriptor) (call : fd_calls.Call) → IsFdNext t (fd_steps.fd_step t call)
-fd_next t (fd_variants.Settime flags value interval reading arm) = record { clock = refl; base = refl; limit = refl; counted = refl }
+fd_next t (fd_variants.Settime c) = record { clock = refl; base = refl; limit = refl; counted = refl }
 fd_next t (fd_variants.Trigger generation reading) =
     either (IsFdNext t) (phased.is_expiry_of t.phase generation reading) _ _
     (record { clock = refl; base = refl; limit = refl; counted = refl }) (record { clock = refl; base = refl; limit = refl; counted = refl })

@@ -146,36 +146,32 @@ settime_shows clock (Raw callback) flags value interval reading arm refused repl
 settime_shows clock (Posix t) flags value interval reading arm refused reply taken replies shown =
     ap (λ r. option_map (λ answer. record {
       call =
-          posix_calls.Settime flags (nanoseconds_of value) (nanoseconds_of interval) r
-          (posix_lines.posix_arm arm (posix_lines.refused_at reply));
+          posix_calls.Settime (record { flags = flags; value = nanoseconds_of value; interval = nanoseconds_of interval; reading = r; arm = posix_lines.posix_arm arm (posix_lines.refused_at reply) });
       reply = posix_replies.Settime answer;
     }) (posix_lines.posix_set_answer reply)) shown
     ∙ ap (λ a. option_map
     (λ answer. record {
-      call = posix_calls.Settime flags (nanoseconds_of value) (nanoseconds_of interval) reading a;
+      call = posix_calls.Settime (record { flags = flags; value = nanoseconds_of value; interval = nanoseconds_of interval; reading = reading; arm = a });
       reply =
           posix_replies.Settime answer;
     }) (posix_lines.posix_set_answer reply)) (posix_refused t reading arm refused reply replies)
     ∙ ap (λ x. option_map
     (λ answer. record {
-      call = posix_calls.Settime flags (nanoseconds_of value) (nanoseconds_of interval) reading
-          (posix_lines.posix_arm arm refused);
+      call = posix_calls.Settime (record { flags = flags; value = nanoseconds_of value; interval = nanoseconds_of interval; reading = reading; arm = posix_lines.posix_arm arm refused });
       reply = posix_replies.Settime answer;
     }) x) replies
 settime_shows clock (Fd t) flags value interval reading arm refused reply taken replies shown =
     ap (λ r. Some (record {
-      call = fd_calls.Settime flags (nanoseconds_of value) (nanoseconds_of interval) r
-          (fd_lines.fd_arm arm (posix_lines.refused_at reply));
+      call = fd_calls.Settime (record { flags = flags; value = nanoseconds_of value; interval = nanoseconds_of interval; reading = r; arm = fd_lines.fd_arm arm (posix_lines.refused_at reply) });
       reply = fd_replies.Settime (fd_lines.fd_set_answer reply);
     })) shown
     ∙ ap (λ a. Some (record {
-      call = fd_calls.Settime flags (nanoseconds_of value) (nanoseconds_of interval) reading a;
+      call = fd_calls.Settime (record { flags = flags; value = nanoseconds_of value; interval = nanoseconds_of interval; reading = reading; arm = a });
       reply =
           fd_replies.Settime (fd_lines.fd_set_answer reply);
     })) (fd_refused t flags (nanoseconds_of value) reading arm refused reply replies)
     ∙ ap (λ x. Some (record {
-      call = fd_calls.Settime flags (nanoseconds_of value) (nanoseconds_of interval) reading
-          (fd_lines.fd_arm arm refused);
+      call = fd_calls.Settime (record { flags = flags; value = nanoseconds_of value; interval = nanoseconds_of interval; reading = reading; arm = fd_lines.fd_arm arm refused });
       reply = fd_replies.Settime x;
     })) replies
 

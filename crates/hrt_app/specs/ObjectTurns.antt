@@ -87,11 +87,14 @@ settime_want (Fd t) flags value interval = option_map (λ w. (w.mode, w.ns)) (fd
 -- a settime, as a call on this object that was told of its start
 abbrev pub settime_call : Object → ℕ → TimeSpec → TimeSpec → ClockReading → Armed → ℕ → ObjectCall
 settime_call (Raw callback) flags value interval reading arm refused =
-    OfPosix (posix_calls.Settime flags (nanoseconds_of value) (nanoseconds_of interval) reading (posix_lines.posix_arm arm refused))
+    OfPosix (posix_calls.Settime
+    (record { flags = flags; value = nanoseconds_of value; interval = nanoseconds_of interval; reading = reading; arm = posix_lines.posix_arm arm refused }))
 settime_call (Posix t) flags value interval reading arm refused =
-    OfPosix (posix_calls.Settime flags (nanoseconds_of value) (nanoseconds_of interval) reading (posix_lines.posix_arm arm refused))
+    OfPosix (posix_calls.Settime
+    (record { flags = flags; value = nanoseconds_of value; interval = nanoseconds_of interval; reading = reading; arm = posix_lines.posix_arm arm refused }))
 settime_call (Fd t) flags value interval reading arm refused =
-    OfFd (fd_calls.Settime flags (nanoseconds_of value) (nanoseconds_of interval) reading (fd_lines.fd_arm arm refused))
+    OfFd (fd_calls.Settime
+    (record { flags = flags; value = nanoseconds_of value; interval = nanoseconds_of interval; reading = reading; arm = fd_lines.fd_arm arm refused }))
 
 -- a settime's reply is the one of the object's step
 abbrev pub SettimeReplies : Object → ℕ → TimeSpec → ClockReading → Armed → ℕ → SettimeReply → Type 0

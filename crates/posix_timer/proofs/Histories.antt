@@ -7,17 +7,17 @@ use Rattle.posix_timer.specs.States.{PosixTimer}
 use Rattle.posix_timer.specs.Steps.{PosixAllows, posix_step, posix_table}
 
 pub PosixAllows-room : (t : PosixTimer) (call : Call) → PosixAllows t call → t.stamp < t.limit
-PosixAllows-room t (calls.Settime flags value interval reading arm) allows = allows.0
+PosixAllows-room t (calls.Settime c) allows = allows.0
 PosixAllows-room t (calls.Trigger generation reading) allows = allows
 PosixAllows-room t (calls.Accept reading arm) allows = allows.0
 
 pub posix_step-stamp : (t : PosixTimer) (call : Call) → (posix_step t call).stamp ≡ t.stamp + 1
-posix_step-stamp t (calls.Settime flags value interval reading arm) = refl
+posix_step-stamp t (calls.Settime c) = refl
 posix_step-stamp t (calls.Trigger generation reading) = grind arith
 posix_step-stamp t (calls.Accept reading arm) = grind arith
 
 pub posix_step-limit : (t : PosixTimer) (call : Call) → (posix_step t call).limit ≡ t.limit
-posix_step-limit t (calls.Settime flags value interval reading arm) = refl
+posix_step-limit t (calls.Settime c) = refl
 posix_step-limit t (calls.Trigger generation reading) = grind arith
 posix_step-limit t (calls.Accept reading arm) = grind arith
 

@@ -12,6 +12,7 @@ use Rattle.timer_setting.specs.Settimes.{start_wanted, trigger_answer}
 use Rattle.timer_setting.specs.StepTables.{StepTable, full_refusal, settime_refusal}
 use Rattle.posix_timer.specs.declared.answers.SettimeAnswer.{SettimeAnswer}
 use Rattle.posix_timer.specs.declared.answers.SettimeAnswer.TheVariants as settings
+use Rattle.timer_setting.specs.declared.settime_call.SettimeCall.{SettimeCall}
 use Rattle.timer_setting.specs.declared.trigger_answer.TriggerAnswer.TheVariants as triggers
 use Rattle.posix_timer.specs.declared.answers.AcceptAnswer.TheVariants as acceptances
 use Rattle.posix_timer.specs.declared.calls.Call.{Call}
@@ -35,9 +36,9 @@ kept_by (arms.Armed generation) interval = interval
 kept_by (arms.Unarmed stamp) interval = 0
 
 -- the timer after a settime: value 0 wants no start, so it disarms the timer and ends its periods
-abbrev pub posix_set : PosixTimer → ℕ → ℕ → ℕ → ClockReading → Arm → PosixTimer
-posix_set t flags value interval reading arm =
-    record t { interval = kept_by arm interval; phase = phase_by t.clock flags value reading arm; pending = false; overrun = 0; stamp = t.stamp + 1 }
+abbrev pub posix_set : PosixTimer → SettimeCall → PosixTimer
+posix_set t c =
+    record t { interval = kept_by c.arm c.interval; phase = phase_by t.clock c.flags c.value c.reading c.arm; pending = false; overrun = 0; stamp = t.stamp + 1 }
 
 -- what a settime answers: the setting before it, unless the limit of the high-resolution timer refused the start
 abbrev pub posix_settime_answer : PosixTimer → ClockReading → Arm → SettimeAnswer
@@ -75,20 +76,20 @@ accepted t reading arm =
 
 -- what a call needs
 abbrev pub PosixAllows : PosixTimer → Call → Type 0
-PosixAllows t (calls.Settime flags value interval reading arm) =
-    (t.stamp < t.limit) × (bits_beyond abstime flags ≡ 0) × (value ≤ last_time) × (interval ≤ last_time) × IsOutcomeOf arm (start_by flags value)
+PosixAllows t (calls.Settime c) =
+    (t.stamp < t.limit) × (bits_beyond abstime c.flags ≡ 0) × (c.value ≤ last_time) × (c.interval ≤ last_time) × IsOutcomeOf c.arm (start_by c.flags c.value)
 PosixAllows t (calls.Trigger generation reading) = t.stamp < t.limit
 PosixAllows t (calls.Accept reading arm) = (t.stamp < t.limit) × IsOutcomeOf arm (accept_wanted t reading)
 
 -- the timer after a call
 abbrev pub posix_step : PosixTimer → Call → PosixTimer
-posix_step t (calls.Settime flags value interval reading arm) = posix_set t flags value interval reading arm
+posix_step t (calls.Settime c) = posix_set t c
 posix_step t (calls.Trigger generation reading) = posix_triggered t generation reading
 posix_step t (calls.Accept reading arm) = accepted t reading arm
 
 -- what a call answers
 abbrev pub posix_answer : PosixTimer → Call → Reply
-posix_answer t (calls.Settime flags value interval reading arm) = replies.Settime (posix_settime_answer t reading arm)
+posix_answer t (calls.Settime c) = replies.Settime (posix_settime_answer t c.reading c.arm)
 posix_answer t (calls.Trigger generation reading) = replies.Trigger (trigger_answer t.phase generation reading)
 posix_answer t (calls.Accept reading arm) =
     replies.Accept (if t.pending then acceptances.Accepted (overrun_of (periods_in t.phase t.interval reading)) else acceptances.NoSignal)

@@ -6,7 +6,9 @@ pub use calls::{Call, Reply};
 pub use laws::{few_entries, one_more_entry};
 pub use posix_state::PosixState;
 pub use settime_arguments::{TIMER_ABSTIME, times_of};
-pub use timer_setting::{Arm, BadArgument, ObjectTimer, Phase, Setting, TriggerAnswer, Wanted};
+pub use timer_setting::{
+    Arm, BadArgument, ObjectTimer, Phase, SettimeCall, Setting, TriggerAnswer, Wanted,
+};
 
 mod answers;
 mod calls;

@@ -15,7 +15,9 @@ use crate::calls::{Call, Reply};
 use crate::settime_arguments::{TIMER_ABSTIME, times_of};
 use ktime::{ClockId, Reading, TimeSpec};
 use std::marker::Model;
-use timer_setting::{Arm, BadArgument, ObjectTimer, Phase, Setting, TriggerAnswer, Wanted};
+use timer_setting::{
+    Arm, BadArgument, ObjectTimer, Phase, SettimeCall, Setting, TriggerAnswer, Wanted,
+};
 
 /// The greatest overrun that is answered, `DELAYTIMER_MAX`.
 const MOST_OVERRUN: u64 = i32::MAX as u64;
@@ -94,7 +96,7 @@ impl PosixState {
         arm: Arm,
     ) -> SettimeAnswer
         requires outcome { IsOutcomeOf arm (posix_settime_wanted self.old flags value interval) }
-        ensures { IsAnswered posix_table (posix_settime_refusal self.old flags value interval) self.old (calls.Settime flags (time_of value) (time_of interval) reading arm) (replies.Settime result) self.new }
+        ensures { IsAnswered posix_table (posix_settime_refusal self.old flags value interval) self.old (calls.Settime (record { flags = flags; value = time_of value; interval = time_of interval; reading = reading; arm = arm })) (replies.Settime result) self.new }
     {
         let (value, interval) = match times_of(flags, value, interval) {
             Ok(times) => times,
@@ -106,7 +108,13 @@ impl PosixState {
                 stamp: self.timer.stamp,
             };
         }
-        self.set(flags, value, interval, reading, arm)
+        self.set(SettimeCall {
+            flags,
+            value,
+            interval,
+            reading,
+            arm,
+        })
     }
 
     /// How long until the next expiry, and the interval (`timer_gettime`). An armed timer whose expiry has come has 1 ns left.
@@ -168,13 +176,7 @@ impl PosixState {
         ensures reply { result ≡ posix_answer self.old call }
     {
         match call {
-            Call::Settime {
-                flags,
-                value,
-                interval,
-                reading,
-                arm,
-            } => Reply::Settime(self.set(flags, value, interval, reading, arm)),
+            Call::Settime(call) => Reply::Settime(self.set(call)),
             Call::Trigger {
                 generation,
                 reading,
@@ -184,26 +186,20 @@ impl PosixState {
     }
 
     /// Makes the entry of a settime.
-    fn set(
-        &mut self,
-        flags: u64,
-        value: u64,
-        interval: u64,
-        reading: Reading,
-        arm: Arm,
-    ) -> SettimeAnswer
+    fn set(&mut self, call: SettimeCall) -> SettimeAnswer
         requires room { self.old.stamp < self.old.limit }
-        requires value { value ≤ last_time }
-        requires interval { interval ≤ last_time }
-        ensures state { self.new ≡ posix_set self.old flags value interval reading arm }
-        ensures answer { result ≡ posix_settime_answer self.old reading arm }
+        requires value { call.value ≤ last_time }
+        requires interval { call.interval ≤ last_time }
+        ensures state { self.new ≡ posix_set self.old call }
+        ensures answer { result ≡ posix_settime_answer self.old call.reading call.arm }
     {
-        let old = self.gettime(reading);
-        self.timer.set(flags, value, reading, arm);
+        let old = self.gettime(call.reading);
+        self.timer
+            .set(call.flags, call.value, call.reading, call.arm);
         self.pending = false;
         self.overrun = 0;
-        self.timer.interval = interval_after(arm, interval);
-        match arm {
+        self.timer.interval = interval_after(call.arm, call.interval);
+        match call.arm {
             Arm::Unarmed(stamp) => SettimeAnswer::Unarmed { stamp },
             Arm::NotAsked | Arm::Armed(_) => SettimeAnswer::Old {
                 left: old.left,

@@ -2,8 +2,8 @@
 ghost use Rattle.std.specs.Prelude.{◌≡◌};
 
 use crate::{
-    AcceptAnswer, Arm, BadArgument, Call, Phase, PosixState, Reply, SettimeAnswer, Setting,
-    TriggerAnswer, Wanted, few_entries, one_more_entry, times_of,
+    AcceptAnswer, Arm, BadArgument, Call, Phase, PosixState, Reply, SettimeAnswer, SettimeCall,
+    Setting, TriggerAnswer, Wanted, few_entries, one_more_entry, times_of,
 };
 use ktime::{ClockId, Mode, Reading, TimeSpec};
 
@@ -27,14 +27,6 @@ fn wanted(mode: Mode, ns: u64) -> Option<Wanted> {
     Some(Wanted { mode, ns })
 }
 
-fn armed(generation: u64, clock: ClockId, expires: u64) -> Phase {
-    Phase::Armed {
-        generation,
-        clock,
-        expires,
-    }
-}
-
 #[test]
 fn a_new_timer_is_disarmed(rt: HostRuntime) {
     let timer = PosixState::make(ClockId::Realtime, 3, 100);
@@ -51,10 +43,15 @@ fn a_new_timer_is_disarmed(rt: HostRuntime) {
 #[test]
 fn periods_that_passed_before_the_acceptance_are_overruns(rt: HostRuntime) {
     let mut timer = PosixState::make(ClockId::Monotonic, 0, 100);
-    let start = timer.settime_wants(1, ns(100), ns(10), Reading::at(0));
-    assert_eq!(rt; start, wanted(Mode::Abs, 100));
-    let before = timer.settime(1, ns(100), ns(10), Reading::at(0), Arm::Armed(1));
-    assert_eq!(rt; before, old(0, 0));
+    let now = Reading::at(0);
+    assert_eq!(rt;
+        timer.settime_wants(1, ns(100), ns(10), now),
+        wanted(Mode::Abs, 100)
+    );
+    assert_eq!(rt;
+        timer.settime(1, ns(100), ns(10), now, Arm::Armed(1)),
+        old(0, 0)
+    );
     assert_eq!(rt; timer.trigger(1, Reading::at(100)), TriggerAnswer::Counted);
     let start = timer.accept_wants(Reading::at(135));
     assert_eq!(rt; start, wanted(Mode::Keep, 140));
@@ -82,7 +79,11 @@ fn the_overrun_stops_at_its_greatest_value(rt: HostRuntime) {
             overrun: 2_147_483_647
         }
     );
-    let phase = armed(2, ClockId::Monotonic, next);
+    let phase = Phase::Armed {
+        generation: 2,
+        clock: ClockId::Monotonic,
+        expires: next,
+    };
     assert_eq!(rt; timer.timer().phase, phase);
 }
 
@@ -136,16 +137,20 @@ fn a_relative_time_of_day_is_kept_on_the_monotonic_clock(rt: HostRuntime) {
         boot: 5,
         changes: 1,
     };
-    let call = Call::Settime {
+    let call = Call::Settime(SettimeCall {
         flags: 0,
         value: 1_000_000_010,
         interval: 7,
         reading,
         arm: Arm::Armed(1),
-    };
+    });
     let reply = timer.apply(call);
     assert_eq!(rt; reply, Reply::Settime(old(0, 0)));
-    let phase = armed(1, ClockId::Monotonic, 1_000_000_015);
+    let phase = Phase::Armed {
+        generation: 1,
+        clock: ClockId::Monotonic,
+        expires: 1_000_000_015,
+    };
     assert_eq!(rt; timer.timer().phase, phase);
     let reply = timer.apply(Call::Trigger {
         generation: 1,

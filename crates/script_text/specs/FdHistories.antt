@@ -47,7 +47,13 @@ read_answer_of reads.Canceled = read_answers.Canceled
 abbrev pub fd_entry : List ClockLine → ObjectEntry → Option (AnsweredCall Call Reply)
 fd_entry clock (entries.Settime flags value interval reading arm reply) =
     Some (record {
-      call = calls.Settime flags value interval (reading_at clock reading) (fd_arm arm (refused_at reply));
+      call = calls.Settime (record {
+        flags = flags;
+        value = value;
+        interval = interval;
+        reading = reading_at clock reading;
+        arm = fd_arm arm (refused_at reply);
+      });
       reply = replies.Settime (fd_set_answer reply);
     })
 fd_entry clock (entries.Trigger generation reading counted) =

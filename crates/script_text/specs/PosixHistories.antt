@@ -51,7 +51,13 @@ abbrev pub posix_entry : List ClockLine → ObjectEntry → Option (AnsweredCall
 posix_entry clock (entries.Settime flags value interval reading arm reply) =
     option_map
     (λ answer. record {
-      call = calls.Settime flags value interval (reading_at clock reading) (posix_arm arm (refused_at reply));
+      call = calls.Settime (record {
+        flags = flags;
+        value = value;
+        interval = interval;
+        reading = reading_at clock reading;
+        arm = posix_arm arm (refused_at reply);
+      });
       reply = replies.Settime answer;
     })
     (posix_set_answer reply)

@@ -7,19 +7,19 @@ use Rattle.timer_fd.specs.States.{Descriptor}
 use Rattle.timer_fd.specs.Steps.{FdAllows, fd_step, fd_table}
 
 pub FdAllows-room : (t : Descriptor) (call : Call) → FdAllows t call → t.stamp < t.limit
-FdAllows-room t (calls.Settime flags value interval reading arm) allows = allows.0
+FdAllows-room t (calls.Settime c) allows = allows.0
 FdAllows-room t (calls.Trigger generation reading) allows = allows
 FdAllows-room t (calls.Read reading arm) allows = allows.0
 FdAllows-room t (calls.Gettime reading arm) allows = allows.0
 
 pub fd_step-stamp : (t : Descriptor) (call : Call) → (fd_step t call).stamp ≡ t.stamp + 1
-fd_step-stamp t (calls.Settime flags value interval reading arm) = refl
+fd_step-stamp t (calls.Settime c) = refl
 fd_step-stamp t (calls.Trigger generation reading) = grind arith
 fd_step-stamp t (calls.Read reading arm) = grind arith
 fd_step-stamp t (calls.Gettime reading arm) = refl
 
 pub fd_step-limit : (t : Descriptor) (call : Call) → (fd_step t call).limit ≡ t.limit
-fd_step-limit t (calls.Settime flags value interval reading arm) = refl
+fd_step-limit t (calls.Settime c) = refl
 fd_step-limit t (calls.Trigger generation reading) = grind arith
 fd_step-limit t (calls.Read reading arm) = grind arith
 fd_step-limit t (calls.Gettime reading arm) = refl

@@ -14,6 +14,7 @@ use Rattle.timer_setting.specs.Settimes.{start_wanted, trigger_answer}
 use Rattle.timer_setting.specs.StepTables.{StepTable, full_refusal, settime_refusal}
 use Rattle.timer_fd.specs.declared.answers.SettimeAnswer.{SettimeAnswer}
 use Rattle.timer_fd.specs.declared.answers.SettimeAnswer.TheVariants as settings
+use Rattle.timer_setting.specs.declared.settime_call.SettimeCall.{SettimeCall}
 use Rattle.timer_setting.specs.declared.trigger_answer.TriggerAnswer.TheVariants as triggers
 use Rattle.timer_fd.specs.declared.answers.ReadAnswer.{ReadAnswer}
 use Rattle.timer_fd.specs.declared.answers.ReadAnswer.TheVariants as reads
@@ -45,14 +46,14 @@ abbrev pub gettime_wanted : Descriptor → ClockReading → Option Wanted
 gettime_wanted t reading = if nat_lt t.stamp t.limit then next_start t.phase t.interval reading else None
 
 -- the descriptor after a settime
-abbrev pub fd_set : Descriptor → ℕ → ℕ → ℕ → ClockReading → Arm → Descriptor
-fd_set t flags value interval reading arm =
+abbrev pub fd_set : Descriptor → SettimeCall → Descriptor
+fd_set t c =
     record t {
-      interval = interval;
-      phase = phase_by t.clock flags value reading arm;
+      interval = c.interval;
+      phase = phase_by t.clock c.flags c.value c.reading c.arm;
       count = 0;
-      cancelable = is_cancelable t.clock flags;
-      seen = reading.changes;
+      cancelable = is_cancelable t.clock c.flags;
+      seen = c.reading.changes;
       stamp = t.stamp + 1;
     }
 
@@ -121,22 +122,22 @@ left_by (arms.Unarmed stamp) t reading = 0
 
 -- what a call needs
 abbrev pub FdAllows : Descriptor → Call → Type 0
-FdAllows t (calls.Settime flags value interval reading arm) =
-    (t.stamp < t.limit) × (bits_beyond fd_flags flags ≡ 0) × (value ≤ last_time) × (interval ≤ last_time) × IsOutcomeOf arm (start_by flags value)
+FdAllows t (calls.Settime c) =
+    (t.stamp < t.limit) × (bits_beyond fd_flags c.flags ≡ 0) × (c.value ≤ last_time) × (c.interval ≤ last_time) × IsOutcomeOf c.arm (start_by c.flags c.value)
 FdAllows t (calls.Trigger generation reading) = t.stamp < t.limit
 FdAllows t (calls.Read reading arm) = (t.stamp < t.limit) × IsOutcomeOf arm (next_to_read t reading)
 FdAllows t (calls.Gettime reading arm) = (t.stamp < t.limit) × IsOutcomeOf arm (next_start t.phase t.interval reading)
 
 -- the descriptor after a call
 abbrev pub fd_step : Descriptor → Call → Descriptor
-fd_step t (calls.Settime flags value interval reading arm) = fd_set t flags value interval reading arm
+fd_step t (calls.Settime c) = fd_set t c
 fd_step t (calls.Trigger generation reading) = fd_triggered t generation reading
 fd_step t (calls.Read reading arm) = fd_read t reading arm
 fd_step t (calls.Gettime reading arm) = fd_got t reading arm
 
 -- what a call answers
 abbrev pub fd_answer : Descriptor → Call → Reply
-fd_answer t (calls.Settime flags value interval reading arm) = replies.Settime (fd_settime_answer t flags value reading arm)
+fd_answer t (calls.Settime c) = replies.Settime (fd_settime_answer t c.flags c.value c.reading c.arm)
 fd_answer t (calls.Trigger generation reading) = replies.Trigger (trigger_answer t.phase generation reading)
 fd_answer t (calls.Read reading arm) = replies.Read (fd_read_answer t reading)
 fd_answer t (calls.Gettime reading arm) = replies.Gettime (lefts.Left (left_by arm t reading) t.interval)

@@ -1,30 +1,15 @@
 //! The calls that make an entry in a descriptor's history.
 use crate::answers::{GettimeAnswer, ReadAnswer, SettimeAnswer};
 use ktime::Reading;
-use timer_setting::{Arm, TriggerAnswer};
+use timer_setting::{Arm, SettimeCall, TriggerAnswer};
 
 /// A call that makes an entry in an object's history. A value and an interval are in nanoseconds.
 #[derive(Clone, Copy, Debug, PartialEq, Eq)]
 pub enum Call {
-    Settime {
-        flags: u64,
-        value: u64,
-        interval: u64,
-        reading: Reading,
-        arm: Arm,
-    },
-    Trigger {
-        generation: u64,
-        reading: Reading,
-    },
-    Read {
-        reading: Reading,
-        arm: Arm,
-    },
-    Gettime {
-        reading: Reading,
-        arm: Arm,
-    },
+    Settime(SettimeCall),
+    Trigger { generation: u64, reading: Reading },
+    Read { reading: Reading, arm: Arm },
+    Gettime { reading: Reading, arm: Arm },
 }
 
 /// What such a call answers.

@@ -15,7 +15,7 @@ use crate::calls::{Call, Reply};
 use crate::settime_arguments::{cancels_on_set, times_of, unknown_flags};
 use ktime::{ClockId, Reading, TimeSpec};
 use std::marker::Model;
-use timer_setting::{Arm, BadArgument, ObjectTimer, Phase, TriggerAnswer, Wanted};
+use timer_setting::{Arm, BadArgument, ObjectTimer, Phase, SettimeCall, TriggerAnswer, Wanted};
 
 /// The length in bytes of the buffer that a read needs.
 const COUNT_LENGTH: u64 = 8;
@@ -97,7 +97,7 @@ impl FdState {
         arm: Arm,
     ) -> SettimeAnswer
         requires outcome { IsOutcomeOf arm (fd_settime_wanted self.old flags value interval) }
-        ensures { IsAnswered fd_table (fd_settime_refusal self.old flags value interval) self.old (calls.Settime flags (time_of value) (time_of interval) reading arm) (replies.Settime result) self.new }
+        ensures { IsAnswered fd_table (fd_settime_refusal self.old flags value interval) self.old (calls.Settime (record { flags = flags; value = time_of value; interval = time_of interval; reading = reading; arm = arm })) (replies.Settime result) self.new }
     {
         let (value, interval) = match times_of(flags, value, interval) {
             Ok(times) => times,
@@ -109,7 +109,13 @@ impl FdState {
                 stamp: self.timer.stamp,
             };
         }
-        self.set(flags, value, interval, reading, arm)
+        self.set(SettimeCall {
+            flags,
+            value,
+            interval,
+            reading,
+            arm,
+        })
     }
 
     /// The high-resolution timer's function runs for this generation (`timerfd_tmrproc`).
@@ -190,13 +196,7 @@ impl FdState {
         ensures reply { result ≡ fd_answer self.old call }
     {
         match call {
-            Call::Settime {
-                flags,
-                value,
-                interval,
-                reading,
-                arm,
-            } => Reply::Settime(self.set(flags, value, interval, reading, arm)),
+            Call::Settime(call) => Reply::Settime(self.set(call)),
             Call::Trigger {
                 generation,
                 reading,
@@ -214,33 +214,27 @@ impl FdState {
     }
 
     /// Makes the entry of a settime.
-    fn set(
-        &mut self,
-        flags: u64,
-        value: u64,
-        interval: u64,
-        reading: Reading,
-        arm: Arm,
-    ) -> SettimeAnswer
+    fn set(&mut self, call: SettimeCall) -> SettimeAnswer
         requires room { self.old.stamp < self.old.limit }
-        requires value { value ≤ last_time }
-        requires interval { interval ≤ last_time }
-        ensures state { self.new ≡ fd_set self.old flags value interval reading arm }
-        ensures answer { result ≡ fd_settime_answer self.old flags value reading arm }
+        requires value { call.value ≤ last_time }
+        requires interval { call.interval ≤ last_time }
+        ensures state { self.new ≡ fd_set self.old call }
+        ensures answer { result ≡ fd_settime_answer self.old call.flags call.value call.reading call.arm }
         ensures unspent { (stamp : ℕ) → result ≡ SettimeAnswer.Spent stamp → ⊥ }
     {
-        let left = self.timer.left(OVERDUE, reading);
+        let left = self.timer.left(OVERDUE, call.reading);
         let old_interval = self.timer.interval;
-        let was_canceled = self.is_canceled(reading);
-        self.timer.set(flags, value, reading, arm);
-        self.timer.interval = interval;
+        let was_canceled = self.is_canceled(call.reading);
+        self.timer
+            .set(call.flags, call.value, call.reading, call.arm);
+        self.timer.interval = call.interval;
         self.count = 0;
-        self.cancelable = cancels_on_set(self.timer.clock, flags);
-        self.seen = reading.changes;
-        if let Arm::Unarmed(stamp) = arm {
+        self.cancelable = cancels_on_set(self.timer.clock, call.flags);
+        self.seen = call.reading.changes;
+        if let Arm::Unarmed(stamp) = call.arm {
             return SettimeAnswer::Unarmed { stamp };
         }
-        if was_canceled && self.cancelable && value != 0 {
+        if was_canceled && self.cancelable && call.value != 0 {
             return SettimeAnswer::Canceled;
         }
         SettimeAnswer::Old {

@@ -6,7 +6,7 @@ pub use calls::{Call, Reply};
 pub use fd_state::FdState;
 pub use laws::{few_entries, one_more_entry};
 pub use settime_arguments::{TFD_TIMER_ABSTIME, TFD_TIMER_CANCEL_ON_SET, times_of};
-pub use timer_setting::{Arm, BadArgument, ObjectTimer, Phase, TriggerAnswer, Wanted};
+pub use timer_setting::{Arm, BadArgument, ObjectTimer, Phase, SettimeCall, TriggerAnswer, Wanted};
 
 mod answers;
 mod calls;

@@ -4,7 +4,7 @@ ghost use Rattle.ktime.specs.Readings.{latest};
 
 use crate::{
     Arm, BadArgument, Call, FdState, GettimeAnswer, Phase, ReadAnswer, Reply, SettimeAnswer,
-    TriggerAnswer, Wanted, few_entries, one_more_entry, times_of,
+    SettimeCall, TriggerAnswer, Wanted, few_entries, one_more_entry, times_of,
 };
 use ktime::{ClockId, Mode, Reading, TimeSpec};
 
@@ -182,13 +182,13 @@ fn a_spent_descriptor_refuses_all_but_a_look(rt: HostRuntime) {
         times_of(4, ns(1_000_000_000), ns(0)),
         Err(BadArgument::Flags)
     );
-    let call = Call::Settime {
+    let call = Call::Settime(SettimeCall {
         flags: 1,
         value: 100,
         interval: 0,
         reading: Reading::at(0),
         arm: Arm::Armed(1),
-    };
+    });
     assert_eq!(rt; descriptor.apply(call), Reply::Settime(old(0, 0)));
     let reply = descriptor.apply(Call::Trigger {
         generation: 1,
@@ -208,13 +208,13 @@ fn a_spent_descriptor_refuses_all_but_a_look(rt: HostRuntime) {
 #[test]
 fn entries_are_made_by_calls(rt: HostRuntime) {
     let mut descriptor = FdState::make(ClockId::Monotonic, 0, 10);
-    let call = Call::Settime {
+    let call = Call::Settime(SettimeCall {
         flags: 1,
         value: 100,
         interval: 0,
         reading: Reading::at(0),
         arm: Arm::Unarmed(9),
-    };
+    });
     let unarmed = SettimeAnswer::Unarmed { stamp: 9 };
     assert_eq!(rt; descriptor.apply(call), Reply::Settime(unarmed));
     let reply = descriptor.apply(Call::Read {

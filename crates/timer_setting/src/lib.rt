@@ -6,6 +6,7 @@ pub use arguments::{ABSTIME, BadArgument, times_of};
 pub use arming::{Arm, Wanted};
 pub use object_timer::ObjectTimer;
 pub use phase::{Phase, phase_after};
+pub use settime_call::SettimeCall;
 pub use setting::Setting;
 pub use trigger_answer::TriggerAnswer;
 
@@ -13,6 +14,7 @@ mod arguments;
 mod arming;
 mod object_timer;
 mod phase;
+mod settime_call;
 mod setting;
 #[cfg(test)]
 mod tests;
