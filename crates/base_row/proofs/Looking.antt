@@ -158,8 +158,8 @@ module _ (bases : ℕ) (opened : List Timer) (code : Timer → ℕ) where
         × MatchBool hit (TookBase bases opened code b (m + 1) (m + m + 1) (v, []) (w, carried_after [] a))
         (FoundTaken bases opened code b (m + m) (v, []) (slice_index s.words (lock_at b)) (w, carried_after [] a))
 
-    told : (log : List TimerEntry) (s : State (Option BaseContent) (BaseView BaseContent)) → RowHolds bases opened code log s
-        → get_elem? s.views id ≡ some v → (hit : Bool) → eqb (slice_index s.words (lock_at b)) (m + m) ≡ hit → Told hit s
+    told : (log : List TimerEntry) (s : State (Option BaseContent) (BaseView BaseContent))
+        → RowHolds bases opened code log s → get_elem? s.views id ≡ some v → (hit : Bool) → eqb (slice_index s.words (lock_at b)) (m + m) ≡ hit → Told hit s
     told log s home at false miss =
         let fits = home.each_view id v at in
         let l = meets_at slots id v [] live log s home at b inside idle in

@@ -64,6 +64,12 @@ pub record TellsRunning (o : Opening) (v : BaseView BaseContent) (h : HeldConten
   pub busy : IfSome r (λ m. running_on h.base (timer_seen o v m.0) ≡ Some m.1)
   pub idle : IfNone r ((t : ℕ) → runs_on h.base (timer_seen o v t) ≡ false)
 
+-- where a base's mark names no run, no function runs there
+pub none_runs : (r : Option ℕ) (b : Bool) → (if b then r else None) ≡ None → (is_some r && b) ≡ false
+none_runs None b e = refl
+none_runs (Some g) true e = absurd (cc)
+none_runs (Some g) false e = refl
+
 -- what the packing of a timer needs of it
 record IsWithin (t : Timer) : Type 0 where
   left : HasLeft t
@@ -138,14 +144,9 @@ module _ (o : Opening) (v : BaseView BaseContent) (fresh : AreFresh o.timers) (k
     pub tells_running : (r : Option (ℕ × ℕ)) → r ≡ h.content.content.running → TellsRunning o v h r
     tells_running None is = record {
       busy = tt;
-      idle = λ t. idle (timer_seen o v t).running (nat_eq (timer_seen o v t).base h.base)
+      idle = λ t. none_runs (timer_seen o v t).running (nat_eq (timer_seen o v t).base h.base)
           (sym (content_held.running t) ∙ ap (generation_in t) (sym is));
     }
-      where
-        idle : (r : Option ℕ) (b : Bool) → (if b then r else None) ≡ None → (is_some r && b) ≡ false
-        idle None b e = refl
-        idle (Some g) true e = absurd (cc)
-        idle (Some g) false e = refl
     tells_running (Some m) is =
         record { busy = sym (content_held.running m.0) ∙ (ap (generation_in m.0) (sym is) ∙ named_here m); idle = tt }
       where

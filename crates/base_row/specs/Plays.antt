@@ -151,7 +151,7 @@ abbrev pub SameElsewhere : ℕ → BaseView BaseContent → BaseView BaseContent
 SameElsewhere base v w = (c : ℕ) → c ≢ base → slice_index w.met c ≡ slice_index v.met c
 
 -- and this base's is known to be no older
-abbrev pub NoOlder : ℕ → BaseView BaseContent → BaseView BaseContent → Type 0
+abbrev pub NoOlder : (base : ℕ) (v w : BaseView BaseContent) → Type 0
 NoOlder base v w = slice_index v.met base ≤ slice_index w.met base
 
 -- a take of the base by another pass came between

@@ -251,25 +251,14 @@ impl BaseRow {
         ensures word { result ≡ word_of (timer_seen self.now.about pass.new.knows timer) }
         ensures placed { result.base < self.now.about.bases }
     {
-        let number = self.load_number(pass, timer);
+        let index = self.word_index(timer);
+        let number = look(&self.table.shared, &mut pass.seat, index);
         pass.known();
         self.fresh();
         match TimerWord::unpack(number) {
             Some(word) => word,
             None => unreachable!(),
         }
-    }
-
-    fn load_number(&self, pass: &mut Pass, timer: u32) -> u64
-        requires row { IsBasePassOf self.now pass.old }
-        requires within { timer < length self.now.about.timers }
-        ensures row { IsBasePassOf self.now pass.new }
-        ensures sees { SeesFurther pass.old.knows pass.new.knows }
-        ensures steady { Steady pass.old.knows pass.new.knows }
-        ensures word { result ≡ number_of (timer_seen self.now.about pass.new.knows timer) }
-    {
-        let word = self.word_index(timer);
-        look(&self.table.shared, &mut pass.seat, word)
     }
 
     /// The timer whose function runs on a held base, with its generation.
