@@ -1,5 +1,5 @@
--- The last pass has as many places as there are writes.
-use Rattle.std.proofs.Common.{◌≡◌, ◌≢◌, ℕ, zero, suc, [], ◌∷◌, length, refl, ap, sym, ◌∙◌, arith}
+-- How many writes passes have made, and that the last pass has made them all.
+use Rattle.std.proofs.Common.{◌≡◌, ◌≢◌, ◌+◌, ℕ, zero, suc, [], ◌∷◌, length, refl, ap, sym, ◌∙◌, length-append, arith}
 use Rattle.std.proofs.lemmas.Bool.Decides.{nat_tests}
 use Rattle.clock_model.specs.declared.write.Write.{Write}
 use Rattle.pass_names.specs.Counts.{one_if}
@@ -7,9 +7,16 @@ use Rattle.pass_names.specs.Names.{IsLast}
 use Rattle.pass_names.specs.Passes.{entries, within}
 use Rattle.pass_names.proofs.Passes.{places_of_one}
 use Rattle.clock_cell.specs.declared.view.ClockView.{ClockView}
-use Rattle.clock_cell.specs.Views.{KnowsClock, writes}
+use Rattle.clock_cell.specs.Views.{KnowsClock, writes, joined_clock_view}
 
-pub all_made : (v : ClockView) → KnowsClock v → IsLast v.pass.id → length (writes v) ≡ length v.pass.mine
+-- how many writes a pass has made
+abbrev pub made : ClockView → ℕ
+made v = length v.pass.mine
+
+pub made_joined : (v w : ClockView) {joined : ClockView} → joined ≡ joined_clock_view v w → made joined ≡ made v + made w
+made_joined v w e = ap made e ∙ length-append v.pass.mine w.pass.mine
+
+pub all_made : (v : ClockView) → KnowsClock v → IsLast v.pass.id → length (writes v) ≡ made v
 all_made v knows last =
     let each = knows.all_entries last in
     sym (places_of_one 0 (length (writes v)) v.pass.mine (λ k. each.once 0 k)

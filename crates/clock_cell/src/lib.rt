@@ -12,5 +12,5 @@ mod view;
 mod words;
 
 pub use pass::ClockPass;
-pub use shared::SharedClock;
+pub use shared::{SharedClock, WriteAnswer};
 pub use view::ClockView;

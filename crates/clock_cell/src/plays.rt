@@ -51,12 +51,34 @@ impl<K: Asked> Outcome<[u64; 5], ClockView> for Enter<K> {
 /// A pass is split off, or taken in.
 pub struct Child;
 
+/// A note of what a pass has seen is made, or taken in.
+pub struct Note;
+
+/// A pass moves to a new seat.
+pub struct Whole;
+
 impl Split<ClockView> for Child {
     ghost use Rattle.clock_cell.specs.Views.{split_clock_view, new_clock_view};
 
     ghost left = { split_clock_view };
 
     ghost right = { new_clock_view };
+}
+
+impl Split<ClockView> for Whole {
+    ghost use Rattle.clock_cell.specs.Plays.{gone_clock_view};
+
+    ghost left = { λ _. gone_clock_view };
+
+    ghost right = { λ v. v };
+}
+
+impl Split<ClockView> for Note {
+    ghost use Rattle.clock_cell.specs.Plays.{clock_note_of};
+
+    ghost left = { λ v. v };
+
+    ghost right = { clock_note_of };
 }
 
 impl Join<ClockView> for Child {
@@ -68,17 +90,6 @@ impl Join<ClockView> for Child {
     ghost spent = { gone_clock_view };
 }
 
-/// A note of what a pass has seen is made, or taken in.
-pub struct Note;
-
-impl Split<ClockView> for Note {
-    ghost use Rattle.clock_cell.specs.Plays.{clock_note_of};
-
-    ghost left = { λ v. v };
-
-    ghost right = { clock_note_of };
-}
-
 impl Join<ClockView> for Note {
     ghost use Rattle.clock_cell.specs.Views.{told_clock_view};
     ghost use Rattle.clock_cell.specs.Plays.{gone_clock_view};
@@ -86,15 +97,4 @@ impl Join<ClockView> for Note {
     ghost both = { told_clock_view };
 
     ghost spent = { gone_clock_view };
-}
-
-/// A pass moves to a new seat.
-pub struct Whole;
-
-impl Split<ClockView> for Whole {
-    ghost use Rattle.clock_cell.specs.Plays.{gone_clock_view};
-
-    ghost left = { λ _. gone_clock_view };
-
-    ghost right = { λ v. v };
 }

@@ -17,6 +17,9 @@ use std::alloc::{AllocError, Global};
 use std::marker::{Brand, Model};
 use std::sync::Wait;
 
+/// What a write answers: the clock after it, or why it was refused.
+pub type WriteAnswer = Result<Reading, ClockFault>;
+
 /// What one turn of a write came to.
 enum Turn {
     Made(Reading),
@@ -65,57 +68,10 @@ impl SharedClock {
         reading_in(&look(rt, &self.cell, &mut pass.seat))
     }
 
-    /// Time passes, in nanoseconds.
-    pub fn advance<R: Wait>(
-        &self,
-        rt: &R,
-        pass: &mut ClockPass,
-        by: u64,
-    ) -> Result<Reading, ClockFault>
-        requires pass { IsPassOfClock self.now pass.old }
-        ensures pass { IsPassOfClock self.now pass.new }
-        ensures answers { AnswersWrite (Advance by) pass.old.knows pass.new.knows result }
-    {
-        self.write(rt, pass, Write::Advance { by })
-    }
-
-    /// Sets the time of day, in nanoseconds, as `clock_settime(2)` does.
-    pub fn set_real<R: Wait>(
-        &self,
-        rt: &R,
-        pass: &mut ClockPass,
-        to: u64,
-    ) -> Result<Reading, ClockFault>
-        requires pass { IsPassOfClock self.now pass.old }
-        ensures pass { IsPassOfClock self.now pass.new }
-        ensures answers { AnswersWrite (Set to) pass.old.knows pass.new.knows result }
-    {
-        self.write(rt, pass, Write::Set { to })
-    }
-
-    /// The machine sleeps, for so many nanoseconds.
-    pub fn suspend<R: Wait>(
-        &self,
-        rt: &R,
-        pass: &mut ClockPass,
-        by: u64,
-    ) -> Result<Reading, ClockFault>
-        requires pass { IsPassOfClock self.now pass.old }
-        ensures pass { IsPassOfClock self.now pass.new }
-        ensures answers { AnswersWrite (Suspend by) pass.old.knows pass.new.knows result }
-    {
-        self.write(rt, pass, Write::Suspend { by })
-    }
-
     /// Makes one write, or refuses it as `Clock::write` does. It loads the clock and exchanges it for
     /// the one after the write, and begins anew where another write came between. That can be as often
     /// as the clock takes writes.
-    pub fn write<R: Wait>(
-        &self,
-        rt: &R,
-        pass: &mut ClockPass,
-        write: Write,
-    ) -> Result<Reading, ClockFault>
+    pub fn write<R: Wait>(&self, rt: &R, pass: &mut ClockPass, write: Write) -> WriteAnswer
         requires pass { IsPassOfClock self.now pass.old }
         ensures pass { IsPassOfClock self.now pass.new }
         ensures answers { AnswersWrite write pass.old.knows pass.new.knows result }
@@ -127,6 +83,33 @@ impl SharedClock {
                 Turn::Again => {}
             }
         }
+    }
+
+    /// Time passes, in nanoseconds.
+    pub fn advance<R: Wait>(&self, rt: &R, pass: &mut ClockPass, by: u64) -> WriteAnswer
+        requires pass { IsPassOfClock self.now pass.old }
+        ensures pass { IsPassOfClock self.now pass.new }
+        ensures answers { AnswersWrite (Advance by) pass.old.knows pass.new.knows result }
+    {
+        self.write(rt, pass, Write::Advance { by })
+    }
+
+    /// Sets the time of day, in nanoseconds, as `clock_settime(2)` does.
+    pub fn set_real<R: Wait>(&self, rt: &R, pass: &mut ClockPass, to: u64) -> WriteAnswer
+        requires pass { IsPassOfClock self.now pass.old }
+        ensures pass { IsPassOfClock self.now pass.new }
+        ensures answers { AnswersWrite (Set to) pass.old.knows pass.new.knows result }
+    {
+        self.write(rt, pass, Write::Set { to })
+    }
+
+    /// The machine sleeps, for so many nanoseconds.
+    pub fn suspend<R: Wait>(&self, rt: &R, pass: &mut ClockPass, by: u64) -> WriteAnswer
+        requires pass { IsPassOfClock self.now pass.old }
+        ensures pass { IsPassOfClock self.now pass.new }
+        ensures answers { AnswersWrite (Suspend by) pass.old.knows pass.new.knows result }
+    {
+        self.write(rt, pass, Write::Suspend { by })
     }
 
     /// One turn of a write: a load of the clock, and an exchange for the clock after the write.

@@ -124,10 +124,12 @@ fn a_write_past_the_latest_time_is_refused(rt: HostRuntime) -> Result<(), Fail> 
 #[test]
 fn each_write_is_made_once(rt: HostRuntime) -> Result<(), Fail> {
     let (clock, mut pass) = SharedClock::make(rt.alloc())?;
-    let advanced = clock.advance(&rt, &mut pass, 5);
-    let slept = clock.suspend(&rt, &mut pass, 50);
-    let set = clock.set_real(&rt, &mut pass, 7);
-    let again = clock.set_real(&rt, &mut pass, 7);
+    let answers = [
+        clock.advance(&rt, &mut pass, 5),
+        clock.suspend(&rt, &mut pass, 50),
+        clock.set_real(&rt, &mut pass, 7),
+        clock.set_real(&rt, &mut pass, 7),
+    ];
     let reading = clock.read(&rt, &mut pass);
     clock.close(pass);
     let now = Reading {
@@ -138,7 +140,7 @@ fn each_write_is_made_once(rt: HostRuntime) -> Result<(), Fail> {
         changes: 2,
     };
     assert_eq!(rt; reading, now);
-    let stamps = [advanced, slept, set, again].map(|r| r.map(|r| r.stamp));
+    let stamps = answers.map(|answer| answer.map(|r| r.stamp));
     assert_eq!(rt; stamps, [Ok(1), Ok(2), Ok(3), Ok(4)]);
     Ok(())
 }

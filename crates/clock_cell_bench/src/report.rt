@@ -1,5 +1,5 @@
 //! Which cases there are, and the line that is printed for each.
-use crate::turns::{Done, Load, run_one, run_two};
+use crate::turns::{self, Done, Load};
 use std::alloc::{AllocError, Global};
 use std::io;
 use std::sync::Wait;
@@ -53,8 +53,8 @@ impl Case {
             ..load
         };
         match self.readers {
-            Readers::One => run_one(rt, alloc, load),
-            Readers::Two => run_two(rt, alloc, load),
+            Readers::One => turns::one(rt, alloc, load),
+            Readers::Two => turns::two(rt, alloc, load),
         }
     }
 }

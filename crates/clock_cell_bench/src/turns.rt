@@ -1,5 +1,6 @@
 //! What the threads do: one or two read a new clock, and one writes.
 ghost use Rattle.std.specs.Prelude.{◌≡◌, ◌+◌, ◌≤◌, length, IfOk};
+ghost use Rattle.pass_names.specs.Names.{IsLast};
 ghost use Rattle.clock_cell.specs.Views.{IsPassOfClock};
 ghost use Rattle.clock_cell_bench.specs.Turns.{Read, Written};
 
@@ -144,12 +145,20 @@ fn two_beside<R: Threads + Wait + Sync>(
     made
 }
 
+/// Ends the clock with its last pass, which has made all writes.
+fn ended<R: Wait>(rt: &R, clock: SharedClock, mut pass: ClockPass, made: u64) -> Done
+    requires pass { IsPassOfClock clock pass }
+    requires last { IsLast pass.knows.pass.id }
+    requires made { length pass.knows.pass.mine ≡ made }
+    ensures { result ≡ record { made = made; stamp = made } }
+{
+    let stamp = clock.read(rt, &mut pass).stamp;
+    clock.close(pass);
+    Done { made, stamp }
+}
+
 /// One thread reads a new clock, and another writes.
-pub fn run_one<R: Threads + Wait + Sync>(
-    rt: &R,
-    alloc: Global,
-    load: Load,
-) -> Result<Done, AllocError>
+pub fn one<R: Threads + Wait + Sync>(rt: &R, alloc: Global, load: Load) -> Result<Done, AllocError>
     ensures made { IfOk result (λ d. d.stamp ≡ d.made) }
     ensures most { IfOk result (λ d. d.made ≤ load.writes) }
 {
@@ -157,17 +166,11 @@ pub fn run_one<R: Threads + Wait + Sync>(
     let mut writer = clock.split(&mut reader);
     let made = one_beside(rt, &clock, &mut reader, &mut writer, load);
     clock.join(&mut reader, writer);
-    let stamp = clock.read(rt, &mut reader).stamp;
-    clock.close(reader);
-    Ok(Done { made, stamp })
+    Ok(ended(rt, clock, reader, made))
 }
 
 /// Two threads read a new clock, and a third writes.
-pub fn run_two<R: Threads + Wait + Sync>(
-    rt: &R,
-    alloc: Global,
-    load: Load,
-) -> Result<Done, AllocError>
+pub fn two<R: Threads + Wait + Sync>(rt: &R, alloc: Global, load: Load) -> Result<Done, AllocError>
     ensures made { IfOk result (λ d. d.stamp ≡ d.made) }
     ensures most { IfOk result (λ d. d.made ≤ load.writes) }
 {
@@ -177,7 +180,5 @@ pub fn run_two<R: Threads + Wait + Sync>(
     let made = two_beside(rt, &clock, &mut first, &mut second, &mut writer, load);
     clock.join(&mut first, second);
     clock.join(&mut first, writer);
-    let stamp = clock.read(rt, &mut first).stamp;
-    clock.close(first);
-    Ok(Done { made, stamp })
+    Ok(ended(rt, clock, first, made))
 }

@@ -1,25 +1,11 @@
-use Rattle.std.proofs.Common.{◌∙◌, length, ap, length-append, rules, arith}
-use Rattle.pass_names.specs.Names.{IsLast}
-use Rattle.clock_cell.specs.declared.view.ClockView.{ClockView}
-use Rattle.clock_cell.proofs.Counting.{all_made}
-use Rattle.clock_cell_bench.proofs.turns.run_one.Goals as goal
+use Rattle.std.proofs.Common.{length, ap, arith}
+use Rattle.clock_cell.proofs.Counting.{made, made_joined}
+use Rattle.clock_cell_bench.proofs.turns.one.Goals as goal
 
-pub returns-clause-made : goal.returns-clause-made
-returns-clause-made g c =
-    let read = c.read.ensures in
+pub ended-requires-clause-made : goal.ended-requires-clause-made
+ended-requires-clause-made g c =
     let both = c.one_beside-made in
-    let last : IsLast c.read.new.pass.knows.pass.id = search rules in
-    ap (λ r. r.stamp) c.stamp.view_is
-    ∙ omega (
-      arith,
-      read.count,
-      all_made c.read.new.pass.knows read.known last,
-      ap length read.looks.mine,
-      ap (λ (v : ClockView). length v.pass.mine) c.join.ensures.joined,
-      length-append both.new.reader.knows.pass.mine both.new.writer.knows.pass.mine,
-      ap length both.ensures.read.mine,
-      both.ensures.written.mine,
-      ap (λ (v : ClockView). length v.pass.mine) c.split-writer.ensures.splitter,
-      ap (λ (v : ClockView). length v.pass.mine) c.split-writer.ensures.new,
-      ap (λ (v : ClockView). length v.pass.mine) c.in_ok-clock.ensures.first,
-    )
+    let split = c.split-writer.ensures in
+    let joined = made_joined both.new.reader.knows both.new.writer.knows c.join.ensures.joined in
+    let begun = ap made c.in_ok-clock.ensures.first in
+    omega (arith, joined, ap length both.ensures.read.mine, both.ensures.written.mine, ap made split.splitter, ap made split.new, begun)

@@ -1,30 +1,26 @@
-use Rattle.std.proofs.Common.{◌∙◌, length, ap, length-append, rules, arith}
-use Rattle.pass_names.specs.Names.{IsLast}
-use Rattle.clock_cell.specs.declared.view.ClockView.{ClockView}
-use Rattle.clock_cell.proofs.Counting.{all_made}
-use Rattle.clock_cell_bench.proofs.turns.run_two.Goals as goal
+use Rattle.std.proofs.Common.{length, ap, arith}
+use Rattle.clock_cell.proofs.Counting.{made, made_joined}
+use Rattle.clock_cell_bench.proofs.turns.two.Goals as goal
 
-pub returns-clause-made : goal.returns-clause-made
-returns-clause-made g c =
-    let read = c.read.ensures in
+pub ended-requires-clause-made : goal.ended-requires-clause-made
+ended-requires-clause-made g c =
     let all = c.two_beside-made in
-    let last : IsLast c.read.new.pass.knows.pass.id = search rules in
-    ap (λ r. r.stamp) c.stamp.view_is
-    ∙ omega (
+    let second = c.split-second.ensures in
+    let writer = c.split-writer.ensures in
+    let read = all.ensures.read in
+    let both = made_joined all.new.first.knows all.new.second.knows c.join.ensures.joined in
+    let joined = made_joined c.join.new.main.knows all.new.writer.knows c.join-2.ensures.joined in
+    let begun = ap made c.in_ok-clock.ensures.first in
+    omega (
       arith,
-      read.count,
-      all_made c.read.new.pass.knows read.known last,
-      ap length read.looks.mine,
-      ap (λ (v : ClockView). length v.pass.mine) c.join.ensures.joined,
-      ap (λ (v : ClockView). length v.pass.mine) c.join-2.ensures.joined,
-      length-append all.new.first.knows.pass.mine all.new.second.knows.pass.mine,
-      length-append c.join.new.main.knows.pass.mine all.new.writer.knows.pass.mine,
-      ap length all.ensures.read.0.mine,
-      ap length all.ensures.read.1.mine,
+      both,
+      joined,
+      ap length read.0.mine,
+      ap length read.1.mine,
       all.ensures.written.mine,
-      ap (λ (v : ClockView). length v.pass.mine) c.split-second.ensures.splitter,
-      ap (λ (v : ClockView). length v.pass.mine) c.split-second.ensures.new,
-      ap (λ (v : ClockView). length v.pass.mine) c.split-writer.ensures.splitter,
-      ap (λ (v : ClockView). length v.pass.mine) c.split-writer.ensures.new,
-      ap (λ (v : ClockView). length v.pass.mine) c.in_ok-clock.ensures.first,
+      ap made second.splitter,
+      ap made second.new,
+      ap made writer.splitter,
+      ap made writer.new,
+      begun,
     )
