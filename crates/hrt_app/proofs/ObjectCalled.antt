@@ -17,7 +17,7 @@ use Rattle.script_text.specs.Calls.{Does, IsSeen, IsTrueEntry}
 use Rattle.script_text.specs.Actions.{Action, Made, Tells, also, numbers_of_object, wrote}
 use Rattle.script_text.specs.Fits.{object_steps_on, steps_on}
 use Rattle.script_text.specs.Histories.{clock_of, lines_of_timer}
-use Rattle.script_text.specs.Objects.{armed_after, armed_in, fd_after, posix_after, kind_of, object_entries, lines_of_object, present}
+use Rattle.script_text.specs.Objects.{object_armed_after, armed_in_phase, fd_after, posix_after, kind_of, object_entries, lines_of_object, present}
 use Rattle.script_text.specs.PosixHistories as posix_lines
 use Rattle.script_text.specs.FdHistories as fd_lines
 use Rattle.script_text.specs.Order.{NeverFall}
@@ -87,12 +87,12 @@ fd_is s from below i now end t run e =
 -- how an object has armed its timer after the entries so far
 pub armed_is : (s : Script) (from below i : ℕ) (now end : RunRecord) (o : Object)
     → IsObjectRun s from below i now.clock (lines_of_object now i) o → Extends from now end
-    → armed_after s end i (length (lines_of_object now i)) (kind_of s i) ≡ object_armed o
-armed_is s from below i now end (Raw callback) run e = ap (armed_after s end i (length (lines_of_object now i))) run.made
-armed_is s from below i now end (Posix t) run e = ap (armed_after s end i (length (lines_of_object now i))) run.made.0
-    ∙ ap (λ (x : PosixTimer). armed_in x.phase) (posix_is s from below i now end t run e)
-armed_is s from below i now end (Fd t) run e = ap (armed_after s end i (length (lines_of_object now i))) run.made.0
-    ∙ ap (λ (x : Descriptor). armed_in x.phase) (fd_is s from below i now end t run e)
+    → object_armed_after s end i (length (lines_of_object now i)) (kind_of s i) ≡ object_armed o
+armed_is s from below i now end (Raw callback) run e = ap (object_armed_after s end i (length (lines_of_object now i))) run.made
+armed_is s from below i now end (Posix t) run e = ap (object_armed_after s end i (length (lines_of_object now i))) run.made.0
+    ∙ ap (λ (x : PosixTimer). armed_in_phase x.phase) (posix_is s from below i now end t run e)
+armed_is s from below i now end (Fd t) run e = ap (object_armed_after s end i (length (lines_of_object now i))) run.made.0
+    ∙ ap (λ (x : Descriptor). armed_in_phase x.phase) (fd_is s from below i now end t run e)
 
 -- a call that makes an entry of an object, after what it did to the object's timer
 pub object_turn : (s : Script) (number t : ℕ) (p q : Progress) (ds : List Action) (x : ObjectStep) (call : Call) (answer : Answer)

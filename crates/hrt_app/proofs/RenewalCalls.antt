@@ -27,7 +27,7 @@ use Rattle.record_text.specs.declared.record.Armed.TheVariants as armings
 use Rattle.record_text.specs.declared.record.ClockLine.{ClockLine}
 use Rattle.script_text.specs.Calls.{IsArmedLike}
 use Rattle.script_text.specs.Histories.{reading_at}
-use Rattle.script_text.specs.Objects.{ArmedAs, armed_in}
+use Rattle.script_text.specs.Objects.{ArmedAs, armed_in_phase}
 use Rattle.script_text.specs.PosixHistories as posix_lines
 use Rattle.script_text.specs.FdHistories as fd_lines
 use Rattle.hrt_app.specs.declared.objects.Object.{Object}
@@ -98,14 +98,14 @@ renewed_like q next t (Some w) (Some a) generation refused is made =
 
 posix_next : (phase : Phase) (interval generation : ℕ) (reading : ClockReading)
     → IsRenewed (option_map (λ (w : wanted.Wanted). (w.mode, w.ns)) (phased.next_start phase interval reading))
-    (armed_in (phased.rearmed phase interval reading (arms.Armed generation))) generation
+    (armed_in_phase (phased.rearmed phase interval reading (arms.Armed generation))) generation
 posix_next phases.Idle interval generation reading = tt
 posix_next (phases.Armed armed clock expires) interval generation reading = tt
 posix_next (phases.Expired clock expires) interval generation reading = (refl, omega arith, refl, refl)
 
 fd_next : (phase : Phase) (interval generation : ℕ) (reading : ClockReading)
     → IsRenewed (option_map (λ (w : wanted.Wanted). (w.mode, w.ns)) (phased.next_start phase interval reading))
-    (armed_in (phased.rearmed phase interval reading (arms.Armed generation))) generation
+    (armed_in_phase (phased.rearmed phase interval reading (arms.Armed generation))) generation
 fd_next phases.Idle interval generation reading = tt
 fd_next (phases.Armed armed clock expires) interval generation reading = tt
 fd_next (phases.Expired clock expires) interval generation reading = (refl, omega arith, refl, refl)
@@ -129,17 +129,17 @@ pub renewal_armed : (call : Renewal) (o : Object) (reading : ClockReading) (gene
     → IsRenewed (renewal_want call o reading) (object_armed (after_call o (renewal_call call reading (armings.Generation generation)))) generation
 renewal_armed renewals.Accept (Posix t) reading generation =
     accept_cases (λ w (x : PosixTimer). IsRenewed (option_map (λ (v : wanted.Wanted). (v.mode, v.ns)) w)
-    (armed_in x.phase) generation) t.pending _ (phased.next_start t.phase t.interval reading) _ _
+    (armed_in_phase x.phase) generation) t.pending _ (phased.next_start t.phase t.interval reading) _ _
     (posix_next t.phase t.interval generation reading) tt tt
 renewal_armed renewals.Read (Fd t) reading generation =
     either (λ w. IsRenewed (option_map (λ (v : wanted.Wanted). (v.mode, v.ns)) w)
-    (armed_in (fd.fd_read t reading (arms.Armed generation)).phase) generation) _ (fd.next_to_read t reading) None
+    (armed_in_phase (fd.fd_read t reading (arms.Armed generation)).phase) generation) _ (fd.next_to_read t reading) None
     (read_cases (λ w (x : Descriptor). IsRenewed (option_map (λ (v : wanted.Wanted). (v.mode, v.ns)) w)
-    (armed_in x.phase) generation) (is_canceled t reading) _ (phased.next_start t.phase t.interval reading) _ _ _
+    (armed_in_phase x.phase) generation) (is_canceled t reading) _ (phased.next_start t.phase t.interval reading) _ _ _
     tt tt (fd_next t.phase t.interval generation reading)) tt
 renewal_armed renewals.Gettime (Fd t) reading generation =
     either (λ w. IsRenewed (option_map (λ (v : wanted.Wanted). (v.mode, v.ns)) w)
-    (armed_in (phased.rearmed t.phase t.interval reading (arms.Armed generation))) generation) _ (phased.next_start t.phase t.interval reading) None
+    (armed_in_phase (phased.rearmed t.phase t.interval reading (arms.Armed generation))) generation) _ (phased.next_start t.phase t.interval reading) None
     (fd_next t.phase t.interval generation reading) tt
 renewal_armed call o reading generation = tt
 

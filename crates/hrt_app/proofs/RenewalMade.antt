@@ -26,7 +26,7 @@ use Rattle.script_text.specs.Fits.{object_steps_on, steps_on}
 use Rattle.script_text.specs.Histories.{lines_of_timer, reading_at, timer_after}
 use Rattle.script_text.specs.ObjectCalls.{DoesGettime, base_of}
 use Rattle.script_text.specs.ObjectCalls as object_calls
-use Rattle.script_text.specs.Objects.{armed_after, kind_of, lines_of_object}
+use Rattle.script_text.specs.Objects.{object_armed_after, kind_of, lines_of_object}
 use Rattle.script_text.specs.Order.{NeverFall}
 use Rattle.script_text.specs.ExpiryRuns.{IsRightExpiryRun}
 use Rattle.hrt_app.specs.declared.objects.Object.{Object}
@@ -139,8 +139,8 @@ renewal_told s number t q w ds o call reading (armings.Generation generation) re
     let some_object : t < length w.objects = subst (λ n. t < n) (sym run.declared) step.there in
     let some : t < length w.told.objects = subst (λ n. t < n) (sym run.object_lists) step.there in
     let state : timer_after s end t generation ≡ timer_at w.timers t = ap (timer_after s end t) so.0 ∙ run_next.states end e t step.there in
-    let armed_as : armed_after s end t (length (lines_of_object w.told t) + 1) (kind_of s t) ≡ object_armed (after_call o x.call) =
-    ap (λ n. armed_after s end t n (kind_of s t))
+    let armed_as : object_armed_after s end t (length (lines_of_object w.told t) + 1) (kind_of s t) ≡ object_armed (after_call o x.call) =
+    ap (λ n. object_armed_after s end t n (kind_of s t))
     (sym (ap length (get_or-set_same w.told.objects t
     (lines_of_object w.told t ++ object_line (on number) x.entry ∷ []) [] some)
     ∙ length-append (lines_of_object w.told t) (object_line (on number) x.entry ∷ [])))

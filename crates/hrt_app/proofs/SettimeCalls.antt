@@ -33,7 +33,7 @@ use Rattle.record_text.specs.declared.record.SettimeReply.{SettimeReply}
 use Rattle.record_text.specs.declared.record.SettimeReply.TheVariants as settings
 use Rattle.script_text.specs.Histories.{reading_at}
 use Rattle.script_text.specs.ObjectCalls.{AreValidFor, start_mode, nanoseconds_of}
-use Rattle.script_text.specs.Objects.{ArmedAs, armed_in}
+use Rattle.script_text.specs.Objects.{ArmedAs, armed_in_phase}
 use Rattle.script_text.specs.PosixHistories as posix_lines
 use Rattle.script_text.specs.FdHistories as fd_lines
 use Rattle.hrt_app.specs.declared.objects.Object.{Object}
@@ -184,8 +184,8 @@ clock_in (Fd t) = t.clock
 -- how an object has armed its timer
 abbrev pub object_armed : Object → Option ArmedAs
 object_armed (Raw callback) = None
-object_armed (Posix t) = armed_in t.phase
-object_armed (Fd t) = armed_in t.phase
+object_armed (Posix t) = armed_in_phase t.phase
+object_armed (Fd t) = armed_in_phase t.phase
 
 -- the mode of a settime is that of its flags, and its time the value
 pub settime_is : (o : Object) (flags : ℕ) (value interval : TimeSpec) → AreValidFor (kind_in o) flags value interval

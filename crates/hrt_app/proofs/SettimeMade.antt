@@ -33,7 +33,7 @@ use Rattle.script_text.specs.Fits.{FitsCall, object_steps_on, steps_on}
 use Rattle.script_text.specs.Histories.{clock_of, history_of, lines_of_timer, reading_at, timer_after, timer_labels}
 use Rattle.script_text.specs.ObjectCalls.{AreValidFor, DoesSettime, base_of, cancels, start_mode, nanoseconds_of}
 use Rattle.script_text.specs.ObjectCalls as object_calls
-use Rattle.script_text.specs.Objects.{armed_after, kind_of, lines_of_object}
+use Rattle.script_text.specs.Objects.{object_armed_after, kind_of, lines_of_object}
 use Rattle.script_text.specs.Order.{IsPoint, NeverFall}
 use Rattle.script_text.specs.ExpiryRuns.{IsRightExpiryRun}
 use Rattle.hrt_app.specs.declared.objects.Object.{Object}
@@ -151,8 +151,8 @@ settime_told s number t q w ds o flags value interval reading
     let some_object : t < length w.objects = subst (λ n. t < n) (sym run.declared) step.there in
     let some : t < length w.told.objects = subst (λ n. t < n) (sym run.object_lists) step.there in
     let state : timer_after s end t generation ≡ timer = ap (timer_after s end t) so.0 ∙ run_next.states end e t step.there in
-    let armed_as : armed_after s end t (length (lines_of_object w.told t) + 1) (kind_of s t) ≡ Some a.0 =
-    ap (λ n. armed_after s end t n (kind_of s t))
+    let armed_as : object_armed_after s end t (length (lines_of_object w.told t) + 1) (kind_of s t) ≡ Some a.0 =
+    ap (λ n. object_armed_after s end t n (kind_of s t))
     (sym (ap length (get_or-set_same w.told.objects t
     (lines_of_object w.told t ++ object_line (on number) x.entry ∷ []) [] some)
     ∙ length-append (lines_of_object w.told t) (object_line (on number) x.entry ∷ [])))

@@ -4,6 +4,7 @@ use Rattle.std.specs.Option.{option_or}
 use Rattle.std.proofs.lemmas.Bool.{and_from, ltb-true, lt-ltb, leb-true, le-leb, eqb-true, eq-eqb}
 use Rattle.ktime.specs.declared.clock_id.ClockId.{ClockId}
 use Rattle.ktime.specs.declared.mode.Mode.TheVariants as modes
+use Rattle.clock_model.specs.declared.write.Write.{Write}
 use Rattle.clock_model.specs.declared.write.Write.TheVariants as writes
 use Rattle.script_text.specs.declared.form.Form.{Form}
 use Rattle.script_text.specs.declared.form.Form.TheVariants as forms
@@ -175,6 +176,17 @@ module _ (d : Draft) (f : Form) (name : List ℕ) (spots : List Spot) (k i : ℕ
     kind = rw (is, suit.1) refl;
   }
 
+-- a call of the clock: behind its lane stands a time
+clock_call : (d : Draft) (f : Form) (name : List ℕ) (k n : ℕ) (write : Write)
+    → call_of f (values.Number k ∷ values.Number n ∷ []) ≡ Some (record { lane = k; call = calls.Clock write })
+    → record { form = f; values = values.Number k ∷ values.Number n ∷ [] } ≡ call_line k (calls.Clock write)
+    → row f ≡ called name (At fields.Free ∷ []) → check_values d (row f) (values.Number k ∷ values.Number n ∷ []) ≡ None
+    → (c : LaneCall) × Calls d f (values.Number k ∷ values.Number n ∷ []) c
+unfolding check_values check_number
+clock_call d f name k n write means line is none =
+    let lane = neither _ _ (subst (λ spots. check_values d spots (values.Number k ∷ values.Number n ∷ []) ≡ None) is none) in
+    (record { lane = k; call = calls.Clock write }, record { means = means; line = line; lane = ltb-true k d.lanes (holds _ _ lane.0); range = tt })
+
 pub calls_for : (d : Draft) (f : Form) (vs : List Value) → part f ≡ parts.Call → fits (row f) vs ≡ true → check_values d (row f) vs ≡ None
     → check_kind d f (row f) vs ≡ None
     → (c : LaneCall) × Calls d f vs c
@@ -202,36 +214,9 @@ calls_for d forms.Expire (values.Number k ∷ values.Number b ∷ values.Number 
         range = (ltb-true b d.bases (holds _ _ base.0), leb-true n most_budget (holds _ _ budget.0));
       },
     )
-calls_for d forms.Advance (values.Number k ∷ values.Number n ∷ []) is fit e kind = (
-  record { lane = k; call = calls.Clock (writes.Advance n) },
-  record {
-    means = refl;
-    line = refl;
-    lane =
-        ltb-true k d.lanes (holds _ _ (neither _ _ e).0);
-    range = tt;
-  },
-)
-calls_for d forms.Set (values.Number k ∷ values.Number n ∷ []) is fit e kind = (
-  record { lane = k; call = calls.Clock (writes.Set n) },
-  record {
-    means = refl;
-    line = refl;
-    lane =
-        ltb-true k d.lanes (holds _ _ (neither _ _ e).0);
-    range = tt;
-  },
-)
-calls_for d forms.Suspend (values.Number k ∷ values.Number n ∷ []) is fit e kind = (
-  record { lane = k; call = calls.Clock (writes.Suspend n) },
-  record {
-    means = refl;
-    line = refl;
-    lane =
-        ltb-true k d.lanes (holds _ _ (neither _ _ e).0);
-    range = tt;
-  },
-)
+calls_for d forms.Advance (values.Number k ∷ values.Number n ∷ []) is fit e kind = clock_call d forms.Advance _ k n (writes.Advance n) refl refl refl e
+calls_for d forms.Set (values.Number k ∷ values.Number n ∷ []) is fit e kind = clock_call d forms.Set _ k n (writes.Set n) refl refl refl e
+calls_for d forms.Suspend (values.Number k ∷ values.Number n ∷ []) is fit e kind = clock_call d forms.Suspend _ k n (writes.Suspend n) refl refl refl e
 calls_for d forms.Settime
     (values.Number k ∷ values.Number i ∷ values.Number f ∷ values.Number vs ∷ values.Number vn ∷ values.Number is ∷ values.Number in_ ∷
     []) call fit e kind =

@@ -46,24 +46,6 @@ entered t (Looked timer number reply ∷ ds) = entered t ds
 entered t (Made i number entry ∷ ds) = entered t ds
 entered t (Skipped i number generation ∷ ds) = entered t ds
 
--- the looks at a timer among these, each with the number of the entry after which it holds
-abbrev pub looked : ℕ → List Action → List (ℕ × CallbackReply)
-looked t [] = []
-looked t (Wrote number write ∷ ds) = looked t ds
-looked t (Entered timer number entry ∷ ds) = looked t ds
-looked t (Looked timer number reply ∷ ds) = also (nat_eq timer t) (number, reply) (looked t ds)
-looked t (Made i number entry ∷ ds) = looked t ds
-looked t (Skipped i number generation ∷ ds) = looked t ds
-
--- the numbers of a timer's entries and looks among these, in their order
-abbrev pub numbers_on : ℕ → List Action → List ℕ
-numbers_on t [] = []
-numbers_on t (Wrote number write ∷ ds) = numbers_on t ds
-numbers_on t (Entered timer number entry ∷ ds) = also (nat_eq timer t) number (numbers_on t ds)
-numbers_on t (Looked timer number reply ∷ ds) = also (nat_eq timer t) number (numbers_on t ds)
-numbers_on t (Made i number entry ∷ ds) = numbers_on t ds
-numbers_on t (Skipped i number generation ∷ ds) = numbers_on t ds
-
 -- the entries of an object among these, each with its number
 abbrev pub made : ℕ → List Action → List (ℕ × ObjectEntry)
 made t [] = []
@@ -73,6 +55,15 @@ made t (Looked timer number reply ∷ ds) = made t ds
 made t (Made i number entry ∷ ds) = also (nat_eq i t) (number, entry) (made t ds)
 made t (Skipped i number generation ∷ ds) = made t ds
 
+-- the looks at a timer among these, each with the number of the entry after which it holds
+abbrev pub looked : ℕ → List Action → List (ℕ × CallbackReply)
+looked t [] = []
+looked t (Wrote number write ∷ ds) = looked t ds
+looked t (Entered timer number entry ∷ ds) = looked t ds
+looked t (Looked timer number reply ∷ ds) = also (nat_eq timer t) (number, reply) (looked t ds)
+looked t (Made i number entry ∷ ds) = looked t ds
+looked t (Skipped i number generation ∷ ds) = looked t ds
+
 -- the refused expiries of an object among these, each with the number of the entry after which it came
 abbrev pub skipped : ℕ → List Action → List (ℕ × ℕ)
 skipped t [] = []
@@ -81,6 +72,15 @@ skipped t (Entered timer number entry ∷ ds) = skipped t ds
 skipped t (Looked timer number reply ∷ ds) = skipped t ds
 skipped t (Made i number entry ∷ ds) = skipped t ds
 skipped t (Skipped i number generation ∷ ds) = also (nat_eq i t) (number, generation) (skipped t ds)
+
+-- the numbers of a timer's entries and looks among these, in their order
+abbrev pub numbers_on : ℕ → List Action → List ℕ
+numbers_on t [] = []
+numbers_on t (Wrote number write ∷ ds) = numbers_on t ds
+numbers_on t (Entered timer number entry ∷ ds) = also (nat_eq timer t) number (numbers_on t ds)
+numbers_on t (Looked timer number reply ∷ ds) = also (nat_eq timer t) number (numbers_on t ds)
+numbers_on t (Made i number entry ∷ ds) = numbers_on t ds
+numbers_on t (Skipped i number generation ∷ ds) = numbers_on t ds
 
 -- the numbers of an object's entries and refused expiries among these, in their order
 abbrev pub numbers_of_object : ℕ → List Action → List ℕ

@@ -31,9 +31,9 @@ use Rattle.timer_fd.specs.States.{is_readable}
 use Rattle.seq_timer.specs.Steps.{Timer}
 use Rattle.script_text.specs.Order.{IsPoint}
 use Rattle.script_text.specs.Histories.{reading_at, timer_labels, timer_after}
-use Rattle.script_text.specs.Objects.{ArmedAs, armed_after, fd_after, kind_of, object_labels, posix_after}
+use Rattle.script_text.specs.Objects.{ArmedAs, object_armed_after, fd_after, kind_of, object_labels, posix_after}
 use Rattle.script_text.specs.Actions.{Action, Wrote, Entered, Looked, Made, Skipped, entered, made}
-use Rattle.script_text.specs.Starts.{Arming, IsJustBefore, arms, was_armed_before}
+use Rattle.script_text.specs.Starts.{Arming, IsJustBefore, arming_actions, was_armed_before}
 use Rattle.script_text.specs.ObjectCalls.{DoesSettime, DoesGettime, DoesAccept, DoesRead, base_of}
 
 -- one callback of an expiry run: how many entries of each timer had been seen when it was claimed; the timer, and the number and the
@@ -64,7 +64,7 @@ IsCallback (callbacks.Every interval) reading f =
     × (f.restart ≡ true)
 IsCallback callbacks.Cancels reading f = ((number : ℕ) × (f.body ≡ Looked f.timer number (replies.Running f.generation) ∷ [])) × (f.restart ≡ false)
 IsCallback (callbacks.Starts ns base) reading f =
-    (((a : Arming) × (f.body ≡ arms f.timer modes.Rel ns reading base a))
+    (((a : Arming) × (f.body ≡ arming_actions f.timer modes.Rel ns reading base a))
     ⊎ ((number : ℕ) × (f.body ≡ Looked f.timer number replies.Spent ∷ [])))
     × (f.restart ≡ true)
 
@@ -92,7 +92,7 @@ pub record IsExpiryRun (s : Script) (reading base : ℕ) (fired : List Fired) (s
 -- what a call did is what its arguments and its answer say; the answer that the clock has taken too many writes never comes
 abbrev pub Does : Script → ℕ → Call → Answer → List Fired → List Action → Type 0
 Does s reading (calls.Start timer mode ns base) (answers.Started generation on was_armed) fired actions =
-    (a : Arming) × (actions ≡ arms timer mode ns reading base a) × (generation ≡ a.number) × (on ≡ a.base)
+    (a : Arming) × (actions ≡ arming_actions timer mode ns reading base a) × (generation ≡ a.number) × (on ≡ a.base)
     × (was_armed ≡ was_armed_before a.out a.was_armed) × IsJustBefore a.out a.number
 Does s reading (calls.Start timer mode ns base) (answers.Spent stamp) fired actions = actions ≡ []
 Does s reading (calls.Cancel timer) (answers.Cancelled generation) fired actions =
@@ -163,7 +163,7 @@ IsArmedLike on_clock (Some a) generation timer = (a.generation ≡ generation) �
 abbrev pub IsTrueStart : Script → RunRecord → Label → List Action → ℕ → ℕ → Bool → Armed → Type 0
 IsTrueStart s r c before i number on_clock armings.None = Unit
 IsTrueStart s r c before i number on_clock (armings.Generation generation) =
-    IsArmedLike on_clock (armed_after s r i number (kind_of s i)) generation (timer_after s r i generation)
+    IsArmedLike on_clock (object_armed_after s r i number (kind_of s i)) generation (timer_after s r i generation)
 IsTrueStart s r c before i number on_clock armings.Unarmed = (stamp : ℕ) × SawRefusal s r c before i stamp
 
 -- the same, of each entry of an object

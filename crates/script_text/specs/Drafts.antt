@@ -13,6 +13,7 @@ use Rattle.script_text.specs.declared.form.Part.TheVariants as parts
 use Rattle.script_text.specs.declared.form.Value.{Value}
 use Rattle.script_text.specs.declared.form.Value.TheVariants as values
 use Rattle.script_text.specs.declared.script.Callback.TheVariants as callbacks
+use Rattle.script_text.specs.declared.script.Call.{Call}
 use Rattle.script_text.specs.declared.script.Call.TheVariants as calls
 use Rattle.script_text.specs.declared.script.Declaration.{Declaration}
 use Rattle.script_text.specs.declared.script.Kind.TheVariants as kinds
@@ -48,6 +49,16 @@ declaration_of forms.RawStarts (values.Number i ∷ values.Clock c ∷ values.Nu
 declaration_of forms.Posix (values.Number i ∷ values.Clock c ∷ values.Number b ∷ []) = Some (record { clock = c; kind = kinds.Posix b })
 declaration_of forms.Fd (values.Number i ∷ values.Clock c ∷ values.Number b ∷ []) = Some (record { clock = c; kind = kinds.Fd b })
 declaration_of form vs = None
+
+-- the call of a timer that has no other argument, by the form of its line
+unfoldable pub timer_call_of : Form → ℕ → Option Call
+timer_call_of forms.Cancel i = Some (calls.Cancel i)
+timer_call_of forms.Peek i = Some (calls.Peek i)
+timer_call_of forms.Gettime i = Some (calls.Gettime i)
+timer_call_of forms.Accept i = Some (calls.Accept i)
+timer_call_of forms.Overrun i = Some (calls.Overrun i)
+timer_call_of forms.Readable i = Some (calls.Readable i)
+timer_call_of form i = None
 
 -- the call of a raw timer, of a base or of the clock that a line asks for, and its lane, by its form and values
 unfoldable pub plain_call_of : Form → List Value → Option LaneCall

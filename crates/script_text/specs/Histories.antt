@@ -21,7 +21,7 @@ use Rattle.record_text.specs.declared.record.TimerLine.{TimerLine}
 use Rattle.record_text.specs.declared.record.RunRecord.{RunRecord}
 
 -- a line of the clock shows this reading
-pub record Shows (line : ClockLine) (reading : ClockReading) : Type 0 where
+pub record ShowsReading (line : ClockLine) (reading : ClockReading) : Type 0 where
   pub mono : line.mono ≡ reading.mono
   pub real : line.real ≡ reading.real
   pub boot : line.boot ≡ reading.boot
@@ -31,7 +31,7 @@ pub record Shows (line : ClockLine) (reading : ClockReading) : Type 0 where
 abbrev pub AreWrites : ClockReading → List ClockLine → Type 0
 AreWrites reading [] = Unit
 AreWrites reading (line ∷ lines) =
-    IsAccepted reading line.write × Shows line (after_write reading line.write) × AreWrites (after_write reading line.write) lines
+    IsAccepted reading line.write × ShowsReading line (after_write reading line.write) × AreWrites (after_write reading line.write) lines
 
 -- the reading that is named by a stamp: the one after so many of the record's writes
 abbrev pub reading_at : List ClockLine → ℕ → ClockReading

@@ -22,7 +22,7 @@ use Rattle.timer_fd.specs.Steps.{count_length}
 use Rattle.script_text.specs.declared.script.Kind.{Kind}
 use Rattle.script_text.specs.declared.script.Kind.TheVariants as kinds
 use Rattle.script_text.specs.Actions.{Action, Entered, Made}
-use Rattle.script_text.specs.Starts.{Arming, arms, IsJustBefore}
+use Rattle.script_text.specs.Starts.{Arming, arming_actions, IsJustBefore}
 
 -- the base of an object's timer
 abbrev pub base_of : Kind → ℕ
@@ -50,7 +50,7 @@ nanoseconds_of time = nanoseconds time.sec time.nsec
 abbrev pub Arms : ℕ → Mode → ℕ → ℕ → ℕ → Armed → List Action → Type 0
 Arms timer mode ns reading base armings.None actions = actions ≡ []
 Arms timer mode ns reading base (armings.Generation generation) actions =
-    (a : Arming) × (actions ≡ arms timer mode ns reading base a) × (generation ≡ a.number) × IsJustBefore a.out a.number
+    (a : Arming) × (actions ≡ arming_actions timer mode ns reading base a) × (generation ≡ a.number) × IsJustBefore a.out a.number
 Arms timer mode ns reading base armings.Unarmed actions = actions ≡ []
 
 -- the cancel of a settime, where there is one: its number, and the generation that it cancelled

@@ -81,13 +81,13 @@ pub record ArmedAs : Type 0 where
   pub expires : ℕ
 
 -- the same, where the phase of an object's timer is that it is armed
-abbrev pub armed_in : Phase → Option ArmedAs
-armed_in phases.Idle = None
-armed_in (phases.Armed generation clock expires) = Some (record { generation = generation; clock = clock; expires = expires })
-armed_in (phases.Expired clock expires) = None
+abbrev pub armed_in_phase : Phase → Option ArmedAs
+armed_in_phase phases.Idle = None
+armed_in_phase (phases.Armed generation clock expires) = Some (record { generation = generation; clock = clock; expires = expires })
+armed_in_phase (phases.Expired clock expires) = None
 
 -- how an object of this kind has armed its timer after its first so many entries
-abbrev pub armed_after : Script → RunRecord → ℕ → ℕ → Kind → Option ArmedAs
-armed_after s r i stamp (kinds.Raw callback) = None
-armed_after s r i stamp (kinds.Posix base) = armed_in (posix_after s r i base stamp).phase
-armed_after s r i stamp (kinds.Fd base) = armed_in (fd_after s r i base stamp).phase
+abbrev pub object_armed_after : Script → RunRecord → ℕ → ℕ → Kind → Option ArmedAs
+object_armed_after s r i stamp (kinds.Raw callback) = None
+object_armed_after s r i stamp (kinds.Posix base) = armed_in_phase (posix_after s r i base stamp).phase
+object_armed_after s r i stamp (kinds.Fd base) = armed_in_phase (fd_after s r i base stamp).phase

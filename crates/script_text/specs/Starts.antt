@@ -26,8 +26,8 @@ moves timer asked None = []
 moves timer asked (Some out) = Entered timer out.0 (entries.Out asked out.1) ∷ []
 
 -- the entries of a start
-abbrev pub arms : ℕ → Mode → ℕ → ℕ → ℕ → Arming → List Action
-arms timer mode ns reading asked a =
+abbrev pub arming_actions : ℕ → Mode → ℕ → ℕ → ℕ → Arming → List Action
+arming_actions timer mode ns reading asked a =
     moves timer asked a.out ++ Entered timer a.number (entries.Start mode ns reading asked a.base a.clock a.expires a.was_armed) ∷ []
 
 -- an Out stands just before its Start: nobody else touches a timer on the move

@@ -80,20 +80,10 @@ pub struct Line {
     pub values: ItemList<Value>,
 }
 
-// The words of a form's row: a key word, or a field.
+// The words that several forms' rows have: a key word, or a field.
 const KEY: Option<Field> = None;
 
 const CLOCK: Option<Field> = Some(Field::Clock);
-
-const MODE: Option<Field> = Some(Field::Mode);
-
-const VERSION: Option<Field> = Some(Field::Version);
-
-const BASES: Option<Field> = Some(Field::Bases);
-
-const LANES: Option<Field> = Some(Field::Lanes);
-
-const LIMIT: Option<Field> = Some(Field::Limit);
 
 const NEW_TIMER: Option<Field> = Some(Field::NewTimer);
 
@@ -103,8 +93,6 @@ const TIMER: Option<Field> = Some(Field::Timer);
 
 const BASE: Option<Field> = Some(Field::Base);
 
-const BUDGET: Option<Field> = Some(Field::Budget);
-
 const FREE: Option<Field> = Some(Field::Free);
 
 impl Form {
@@ -113,10 +101,10 @@ impl Form {
         ensures { result.now ≡ map field_at (row self) }
     {
         match self {
-            Form::Version => &[KEY, VERSION],
-            Form::Bases => &[KEY, BASES],
-            Form::Lanes => &[KEY, LANES],
-            Form::Limit => &[KEY, LIMIT],
+            Form::Version => &[KEY, Some(Field::Version)],
+            Form::Bases => &[KEY, Some(Field::Bases)],
+            Form::Lanes => &[KEY, Some(Field::Lanes)],
+            Form::Limit => &[KEY, Some(Field::Limit)],
             Form::RawOnce => &[KEY, NEW_TIMER, CLOCK, KEY],
             Form::RawEvery => &[KEY, NEW_TIMER, CLOCK, KEY, FREE],
             Form::RawCancels => &[KEY, NEW_TIMER, CLOCK, KEY],
@@ -124,10 +112,10 @@ impl Form {
             Form::Posix => &[KEY, NEW_TIMER, CLOCK, BASE],
             Form::Fd => &[KEY, NEW_TIMER, CLOCK, BASE],
             Form::Round => &[KEY],
-            Form::Start => &[LANE, KEY, TIMER, MODE, FREE, BASE],
+            Form::Start => &[LANE, KEY, TIMER, Some(Field::Mode), FREE, BASE],
             Form::Cancel => &[LANE, KEY, TIMER],
             Form::Peek => &[LANE, KEY, TIMER],
-            Form::Expire => &[LANE, KEY, BASE, BUDGET],
+            Form::Expire => &[LANE, KEY, BASE, Some(Field::Budget)],
             Form::Advance => &[LANE, KEY, FREE],
             Form::Set => &[LANE, KEY, FREE],
             Form::Suspend => &[LANE, KEY, FREE],

@@ -4,7 +4,7 @@ ghost use Rattle.script_text.specs.Forms.{row};
 ghost use Rattle.script_text.specs.declared.form.Form.TheVariants as forms;
 ghost use Rattle.script_text.specs.declared.script.Kind.TheVariants as kinds;
 ghost use Rattle.script_text.specs.declared.script.Call.TheVariants as calls;
-ghost use Rattle.script_text.specs.Drafts.{AreShort, call_of, declaration_of, object_call_of, plain_call_of};
+ghost use Rattle.script_text.specs.Drafts.{AreShort, call_of, declaration_of, object_call_of, plain_call_of, timer_call_of};
 
 use crate::form::Form;
 use crate::form::Value::{self, Clock, Mode, Number};
@@ -59,7 +59,7 @@ pub fn call(form: Form, values: &[Value]) -> Option<LaneCall>
 }
 
 /// The call of a raw timer, of a base or of the clock that a line asks for.
-#[tactic(auto, unfolding(crate::specs::Drafts::plain_call_of))]
+#[tactic(auto, unfolding(crate::specs::Drafts::plain_call_of, crate::specs::Drafts::timer_call_of))]
 fn plain_call(form: Form, values: &[Value]) -> Option<LaneCall>
     requires { AreShort (row form) values.now }
     ensures { result ≡ plain_call_of form values.now }
@@ -84,13 +84,8 @@ fn plain_call(form: Form, values: &[Value]) -> Option<LaneCall>
             };
             (lane, call)
         }
-        (Form::Cancel, [Number(lane), Number(timer)]) => {
-            let timer = *timer as u32;
-            (lane, Call::Cancel { timer })
-        }
-        (Form::Peek, [Number(lane), Number(timer)]) => {
-            let timer = *timer as u32;
-            (lane, Call::Peek { timer })
+        (Form::Cancel | Form::Peek, [Number(lane), Number(timer)]) => {
+            (lane, timer_call(form, *timer as u32)?)
         }
         (Form::Expire, [Number(lane), Number(base), Number(budget)]) => {
             let (base, budget) = (*base as u32, *budget);
@@ -105,6 +100,22 @@ fn plain_call(form: Form, values: &[Value]) -> Option<LaneCall>
     Some(LaneCall { lane, call })
 }
 
+/// The call that a line of this form asks for, where it has the number of a timer and nothing else.
+#[tactic(auto, unfolding(crate::specs::Drafts::timer_call_of))]
+fn timer_call(form: Form, timer: u32) -> Option<Call>
+    ensures { result ≡ timer_call_of form timer }
+{
+    match form {
+        Form::Cancel => Some(Call::Cancel { timer }),
+        Form::Peek => Some(Call::Peek { timer }),
+        Form::Gettime => Some(Call::Gettime { timer }),
+        Form::Accept => Some(Call::Accept { timer }),
+        Form::Overrun => Some(Call::Overrun { timer }),
+        Form::Readable => Some(Call::Readable { timer }),
+        _ => None,
+    }
+}
+
 fn write(write: Write) -> Call
     ensures { result ≡ calls.Clock write }
 {
@@ -112,33 +123,21 @@ fn write(write: Write) -> Call
 }
 
 /// The call of an object that a line asks for.
-#[tactic(auto, unfolding(crate::specs::Drafts::object_call_of))]
+#[tactic(auto, unfolding(crate::specs::Drafts::object_call_of, crate::specs::Drafts::timer_call_of))]
 fn object_call(form: Form, values: &[Value]) -> Option<LaneCall>
     requires { AreShort (row form) values.now }
     ensures { result ≡ object_call_of form values.now }
 {
     let (lane, call) = match (form, values) {
         (Form::Settime, values) => return settime(values),
-        (Form::Gettime, [Number(lane), Number(timer)]) => {
-            let timer = *timer as u32;
-            (lane, Call::Gettime { timer })
-        }
-        (Form::Accept, [Number(lane), Number(timer)]) => {
-            let timer = *timer as u32;
-            (lane, Call::Accept { timer })
-        }
-        (Form::Overrun, [Number(lane), Number(timer)]) => {
-            let timer = *timer as u32;
-            (lane, Call::Overrun { timer })
-        }
         (Form::Read, [Number(lane), Number(timer), Number(len)]) => {
             let (timer, len) = (*timer as u32, *len);
             (lane, Call::Read { timer, len })
         }
-        (Form::Readable, [Number(lane), Number(timer)]) => {
-            let timer = *timer as u32;
-            (lane, Call::Readable { timer })
-        }
+        (
+            Form::Gettime | Form::Accept | Form::Overrun | Form::Readable,
+            [Number(lane), Number(timer)],
+        ) => (lane, timer_call(form, *timer as u32)?),
         _ => return None,
     };
     let lane = *lane as u32;
