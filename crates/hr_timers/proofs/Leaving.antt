@@ -1,5 +1,5 @@
 -- What a base has when it is let go, by what its last holder has then seen.
-use Rattle.std.proofs.Common.{◌≡◌, ℕ, ◌<◌, length, refl, ap, sym, ◌∙◌, subst, true, false, arith}
+use Rattle.std.proofs.Common.{◌≡◌, ℕ, refl, ap, sym, ◌∙◌, subst, true, false, arith}
 use Rattle.std.specs.Prelude.{Option, Some, None, Bool, nat_eq, is_some, ◌&&◌, if◌then◌else◌}
 use Rattle.std.proofs.lemmas.Bool.Decides.{nat_tests}
 use Rattle.ktime.specs.Readings.{ClockReading}

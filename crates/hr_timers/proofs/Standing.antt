@@ -5,9 +5,7 @@ use Rattle.std.proofs.lemmas.Bool.{eqb-true, and_parts, true≢false}
 use Rattle.ktime.specs.Readings.{ClockReading}
 use Rattle.pass_names.specs.Counts.{count}
 use Rattle.seq_timer.specs.declared.event.Rearmed.{Rearmed}
-use Rattle.seq_timer.specs.declared.event.Reply.{Reply}
 use Rattle.seq_timer.specs.declared.event.Reply.TheVariants as replies
-use Rattle.seq_timer.specs.Steps.{Timer}
 use Rattle.base_row.specs.declared.view.Claimed.{Claimed}
 use Rattle.base_row.specs.declared.view.Opening.{Opening}
 use Rattle.base_row.specs.declared.view.BaseView.{BaseView}
@@ -17,7 +15,7 @@ use Rattle.base_row.specs.Calls as rows
 use Rattle.base_row.specs.Plays as plays
 use Rattle.seq_timer.proofs.Agreement.{agrees}
 use Rattle.base_row.proofs.Placed.{placed_seen}
-use Rattle.hr_timers.specs.Known.{KnownOfTimers, Looks}
+use Rattle.hr_timers.specs.Known.{KnownOfTimers, Looks, OwnsClaim}
 use Rattle.hr_timers.specs.Calls.{ClaimsNextDue}
 use Rattle.hr_timers.specs.declared.numbers.ClaimNumbers.{ClaimNumbers}
 use Rattle.hr_timers.proofs.Making.{made_before}
@@ -51,6 +49,17 @@ module _ (o : Opening) (v : BaseView BaseContent) (fresh : rows.AreFresh o.timer
 
   pub claim_inside : 0 < o.bases → b < o.bases
   claim_inside some = subst (λ x. x < o.bases) claim_base (placed_seen o v fresh knows some t)
+
+-- a claim of a pass still runs after looks
+pub still_runs : (o : Opening) (u v : BaseView BaseContent) (c : ClaimNumbers) → rows.AreFresh o.timers → plays.KnowsBases o.bases o.timers number_of v
+    → 0 < o.bases → Looks u v → OwnsClaim o (rows.known_of u) c
+    → ((rows.timer_seen o v c.timer).running ≡ Some c.generation) × IsOn c.base (rows.timer_seen o v c.timer) × (c.base < o.bases)
+still_runs o u v c fresh knows some looks owns =
+    let stands = subst (λ (l : List Claimed). 0 < count (is_base_claim c.timer c.generation c.base) l) (sym looks.claims) owns.stands in (
+      claim_runs o v fresh knows c.timer c.generation c.base owns.within stands,
+      claim_on o v fresh knows c.timer c.generation c.base owns.within stands,
+      claim_inside o v fresh knows c.timer c.generation c.base owns.within stands some,
+    )
 
 -- looks before a claim
 pub claims_before : (o : Opening) (u v : BaseView BaseContent) (w : KnownOfTimers) (base : ℕ) (reading : ClockReading) (c : ClaimNumbers) → Looks u v

@@ -1,6 +1,6 @@
 -- What each call answers, and which entries it makes, in the one history of all timers. A clause names the moment of the call, `at`, as the list of
 -- all entries so far; what the call answers is a function of the timer at that moment.
-use Rattle.std.specs.Prelude.{ℕ, ◌≡◌, ◌≢◌, ◌^◌, ◌+◌, ◌≤◌, ◌<◌, Bool, true, false, List, [], ◌∷◌, ◌++◌, length, Option, Some, None, is_some, if◌then◌else◌}
+use Rattle.std.specs.Prelude.{ℕ, ◌≡◌, ◌≢◌, ◌^◌, ◌+◌, ◌≤◌, ◌<◌, Bool, true, false, List, [], ◌∷◌, ◌++◌, length, Some, None, is_some, if◌then◌else◌}
 use Rattle.ktime.specs.declared.mode.Mode.{Mode}
 use Rattle.ktime.specs.Readings.{ClockReading}
 use Rattle.pass_names.specs.Counts.{without_first}

@@ -9,7 +9,7 @@ ghost use Rattle.hr_timers.specs.Calls.{Cancels, ClaimFits, Finishes, Forwards, 
 ghost use Rattle.hr_timers.specs.declared.answer.NowAnswer.TheVariants as nows;
 
 use crate::answer::{ClaimAnswer, NowAnswer, StartAnswer};
-use crate::starting::Asked;
+use crate::asked::Asked;
 use crate::tokens::{Claim, Pass};
 use crate::{cancelling, claiming, starting, trying_now};
 use base_row::BaseRow;
