@@ -4,3 +4,4 @@ pub mod Leaving
 pub mod True
 pub mod TriedNow
 pub mod OneClaim
+pub mod Last

@@ -61,23 +61,6 @@ still_runs o u v c fresh knows some looks owns =
       claim_inside o v fresh knows c.timer c.generation c.base owns.within stands some,
     )
 
--- looks before a claim
-pub claims_before : (o : Opening) (u v : BaseView BaseContent) (w : KnownOfTimers) (base : ℕ) (reading : ClockReading) (c : ClaimNumbers) → Looks u v
-    → ClaimsNextDue o (rows.known_of v) w base reading c → ClaimsNextDue o (rows.known_of u) w base reading c
-claims_before o u v w base reading c looks r = record {
-  at = r.at;
-  made = made_before u v w c.timer r.at _ looks r.made;
-  idle = r.idle;
-  next = r.next;
-  first = r.first;
-  within = r.within;
-  armed = r.armed;
-  there = r.there;
-  number = r.number;
-  fresh = ap (count (is_base_claim c.timer c.generation c.base)) (sym looks.claims) ∙ r.fresh;
-  claims = r.claims ∙ ap (λ l. l ++ record { timer = c.timer; generation = c.generation; base = c.base } ∷ []) looks.claims;
-}
-
 pub finish_same : (g h : ℕ) (a b : Rearmed) → replies.Finish g a ≡ replies.Finish h b → a ≡ b
 finish_same g h a b e = cc
 

@@ -1,5 +1,5 @@
 -- What the holder of a pass knows of timers, and how single calls change it.
-use Rattle.std.specs.Prelude.{ℕ, ◌≡◌, ◌+◌, ◌<◌, ◌≤◌, ◌^◌, ◌-◌, ◌⊎◌, List, ◌++◌, length, slice_index, Some, None}
+use Rattle.std.specs.Prelude.{ℕ, ◌≡◌, ◌+◌, ◌<◌, ◌≤◌, ◌^◌, ◌-◌, ◌⊎◌, List, ◌++◌, length, slice_index, Some, None, false}
 use Rattle.atomic_table.specs.Seated.{TableId}
 use Rattle.pass_names.specs.Counts.{count}
 use Rattle.pass_names.specs.Names.{IsLast}
@@ -40,6 +40,10 @@ pass_of p = record { row = p.row; opening = p.knows.opening; known = rows.known_
 abbrev pub timer_then : Opening → List TimerEntry → ℕ → Timer
 timer_then o x t = (system_after o.timers x).timers t
 
+-- a claim as it stands among a pass's
+abbrev pub claimed_as : ClaimNumbers → Claimed
+claimed_as c = record { timer = c.timer; generation = c.generation; base = c.base }
+
 -- how often a claim stands among claims
 abbrev pub count_of : ClaimNumbers → List Claimed → ℕ
 count_of c claims = count (is_base_claim c.timer c.generation c.base) claims
@@ -48,12 +52,13 @@ count_of c claims = count (is_base_claim c.timer c.generation c.base) claims
 abbrev pub HasEachPlace : Opening → KnownOfTimers → Type 0
 HasEachPlace o k = shared.HasAll entries_of (length o.timers) k
 
--- what is known is true: a history of all timers was seen, whose claims run, and the last pass has made each entry
+-- what is known is true: a history of all timers was seen, whose claims run; and the last pass has made each entry, and no timer is on the move
 pub record KnowsTimers (o : Opening) (k : KnownOfTimers) : Type 0 where
   pub history : AreSystemSteps o.bases (length o.timers) (first_system o.timers) k.seen
   pub claims : (t g b : ℕ) → t < length o.timers → 0 < count (is_base_claim t g b) k.claims
       → ((timer_then o k.seen t).running ≡ Some g) × ((timer_then o k.seen t).base ≡ b)
   pub whole : IsLast k.id → HasEachPlace o k
+  pub still : IsLast k.id → (t : ℕ) → t < length o.timers → (timer_then o k.seen t).moving ≡ false
 
 -- a pass of these timers, and what it knows is true
 pub record IsPassOf (timers : rows.BaseRowOf) (p : PassOf) : Type 0 where

@@ -1,7 +1,7 @@
 //! Claims as the tests make them: by a pass that has no other claim.
 ghost use Rattle.std.specs.Prelude.{◌≡◌, ◌<◌, length, [], ◌∷◌, MatchOption};
 ghost use Rattle.pass_names.specs.Names.{IsLast, after_split, child_of, first_pass_id};
-ghost use Rattle.hr_timers.specs.Known.{IsPassOf};
+ghost use Rattle.hr_timers.specs.Known.{IsPassOf, claimed_as};
 
 use crate::{Claim, ClaimAnswer, Pass, Timers};
 use ktime::Reading;
@@ -22,7 +22,7 @@ pub fn claim<R: Wait>(
     ensures pass { IsPassOf timers.now pass.new }
     ensures id { pass.new.known.id ≡ pass.old.known.id }
     ensures within { MatchOption result Unit (λ c. c.timer < length timers.now.about.timers) }
-    ensures claims { MatchOption result (pass.new.known.claims ≡ []) (λ c. pass.new.known.claims ≡ record { timer = c.timer; generation = c.generation; base = c.base } ∷ []) }
+    ensures claims { MatchOption result (pass.new.known.claims ≡ []) (λ c. pass.new.known.claims ≡ claimed_as c ∷ []) }
 {
     match timers.claim_next(rt, pass, base, reading) {
         ClaimAnswer::Claimed(claim) => Some(claim),
@@ -44,7 +44,7 @@ pub fn finish<R: Wait>(
 ) -> Finished
     requires pass { IsPassOf timers.now pass.old }
     requires within { claim.timer < length timers.now.about.timers }
-    requires only { pass.old.known.claims ≡ record { timer = claim.timer; generation = claim.generation; base = claim.base } ∷ [] }
+    requires only { pass.old.known.claims ≡ claimed_as claim ∷ [] }
     ensures pass { IsPassOf timers.now pass.new }
     ensures id { pass.new.known.id ≡ pass.old.known.id }
     ensures unclaimed { pass.new.known.claims ≡ [] }
@@ -63,7 +63,7 @@ pub fn forward<R: Wait>(
 ) -> ForwardAnswer
     requires pass { IsPassOf timers.now pass.old }
     requires within { claim.now.timer < length timers.now.about.timers }
-    requires only { pass.old.known.claims ≡ record { timer = claim.now.timer; generation = claim.now.generation; base = claim.now.base } ∷ [] }
+    requires only { pass.old.known.claims ≡ claimed_as claim.now ∷ [] }
     ensures pass { IsPassOf timers.now pass.new }
     ensures id { pass.new.known.id ≡ pass.old.known.id }
     ensures claims { pass.new.known.claims ≡ pass.old.known.claims }
