@@ -1,11 +1,14 @@
 //! Claims as the tests make them: by a pass that has no other claim.
-ghost use Rattle.std.specs.Prelude.{◌≡◌, ◌<◌, length, [], ◌∷◌, MatchOption};
+ghost use Rattle.std.specs.Prelude.{◌≡◌, ◌<◌, length, [], ◌∷◌, IfOk, MatchOption};
 ghost use Rattle.pass_names.specs.Names.{IsLast, after_split, child_of, first_pass_id};
 ghost use Rattle.hr_timers.specs.Known.{IsPassOf, claimed_as};
 
+use super::two_timers;
 use crate::{Claim, ClaimAnswer, Pass, Timers};
-use ktime::Reading;
+use ktime::{Mode, Reading};
+use std::alloc::Global;
 use std::sync::Wait;
+use std::test::Fail;
 use timer_core::{Finished, ForwardAnswer};
 
 /// Claims the next timer of a base.
@@ -31,6 +34,22 @@ pub fn claim<R: Wait>(
             timer: _,
             generation: _,
         } => None,
+    }
+}
+
+/// Two timers, of which the first was started and is claimed.
+pub fn claimed_timer<R: Wait>(rt: &R, alloc: Global) -> Result<(Timers, Pass, Claim), Fail>
+    ensures pass { IfOk result (λ r. IsPassOf r.0 r.1 × IsLast r.1.known.id × (r.1.known.claims ≡ claimed_as r.2 ∷ [])) }
+    ensures size { IfOk result (λ r. (length r.0.about.timers ≡ 2) × (r.0.about.bases ≡ 2) × (r.2.timer < 2)) }
+{
+    let (timers, mut pass) = two_timers(alloc)?;
+    timers.start(rt, &mut pass, 0, Mode::Rel, 7, 0, Reading::at(1000));
+    match claim(rt, &timers, &mut pass, 0, Reading::at(1030)) {
+        Some(claim) => Ok((timers, pass, claim)),
+        None => {
+            timers.close(pass);
+            Err(Fail::from("a timer was due, and was not claimed"))
+        }
     }
 }
 
