@@ -11,8 +11,9 @@ use Rattle.seq_timer.specs.Histories as seq
 use Rattle.seq_timer.specs.Systems.{entries_of, first_system}
 use Rattle.seq_timer.specs.Steps.{Timer}
 use Rattle.seq_timer.specs.Tables.{timer_at}
-use Rattle.seq_timer.proofs.Systems.{after_entries-entries_of, entries_of-append}
+use Rattle.seq_timer.proofs.Systems.{after_entries-entries_of}
 use Rattle.base_row.specs.declared.view.Opening.{Opening}
+use Rattle.base_row.proofs.Begun.{entries_of-begins}
 use Rattle.hr_timers.specs.declared.answer.NowAnswer.TheVariants as nows
 use Rattle.hr_timers.specs.Known.{KnownOfTimers, KnowsTimers, PassOf, timer_then}
 use Rattle.hr_timers.specs.Calls.{LooksAt, NowFits}
@@ -20,15 +21,12 @@ use Rattle.hr_timers.specs.Calls.{LooksAt, NowFits}
 no_more : (m n : ℕ) → one_if (within n m) ≡ one_if (within n n) → n ≤ m
 no_more m n e = grind (arith, nat_tests)
 
-part_begins : (t : ℕ) (xs ys : List TimerEntry) → Begins xs ys → Begins (entries_of t xs) (entries_of t ys)
-part_begins t xs ys b = record { rest = entries_of t b.rest; whole = ap (entries_of t) b.whole ∙ entries_of-append t xs b.rest }
-
 module _ (o : Opening) (v w : KnownOfTimers) (before : KnowsTimers o v) (after : KnowsTimers o w) (last : IsLast v.id) (t : ℕ) (inside : t < length o.timers)
     (x : List TimerEntry) (at : LooksAt v w x) where
   same_entries : entries_of t v.seen ≡ entries_of t x
-  same_entries = begins_whole (part_begins t v.seen x at.from) (omega (
+  same_entries = begins_whole (entries_of-begins t v.seen x at.from) (omega (
     arith,
-    begins_length (part_begins t x w.seen at.seen),
+    begins_length (entries_of-begins t x w.seen at.seen),
     no_more (length (entries_of t v.seen)) (length (entries_of t w.seen))
         (sym ((before.whole last).once t (length (entries_of t w.seen)) inside)
         ∙ (ap (count (is_place t (length (entries_of t w.seen)))) (sym at.looks.mine)

@@ -51,10 +51,11 @@ module _ (o : Opening) (v : BaseView BaseContent) (fresh : rows.AreFresh o.timer
   claim_inside some = subst (λ x. x < o.bases) claim_base (placed_seen o v fresh knows some t)
 
 -- a claim of a pass still runs after looks
-pub still_runs : (o : Opening) (u v : BaseView BaseContent) (c : ClaimNumbers) → rows.AreFresh o.timers → plays.KnowsBases o.bases o.timers number_of v
+pub still_runs : (o : Opening) (u v : BaseView BaseContent) (c : ClaimNumbers) → rows.AreFresh o.timers → v.opening ≡ o → plays.KnowsOwn v
     → 0 < o.bases → Looks u v → OwnsClaim o (rows.known_of u) c
     → ((rows.timer_seen o v c.timer).running ≡ Some c.generation) × IsOn c.base (rows.timer_seen o v c.timer) × (c.base < o.bases)
-still_runs o u v c fresh knows some looks owns =
+still_runs o u v c fresh is own some looks owns =
+    let knows = knows_in o v is own in
     let stands = subst (λ (l : List Claimed). 0 < count (is_base_claim c.timer c.generation c.base) l) (sym looks.claims) owns.stands in (
       claim_runs o v fresh knows c.timer c.generation c.base owns.within stands,
       claim_on o v fresh knows c.timer c.generation c.base owns.within stands,

@@ -1,6 +1,6 @@
 //! Claims: when a timer is due, what its function finds while it runs, and what its end leaves.
 use super::callers::{Found, claim, claimed_timer, finish, forward, run};
-use super::two_timers;
+use super::{two_started, two_timers};
 use crate::{ClaimNumbers, NowAnswer};
 use ktime::{Mode, Reading};
 use seq_timer::{Peek, Rearmed};
@@ -46,10 +46,8 @@ fn a_timer_runs_at_its_expiry_and_once(rt: HostRuntime) -> Result<(), Fail> {
 
 #[test]
 fn of_two_timers_the_earlier_runs_first(rt: HostRuntime) -> Result<(), Fail> {
-    let (timers, mut pass) = two_timers(rt.alloc())?;
+    let (timers, mut pass) = two_started(&rt, rt.alloc(), 900, 800)?;
     let now = Reading::at(1000);
-    timers.start(&rt, &mut pass, 0, Mode::Abs, 900, 0, now);
-    timers.start(&rt, &mut pass, 1, Mode::Abs, 800, 0, now);
     assert_eq!(rt;
         run(&rt, &timers, &mut pass, 0, now),
         Found::Ran { timer: 1 }

@@ -3,23 +3,22 @@ use Rattle.seq_timer.specs.Systems.{IsOn}
 use Rattle.seq_timer.specs.Steps.{Timer}
 use Rattle.base_row.specs.Calls.{timer_seen}
 use Rattle.hr_timers.proofs.Making.{looks_refl}
-use Rattle.hr_timers.proofs.Standing.{knows_in, still_runs}
+use Rattle.hr_timers.proofs.Standing.{still_runs}
 use Rattle.hr_timers.proofs.claiming.hold_claimed.Goals as goal
 
 pub lock-held-requires-clause-within : goal.lock-held-requires-clause-within
 lock-held-requires-clause-within g c =
     let o = c.args.row.now.about in
     let u = c.args.pass.now.knows in
-    (still_runs o u u c.args.claim c.fresh.ensures.fresh (knows_in o u c.requires.rest.row.about c.known.ensures) c.fresh.ensures.some
+    (still_runs o u u c.args.claim c.fresh.ensures.fresh c.requires.rest.row.about c.known.ensures c.fresh.ensures.some
     (looks_refl u) c.requires.claim).2
 
 pub returns-clause-holds : goal.returns-clause-holds
 returns-clause-holds g c =
     let o = c.args.row.now.about in
     let v = c.lock-held.new.pass.knows in
-    let knows = knows_in o v c.lock-held.ensures.row.about c.known-2.ensures in
-    let told = still_runs o c.args.pass.now.knows v c.args.claim c.fresh.ensures.fresh knows c.fresh.ensures.some c.lock-held.ensures.looks
-    c.requires.claim in
+    let told = still_runs o c.args.pass.now.knows v c.args.claim c.fresh.ensures.fresh c.lock-held.ensures.row.about c.known-2.ensures
+    c.fresh.ensures.some c.lock-held.ensures.looks c.requires.claim in
     record {
       holds = record {
         row = c.lock-held.ensures.row;
@@ -35,10 +34,6 @@ pub returns-clause-state : goal.returns-clause-state
 returns-clause-state g c = c.state-state.ensures.kept (returns-clause-holds g c).on
 
 pub returns-clause-runs : goal.returns-clause-runs
-returns-clause-runs g c =
-    let o = c.args.row.now.about in
-    let v = c.lock-held.new.pass.knows in
-    let knows = knows_in o v c.lock-held.ensures.row.about c.known-2.ensures in
-    let told = still_runs o c.args.pass.now.knows v c.args.claim c.fresh.ensures.fresh knows c.fresh.ensures.some c.lock-held.ensures.looks
-    c.requires.claim in
-    ap (λ (t : Timer). t.running) (returns-clause-state g c) ∙ told.0
+returns-clause-runs g c = ap (λ (t : Timer). t.running) (returns-clause-state g c)
+    ∙ (still_runs c.args.row.now.about c.args.pass.now.knows c.lock-held.new.pass.knows c.args.claim c.fresh.ensures.fresh
+    c.lock-held.ensures.row.about c.known-2.ensures c.fresh.ensures.some c.lock-held.ensures.looks c.requires.claim).0
