@@ -1,25 +1,23 @@
 -- What a turn of an expiry run leaves of what its pass knows.
-use Rattle.std.proofs.Common.{◌≡◌, ℕ, ◌<◌, ◌+◌, List, [], ◌∷◌, ◌++◌, refl, ap, sym, ◌∙◌, subst, true, false, arith, length, append_assoc}
-use Rattle.std.specs.Prelude.{Bool, ◌==◌}
-use Rattle.std.proofs.lemmas.Bool.{and_from, eq-eqb}
+use Rattle.std.proofs.Common.{◌≡◌, ℕ, ◌<◌, List, [], ◌∷◌, ◌++◌, refl, ap, sym, ◌∙◌, subst, true, false, arith, length, append_assoc}
+use Rattle.std.specs.Prelude.{Bool}
 use Rattle.std.proofs.lemmas.List.{append-nil}
 use Rattle.ktime.specs.Readings.{ClockReading}
 use Rattle.pass_names.specs.Counts.{count, drop_if, one_if, without_first}
 use Rattle.pass_names.specs.Passes.{Begins, places}
 use Rattle.pass_names.specs.SharedHistory.{LooksOn}
 use Rattle.pass_names.proofs.Counts.{total-append}
-use Rattle.pass_names.proofs.Passes.{begins_more, begins_refl, begins_trans}
+use Rattle.pass_names.proofs.Passes.{begins_trans}
 use Rattle.base_row.specs.declared.view.Claimed.{Claimed}
 use Rattle.base_row.specs.declared.view.Opening.{Opening}
 use Rattle.base_row.specs.Rules.{is_base_claim}
 use Rattle.hr_timers.specs.declared.numbers.ClaimNumbers.{ClaimNumbers}
-use Rattle.hr_timers.specs.declared.answer.ClaimAnswer.TheVariants as claimings
 use Rattle.timer_core.specs.declared.answer.Finished.{Finished}
 use Rattle.seq_timer.specs.declared.event.Event.TheVariants as events
 use Rattle.seq_timer.specs.declared.event.Reply.TheVariants as replies
 use Rattle.hr_timers.specs.Known.{KnownOfTimers, MadeAt, OwnsClaim, claimed_as, count_of}
 use Rattle.hr_timers.proofs.OneClaim.{is_own}
-use Rattle.hr_timers.specs.Calls.{Cancels, ClaimsNextDue, Finishes, cancel_entries}
+use Rattle.hr_timers.specs.Calls.{ClaimsNextDue}
 use Rattle.seq_timer.specs.Histories as seq
 use Rattle.seq_timer.specs.declared.system.TimerEntry.{TimerEntry}
 use Rattle.seq_timer.specs.Systems.{entries_of}

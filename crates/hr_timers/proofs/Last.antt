@@ -4,7 +4,7 @@ use Rattle.std.proofs.lemmas.Bool.{true≢false}
 use Rattle.std.proofs.lemmas.Bool.Decides.{nat_tests}
 use Rattle.pass_names.specs.Counts.{one_if, count}
 use Rattle.pass_names.specs.Names.{IsLast}
-use Rattle.pass_names.specs.Passes.{Begins, is_place, within}
+use Rattle.pass_names.specs.Passes.{is_place, within}
 use Rattle.pass_names.proofs.Passes.{begins_length, begins_trans, begins_whole}
 use Rattle.seq_timer.specs.declared.system.TimerEntry.{TimerEntry}
 use Rattle.seq_timer.specs.Histories as seq

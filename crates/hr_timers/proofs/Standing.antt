@@ -1,8 +1,7 @@
 -- What a claim that stands says of its timer.
-use Rattle.std.proofs.Common.{◌≡◌, ℕ, ◌<◌, ◌++◌, ◌∷◌, [], List, length, refl, ap, sym, ◌∙◌, subst, true, false}
+use Rattle.std.proofs.Common.{◌≡◌, ℕ, ◌<◌, List, length, refl, ap, sym, ◌∙◌, subst, true, false}
 use Rattle.std.specs.Prelude.{Option, Some, None, Bool}
 use Rattle.std.proofs.lemmas.Bool.{eqb-true, and_parts, true≢false}
-use Rattle.ktime.specs.Readings.{ClockReading}
 use Rattle.pass_names.specs.Counts.{count}
 use Rattle.seq_timer.specs.declared.event.Rearmed.{Rearmed}
 use Rattle.seq_timer.specs.declared.event.Reply.TheVariants as replies
@@ -15,10 +14,8 @@ use Rattle.base_row.specs.Calls as rows
 use Rattle.base_row.specs.Plays as plays
 use Rattle.seq_timer.proofs.Agreement.{agrees}
 use Rattle.base_row.proofs.Placed.{placed_seen}
-use Rattle.hr_timers.specs.Known.{KnownOfTimers, Looks, OwnsClaim}
-use Rattle.hr_timers.specs.Calls.{ClaimsNextDue}
+use Rattle.hr_timers.specs.Known.{Looks, OwnsClaim}
 use Rattle.hr_timers.specs.declared.numbers.ClaimNumbers.{ClaimNumbers}
-use Rattle.hr_timers.proofs.Making.{made_before}
 
 -- what a pass of a table knows, of that table's opening
 pub knows_in : (o : Opening) (v : BaseView BaseContent) → v.opening ≡ o → plays.KnowsOwn v → plays.KnowsBases o.bases o.timers number_of v
