@@ -1,6 +1,7 @@
 -- What the rule tells of what a pass knows that has seen the whole history.
 use Rattle.std.proofs.Common.{◌≡◌, ℕ, ◌<◌, ◌≤◌, true, List, length, ap, sym, ◌∙◌, subst, arith}
-use Rattle.std.specs.Prelude.{Option}
+use Rattle.std.specs.Prelude.{Option, Some, None, ◌==◌}
+use Rattle.std.proofs.lemmas.Bool.{eqb-true}
 use Rattle.std.proofs.lemmas.Bool.Decides.{nat_tests}
 use mathlib.Core.Option.{some}
 use lib.ListN.{get_elem?}
@@ -13,12 +14,16 @@ use Rattle.seq_timer.specs.Steps.{Timer}
 use Rattle.seq_timer.specs.declared.system.TimerEntry.{TimerEntry}
 use Rattle.base_row.specs.declared.view.BaseView.{BaseView}
 use Rattle.seq_timer.specs.Systems.{BaseContent, first_system, AreSystemSteps}
-use Rattle.base_row.specs.Rules.{base_pass_id, places_at, base_claims_at, takes_at, carries_at, runs, now, PassHolds, RowHolds}
+use Rattle.base_row.specs.Rules.{base_pass_id, places_at, base_claims_at, takes_at, carries_at, carried_in, runs, now, PassHolds, RowHolds}
 use Rattle.base_row.specs.Plays.{KnowsBases}
 use Rattle.base_row.proofs.Frames.{carries_one}
 
 in_range : (k n : ℕ) → 0 < k → k ≤ n → one_if (within k n) ≡ 1
 in_range k n h le = grind (arith, nat_tests)
+
+carried_one : (t : ℕ) (carry : Option ℕ) → carried_in t carry ≡ 1 → carry ≡ Some t
+carried_one t None e = absurd (omega (arith, e))
+carried_one t (Some c) e = ap (λ n. Some n) (eqb-true c t (met (c == t) (omega (arith, e))))
 
 module _ (bases : ℕ) (opened : List Timer) (code : Timer → ℕ) (log : List TimerEntry) (s : State (Option BaseContent) (BaseView BaseContent))
     (home : RowHolds bases opened code log s)
@@ -40,9 +45,14 @@ module _ (bases : ℕ) (opened : List Timer) (code : Timer → ℕ) (log : List 
     all_entries = λ last t k h. as_seen (λ (x : Timer). places_at t k v ≡ one_if (within k x.stamp)) t
         (sym (total_last base_pass_id s.views home.tree id v at live last (places_at t k)
         (λ j u at_u off. ap (count (is_place t k)) ((home.each_view j u at_u).gone off).0)) ∙ home.tally t k h);
+    all_carried = λ last t h moving.
+        let here = subst (λ l. ((now bases opened code l).timers t).moving ≡ true) whole moving in
+        let all = total_last base_pass_id s.views home.tree id v at live last (carries_at t)
+        (λ j u at_u off. ap (carried_in t) ((home.each_view j u at_u).gone off).1.1.1) in
+        carried_one t v.carry (omega (arith, all, home.carriers t h, ap one_if here));
     all_takes = λ last b k h some_one below.
         let c = home.each_base b h in
         let all = total_last base_pass_id s.views home.tree id v at live last (takes_at b k)
-        (λ j u at_u off. ap (count (is_place b k)) ((home.each_view j u at_u).gone off).1.1) in
+        (λ j u at_u off. ap (count (is_place b k)) ((home.each_view j u at_u).gone off).1.1.0) in
         omega (arith, all, c.each k, in_range k c.taken some_one (omega (arith, fits.met b h, c.number, c.once)));
   }
