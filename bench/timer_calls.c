@@ -14,12 +14,12 @@ enum { TIMES = 20000, ROUNDS = 5, OTHERS = 256 };
 
 static const struct itimerspec FAR = {{0, 0}, {3600, 0}}, PAST = {{0, 0}, {0, 1}}, OFF;
 
+// A descriptor, and a timer with a signal of its own.
 struct pair {
     int fd;
     timer_t timer;
+    sigset_t signals;
 };
-
-static sigset_t signals;
 
 static void descriptor_start_cancel(struct pair *own) {
     timerfd_settime(own->fd, 0, &FAR, NULL);
@@ -41,7 +41,7 @@ static void timer_start_cancel(struct pair *own) {
 static void timer_expiry(struct pair *own) {
     struct timespec wait = {1, 0};
     timer_settime(own->timer, TIMER_ABSTIME, &PAST, NULL);
-    if (sigtimedwait(&signals, NULL, &wait) < 0)
+    if (sigtimedwait(&own->signals, NULL, &wait) < 0)
         exit(1);
 }
 
@@ -57,9 +57,12 @@ static void *turns(void *of) {
     return NULL;
 }
 
-static struct pair make(void) {
-    struct sigevent event = {.sigev_notify = SIGEV_SIGNAL, .sigev_signo = SIGRTMIN};
+static struct pair make(int signal) {
+    struct sigevent event = {.sigev_notify = SIGEV_SIGNAL, .sigev_signo = signal};
     struct pair own = {.fd = timerfd_create(CLOCK_MONOTONIC, TFD_NONBLOCK)};
+    sigemptyset(&own.signals);
+    sigaddset(&own.signals, signal);
+    pthread_sigmask(SIG_BLOCK, &own.signals, NULL);
     if (own.fd < 0 || timer_create(CLOCK_MONOTONIC, &event, &own.timer) != 0)
         exit(1);
     return own;
@@ -83,7 +86,7 @@ static double round_of(struct worker *workers, int threads) {
 }
 
 static void line(const char *name, const char *what, int threads, void (*turn)(struct pair *)) {
-    struct worker workers[] = {{make(), turn}, {make(), turn}};
+    struct worker workers[] = {{make(SIGRTMIN), turn}, {make(SIGRTMIN + 1), turn}};
     double least = 1e18;
     for (int i = 0; i < ROUNDS; i++) {
         double took = round_of(workers, threads);
@@ -94,9 +97,6 @@ static void line(const char *name, const char *what, int threads, void (*turn)(s
 }
 
 int main(void) {
-    sigemptyset(&signals);
-    sigaddset(&signals, SIGRTMIN);
-    pthread_sigmask(SIG_BLOCK, &signals, NULL);
     for (int i = 0; i < OTHERS; i++)
         timerfd_settime(timerfd_create(CLOCK_MONOTONIC, 0), 0, &FAR, NULL);
     for (int threads = 1; threads <= 2; threads++) {
