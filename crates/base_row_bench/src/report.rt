@@ -73,13 +73,7 @@ fn run<R: Threads + Wait + Sync + Clock>(
     let clocks = vec![in alloc; ClockId::Monotonic; 4 * case.queued as usize]?;
     let (row, mut first) = BaseRow::make(alloc, 2, &clocks, LIMIT)?;
     let mut second = row.split(&mut first);
-    fill(
-        rt,
-        &row,
-        &mut first,
-        case.queued,
-        case.workers.second().unwrap_or(1),
-    );
+    fill(rt, &row, &mut first, case.queued, case.workers.other());
     let done = rounds(rt, &row, &mut first, &mut second, case, load);
     row.retire(&mut first, second);
     row.close(first);

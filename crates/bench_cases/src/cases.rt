@@ -46,4 +46,14 @@ impl Workers {
             Workers::OnOneBase => Some(0),
         }
     }
+
+    /// The base of the second thread's timers, also where there is no such thread.
+    pub fn other(self) -> u32
+        ensures { result < 2 }
+    {
+        match self {
+            Workers::One | Workers::OnTwoBases => 1,
+            Workers::OnOneBase => 0,
+        }
+    }
 }

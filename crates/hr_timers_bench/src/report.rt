@@ -100,7 +100,7 @@ fn run<R: Threads + Wait + Sync + Clock>(
     let clocks = vec![in alloc; ClockId::Monotonic; 2 * QUEUED as usize + 2]?;
     let (timers, mut first) = Timers::make(alloc, 2, &clocks, LIMIT)?;
     let mut second = timers.split(&mut first);
-    let filled = fill(rt, &timers, &mut first, case.0.second().unwrap_or(1));
+    let filled = fill(rt, &timers, &mut first, case.0.other());
     let done = rounds(rt, &timers, &mut first, &mut second, case, load);
     timers.retire(&mut first, second);
     let stamps = stamps(&timers, &mut first);
