@@ -1,15 +1,16 @@
 -- What calls on a row say, in the words of their callers.
-use Rattle.std.proofs.Common.{◌≡◌, ℕ, ◌+◌, ◌-◌, ◌^◌, ◌<◌, ◌≤◌, ⊎_elim, List, [], ◌∷◌, ◌++◌, length, true, inr, refl, ap, sym, ◌∙◌, subst, arith, if◌then◌else◌}
+use Rattle.std.proofs.Common.{◌≡◌, ℕ, ◌+◌, ◌-◌, ◌^◌, ◌<◌, ◌≤◌, ⊎_elim, List, [], ◌∷◌, ◌++◌, length, true, inr, refl, ap, sym, ◌∙◌, subst, arith}
+use Rattle.std.proofs.Common.{if◌then◌else◌}
 use Rattle.std.specs.Prelude.{slice_index, Option, Some, None, MatchOption}
 use Rattle.std.proofs.lemmas.Bool.{eq-eqb}
-use Rattle.atomic_table.specs.Table.{Me}
 use Rattle.pass_names.specs.Names.{IsLast}
 use Rattle.pass_names.specs.Passes.{Begins}
-use Rattle.pass_names.specs.SharedHistory.{ExtendsBy, LooksOn, MeetWith, TakesIn}
+use Rattle.pass_names.specs.SharedHistory.{ExtendsBy, Known, LooksOn, MeetWith, TakesIn}
 use Rattle.pass_names.proofs.Passes.{begins_trans, begins_more}
 use Rattle.ktime.specs.declared.mode.Mode.{Mode}
 use Rattle.ktime.specs.Readings.{ClockReading}
 use Rattle.seq_timer.specs.declared.event.Event.{Event}
+use Rattle.seq_timer.specs.declared.system.TimerEntry.{TimerEntry}
 use Rattle.seq_timer.specs.declared.event.Event.TheVariants.{Start}
 use Rattle.seq_timer.specs.Steps.{Timer, after}
 use Rattle.seq_timer.specs.Tables.{timer_at}
@@ -17,21 +18,24 @@ use Rattle.seq_timer.specs.Histories as seq
 use Rattle.seq_timer.specs.Systems.{BaseContent, changed, entries_of, first_system}
 use Rattle.seq_timer.proofs.Limits.{stamp-after_all}
 use Rattle.seq_timer.proofs.Systems.{after_entries-entries_of, entries_of-append, states_here, states_len}
+use Rattle.base_row.specs.declared.view.Claimed.{Claimed}
 use Rattle.base_row.specs.declared.view.HeldContent.{HeldContent}
 use Rattle.base_row.specs.declared.view.Opening.{Opening}
 use Rattle.base_row.specs.declared.view.BaseView.{BaseView}
 use Rattle.base_row.specs.Rules.{takes_at}
-use Rattle.base_row.specs.Plays.{GotBase, KnowsOwn, Lost, carried_slots}
+use Rattle.base_row.specs.Plays.{SeatState, GotBase, KnowsOwn, Lost, carried_slots}
 use Rattle.base_row.specs.Calls.{Absorbs, Appended, AreFresh, LearnsFrom, LetsGo, GetsBase, MayAppend}
 use Rattle.base_row.specs.Calls.{MissesBase, SeesFurther, Waits, entry_in, known_of, own_entry, timer_seen}
+use Rattle.base_row.proofs.Frames.{some_same}
 
 -- ---- takes
 
-pub locks_caught : (o : Opening) (b : ℕ) (v w : BaseView BaseContent) (h : HeldContent BaseContent) → GotBase o b (v, []) (w, carried_slots (Some h)) h → GetsBase b v w h
+pub locks_caught : (o : Opening) (b : ℕ) (v w : BaseView BaseContent) (h : HeldContent BaseContent)
+    → GotBase o b (v, []) (w, carried_slots (Some h)) h → GetsBase b v w h
 locks_caught o b v w h c = record {
   at = c.at;
   number = c.number;
-  rest = ap (λ (m : Me (Option BaseContent) (BaseView BaseContent)). m.0) c.rest;
+  rest = ap (λ (m : SeatState). m.0) c.rest;
   word = c.word;
   newer = c.newer;
   apart = c.apart;
@@ -41,7 +45,7 @@ locks_caught o b v w h c = record {
 
 pub misses_lost : (o : Opening) (b : ℕ) (v w : BaseView BaseContent) → Lost o b (v, []) (w, []) → MissesBase b v w
 misses_lost o b v w l =
-    let is = ap (λ (m : Me (Option BaseContent) (BaseView BaseContent)). m.0) l.rest in record {
+    let is = ap (λ (m : SeatState). m.0) l.rest in record {
       waits = record {
         rest = is ∙ (λ i. record v {
           seen = w.seen;
@@ -114,41 +118,31 @@ last_misses_none o b v w misses about knows last inside =
 
 -- ---- what is known
 
+-- a pass that has seen more, and is else as one with the same name, places and claims
+looks_as : (v x w : BaseView BaseContent) → w ≡ x → known_of v ≡ known_of (record x { seen = v.seen }) → Begins v.seen w.seen
+    → LooksOn (known_of v) (known_of w)
+looks_as v x w is same seen =
+    let all = ap (λ (y : BaseView BaseContent). known_of (record y { seen = v.seen })) is ∙ sym same in record {
+      seen = seen;
+      mine = ap (λ (k : Known TimerEntry Claimed). k.mine) all;
+      id = ap (λ (k : Known TimerEntry Claimed). k.id) all;
+      claims = ap (λ (k : Known TimerEntry Claimed). k.claims) all;
+    }
+
 pub looks_locks : (b : ℕ) (v w : BaseView BaseContent) (h : HeldContent BaseContent) → GetsBase b v w h → LooksOn (known_of v) (known_of w)
-looks_locks b v w h l = record {
-  seen = l.seen;
-  mine = ap (λ (x : BaseView BaseContent). x.mine) l.rest;
-  id = ap
-      (λ (x : BaseView BaseContent). x.id) l.rest;
-  claims = ap (λ (x : BaseView BaseContent). x.claims) l.rest;
-}
+looks_locks b v w h l = looks_as v _ w l.rest refl l.seen
 
 pub looks_waits : (b : ℕ) (v w : BaseView BaseContent) → Waits b v w → LooksOn (known_of v) (known_of w)
-looks_waits b v w l = record {
-  seen = l.seen;
-  mine = ap (λ (x : BaseView BaseContent). x.mine) l.rest;
-  id = ap
-      (λ (x : BaseView BaseContent). x.id) l.rest;
-  claims = ap (λ (x : BaseView BaseContent). x.claims) l.rest;
-}
+looks_waits b v w l = looks_as v _ w l.rest refl l.seen
 
 pub looks_sees : (v w : BaseView BaseContent) → SeesFurther v w → LooksOn (known_of v) (known_of w)
-looks_sees v w l = record {
-  seen = l.seen;
-  mine = ap (λ (x : BaseView BaseContent). x.mine) l.rest;
-  id = ap
-      (λ (x : BaseView BaseContent). x.id) l.rest;
-  claims = ap (λ (x : BaseView BaseContent). x.claims) l.rest;
-}
+looks_sees v w l = looks_as v _ w l.rest refl l.seen
 
 pub looks_freed : (o : Opening) (h : HeldContent BaseContent) (v w : BaseView BaseContent) → LetsGo o h v w → LooksOn (known_of v) (known_of w)
-looks_freed o h v w l = record {
-  seen = l.seen;
-  mine = ap (λ (x : BaseView BaseContent). x.mine) l.rest;
-  id = ap
-      (λ (x : BaseView BaseContent). x.id) l.rest;
-  claims = ap (λ (x : BaseView BaseContent). x.claims) l.rest;
-}
+looks_freed o h v w l = looks_as v _ w l.rest refl l.seen
+
+looks_hears : (v u w : BaseView BaseContent) → LearnsFrom v u w → LooksOn (known_of v) (known_of w)
+looks_hears v u w l = looks_as v _ w l.rest refl l.seen
 
 pub takes_in : (v u w : BaseView BaseContent) → Absorbs v u w → TakesIn (known_of v) (known_of u) (known_of w)
 takes_in v u w a = record {
@@ -157,15 +151,6 @@ takes_in v u w a = record {
   mine = ap (λ (x : BaseView BaseContent). x.mine) a.rest;
   id = ap (λ (x : BaseView BaseContent). x.id) a.rest;
   claims = ap (λ (x : BaseView BaseContent). x.claims) a.rest;
-}
-
-looks_hears : (v u w : BaseView BaseContent) → LearnsFrom v u w → LooksOn (known_of v) (known_of w)
-looks_hears v u w l = record {
-  seen = l.seen;
-  mine = ap (λ (x : BaseView BaseContent). x.mine) l.rest;
-  id = ap
-      (λ (x : BaseView BaseContent). x.id) l.rest;
-  claims = ap (λ (x : BaseView BaseContent). x.claims) l.rest;
 }
 
 pub meet_with : (a b new_a new_b : BaseView BaseContent) → LearnsFrom b a new_b → LearnsFrom a new_b new_a
@@ -191,36 +176,33 @@ stamp_seen o fresh v t =
       (fresh.each t).stamp,
     )
 
-pub extends_appended : (o : Opening) → AreFresh o.timers → (h : HeldContent BaseContent) (t : ℕ) (event : Event) (v w : BaseView BaseContent)
-    → Appended o h t event v w → ExtendsBy entries_of (known_of v) (known_of w) t (own_entry o v t event ∷ [])
-extends_appended o fresh h t event v w told =
-    let e = entry_in o v t event in
-    let seen : w.seen ≡ told.before ++ e ∷ [] = ap (λ (x : BaseView BaseContent). x.seen) told.rest in
-    let one : entries_of t (e ∷ []) ≡ own_entry o v t event ∷ [] = ap (λ b. if b then own_entry o v t event ∷ [] else []) (eq-eqb t t refl) in
-    record {
-      seen = subst (λ l. Begins v.seen l) (sym seen) (begins_trans told.seen (begins_more told.before (e ∷ [])));
-      own = ap (entries_of t) seen ∙ (entries_of-append t told.before (e ∷ [])
-          ∙ (ap (λ l. l ++ entries_of t (e ∷ [])) told.own ∙ ap (λ l. entries_of t v.seen ++ l) one));
-      mine = ap (λ (x : BaseView BaseContent). x.mine) told.rest ∙ ap (λ n. v.mine ++ (t, n + 1) ∷ []) (stamp_seen o fresh v t);
-      id = ap (λ (x : BaseView BaseContent). x.id) told.rest;
-    }
-
 after_all-push : (t : Timer) (es : List seq.Entry) (e : seq.Entry) → seq.after_all t (es ++ e ∷ []) ≡ after (seq.after_all t es) e.event
 after_all-push t [] e = refl
 after_all-push t (x ∷ xs) e = after_all-push (after t x.event) xs e
 
--- the timer after the entry, as the pass has then seen it
-pub seen_after : (o : Opening) → AreFresh o.timers → (h : HeldContent BaseContent) (t : ℕ) (event : Event) (v w : BaseView BaseContent)
-    → Appended o h t event v w → timer_seen o w t ≡ after (timer_seen o v t) event
-unfolding extends_appended
-seen_after o fresh h t event v w told =
-    let first : Timer = timer_at o.timers t in
-    let e = own_entry o v t event in
-    after_entries-entries_of (first_system o.timers) t w.seen ∙ (ap (seq.after_all first) (extends_appended o fresh h t event v w told).own
-    ∙ (after_all-push first (entries_of t v.seen) e ∙ ap (λ x. after x event) (sym (after_entries-entries_of (first_system o.timers) t v.seen))))
+module _ (o : Opening) (fresh : AreFresh o.timers) (h : HeldContent BaseContent) (t : ℕ) (event : Event) (v w : BaseView BaseContent)
+    (told : Appended o h t event v w) where
+  pub extends_appended : ExtendsBy entries_of (known_of v) (known_of w) t (own_entry o v t event ∷ [])
+  extends_appended =
+      let e = entry_in o v t event in
+      let seen : w.seen ≡ told.before ++ e ∷ [] = ap (λ (x : BaseView BaseContent). x.seen) told.rest in
+      let one : entries_of t (e ∷ []) ≡ own_entry o v t event ∷ [] = ap (λ b. if b then own_entry o v t event ∷ [] else []) (eq-eqb t t refl) in
+      record {
+        seen = subst (λ l. Begins v.seen l) (sym seen) (begins_trans told.seen (begins_more told.before (e ∷ [])));
+        own = ap (entries_of t) seen ∙ (entries_of-append t told.before (e ∷ [])
+            ∙ (ap (λ l. l ++ entries_of t (e ∷ [])) told.own ∙ ap (λ l. entries_of t v.seen ++ l) one));
+        mine = ap (λ (x : BaseView BaseContent). x.mine) told.rest ∙ ap (λ n. v.mine ++ (t, n + 1) ∷ []) (stamp_seen o fresh v t);
+        id = ap (λ (x : BaseView BaseContent). x.id) told.rest;
+      }
 
-some_same : (h g : HeldContent BaseContent) → Some h ≡ Some g → h ≡ g
-some_same h g e = cc
+  -- the timer after the entry, as the pass has then seen it
+  pub seen_after : timer_seen o w t ≡ after (timer_seen o v t) event
+  unfolding extends_appended
+  seen_after =
+      let first : Timer = timer_at o.timers t in
+      let e = own_entry o v t event in
+      after_entries-entries_of (first_system o.timers) t w.seen ∙ (ap (seq.after_all first) extends_appended.own
+      ∙ (after_all-push first (entries_of t v.seen) e ∙ ap (λ x. after x event) (sym (after_entries-entries_of (first_system o.timers) t v.seen))))
 
 -- and as the base then keeps it
 pub state_entered : (o : Opening) → AreFresh o.timers → (h g : HeldContent BaseContent) (t : ℕ) (event : Event) (v w : BaseView BaseContent)

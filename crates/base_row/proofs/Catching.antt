@@ -1,24 +1,19 @@
 -- A look at a lock, and then an exchange.
-use Rattle.std.proofs.Common.{◌≡◌, ℕ, ◌+◌, ◌%◌, ◌/◌, ◌^◌, ◌-◌, ◌≤◌, ◌≢◌, ◌⊎◌, inl, inr, ⊎_elim, List, [], ◌∷◌, ◌++◌, set, ap, sym, ◌∙◌, arith}
+use Rattle.std.proofs.Common.{◌≡◌, ℕ, ◌+◌, ◌%◌, ◌/◌, ◌^◌, ◌-◌, ◌≤◌, ◌⊎◌, inl, inr, ⊎_elim, List, [], ◌∷◌, ◌++◌, set, ap, sym, ◌∙◌, arith}
 use Rattle.std.specs.Prelude.{slice_index, Option, Some, None, MatchOption}
 use Rattle.std.proofs.lemmas.List.{get_or-set_other}
-use Rattle.atomic_table.specs.Table.{Me}
 use Rattle.pass_names.proofs.Passes.{begins_trans}
 use Rattle.base_row.specs.declared.view.HeldContent.{HeldContent}
 use Rattle.base_row.specs.declared.view.Opening.{Opening}
-use Rattle.base_row.specs.declared.view.BaseView.{BaseView}
 use Rattle.seq_timer.specs.Systems.{BaseContent}
 use Rattle.base_row.specs.Rules.{number_of, takes_at}
-use Rattle.base_row.specs.Plays.{Met, FoundTaken, GotBase, Lost, carried_slots}
+use Rattle.base_row.specs.Plays.{SameElsewhere, SeatState, Met, FoundTaken, GotBase, Lost, carried_slots}
 
-abbrev Seated : Type 0
-Seated = Me (Option BaseContent) (BaseView BaseContent)
-
-module _ (o : Opening) (b : ℕ) (me mid : Seated) (found : ℕ) (met : Met o.bases o.timers number_of b me found mid) where
+module _ (o : Opening) (b : ℕ) (me mid : SeatState) (found : ℕ) (met : Met o.bases o.timers number_of b me found mid) where
   mid_met : mid.0.met ≡ set me.0.met b found
-  mid_met = ap (λ (m : Seated). m.0.met) met.rest
+  mid_met = ap (λ (m : SeatState). m.0.met) met.rest
 
-  else_met : (c : ℕ) → c ≢ b → slice_index mid.0.met c ≡ slice_index me.0.met c
+  else_met : SameElsewhere b me.0 mid.0
   else_met c n = ap (λ (l : List ℕ). slice_index l c) mid_met ∙ get_or-set_other me.0.met b c found 0 n
 
   -- the word was odd, or the last one
@@ -37,26 +32,26 @@ module _ (o : Opening) (b : ℕ) (me mid : Seated) (found : ℕ) (met : Met o.ba
   }
 
   -- a miss after the look
-  pub lost_after : (new : Seated) → Lost o b mid new → Lost o b me new
+  pub lost_after : (new : SeatState) → Lost o b mid new → Lost o b me new
   lost_after new lost = record {
-    rest = lost.rest ∙ ap (λ (m : Seated). (record m.0 { seen = new.0.seen; heard = []; met = new.0.met }, m.1)) met.rest;
+    rest = lost.rest ∙ ap (λ (m : SeatState). (record m.0 { seen = new.0.seen; heard = []; met = new.0.met }, m.1)) met.rest;
     missed = ⊎_elim
-        (λ t. inl (t.0, ap (λ (m : Seated). takes_at b t.0 m.0) (sym met.rest) ∙ t.1, omega (arith, met.newer, met.is, t.2), t.3))
+        (λ t. inl (t.0, ap (λ (m : SeatState). takes_at b t.0 m.0) (sym met.rest) ∙ t.1, omega (arith, met.newer, met.is, t.2), t.3))
         (λ last. inr last)
         lost.missed;
     newer = omega (arith, met.newer, met.is, lost.newer);
     apart = λ c n. lost.apart c n ∙ else_met c n;
     seen = begins_trans met.seen lost.seen;
-    steady = λ t e. lost.steady t (ap (λ (m : Seated). m.0.carry) met.rest ∙ e) ∙ met.steady t e;
+    steady = λ t e. lost.steady t (ap (λ (m : SeatState). m.0.carry) met.rest ∙ e) ∙ met.steady t e;
     knows = lost.knows;
   }
 
   -- a hit after the look
-  pub caught_after : (new : Seated) (h : HeldContent BaseContent) → GotBase o b mid new h → GotBase o b me new h
+  pub caught_after : (new : SeatState) (h : HeldContent BaseContent) → GotBase o b mid new h → GotBase o b me new h
   caught_after new h caught = record {
     at = caught.at;
     number = caught.number;
-    rest = caught.rest ∙ ap (λ (m : Seated). (
+    rest = caught.rest ∙ ap (λ (m : SeatState). (
       record m.0 {
         seen = new.0.seen;
         heard = [];
@@ -71,23 +66,24 @@ module _ (o : Opening) (b : ℕ) (me mid : Seated) (found : ℕ) (met : Met o.ba
     newer = omega (arith, met.newer, met.is, caught.newer);
     apart = λ c n. caught.apart c n ∙ else_met c n;
     seen = begins_trans met.seen caught.seen;
-    steady = λ t e. caught.steady t (ap (λ (m : Seated). m.0.carry) met.rest ∙ e) ∙ met.steady t e;
+    steady = λ t e. caught.steady t (ap (λ (m : SeatState). m.0.carry) met.rest ∙ e) ∙ met.steady t e;
     knows = caught.knows;
   }
 
   -- either, after the look
-  pub told_after : (new : Seated) (r : Option (HeldContent BaseContent)) → MatchOption r (Lost o b mid new) (λ h. GotBase o b mid new h)
+  pub told_after : (new : SeatState) (r : Option (HeldContent BaseContent)) → MatchOption r (Lost o b mid new) (λ h. GotBase o b mid new h)
       → MatchOption r (Lost o b me new) (λ h. GotBase o b me new h)
   told_after new None lost = lost_after new lost
   told_after new (Some h) caught = caught_after new h caught
 
 -- a miss from the word that was met last
-pub lost_miss : (o : Opening) (b found : ℕ) (me new : Seated) → FoundTaken o.bases o.timers number_of b (slice_index me.0.met b) me found new → Lost o b me new
+pub lost_miss : (o : Opening) (b found : ℕ) (me new : SeatState)
+    → FoundTaken o.bases o.timers number_of b (slice_index me.0.met b) me found new → Lost o b me new
 lost_miss o b found me new miss = record {
-  rest = miss.met.rest ∙ (λ i. (record me.0 { seen = new.0.seen; heard = []; met = ap (λ (m : Seated). m.0.met) (sym miss.met.rest) i }, me.1));
+  rest = miss.met.rest ∙ (λ i. (record me.0 { seen = new.0.seen; heard = []; met = ap (λ (m : SeatState). m.0.met) (sym miss.met.rest) i }, me.1));
   missed = inl (miss.missed.0, miss.missed.1, miss.missed.2, omega (arith, miss.missed.3, miss.met.is));
   newer = omega (arith, miss.met.newer, miss.met.is);
-  apart = λ c n. ap (λ (m : Seated). slice_index m.0.met c) miss.met.rest ∙ get_or-set_other me.0.met b c found 0 n;
+  apart = λ c n. ap (λ (m : SeatState). slice_index m.0.met c) miss.met.rest ∙ get_or-set_other me.0.met b c found 0 n;
   seen = miss.met.seen;
   steady = miss.met.steady;
   knows = miss.met.knows;

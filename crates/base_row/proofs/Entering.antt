@@ -1,14 +1,15 @@
 -- One entry more, of a timer whose base the seat holds: the rule stays, whatever the event is.
 use Rattle.base_row.specs.Places.{lock_at, word_at}
 use Rattle.std.proofs.Common.{◌≡◌, ℕ, eqb, ◌&&◌, ◌+◌, ◌<◌, ◌≢◌, true, List, [], ◌∷◌, ◌++◌, length, set, refl, ap, sym, ◌∙◌, subst, inl, inr, ⊎_elim, arith}
-use Rattle.std.specs.Prelude.{slice_index, slice_set, Option, Some}
+use Rattle.std.specs.Prelude.{slice_index, slice_set, Option}
 use Rattle.std.proofs.lemmas.Bool.{cases_Bool, cases_eq, eq-eqb, ne_eqb, true≢false}
 use Rattle.std.proofs.lemmas.List.{get_or-set_other}
 use mathlib.Core.Option.{some, none}
 use lib.ListN.{get_elem?}
-use Rattle.atomic_table.specs.Table.{State, Me, step, stepped, carried_after, keeps, Allows}
+use Rattle.atomic_table.specs.Table.{State, step, stepped, carried_after, keeps, Allows}
 use Rattle.pass_names.specs.Counts.{one_if}
 use Rattle.pass_names.specs.Passes.{within}
+use Rattle.pass_names.proofs.Counts.{set_there}
 use Rattle.pass_names.proofs.Passes.{begins_refl, begins_nil, count_place, within_more}
 use Rattle.seq_timer.specs.Steps.{Timer, Needs, after, reply_to}
 use Rattle.seq_timer.specs.declared.system.TimerEntry.{TimerEntry}
@@ -20,14 +21,14 @@ use Rattle.seq_timer.specs.declared.event.Event.{Event}
 use Rattle.base_row.proofs.Events.{go_along}
 use Rattle.seq_timer.specs.Systems.{BaseContent, System, first_system, after_entry, changed, IsSystemStep, FitsBase}
 use Rattle.base_row.specs.Rules.{held_in, places_at, base_claims_at, holds_at, carries_at, runs, now, HeldHolds, PassHolds, RowHolds, HasOneHistory, number_of}
-use Rattle.base_row.specs.Plays.{having_entered, GoAlong, MayEnter, EnteredTimer, OwnNeeds}
+use Rattle.base_row.specs.Plays.{SeatState, having_entered, GoAlong, MayEnter, EnteredTimer, OwnNeeds}
 use Rattle.base_row.specs.Plays.{EntersAs, EntersBy, entry_of_event, seen_timer, claims_with_event, carry_after}
 use Rattle.seq_timer.proofs.Systems.{after_entries-append, base_here, timer_here, timer_else}
 use Rattle.seq_timer.proofs.Limits.{stamp-after}
 use Rattle.base_row.proofs.Begun.{same_own}
-use Rattle.base_row.proofs.Frames.{holds_one, carries_one, entered}
+use Rattle.base_row.proofs.Frames.{some_same, holds_one, carries_one, entered}
 use Rattle.base_row.proofs.Stable.{stable}
-use Rattle.base_row.proofs.Knowing.{set_there, knows_of}
+use Rattle.base_row.proofs.Knowing.{knows_of}
 
 module _ (bases : ℕ) (opened : List Timer) (code : Timer → ℕ) (id : ℕ) (v : BaseView BaseContent) (h : HeldContent BaseContent) (e : TimerEntry)
     (claims : List Claimed) (carry : Option ℕ)
@@ -147,7 +148,8 @@ module _ (bases : ℕ) (opened : List Timer) (code : Timer → ℕ) (id : ℕ) (
     claimed : (k g b : ℕ) → base_claims_at k g b v' + one_if (runs g b (w.timers k)) ≡ base_claims_at k g b v + one_if (runs g b (w'.timers k))
     claimed k g b =
         ⊎_elim
-        (λ (q : k ≡ e.timer). subst (λ x. base_claims_at x g b v' + one_if (runs g b (w.timers x)) ≡ base_claims_at x g b v + one_if (runs g b (w'.timers x))) (sym q)
+        (λ (q : k ≡ e.timer). subst (λ x. base_claims_at x g b v' + one_if (runs g b (w.timers x))
+        ≡ base_claims_at x g b v + one_if (runs g b (w'.timers x))) (sym q)
         (omega (arith, along.own g b, ap (λ x. one_if (runs g b x)) same_timer, ap (λ x. one_if (runs g b x)) new_timer)))
         (λ apart. omega (arith, along.apart k g b apart, ap (λ x. one_if (runs g b x)) (timers_else k apart)))
         (cases_eq k e.timer)
@@ -207,7 +209,8 @@ module _ (bases : ℕ) (opened : List Timer) (code : Timer → ℕ) (id : ℕ) (
 -- the same as it is told to a seat whose event was picked
 pub enters_by : (bases : ℕ) (opened : List Timer) (id : ℕ) (v : BaseView BaseContent) (h : HeldContent BaseContent) (timer : ℕ)
     (event asked : Event) → v.opening ≡ record { bases = bases; timers = opened } → asked ≡ event → v.id.live ≡ true
-    → MayEnter bases opened number_of v h (entry_of_event bases opened number_of v timer event) → OwnNeeds v timer (seen_timer bases opened number_of v timer) event
+    → MayEnter bases opened number_of v h (entry_of_event bases opened number_of v timer event)
+    → OwnNeeds v timer (seen_timer bases opened number_of v timer) event
     → (slots : ℕ) (slot : List (ℕ × Option BaseContent)) (word stamp : ℕ) → word ≡ word_at bases timer
     → stamp ≡ number_of (after (seen_timer bases opened number_of v timer) event)
     → Allows (HasOneHistory bases opened number_of) slots id (v, slot) word (λ _. stamp) (λ _. EntersBy asked (step slots word stamp 0 none) (v, slot))
@@ -226,13 +229,10 @@ enters_by bases opened id v h timer event asked opening picked live may own slot
       λ g k held at_word.
           let same : h ≡ g = some_same h g (sym may.held ∙ held) in
           let same_timer : timer ≡ k = omega (arith, word_is, at_word, ap (λ (o : Opening). o.bases) opening) in
-          let me : Me (Option BaseContent) (BaseView BaseContent) = (v, slot) in
-          let new : Me (Option BaseContent) (BaseView BaseContent) = (r.0, carried_after slot r.1) in
+          let me : SeatState = (v, slot) in
+          let new : SeatState = (r.0, carried_after slot r.1) in
           subst (λ (o : Opening). EntersAs o.bases o.timers number_of g k asked me new) (sym opening)
           (subst (λ x. EntersAs bases opened number_of g k x me new) (sym picked)
           (subst (λ x. EntersAs bases opened number_of x k event me new) same
           (subst (λ x. EntersAs bases opened number_of h x event me new) same_timer r.4))),
     )
-  where
-    some_same : (h g : HeldContent BaseContent) → Some h ≡ Some g → h ≡ g
-    some_same h g e = cc

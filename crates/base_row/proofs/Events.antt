@@ -82,12 +82,14 @@ go_along v id t (events.Claim base reading) reply needs mine = record {
   carry_here = refl;
   carry_else = λ k n. refl;
 }
-go_along v id t (events.Forward reading interval) reply needs mine = record { own = λ g b. refl; apart = λ k g b n. refl; carry_here = refl; carry_else = λ k n. refl }
+go_along v id t (events.Forward reading interval) reply needs mine =
+    record { own = λ g b. refl; apart = λ k g b n. refl; carry_here = refl; carry_else = λ k n. refl }
 go_along v id t (events.Finish restart) reply needs mine =
     let r = unwrap_or t.running 0 in
     let left : (k g b : ℕ) → count (is_base_claim k g b) (claims_with_event id t (events.Finish restart) v.claims) + one_if
     (eqb id k && (eqb r g && eqb t.base b)) ≡ count (is_base_claim k g b) v.claims =
-    λ k g b. count-without_first (is_base_claim id r t.base) (is_base_claim k g b) (eqb id k && (eqb r g && eqb t.base b)) (let_go id k g b r t.base) v.claims mine in
+    λ k g b. count-without_first (is_base_claim id r t.base) (is_base_claim k g b) (eqb id k && (eqb r g && eqb t.base b))
+    (let_go id k g b r t.base) v.claims mine in
     record {
       own = λ g b. omega (
         arith,

@@ -20,7 +20,6 @@ use Rattle.base_row.specs.declared.view.BaseView.{BaseView}
 use Rattle.seq_timer.specs.Systems.{BaseContent, System, first_system, after_entry, IsSystemStep}
 use Rattle.base_row.specs.Rules.{base_pass_id, held_in, carried_in, places_at, base_claims_at, holds_at}
 use Rattle.base_row.specs.Rules.{carries_at, takes_at, runs, LockState, now, PassHolds, RowHolds}
-use Rattle.base_row.specs.Plays.{gone_base_view}
 use Rattle.seq_timer.proofs.Systems.{after_entries-append, steps_push, base_else, timer_else}
 
 -- the same locks are held and were taken
@@ -35,17 +34,27 @@ pub record SameWork (v v' : BaseView BaseContent) : Type 0 where
   pub claims : (t g b : ℕ) → base_claims_at t g b v' ≡ base_claims_at t g b v
   pub carries : (t : ℕ) → carries_at t v' ≡ carries_at t v
 
--- a view that has nothing
-abbrev pub empty_view : BaseView BaseContent
-empty_view = gone_base_view
+-- so many passes have together as much of this as others had
+abbrev pub SameTotal : (old new : List (BaseView BaseContent)) (f : BaseView BaseContent → ℕ) → Type 0
+SameTotal old new f = total f new ≡ total f old
 
--- two passes have together as much as two had
-pub record Sums (v' u' v u : BaseView BaseContent) : Type 0 where
-  pub places : (t k : ℕ) → places_at t k v' + places_at t k u' ≡ places_at t k v + places_at t k u
-  pub claims : (t g b : ℕ) → base_claims_at t g b v' + base_claims_at t g b u' ≡ base_claims_at t g b v + base_claims_at t g b u
-  pub holds : (b : ℕ) → holds_at b v' + holds_at b u' ≡ holds_at b v + holds_at b u
-  pub takes : (b k : ℕ) → takes_at b k v' + takes_at b k u' ≡ takes_at b k v + takes_at b k u
-  pub carries : (t : ℕ) → carries_at t v' + carries_at t u' ≡ carries_at t v + carries_at t u
+-- and as much of each kind
+pub record SameTotals (old new : List (BaseView BaseContent)) : Type 0 where
+  pub places : (t k : ℕ) → SameTotal old new (places_at t k)
+  pub claims : (t g b : ℕ) → SameTotal old new (base_claims_at t g b)
+  pub holds : (b : ℕ) → SameTotal old new (holds_at b)
+  pub takes : (b k : ℕ) → SameTotal old new (takes_at b k)
+  pub carries : (t : ℕ) → SameTotal old new (carries_at t)
+
+totalled : (a b old new : List (BaseView BaseContent)) → SameTotals a b
+    → ((f : BaseView BaseContent → ℕ) → SameTotal a b f → SameTotal old new f) → SameTotals old new
+totalled a b old new same on = record {
+  places = λ t k. on (places_at t k) (same.places t k);
+  claims = λ t g b. on (base_claims_at t g b) (same.claims t g b);
+  holds = λ b. on (holds_at b) (same.holds b);
+  takes = λ b k. on (takes_at b k) (same.takes b k);
+  carries = λ t. on (carries_at t) (same.carries t);
+}
 
 pub sum_same : (f : BaseView BaseContent → ℕ) (vs : List (BaseView BaseContent)) (id : ℕ) (v v' : BaseView BaseContent) → get_elem? vs id ≡ some v
     → f v' ≡ f v → total f (set vs id v') ≡ total f vs
@@ -67,6 +76,9 @@ cell_on c c' home word held held' takes takes' cell e f g = record {
   out = λ z. cell.out (omega arith);
   each = λ k. f k ∙ cell.each k;
 }
+
+pub some_same : (h g : HeldContent BaseContent) → Some h ≡ Some g → h ≡ g
+some_same h g e = cc
 
 pub holds_one : (v : BaseView BaseContent) (h : HeldContent BaseContent) → v.held ≡ Some h → holds_at h.base v ≡ 1
 holds_one v h e = ap (held_in h.base) e ∙ ap one_if (eq-eqb h.base h.base refl)
@@ -102,23 +114,37 @@ module _ (bases : ℕ) (opened : List Timer) (code : Timer → ℕ) where
   }
 
   module _ (log : List TimerEntry) (s : State (Option BaseContent) (BaseView BaseContent)) (home : RowHolds bases opened code log s) where
+    -- The seats are other than before, and have together as much.
+    pub reviewed : (views : List (BaseView BaseContent)) → SameTotals s.views views
+        → ((j : ℕ) (u : BaseView BaseContent) → get_elem? views j ≡ some u → PassHolds bases opened code log s.words u)
+        → IsPassTree (map base_pass_id views) → RowHolds bases opened code log record { words = s.words; homes = s.homes; views = views }
+    reviewed views same each tree = record {
+      allowed = home.allowed;
+      words_len = home.words_len;
+      homes_len = home.homes_len;
+      each_base = λ b h. cell_on _ _ _ _ _ _ _ _ (home.each_base b h) (same.holds b) (λ k. same.takes b k) (λ z. refl);
+      each_timer = home.each_timer;
+      each_view = each;
+      tree = tree;
+      tally = λ t k h. same.places t k ∙ home.tally t k h;
+      claims = λ t g b h. same.claims t g b ∙ home.claims t g b h;
+      carriers = λ t h. same.carries t ∙ home.carriers t h;
+    }
+
     -- One seat alone is other than before.
     module _ (id : ℕ) (v v' : BaseView BaseContent) (at : get_elem? s.views id ≡ some v) (fits : PassHolds bases opened code log s.words v')
         (locks : SameLocks v v') (work : SameWork v v') where
       pub turned : RowHolds bases opened code log record { words = s.words; homes = s.homes; views = slice_set s.views id v' }
-      turned = record {
-        allowed = home.allowed;
-        words_len = home.words_len;
-        homes_len = home.homes_len;
-        each_base = λ b h. cell_on _ _ _ _ _ _ _ _ (home.each_base b h) (sum_same (holds_at b) s.views id v v' at (locks.holds b))
-            (λ k. sum_same (takes_at b k) s.views id v v' at (locks.takes b k)) (λ z. refl);
-        each_timer = home.each_timer;
-        each_view = views_on (λ u. PassHolds bases opened code log s.words u) s.views id v' fits (λ j u n e. home.each_view j u e);
-        tree = subst (λ ls. IsPassTree ls) (sym (map_kept base_pass_id s.views id v v' at work.id)) home.tree;
-        tally = λ t k h. sum_same (places_at t k) s.views id v v' at (work.places t k) ∙ home.tally t k h;
-        claims = λ t g b h. sum_same (base_claims_at t g b) s.views id v v' at (work.claims t g b) ∙ home.claims t g b h;
-        carriers = λ t h. sum_same (carries_at t) s.views id v v' at (work.carries t) ∙ home.carriers t h;
-      }
+      turned = reviewed (slice_set s.views id v')
+          (record {
+            places = λ t k. sum_same (places_at t k) s.views id v v' at (work.places t k);
+            claims = λ t g b. sum_same (base_claims_at t g b) s.views id v v' at (work.claims t g b);
+            holds = λ b. sum_same (holds_at b) s.views id v v' at (locks.holds b);
+            takes = λ b k. sum_same (takes_at b k) s.views id v v' at (locks.takes b k);
+            carries = λ t. sum_same (carries_at t) s.views id v v' at (work.carries t);
+          })
+          (views_on (λ u. PassHolds bases opened code log s.words u) s.views id v' fits (λ j u n e. home.each_view j u e))
+          (subst (λ ls. IsPassTree ls) (sym (map_kept base_pass_id s.views id v v' at work.id)) home.tree)
 
     -- One base's lock and one seat are other than before.
     module _ (b id : ℕ) (v v' : BaseView BaseContent) (word : ℕ) (slot : mathlib.Core.Option.Option (Option BaseContent))
@@ -288,52 +314,30 @@ module _ (bases : ℕ) (opened : List Timer) (code : Timer → ℕ) where
     module _ (id : ℕ) (v v' u : BaseView BaseContent) (at : get_elem? s.views id ≡ some v) (fits : PassHolds bases opened code log s.words v')
         (fits_new : PassHolds bases opened code log s.words u)
         (tree : IsPassTree (set (map base_pass_id s.views) id (base_pass_id v') ++ base_pass_id u ∷ []))
-        (sums : Sums v' u v empty_view) where
+        (same : SameTotals (v ∷ []) (v' ∷ u ∷ [])) where
       pub grown : RowHolds bases opened code log record { words = s.words; homes = s.homes; views = slice_set s.views id v' ++ u ∷ [] }
       grown =
-          let sum : (f : BaseView BaseContent → ℕ) → f v' + f u ≡ f v + 0
-          → total f (set s.views id v' ++ u ∷ []) ≡ total f s.views = λ f q. omega
-          (arith, total_set f s.views id v v' at, total-append f (set s.views id v') (u ∷ [])) in
-          record {
-            allowed = home.allowed;
-            words_len = home.words_len;
-            homes_len = home.homes_len;
-            each_base = λ b h. cell_on _ _ _ _ _ _ _ _ (home.each_base b h) (sum (holds_at b) (sums.holds b))
-                (λ k. sum (takes_at b k) (sums.takes b k)) (λ z. refl);
-            each_timer = home.each_timer;
-            each_view = λ j x q. ⊎_elim
-                (λ t. views_on (λ y. PassHolds bases opened code log s.words y) s.views id v' fits (λ i y n e. home.each_view i y e) j x t)
-                (λ t. subst (λ y. PassHolds bases opened code log s.words y) t fits_new)
-                (at_snoc (set s.views id v') u x j q);
-            tree = subst (λ ls. IsPassTree ls) (sym (map-append base_pass_id (set s.views id v') (u ∷ [])
-                ∙ ap (λ ls. ls ++ base_pass_id u ∷ []) (map-set base_pass_id s.views id v'))) tree;
-            tally = λ t k h. sum (places_at t k) (sums.places t k) ∙ home.tally t k h;
-            claims = λ t g b h. sum (base_claims_at t g b) (sums.claims t g b) ∙ home.claims t g b h;
-            carriers = λ t h. sum (carries_at t) (sums.carries t) ∙ home.carriers t h;
-          }
+          reviewed (slice_set s.views id v' ++ u ∷ [])
+          (totalled (v ∷ []) (v' ∷ u ∷ []) s.views (slice_set s.views id v' ++ u ∷ []) same
+          (λ f q. omega (arith, q, total_set f s.views id v v' at, total-append f (set s.views id v') (u ∷ []))))
+          (λ j x q. ⊎_elim
+          (λ t. views_on (λ y. PassHolds bases opened code log s.words y) s.views id v' fits (λ i y n e. home.each_view i y e) j x t)
+          (λ t. subst (λ y. PassHolds bases opened code log s.words y) t fits_new)
+          (at_snoc (set s.views id v') u x j q))
+          (subst (λ ls. IsPassTree ls) (sym (map-append base_pass_id (set s.views id v') (u ∷ [])
+          ∙ ap (λ ls. ls ++ base_pass_id u ∷ []) (map-set base_pass_id s.views id v'))) tree)
 
     -- One seat has taken in another.
     module _ (id other : ℕ) (v v' u u' : BaseView BaseContent) (at : get_elem? s.views id ≡ some v) (at_other : get_elem? (set s.views id v') other ≡ some u)
         (fits : PassHolds bases opened code log s.words v') (fits_left : PassHolds bases opened code log s.words u')
         (tree : IsPassTree (set (set (map base_pass_id s.views) id (base_pass_id v')) other (base_pass_id u')))
-        (sums : Sums v' u' v u) where
+        (same : SameTotals (v ∷ u ∷ []) (v' ∷ u' ∷ [])) where
       pub merged : RowHolds bases opened code log record { words = s.words; homes = s.homes; views = slice_set (slice_set s.views id v') other u' }
       merged =
-          let sum : (f : BaseView BaseContent → ℕ) → f v' + f u' ≡ f v + f u
-          → total f (set (set s.views id v') other u') ≡ total f s.views = λ f q. omega
-          (arith, total_set f s.views id v v' at, total_set f (set s.views id v') other u u' at_other) in
-          record {
-            allowed = home.allowed;
-            words_len = home.words_len;
-            homes_len = home.homes_len;
-            each_base = λ b h. cell_on _ _ _ _ _ _ _ _ (home.each_base b h) (sum (holds_at b) (sums.holds b))
-                (λ k. sum (takes_at b k) (sums.takes b k)) (λ z. refl);
-            each_timer = home.each_timer;
-            each_view = views_on (λ y. PassHolds bases opened code log s.words y) (set s.views id v') other u' fits_left
-                (λ j x n q. views_on (λ y. PassHolds bases opened code log s.words y) s.views id v' fits (λ i y m e. home.each_view i y e) j x q);
-            tree = subst (λ ls. IsPassTree ls) (sym (map-set base_pass_id (set s.views id v') other u'
-                ∙ ap (λ ls. set ls other (base_pass_id u')) (map-set base_pass_id s.views id v'))) tree;
-            tally = λ t k h. sum (places_at t k) (sums.places t k) ∙ home.tally t k h;
-            claims = λ t g b h. sum (base_claims_at t g b) (sums.claims t g b) ∙ home.claims t g b h;
-            carriers = λ t h. sum (carries_at t) (sums.carries t) ∙ home.carriers t h;
-          }
+          reviewed (slice_set (slice_set s.views id v') other u')
+          (totalled (v ∷ u ∷ []) (v' ∷ u' ∷ []) s.views (slice_set (slice_set s.views id v') other u') same
+          (λ f q. omega (arith, q, total_set f s.views id v v' at, total_set f (set s.views id v') other u u' at_other)))
+          (views_on (λ y. PassHolds bases opened code log s.words y) (set s.views id v') other u' fits_left
+          (λ j x n q. views_on (λ y. PassHolds bases opened code log s.words y) s.views id v' fits (λ i y m e. home.each_view i y e) j x q))
+          (subst (λ ls. IsPassTree ls) (sym (map-set base_pass_id (set s.views id v') other u'
+          ∙ ap (λ ls. set ls other (base_pass_id u')) (map-set base_pass_id s.views id v'))) tree)

@@ -1,8 +1,8 @@
 -- What a pass knows of the base that it holds, for the next entry.
 use Rattle.std.proofs.Common.{◌≡◌, ℕ, ◌<◌, ◌+◌, List, [], ◌∷◌, length, ap, sym, ◌∙◌, subst, arith}
-use Rattle.std.specs.Prelude.{slice_index, Option, Some}
+use Rattle.std.specs.Prelude.{slice_index, Some}
 use Rattle.pass_names.specs.Passes.{Begins}
-use Rattle.atomic_table.specs.Table.{Me, rest}
+use Rattle.atomic_table.specs.Table.{rest}
 use Rattle.seq_timer.specs.declared.event.Event.{Event}
 use Rattle.base_row.specs.declared.view.Opening.{Opening}
 use Rattle.seq_timer.specs.Steps.{Timer}
@@ -11,14 +11,17 @@ use Rattle.seq_timer.specs.Bases.{IsQueuedAs}
 use Rattle.seq_timer.specs.Contents.{IsContentOf}
 use Rattle.base_row.specs.declared.view.HeldContent.{HeldContent}
 use Rattle.base_row.specs.declared.view.BaseView.{BaseView}
-use Rattle.seq_timer.specs.Systems.{BaseContent, System, IsOn, changed, entries_of}
-use Rattle.seq_timer.specs.Systems.{IsFresh}
+use Rattle.seq_timer.specs.Systems.{BaseContent, System, IsFresh, IsOn, changed, entries_of}
 use Rattle.base_row.specs.Rules.{now, number_of}
-use Rattle.base_row.specs.Plays.{KnowsBases, IsResting, EntersAs, carried_slots, FreedBase, Steady, having_freed}
+use Rattle.base_row.specs.Plays.{SeatState, KnowsBases, KnowsOwn, IsResting, EntersAs, carried_slots, FreedBase, Steady, having_freed}
 use Rattle.base_row.specs.Calls.{Appended, timer_seen, LetsGo}
 use Rattle.seq_timer.proofs.Systems.{shows}
 use Rattle.seq_timer.proofs.Agreement.{agrees}
 use Rattle.seq_timer.proofs.Contents.{IsQueuedAs-from}
+
+-- what a pass of a row knows, in the words of the row
+pub knows_about : (o : Opening) (v : BaseView BaseContent) → v.opening ≡ o → KnowsOwn v → KnowsBases o.bases o.timers number_of v
+knows_about o v about knows = subst (λ (q : Opening). KnowsBases q.bases q.timers number_of v) about knows
 
 module _ (bases : ℕ) (opened : List Timer) (code : Timer → ℕ) (v : BaseView BaseContent) (h : HeldContent BaseContent)
     (knows : KnowsBases bases opened code v) (held : v.held ≡ Some h) (t : ℕ) (within : t < length opened) where
@@ -47,60 +50,66 @@ module _ (bases : ℕ) (opened : List Timer) (code : Timer → ℕ) (v : BaseVie
       (IsQueuedAs-from w.timers t (w.bases h.base).content (all.apart t) (subst (λ b. IsContentOf w.timers b (w.bases h.base).content)
       (sym here) (all.contents h.base)))
 
+-- a held base has a state of each timer
+pub room_held : (o : Opening) (v : BaseView BaseContent) (h g : HeldContent BaseContent) → v.opening ≡ o → KnowsOwn v → v.held ≡ Some h → g ≡ h
+    → (t : ℕ) → t < length o.timers → t < length g.content.states
+room_held o v h g about knows held is t within = subst (λ (x : HeldContent BaseContent). t < length x.content.states) (sym is)
+    (room o.bases o.timers number_of v h (knows_about o v about knows) held t within)
+
 -- what a seat is like after an entry
-pub record Rested (o : Opening) (h : HeldContent BaseContent) (t : ℕ) (event : Event) (me new : Me (Option BaseContent) (BaseView BaseContent)) : Type 0 where
+pub record Rested (o : Opening) (h : HeldContent BaseContent) (t : ℕ) (event : Event) (me new : SeatState) : Type 0 where
   pub resting : IsResting new
   pub adds : Appended o h t event me.0 new.0
   pub about : new.0.opening ≡ o
   pub held : new.0.held ≡ Some (record { base = h.base; word = h.word; content = changed t (timer_seen o me.0 t) event h.content })
 
-pub rested : (o : Opening) (h : HeldContent BaseContent) (t : ℕ) (event : Event) (me new : Me (Option BaseContent) (BaseView BaseContent))
+pub rested : (o : Opening) (h : HeldContent BaseContent) (t : ℕ) (event : Event) (me new : SeatState)
     → me.0.opening ≡ o → IsResting me → me.0.held ≡ Some h → EntersAs o.bases o.timers number_of h t event me new → Rested o h t event me new
 rested o h t event me new about resting held told =
-    let opening : new.0.opening ≡ o = ap (λ (m : Me (Option BaseContent) (BaseView BaseContent)). m.0.opening) told.rest ∙ about in
-    let now_held = ap (λ (m : Me (Option BaseContent) (BaseView BaseContent)). m.0.held) told.rest in
+    let opening : new.0.opening ≡ o = ap (λ (m : SeatState). m.0.opening) told.rest ∙ about in
+    let now_held = ap (λ (m : SeatState). m.0.held) told.rest in
     record {
       resting = record {
-        live = ap (λ (m : Me (Option BaseContent) (BaseView BaseContent)). m.0.id.live) told.rest ∙ resting.live;
-        heard = ap (λ (m : Me (Option BaseContent) (BaseView BaseContent)). m.0.heard) told.rest;
-        carried = ap (λ (m : Me (Option BaseContent) (BaseView BaseContent)). m.1) told.rest
+        live = ap (λ (m : SeatState). m.0.id.live) told.rest ∙ resting.live;
+        heard = ap (λ (m : SeatState). m.0.heard) told.rest;
+        carried = ap (λ (m : SeatState). m.1) told.rest
             ∙ (resting.carried ∙ (ap carried_slots held ∙ sym (ap carried_slots now_held)));
         knows = subst (λ (q : Opening). KnowsBases q.bases q.timers number_of new.0) (sym opening) told.knows;
       };
-      adds = record { before = told.before; seen = told.seen; own = told.own; rest = ap (λ (m : Me (Option BaseContent) (BaseView BaseContent)). m.0) told.rest };
+      adds = record { before = told.before; seen = told.seen; own = told.own; rest = ap (λ (m : SeatState). m.0) told.rest };
       about = opening;
       held = now_held;
     }
 
 -- a seat that has let its base go
-pub record LetGo (o : Opening) (h : HeldContent BaseContent) (me new : Me (Option BaseContent) (BaseView BaseContent)) : Type 0 where
+pub record LetGo (o : Opening) (h : HeldContent BaseContent) (me new : SeatState) : Type 0 where
   pub resting : IsResting new
   pub free : LetsGo o h me.0 new.0
   pub about : new.0.opening ≡ o
 
-pub let_go : (o : Opening) (h : HeldContent BaseContent) (me mid new : Me (Option BaseContent) (BaseView BaseContent)) → me.0.opening ≡ o
+pub let_go : (o : Opening) (h : HeldContent BaseContent) (me mid new : SeatState) → me.0.opening ≡ o
     → IsResting me → me.0.held ≡ Some h → h.base < o.bases → mid ≡ (me.0, (h.base, Some h.content) ∷ [])
     → FreedBase o.bases o.timers number_of h mid new → LetGo o h me new
 let_go o h me mid new about resting held inside is told =
     let at_first : new ≡ (having_freed new.0.seen h.base (slice_index me.0.met h.base + 1) me.0, []) = told.rest
-    ∙ ap (λ (m : Me (Option BaseContent) (BaseView BaseContent)). (having_freed new.0.seen h.base (slice_index m.0.met h.base + 1) m.0, rest m.1)) is in
+    ∙ ap (λ (m : SeatState). (having_freed new.0.seen h.base (slice_index m.0.met h.base + 1) m.0, rest m.1)) is in
     let word : h.word ≡ slice_index me.0.met h.base = (resting.knows.held h held).1.1 in
-    let opening : new.0.opening ≡ o = ap (λ (m : Me (Option BaseContent) (BaseView BaseContent)). m.0.opening) at_first ∙ about in
+    let opening : new.0.opening ≡ o = ap (λ (m : SeatState). m.0.opening) at_first ∙ about in
     record {
       resting = record {
-        live = ap (λ (m : Me (Option BaseContent) (BaseView BaseContent)). m.0.id.live) at_first ∙ resting.live;
-        heard = ap (λ (m : Me (Option BaseContent) (BaseView BaseContent)). m.0.heard) at_first;
-        carried = ap (λ (m : Me (Option BaseContent) (BaseView BaseContent)). m.1) at_first
-            ∙ sym (ap carried_slots (ap (λ (m : Me (Option BaseContent) (BaseView BaseContent)). m.0.held) at_first));
+        live = ap (λ (m : SeatState). m.0.id.live) at_first ∙ resting.live;
+        heard = ap (λ (m : SeatState). m.0.heard) at_first;
+        carried = ap (λ (m : SeatState). m.1) at_first
+            ∙ sym (ap carried_slots (ap (λ (m : SeatState). m.0.held) at_first));
         knows = subst (λ (q : Opening). KnowsBases q.bases q.timers number_of new.0) (sym opening) told.knows;
       };
       free = record {
-        rest = ap (λ (m : Me (Option BaseContent) (BaseView BaseContent)). m.0) at_first ∙ ap (λ x. having_freed new.0.seen h.base (x + 1) me.0) (sym word);
-        seen = subst (λ (m : Me (Option BaseContent) (BaseView BaseContent)). Begins m.0.seen new.0.seen) is told.seen;
-        own = subst (λ (m : Me (Option BaseContent) (BaseView BaseContent)). (t : ℕ) → t < length o.timers → IsOn h.base (timer_seen o m.0 t)
+        rest = ap (λ (m : SeatState). m.0) at_first ∙ ap (λ x. having_freed new.0.seen h.base (x + 1) me.0) (sym word);
+        seen = subst (λ (m : SeatState). Begins m.0.seen new.0.seen) is told.seen;
+        own = subst (λ (m : SeatState). (t : ℕ) → t < length o.timers → IsOn h.base (timer_seen o m.0 t)
             → entries_of t new.0.seen ≡ entries_of t m.0.seen) is told.own;
         content = told.content;
-        steady = subst (λ (m : Me (Option BaseContent) (BaseView BaseContent)). Steady m.0 new.0) is told.steady;
+        steady = subst (λ (m : SeatState). Steady m.0 new.0) is told.steady;
       };
       about = opening;
     }

@@ -1,17 +1,14 @@
 -- What the rule tells of what a pass knows that has seen the whole history.
-use Rattle.std.proofs.Common.{◌≡◌, ℕ, zero, suc, ◌<◌, ◌≤◌, ◌≢◌, true, false, List, [], ◌∷◌, length, map, set, refl, ap, sym, ◌∙◌, subst, ⊎_elim, arith}
+use Rattle.std.proofs.Common.{◌≡◌, ℕ, ◌<◌, ◌≤◌, true, List, length, ap, sym, ◌∙◌, subst, arith}
 use Rattle.std.specs.Prelude.{Option}
-use Rattle.std.proofs.lemmas.Bool.{cases_Bool}
 use Rattle.std.proofs.lemmas.Bool.Decides.{nat_tests}
-use mathlib.Core.Option.{some, some-ne-none}
+use mathlib.Core.Option.{some}
 use lib.ListN.{get_elem?}
 use Rattle.atomic_table.specs.Table.{State}
-use Rattle.atomic_table.proofs.Lists.{at_map}
 use Rattle.pass_names.specs.Counts.{one_if, count}
-use Rattle.pass_names.specs.Names.{IsLast}
 use Rattle.pass_names.specs.Passes.{within, is_place}
-use Rattle.pass_names.proofs.Names.{last_alone}
-use Rattle.pass_names.proofs.Counts.{met, total_only, total_at}
+use Rattle.pass_names.proofs.Counts.{met, total_at}
+use Rattle.pass_names.proofs.Last.{total_last}
 use Rattle.seq_timer.specs.Steps.{Timer}
 use Rattle.seq_timer.specs.declared.system.TimerEntry.{TimerEntry}
 use Rattle.base_row.specs.declared.view.BaseView.{BaseView}
@@ -19,11 +16,6 @@ use Rattle.seq_timer.specs.Systems.{BaseContent, first_system, AreSystemSteps}
 use Rattle.base_row.specs.Rules.{base_pass_id, places_at, base_claims_at, takes_at, carries_at, runs, now, PassHolds, RowHolds}
 use Rattle.base_row.specs.Plays.{KnowsBases}
 use Rattle.base_row.proofs.Frames.{carries_one}
-
-pub set_there : {A : Type 0} (l : List A) (i : ℕ) (a b : A) → get_elem? l i ≡ some a → get_elem? (set l i b) i ≡ some b
-set_there [] i a b e = absurd (some-ne-none a (sym e))
-set_there (x ∷ xs) zero a b e = refl
-set_there (x ∷ xs) (suc i) a b e = set_there xs i a b e
 
 in_range : (k n : ℕ) → 0 < k → k ≤ n → one_if (within k n) ≡ 1
 in_range k n h le = grind (arith, nat_tests)
@@ -33,14 +25,6 @@ module _ (bases : ℕ) (opened : List Timer) (code : Timer → ℕ) (log : List 
     (id : ℕ) (v : BaseView BaseContent) (at : get_elem? s.views id ≡ some v) (live : v.id.live ≡ true) (whole : v.seen ≡ log) where
   fits : PassHolds bases opened code log s.words v
   fits = home.each_view id v at
-
-  others_gone : IsLast v.id → (j : ℕ) (u : BaseView BaseContent) → j ≢ id → get_elem? s.views j ≡ some u → u.id.live ≡ false
-  others_gone last j u apart at_u =
-      ⊎_elim
-      (λ t. absurd (apart (last_alone (map base_pass_id s.views) home.tree id j (base_pass_id v) (base_pass_id u)
-      (at_map base_pass_id s.views id v at) live last (at_map base_pass_id s.views j u at_u) t)))
-      (λ f. f)
-      (cases_Bool u.id.live)
 
   as_seen : (P : Timer → Type 0) (t : ℕ) → P ((now bases opened code log).timers t) → P ((now bases opened code v.seen).timers t)
   as_seen P t p = subst (λ l. P ((now bases opened code l).timers t)) (sym whole) p
@@ -54,11 +38,11 @@ module _ (bases : ℕ) (opened : List Timer) (code : Timer → ℕ) (log : List 
     claims = λ t g b h some_one. as_seen (λ (x : Timer). runs g b x ≡ true) t
         (met (runs g b ((now bases opened code log).timers t)) (omega (arith, home.claims t g b h, total_at (base_claims_at t g b) s.views id v at)));
     all_entries = λ last t k h. as_seen (λ (x : Timer). places_at t k v ≡ one_if (within k x.stamp)) t
-        (sym (total_only (places_at t k) s.views id v at (λ j u apart at_u. ap (count (is_place t k))
-        ((home.each_view j u at_u).gone (others_gone last j u apart at_u)).0)) ∙ home.tally t k h);
+        (sym (total_last base_pass_id s.views home.tree id v at live last (places_at t k)
+        (λ j u at_u off. ap (count (is_place t k)) ((home.each_view j u at_u).gone off).0)) ∙ home.tally t k h);
     all_takes = λ last b k h some_one below.
         let c = home.each_base b h in
-        let all = total_only (takes_at b k) s.views id v at (λ j u apart at_u. ap (count (is_place b k))
-        ((home.each_view j u at_u).gone (others_gone last j u apart at_u)).1.1) in
+        let all = total_last base_pass_id s.views home.tree id v at live last (takes_at b k)
+        (λ j u at_u off. ap (count (is_place b k)) ((home.each_view j u at_u).gone off).1.1) in
         omega (arith, all, c.each k, in_range k c.taken some_one (omega (arith, fits.met b h, c.number, c.once)));
   }

@@ -11,7 +11,7 @@ use prog.Atomic.{either}
 use Rattle.atomic_table.specs.Table.{State, step, Act, keeps, takes, gives, Valid, carried_after, Allows, stepped}
 use Rattle.pass_names.specs.Counts.{one_if, total}
 use Rattle.pass_names.specs.Passes.{within}
-use Rattle.pass_names.proofs.Counts.{met, total_set, total_at}
+use Rattle.pass_names.proofs.Counts.{met, set_there, total_set, total_at}
 use Rattle.pass_names.proofs.Passes.{begins_refl, begins_nil, count_place, within_more}
 use Rattle.seq_timer.specs.Steps.{Timer}
 use Rattle.seq_timer.specs.declared.system.TimerEntry.{TimerEntry}
@@ -22,7 +22,7 @@ use Rattle.base_row.specs.Rules.{held_in, holds_at, takes_at, LockState, now, He
 use Rattle.base_row.specs.Plays.{having_met, having_taken, having_freed, KnowsBases, LoadedWord, Met, TookBase, FoundTaken, FreedBase}
 use Rattle.base_row.proofs.Frames.{holds_one, turned, locked}
 use Rattle.base_row.proofs.Stable.{stable_own, carry_own}
-use Rattle.base_row.proofs.Knowing.{set_there, knows_of}
+use Rattle.base_row.proofs.Knowing.{knows_of}
 
 -- lock words that are as new as before, and no newer than they are
 pub record Newer (bases : ℕ) (words met met' : List ℕ) : Type 0 where
@@ -158,8 +158,8 @@ module _ (bases : ℕ) (opened : List Timer) (code : Timer → ℕ) where
         × MatchBool hit (TookBase bases opened code b (m + 1) (m + m + 1) (v, []) (w, carried_after [] a))
         (FoundTaken bases opened code b (m + m) (v, []) (slice_index s.words (lock_at b)) (w, carried_after [] a))
 
-    told : (log : List TimerEntry) (s : State (Option BaseContent) (BaseView BaseContent)) → RowHolds bases opened code log s
-        → get_elem? s.views id ≡ some v → (hit : Bool) → eqb (slice_index s.words (lock_at b)) (m + m) ≡ hit → Told hit s
+    told : (log : List TimerEntry) (s : State (Option BaseContent) (BaseView BaseContent))
+        → RowHolds bases opened code log s → get_elem? s.views id ≡ some v → (hit : Bool) → eqb (slice_index s.words (lock_at b)) (m + m) ≡ hit → Told hit s
     told log s home at false miss =
         let fits = home.each_view id v at in
         let l = meets_at slots id v [] live log s home at b inside idle in
@@ -302,7 +302,8 @@ module _ (bases : ℕ) (opened : List Timer) (code : Timer → ℕ) where
     abbrev freed_word : ℕ
     freed_word = slice_index v.met h.base + 1
 
-    frees_at : (log : List TimerEntry) (s : State (Option BaseContent) (BaseView BaseContent)) → RowHolds bases opened code log s → get_elem? s.views id ≡ some v
+    frees_at : (log : List TimerEntry) (s : State (Option BaseContent) (BaseView BaseContent)) → RowHolds bases opened code log s
+        → get_elem? s.views id ≡ some v
         → RowHolds bases opened code log record {
           words = slice_set s.words (lock_at h.base) freed_word;
           homes = slice_set s.homes h.base

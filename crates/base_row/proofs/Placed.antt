@@ -19,9 +19,9 @@ use Rattle.base_row.specs.declared.view.Opening.{Opening}
 use Rattle.base_row.specs.declared.view.BaseView.{BaseView}
 use Rattle.seq_timer.specs.Systems.{BaseContent, System, first_system, after_entry, after_entries, AreSystemSteps, FitsBase, IsFresh}
 use Rattle.seq_timer.specs.Tables.{IsNextDue}
-use Rattle.base_row.specs.Rules.{number_of, now}
+use Rattle.base_row.specs.Rules.{number_of}
 use Rattle.base_row.specs.Plays.{KnowsBases}
-use Rattle.base_row.specs.Calls.{AreFresh, timer_seen}
+use Rattle.base_row.specs.Calls.{AreFresh, base_seen, timer_seen}
 use Rattle.seq_timer.proofs.Systems.{timer_here, timer_else}
 use Rattle.seq_timer.proofs.Agreement.{agrees}
 use Rattle.seq_timer.proofs.Due.{first_due-next, first_due-none}
@@ -50,6 +50,25 @@ module _ (bases count : ℕ) where
   pub untouched : (w : System) (log : List TimerEntry) (t : ℕ) → count ≤ t → AreSystemSteps bases count w log → (after_entries w log).timers t ≡ w.timers t
   untouched w [] t past all = refl
   untouched w (e ∷ es) t past all = untouched (after_entry w e) es t past all.1 ∙ timer_else w e t (λ same. absurd (omega (arith, same, all.0.within)))
+
+-- what the first due pair of a held base says of all timers
+pub record TellsFirst (o : Opening) (v : BaseView BaseContent) (h : HeldContent BaseContent) (reading : ClockReading) (r : Option (ℕ × ℕ)) : Type 0 where
+  pub next : IfSome r (λ p. IsNextDue (timer_seen o v) h.base reading p.1)
+  pub seen : r ≡ first_due (base_seen o v h.base).content reading
+  pub expires : IfSome r (λ p. p.0 ≡ (timer_seen o v p.1).expires)
+  pub within : IfSome r (λ p. p.1 < length o.timers)
+  pub none : IfNone r ((t : ℕ) → is_due_on h.base reading (timer_seen o v t) ≡ false)
+
+-- what a held base's mark says of all timers
+pub record TellsRunning (o : Opening) (v : BaseView BaseContent) (h : HeldContent BaseContent) (r : Option (ℕ × ℕ)) : Type 0 where
+  pub busy : IfSome r (λ m. running_on h.base (timer_seen o v m.0) ≡ Some m.1)
+  pub idle : IfNone r ((t : ℕ) → runs_on h.base (timer_seen o v t) ≡ false)
+
+-- where a base's mark names no run, no function runs there
+pub none_runs : (r : Option ℕ) (b : Bool) → (if b then r else None) ≡ None → (is_some r && b) ≡ false
+none_runs None b e = refl
+none_runs (Some g) true e = absurd (cc)
+none_runs (Some g) false e = refl
 
 -- what the packing of a timer needs of it
 record IsWithin (t : Timer) : Type 0 where
@@ -102,45 +121,34 @@ module _ (o : Opening) (v : BaseView BaseContent) (fresh : AreFresh o.timers) (k
     content_held = subst (λ (b : BaseContent). IsContentOf (timer_seen o v) h.base b.content) (sym (knows.held h held).1.0)
         ((agrees o.bases o.timers v.seen fresh.each knows.allowed).contents h.base)
 
-    pub first_next : (reading : ClockReading) (r : Option (ℕ × ℕ)) → r ≡ first_due h.content.content reading
-        → IfSome r (λ p. IsNextDue (timer_seen o v) h.base reading p.1)
-    first_next reading None is = tt
-    first_next reading (Some p) is = (first_due-next (timer_seen o v) h.base reading h.content.content p content_held (sym is)).0
+    pub tells_first : (reading : ClockReading) (r : Option (ℕ × ℕ)) → r ≡ first_due h.content.content reading → TellsFirst o v h reading r
+    tells_first reading None is = record {
+      next = tt;
+      seen = is ∙ ap (λ (b : BaseContent). first_due b.content reading) (knows.held h held).1.0;
+      expires = tt;
+      within = tt;
+      none = first_due-none (timer_seen o v) h.base reading h.content.content content_held (sym is);
+    }
+    tells_first reading (Some p) is =
+        let due = first_due-next (timer_seen o v) h.base reading h.content.content p content_held (sym is) in
+        record {
+          next = due.0;
+          seen = is ∙ ap (λ (b : BaseContent). first_due b.content reading) (knows.held h held).1.0;
+          expires = due.1;
+          within = ⊎_elim (λ inside. inside)
+              (λ past. absurd (false≢true (subst (λ (x : Timer). is_due_on h.base reading x ≡ true) (none_past p.1 past) due.0.due)))
+              (cases_lt p.1 (length o.timers));
+          none = tt;
+        }
 
-    pub first_seen : (reading : ClockReading) (r : Option (ℕ × ℕ)) → r ≡ first_due h.content.content reading
-        → r ≡ first_due ((now o.bases o.timers number_of v.seen).bases h.base).content reading
-    first_seen reading r is = is ∙ ap (λ (b : BaseContent). first_due b.content reading) (knows.held h held).1.0
-
-    pub first_expires : (reading : ClockReading) (r : Option (ℕ × ℕ)) → r ≡ first_due h.content.content reading
-        → IfSome r (λ p. p.0 ≡ (timer_seen o v p.1).expires)
-    first_expires reading None is = tt
-    first_expires reading (Some p) is = (first_due-next (timer_seen o v) h.base reading h.content.content p content_held (sym is)).1
-
-    pub first_within : (reading : ClockReading) (r : Option (ℕ × ℕ)) → r ≡ first_due h.content.content reading → IfSome r (λ p. p.1 < length o.timers)
-    first_within reading None is = tt
-    first_within reading (Some p) is = ⊎_elim (λ inside. inside)
-        (λ past. absurd (false≢true (subst (λ (x : Timer). is_due_on h.base reading x ≡ true) (none_past p.1 past)
-        (first_due-next (timer_seen o v) h.base reading h.content.content p content_held (sym is)).0.due)))
-        (cases_lt p.1 (length o.timers))
-
-    pub first_none : (reading : ClockReading) (r : Option (ℕ × ℕ)) → r ≡ first_due h.content.content reading
-        → IfNone r ((t : ℕ) → is_due_on h.base reading (timer_seen o v t) ≡ false)
-    first_none reading None is = first_due-none (timer_seen o v) h.base reading h.content.content content_held (sym is)
-    first_none reading (Some p) is = tt
-
-    pub running_busy : (r : Option (ℕ × ℕ)) → r ≡ h.content.content.running → IfSome r (λ m. running_on h.base (timer_seen o v m.0) ≡ Some m.1)
-    running_busy None is = tt
-    running_busy (Some m) is = sym (content_held.running m.0) ∙ (ap (generation_in m.0) (sym is) ∙ named_here m)
+    pub tells_running : (r : Option (ℕ × ℕ)) → r ≡ h.content.content.running → TellsRunning o v h r
+    tells_running None is = record {
+      busy = tt;
+      idle = λ t. none_runs (timer_seen o v t).running (nat_eq (timer_seen o v t).base h.base)
+          (sym (content_held.running t) ∙ ap (generation_in t) (sym is));
+    }
+    tells_running (Some m) is =
+        record { busy = sym (content_held.running m.0) ∙ (ap (generation_in m.0) (sym is) ∙ named_here m); idle = tt }
       where
         named_here : (m : ℕ × ℕ) → generation_in m.0 (Some m) ≡ Some m.1
         named_here m = grind (arith, nat_tests)
-
-    pub running_idle : (r : Option (ℕ × ℕ)) → r ≡ h.content.content.running → IfNone r ((t : ℕ) → runs_on h.base (timer_seen o v t) ≡ false)
-    running_idle None is = λ t. idle (timer_seen o v t).running (nat_eq (timer_seen o v t).base h.base) (sym (content_held.running t)
-        ∙ ap (generation_in t) (sym is))
-      where
-        idle : (r : Option ℕ) (b : Bool) → (if b then r else None) ≡ None → (is_some r && b) ≡ false
-        idle None b e = refl
-        idle (Some g) true e = absurd (cc)
-        idle (Some g) false e = refl
-    running_idle (Some m) is = tt

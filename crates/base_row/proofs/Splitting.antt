@@ -47,7 +47,18 @@ module _ (bases : ℕ) (opened : List Timer) (code : Timer → ℕ) where
   -- a view that has nothing of its own fits, with what was seen and met
   fits_reader : (log : List TimerEntry) (words : List ℕ) (pass : PassId) (opening : Opening) (v : BaseView BaseContent)
       → PassHolds bases opened code log words v → (pass.live ≡ true → length v.met ≡ bases)
-      → PassHolds bases opened code log words record { id = pass; opening = opening; seen = v.seen; heard = []; mine = []; claims = []; held = None; carry = None; takes = []; met = v.met }
+      → PassHolds bases opened code log words record {
+        id = pass;
+        opening = opening;
+        seen = v.seen;
+        heard = [];
+        mine = [];
+        claims = [];
+        held = None;
+        carry = None;
+        takes = [];
+        met = v.met;
+      }
   fits_reader log words pass opening v fits full = record {
     seen = fits.seen;
     heard = begins_nil log;
@@ -162,7 +173,8 @@ module _ (bases : ℕ) (opened : List Timer) (code : Timer → ℕ) where
       )
 
   -- a note is taken in
-  pub tells : (id other : ℕ) (v x : BaseView BaseContent) → Joins (HasOneHistory bases opened code) id v other (base_note_of x) (told_base_view v (base_note_of x)) gone_base_view
+  pub tells : (id other : ℕ) (v x : BaseView BaseContent)
+      → Joins (HasOneHistory bases opened code) id v other (base_note_of x) (told_base_view v (base_note_of x)) gone_base_view
   tells id other v x s (log, home) at apart at_other =
       let u = base_note_of x in
       let fits = home.each_view id v at in

@@ -4,18 +4,16 @@ use Rattle.std.proofs.Common.{◌≡◌, ℕ, eqb, ◌+◌, ◌<◌, Bool, true,
 use Rattle.std.specs.Prelude.{slice_index, Option, Some, None, MatchBool}
 use mathlib.Core.Option.{none}
 use prog.Atomic.{either}
-use Rattle.atomic_table.specs.Table.{Me, step, carried_after, Allows}
+use Rattle.atomic_table.specs.Table.{step, carried_after, Allows}
 use Rattle.seq_timer.specs.Steps.{Timer}
 use Rattle.base_row.specs.declared.view.HeldContent.{HeldContent}
 use Rattle.base_row.specs.declared.view.Opening.{Opening}
 use Rattle.base_row.specs.declared.view.BaseView.{BaseView}
 use Rattle.seq_timer.specs.Systems.{BaseContent}
 use Rattle.base_row.specs.Rules.{number_of, HasOneHistory}
-use Rattle.base_row.specs.Plays.{LoadedWord, Met, TookBase, FoundTaken, FreedBase, LooksOwn, MeetsOwn, TakesAt, TakesOwn, FreesOwn}
+use Rattle.base_row.specs.Plays.{SeatState, LoadedWord, Met, TookBase, FoundTaken, FreedBase, LooksOwn, MeetsOwn, TakesAt, TakesOwn, FreesOwn}
+use Rattle.base_row.proofs.Frames.{some_same}
 use Rattle.base_row.proofs.Looking.{looks, meets, takes_lock, frees}
-
-some_same : (h g : HeldContent BaseContent) → Some h ≡ Some g → h ≡ g
-some_same h g e = cc
 
 module _ (bases : ℕ) (opened : List Timer) (id : ℕ) (v : BaseView BaseContent)
     (opening : v.opening ≡ record { bases = bases; timers = opened }) (live : v.id.live ≡ true) (slots : ℕ) where
@@ -42,7 +40,7 @@ module _ (bases : ℕ) (opened : List Timer) (id : ℕ) (v : BaseView BaseConten
             (subst (λ x. Met bases opened number_of x (v, carried) (slice_index s.words (lock_at b)) (r.0, carried_after carried r.1)) (omega arith) r.4),
       ))
 
-  hit_or_miss : (b m : ℕ) (found : ℕ) (hit : Bool) (new : Me (Option BaseContent) (BaseView BaseContent))
+  hit_or_miss : (b m : ℕ) (found : ℕ) (hit : Bool) (new : SeatState)
       → MatchBool hit (TookBase bases opened number_of b (m + 1) (m + m + 1) (v, []) new) (FoundTaken bases opened number_of b (m + m) (v, []) found new)
       → MatchBool hit ((k : ℕ) × (m + m + 2 ≡ k + k) × TookBase bases opened number_of b k (m + m + 1) (v, []) new)
       (FoundTaken bases opened number_of b (m + m) (v, []) found new)

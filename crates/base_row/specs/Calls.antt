@@ -1,5 +1,5 @@
 -- What calls on a row say of the pass that makes them.
-use Rattle.std.specs.Prelude.{◌≡◌, ℕ, ◌+◌, ◌-◌, ◌^◌, ◌<◌, ◌≤◌, ◌≢◌, ◌⊎◌, List, [], ◌∷◌, ◌++◌, length, slice_index, Some}
+use Rattle.std.specs.Prelude.{◌≡◌, ℕ, ◌+◌, ◌-◌, ◌^◌, ◌<◌, ◌≤◌, ◌⊎◌, List, [], ◌∷◌, ◌++◌, length, slice_index, Some}
 use Rattle.atomic_table.specs.Seated.{TableId}
 use Rattle.ktime.specs.declared.clock_id.ClockId.{ClockId}
 use Rattle.pass_names.specs.Passes.{Begins}
@@ -15,7 +15,7 @@ use Rattle.base_row.specs.declared.view.HeldContent.{HeldContent}
 use Rattle.base_row.specs.declared.view.Opening.{Opening}
 use Rattle.base_row.specs.declared.view.BaseView.{BaseView}
 use Rattle.base_row.specs.Rules.{now, number_of}
-use Rattle.base_row.specs.Plays.{MayEnter, Missed, OwnNeeds, Steady, carry_after, claims_with_event}
+use Rattle.base_row.specs.Plays.{MayEnter, Missed, NoOlder, OwnNeeds, SameElsewhere, Steady, carry_after, claims_with_event}
 use Rattle.base_row.specs.Plays.{entry_of_event, greater, having_entered, having_freed, having_met, joined_base_view, seen_timer}
 
 -- a row, and what it was made of
@@ -77,16 +77,16 @@ pub record GetsBase (base : ℕ) (v w : BaseView BaseContent) (h : HeldContent B
   pub number : ℕ
   pub rest : w ≡ record v { seen = w.seen; heard = []; held = Some h; takes = v.takes ++ (base, number) ∷ []; met = w.met }
   pub word : slice_index w.met base + 1 ≡ number + number
-  pub newer : slice_index v.met base ≤ slice_index w.met base
-  pub apart : (c : ℕ) → c ≢ base → slice_index w.met c ≡ slice_index v.met c
+  pub newer : NoOlder base v w
+  pub apart : SameElsewhere base v w
   pub seen : Begins v.seen w.seen
   pub steady : Steady v w
 
 -- a pass has looked at a base's lock, and has not got it
 pub record Waits (base : ℕ) (v w : BaseView BaseContent) : Type 0 where
   pub rest : w ≡ record v { seen = w.seen; heard = w.heard; met = w.met }
-  pub newer : slice_index v.met base ≤ slice_index w.met base
-  pub apart : (c : ℕ) → c ≢ base → slice_index w.met c ≡ slice_index v.met c
+  pub newer : NoOlder base v w
+  pub apart : SameElsewhere base v w
   pub seen : Begins v.seen w.seen
   pub steady : Steady v w
 

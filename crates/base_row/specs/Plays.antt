@@ -17,6 +17,14 @@ use Rattle.base_row.specs.declared.view.BaseView.{BaseView}
 use Rattle.seq_timer.specs.Systems.{BaseContent, first_system, IsSystemStep, AreSystemSteps, changed, entries_of, IsOn}
 use Rattle.base_row.specs.Rules.{is_base_claim, carried_in, number_of, now, runs, places_at, base_claims_at, carries_at, takes_at}
 
+-- what a pass's seat has: what the pass knows, and the slots that it carries
+abbrev pub SeatState : Type 0
+SeatState = Me (Option BaseContent) (BaseView BaseContent)
+
+-- what a step tells of the seat before, the number found or stored, and the seat after
+abbrev pub StepMeaning : Type 1
+StepMeaning = Step (Option BaseContent) → SeatState → ℕ → SeatState → Type 0
+
 -- a pass that has seen this, and knows these lock words
 abbrev pub having_met : List TimerEntry → List ℕ → BaseView BaseContent → BaseView BaseContent
 having_met seen met v = record v { seen = seen; heard = []; met = met }
@@ -121,24 +129,30 @@ gone_base_view = record {
   met = [];
 }
 
+-- a pass that was told what another has seen and met
+abbrev pub told_base_view : (v other : BaseView BaseContent) → BaseView BaseContent
+told_base_view v u = record v { heard = u.seen; met = greater v.met u.met }
+
 -- a pass that has taken in another
 abbrev pub joined_base_view : BaseView BaseContent → BaseView BaseContent → BaseView BaseContent
-joined_base_view v u = record v {
+joined_base_view v u = record (told_base_view v u) {
   id = after_retire v.id u.id;
-  heard = u.seen;
   mine = v.mine ++ u.mine;
   claims = v.claims ++ u.claims;
   takes = v.takes ++ u.takes;
-  met = greater v.met u.met;
 }
-
--- a pass that was told what another has seen and met
-abbrev pub told_base_view : BaseView BaseContent → BaseView BaseContent → BaseView BaseContent
-told_base_view v u = record v { heard = u.seen; met = greater v.met u.met }
 
 -- of the timer that a pass carries nothing more was seen
 abbrev pub Steady : BaseView BaseContent → BaseView BaseContent → Type 0
 Steady v w = (t : ℕ) → v.carry ≡ Some t → entries_of t w.seen ≡ entries_of t v.seen
+
+-- the lock words of all bases but this one are known as before
+abbrev pub SameElsewhere : ℕ → BaseView BaseContent → BaseView BaseContent → Type 0
+SameElsewhere base v w = (c : ℕ) → c ≢ base → slice_index w.met c ≡ slice_index v.met c
+
+-- and this base's is known to be no older
+abbrev pub NoOlder : (base : ℕ) (v w : BaseView BaseContent) → Type 0
+NoOlder base v w = slice_index v.met base ≤ slice_index w.met base
 
 -- a take of the base by another pass came between
 abbrev pub Missed : BaseView BaseContent → ℕ → ℕ → ℕ → Type 0
@@ -157,8 +171,8 @@ module _ (bases : ℕ) (opened : List Timer) (code : Timer → ℕ) where
     pub all_takes : IsLast v.id → (b k : ℕ) → b < bases → 0 < k → k + k ≤ slice_index v.met b + 1 → takes_at b k v ≡ 1
 
   -- a load of word 0 or of a timer's word
-  pub record LoadedWord (st : Step (Option BaseContent)) (me : Me (Option BaseContent) (BaseView BaseContent)) (found : ℕ)
-      (new : Me (Option BaseContent) (BaseView BaseContent)) : Type 0 where
+  pub record LoadedWord (st : Step (Option BaseContent)) (me : SeatState) (found : ℕ)
+      (new : SeatState) : Type 0 where
     pub rest : new ≡ (having_met new.0.seen me.0.met me.0, me.1)
     pub seen : Begins me.0.seen new.0.seen
     pub heard : Begins me.0.heard new.0.seen
@@ -167,7 +181,7 @@ module _ (bases : ℕ) (opened : List Timer) (code : Timer → ℕ) where
     pub timer : (t : ℕ) → st.word ≡ word_at bases t → t < length opened → found ≡ code ((now bases opened code new.0.seen).timers t)
 
   -- a load of a base's lock word
-  pub record Met (b : ℕ) (me : Me (Option BaseContent) (BaseView BaseContent)) (found : ℕ) (new : Me (Option BaseContent) (BaseView BaseContent)) : Type 0 where
+  pub record Met (b : ℕ) (me : SeatState) (found : ℕ) (new : SeatState) : Type 0 where
     pub rest : new ≡ (having_met new.0.seen (set me.0.met b found) me.0, me.1)
     pub seen : Begins me.0.seen new.0.seen
     pub heard : Begins me.0.heard new.0.seen
@@ -179,8 +193,8 @@ module _ (bases : ℕ) (opened : List Timer) (code : Timer → ℕ) where
     pub knows : KnowsBases new.0
 
   -- an exchange that took a base's lock
-  pub record TookBase (b number word : ℕ) (me : Me (Option BaseContent) (BaseView BaseContent))
-      (new : Me (Option BaseContent) (BaseView BaseContent)) : Type 0 where
+  pub record TookBase (b number word : ℕ) (me : SeatState)
+      (new : SeatState) : Type 0 where
     pub content : BaseContent
     pub rest : new ≡ (having_taken new.0.seen b content number word me.0, (b, Some content) ∷ [])
     pub is : slice_index new.0.met b ≡ word
@@ -190,13 +204,13 @@ module _ (bases : ℕ) (opened : List Timer) (code : Timer → ℕ) where
     pub knows : KnowsBases new.0
 
   -- an exchange that found the lock taken, or taken since it was met
-  pub record FoundTaken (b old : ℕ) (me : Me (Option BaseContent) (BaseView BaseContent)) (found : ℕ)
-      (new : Me (Option BaseContent) (BaseView BaseContent)) : Type 0 where
+  pub record FoundTaken (b old : ℕ) (me : SeatState) (found : ℕ)
+      (new : SeatState) : Type 0 where
     pub met : Met b me found new
     pub missed : Missed me.0 b old found
 
-  pub record FreedBase (h : HeldContent BaseContent) (me : Me (Option BaseContent) (BaseView BaseContent))
-      (new : Me (Option BaseContent) (BaseView BaseContent)) : Type 0 where
+  pub record FreedBase (h : HeldContent BaseContent) (me : SeatState)
+      (new : SeatState) : Type 0 where
     pub rest : new ≡ (having_freed new.0.seen h.base (slice_index me.0.met h.base + 1) me.0, rest me.1)
     pub seen : Begins me.0.seen new.0.seen
     -- of the timers on the base nothing more was seen
@@ -253,7 +267,7 @@ module _ (bases : ℕ) (opened : List Timer) (code : Timer → ℕ) where
 
   -- what the store of a timer's word tells
   pub record EnteredTimer (h : HeldContent BaseContent) (e : TimerEntry) (claims : List Claimed) (carry : Option ℕ)
-      (me : Me (Option BaseContent) (BaseView BaseContent)) (new : Me (Option BaseContent) (BaseView BaseContent)) : Type 0 where
+      (me : SeatState) (new : SeatState) : Type 0 where
     pub before : List TimerEntry
     pub seen : Begins me.0.seen before
     pub own : entries_of e.timer before ≡ entries_of e.timer me.0.seen
@@ -265,12 +279,12 @@ module _ (bases : ℕ) (opened : List Timer) (code : Timer → ℕ) where
   entry_of_event v t event = record { timer = t; event = event; reply = reply_to (seen_timer v t) event }
 
   -- the store tells so of an entry with its own claims and carry
-  abbrev pub EntersAs : HeldContent BaseContent → ℕ → Event → Me (Option BaseContent) (BaseView BaseContent)
-      → Me (Option BaseContent) (BaseView BaseContent) → Type 0
+  abbrev pub EntersAs : HeldContent BaseContent → ℕ → Event → SeatState
+      → SeatState → Type 0
   EntersAs h t event me new = EnteredTimer h (entry_of_event me.0 t event) (claims_with_event t (seen_timer me.0 t) event me.0.claims)
       (carry_after t (seen_timer me.0 t) event me.0.carry) me new
 
-abbrev pub EntersBy : Event → Step (Option BaseContent) → Me (Option BaseContent) (BaseView BaseContent) → Me (Option BaseContent) (BaseView BaseContent) → Type 0
+abbrev pub EntersBy : Event → Step (Option BaseContent) → SeatState → SeatState → Type 0
 EntersBy event st me new = (h : HeldContent BaseContent) (t : ℕ) → me.0.held ≡ Some h → st.word ≡ word_at me.0.opening.bases t
     → EntersAs me.0.opening.bases me.0.opening.timers number_of h t event me new
 
@@ -284,33 +298,32 @@ abbrev pub KnowsOwn : BaseView BaseContent → Type 0
 KnowsOwn v = KnowsBases v.opening.bases v.opening.timers number_of v
 
 -- what a seat of a pass is like between calls
-pub record IsResting (me : Me (Option BaseContent) (BaseView BaseContent)) : Type 0 where
+pub record IsResting (me : SeatState) : Type 0 where
   pub live : me.0.id.live ≡ true
   pub heard : me.0.heard ≡ []
   pub carried : me.1 ≡ carried_slots me.0.held
   pub knows : KnowsOwn me.0
 
 -- what single steps tell a seat of a row of its opening
-abbrev pub LooksOwn : Step (Option BaseContent) → Me (Option BaseContent) (BaseView BaseContent) → ℕ → Me (Option BaseContent) (BaseView BaseContent) → Type 0
+abbrev pub LooksOwn : StepMeaning
 LooksOwn st me found new = LoadedWord me.0.opening.bases me.0.opening.timers number_of st me found new
 
-abbrev pub MeetsOwn : Step (Option BaseContent) → Me (Option BaseContent) (BaseView BaseContent) → ℕ → Me (Option BaseContent) (BaseView BaseContent) → Type 0
+abbrev pub MeetsOwn : StepMeaning
 MeetsOwn st me found new = (b : ℕ) → st.word ≡ lock_at b → Met me.0.opening.bases me.0.opening.timers number_of b me found new
 
-abbrev pub TakesAt : Opening → ℕ → Step (Option BaseContent) → Me (Option BaseContent) (BaseView BaseContent) → ℕ
-    → Me (Option BaseContent) (BaseView BaseContent) → Type 0
+abbrev pub TakesAt : Opening → ℕ → StepMeaning
 TakesAt o b st me found new =
     MatchBool (found == st.first) ((k : ℕ) × (st.first + 2 ≡ k + k)
     × TookBase o.bases o.timers number_of b k (st.first + 1) me new) (FoundTaken o.bases o.timers number_of b st.first me found new)
 
-abbrev pub TakesOwn : Step (Option BaseContent) → Me (Option BaseContent) (BaseView BaseContent) → ℕ → Me (Option BaseContent) (BaseView BaseContent) → Type 0
+abbrev pub TakesOwn : StepMeaning
 TakesOwn st me found new = (b : ℕ) → st.word ≡ lock_at b → TakesAt me.0.opening b st me found new
 
-abbrev pub FreesOwn : Step (Option BaseContent) → Me (Option BaseContent) (BaseView BaseContent) → ℕ → Me (Option BaseContent) (BaseView BaseContent) → Type 0
+abbrev pub FreesOwn : StepMeaning
 FreesOwn st me stored new = (h : HeldContent BaseContent) → me.0.held ≡ Some h → FreedBase me.0.opening.bases me.0.opening.timers number_of h me new
 
 -- a seat has got a base
-pub record GotBase (o : Opening) (base : ℕ) (me new : Me (Option BaseContent) (BaseView BaseContent)) (h : HeldContent BaseContent) : Type 0 where
+pub record GotBase (o : Opening) (base : ℕ) (me new : SeatState) (h : HeldContent BaseContent) : Type 0 where
   pub at : h.base ≡ base
   pub number : ℕ
   pub rest : new ≡ (
@@ -325,18 +338,18 @@ pub record GotBase (o : Opening) (base : ℕ) (me new : Me (Option BaseContent) 
     carried_slots (Some h),
   )
   pub word : slice_index new.0.met base + 1 ≡ number + number
-  pub newer : slice_index me.0.met base ≤ slice_index new.0.met base
-  pub apart : (c : ℕ) → c ≢ base → slice_index new.0.met c ≡ slice_index me.0.met c
+  pub newer : NoOlder base me.0 new.0
+  pub apart : SameElsewhere base me.0 new.0
   pub seen : Begins me.0.seen new.0.seen
   pub steady : Steady me.0 new.0
   pub knows : KnowsBases o.bases o.timers number_of new.0
 
 -- a seat has not got a base: another pass took it in between, or it is taken no more
-pub record Lost (o : Opening) (base : ℕ) (me new : Me (Option BaseContent) (BaseView BaseContent)) : Type 0 where
+pub record Lost (o : Opening) (base : ℕ) (me new : SeatState) : Type 0 where
   pub rest : new ≡ (having_met new.0.seen new.0.met me.0, me.1)
   pub missed : Missed me.0 base (slice_index me.0.met base) (slice_index new.0.met base) ⊎ (2 ^ 64 - 2 ≤ slice_index new.0.met base)
-  pub newer : slice_index me.0.met base ≤ slice_index new.0.met base
-  pub apart : (c : ℕ) → c ≢ base → slice_index new.0.met c ≡ slice_index me.0.met c
+  pub newer : NoOlder base me.0 new.0
+  pub apart : SameElsewhere base me.0 new.0
   pub seen : Begins me.0.seen new.0.seen
   pub steady : Steady me.0 new.0
   pub knows : KnowsBases o.bases o.timers number_of new.0

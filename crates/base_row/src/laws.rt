@@ -10,19 +10,23 @@ ghost use Rattle.base_row.specs.Calls.{Absorbs, Appended, AreFresh, LearnsFrom, 
 
 /// Taking a base's lock, letting it go and loading a word add no entry: what was seen goes on, and name, places and claims stay.
 pub fn locks_and_loads_only_look()
-    ensures locks { (base : ℕ) (v w : view.BaseView BaseContent) (h : locked.HeldContent BaseContent) → GetsBase base v w h → LooksOn (known_of v) (known_of w) }
+    ensures locks { (base : ℕ) (v w : view.BaseView BaseContent) (h : locked.HeldContent BaseContent)
+        → GetsBase base v w h → LooksOn (known_of v) (known_of w) }
     ensures waits { (base : ℕ) (v w : view.BaseView BaseContent) → Waits base v w → LooksOn (known_of v) (known_of w) }
-    ensures frees { (o : opening.Opening) (h : locked.HeldContent BaseContent) (v w : view.BaseView BaseContent) → LetsGo o h v w → LooksOn (known_of v) (known_of w) }
+    ensures frees { (o : opening.Opening) (h : locked.HeldContent BaseContent) (v w : view.BaseView BaseContent)
+        → LetsGo o h v w → LooksOn (known_of v) (known_of w) }
     ensures loads { (v w : view.BaseView BaseContent) → SeesFurther v w → LooksOn (known_of v) (known_of w) }
 {}
 
 /// An entry stands right behind what its pass had seen of the timer, and its place last in mine.
 pub fn an_entry_extends_its_timer()
-    ensures { (o : opening.Opening) → AreFresh o.timers → (h : locked.HeldContent BaseContent) (t : ℕ) (event : Event) (v w : view.BaseView BaseContent) → Appended o h t event v w → ExtendsBy entries_of (known_of v) (known_of w) t (own_entry o v t event ∷ []) }
+    ensures { (o : opening.Opening) → AreFresh o.timers → (h : locked.HeldContent BaseContent) (t : ℕ) (event : Event)
+        (v w : view.BaseView BaseContent) → Appended o h t event v w → ExtendsBy entries_of (known_of v) (known_of w) t (own_entry o v t event ∷ []) }
 {}
 
 /// Passes that are taken in and meet.
 pub fn passes_tell_what_they_saw()
     ensures retire { (v u w : view.BaseView BaseContent) → Absorbs v u w → TakesIn (known_of v) (known_of u) (known_of w) }
-    ensures meet { (a b new_a new_b : view.BaseView BaseContent) → LearnsFrom b a new_b → LearnsFrom a new_b new_a → MeetWith (known_of a) (known_of b) (known_of new_a) (known_of new_b) }
+    ensures meet { (a b new_a new_b : view.BaseView BaseContent) → LearnsFrom b a new_b → LearnsFrom a new_b new_a
+        → MeetWith (known_of a) (known_of b) (known_of new_a) (known_of new_b) }
 {}

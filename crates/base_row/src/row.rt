@@ -10,7 +10,8 @@ ghost use Rattle.timer_word.specs.Words.{word_of};
 ghost use Rattle.seq_timer.specs.Contents.{first_due, running_on};
 ghost use Rattle.seq_timer.specs.Systems.{IsOn};
 ghost use Rattle.base_row.specs.Plays.{KnowsOwn, first_base_view, Lost, GotBase, carried_slots, split_base_view, new_base_view, Steady};
-ghost use Rattle.base_row.specs.Calls.{AreFresh, GetsBase, MissesBase, Waits, opening_of, IsBasePassOf, LetsGo, SeesFurther, Absorbs, LearnsFrom, MayAppend, Appended, timer_seen, base_seen};
+ghost use Rattle.base_row.specs.Calls.{AreFresh, GetsBase, MissesBase, opening_of, IsBasePassOf, LetsGo, SeesFurther, Absorbs};
+ghost use Rattle.base_row.specs.Calls.{LearnsFrom, MayAppend, Appended, timer_seen, base_seen};
 
 use crate::held::{HeldBase, Pass};
 use crate::parts::{empty_slots, lock_index, make_timers, number_of, timer_index, zeros};
@@ -44,7 +45,9 @@ impl Model for BaseRow {
 
     ghost view = { λ r. record { id = r.table.shared.table_id; about = record { bases = r.table.shared.key.0; timers = r.table.shared.key.1.value.items } } };
 
-    ghost invariant = { λ r. (r.table.shared.table_id.words ≡ word_at r.table.shared.key.0 (length r.table.shared.key.1.value.items)) × (r.table.shared.table_id.slots ≡ r.table.shared.key.0) × (r.bases ≡ r.table.shared.key.0) × (AreFresh r.table.shared.key.1.value.items) × (0 < r.table.shared.key.0) × (r.table.shared.key.0 ≤ 256) };
+    ghost invariant = { λ r. (r.table.shared.table_id.words ≡ word_at r.table.shared.key.0 (length r.table.shared.key.1.value.items))
+        × (r.table.shared.table_id.slots ≡ r.table.shared.key.0) × (r.bases ≡ r.table.shared.key.0) × (AreFresh r.table.shared.key.1.value.items)
+        × (0 < r.table.shared.key.0) × (r.table.shared.key.0 ≤ 256) };
 }
 
 impl BaseRow {
@@ -197,7 +200,9 @@ impl BaseRow {
         requires within { base < self.now.about.bases }
         requires idle { pass.old.knows.held ≡ None }
         ensures row { IsBasePassOf self.now pass.new }
-        ensures taken { MatchOption result (Lost self.now.about base (pass.old.knows, []) (pass.new.knows, [])) (λ h. GotBase self.now.about base (pass.old.knows, []) (pass.new.knows, carried_slots (Some h)) h) }
+        ensures taken { MatchOption result
+            (Lost self.now.about base (pass.old.knows, []) (pass.new.knows, []))
+            (λ h. GotBase self.now.about base (pass.old.knows, []) (pass.new.knows, carried_slots (Some h)) h) }
     {
         let word = self.lock_word(base);
         attempt(&self.table.shared, &mut pass.seat, base, word)
@@ -213,22 +218,12 @@ impl BaseRow {
     {
         let backoff = Backoff::new();
         for _ in rt.forever() {
-            if let Some(held) = self.look_once(pass, base) {
+            if let Some(held) = self.try_lock_base(pass, base) {
                 return held;
             }
             backoff.snooze();
         }
         unreachable!()
-    }
-
-    fn look_once(&self, pass: &mut Pass, base: u32) -> Option<HeldBase>
-        requires row { IsBasePassOf self.now pass.old }
-        requires within { base < self.now.about.bases }
-        requires idle { pass.old.knows.held ≡ None }
-        ensures row { IsBasePassOf self.now pass.new }
-        ensures taken { MatchOption result (Waits base pass.old.knows pass.new.knows) (λ h. GetsBase base pass.old.knows pass.new.knows h) }
-    {
-        self.try_lock_base(pass, base)
     }
 
     /// Lets a base go.
@@ -256,25 +251,14 @@ impl BaseRow {
         ensures word { result ≡ word_of (timer_seen self.now.about pass.new.knows timer) }
         ensures placed { result.base < self.now.about.bases }
     {
-        let number = self.load_number(pass, timer);
+        let index = self.word_index(timer);
+        let number = look(&self.table.shared, &mut pass.seat, index);
         pass.known();
         self.fresh();
         match TimerWord::unpack(number) {
             Some(word) => word,
             None => unreachable!(),
         }
-    }
-
-    fn load_number(&self, pass: &mut Pass, timer: u32) -> u64
-        requires row { IsBasePassOf self.now pass.old }
-        requires within { timer < length self.now.about.timers }
-        ensures row { IsBasePassOf self.now pass.new }
-        ensures sees { SeesFurther pass.old.knows pass.new.knows }
-        ensures steady { Steady pass.old.knows pass.new.knows }
-        ensures word { result ≡ number_of (timer_seen self.now.about pass.new.knows timer) }
-    {
-        let word = self.word_index(timer);
-        look(&self.table.shared, &mut pass.seat, word)
     }
 
     /// The timer whose function runs on a held base, with its generation.

@@ -50,7 +50,9 @@ fn take_free(
     requires idle { (seat.old.me.0.held ≡ None) × (seat.old.me.1 ≡ []) }
     requires known { (slice_index seat.old.me.0.met base ≡ first) × (first % 2 ≡ 0) × (first < 2 ^ 64 - 2) }
     ensures same { seat.new.table_id ≡ seat.old.table_id }
-    ensures taken { MatchOption result (Lost seat.old.me.0.opening base seat.old.me seat.new.me) (λ h. GotBase seat.old.me.0.opening base seat.old.me seat.new.me h) }
+    ensures taken { MatchOption result
+        (Lost seat.old.me.0.opening base seat.old.me seat.new.me)
+        (λ h. GotBase seat.old.me.0.opening base seat.old.me seat.new.me h) }
 {
     if take(cells, seat, base, word, first) {
         let slot = take_out(cells, seat, base);
@@ -72,7 +74,9 @@ pub fn attempt(cells: &BaseCells, seat: &mut BaseSeat, base: u32, word: usize) -
     requires live { seat.old.me.0.id.live ≡ true }
     requires idle { (seat.old.me.0.held ≡ None) × (seat.old.me.1 ≡ []) }
     ensures same { seat.new.table_id ≡ seat.old.table_id }
-    ensures taken { MatchOption result (Lost seat.old.me.0.opening base seat.old.me seat.new.me) (λ h. GotBase seat.old.me.0.opening base seat.old.me seat.new.me h) }
+    ensures taken { MatchOption result
+        (Lost seat.old.me.0.opening base seat.old.me seat.new.me)
+        (λ h. GotBase seat.old.me.0.opening base seat.old.me seat.new.me h) }
 {
     let first = meet_lock(cells, seat, base, word);
     if first % 2 == 0 && first < LAST {

@@ -34,11 +34,13 @@ pub fn enter<K: Asked>(
     requires word { (word ≡ word_at cells.now.key.0 timer) × (word < cells.now.table_id.words) }
     requires live { seat.old.me.0.id.live ≡ true }
     requires asked { K.event ≡ event.now }
-    requires may { (h : HeldContent BaseContent) × MayEnter cells.now.key.0 cells.now.key.1.value.items number_of seat.old.me.0 h (entry_of_event cells.now.key.0 cells.now.key.1.value.items number_of seat.old.me.0 timer event.now) }
+    requires may { (h : HeldContent BaseContent) × MayEnter cells.now.key.0 cells.now.key.1.value.items number_of seat.old.me.0 h
+        (entry_of_event cells.now.key.0 cells.now.key.1.value.items number_of seat.old.me.0 timer event.now) }
     requires own { OwnNeeds seat.old.me.0 timer (seen_timer cells.now.key.0 cells.now.key.1.value.items number_of seat.old.me.0 timer) event.now }
     requires stamp { stamp ≡ number_of (after (seen_timer cells.now.key.0 cells.now.key.1.value.items number_of seat.old.me.0 timer) event.now) }
     ensures same { seat.new.table_id ≡ seat.old.table_id }
-    ensures entered { (h : HeldContent BaseContent) → seat.old.me.0.held ≡ Some h → EntersAs cells.now.key.0 cells.now.key.1.value.items number_of h timer event.now seat.old.me seat.new.me }
+    ensures entered { (h : HeldContent BaseContent) → seat.old.me.0.held ≡ Some h
+        → EntersAs cells.now.key.0 cells.now.key.1.value.items number_of h timer event.now seat.old.me seat.new.me }
 {
     cells.store::<Enter<K>>(seat, word, stamp)
 }
@@ -89,7 +91,9 @@ pub fn free(cells: &BaseCells, seat: &mut BaseSeat, word: usize, stored: u64)
     requires same { seat.old.table_id ≡ cells.now.table_id }
     requires about { seat.old.me.0.opening ≡ record { bases = cells.now.key.0; timers = cells.now.key.1.value.items } }
     requires live { seat.old.me.0.id.live ≡ true }
-    requires held { (h : HeldContent BaseContent) × (seat.old.me.0.held ≡ Some h) × (seat.old.me.1 ≡ (h.base, Some h.content) ∷ []) × (word ≡ lock_at h.base) × (word < cells.now.table_id.words) × (stored ≡ slice_index seat.old.me.0.met h.base + 1) }
+    requires held { (h : HeldContent BaseContent) × (seat.old.me.0.held ≡ Some h)
+        × (seat.old.me.1 ≡ (h.base, Some h.content) ∷ [])
+        × (word ≡ lock_at h.base) × (word < cells.now.table_id.words) × (stored ≡ slice_index seat.old.me.0.met h.base + 1) }
     ensures same { seat.new.table_id ≡ seat.old.table_id }
     ensures freed { FreesOwn (step cells.now.table_id.slots word stored 0 none) seat.old.me stored seat.new.me }
 {

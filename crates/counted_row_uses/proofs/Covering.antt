@@ -1,22 +1,14 @@
--- The first pass answers for the passes of all lanes.
-use Rattle.std.proofs.Common.{◌≡◌, ℕ, suc, ◌+◌, ◌<◌, List, [], ◌∷◌, ◌++◌, None, length, map, get_or, take, drop, refl, ap, sym, ◌∙◌, arith}
-use Rattle.std.proofs.lemmas.List.{append-nil, drop_all, take_all}
+-- The first pass covers the passes of all lanes.
+use Rattle.std.proofs.Common.{◌≡◌, ℕ, suc, ◌<◌, List, [], ◌∷◌, ◌++◌, None, length, map, get_or, take, drop, refl, ap, sym, ◌∙◌, subst, arith}
+use Rattle.std.proofs.lemmas.List.{append-nil, drop_all, map-append, take_all}
 use Rattle.pass_names.specs.declared.PassId.{PassId}
-use Rattle.pass_names.specs.Counts.{one_if, without_first}
-use Rattle.pass_names.specs.Names.{same, occurrences, AnswersFor, IsLast, after_retire}
-use Rattle.pass_names.proofs.Names.{same-refl, same_eq, occurrences_push}
-use Rattle.pass_names.proofs.Counts.{total-append, count-without_first}
+use Rattle.pass_names.specs.Names.{AnswersFor, Covers, IsLast, after_retire}
+use Rattle.pass_names.proofs.Covering.{covers_split, covers_answers, covers_retire, covers_last}
 use Rattle.counted_row.specs.declared.view.View.{View}
 use Rattle.counted_row.specs.Views.{RowOf, PassOfRow, IsPassOfRow, split_view, new_view}
 use Rattle.counted_row_uses.specs.declared.counter.Counter.{Counter}
 use Rattle.counted_row_uses.specs.declared.lanes.Lane.{Lane}
 use Rattle.counted_row_uses.specs.Lanes.{IsIdleLane, IsMain, name_of}
-
--- how often a name is borne, with one lane more
-lanes_push : (name : List ℕ) (lanes : List Lane) (lane : Lane)
-    → occurrences name (map name_of (lanes ++ lane ∷ [])) ≡ occurrences name (map name_of lanes) + one_if (same name (name_of lane))
-lanes_push name [] lane = omega arith
-lanes_push name (x ∷ xs) lane = omega (arith, lanes_push name xs lane)
 
 -- a pass that was just split off is ready for a lane
 pub idle_new : (row : RowOf Counter) (lane : Lane) (v : View Counter ℕ ℕ) → IsPassOfRow row lane.pass → lane.pass.knows ≡ new_view v
@@ -31,15 +23,19 @@ main_split row main main' lanes lane is pass left right = record {
   idle = ap (λ v. v.held) left ∙ is.idle;
   first = ap (λ v. v.pass.id.name) left ∙ is.first;
   unclaimed = ap (λ v. v.claims) left ∙ is.unclaimed;
-  each = λ name.
-      let split : main'.knows.pass.id.split ≡ main.knows.pass.id.split ++ name_of lane ∷ [] = ap (λ v. v.pass.id.split) left ∙ ap
-      (λ n. main.knows.pass.id.split ++ n ∷ []) (sym (ap (λ v. v.pass.id.name) right)) in
-      omega (arith, is.each name, lanes_push name lanes lane, ap (occurrences name) split, occurrences_push name (name_of lane) main.knows.pass.id.split);
+  covers = subst (Covers main'.knows.pass.id) (sym (map-append name_of lanes (lane ∷ [])))
+      (covers_split main.knows.pass.id main'.knows.pass.id lane.pass.knows.pass.id (map name_of lanes)
+      (ap (λ v. v.pass.id) left) (ap (λ v. v.pass.id) right) is.covers);
 }
+
+-- it covers the last lane's pass beside the others
+covers_lanes : (row : RowOf Counter) (main : PassOfRow Counter ℕ ℕ) (lanes : List Lane) (lane : Lane) → IsMain row main (lanes ++ lane ∷ [])
+    → Covers main.knows.pass.id (map name_of lanes ++ name_of lane ∷ [])
+covers_lanes row main lanes lane is = subst (Covers main.knows.pass.id) (map-append name_of lanes (lane ∷ [])) is.covers
 
 pub answers_last : (row : RowOf Counter) (main : PassOfRow Counter ℕ ℕ) (lanes : List Lane) (lane : Lane)
     → IsMain row main (lanes ++ lane ∷ []) → AnswersFor main.knows.pass.id lane.pass.knows.pass.id
-answers_last row main lanes lane is = omega (arith, is.each (name_of lane), lanes_push (name_of lane) lanes lane, ap one_if (same-refl (name_of lane)))
+answers_last row main lanes lane is = covers_answers main.knows.pass.id lane.pass.knows.pass.id (map name_of lanes) [] (covers_lanes row main lanes lane is)
 
 pub main_joins : (row : RowOf Counter) (main main' : PassOfRow Counter ℕ ℕ) (lanes : List Lane) (lane : Lane)
     → IsMain row main (lanes ++ lane ∷ []) → IsIdleLane row lane → IsPassOfRow row main' → main'.knows.held ≡ None
@@ -50,28 +46,13 @@ main_joins row main main' lanes lane is lane_is pass idle claims id = record {
   idle = idle;
   first = ap (λ (l : PassId). l.name) id ∙ is.first;
   unclaimed = claims ∙ (ap (λ cs. cs ++ lane.pass.knows.claims) is.unclaimed ∙ lane_is.unclaimed);
-  each = λ name.
-      let other : List ℕ = name_of lane in
-      let split : List (List ℕ) = main.knows.pass.id.split in
-      omega (
-        arith,
-        is.each name,
-        lanes_push name lanes lane,
-        ap (λ (l : PassId). occurrences name l.split) id,
-        total-append (λ n. one_if (same name n)) (without_first (same other) split) lane.pass.knows.pass.id.split,
-        ap (occurrences name) lane_is.alone,
-        count-without_first (same other) (same name) (same name other) (λ x e. ap (same name) (sym (same_eq other x e))) split
-            (answers_last row main lanes lane is),
-      );
+  covers = subst (Covers main'.knows.pass.id) (append-nil (map name_of lanes))
+      (covers_retire main.knows.pass.id lane.pass.knows.pass.id main'.knows.pass.id (map name_of lanes) [] lane_is.alone id
+      (covers_lanes row main lanes lane is));
 }
 
--- a list in which no name stands is empty
-none_listed : (ns : List (List ℕ)) → ((name : List ℕ) → 0 ≡ occurrences name ns) → ns ≡ []
-none_listed [] none = refl
-none_listed (n ∷ ns) none = absurd (omega (arith, none n, ap one_if (same-refl n)))
-
 pub main_last : (row : RowOf Counter) (main : PassOfRow Counter ℕ ℕ) → IsMain row main [] → IsLast main.knows.pass.id
-main_last row main is = record { first = is.first; alone = none_listed main.knows.pass.id.split is.each }
+main_last row main is = covers_last main.knows.pass.id is.first is.covers
 
 pub same_names : (old new : List Lane) → length new ≡ length old
     → ((k : ℕ) (d : Lane) → k < length old → name_of (get_or new k d) ≡ name_of (get_or old k d)) → map name_of new ≡ map name_of old
@@ -88,4 +69,4 @@ written s items n len all =
 pub main_same : (row : RowOf Counter) (main : PassOfRow Counter ℕ ℕ) (old new : List Lane) → map name_of new ≡ map name_of old
     → IsMain row main old → IsMain row main new
 main_same row main old new names is =
-    record { pass = is.pass; idle = is.idle; first = is.first; unclaimed = is.unclaimed; each = λ name. ap (occurrences name) names ∙ is.each name }
+    record { pass = is.pass; idle = is.idle; first = is.first; unclaimed = is.unclaimed; covers = subst (Covers main.knows.pass.id) (sym names) is.covers }

@@ -1,6 +1,6 @@
 -- Lanes, each with a pass of its own.
 use Rattle.std.specs.Prelude.{◌≡◌, ℕ, List, [], None, map}
-use Rattle.pass_names.specs.Names.{occurrences}
+use Rattle.pass_names.specs.Names.{Covers}
 use Rattle.counted_row.specs.Views.{RowOf, PassOfRow, IsPassOfRow}
 use Rattle.counted_row_uses.specs.declared.counter.Counter.{Counter}
 use Rattle.counted_row_uses.specs.declared.lanes.Lane.{Lane}
@@ -15,10 +15,10 @@ pub record IsIdleLane (row : RowOf Counter) (lane : Lane) : Type 0 where
   pub alone : lane.pass.knows.pass.id.split ≡ []
   pub unclaimed : lane.pass.knows.claims ≡ []
 
--- the first pass, which holds nothing and answers for the lanes' passes and for no others
+-- the first pass, which holds nothing and covers the lanes' passes
 pub record IsMain (row : RowOf Counter) (main : PassOfRow Counter ℕ ℕ) (lanes : List Lane) : Type 0 where
   pub pass : IsPassOfRow row main
   pub idle : main.knows.held ≡ None
   pub first : main.knows.pass.id.name ≡ []
   pub unclaimed : main.knows.claims ≡ []
-  pub each : (name : List ℕ) → occurrences name (map name_of lanes) ≡ occurrences name main.knows.pass.id.split
+  pub covers : Covers main.knows.pass.id (map name_of lanes)

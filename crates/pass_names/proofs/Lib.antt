@@ -1,4 +1,5 @@
 pub mod Counts
+pub mod Covering
 pub mod Last
 pub mod Names
 pub mod Passes

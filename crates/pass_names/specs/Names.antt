@@ -49,6 +49,10 @@ after_retire l other = record l { split = without_first (same other.name) l.spli
 abbrev pub AnswersFor : PassId → PassId → Type 0
 AnswersFor l other = 0 < occurrences other.name l.split
 
+-- The pass answers for the passes with these names, for each as often as it is named, and for no others. So it can take them all in.
+pub record Covers (l : PassId) (names : List (List ℕ)) : Type 0 where
+  pub each : (name : List ℕ) → occurrences name names ≡ occurrences name l.split
+
 -- the first pass, when it answers for no other
 pub record IsLast (l : PassId) : Type 0 where
   pub first : l.name ≡ []

@@ -1,5 +1,7 @@
 //! Callers of a row. Each takes one base or two, adds its entries there, and lets them go.
 ghost use Rattle.std.specs.Prelude.{◌≡◌, ◌<◌, length, MatchBool, Some, None, true};
+ghost use Rattle.seq_timer.specs.declared.event.Event.TheVariants.{Cancel};
+ghost use Rattle.seq_timer.specs.Steps.{Needs};
 ghost use Rattle.seq_timer.specs.Systems.{IsOn};
 ghost use Rattle.base_row.specs.Calls.{IsBasePassOf, timer_seen};
 ghost use Rattle.base_row.specs.Rests.{Rests};
@@ -47,6 +49,13 @@ fn is_on(state: &TimerState, base: u32) -> bool
     state.base() == base && !state.is_moving()
 }
 
+/// Whether a timer is armed on this base, and its function doesn't run.
+fn may_cancel(state: TimerState, base: u32) -> bool
+    ensures { MatchBool result (IsOn base state × Needs state Cancel) (Unit) }
+{
+    is_on(&state, base) && state.armed().is_some() && state.running().is_none()
+}
+
 /// Cancels a timer that is armed on this base.
 pub fn cancel<R: Wait>(rt: &R, row: &BaseRow, pass: &mut Pass, base: u32, timer: u32) -> bool
     requires row { IsBasePassOf row.now pass.old × Rests pass.old.knows }
@@ -55,8 +64,7 @@ pub fn cancel<R: Wait>(rt: &R, row: &BaseRow, pass: &mut Pass, base: u32, timer:
     ensures same { (pass.new.knows.claims ≡ pass.old.knows.claims) × (pass.new.knows.id ≡ pass.old.knows.id) }
 {
     let mut held = row.lock_base(rt, pass, base);
-    let state = row.state(pass, &held, timer);
-    let may = is_on(&state, base) && state.armed().is_some() && state.running().is_none();
+    let may = may_cancel(row.state(pass, &held, timer), base);
     if may {
         row.append(pass, &mut held, timer, Event::Cancel);
     }

@@ -1,10 +1,7 @@
 use Rattle.std.proofs.Common.{◌≡◌, ap, subst, sym, ◌∙◌, arith, inl, inr}
-use Rattle.std.specs.Prelude.{MatchOption, Option}
-use Rattle.atomic_table.specs.Table.{Me}
-use Rattle.base_row.specs.declared.view.BaseView.{BaseView}
-use Rattle.seq_timer.specs.Systems.{BaseContent}
+use Rattle.std.specs.Prelude.{MatchOption}
 use Rattle.base_row.specs.declared.view.Opening.{Opening}
-use Rattle.base_row.specs.Plays.{GotBase, Lost}
+use Rattle.base_row.specs.Plays.{SeatState, GotBase, Lost}
 use Rattle.base_row.proofs.Catching.{lost_at, told_after}
 use Rattle.base_row.proofs.slots.attempt.Goals as goal
 use Rattle.base_row.proofs.slots.attempt.Goals.{else-first-eq0-via-then-first-eq0+else-first-lt-LAST, else-first-eq0-via-else-first-eq0}
@@ -28,7 +25,7 @@ returns-then-first-lt-LAST-clause-taken c =
     let mid = c.meet_lock-first.new.seat.me in
     let new = c.take_free.new.seat.me in
     let met = c.meet_lock-first.ensures.met in
-    let same : mid.0.opening ≡ o = ap (λ (m : Me (Option BaseContent) (BaseView BaseContent)). m.0.opening) met.rest ∙ c.requires.about in
+    let same : mid.0.opening ≡ o = ap (λ (m : SeatState). m.0.opening) met.rest ∙ c.requires.about in
     subst (λ (x : Opening). MatchOption c.take_free.result (Lost x c.args.base me new) (λ h. GotBase x c.args.base me new h)) (sym c.requires.about)
     (told_after o c.args.base me mid c.meet_lock-first.result met new c.take_free.result
     (subst (λ (x : Opening). MatchOption c.take_free.result (Lost x c.args.base mid new)

@@ -5,4 +5,6 @@ pub load-requires : goal.load-requires
 load-requires c =
     let seat = c.args.seat.now in
     let key = c.args.cells.now.key in
-    (c.requires.same, c.requires.word, looks_by key.0 key.1.value.items seat.id seat.me.0 c.requires.about c.requires.live c.args.cells.now.table_id.slots seat.me.1 c.args.word)
+    let told =
+    looks_by key.0 key.1.value.items seat.id seat.me.0 c.requires.about c.requires.live c.args.cells.now.table_id.slots seat.me.1 c.args.word in
+    (c.requires.same, c.requires.word, told)

@@ -1,12 +1,9 @@
 use Rattle.std.proofs.Common.{◌≡◌, ℕ, ◌+◌, ◌/◌, Bool, true, false, List, nat_eq, subst, ◌∙◌, arith}
-use Rattle.std.specs.Prelude.{MatchBool, Option}
-use Rattle.atomic_table.specs.Table.{Me}
+use Rattle.std.specs.Prelude.{MatchBool}
 use Rattle.seq_timer.specs.Steps.{Timer}
 use Rattle.base_row.specs.declared.view.Opening.{Opening}
-use Rattle.base_row.specs.declared.view.BaseView.{BaseView}
-use Rattle.seq_timer.specs.Systems.{BaseContent}
 use Rattle.base_row.specs.Rules.{number_of}
-use Rattle.base_row.specs.Plays.{TookBase, FoundTaken}
+use Rattle.base_row.specs.Plays.{SeatState, TookBase, FoundTaken}
 use Rattle.base_row.proofs.Telling.{takes_by}
 use Rattle.base_row.proofs.steps.take.Goals as goal
 
@@ -18,12 +15,14 @@ compare_exchange-requires c =
       c.requires.same,
       c.requires.word.1,
       rw (c.requires.idle.1)
-          (takes_by key.0 key.1.value.items seat.id seat.me.0 c.requires.about c.requires.live c.args.cells.now.table_id.slots c.args.base c.args.word (c.args.first / 2) c.args.first (c.args.first + 1) c.requires.word.0 c.requires.word.2 c.requires.idle.0
+          (takes_by key.0 key.1.value.items seat.id seat.me.0 c.requires.about c.requires.live c.args.cells.now.table_id.slots c.args.base
+          c.args.word (c.args.first / 2) c.args.first (c.args.first + 1) c.requires.word.0 c.requires.word.2 c.requires.idle.0
           (c.requires.known.0 ∙ half) half (omega arith)),
     )
 
-loose : (bases : ℕ) (opened : List Timer) (b first found : ℕ) (hit : Bool) (me new : Me (Option BaseContent) (BaseView BaseContent))
-    → MatchBool hit ((k : ℕ) × (first + 2 ≡ k + k) × TookBase bases opened number_of b k (first + 1) me new) (FoundTaken bases opened number_of b first me found new)
+loose : (bases : ℕ) (opened : List Timer) (b first found : ℕ) (hit : Bool) (me new : SeatState)
+    → MatchBool hit ((k : ℕ) × (first + 2 ≡ k + k) × TookBase bases opened number_of b k (first + 1) me new)
+    (FoundTaken bases opened number_of b first me found new)
     → MatchBool hit ((k : ℕ) × (first + 2 ≡ k + k) × TookBase bases opened number_of b k (first + 1) me new) ((x : ℕ)
     × FoundTaken bases opened number_of b first me x new)
 loose bases opened b first found true me new told = told
@@ -36,4 +35,5 @@ returns-clause-took c =
     (nat_eq c.compare_exchange.result c.args.first) c.args.seat.now.me c.compare_exchange.new.seat.me
     (subst (λ (o : Opening). MatchBool (nat_eq c.compare_exchange.result c.args.first) ((k : ℕ) × (c.args.first + 2 ≡ k + k)
     × TookBase o.bases o.timers number_of c.args.base k (c.args.first + 1) c.args.seat.now.me c.compare_exchange.new.seat.me)
-    (FoundTaken o.bases o.timers number_of c.args.base c.args.first c.args.seat.now.me c.compare_exchange.result c.compare_exchange.new.seat.me)) c.requires.about (c.compare_exchange.ensures.2 c.args.base c.requires.word.0))
+    (FoundTaken o.bases o.timers number_of c.args.base c.args.first c.args.seat.now.me c.compare_exchange.result
+    c.compare_exchange.new.seat.me)) c.requires.about (c.compare_exchange.ensures.2 c.args.base c.requires.word.0))

@@ -1,13 +1,27 @@
-use Rattle.std.proofs.Common.{◌≡◌, ◌∙◌, ap, sym, subst, arith}
+use Rattle.std.proofs.Common.{◌≡◌, ℕ, ◌<◌, ◌≤◌, ◌∙◌, ap, length, sym, subst, arith}
 use Rattle.std.specs.Prelude.{Some, None, Option}
-use Rattle.timer_word.specs.Words.{word_of}
+use Rattle.atomic_table.specs.Table.{Step}
+use Rattle.seq_timer.specs.Systems.{BaseContent}
+use Rattle.timer_word.specs.Words.{IsWord, packed, word_of}
 use Rattle.timer_word.specs.declared.word.TimerWord.{TimerWord}
 use Rattle.base_row.specs.declared.view.Opening.{Opening}
+use Rattle.base_row.specs.Places.{word_at}
 use Rattle.base_row.specs.Rules.{number_of}
-use Rattle.base_row.specs.Plays.{KnowsBases}
-use Rattle.base_row.specs.Calls.{timer_seen}
+use Rattle.base_row.specs.Plays.{KnowsOwn, LoadedWord, LooksOwn, SeatState}
+use Rattle.base_row.specs.Calls.{AreFresh, BasePassOf, timer_seen}
+use Rattle.base_row.proofs.Holding.{knows_about}
 use Rattle.base_row.proofs.Placed.{reads_back, placed_seen}
 use Rattle.base_row.proofs.row.BaseRow.load_word.Goals as goal
+
+-- the number that was loaded is read as the timer's word, of one of the bases
+read : (o : Opening) (fresh : AreFresh o.timers) (some : 0 < o.bases) (few : o.bases ≤ 256) (st : Step (Option BaseContent)) (me new : SeatState)
+    (number t : ℕ) (r : Option TimerWord) → me.0.opening ≡ o → LooksOwn st me number new → KnowsOwn new.0 → st.word ≡ word_at o.bases t
+    → t < length o.timers → ((w : TimerWord) → IsWord w → packed w ≡ number → r ≡ Some w)
+    → (r ≡ Some (word_of (timer_seen o new.0 t))) × ((timer_seen o new.0 t).base < o.bases)
+read o fresh some few st me new number t r about looked knows at within back =
+    let told = subst (λ (q : Opening). LoadedWord q.bases q.timers number_of st me number new) about looked in
+    let known = knows_about o new.0 (ap (λ (m : SeatState). m.0.opening) told.rest ∙ about) knows in
+    (reads_back o new.0 fresh known some few t number (told.timer t at within) r back, placed_seen o new.0 fresh known some t)
 
 not_none : (r : Option TimerWord) (w : TimerWord) → r ≡ Some w → r ≡ None → ⊥
 not_none r w some none = let e : Some w ≡ None = sym some ∙ none in cc
@@ -17,23 +31,21 @@ some_word r w x a b = let e : Some x ≡ Some w = sym b ∙ a in cc
 
 pub unreachable-requires : goal.unreachable-requires
 unreachable-requires c =
-    let o = c.args.self.now.about in
-    let v = c.load_number-number.new.pass.knows in
-    let knows = subst (λ (q : Opening). KnowsBases q.bases q.timers number_of v) c.load_number-number.ensures.row.about c.known.ensures in
-    not_none c.unpack.result (word_of (timer_seen o v c.args.timer))
-    (reads_back o v c.fresh.ensures.fresh knows c.fresh.ensures.some c.fresh.ensures.few c.args.timer c.load_number-number.result c.load_number-number.ensures.word c.unpack.result c.unpack.ensures.back) c.in-None.is
+    let about = ap (λ (p : BasePassOf). p.knows.opening) c.pass.view_is ∙ c.requires.row.about in
+    let all = read c.args.self.now.about c.fresh.ensures.fresh c.fresh.ensures.some c.fresh.ensures.few _ c.pass.inside.seat.me c.look-number.new.seat.me
+    c.look-number.result c.args.timer c.unpack.result about c.look-number.ensures.looked c.known.ensures c.word_index-index.ensures
+    c.requires.within c.unpack.ensures.back in
+    not_none c.unpack.result _ all.0 c.in-None.is
+
+found : (c : goal.In-Some) → let w = timer_seen c.args.self.now.about c.look-number.new.seat.me.0 c.args.timer in
+    (c.unpack.result ≡ Some (word_of w)) × (w.base < c.args.self.now.about.bases)
+found c =
+    read c.args.self.now.about c.fresh.ensures.fresh c.fresh.ensures.some c.fresh.ensures.few _ c.pass.inside.seat.me c.look-number.new.seat.me
+    c.look-number.result c.args.timer c.unpack.result (ap (λ (p : BasePassOf). p.knows.opening) c.pass.view_is ∙ c.requires.row.about)
+    c.look-number.ensures.looked c.known.ensures c.word_index-index.ensures c.requires.within c.unpack.ensures.back
 
 pub returns-clause-word : goal.returns-clause-word
-returns-clause-word c =
-    let o = c.args.self.now.about in
-    let v = c.load_number-number.new.pass.knows in
-    let knows = subst (λ (q : Opening). KnowsBases q.bases q.timers number_of v) c.load_number-number.ensures.row.about c.known.ensures in
-    some_word c.unpack.result (word_of (timer_seen o v c.args.timer)) c.in-Some.word
-    (reads_back o v c.fresh.ensures.fresh knows c.fresh.ensures.some c.fresh.ensures.few c.args.timer c.load_number-number.result c.load_number-number.ensures.word c.unpack.result c.unpack.ensures.back) c.in-Some.is
+returns-clause-word c = some_word c.unpack.result _ c.in-Some.word (found c).0 c.in-Some.is
 
 pub returns-clause-placed : goal.returns-clause-placed
-returns-clause-placed c =
-    let o = c.args.self.now.about in
-    let v = c.load_number-number.new.pass.knows in
-    let knows = subst (λ (q : Opening). KnowsBases q.bases q.timers number_of v) c.load_number-number.ensures.row.about c.known.ensures in
-    omega (arith, ap (λ (w : TimerWord). w.base) (returns-clause-word c), placed_seen o v c.fresh.ensures.fresh knows c.fresh.ensures.some c.args.timer)
+returns-clause-placed c = omega (arith, ap (λ (w : TimerWord). w.base) (returns-clause-word c), (found c).1)

@@ -1,14 +1,11 @@
 use Rattle.std.proofs.Common.{◌≡◌, [], ◌∷◌, ◌++◌, ap, sym, ◌∙◌, subst}
 use Rattle.pass_names.specs.declared.PassId.{PassId}
 use Rattle.pass_names.specs.Counts.{drop_if, without_first}
-use Rattle.pass_names.specs.Names.{AnswersFor, IsLast, after_retire, after_split, child_of, next_name, same}
-use Rattle.pass_names.proofs.Names.{child_listed, same-refl}
+use Rattle.pass_names.specs.Names.{IsLast, after_retire, after_split, child_of, next_name, same}
+use Rattle.pass_names.proofs.Names.{answers_split, same-refl}
 use Rattle.seq_timer.specs.Systems.{BaseContent}
 use Rattle.base_row.specs.declared.view.BaseView.{BaseView}
 use Rattle.base_row.proofs.tests.threads.turns_of_two.Goals as goal
-
-answers : (l m n : PassId) → m ≡ after_split l → n ≡ child_of l → AnswersFor m n
-answers l m n is_m is_n = subst (λ x. AnswersFor x n) (sym is_m) (subst (λ x. AnswersFor (after_split l) x) (sym is_n) (child_listed l))
 
 last_again : (l : PassId) → IsLast l → IsLast (after_retire (after_split l) (child_of l))
 last_again l last = record {
@@ -23,7 +20,7 @@ last_kept l m n r is_m is_n is_r last =
 
 pub retire-requires-clause-answers : goal.retire-requires-clause-answers
 retire-requires-clause-answers g c =
-    answers c.args.main.now.knows.id c.both-first.new.first.knows.id c.both-first.new.second.knows.id
+    answers_split c.args.main.now.knows.id c.both-first.new.first.knows.id c.both-first.new.second.knows.id
     (c.both-first.ensures.same.1 ∙ ap (λ (v : BaseView BaseContent). v.id) c.split-other.ensures.splitter)
     (c.both-first.ensures.other.1 ∙ ap (λ (v : BaseView BaseContent). v.id) c.split-other.ensures.new)
 
