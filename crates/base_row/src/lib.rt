@@ -1,6 +1,7 @@
 //! Bases behind locks and timers with a word each, under one history of all timers.
 #![tactic(auto)]
 
+mod cell;
 mod held;
 mod laws;
 mod parts;

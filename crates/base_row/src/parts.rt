@@ -6,6 +6,7 @@ ghost use Rattle.seq_timer.specs.Systems.{no_base};
 ghost use Rattle.seq_timer.specs.Systems.{openings};
 ghost use Rattle.seq_timer.specs.Steps.{greatest_limit};
 
+use crate::cell::BaseCell;
 use crate::slot::BaseSlot;
 use ktime::ClockId;
 use seq_timer::TimerState;
@@ -66,13 +67,13 @@ pub fn empty_slots(
     alloc: Global,
     count: u32,
     timers: &[TimerState],
-) -> Result<Vec<Option<BaseSlot>>, AllocError>
+) -> Result<Vec<BaseCell>, AllocError>
     requires few { length timers.now < 2 ^ 32 }
     ensures { IfOk result (λ v. v.items ≡ replicate count (Some (no_base timers.now))) }
 {
     let mut slots = Vec::with_capacity(alloc, count as usize)?;
     for _ in 0..count {
-        slots.push(Some(BaseSlot::make(alloc, timers)?))?;
+        slots.push(BaseCell::of(BaseSlot::make(alloc, timers)?))?;
     }
     Ok(slots)
 }

@@ -1,4 +1,5 @@
 //! The rule of the table, and what each step on it tells.
+use crate::cell::BaseCell;
 use crate::slot::BaseSlot;
 use crate::view::BaseView;
 use atomic_table::{Join, Play, Split, TableRule};
@@ -12,7 +13,7 @@ pub type About = (u64, Snapshot<Vec<TimerState>>);
 
 pub struct BaseRule;
 
-impl TableRule<Option<BaseSlot>, SlotView, About> for BaseRule {
+impl TableRule<BaseCell, SlotView, About> for BaseRule {
     ghost use Rattle.base_row.specs.Rules.{HasOneHistory, number_of};
     ghost use Rattle.base_row.specs.Plays.{first_base_view};
 
@@ -39,7 +40,7 @@ pub struct Enter<K: Asked> {
     of: PhantomData<K>,
 }
 
-impl<K: Asked> Play<Option<BaseSlot>, SlotView> for Enter<K> {
+impl<K: Asked> Play<BaseCell, SlotView> for Enter<K> {
     ghost use Rattle.base_row.specs.Plays.{EntersBy};
 
     ghost then = { λ st m stored w. EntersBy K.event st m w };
@@ -48,7 +49,7 @@ impl<K: Asked> Play<Option<BaseSlot>, SlotView> for Enter<K> {
 /// A load of word 0 or of a timer's word.
 pub struct Look;
 
-impl Play<Option<BaseSlot>, SlotView> for Look {
+impl Play<BaseCell, SlotView> for Look {
     ghost use Rattle.base_row.specs.Plays.{LooksOwn};
 
     ghost then = { LooksOwn };
@@ -57,7 +58,7 @@ impl Play<Option<BaseSlot>, SlotView> for Look {
 /// A load of a lock word.
 pub struct Meet;
 
-impl Play<Option<BaseSlot>, SlotView> for Meet {
+impl Play<BaseCell, SlotView> for Meet {
     ghost use Rattle.base_row.specs.Plays.{MeetsOwn};
 
     ghost then = { MeetsOwn };
@@ -66,7 +67,7 @@ impl Play<Option<BaseSlot>, SlotView> for Meet {
 /// An exchange from a free lock word.
 pub struct Take;
 
-impl Play<Option<BaseSlot>, SlotView> for Take {
+impl Play<BaseCell, SlotView> for Take {
     ghost use Rattle.base_row.specs.Plays.{TakesOwn};
 
     ghost then = { TakesOwn };
@@ -75,7 +76,7 @@ impl Play<Option<BaseSlot>, SlotView> for Take {
 /// A store that lets a base go.
 pub struct Free;
 
-impl Play<Option<BaseSlot>, SlotView> for Free {
+impl Play<BaseCell, SlotView> for Free {
     ghost use Rattle.base_row.specs.Plays.{FreesOwn};
 
     ghost then = { FreesOwn };

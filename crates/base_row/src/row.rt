@@ -13,10 +13,10 @@ ghost use Rattle.base_row.specs.Plays.{KnowsOwn, first_base_view, Lost, GotBase,
 ghost use Rattle.base_row.specs.Calls.{AreFresh, GetsBase, MissesBase, opening_of, IsBasePassOf, LetsGo, SeesFurther, Absorbs};
 ghost use Rattle.base_row.specs.Calls.{LearnsFrom, MayAppend, Appended, timer_seen, base_seen};
 
+use crate::cell::BaseCell;
 use crate::held::{HeldBase, Pass};
 use crate::parts::{empty_slots, lock_index, make_timers, number_of, timer_index, zeros};
 use crate::plays::{About, BaseRule, Child, SlotView};
-use crate::slot::BaseSlot;
 use crate::slots::{attempt, put_back};
 use crate::steps::{absorb, enter, free, look, tell};
 use atomic_table::{Refused, Table};
@@ -32,7 +32,7 @@ use timer_word::TimerWord;
 /// Bases and timers that many threads share.
 #[derive(Drop)]
 pub struct BaseRow {
-    table: Table<Option<BaseSlot>, SlotView, About, BaseRule, Global>,
+    table: Table<BaseCell, SlotView, About, BaseRule, Global>,
     bases: usize,
 }
 

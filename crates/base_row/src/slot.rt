@@ -12,11 +12,18 @@ use std::alloc::{AllocError, Global};
 use std::marker::Model;
 use timer_tree::TimerTree;
 
+/// What a base has. The words behind it keep bases apart.
+#[derive(Drop)]
+struct Parts {
+    base: Base<TimerTree>,
+    states: Vec<TimerState>,
+    apart: [u64; 16],
+}
+
 /// A base's queues with what runs there, and each timer as it was when it was last there.
 #[derive(Drop)]
 pub struct BaseSlot {
-    base: Base<TimerTree>,
-    states: Vec<TimerState>,
+    parts: Box<Parts>,
 }
 
 impl Model for BaseSlot {
@@ -25,9 +32,9 @@ impl Model for BaseSlot {
 
     ghost Value = { BaseContent };
 
-    ghost view = { λ s. record { content = s.base.content; states = s.states.items } };
+    ghost view = { λ s. record { content = s.parts.value.base.content; states = s.parts.value.states.items } };
 
-    ghost invariant = { λ s. s.base.room ≡ length s.states.items };
+    ghost invariant = { λ s. s.parts.value.base.room ≡ length s.parts.value.states.items };
 }
 
 impl BaseSlot {
@@ -39,7 +46,13 @@ impl BaseSlot {
         let base = Base::make(alloc, timers.len() as u32)?;
         let mut states = Vec::new(alloc);
         states.extend_from_slice(timers)?;
-        Ok(BaseSlot { base, states })
+        let parts = Parts {
+            base,
+            states,
+            apart: [0; 16],
+        };
+        let parts = Box::new(alloc, parts)?;
+        Ok(BaseSlot { parts })
     }
 
     /// A timer as it was when it was last there.
@@ -47,21 +60,21 @@ impl BaseSlot {
         requires { timer < length self.now.states }
         ensures { result ≡ timer_at self.now.states timer }
     {
-        self.states[timer as usize]
+        self.parts.states[timer as usize]
     }
 
     /// The timer whose function runs here, with its generation.
     pub fn running(&self) -> Option<(u32, u64)>
         ensures { result ≡ self.now.content.running }
     {
-        self.base.running()
+        self.parts.base.running()
     }
 
     /// The timer that is to expire next at this reading.
     pub fn first(&self, reading: Reading) -> Option<(u64, u32)>
         ensures { result ≡ first_due self.now.content reading }
     {
-        self.base.first(reading)
+        self.parts.base.first(reading)
     }
 
     /// Goes along with an event that has brought a timer of this base from one state to another.
@@ -71,7 +84,8 @@ impl BaseSlot {
         requires after { now.now ≡ after old.now event.now }
         ensures { self.new ≡ changed timer old.now event.now self.old }
     {
-        self.base.step(timer, old, event, now);
-        self.states[timer as usize] = *now;
+        let parts = &mut *self.parts;
+        parts.base.step(timer, old, event, now);
+        parts.states[timer as usize] = *now;
     }
 }

@@ -19,7 +19,7 @@ pub fn take_out(cells: &BaseCells, seat: &mut BaseSeat, base: u32) -> BaseSlot
     ensures value { seat.old.me.1 ≡ (base, Some result) ∷ [] }
     ensures empty { seat.new.me ≡ (seat.old.me.0, (base, None) ∷ []) }
 {
-    match cells.exchange(seat, base as usize, None) {
+    match seat.slot_mut(cells, base as usize).take() {
         Some(slot) => slot,
         None => unreachable!(),
     }
@@ -32,7 +32,7 @@ pub fn put_back(cells: &BaseCells, seat: &mut BaseSeat, base: u32, slot: BaseSlo
     ensures same { seat.new.table_id ≡ seat.old.table_id }
     ensures full { seat.new.me ≡ (seat.old.me.0, (base, Some slot) ∷ []) }
 {
-    drop(cells.exchange(seat, base as usize, Some(slot)));
+    seat.slot_mut(cells, base as usize).put(slot);
 }
 
 /// Takes a lock whose word was met to be `first`, if it still is.

@@ -11,14 +11,14 @@ ghost use Rattle.base_row.specs.declared.view.HeldContent.{HeldContent};
 ghost use Rattle.base_row.specs.Plays.{MayEnter, OwnNeeds, EntersAs, Met, TookBase, FoundTaken, LooksOwn, FreesOwn, KnowsBases, entry_of_event, seen_timer};
 ghost use Rattle.base_row.specs.Calls.{LearnsFrom, Absorbs};
 
+use crate::cell::BaseCell;
 use crate::plays::{About, Asked, BaseRule, Child, Enter, Free, Look, Meet, Note, SlotView, Take};
-use crate::slot::BaseSlot;
 use atomic_table::{Seat, Shared};
 use seq_timer::Event;
 
-pub type BaseCells = Shared<Option<BaseSlot>, SlotView, About, BaseRule>;
+pub type BaseCells = Shared<BaseCell, SlotView, About, BaseRule>;
 
-pub type BaseSeat = Seat<Option<BaseSlot>, SlotView>;
+pub type BaseSeat = Seat<BaseCell, SlotView>;
 
 /// Stores a timer's new word, which adds one entry.
 pub fn enter<K: Asked>(

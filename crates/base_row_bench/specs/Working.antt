@@ -1,0 +1,32 @@
+-- Passes of a row while its bases are timed.
+use Rattle.std.specs.Prelude.{◌≡◌, ℕ, ◌+◌, [], length}
+use Rattle.ktime.specs.Readings.{ClockReading}
+use Rattle.pass_names.specs.Names.{after_split, child_of, first_pass_id}
+use Rattle.seq_timer.specs.Systems.{BaseContent}
+use Rattle.base_row.specs.declared.view.BaseView.{BaseView}
+use Rattle.base_row.specs.Calls.{BaseRowOf, BasePassOf, IsBasePassOf}
+use Rattle.base_row.specs.Rests.{Rests}
+
+-- the reading of all starts
+abbrev pub beginning : ClockReading
+beginning = record { stamp = 0; mono = 0; real = 0; boot = 0; changes = 0 }
+
+-- a pass of the row that holds and carries nothing, and has no claims
+pub record IsReady (row : BaseRowOf) (pass : BasePassOf) : Type 0 where
+  pub pass_of : IsBasePassOf row pass
+  pub rests : Rests pass.knows
+  pub unclaimed : pass.knows.claims ≡ []
+
+-- the row's passes: the first one, and the one that was split off it
+pub record AreBoth (row : BaseRowOf) (main other : BasePassOf) : Type 0 where
+  pub first : IsReady row main
+  pub second : IsReady row other
+  pub splitter : main.knows.id ≡ after_split first_pass_id
+  pub child : other.knows.id ≡ child_of first_pass_id
+
+-- a pass has made so many entries, under so many takes of a lock
+pub record Worked (entries locks : ℕ) (v w : BaseView BaseContent) : Type 0 where
+  pub mine : length w.mine ≡ length v.mine + entries
+  pub takes : length w.takes ≡ length v.takes + locks
+  pub claims : w.claims ≡ v.claims
+  pub id : w.id ≡ v.id

@@ -1,0 +1,20 @@
+//! Times a start and a cancel under one lock of a base, by one thread and by two. With the word `check` it makes a few, and prints
+//! how many entries they made.
+#![tactic(auto)]
+
+mod filling;
+mod report;
+mod turns;
+
+use bench_cases::Task;
+use report::print_lines;
+use std::{env, io};
+
+fn main(rt: HostRuntime) -> io::Result<()> {
+    let word = env::args(&rt)?.nth(1);
+    let task = match &word {
+        Some(word) => Task::of(Some(word.as_str())),
+        None => Task::of(None),
+    };
+    print_lines(&rt, rt.alloc(), task)
+}

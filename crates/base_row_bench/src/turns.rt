@@ -1,0 +1,175 @@
+//! What the threads do: a timer is started and cancelled under one lock of its base, so many times.
+ghost use Rattle.std.specs.Prelude.{◌≡◌, ◌*◌, ◌^◌, ◌<◌, ◌≤◌, length, Some, None};
+ghost use Rattle.ktime.specs.declared.mode.Mode.TheVariants.{Abs};
+ghost use Rattle.seq_timer.specs.declared.event.Event.TheVariants as events;
+ghost use Rattle.base_row.specs.Calls.{IsBasePassOf};
+ghost use Rattle.base_row_bench.specs.Working.{AreBoth, IsReady, Worked, beginning};
+
+use base_row::{BaseRow, HeldBase, Pass};
+use bench_cases::{Random, Workers};
+use ktime::{Mode, Reading};
+use seq_timer::Event;
+use std::sync::Wait;
+use std::thread::{Threads, join_mut};
+
+/// Which timers a thread starts, and on which base: `first` and every second one from there.
+#[derive(Clone, Copy, Debug, PartialEq, Eq)]
+pub struct Share {
+    pub base: u32,
+    pub first: u32,
+    pub timers: u32,
+}
+
+/// A start on the base that is asked for, at an expiry that no reading here reaches.
+pub fn start_event(base: u32, ns: u64) -> Event
+    ensures { result ≡ events.Start Abs ns beginning base }
+{
+    Event::Start {
+        mode: Mode::Abs,
+        ns,
+        reading: Reading::at(0),
+        asked: base,
+    }
+}
+
+/// Starts a timer of a held base, and answers how many entries that made.
+pub fn start(row: &BaseRow, pass: &mut Pass, held: &mut HeldBase, timer: u32, ns: u64) -> u64
+    requires row { IsBasePassOf row.now pass.old }
+    requires within { timer < length row.now.about.timers }
+    requires held { (pass.old.knows.held ≡ Some held.old) × (pass.old.knows.carry ≡ None) }
+    ensures row { IsBasePassOf row.now pass.new }
+    ensures held { (pass.new.knows.held ≡ Some held.new) × (pass.new.knows.carry ≡ None) }
+    ensures base { held.new.base ≡ held.old.base }
+    ensures worked { Worked result 0 pass.old.knows pass.new.knows }
+    ensures most { result ≤ 1 }
+{
+    let base = held.base();
+    let state = row.state(pass, held, timer);
+    if state.base() != base || state.is_moving() || state.stamp() >= state.limit() {
+        return 0;
+    }
+    row.append(pass, held, timer, start_event(base, ns));
+    1
+}
+
+/// Cancels a timer that is armed on a held base, and answers how many entries that made.
+fn cancel(row: &BaseRow, pass: &mut Pass, held: &mut HeldBase, timer: u32) -> u64
+    requires row { IsBasePassOf row.now pass.old }
+    requires within { timer < length row.now.about.timers }
+    requires held { (pass.old.knows.held ≡ Some held.old) × (pass.old.knows.carry ≡ None) }
+    ensures row { IsBasePassOf row.now pass.new }
+    ensures held { (pass.new.knows.held ≡ Some held.new) × (pass.new.knows.carry ≡ None) }
+    ensures base { held.new.base ≡ held.old.base }
+    ensures worked { Worked result 0 pass.old.knows pass.new.knows }
+    ensures most { result ≤ 1 }
+{
+    let state = row.state(pass, held, timer);
+    if state.base() != held.base() || state.is_moving() {
+        return 0;
+    }
+    if state.armed().is_none() || state.running().is_some() {
+        return 0;
+    }
+    row.append(pass, held, timer, Event::Cancel);
+    1
+}
+
+/// Starts and cancels a timer under one lock of a base, and answers how many entries that made.
+pub fn start_and_cancel<R: Wait>(
+    rt: &R,
+    row: &BaseRow,
+    pass: &mut Pass,
+    base: u32,
+    timer: u32,
+    ns: u64,
+) -> u64
+    requires ready { IsReady row.now pass.old }
+    requires within { (timer < length row.now.about.timers) × (base < row.now.about.bases) }
+    ensures ready { IsReady row.now pass.new }
+    ensures worked { Worked result 1 pass.old.knows pass.new.knows }
+    ensures most { result ≤ 2 }
+{
+    let mut held = row.lock_base(rt, pass, base);
+    let started = start(row, pass, &mut held, timer, ns);
+    let cancelled = cancel(row, pass, &mut held, timer);
+    row.unlock_base(pass, held);
+    started + cancelled
+}
+
+/// One of a thread's timers, drawn at random. Their number is a power of two.
+fn drawn(share: Share, random: &mut Random) -> u32
+    requires some { 0 < share.timers }
+    requires few { (share.first < 2) × (share.timers < 2 ^ 16) }
+    ensures { result < 2 * share.timers }
+{
+    let number = random.next() & u64::from(share.timers - 1);
+    if number < u64::from(share.timers) {
+        share.first + 2 * number as u32
+    } else {
+        share.first
+    }
+}
+
+/// So many turns of a thread. It answers how many entries they made.
+fn turns<R: Wait>(
+    rt: &R,
+    row: &BaseRow,
+    pass: &mut Pass,
+    share: Share,
+    random: &mut Random,
+    times: u64,
+) -> u64
+    requires ready { IsReady row.now pass.old }
+    requires base { share.base < row.now.about.bases }
+    requires some { (share.first < 2) × (0 < share.timers) × (2 * share.timers ≤ length row.now.about.timers) }
+    requires few { (times < 2 ^ 32) × (share.timers < 2 ^ 16) }
+    ensures ready { IsReady row.now pass.new }
+    ensures worked { Worked result times pass.old.knows pass.new.knows }
+    ensures most { result ≤ 2 * times }
+{
+    let mut made = 0;
+    for _ in 0..times {
+        let timer = drawn(share, random);
+        made += start_and_cancel(rt, row, pass, share.base, timer, 1000 + random.expiry());
+    }
+    made
+}
+
+/// A thread's turns on base 0, and where another base is named, those of a second thread there. It answers how many entries they made.
+pub fn turns_of_all<R: Threads + Wait + Sync>(
+    rt: &R,
+    row: &BaseRow,
+    first: &mut Pass,
+    second: &mut Pass,
+    workers: Workers,
+    timers: u32,
+    times: u64,
+) -> u64
+    requires both { AreBoth row.now first.old second.old }
+    requires size { (row.now.about.bases ≡ 2) × (0 < timers) × (2 * timers ≤ length row.now.about.timers) }
+    requires few { (times < 2 ^ 32) × (timers < 2 ^ 16) }
+    ensures both { AreBoth row.now first.new second.new }
+    ensures most { result ≤ 4 * times }
+{
+    let mut random = Random::of(1);
+    let own = Share {
+        base: 0,
+        first: 0,
+        timers,
+    };
+    let Some(base) = workers.second() else {
+        return turns(rt, row, first, own, &mut random, times);
+    };
+    let other = Share {
+        base,
+        first: 1,
+        timers,
+    };
+    let mut another = Random::of(3);
+    let (one, two) = join_mut(
+        rt,
+        &mut || turns(rt, row, first, own, &mut random, times),
+        &mut || turns(rt, row, second, other, &mut another, times),
+    );
+    one + two
+}

@@ -1,0 +1,10 @@
+//! What the programs that time timers have in common: which threads work, random numbers, and figures.
+#![tactic(auto)]
+
+mod cases;
+mod figures;
+mod random;
+
+pub use cases::{Task, Workers};
+pub use figures::{Figure, Least};
+pub use random::Random;

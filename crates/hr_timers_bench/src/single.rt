@@ -1,0 +1,88 @@
+//! Single calls of a pass that has no claims. Each answers how many entries it made.
+ghost use Rattle.std.specs.Prelude.{◌≡◌, ◌<◌, ◌≤◌, length};
+ghost use Rattle.hr_timers_bench.specs.Working.{IsReady, Worked, entries_told};
+
+use hr_timers::{ClaimAnswer, NowAnswer, Pass, StartAnswer, Timers};
+use ktime::{Mode, Reading};
+use std::sync::Wait;
+use timer_core::CancelAnswer;
+
+/// The time of all calls.
+const NOW: u64 = 1000;
+
+pub fn start<R: Wait>(
+    rt: &R,
+    timers: &Timers,
+    pass: &mut Pass,
+    timer: u32,
+    base: u32,
+    ns: u64,
+) -> u64
+    requires ready { IsReady timers.now pass.old }
+    requires within { (timer < length timers.now.about.timers) × (base < timers.now.about.bases) }
+    ensures ready { IsReady timers.now pass.new }
+    ensures worked { Worked result pass.old pass.new }
+    ensures most { result ≤ 2 }
+{
+    let answer = timers.start(rt, pass, timer, Mode::Abs, ns, base, Reading::at(NOW));
+    entries_told(&answer)
+}
+
+/// How many entries a start has made: an Out comes before the start of a timer that was moved.
+fn entries_told(answer: &StartAnswer) -> u64
+    ensures count { result ≡ entries_told answer.now }
+    ensures most { result ≤ 2 }
+{
+    match *answer {
+        StartAnswer::Started { outs: 0, .. } => 1,
+        StartAnswer::Started { .. } => 2,
+        StartAnswer::Spent { .. } => 0,
+    }
+}
+
+pub fn cancel<R: Wait>(rt: &R, timers: &Timers, pass: &mut Pass, timer: u32) -> u64
+    requires ready { IsReady timers.now pass.old }
+    requires within { timer < length timers.now.about.timers }
+    ensures ready { IsReady timers.now pass.new }
+    ensures worked { Worked result pass.old pass.new }
+    ensures most { result ≤ 1 }
+{
+    match timers.try_to_cancel(rt, pass, timer) {
+        CancelAnswer::Cancelled { .. } => 1,
+        CancelAnswer::Idle { .. } | CancelAnswer::Running { .. } => 0,
+    }
+}
+
+pub fn cancel_now(timers: &Timers, pass: &mut Pass, timer: u32) -> u64
+    requires ready { IsReady timers.now pass.old }
+    requires within { timer < length timers.now.about.timers }
+    ensures ready { IsReady timers.now pass.new }
+    ensures worked { Worked result pass.old pass.new }
+    ensures most { result ≤ 1 }
+{
+    match timers.cancel_now(pass, timer) {
+        NowAnswer::Tried(CancelAnswer::Cancelled { .. }) => 1,
+        _ => 0,
+    }
+}
+
+/// Claims the next timer of a base, and finishes the claim.
+pub fn run_next<R: Wait>(rt: &R, timers: &Timers, pass: &mut Pass, base: u32) -> u64
+    requires ready { IsReady timers.now pass.old }
+    requires base { base < timers.now.about.bases }
+    ensures ready { IsReady timers.now pass.new }
+    ensures worked { Worked result pass.old pass.new }
+    ensures most { result ≤ 2 }
+{
+    match timers.claim_next(rt, pass, base, Reading::at(NOW)) {
+        ClaimAnswer::Claimed(claim) => {
+            timers.finish(rt, pass, claim, false);
+            2
+        }
+        ClaimAnswer::NoneDue => 0,
+        ClaimAnswer::BaseBusy {
+            timer: _,
+            generation: _,
+        } => 0,
+    }
+}
