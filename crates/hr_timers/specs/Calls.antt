@@ -10,7 +10,7 @@ use Rattle.seq_timer.specs.declared.event.Event.{Event}
 use Rattle.seq_timer.specs.declared.event.Event.TheVariants as events
 use Rattle.seq_timer.specs.declared.event.Reply.TheVariants as replies
 use Rattle.seq_timer.specs.declared.observation.Peek.{Peek}
-use Rattle.seq_timer.specs.Steps.{Timer, reply_to, rearmed_by, after}
+use Rattle.seq_timer.specs.Steps.{Timer, reply_to, rearmed_by}
 use Rattle.seq_timer.specs.Tables.{IsNextDue, is_due_on, runs_on}
 use Rattle.seq_timer.specs.Contents.{first_due, running_on}
 use Rattle.seq_timer.specs.Histories as seq
@@ -21,6 +21,7 @@ use Rattle.timer_core.specs.declared.answer.ForwardAnswer.TheVariants as forward
 use Rattle.timer_core.specs.declared.answer.Finished.{Finished}
 use Rattle.timer_core.specs.Answers.{forwarded_as, moves_first, start_events}
 use Rattle.timer_core.specs.Kept.{step_all}
+use Rattle.timer_core.specs.Runs.{entries_along}
 use Rattle.seq_timer.specs.declared.system.TimerEntry.{TimerEntry}
 use Rattle.base_row.specs.declared.view.Opening.{Opening}
 use Rattle.base_row.specs.Rules.{is_base_claim}
@@ -37,11 +38,6 @@ use Rattle.hr_timers.specs.Known.{KnownOfTimers, PassOf, MadeAt, HasMissed, clai
 -- the entry of an event, as it stands in its timer's history
 abbrev pub entry_by : Timer → Event → seq.Entry
 entry_by t event = record { event = event; reply = reply_to t event }
-
--- the entries of events in turn
-abbrev pub entries_along : Timer → List Event → List seq.Entry
-entries_along t [] = []
-entries_along t (e ∷ es) = entry_by t e ∷ entries_along (after t e) es
 
 -- ---- peek
 

@@ -4,7 +4,8 @@ ghost use Rattle.seq_timer.specs.Steps.{Needs, after};
 ghost use Rattle.seq_timer.specs.declared.event.Event.TheVariants.{Out, Start};
 ghost use Rattle.base_row.specs.Calls.{IsBasePassOf, timer_seen};
 ghost use Rattle.hr_timers.specs.Known.{AddsBehind, HoldsTimer, IsAtRest};
-ghost use Rattle.hr_timers.specs.Calls.{entries_along, entry_by};
+ghost use Rattle.timer_core.specs.Runs.{entries_along};
+ghost use Rattle.hr_timers.specs.Calls.{entry_by};
 
 use crate::asked::{Asked, start_event};
 use crate::under_lock::lock;

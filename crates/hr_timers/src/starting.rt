@@ -3,7 +3,8 @@ ghost use Rattle.std.specs.Prelude.{◌≡◌, ◌<◌, ◌≤◌, length};
 ghost use Rattle.timer_core.specs.Answers.{start_events};
 ghost use Rattle.base_row.specs.Calls.{known_of, timer_seen};
 ghost use Rattle.hr_timers.specs.Known.{AddsBehind, HoldsTimer, IsAtRest};
-ghost use Rattle.hr_timers.specs.Calls.{StartsTimer, entries_along};
+ghost use Rattle.timer_core.specs.Runs.{entries_along};
+ghost use Rattle.hr_timers.specs.Calls.{StartsTimer};
 
 use crate::answer::StartAnswer;
 use crate::asked::{Asked, moves_first, start_event, started};
