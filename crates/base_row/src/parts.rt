@@ -62,7 +62,7 @@ pub fn make_timers(
     Ok(timers)
 }
 
-/// So many bases without_first timers, each in a slot of its own.
+/// So many bases without timers, each in a slot of its own.
 pub fn empty_slots(
     alloc: Global,
     count: u32,
