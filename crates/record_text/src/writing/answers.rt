@@ -4,6 +4,7 @@ ghost use Rattle.std.specs.Fmt.{decimal};
 ghost use Rattle.record_text.specs.Numbers.{answer_numbers, object_answer_numbers, AreMachineNumbers};
 ghost use Rattle.record_text.specs.Text.{answer_words, object_answer_words, spaced};
 
+use crate::item_list::ItemList;
 use crate::record::Answer;
 use crate::writing::sections::HasWords;
 use std::alloc::AllocError;
@@ -40,24 +41,14 @@ impl HasWords for Answer {
                 let moving = u8::from(moving);
                 write!(out, " peek {stamp} {base} {enqueued} {running} {moving}")?;
             }
-            Answer::Done { reading, ref fired } => write_run(
-                out,
-                "done",
-                reading,
-                fired.as_slice(),
-            )?,
-            Answer::More { reading, ref fired } => write_run(
-                out,
-                "more",
-                reading,
-                fired.as_slice(),
-            )?,
+            Answer::Done { reading, ref fired } => write_run(out, "done", reading, fired)?,
+            Answer::More { reading, ref fired } => write_run(out, "more", reading, fired)?,
             Answer::Busy {
                 reading,
                 ref fired,
                 timer,
                 generation,
-            } => write_busy(out, reading, timer, generation, fired.as_slice())?,
+            } => write_busy(out, reading, timer, generation, fired)?,
             Answer::Clock { stamp } => write!(out, " clock {stamp}")?,
             Answer::Range { would_be } => write!(out, " range {would_be}")?,
             _ => write_object_answer(out, self)?,
@@ -102,10 +93,16 @@ fn write_object_answer(out: &mut String, answer: &Answer) -> Result<(), AllocErr
 }
 
 /// Writes what an expiry run did that met no running timer: this word, its reading, and the timers that fired.
-fn write_run(out: &mut String, word: &str, reading: u64, fired: &[u32]) -> Result<(), AllocError>
+fn write_run(
+    out: &mut String,
+    word: &str,
+    reading: u64,
+    fired: &ItemList<u32>,
+) -> Result<(), AllocError>
     ensures text { OnOk result (string_bytes out.new ≡ string_bytes out.old ++ spaced (word.now ∷ decimal (length fired.now) ∷ decimal reading ∷ map decimal fired.now)) }
     ensures numbers { OnOk result (AreMachineNumbers (length fired.now ∷ reading ∷ fired.now)) }
 {
+    let fired = fired.as_slice();
     let count = fired.len();
     write!(out, " {word} {count} {reading}")?;
     write_fired(out, fired)?;
@@ -118,11 +115,12 @@ fn write_busy(
     reading: u64,
     timer: u32,
     generation: u64,
-    fired: &[u32],
+    fired: &ItemList<u32>,
 ) -> Result<(), AllocError>
     ensures text { OnOk result (string_bytes out.new ≡ string_bytes out.old ++ spaced (codes "busy" ∷ decimal (length fired.now) ∷ decimal reading ∷ decimal timer ∷ decimal generation ∷ map decimal fired.now)) }
     ensures numbers { OnOk result (AreMachineNumbers (length fired.now ∷ reading ∷ timer ∷ generation ∷ fired.now)) }
 {
+    let fired = fired.as_slice();
     let count = fired.len();
     write!(out, " busy {count} {reading} {timer} {generation}")?;
     write_fired(out, fired)?;
