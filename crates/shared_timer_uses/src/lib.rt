@@ -1,0 +1,12 @@
+//! Callers of `hr_timers` and `expire_pass`: timers that threads share, each thread with a pass of its own.
+#![tactic(auto)]
+
+pub use cancelling::{Stopped, stop_and_wait, stop_now};
+pub use once::{OneShot, expire_once, start_once};
+pub use periodic::{Periodic, Tick, expire_periodic};
+
+mod cancelling;
+mod once;
+mod periodic;
+#[cfg(test)]
+mod tests;
