@@ -34,7 +34,7 @@ after_all-append : (t : Timer) (xs ys : List seq.Entry) → seq.after_all t (xs 
 after_all-append t [] ys = refl
 after_all-append t (x ∷ xs) ys = after_all-append (after t x.event) xs ys
 
-timer_own : (o : Opening) (x : List TimerEntry) (t : ℕ) → timer_in o x t ≡ seq.after_all (timer_at o.timers t) (entries_of t x)
+pub timer_own : (o : Opening) (x : List TimerEntry) (t : ℕ) → timer_in o x t ≡ seq.after_all (timer_at o.timers t) (entries_of t x)
 timer_own o x t = after_entries-entries_of (first_system o.timers) t x
 
 -- the timer is then as the call's entries have left it

@@ -1,8 +1,9 @@
 -- What callers are told, by all that their pass has seen.
-use Rattle.std.specs.Prelude.{ℕ, ◌≡◌, ◌+◌, ◌⊎◌, List, [], ◌∷◌, ◌++◌, length, Option, Some, None, true, false}
+use Rattle.std.specs.Prelude.{ℕ, ◌≡◌, ◌+◌, ◌⊎◌, ◌≢◌, List, [], ◌∷◌, ◌++◌, length, Option, Some, None, true, false}
 use Rattle.ktime.specs.Readings.{ClockReading}
 use Rattle.ktime.specs.Times.{next_after, passed}
-use Rattle.pass_names.specs.Passes.{Begins}
+use Rattle.pass_names.specs.Counts.{count}
+use Rattle.pass_names.specs.Passes.{Begins, is_place}
 use Rattle.seq_timer.specs.declared.event.Event.TheVariants as events
 use Rattle.seq_timer.specs.declared.event.Reply.TheVariants as replies
 use Rattle.seq_timer.specs.declared.event.Rearmed.TheVariants as rearmings
@@ -15,6 +16,7 @@ use Rattle.base_row.specs.declared.view.Opening.{Opening}
 use Rattle.hr_timers.specs.Known.{Known, timer_in}
 use Rattle.hr_timers.specs.Calls.{HasNoneDue}
 use Rattle.expire_pass.specs.declared.log.Receipt.{Receipt}
+use Rattle.expire_pass.specs.Handlers.{Keeps}
 use Rattle.shared_timer_uses.specs.declared.cancelling.Stopped.{Stopped}
 use Rattle.shared_timer_uses.specs.declared.cancelling.Stopped.TheVariants as stops
 use Rattle.shared_timer_uses.specs.declared.periodic.Tick.{Tick}
@@ -61,3 +63,9 @@ StoppedFits o k k' t stops.Disarmed = IsIdle (known_timer o k' t) × (length k'.
 StoppedFits o k k' t stops.AtRest = IsIdle (known_timer o k' t) × (k'.mine ≡ k.mine)
 StoppedFits o k k' t (stops.Running g) = ((known_timer o k' t).running ≡ Some g) × (k'.mine ≡ k.mine)
 StoppedFits o k k' t stops.Busy = k'.mine ≡ k.mine
+
+-- so many entries of a timer were made, and none of any other
+pub record MakesEntries (t n : ℕ) (k k' : Known) : Type 0 where
+  pub keeps : Keeps k k'
+  pub mine : length k'.mine ≡ length k.mine + n
+  pub elsewhere : (i m : ℕ) → i ≢ t → count (is_place i m) k'.mine ≡ count (is_place i m) k.mine
