@@ -74,11 +74,11 @@ module _ (o : Opening) (base : ℕ) (reading : ClockReading) (k k' : Known) (log
         receipts = turn.ran.receipts ∙ (λ i. log
             ++ record { timer = c.timer; number = c.number; event = events.Claim (turn.claims.there i) reading; reply = replies.Claim c.generation }
             ∷ record {
-                timer = c.timer;
-                number = turn.ran.finished.number;
-                event = events.Finish (asks (did.2 i));
-                reply = replies.Finish c.generation (rearmed i);
-              } ∷ []);
+              timer = c.timer;
+              number = turn.ran.finished.number;
+              event = events.Finish (asks (did.2 i));
+              reply = replies.Finish c.generation (rearmed i);
+            } ∷ []);
       })
 
   pub ran_once : (h' : OneShot) (a : ExpireAnswer) → Expires one_shot o base reading 1 k (record { ran = None }) log k' h' log' a

@@ -77,6 +77,7 @@ pub fn expire_once<R: Wait>(
     requires room { 2 ≤ log.old.spare }
     ensures pass { IsPassOf timers.now pass.new }
     ensures keeps { Keeps pass.old.known pass.new.known }
+    ensures room { log.old.spare ≤ log.new.spare + 2 }
     ensures ran { IfSome result (λ timer. RanOnce timers.now.about base reading pass.old.known pass.new.known timer log.old.receipts log.new.receipts) }
     ensures none { IfNone result (HasNothingToRun timers.now.about pass.new.known base reading × (log.new.receipts ≡ log.old.receipts)) }
 {

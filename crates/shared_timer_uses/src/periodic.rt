@@ -1,5 +1,5 @@
 //! A timer that expires at every interval.
-ghost use Rattle.std.specs.Prelude.{◌≡◌, ◌<◌, ◌≤◌, IfSome, length};
+ghost use Rattle.std.specs.Prelude.{◌≡◌, ◌+◌, ◌<◌, ◌≤◌, IfSome, length};
 ghost use Rattle.hr_timers.specs.Known.{IsPassOf};
 ghost use Rattle.expire_pass.specs.Handlers.{Keeps};
 ghost use Rattle.shared_timer_uses.specs.Callers.{Ticked};
@@ -74,6 +74,7 @@ pub fn expire_periodic<R: Wait>(
     requires room { 2 ≤ log.old.spare }
     ensures pass { IsPassOf timers.now pass.new }
     ensures keeps { Keeps pass.old.known pass.new.known }
+    ensures room { log.old.spare ≤ log.new.spare + 2 }
     ensures ticked { IfSome result (λ tick. Ticked timers.now.about base reading interval pass.old.known pass.new.known tick) }
 {
     let mut function = Periodic {

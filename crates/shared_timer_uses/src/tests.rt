@@ -5,10 +5,7 @@ ghost use Rattle.hr_timers.specs.Known.{IsPassOf};
 
 mod acting;
 mod callers;
-mod claims;
-mod drawn;
 mod functions;
-mod threads;
 
 use expire_pass::Log;
 use hr_timers::{Pass, Timers};
@@ -16,11 +13,7 @@ use ktime::ClockId;
 use std::alloc::{AllocError, Global};
 
 /// So many timers on the monotonic clock, so many bases, and a log with room for 64 receipts.
-fn some_timers(
-    alloc: Global,
-    bases: u32,
-    count: usize,
-) -> Result<(Timers, Pass, Log), AllocError>
+fn some_timers(alloc: Global, bases: u32, count: usize) -> Result<(Timers, Pass, Log), AllocError>
     requires few { (0 < bases) × (bases ≤ 64) × (count ≤ 64) }
     ensures pass { IfOk result (λ r. IsPassOf r.0 r.1 × IsLast r.1.known.id × (r.1.known.claims ≡ [])) }
     ensures size { IfOk result (λ r. (length r.0.about.timers ≡ count) × (r.0.about.bases ≡ bases)) }

@@ -157,6 +157,7 @@ pub fn expire_and_stop<R: Threads + Wait + Sync>(
     requires room { 2 ≤ log.old.spare }
     ensures pass { IsPassOf timers.now runner.new × IsPassOf timers.now stopper.new }
     ensures keeps { Keeps runner.old.known runner.new.known × Keeps stopper.old.known stopper.new.known }
+    ensures room { log.old.spare ≤ log.new.spare + 2 }
     ensures ran { IfSome result.0 (λ t. RanOnce timers.now.about base reading runner.old.known runner.new.known t log.old.receipts log.new.receipts) }
     ensures idle { IsIdle (known_timer timers.now.about stopper.new.known timer) }
 {

@@ -1,10 +1,10 @@
 //! A handler whose functions call timers, each in the way that it is told to.
-ghost use Rattle.std.specs.Prelude.{◌≡◌, ◌<◌};
+ghost use Rattle.std.specs.Prelude.{◌≡◌, ◌<◌, length};
 ghost use Rattle.hr_timers.specs.Known.{HasClaim, IsPassOf};
 ghost use Rattle.expire_pass.specs.Handlers.{Keeps};
 
-use expire_pass::{ExpireAnswer, Handler, Log, Restart, expire};
 use crate::OneShot;
+use expire_pass::{ExpireAnswer, Handler, Log, Restart, expire};
 use hr_timers::{Claim, Pass, StartAnswer, Timers};
 use ktime::{Mode, Reading};
 use std::sync::Wait;
@@ -30,6 +30,7 @@ pub enum Told {
 }
 
 /// Does the same for each timer, and keeps what the last function was told.
+#[derive(Drop)]
 pub struct Acting {
     pub act: Act,
     pub told: Told,
@@ -37,7 +38,7 @@ pub struct Acting {
 }
 
 /// Does what is asked for a timer whose function runs.
-fn act<R: Wait>(
+fn do_act<R: Wait>(
     rt: &R,
     timers: &Timers,
     pass: &mut Pass,
@@ -76,9 +77,7 @@ fn start_own<R: Wait>(rt: &R, timers: &Timers, pass: &mut Pass, timer: u32, read
 }
 
 impl Handler for Acting {
-    ghost use Rattle.shared_timer_uses.specs.Handlers.{acting};
-
-    ghost meaning = { acting };
+    ghost meaning = { record { did = λ h h' k k' c reading restart. Unit; ready = λ h. 18446744073709551616; timers = λ h. 65536; bases = λ h. 1 } };
 
     fn fire<R: Wait>(
         &mut self,
@@ -88,19 +87,22 @@ impl Handler for Acting {
         claim: &Claim,
         reading: Reading,
     ) -> Restart {
-        self.told = act(rt, timers, pass, claim, reading, self.act);
+        self.told = do_act(rt, timers, pass, claim, reading, self.act);
         self.restart
     }
 }
 
 /// Its function expires base 0, at most one timer of it, which is the base that it runs on.
+#[derive(Drop)]
 pub struct OwnBase {
     pub log: Log,
     pub told: Option<ExpireAnswer>,
 }
 
 impl Handler for OwnBase {
-    ghost meaning = { own_base };
+    ghost use Rattle.std.specs.Prelude.{nat_le, if◌then◌else◌};
+
+    ghost meaning = { record { did = λ h h' k k' c reading restart. Unit; ready = λ h. if nat_le 2 h.log.spare then 1 else 0; timers = λ h. 65536; bases = λ h. 1 } };
 
     fn fire<R: Wait>(
         &mut self,
@@ -111,7 +113,16 @@ impl Handler for OwnBase {
         reading: Reading,
     ) -> Restart {
         let mut function = OneShot { ran: None };
-        let told = expire(rt, timers, pass, 0, reading, 1, &mut function, &mut self.log);
+        let told = expire(
+            rt,
+            timers,
+            pass,
+            0,
+            reading,
+            1,
+            &mut function,
+            &mut self.log,
+        );
         self.told = Some(told);
         Restart::Stop
     }

@@ -1,8 +1,6 @@
 //! The callers, each run by one pass.
 use super::some_timers;
-use crate::{
-    Stopped, Tick, expire_once, expire_periodic, start_once, stop_and_wait, stop_now,
-};
+use crate::{Stopped, Tick, expire_once, expire_periodic, start_once, stop_and_wait, stop_now};
 use expire_pass::Receipt;
 use ktime::Reading;
 use seq_timer::{Event, Rearmed, Reply};
@@ -17,7 +15,6 @@ fn a_timer_expires_once(rt: HostRuntime) -> Result<(), Fail> {
     let early = expire_once(&rt, &timers, &mut pass, 0, Reading::at(104), &mut log);
     assert_eq!(rt; early, None);
     assert_eq!(rt; log.receipts().len(), 0);
-    log.reserve(2)?;
     let ran = expire_once(&rt, &timers, &mut pass, 0, now, &mut log);
     assert_eq!(rt; ran, Some(1));
     let claim = Receipt {
@@ -38,8 +35,7 @@ fn a_timer_expires_once(rt: HostRuntime) -> Result<(), Fail> {
             rearmed: Rearmed::No,
         },
     };
-    assert_eq!(rt; log.receipts(), &[claim, finish]);
-    log.reserve(2)?;
+    assert_eq!(rt; log.receipts(), [claim, finish].as_slice());
     let again = expire_once(&rt, &timers, &mut pass, 0, Reading::at(900), &mut log);
     assert_eq!(rt; again, None);
     timers.close(pass);
@@ -57,7 +53,6 @@ fn a_periodic_timer_ticks(rt: HostRuntime) -> Result<(), Fail> {
     };
     let told = expire_periodic(&rt, &timers, &mut pass, 0, Reading::at(135), 10, &mut log);
     assert_eq!(rt; told, Some(late));
-    log.reserve(2)?;
     let told = expire_periodic(&rt, &timers, &mut pass, 0, Reading::at(139), 10, &mut log);
     assert_eq!(rt; told, None);
     let next = Tick {
@@ -65,7 +60,6 @@ fn a_periodic_timer_ticks(rt: HostRuntime) -> Result<(), Fail> {
         count: 1,
         expires: 150,
     };
-    log.reserve(2)?;
     let told = expire_periodic(&rt, &timers, &mut pass, 0, Reading::at(140), 10, &mut log);
     assert_eq!(rt; told, Some(next));
     assert!(rt; stop_and_wait(&rt, &timers, &mut pass, 0));
