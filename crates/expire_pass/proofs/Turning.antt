@@ -17,13 +17,13 @@ use Rattle.hr_timers.specs.declared.answer.ClaimAnswer.TheVariants as claimings
 use Rattle.timer_core.specs.declared.answer.Finished.{Finished}
 use Rattle.seq_timer.specs.declared.event.Event.TheVariants as events
 use Rattle.seq_timer.specs.declared.event.Reply.TheVariants as replies
-use Rattle.hr_timers.specs.Known.{HasClaim, Known, Made, count_of}
-use Rattle.hr_timers.specs.Calls.{Cancels, ClaimsNext, Finishes, cancel_entries}
+use Rattle.hr_timers.specs.Known.{OwnsClaim, KnownOfTimers, MadeAt, count_of}
+use Rattle.hr_timers.specs.Calls.{Cancels, ClaimsNextDue, Finishes, cancel_entries}
 use Rattle.seq_timer.specs.Histories as seq
 use Rattle.seq_timer.specs.declared.system.TimerEntry.{TimerEntry}
 use Rattle.seq_timer.specs.Systems.{entries_of}
 use Rattle.expire_pass.specs.declared.log.Receipt.{Receipt}
-use Rattle.expire_pass.specs.Handlers.{Keeps, Meaning, asks}
+use Rattle.expire_pass.specs.Handlers.{KeepsPass, Meaning, asks}
 use Rattle.expire_pass.specs.declared.handler.Restart.{Restart}
 use Rattle.expire_pass.specs.Expiring.{Ran, claim_receipt, finish_receipt}
 
@@ -37,7 +37,7 @@ is_own c = and_from (c.timer == c.timer) _ (eq-eqb c.timer c.timer refl)
     (and_from (c.generation == c.generation) (c.base == c.base) (eq-eqb c.generation c.generation refl) (eq-eqb c.base c.base refl))
 
 -- a claim that was just made stands
-pub has_claim : (o : Opening) (v w : Known) (base : ℕ) (reading : ClockReading) (c : ClaimNumbers) → ClaimsNext o v w base reading c → HasClaim o w c
+pub has_claim : (o : Opening) (v w : KnownOfTimers) (base : ℕ) (reading : ClockReading) (c : ClaimNumbers) → ClaimsNextDue o v w base reading c → OwnsClaim o w c
 has_claim o v w base reading c r = record {
   within = r.within;
   stands = omega (
@@ -49,7 +49,7 @@ has_claim o v w base reading c r = record {
   );
 }
 
-pub still_has : (o : Opening) (v w : Known) (c : ClaimNumbers) → Keeps v w → HasClaim o v c → HasClaim o w c
+pub still_has : (o : Opening) (v w : KnownOfTimers) (c : ClaimNumbers) → KeepsPass v w → OwnsClaim o v c → OwnsClaim o w c
 still_has o v w c keeps has = record { within = has.within; stands = subst (λ (l : List Claimed). 0 < count_of c l) (sym keeps.claims) has.stands }
 
 -- what stands last, and nowhere before, is taken off again
@@ -63,16 +63,16 @@ taken_off p (y ∷ ys) x none is = at (p y) refl (taken_off p ys x (omega (arith
 
 -- ---- a turn
 
-pub keeps_trans : (u v w : Known) → Keeps u v → Keeps v w → Keeps u w
+pub keeps_trans : (u v w : KnownOfTimers) → KeepsPass u v → KeepsPass v w → KeepsPass u w
 keeps_trans u v w a b = record { id = b.id ∙ a.id; claims = b.claims ∙ a.claims; seen = begins_trans a.seen b.seen; mine = begins_trans a.mine b.mine }
 
-mine_begins : (v w : Known) (t : ℕ) (x : List TimerEntry) (es : List seq.Entry) → Made v w t x es → Begins v.mine w.mine
+mine_begins : (v w : KnownOfTimers) (t : ℕ) (x : List TimerEntry) (es : List seq.Entry) → MadeAt v w t x es → Begins v.mine w.mine
 mine_begins v w t x es made = record { rest = places t (length (entries_of t x)) es; whole = made.mine }
 
 -- a claim, its function and its finish leave the pass's name and claims
-pub turn_keeps : {A : Type 0} (m : Meaning A) (o : Opening) (base : ℕ) (reading : ClockReading) (k : Known) (h : A) (log : List Receipt)
-    (k' : Known) (h' : A) (log' : List Receipt) (c : ClaimNumbers) (claimed : Known)
-    → ClaimsNext o k claimed base reading c → Ran m o reading c claimed h log k' h' log' → Keeps k k'
+pub turn_keeps : {A : Type 0} (m : Meaning A) (o : Opening) (base : ℕ) (reading : ClockReading) (k : KnownOfTimers) (h : A) (log : List Receipt)
+    (k' : KnownOfTimers) (h' : A) (log' : List Receipt) (c : ClaimNumbers) (claimed : KnownOfTimers)
+    → ClaimsNextDue o k claimed base reading c → Ran m o reading c claimed h log k' h' log' → KeepsPass k k'
 turn_keeps m o base reading k h log k' h' log' c claimed next ran =
     let f = ran.finishes in
     record {
@@ -99,7 +99,7 @@ two_receipts reading c d again restart f log mid end n a first second =
 -- ---- cancel
 
 -- looks, and then a call that made no entry
-pub looks_then : (k v w : Known) (t : ℕ) (x : List TimerEntry) → LooksOn k v → Made v w t x [] → w.claims ≡ v.claims → LooksOn k w
+pub looks_then : (k v w : KnownOfTimers) (t : ℕ) (x : List TimerEntry) → LooksOn k v → MadeAt v w t x [] → w.claims ≡ v.claims → LooksOn k w
 looks_then k v w t x first made claims = record {
   seen = begins_trans first.seen (begins_trans made.from made.seen);
   mine = made.mine ∙ (append-nil v.mine ∙ first.mine);

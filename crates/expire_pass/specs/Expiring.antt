@@ -7,7 +7,7 @@ use Rattle.timer_core.specs.declared.answer.Finished.{Finished}
 use Rattle.base_row.specs.declared.view.Opening.{Opening}
 use Rattle.hr_timers.specs.declared.numbers.ClaimNumbers.{ClaimNumbers}
 use Rattle.hr_timers.specs.declared.answer.ClaimAnswer.TheVariants as claimings
-use Rattle.hr_timers.specs.Known.{Known}
+use Rattle.hr_timers.specs.Known.{KnownOfTimers}
 use Rattle.hr_timers.specs.Calls.{ClaimFits, Finishes}
 use Rattle.expire_pass.specs.declared.log.Receipt.{Receipt}
 use Rattle.expire_pass.specs.declared.handler.Restart.{Restart}
@@ -15,7 +15,7 @@ use Rattle.expire_pass.specs.declared.expiry.Next.{Next}
 use Rattle.expire_pass.specs.declared.expiry.Next.TheVariants as nexts
 use Rattle.expire_pass.specs.declared.expiry.ExpireAnswer.{ExpireAnswer}
 use Rattle.expire_pass.specs.declared.expiry.ExpireAnswer.TheVariants as expiries
-use Rattle.expire_pass.specs.Handlers.{Keeps, Meaning, asks}
+use Rattle.expire_pass.specs.Handlers.{KeepsPass, Meaning, asks}
 
 -- the receipt of a claim
 abbrev pub claim_receipt : ClockReading → ClaimNumbers → Receipt
@@ -28,39 +28,39 @@ finish_receipt c restart f =
 
 -- A claim's function has run, and the claim is finished: `done` is what the pass knows after the function. Each goes on from what the one before
 -- has seen.
-pub record Ran {A : Type 0} (m : Meaning A) (o : Opening) (reading : ClockReading) (c : ClaimNumbers) (k : Known) (h : A) (log : List Receipt)
-    (k' : Known) (h' : A) (log' : List Receipt) : Type 0 where
-  pub done : Known
+pub record Ran {A : Type 0} (m : Meaning A) (o : Opening) (reading : ClockReading) (c : ClaimNumbers) (k : KnownOfTimers) (h : A) (log : List Receipt)
+    (k' : KnownOfTimers) (h' : A) (log' : List Receipt) : Type 0 where
+  pub done : KnownOfTimers
   pub restart : Restart
   pub did : m.did h h' k done c reading restart
-  pub keeps : Keeps k done
+  pub keeps : KeepsPass k done
   pub finished : Finished
   pub finishes : Finishes o done k' c (asks restart) finished
   pub receipts : log' ≡ log ++ claim_receipt reading c ∷ finish_receipt c restart finished ∷ []
 
 module _ {A : Type 0} (m : Meaning A) (o : Opening) (base : ℕ) (reading : ClockReading) where
   -- a claim, after which the pass knows `claimed`, and the run of its function
-  pub record Turn (k : Known) (h : A) (log : List Receipt) (k' : Known) (h' : A) (log' : List Receipt) : Type 0 where
+  pub record Turn (k : KnownOfTimers) (h : A) (log : List Receipt) (k' : KnownOfTimers) (h' : A) (log' : List Receipt) : Type 0 where
     pub claim : ClaimNumbers
-    pub claimed : Known
+    pub claimed : KnownOfTimers
     pub claims : ClaimFits o k claimed base reading (claimings.Claimed claim)
     pub ran : Ran m o reading claim claimed h log k' h' log'
 
   -- so many turns
-  abbrev pub Turns : ℕ → Known → A → List Receipt → Known → A → List Receipt → Type 0
+  abbrev pub Turns : ℕ → KnownOfTimers → A → List Receipt → KnownOfTimers → A → List Receipt → Type 0
   Turns zero k h log k' h' log' = (k' ≡ k) × (h' ≡ h) × (log' ≡ log)
-  Turns (suc n) k h log k' h' log' = (k1 : Known) × (h1 : A) × (log1 : List Receipt) × Turns n k h log k1 h1 log1 × Turn k1 h1 log1 k' h' log'
+  Turns (suc n) k h log k' h' log' = (k1 : KnownOfTimers) × (h1 : A) × (log1 : List Receipt) × Turns n k h log k1 h1 log1 × Turn k1 h1 log1 k' h' log'
 
   -- what a turn came to. What claims nothing changes neither the handler nor the log.
-  abbrev pub Nexts : Known → A → List Receipt → Known → A → List Receipt → Next → Type 0
+  abbrev pub Nexts : KnownOfTimers → A → List Receipt → KnownOfTimers → A → List Receipt → Next → Type 0
   Nexts k h log k' h' log' nexts.Fired = Turn k h log k' h' log'
   Nexts k h log k' h' log' nexts.NoneDue = ClaimFits o k k' base reading claimings.NoneDue × (h' ≡ h) × (log' ≡ log)
   Nexts k h log k' h' log' (nexts.BaseBusy t g) = ClaimFits o k k' base reading (claimings.BaseBusy t g) × (h' ≡ h) × (log' ≡ log)
 
   -- what the run answers. That nothing was due, or that the base was busy, holds of all that the pass has then seen.
-  abbrev pub Expires : ℕ → Known → A → List Receipt → Known → A → List Receipt → ExpireAnswer → Type 0
+  abbrev pub Expires : ℕ → KnownOfTimers → A → List Receipt → KnownOfTimers → A → List Receipt → ExpireAnswer → Type 0
   Expires budget k h log k' h' log' (expiries.More fired) = (fired ≡ budget) × Turns fired k h log k' h' log'
   Expires budget k h log k' h' log' (expiries.Done fired) = (fired < budget)
-      × ((k1 : Known) × Turns fired k h log k1 h' log' × ClaimFits o k1 k' base reading claimings.NoneDue)
+      × ((k1 : KnownOfTimers) × Turns fired k h log k1 h' log' × ClaimFits o k1 k' base reading claimings.NoneDue)
   Expires budget k h log k' h' log' (expiries.BaseBusy fired t g) = (fired < budget)
-      × ((k1 : Known) × Turns fired k h log k1 h' log' × ClaimFits o k1 k' base reading (claimings.BaseBusy t g))
+      × ((k1 : KnownOfTimers) × Turns fired k h log k1 h' log' × ClaimFits o k1 k' base reading (claimings.BaseBusy t g))

@@ -4,25 +4,25 @@ use Rattle.ktime.specs.Readings.{ClockReading}
 use Rattle.pass_names.specs.Passes.{Begins}
 use Rattle.base_row.specs.declared.view.Opening.{Opening}
 use Rattle.hr_timers.specs.declared.numbers.ClaimNumbers.{ClaimNumbers}
-use Rattle.hr_timers.specs.Known.{Known}
+use Rattle.hr_timers.specs.Known.{KnownOfTimers}
 use Rattle.expire_pass.specs.declared.handler.Restart.{Restart}
 use Rattle.expire_pass.specs.declared.handler.Restart.TheVariants as restarts
 
 -- What a handler's function does, between what the pass knows after the claim and before the finish; for how many functions the handler's own
 -- logs have room; how many timers it has at least; and how many bases it needs.
 pub record Meaning (A : Type 0) : Type 1 where
-  pub did : A → A → Known → Known → ClaimNumbers → ClockReading → Restart → Type 0
+  pub did : A → A → KnownOfTimers → KnownOfTimers → ClaimNumbers → ClockReading → Restart → Type 0
   pub ready : A → ℕ
   pub timers : A → ℕ
   pub bases : A → ℕ
 
 -- these timers are no more, and their bases no fewer, than a handler can serve
-pub record Suits {A : Type 0} (m : Meaning A) (o : Opening) (h : A) : Type 0 where
+pub record CanServe {A : Type 0} (m : Meaning A) (o : Opening) (h : A) : Type 0 where
   pub timers : length o.timers ≤ m.timers h
   pub bases : m.bases h ≤ o.bases
 
 -- the pass's name and claims are as they were, and what it has seen and made goes on
-pub record Keeps (v w : Known) : Type 0 where
+pub record KeepsPass (v w : KnownOfTimers) : Type 0 where
   pub id : w.id ≡ v.id
   pub claims : w.claims ≡ v.claims
   pub seen : Begins v.seen w.seen

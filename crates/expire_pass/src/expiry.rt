@@ -1,9 +1,9 @@
 //! The expiry run of a base, and the cancel that waits.
 ghost use Rattle.std.specs.Prelude.{◌≡◌, ◌<◌, ◌≤◌, ◌+◌, ◌*◌, ℕ, length};
 ghost use Rattle.timer_core.specs.declared.answer.CancelAnswer.TheVariants as cancels;
-ghost use Rattle.hr_timers.specs.Known.{HasClaim, IsPassOf};
+ghost use Rattle.hr_timers.specs.Known.{OwnsClaim, IsPassOf};
 ghost use Rattle.hr_timers.specs.Calls.{Cancels};
-ghost use Rattle.expire_pass.specs.Handlers.{Keeps, Suits};
+ghost use Rattle.expire_pass.specs.Handlers.{KeepsPass, CanServe};
 ghost use Rattle.expire_pass.specs.Expiring.{Expires, Nexts, Ran};
 
 use crate::handler::{Handler, asks};
@@ -59,13 +59,13 @@ pub fn expire<R: Wait, H: Handler>(
     requires base { base < timers.now.about.bases }
     requires room { 2 * budget ≤ log.old.spare }
     requires ready { budget ≤ H.meaning.ready handler.old }
-    requires suits { Suits H.meaning timers.now.about handler.old }
+    requires suits { CanServe H.meaning timers.now.about handler.old }
     ensures pass { IsPassOf timers.now pass.new }
     ensures expires { Expires H.meaning timers.now.about base reading budget pass.old.known handler.old log.old.receipts pass.new.known handler.new log.new.receipts result }
-    ensures keeps { Keeps pass.old.known pass.new.known }
+    ensures keeps { KeepsPass pass.old.known pass.new.known }
     ensures room { log.old.spare ≤ log.new.spare + 2 * budget }
     ensures ready { H.meaning.ready handler.old ≤ H.meaning.ready handler.new + budget }
-    ensures suits { Suits H.meaning timers.now.about handler.new }
+    ensures suits { CanServe H.meaning timers.now.about handler.new }
 {
     for fired in 0..budget {
         match turn(rt, timers, pass, base, reading, handler, log) {
@@ -97,13 +97,13 @@ fn turn<R: Wait, H: Handler>(
     requires base { base < timers.now.about.bases }
     requires room { 2 ≤ log.old.spare }
     requires ready { 0 < H.meaning.ready handler.old }
-    requires suits { Suits H.meaning timers.now.about handler.old }
+    requires suits { CanServe H.meaning timers.now.about handler.old }
     ensures pass { IsPassOf timers.now pass.new }
     ensures nexts { Nexts H.meaning timers.now.about base reading pass.old.known handler.old log.old.receipts pass.new.known handler.new log.new.receipts result }
-    ensures keeps { Keeps pass.old.known pass.new.known }
+    ensures keeps { KeepsPass pass.old.known pass.new.known }
     ensures room { log.old.spare ≤ log.new.spare + 2 }
     ensures ready { H.meaning.ready handler.old ≤ H.meaning.ready handler.new + 1 }
-    ensures suits { Suits H.meaning timers.now.about handler.new }
+    ensures suits { CanServe H.meaning timers.now.about handler.new }
 {
     match timers.claim_next(rt, pass, base, reading) {
         ClaimAnswer::NoneDue => Next::NoneDue,
@@ -126,15 +126,15 @@ fn run<R: Wait, H: Handler>(
     log: &mut Log,
 )
     requires pass { IsPassOf timers.now pass.old }
-    requires claim { HasClaim timers.now.about pass.old.known claim }
+    requires claim { OwnsClaim timers.now.about pass.old.known claim }
     requires room { 2 ≤ log.old.spare }
     requires ready { 0 < H.meaning.ready handler.old }
-    requires suits { Suits H.meaning timers.now.about handler.old }
+    requires suits { CanServe H.meaning timers.now.about handler.old }
     ensures pass { IsPassOf timers.now pass.new }
     ensures ran { Ran H.meaning timers.now.about reading claim pass.old.known handler.old log.old.receipts pass.new.known handler.new log.new.receipts }
     ensures room { log.old.spare ≤ log.new.spare + 2 }
     ensures ready { H.meaning.ready handler.old ≤ H.meaning.ready handler.new + 1 }
-    ensures suits { Suits H.meaning timers.now.about handler.new }
+    ensures suits { CanServe H.meaning timers.now.about handler.new }
 {
     let restart = handler.fire(rt, timers, pass, &claim, reading);
     let again = asks(restart);

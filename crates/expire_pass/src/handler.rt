@@ -1,7 +1,7 @@
 //! What runs timers' functions.
 ghost use Rattle.std.specs.Prelude.{◌≡◌, ◌<◌, ◌≤◌, ◌+◌};
-ghost use Rattle.hr_timers.specs.Known.{IsPassOf, HasClaim};
-ghost use Rattle.expire_pass.specs.Handlers.{Keeps, Meaning, Suits, asks};
+ghost use Rattle.hr_timers.specs.Known.{IsPassOf, OwnsClaim};
+ghost use Rattle.expire_pass.specs.Handlers.{KeepsPass, Meaning, CanServe, asks};
 
 use hr_timers::{Claim, Pass, Timers};
 use ktime::Reading;
@@ -29,11 +29,11 @@ pub trait Handler {
         reading: Reading,
     ) -> Restart
         requires pass { IsPassOf timers.now pass.old }
-        requires claim { HasClaim timers.now.about pass.old.known claim.now }
+        requires claim { OwnsClaim timers.now.about pass.old.known claim.now }
         requires ready { 0 < meaning.ready self.old }
-        requires suits { Suits meaning timers.now.about self.old }
+        requires suits { CanServe meaning timers.now.about self.old }
         ensures pass { IsPassOf timers.now pass.new }
-        ensures keeps { Keeps pass.old.known pass.new.known }
+        ensures keeps { KeepsPass pass.old.known pass.new.known }
         ensures did { meaning.did self.old self.new pass.old.known pass.new.known claim.now reading result }
         ensures ready { meaning.ready self.old ≤ meaning.ready self.new + 1 }
         ensures numbers { (meaning.timers self.new ≡ meaning.timers self.old) × (meaning.bases self.new ≡ meaning.bases self.old) };

@@ -15,7 +15,7 @@ use Rattle.base_row.specs.declared.view.Opening.{Opening}
 use Rattle.base_row.specs.declared.view.BaseView.{BaseView}
 use Rattle.base_row.specs.Calls as rows
 use Rattle.base_row.proofs.Calling.{extends_appended, looks_freed, seen_after}
-use Rattle.hr_timers.specs.Known.{Extends, Known, Looks, Made}
+use Rattle.hr_timers.specs.Known.{AddsBehind, KnownOfTimers, Looks, MadeAt}
 use Rattle.hr_timers.specs.Calls.{entry_by}
 
 -- ---- looks
@@ -51,8 +51,8 @@ looks_on v w l = record { seen = l.seen; mine = l.mine; id = l.id; claims = l.cl
 -- ---- entries
 
 -- looks, and then entries behind what was seen of the timer
-pub made_then : (u v w : BaseView BaseContent) (t : ℕ) (es : List seq.Entry) → Looks u v → Extends v w t es
-    → Made (rows.known_of u) (rows.known_of w) t v.seen es
+pub made_then : (u v w : BaseView BaseContent) (t : ℕ) (es : List seq.Entry) → Looks u v → AddsBehind v w t es
+    → MadeAt (rows.known_of u) (rows.known_of w) t v.seen es
 made_then u v w t es first adds = record {
   from = first.seen;
   seen = adds.seen;
@@ -62,8 +62,8 @@ made_then u v w t es first adds = record {
 }
 
 -- looks before a call
-pub made_before : (u v : BaseView BaseContent) (w : Known) (t : ℕ) (x : List TimerEntry) (es : List seq.Entry) → Looks u v
-    → Made (rows.known_of v) w t x es → Made (rows.known_of u) w t x es
+pub made_before : (u v : BaseView BaseContent) (w : KnownOfTimers) (t : ℕ) (x : List TimerEntry) (es : List seq.Entry) → Looks u v
+    → MadeAt (rows.known_of v) w t x es → MadeAt (rows.known_of u) w t x es
 made_before u v w t x es first made = record {
   from = begins_trans first.seen made.from;
   seen = made.seen;
@@ -78,7 +78,7 @@ same_place h g e = let t : h ≡ g = cc in ap (λ (x : HeldContent BaseContent).
 -- an entry that leaves its timer on the held base, which is then let go
 pub extends_freed : (o : Opening) → rows.AreFresh o.timers → (h g : HeldContent BaseContent) (t : ℕ) (event : Event) (v w x : BaseView BaseContent)
     → t < length o.timers → rows.Appended o h t event v w → w.held ≡ Some g
-    → IsOn h.base (after (rows.timer_seen o v t) event) → rows.LetsGo o g w x → Extends v x t (entry_by (rows.timer_seen o v t) event ∷ [])
+    → IsOn h.base (after (rows.timer_seen o v t) event) → rows.LetsGo o g w x → AddsBehind v x t (entry_by (rows.timer_seen o v t) event ∷ [])
 extends_freed o fresh h g t event v w x inside told held on free =
     let here : h.base ≡ g.base = same_place
     (record { base = h.base; word = h.word; content = changed t (rows.timer_seen o v t) event h.content }) g

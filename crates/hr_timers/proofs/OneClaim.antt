@@ -9,7 +9,7 @@ use Rattle.base_row.specs.declared.view.Claimed.{Claimed}
 use Rattle.base_row.specs.declared.view.Opening.{Opening}
 use Rattle.base_row.specs.Rules.{is_base_claim}
 use Rattle.hr_timers.specs.declared.numbers.ClaimNumbers.{ClaimNumbers}
-use Rattle.hr_timers.specs.Known.{HasClaim, Known, count_of}
+use Rattle.hr_timers.specs.Known.{OwnsClaim, KnownOfTimers, count_of}
 
 abbrev place_of : ClaimNumbers → Claimed
 place_of c = record { timer = c.timer; generation = c.generation; base = c.base }
@@ -19,8 +19,8 @@ is_own c = and_from (c.timer == c.timer) _ (eq-eqb c.timer c.timer refl)
     (and_from (c.generation == c.generation) (c.base == c.base) (eq-eqb c.generation c.generation refl) (eq-eqb c.base c.base refl))
 
 -- the only claim stands
-pub has_only : (o : Opening) (k : Known) (c : ClaimNumbers) → c.timer < length o.timers
-    → k.claims ≡ record { timer = c.timer; generation = c.generation; base = c.base } ∷ [] → HasClaim o k c
+pub has_only : (o : Opening) (k : KnownOfTimers) (c : ClaimNumbers) → c.timer < length o.timers
+    → k.claims ≡ record { timer = c.timer; generation = c.generation; base = c.base } ∷ [] → OwnsClaim o k c
 has_only o k c within only = record {
   within = within;
   stands = subst (λ (l : List Claimed). 0 < count_of c l) (sym only) (omega (arith, ap one_if (is_own c)));

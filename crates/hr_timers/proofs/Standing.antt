@@ -17,8 +17,8 @@ use Rattle.base_row.specs.Calls as rows
 use Rattle.base_row.specs.Plays as plays
 use Rattle.seq_timer.proofs.Agreement.{agrees}
 use Rattle.base_row.proofs.Placed.{placed_seen}
-use Rattle.hr_timers.specs.Known.{Known, Looks}
-use Rattle.hr_timers.specs.Calls.{ClaimsNext}
+use Rattle.hr_timers.specs.Known.{KnownOfTimers, Looks}
+use Rattle.hr_timers.specs.Calls.{ClaimsNextDue}
 use Rattle.hr_timers.specs.declared.numbers.ClaimNumbers.{ClaimNumbers}
 use Rattle.hr_timers.proofs.Making.{made_before}
 
@@ -53,8 +53,8 @@ module _ (o : Opening) (v : BaseView BaseContent) (fresh : rows.AreFresh o.timer
   claim_inside some = subst (λ x. x < o.bases) claim_base (placed_seen o v fresh knows some t)
 
 -- looks before a claim
-pub claims_before : (o : Opening) (u v : BaseView BaseContent) (w : Known) (base : ℕ) (reading : ClockReading) (c : ClaimNumbers) → Looks u v
-    → ClaimsNext o (rows.known_of v) w base reading c → ClaimsNext o (rows.known_of u) w base reading c
+pub claims_before : (o : Opening) (u v : BaseView BaseContent) (w : KnownOfTimers) (base : ℕ) (reading : ClockReading) (c : ClaimNumbers) → Looks u v
+    → ClaimsNextDue o (rows.known_of v) w base reading c → ClaimsNextDue o (rows.known_of u) w base reading c
 claims_before o u v w base reading c looks r = record {
   at = r.at;
   made = made_before u v w c.timer r.at _ looks r.made;

@@ -14,8 +14,8 @@ use Rattle.base_row.specs.declared.view.BaseView.{BaseView}
 use Rattle.seq_timer.specs.Systems.{BaseContent}
 use Rattle.base_row.specs.Calls as rows
 use Rattle.hr_timers.specs.declared.answer.StartAnswer.TheVariants as starts
-use Rattle.hr_timers.specs.Known.{Extends}
-use Rattle.hr_timers.specs.Calls.{Starts, entries_along}
+use Rattle.hr_timers.specs.Known.{AddsBehind}
+use Rattle.hr_timers.specs.Calls.{StartsTimer, entries_along}
 use Rattle.hr_timers.proofs.Making.{made_then, looks_refl}
 
 module _ (t : Timer) (mode : Mode) (ns asked : ℕ) (reading : ClockReading) (moves : moves_first t asked ≡ true) where
@@ -37,12 +37,12 @@ module _ (t : Timer) (mode : Mode) (ns asked : ℕ) (reading : ClockReading) (mo
 
 pub starts_from : (o : Opening) (v w : BaseView BaseContent) (t : ℕ) (mode : Mode) (ns asked : ℕ) (reading : ClockReading) (now : Timer)
     (armed : Bool) (g b outs : ℕ) (clock : ClockId) (expires : ℕ)
-    → Extends v w t (entries_along (rows.timer_seen o v t) (start_events (rows.timer_seen o v t) mode ns asked reading)) → w.claims ≡ v.claims
+    → AddsBehind v w t (entries_along (rows.timer_seen o v t) (start_events (rows.timer_seen o v t) mode ns asked reading)) → w.claims ≡ v.claims
     → (rows.timer_seen o v t).moving ≡ false → (rows.timer_seen o v t).stamp < (rows.timer_seen o v t).limit
     → now ≡ step_all (rows.timer_seen o v t) (start_events (rows.timer_seen o v t) mode ns asked reading)
     → armed ≡ is_some (rows.timer_seen o v t).armed → g ≡ now.stamp → b ≡ now.base
     → outs ≡ (if moves_first (rows.timer_seen o v t) asked then 2 ^ asked else 0) → clock ≡ now.clock → expires ≡ now.expires
-    → Starts o (rows.known_of v) (rows.known_of w) t mode ns asked reading (starts.Started armed g b outs clock expires)
+    → StartsTimer o (rows.known_of v) (rows.known_of w) t mode ns asked reading (starts.Started armed g b outs clock expires)
 starts_from o v w t mode ns asked reading now armed g b outs clock expires extends claims still room is e1 e2 e3 e4 e5 e6 = record {
   at = v.seen;
   made = made_then v v w t (entries_along (rows.timer_seen o v t) (start_events (rows.timer_seen o v t) mode ns asked reading)) (looks_refl v) extends;

@@ -9,12 +9,12 @@ use Rattle.seq_timer.specs.Systems.{BaseContent}
 use Rattle.base_row.specs.Calls as rows
 use Rattle.hr_timers.specs.declared.answer.NowAnswer.{NowAnswer}
 use Rattle.hr_timers.specs.declared.answer.NowAnswer.TheVariants as nows
-use Rattle.hr_timers.specs.Known.{Known, Looks, pass_of, timer_in}
+use Rattle.hr_timers.specs.Known.{KnownOfTimers, Looks, pass_of, timer_then}
 use Rattle.hr_timers.specs.Calls.{HeldFits, LooksAt, NowFits}
 use Rattle.hr_timers.proofs.Making.{made_before, looks_trans}
 
 -- looks before a call that made no entry
-looks_at_before : (u v : BaseView BaseContent) (w : Known) (x : List TimerEntry) → Looks u v → LooksAt (rows.known_of v) w x → LooksAt (rows.known_of u) w x
+looks_at_before : (u v : BaseView BaseContent) (w : KnownOfTimers) (x : List TimerEntry) → Looks u v → LooksAt (rows.known_of v) w x → LooksAt (rows.known_of u) w x
 looks_at_before u v w x first at = record {
   looks = record {
     seen = begins_trans first.seen at.looks.seen;
@@ -28,7 +28,7 @@ looks_at_before u v w x first at = record {
 
 -- a look that found the timer on this base, a look by which its lock was got, and then what was done under the lock
 pub now_from : (o : Opening) (p l m q : rows.BasePassOf) (t base : ℕ) (a : NowAnswer) → Looks p.knows l.knows → Looks l.knows m.knows
-    → (timer_in o l.knows.seen t).base ≡ base → HeldFits o (pass_of m) (pass_of q) t base a
+    → (timer_then o l.knows.seen t).base ≡ base → HeldFits o (pass_of m) (pass_of q) t base a
     → NowFits o (pass_of p) (pass_of q) t a
 now_from o p l m q t base (nows.Tried c) first second on fits =
     let looks = looks_trans p.knows l.knows m.knows first second in

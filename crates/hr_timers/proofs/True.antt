@@ -8,10 +8,10 @@ use Rattle.base_row.specs.declared.view.BaseView.{BaseView}
 use Rattle.base_row.specs.Calls as rows
 use Rattle.base_row.specs.Plays.{KnowsOwn}
 use Rattle.base_row.proofs.Calling.{stamp_seen}
-use Rattle.hr_timers.specs.Known.{IsTrue}
+use Rattle.hr_timers.specs.Known.{KnowsTimers}
 use Rattle.hr_timers.proofs.Standing.{claim_base, claim_runs, knows_in}
 
-pub true_of : (o : Opening) (v : BaseView BaseContent) → rows.AreFresh o.timers → v.opening ≡ o → KnowsOwn v → IsTrue o (rows.known_of v)
+pub true_of : (o : Opening) (v : BaseView BaseContent) → rows.AreFresh o.timers → v.opening ≡ o → KnowsOwn v → KnowsTimers o (rows.known_of v)
 true_of o v fresh is own =
     let knows = knows_in o v is own in record {
       history = knows.allowed;

@@ -32,7 +32,7 @@ use Rattle.hr_timers.specs.declared.answer.NowAnswer.TheVariants as nows
 use Rattle.hr_timers.specs.declared.answer.StartAnswer.{StartAnswer}
 use Rattle.hr_timers.specs.declared.answer.StartAnswer.TheVariants as starts
 use Rattle.hr_timers.specs.declared.numbers.ClaimNumbers.{ClaimNumbers}
-use Rattle.hr_timers.specs.Known.{Known, PassOf, Made, HasMissed, count_of, timer_in}
+use Rattle.hr_timers.specs.Known.{KnownOfTimers, PassOf, MadeAt, HasMissed, count_of, timer_then}
 
 -- the entry of an event, as it stands in its timer's history
 abbrev pub entry_by : Timer → Event → seq.Entry
@@ -45,17 +45,17 @@ entries_along t (e ∷ es) = entry_by t e ∷ entries_along (after t e) es
 
 -- ---- peek
 
-pub record Peeks (o : Opening) (v w : Known) (t : ℕ) (p : Peek) : Type 0 where
+pub record Peeks (o : Opening) (v w : KnownOfTimers) (t : ℕ) (p : Peek) : Type 0 where
   pub at : List TimerEntry
-  pub made : Made v w t at []
-  pub fits : p ≡ seq.peek_of (timer_in o at t)
+  pub made : MadeAt v w t at []
+  pub fits : p ≡ seq.peek_of (timer_then o at t)
   pub claims : w.claims ≡ v.claims
 
 -- ---- start
 
 -- what a start answers, of the timer before and after it
-abbrev pub started_as : Timer → Timer → ℕ → StartAnswer
-started_as t now asked = starts.Started (is_some t.armed) now.stamp now.base (if moves_first t asked then 2 ^ asked else 0) now.clock now.expires
+abbrev pub start_answer : Timer → Timer → ℕ → StartAnswer
+start_answer t now asked = starts.Started (is_some t.armed) now.stamp now.base (if moves_first t asked then 2 ^ asked else 0) now.clock now.expires
 
 abbrev pub start_entries : Timer → Mode → ℕ → ℕ → ClockReading → StartAnswer → List seq.Entry
 start_entries t mode ns asked reading (starts.Started was_armed generation base outs clock expires) = entries_along t (start_events t mode ns asked reading)
@@ -65,13 +65,13 @@ start_entries t mode ns asked reading (starts.Spent n) = []
 abbrev pub StartFits : Timer → Mode → ℕ → ℕ → ClockReading → StartAnswer → Type 0
 StartFits t mode ns asked reading (starts.Started was_armed generation base outs clock expires) =
     (t.moving ≡ false) × (t.stamp < t.limit)
-    × (starts.Started was_armed generation base outs clock expires ≡ started_as t (step_all t (start_events t mode ns asked reading)) asked)
+    × (starts.Started was_armed generation base outs clock expires ≡ start_answer t (step_all t (start_events t mode ns asked reading)) asked)
 StartFits t mode ns asked reading (starts.Spent n) = (t.moving ≡ false) × (t.limit ≤ t.stamp) × (n ≡ t.stamp)
 
-pub record Starts (o : Opening) (v w : Known) (t : ℕ) (mode : Mode) (ns asked : ℕ) (reading : ClockReading) (a : StartAnswer) : Type 0 where
+pub record StartsTimer (o : Opening) (v w : KnownOfTimers) (t : ℕ) (mode : Mode) (ns asked : ℕ) (reading : ClockReading) (a : StartAnswer) : Type 0 where
   pub at : List TimerEntry
-  pub made : Made v w t at (start_entries (timer_in o at t) mode ns asked reading a)
-  pub fits : StartFits (timer_in o at t) mode ns asked reading a
+  pub made : MadeAt v w t at (start_entries (timer_then o at t) mode ns asked reading a)
+  pub fits : StartFits (timer_then o at t) mode ns asked reading a
   pub claims : w.claims ≡ v.claims
 
 -- ---- try_to_cancel
@@ -87,42 +87,42 @@ CancelFits t (cancels.Idle n) = seq.IsIdle t × (n ≡ t.stamp)
 CancelFits t (cancels.Cancelled g n) = (t.armed ≡ Some g) × (t.running ≡ None) × (t.moving ≡ false) × (n ≡ t.stamp + 1)
 CancelFits t (cancels.Running g n) = (t.running ≡ Some g) × (n ≡ t.stamp)
 
-pub record Cancels (o : Opening) (v w : Known) (t : ℕ) (a : CancelAnswer) : Type 0 where
+pub record Cancels (o : Opening) (v w : KnownOfTimers) (t : ℕ) (a : CancelAnswer) : Type 0 where
   pub at : List TimerEntry
-  pub made : Made v w t at (cancel_entries a)
-  pub fits : CancelFits (timer_in o at t) a
+  pub made : MadeAt v w t at (cancel_entries a)
+  pub fits : CancelFits (timer_then o at t) a
   pub claims : w.claims ≡ v.claims
 
 -- ---- cancel_now
 
 -- a call that made no entry, and a moment of it
-pub record LooksAt (v w : Known) (x : List TimerEntry) : Type 0 where
+pub record LooksAt (v w : KnownOfTimers) (x : List TimerEntry) : Type 0 where
   pub looks : LooksOn v w
   pub from : Begins v.seen x
   pub seen : Begins x w.seen
 
 -- at a moment of a call that made no entry the timer was on this base
-pub record WasOn (o : Opening) (v w : Known) (t b : ℕ) : Type 0 where
+pub record WasOn (o : Opening) (v w : KnownOfTimers) (t b : ℕ) : Type 0 where
   pub at : List TimerEntry
   pub looks : LooksAt v w at
-  pub base : (timer_in o at t).base ≡ b
+  pub base : (timer_then o at t).base ≡ b
 
 -- at a moment of a call that made no entry the timer was on the move to this base
-pub record WasMoving (o : Opening) (v w : Known) (t b : ℕ) : Type 0 where
+pub record WasMoving (o : Opening) (v w : KnownOfTimers) (t b : ℕ) : Type 0 where
   pub at : List TimerEntry
   pub looks : LooksAt v w at
-  pub moving : (timer_in o at t).moving ≡ true
-  pub base : (timer_in o at t).base ≡ b
+  pub moving : (timer_then o at t).moving ≡ true
+  pub base : (timer_then o at t).base ≡ b
 
 -- at a moment of a call that made no entry the timer was on the one base, and at a later one on the other
-pub record WasMoved (o : Opening) (v w : Known) (t from to : ℕ) : Type 0 where
+pub record WasMoved (o : Opening) (v w : KnownOfTimers) (t from to : ℕ) : Type 0 where
   pub at : List TimerEntry
   pub looks : LooksAt v w at
-  pub base : (timer_in o at t).base ≡ from
+  pub base : (timer_then o at t).base ≡ from
   pub later : List TimerEntry
   pub goes_on : Begins at later
   pub seen : Begins later w.seen
-  pub base_later : (timer_in o later t).base ≡ to
+  pub base_later : (timer_then o later t).base ≡ to
   pub apart : from ≢ to
 
 abbrev pub NowFits : Opening → PassOf → PassOf → ℕ → NowAnswer → Type 0
@@ -141,29 +141,29 @@ HeldFits o p q t base (nows.Moved a b) = (a ≡ base) × (a ≢ b) × WasOn o p.
 -- ---- claim_next
 
 -- a claim of the timer whose turn it is on a base where no function runs: of equal expiries the one that was armed first
-pub record ClaimsNext (o : Opening) (v w : Known) (base : ℕ) (reading : ClockReading) (c : ClaimNumbers) : Type 0 where
+pub record ClaimsNextDue (o : Opening) (v w : KnownOfTimers) (base : ℕ) (reading : ClockReading) (c : ClaimNumbers) : Type 0 where
   pub at : List TimerEntry
-  pub made : Made v w c.timer at (entry_by (timer_in o at c.timer) (events.Claim base reading) ∷ [])
-  pub idle : (t : ℕ) → runs_on base (timer_in o at t) ≡ false
-  pub next : IsNextDue (timer_in o at) base reading c.timer
-  pub first : first_due ((system_after o.timers at).bases base).content reading ≡ Some ((timer_in o at c.timer).expires, c.timer)
+  pub made : MadeAt v w c.timer at (entry_by (timer_then o at c.timer) (events.Claim base reading) ∷ [])
+  pub idle : (t : ℕ) → runs_on base (timer_then o at t) ≡ false
+  pub next : IsNextDue (timer_then o at) base reading c.timer
+  pub first : first_due ((system_after o.timers at).bases base).content reading ≡ Some ((timer_then o at c.timer).expires, c.timer)
   pub within : c.timer < length o.timers
-  pub armed : (timer_in o at c.timer).armed ≡ Some c.generation
+  pub armed : (timer_then o at c.timer).armed ≡ Some c.generation
   pub there : c.base ≡ base
-  pub number : c.number ≡ (timer_in o at c.timer).stamp + 1
+  pub number : c.number ≡ (timer_then o at c.timer).stamp + 1
   pub fresh : count_of c v.claims ≡ 0
   pub claims : w.claims ≡ v.claims ++ record { timer = c.timer; generation = c.generation; base = c.base } ∷ []
 
 -- no function runs on the base, and no timer is due there
 pub record HasNoneDue (o : Opening) (x : List TimerEntry) (base : ℕ) (reading : ClockReading) : Type 0 where
-  pub idle : (t : ℕ) → runs_on base (timer_in o x t) ≡ false
-  pub none : (t : ℕ) → is_due_on base reading (timer_in o x t) ≡ false
+  pub idle : (t : ℕ) → runs_on base (timer_then o x t) ≡ false
+  pub none : (t : ℕ) → is_due_on base reading (timer_then o x t) ≡ false
 
 -- a call that claims nothing speaks of all that its pass has then seen
-abbrev pub ClaimFits : Opening → Known → Known → ℕ → ClockReading → ClaimAnswer → Type 0
-ClaimFits o v w base reading (claimings.Claimed c) = ClaimsNext o v w base reading c
+abbrev pub ClaimFits : Opening → KnownOfTimers → KnownOfTimers → ℕ → ClockReading → ClaimAnswer → Type 0
+ClaimFits o v w base reading (claimings.Claimed c) = ClaimsNextDue o v w base reading c
 ClaimFits o v w base reading claimings.NoneDue = LooksOn v w × HasNoneDue o w.seen base reading
-ClaimFits o v w base reading (claimings.BaseBusy t g) = LooksOn v w × (running_on base (timer_in o w.seen t) ≡ Some g)
+ClaimFits o v w base reading (claimings.BaseBusy t g) = LooksOn v w × (running_on base (timer_then o w.seen t) ≡ Some g)
 
 -- ---- forward and finish
 
@@ -179,19 +179,19 @@ ForwardFits t reading interval (forwards.Forwarded number passed expires) =
 ForwardFits t reading interval (forwards.Spent n) = (t.limit ≤ t.stamp) × (n ≡ t.stamp)
 ForwardFits t reading interval (forwards.Armed g n) = (t.stamp < t.limit) × (t.armed ≡ Some g) × (n ≡ t.stamp)
 
-pub record Forwards (o : Opening) (v w : Known) (c : ClaimNumbers) (reading : ClockReading) (interval : ℕ) (a : ForwardAnswer) : Type 0 where
+pub record Forwards (o : Opening) (v w : KnownOfTimers) (c : ClaimNumbers) (reading : ClockReading) (interval : ℕ) (a : ForwardAnswer) : Type 0 where
   pub at : List TimerEntry
-  pub made : Made v w c.timer at (forward_entries (timer_in o at c.timer) reading interval a)
-  pub runs : (timer_in o at c.timer).running ≡ Some c.generation
-  pub base : (timer_in o at c.timer).base ≡ c.base
-  pub fits : ForwardFits (timer_in o at c.timer) reading interval a
+  pub made : MadeAt v w c.timer at (forward_entries (timer_then o at c.timer) reading interval a)
+  pub runs : (timer_then o at c.timer).running ≡ Some c.generation
+  pub base : (timer_then o at c.timer).base ≡ c.base
+  pub fits : ForwardFits (timer_then o at c.timer) reading interval a
   pub claims : w.claims ≡ v.claims
 
-pub record Finishes (o : Opening) (v w : Known) (c : ClaimNumbers) (restart : Bool) (a : Finished) : Type 0 where
+pub record Finishes (o : Opening) (v w : KnownOfTimers) (c : ClaimNumbers) (restart : Bool) (a : Finished) : Type 0 where
   pub at : List TimerEntry
-  pub made : Made v w c.timer at (entry_by (timer_in o at c.timer) (events.Finish restart) ∷ [])
-  pub runs : (timer_in o at c.timer).running ≡ Some c.generation
-  pub base : (timer_in o at c.timer).base ≡ c.base
-  pub number : a.number ≡ (timer_in o at c.timer).stamp + 1
-  pub rearmed : a.rearmed ≡ rearmed_by (timer_in o at c.timer) restart
+  pub made : MadeAt v w c.timer at (entry_by (timer_then o at c.timer) (events.Finish restart) ∷ [])
+  pub runs : (timer_then o at c.timer).running ≡ Some c.generation
+  pub base : (timer_then o at c.timer).base ≡ c.base
+  pub number : a.number ≡ (timer_then o at c.timer).stamp + 1
+  pub rearmed : a.rearmed ≡ rearmed_by (timer_then o at c.timer) restart
   pub claims : w.claims ≡ without_first (is_base_claim c.timer c.generation c.base) v.claims

@@ -18,15 +18,15 @@ use Rattle.hr_timers.specs.declared.numbers.ClaimNumbers.{ClaimNumbers}
 
 -- what a pass knows of timers: its name, the beginning of the history of all timers that it has seen, the places of its own entries, and its
 -- claims that aren't finished
-abbrev pub Known : Type 0
-Known = shared.Known TimerEntry Claimed
+abbrev pub KnownOfTimers : Type 0
+KnownOfTimers = shared.Known TimerEntry Claimed
 
 -- a pass: the table and the opening of its timers, what its holder knows, the takes of base locks that are its own, and of each base the newest
 -- lock word that it knows
 pub record PassOf : Type 0 where
   pub row : TableId
   pub opening : Opening
-  pub known : Known
+  pub known : KnownOfTimers
   pub takes : List (ℕ × ℕ)
   pub met : List ℕ
 
@@ -35,38 +35,38 @@ abbrev pub pass_of : rows.BasePassOf → PassOf
 pass_of p = record { row = p.row; opening = p.knows.opening; known = rows.known_of p.knows; takes = p.knows.takes; met = p.knows.met }
 
 -- a timer after these entries of all timers
-abbrev pub timer_in : Opening → List TimerEntry → ℕ → Timer
-timer_in o x t = (system_after o.timers x).timers t
+abbrev pub timer_then : Opening → List TimerEntry → ℕ → Timer
+timer_then o x t = (system_after o.timers x).timers t
 
 -- how often a claim stands among claims
 abbrev pub count_of : ClaimNumbers → List Claimed → ℕ
 count_of c claims = count (is_base_claim c.timer c.generation c.base) claims
 
 -- the pass has each place of each timer among its own, once
-abbrev pub HasEachPlace : Opening → Known → Type 0
+abbrev pub HasEachPlace : Opening → KnownOfTimers → Type 0
 HasEachPlace o k = shared.HasAll entries_of (length o.timers) k
 
 -- what is known is true: a history of all timers was seen, whose claims run, and the last pass has made each entry
-pub record IsTrue (o : Opening) (k : Known) : Type 0 where
+pub record KnowsTimers (o : Opening) (k : KnownOfTimers) : Type 0 where
   pub history : AreSystemSteps o.bases (length o.timers) (first_system o.timers) k.seen
   pub claims : (t g b : ℕ) → t < length o.timers → 0 < count (is_base_claim t g b) k.claims
-      → ((timer_in o k.seen t).running ≡ Some g) × ((timer_in o k.seen t).base ≡ b)
+      → ((timer_then o k.seen t).running ≡ Some g) × ((timer_then o k.seen t).base ≡ b)
   pub whole : IsLast k.id → HasEachPlace o k
 
 -- a pass of these timers, and what it knows is true
 pub record IsPassOf (timers : rows.BaseRowOf) (p : PassOf) : Type 0 where
   pub row : p.row ≡ timers.id
   pub opening : p.opening ≡ timers.about
-  pub knows : IsTrue timers.about p.known
+  pub knows : KnowsTimers timers.about p.known
 
 -- a claim stands among the claims of a pass
-pub record HasClaim (o : Opening) (k : Known) (c : ClaimNumbers) : Type 0 where
+pub record OwnsClaim (o : Opening) (k : KnownOfTimers) (c : ClaimNumbers) : Type 0 where
   pub within : c.timer < length o.timers
   pub stands : 0 < count_of c k.claims
 
 -- At this moment of the call, x being all entries so far, the call made these entries of timer t. They stand last among the timer's that were
 -- seen, and their places last among the pass's own.
-pub record Made (v w : Known) (t : ℕ) (x : List TimerEntry) (es : List seq.Entry) : Type 0 where
+pub record MadeAt (v w : KnownOfTimers) (t : ℕ) (x : List TimerEntry) (es : List seq.Entry) : Type 0 where
   pub from : Begins v.seen x
   pub seen : Begins x w.seen
   pub own : entries_of t w.seen ≡ entries_of t x ++ es
@@ -89,5 +89,5 @@ pub record Looks (v w : BaseView BaseContent) : Type 0 where
   pub carry : w.carry ≡ v.carry
 
 -- these entries were added behind what a pass had seen of a timer
-abbrev pub Extends : BaseView BaseContent → BaseView BaseContent → ℕ → List seq.Entry → Type 0
-Extends v w t es = shared.ExtendsBy entries_of (rows.known_of v) (rows.known_of w) t es
+abbrev pub AddsBehind : BaseView BaseContent → BaseView BaseContent → ℕ → List seq.Entry → Type 0
+AddsBehind v w t es = shared.ExtendsBy entries_of (rows.known_of v) (rows.known_of w) t es

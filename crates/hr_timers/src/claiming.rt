@@ -5,8 +5,8 @@ ghost use Rattle.seq_timer.specs.Contents.{first_due};
 ghost use Rattle.seq_timer.specs.Systems.{IsOn};
 ghost use Rattle.base_row.specs.Calls.{IsBasePassOf, base_seen, known_of, timer_seen};
 ghost use Rattle.base_row.specs.Rests.{Rests};
-ghost use Rattle.hr_timers.specs.Known.{HasClaim, Looks};
-ghost use Rattle.hr_timers.specs.Calls.{ClaimFits, ClaimsNext, Finishes, Forwards};
+ghost use Rattle.hr_timers.specs.Known.{OwnsClaim, Looks};
+ghost use Rattle.hr_timers.specs.Calls.{ClaimFits, ClaimsNextDue, Finishes, Forwards};
 
 use crate::answer::ClaimAnswer;
 use crate::numbers::ClaimNumbers;
@@ -66,7 +66,7 @@ fn claim_held(
     ensures row { IsBasePassOf row.now pass.new }
     ensures rests { Rests pass.new.knows }
     ensures timer { result.timer ≡ timer }
-    ensures claimed { ClaimsNext row.now.about (known_of pass.old.knows) (known_of pass.new.knows) base reading result }
+    ensures claimed { ClaimsNextDue row.now.about (known_of pass.old.knows) (known_of pass.new.knows) base reading result }
 {
     row.fresh();
     pass.known();
@@ -102,7 +102,7 @@ fn hold_claimed<R: Wait>(
     claim: ClaimNumbers,
 ) -> (HeldBase, TimerState)
     requires row { IsBasePassOf row.now pass.old }
-    requires claim { HasClaim row.now.about (known_of pass.old.knows) claim }
+    requires claim { OwnsClaim row.now.about (known_of pass.old.knows) claim }
     requires rests { Rests pass.old.knows }
     ensures row { IsBasePassOf row.now pass.new }
     ensures held { pass.new.knows.held ≡ Some result.0 }
@@ -130,7 +130,7 @@ pub fn finish<R: Wait>(
     restart: bool,
 ) -> Finished
     requires row { IsBasePassOf row.now pass.old }
-    requires claim { HasClaim row.now.about (known_of pass.old.knows) claim }
+    requires claim { OwnsClaim row.now.about (known_of pass.old.knows) claim }
     requires rests { Rests pass.old.knows }
     ensures row { IsBasePassOf row.now pass.new }
     ensures rests { Rests pass.new.knows }
@@ -156,7 +156,7 @@ pub fn forward<R: Wait>(
     interval: u64,
 ) -> ForwardAnswer
     requires row { IsBasePassOf row.now pass.old }
-    requires claim { HasClaim row.now.about (known_of pass.old.knows) claim }
+    requires claim { OwnsClaim row.now.about (known_of pass.old.knows) claim }
     requires rests { Rests pass.old.knows }
     ensures row { IsBasePassOf row.now pass.new }
     ensures rests { Rests pass.new.knows }
@@ -177,7 +177,7 @@ fn forward_held(
     interval: u64,
 ) -> ForwardAnswer
     requires row { IsBasePassOf row.now pass.old }
-    requires claim { HasClaim row.now.about (known_of pass.old.knows) claim }
+    requires claim { OwnsClaim row.now.about (known_of pass.old.knows) claim }
     requires held { (pass.old.knows.held ≡ Some held) × (pass.old.knows.carry ≡ None) }
     requires base { (held.base ≡ claim.base) × (held.base < row.now.about.bases) }
     requires state { state ≡ timer_seen row.now.about pass.old.knows claim.timer }

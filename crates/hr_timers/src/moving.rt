@@ -5,7 +5,7 @@ ghost use Rattle.seq_timer.specs.declared.event.Event.TheVariants.{Out, Start};
 ghost use Rattle.seq_timer.specs.Systems.{IsOn};
 ghost use Rattle.base_row.specs.Calls.{IsBasePassOf, timer_seen};
 ghost use Rattle.base_row.specs.Rests.{Rests};
-ghost use Rattle.hr_timers.specs.Known.{Extends};
+ghost use Rattle.hr_timers.specs.Known.{AddsBehind};
 ghost use Rattle.hr_timers.specs.Calls.{entries_along, entry_by};
 
 use crate::under_lock::lock;
@@ -34,7 +34,7 @@ pub fn move_and_start<R: Wait>(
     ensures row { IsBasePassOf row.now pass.new }
     ensures rests { Rests pass.new.knows }
     ensures claims { pass.new.knows.claims ≡ pass.old.knows.claims }
-    ensures extends { Extends pass.old.knows pass.new.knows timer (entries_along (timer_seen row.now.about pass.old.knows timer) (Out to ∷ Start mode ns reading to ∷ [])) }
+    ensures extends { AddsBehind pass.old.knows pass.new.knows timer (entries_along (timer_seen row.now.about pass.old.knows timer) (Out to ∷ Start mode ns reading to ∷ [])) }
 {
     let moved = send(row, pass, held, timer, to);
     bring(rt, row, pass, timer, moved, mode, ns, reading);
@@ -52,7 +52,7 @@ fn send(row: &BaseRow, pass: &mut Pass, held: HeldBase, timer: u32, to: u32) -> 
     ensures claims { pass.new.knows.claims ≡ pass.old.knows.claims }
     ensures seen { timer_seen row.now.about pass.new.knows timer ≡ after (timer_seen row.now.about pass.old.knows timer) (Out to) }
     ensures state { result ≡ timer_seen row.now.about pass.new.knows timer }
-    ensures extends { Extends pass.old.knows pass.new.knows timer (entry_by (timer_seen row.now.about pass.old.knows timer) (Out to) ∷ []) }
+    ensures extends { AddsBehind pass.old.knows pass.new.knows timer (entry_by (timer_seen row.now.about pass.old.knows timer) (Out to) ∷ []) }
 {
     row.fresh();
     let mut held = held;
@@ -80,7 +80,7 @@ fn bring<R: Wait>(
     ensures row { IsBasePassOf row.now pass.new }
     ensures rests { Rests pass.new.knows }
     ensures claims { pass.new.knows.claims ≡ pass.old.knows.claims }
-    ensures extends { Extends pass.old.knows pass.new.knows timer (entry_by state (Start mode ns reading state.base) ∷ []) }
+    ensures extends { AddsBehind pass.old.knows pass.new.knows timer (entry_by state (Start mode ns reading state.base) ∷ []) }
 {
     row.fresh();
     let asked = state.base();

@@ -7,7 +7,7 @@ ghost use Rattle.seq_timer.specs.Systems.{IsOn};
 ghost use Rattle.base_row.specs.Calls.{IsBasePassOf, known_of, timer_seen};
 ghost use Rattle.base_row.specs.Rests.{Rests};
 ghost use Rattle.hr_timers.specs.Known.{Looks};
-ghost use Rattle.hr_timers.specs.Calls.{Starts};
+ghost use Rattle.hr_timers.specs.Calls.{StartsTimer};
 
 use crate::answer::StartAnswer;
 use crate::moving::move_and_start;
@@ -41,7 +41,7 @@ pub fn start<R: Wait>(
     requires rests { Rests pass.old.knows }
     ensures row { IsBasePassOf row.now pass.new }
     ensures rests { Rests pass.new.knows }
-    ensures starts { Starts row.now.about (known_of pass.old.knows) (known_of pass.new.knows) timer asked.now.mode asked.now.ns asked.now.base asked.now.reading result }
+    ensures starts { StartsTimer row.now.about (known_of pass.old.knows) (known_of pass.new.knows) timer asked.now.mode asked.now.ns asked.now.base asked.now.reading result }
 {
     let backoff = Backoff::new();
     for _ in rt.forever() {
@@ -67,7 +67,7 @@ fn start_once<R: Wait>(
     requires rests { Rests pass.old.knows }
     ensures row { IsBasePassOf row.now pass.new }
     ensures rests { Rests pass.new.knows }
-    ensures starts { MatchOption result (Looks pass.old.knows pass.new.knows) (λ a. Starts row.now.about (known_of pass.old.knows) (known_of pass.new.knows) timer asked.now.mode asked.now.ns asked.now.base asked.now.reading a) }
+    ensures starts { MatchOption result (Looks pass.old.knows pass.new.knows) (λ a. StartsTimer row.now.about (known_of pass.old.knows) (known_of pass.new.knows) timer asked.now.mode asked.now.ns asked.now.base asked.now.reading a) }
 {
     let word = row.load_word(pass, timer);
     if word.moving {
@@ -100,7 +100,7 @@ fn start_held<R: Wait>(
     requires base { (asked.now.base < row.now.about.bases) × (row.now.about.bases ≤ 64) }
     ensures row { IsBasePassOf row.now pass.new }
     ensures rests { Rests pass.new.knows }
-    ensures starts { Starts row.now.about (known_of pass.old.knows) (known_of pass.new.knows) timer asked.now.mode asked.now.ns asked.now.base asked.now.reading result }
+    ensures starts { StartsTimer row.now.about (known_of pass.old.knows) (known_of pass.new.knows) timer asked.now.mode asked.now.ns asked.now.base asked.now.reading result }
 {
     let stamp = state.stamp();
     if stamp >= state.limit() {
@@ -131,7 +131,7 @@ fn start_here(
     requires stays { moves_first state asked.now.base ≡ false }
     ensures row { IsBasePassOf row.now pass.new }
     ensures rests { Rests pass.new.knows }
-    ensures starts { Starts row.now.about (known_of pass.old.knows) (known_of pass.new.knows) timer asked.now.mode asked.now.ns asked.now.base asked.now.reading result }
+    ensures starts { StartsTimer row.now.about (known_of pass.old.knows) (known_of pass.new.knows) timer asked.now.mode asked.now.ns asked.now.base asked.now.reading result }
 {
     let event = start_event(asked);
     let now = started(state, asked);
@@ -166,7 +166,7 @@ fn start_there<R: Wait>(
     requires moves { moves_first state asked.now.base ≡ true }
     ensures row { IsBasePassOf row.now pass.new }
     ensures rests { Rests pass.new.knows }
-    ensures starts { Starts row.now.about (known_of pass.old.knows) (known_of pass.new.knows) timer asked.now.mode asked.now.ns asked.now.base asked.now.reading result }
+    ensures starts { StartsTimer row.now.about (known_of pass.old.knows) (known_of pass.new.knows) timer asked.now.mode asked.now.ns asked.now.base asked.now.reading result }
 {
     let Asked {
         mode,

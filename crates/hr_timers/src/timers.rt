@@ -4,8 +4,8 @@ ghost use Rattle.pass_names.specs.Names.{AnswersFor, IsLast};
 ghost use Rattle.seq_timer.specs.Steps.{greatest_limit};
 ghost use Rattle.base_row.specs.Calls.{opening_of};
 ghost use Rattle.pass_names.specs.SharedHistory.{MeetWith, TakesIn, child_known, first_known, splitter_known};
-ghost use Rattle.hr_timers.specs.Known.{IsPassOf, HasClaim, HasEachPlace};
-ghost use Rattle.hr_timers.specs.Calls.{Cancels, ClaimFits, Finishes, Forwards, NowFits, Peeks, Starts};
+ghost use Rattle.hr_timers.specs.Known.{IsPassOf, OwnsClaim, HasEachPlace};
+ghost use Rattle.hr_timers.specs.Calls.{Cancels, ClaimFits, Finishes, Forwards, NowFits, Peeks, StartsTimer};
 ghost use Rattle.hr_timers.specs.declared.answer.NowAnswer.TheVariants as nows;
 
 use crate::answer::{ClaimAnswer, NowAnswer, StartAnswer};
@@ -75,7 +75,7 @@ impl Timers {
         requires timer { timer < length self.now.about.timers }
         requires base { base < self.now.about.bases }
         ensures pass { IsPassOf self.now pass.new }
-        ensures starts { Starts self.now.about pass.old.known pass.new.known timer mode ns base reading result }
+        ensures starts { StartsTimer self.now.about pass.old.known pass.new.known timer mode ns base reading result }
     {
         self.small();
         let asked = Asked {
@@ -143,7 +143,7 @@ impl Timers {
         interval: u64,
     ) -> ForwardAnswer
         requires pass { IsPassOf self.now pass.old }
-        requires claim { HasClaim self.now.about pass.old.known claim.now }
+        requires claim { OwnsClaim self.now.about pass.old.known claim.now }
         ensures pass { IsPassOf self.now pass.new }
         ensures forwards { Forwards self.now.about pass.old.known pass.new.known claim.now reading interval result }
     {
@@ -162,7 +162,7 @@ impl Timers {
     /// Ends the run of a claim's function. `restart` is what the function answered.
     pub fn finish<R: Wait>(&self, rt: &R, pass: &mut Pass, claim: Claim, restart: bool) -> Finished
         requires pass { IsPassOf self.now pass.old }
-        requires claim { HasClaim self.now.about pass.old.known claim }
+        requires claim { OwnsClaim self.now.about pass.old.known claim }
         ensures pass { IsPassOf self.now pass.new }
         ensures finishes { Finishes self.now.about pass.old.known pass.new.known claim restart result }
     {

@@ -7,7 +7,7 @@ ghost use Rattle.seq_timer.specs.Steps.{after, reply_to};
 ghost use Rattle.seq_timer.specs.Systems.{IsOn, entries_of};
 ghost use Rattle.base_row.specs.Plays.{Steady, claims_with_event, carry_after};
 ghost use Rattle.base_row.specs.Calls.{IsBasePassOf, MayAppend, timer_seen};
-ghost use Rattle.hr_timers.specs.Known.{Extends, Looks};
+ghost use Rattle.hr_timers.specs.Known.{AddsBehind, Looks};
 ghost use Rattle.hr_timers.specs.Calls.{entry_by};
 
 use base_row::{BaseRow, HeldBase, Pass};
@@ -40,7 +40,7 @@ pub fn enter_once(row: &BaseRow, pass: &mut Pass, held: HeldBase, timer: u32, ev
     ensures carry { pass.new.knows.carry ≡ carry_after timer (timer_seen row.now.about pass.old.knows timer) event pass.old.knows.carry }
     ensures claims { pass.new.knows.claims ≡ claims_with_event timer (timer_seen row.now.about pass.old.knows timer) event pass.old.knows.claims }
     ensures reply { result ≡ reply_to (timer_seen row.now.about pass.old.knows timer) event }
-    ensures extends { Extends pass.old.knows pass.new.knows timer (entry_by (timer_seen row.now.about pass.old.knows timer) event ∷ []) }
+    ensures extends { AddsBehind pass.old.knows pass.new.knows timer (entry_by (timer_seen row.now.about pass.old.knows timer) event ∷ []) }
 {
     row.fresh();
     let mut held = held;

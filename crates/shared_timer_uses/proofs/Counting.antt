@@ -22,9 +22,9 @@ use Rattle.seq_timer.proofs.Limits.{stamp-after_all}
 use Rattle.timer_core.specs.Answers.{moves_first}
 use Rattle.base_row.specs.declared.view.Opening.{Opening}
 use Rattle.hr_timers.specs.declared.answer.StartAnswer.TheVariants as starts
-use Rattle.hr_timers.specs.Known.{HasEachPlace, Known, Made, timer_in}
-use Rattle.hr_timers.specs.Calls.{Peeks, Starts, entries_along}
-use Rattle.expire_pass.specs.Handlers.{Keeps}
+use Rattle.hr_timers.specs.Known.{HasEachPlace, KnownOfTimers, MadeAt, timer_then}
+use Rattle.hr_timers.specs.Calls.{Peeks, StartsTimer, entries_along}
+use Rattle.expire_pass.specs.Handlers.{KeepsPass}
 use Rattle.shared_timer_uses.specs.Callers.{MakesEntries, known_timer}
 use Rattle.shared_timer_uses.proofs.Knowing.{no_places, timer_after, timer_own}
 
@@ -43,7 +43,7 @@ places_else t n i m (e ∷ es) apart =
       ap (λ b. one_if (b && eqb (n + 1) m)) (ne_eqb t i (λ e. apart (sym e))),
     )
 
-pub makes_made : (v w : Known) (t : ℕ) (x : List TimerEntry) (es : List seq.Entry) → Made v w t x es → w.claims ≡ v.claims → MakesEntries t (length es) v w
+pub makes_made : (v w : KnownOfTimers) (t : ℕ) (x : List TimerEntry) (es : List seq.Entry) → MadeAt v w t x es → w.claims ≡ v.claims → MakesEntries t (length es) v w
 makes_made v w t x es made claims =
     let own = places t (length (entries_of t x)) es in
     record {
@@ -62,14 +62,14 @@ makes_made v w t x es made claims =
       );
     }
 
-pub makes_none : (t : ℕ) (v : Known) → MakesEntries t 0 v v
+pub makes_none : (t : ℕ) (v : KnownOfTimers) → MakesEntries t 0 v v
 makes_none t v = record {
   keeps = record { id = refl; claims = refl; seen = begins_refl v.seen; mine = begins_refl v.mine };
   mine = omega arith;
   elsewhere = λ i m apart. refl;
 }
 
-pub makes_more : (t a b : ℕ) (u v w : Known) → MakesEntries t a u v → MakesEntries t b v w → MakesEntries t (a + b) u w
+pub makes_more : (t a b : ℕ) (u v w : KnownOfTimers) → MakesEntries t a u v → MakesEntries t b v w → MakesEntries t (a + b) u w
 makes_more t a b u v w m n = record {
   keeps = record {
     id = n.keeps.id ∙ m.keeps.id;
@@ -98,30 +98,30 @@ moves u ns asked reading false is = absurd (is refl)
 same_outs : (a b : Bool) (g n c d e f : ℕ) (k l : ClockId) (x y : ℕ) → starts.Started a g c e k x ≡ starts.Started b n d f l y → e ≡ f
 same_outs a b g n c d e f k l x y is = cc
 
-module _ (o : Opening) (v w : Known) (t ns asked : ℕ) (reading : ClockReading) where
+module _ (o : Opening) (v w : KnownOfTimers) (t ns asked : ℕ) (reading : ClockReading) where
   pub start_stays : (was : Bool) (g base outs : ℕ) (clock : ClockId) (expires : ℕ) → outs ≡ 0
-      → Starts o v w t modes.Rel ns asked reading (starts.Started was g base outs clock expires) → MakesEntries t 1 v w
+      → StartsTimer o v w t modes.Rel ns asked reading (starts.Started was g base outs clock expires) → MakesEntries t 1 v w
   start_stays was g base outs clock expires none s =
-      let u = timer_in o s.at t in
+      let u = timer_then o s.at t in
       subst (λ n. MakesEntries t n v w)
       (stays u ns asked reading (moves_first u asked) (sym (same_outs _ _ _ _ _ _ _ _ _ _ _ _ s.fits.2) ∙ none))
       (makes_made v w t s.at _ s.made s.claims)
 
   pub start_moves : (was : Bool) (g base outs : ℕ) (clock : ClockId) (expires : ℕ) → (outs ≡ 0 → ⊥)
-      → Starts o v w t modes.Rel ns asked reading (starts.Started was g base outs clock expires) → MakesEntries t 2 v w
+      → StartsTimer o v w t modes.Rel ns asked reading (starts.Started was g base outs clock expires) → MakesEntries t 2 v w
   start_moves was g base outs clock expires some s =
-      let u = timer_in o s.at t in
+      let u = timer_then o s.at t in
       subst (λ n. MakesEntries t n v w)
       (moves u ns asked reading (moves_first u asked) (λ e. some (same_outs _ _ _ _ _ _ _ _ _ _ _ _ s.fits.2 ∙ e)))
       (makes_made v w t s.at _ s.made s.claims)
 
-  pub start_refused : (n : ℕ) → Starts o v w t modes.Rel ns asked reading (starts.Spent n) → MakesEntries t 0 v w
+  pub start_refused : (n : ℕ) → StartsTimer o v w t modes.Rel ns asked reading (starts.Spent n) → MakesEntries t 0 v w
   start_refused n s = makes_made v w t s.at [] s.made s.claims
 
 -- ---- threads
 
 -- the history of the only timer has as many entries as the last pass has places
-pub all_of_one : (o : Opening) (k : Known) → length o.timers ≡ 1 → (timer_at o.timers 0).stamp ≡ 0 → HasEachPlace o k
+pub all_of_one : (o : Opening) (k : KnownOfTimers) → length o.timers ≡ 1 → (timer_at o.timers 0).stamp ≡ 0 → HasEachPlace o k
     → ((i m : ℕ) → i ≢ 0 → count (is_place i m) k.mine ≡ 0)
     → (known_timer o k 0).stamp ≡ length k.mine
 all_of_one o k one fresh each none =
@@ -134,7 +134,7 @@ all_of_one o k one fresh each none =
       places_of_one 0 n k.mine (λ m. each.once 0 m (omega (arith, one))) none,
     )
 
-pub peek_counts : (o : Opening) (v w : Known) (p : Peek) → length o.timers ≡ 1 → (timer_at o.timers 0).stamp ≡ 0 → Peeks o v w 0 p → HasEachPlace o w
+pub peek_counts : (o : Opening) (v w : KnownOfTimers) (p : Peek) → length o.timers ≡ 1 → (timer_at o.timers 0).stamp ≡ 0 → Peeks o v w 0 p → HasEachPlace o w
     → ((i m : ℕ) → i ≢ 0 → count (is_place i m) v.mine ≡ 0) → p.stamp ≡ length v.mine
 peek_counts o v w p one fresh look each none =
     let mine = no_places v w 0 look.at look.made in

@@ -24,8 +24,8 @@ use Rattle.timer_core.specs.Kept.{step_all}
 use Rattle.base_row.specs.declared.view.Opening.{Opening}
 use Rattle.base_row.proofs.Begun.{entries_of-begins}
 use Rattle.hr_timers.specs.declared.answer.StartAnswer.TheVariants as starts
-use Rattle.hr_timers.specs.Known.{Known, Made, timer_in}
-use Rattle.hr_timers.specs.Calls.{Cancels, Starts, entries_along}
+use Rattle.hr_timers.specs.Known.{KnownOfTimers, MadeAt, timer_then}
+use Rattle.hr_timers.specs.Calls.{Cancels, StartsTimer, entries_along}
 use Rattle.shared_timer_uses.specs.Callers.{known_timer}
 
 -- ---- entries
@@ -34,21 +34,21 @@ after_all-append : (t : Timer) (xs ys : List seq.Entry) → seq.after_all t (xs 
 after_all-append t [] ys = refl
 after_all-append t (x ∷ xs) ys = after_all-append (after t x.event) xs ys
 
-pub timer_own : (o : Opening) (x : List TimerEntry) (t : ℕ) → timer_in o x t ≡ seq.after_all (timer_at o.timers t) (entries_of t x)
+pub timer_own : (o : Opening) (x : List TimerEntry) (t : ℕ) → timer_then o x t ≡ seq.after_all (timer_at o.timers t) (entries_of t x)
 timer_own o x t = after_entries-entries_of (first_system o.timers) t x
 
 -- the timer is then as the call's entries have left it
-pub timer_after : (o : Opening) (v w : Known) (t : ℕ) (x : List TimerEntry) (es : List seq.Entry) → Made v w t x es
-    → known_timer o w t ≡ seq.after_all (timer_in o x t) es
+pub timer_after : (o : Opening) (v w : KnownOfTimers) (t : ℕ) (x : List TimerEntry) (es : List seq.Entry) → MadeAt v w t x es
+    → known_timer o w t ≡ seq.after_all (timer_then o x t) es
 timer_after o v w t x es made =
     timer_own o w.seen t ∙ (ap (seq.after_all (timer_at o.timers t)) made.own ∙ (after_all-append (timer_at o.timers t) (entries_of t x) es
     ∙ ap (λ (s : Timer). seq.after_all s es) (sym (timer_own o x t))))
 
 -- no place is added where no entry is made
-pub no_places : (v w : Known) (t : ℕ) (x : List TimerEntry) → Made v w t x [] → w.mine ≡ v.mine
+pub no_places : (v w : KnownOfTimers) (t : ℕ) (x : List TimerEntry) → MadeAt v w t x [] → w.mine ≡ v.mine
 no_places v w t x made = made.mine ∙ append-nil v.mine
 
-pub one_place : (v w : Known) (t : ℕ) (x : List TimerEntry) (e : seq.Entry) → Made v w t x (e ∷ []) → length w.mine ≡ length v.mine + 1
+pub one_place : (v w : KnownOfTimers) (t : ℕ) (x : List TimerEntry) (e : seq.Entry) → MadeAt v w t x (e ∷ []) → length w.mine ≡ length v.mine + 1
 one_place v w t x e made = omega (arith, ap length made.mine, length-append v.mine (places t (length (entries_of t x)) (e ∷ [])))
 
 -- the reply of an entry is that of its step
@@ -56,8 +56,8 @@ reply_there : (t : Timer) (xs ys : List seq.Entry) (e : seq.Entry) → seq.AreSt
 reply_there t [] ys e all = all.1
 reply_there t (x ∷ xs) ys e all = reply_there (after t x.event) xs ys e all.2
 
-pub reply_made : (o : Opening) (v w : Known) (t : ℕ) (x log : List TimerEntry) (e : seq.Entry) → Made v w t x (e ∷ []) → Begins w.seen log
-    → AreSystemSteps o.bases (length o.timers) (first_system o.timers) log → e.reply ≡ reply_to (timer_in o x t) e.event
+pub reply_made : (o : Opening) (v w : KnownOfTimers) (t : ℕ) (x log : List TimerEntry) (e : seq.Entry) → MadeAt v w t x (e ∷ []) → Begins w.seen log
+    → AreSystemSteps o.bases (length o.timers) (first_system o.timers) log → e.reply ≡ reply_to (timer_then o x t) e.event
 reply_made o v w t x log e made begins history =
     let own = entries_of-begins t w.seen log begins in
     reply_there (timer_at o.timers t) (entries_of t x) own.rest e
@@ -88,29 +88,29 @@ now_expires t ns asked reading false = refl
 same_generation : (a b : Bool) (g n c d e f : ℕ) (k l : ClockId) (x y : ℕ) → starts.Started a g c e k x ≡ starts.Started b n d f l y → g ≡ n
 same_generation a b g n c d e f k l x y is = cc
 
-module _ (o : Opening) (v w : Known) (t ns asked : ℕ) (reading : ClockReading) (was : Bool) (generation base outs : ℕ) (clock : ClockId) (expires : ℕ)
-    (s : Starts o v w t modes.Rel ns asked reading (starts.Started was generation base outs clock expires)) where
-  now : known_timer o w t ≡ started_now (timer_in o s.at t) ns asked reading (moves_first (timer_in o s.at t) asked)
-  now = timer_after o v w t s.at _ s.made ∙ along (timer_in o s.at t) (start_events (timer_in o s.at t) modes.Rel ns asked reading)
+module _ (o : Opening) (v w : KnownOfTimers) (t ns asked : ℕ) (reading : ClockReading) (was : Bool) (generation base outs : ℕ) (clock : ClockId) (expires : ℕ)
+    (s : StartsTimer o v w t modes.Rel ns asked reading (starts.Started was generation base outs clock expires)) where
+  now : known_timer o w t ≡ started_now (timer_then o s.at t) ns asked reading (moves_first (timer_then o s.at t) asked)
+  now = timer_after o v w t s.at _ s.made ∙ along (timer_then o s.at t) (start_events (timer_then o s.at t) modes.Rel ns asked reading)
 
   pub start_armed : (known_timer o w t).armed ≡ Some generation
   start_armed =
-      let u = timer_in o s.at t in
+      let u = timer_then o s.at t in
       ap (λ (x : Timer). x.armed) now ∙ (now_armed u ns asked reading (moves_first u asked) ∙ ap (λ n. Some n) (sym (same_generation _ _ _ _ _ _ _ _ _ _ _ _ s.fits.2)))
 
   pub start_expires : (known_timer o w t).expires ≡ sat (now_of (known_timer o w t) reading + ns)
   start_expires =
-      let u = timer_in o s.at t in
+      let u = timer_then o s.at t in
       subst (λ (x : Timer). x.expires ≡ sat (now_of x reading + ns)) (sym now) (now_expires u ns asked reading (moves_first u asked))
 
-pub start_spent : (o : Opening) (v w : Known) (t ns asked : ℕ) (reading : ClockReading) (n : ℕ) → Starts o v w t modes.Rel ns asked reading (starts.Spent n)
+pub start_spent : (o : Opening) (v w : KnownOfTimers) (t ns asked : ℕ) (reading : ClockReading) (n : ℕ) → StartsTimer o v w t modes.Rel ns asked reading (starts.Spent n)
     → (known_timer o w t).limit ≤ (known_timer o w t).stamp
 start_spent o v w t ns asked reading n s =
     subst (λ (x : Timer). x.limit ≤ x.stamp) (sym (timer_after o v w t s.at [] s.made)) s.fits.1
 
 -- ---- cancel
 
-module _ (o : Opening) (v w : Known) (t : ℕ) where
+module _ (o : Opening) (v w : KnownOfTimers) (t : ℕ) where
   pub cancel_rests : (n : ℕ) → Cancels o v w t (cancels.Idle n) → seq.IsIdle (known_timer o w t)
   cancel_rests n c = subst seq.IsIdle (sym (timer_after o v w t c.at [] c.made)) c.fits.0
 

@@ -14,7 +14,7 @@ use Rattle.seq_timer.specs.Systems.{AreSystemSteps, first_system}
 use Rattle.seq_timer.specs.Tables.{IsNextDue}
 use Rattle.base_row.specs.declared.view.Opening.{Opening}
 use Rattle.hr_timers.specs.declared.numbers.ClaimNumbers.{ClaimNumbers}
-use Rattle.hr_timers.specs.Known.{Known, Made, timer_in}
+use Rattle.hr_timers.specs.Known.{KnownOfTimers, MadeAt, timer_then}
 use Rattle.expire_pass.specs.declared.expiry.ExpireAnswer.{ExpireAnswer}
 use Rattle.expire_pass.specs.declared.expiry.ExpireAnswer.TheVariants as expiries
 use Rattle.expire_pass.specs.declared.handler.Restart.{Restart}
@@ -28,12 +28,12 @@ use Rattle.shared_timer_uses.specs.Callers.{RanOnce, Ticked, known_timer}
 use Rattle.shared_timer_uses.specs.Handlers.{ForwardsBy, one_shot, periodic}
 use Rattle.shared_timer_uses.proofs.Knowing.{reply_made, timer_after}
 
-module _ {A : Type 0} (m : Meaning A) (o : Opening) (base : ℕ) (reading : ClockReading) (k k' : Known) (h h' : A) (log log' : List Receipt) where
+module _ {A : Type 0} (m : Meaning A) (o : Opening) (base : ℕ) (reading : ClockReading) (k k' : KnownOfTimers) (h h' : A) (log log' : List Receipt) where
   one_turn : (n : ℕ) → n ≡ 1 → Turns m o base reading n k h log k' h' log' → Turn m o base reading k h log k' h' log'
   one_turn zero e turns = absurd (omega (arith, e))
   one_turn (suc zero) e turns =
       let first = turns.3 in
-      subst (λ (x : Known). Turn m o base reading x h log k' h' log') first.0
+      subst (λ (x : KnownOfTimers). Turn m o base reading x h log k' h' log') first.0
       (subst (λ (x : A). Turn m o base reading turns.0 x log k' h' log') first.1
       (subst (λ (x : List Receipt). Turn m o base reading turns.0 turns.1 x k' h' log') first.2 turns.4))
   one_turn (suc (suc n)) e turns = absurd (omega (arith, e))
@@ -43,7 +43,7 @@ module _ {A : Type 0} (m : Meaning A) (o : Opening) (base : ℕ) (reading : Cloc
   no_turn (suc n) e turns = absurd (omega (arith, e))
 
 -- what holds of a run of at most one function: it holds of its turn, or the handler is as before
-by_one : {A : Type 0} (m : Meaning A) (o : Opening) (base : ℕ) (reading : ClockReading) (k k' : Known) (h h' : A) (log log' : List Receipt)
+by_one : {A : Type 0} (m : Meaning A) (o : Opening) (base : ℕ) (reading : ClockReading) (k k' : KnownOfTimers) (h h' : A) (log log' : List Receipt)
     (P : A → Type 0) → P h → (Turn m o base reading k h log k' h' log' → P h') → (a : ExpireAnswer)
     → Expires m o base reading 1 k h log k' h' log' a → P h'
 by_one m o base reading k k' h h' log log' P none turn (expiries.More fired) is =
@@ -53,14 +53,14 @@ by_one m o base reading k k' h h' log log' P none turn (expiries.Done fired) is 
 by_one m o base reading k k' h h' log log' P none turn (expiries.BaseBusy fired t g) is =
     subst P (sym (no_turn m o base reading k is.1.0 h h' log log' fired is.0 is.1.1)) none
 
-module _ (o : Opening) (base : ℕ) (reading : ClockReading) (k k' : Known) (log log' : List Receipt) where
+module _ (o : Opening) (base : ℕ) (reading : ClockReading) (k k' : KnownOfTimers) (log log' : List Receipt) where
   ran_turn : (h h' : OneShot) → Turn one_shot o base reading k h log k' h' log' → IfSome h'.ran (λ t. RanOnce o base reading k k' t log log')
   ran_turn h h' turn =
       let c = turn.claim in
       let f = turn.ran.finishes in
       let did = turn.ran.did in
       let rearmed : turn.ran.finished.rearmed ≡ rearmings.No =
-      f.rearmed ∙ ap (λ (r : Restart). rearmed_by (timer_in o f.at c.timer) (asks r)) did.2 in
+      f.rearmed ∙ ap (λ (r : Restart). rearmed_by (timer_then o f.at c.timer) (asks r)) did.2 in
       subst (λ r. IfSome r (λ t. RanOnce o base reading k k' t log log')) (sym did.0) (record {
         at = turn.claims.at;
         from = turn.claims.made.from;
@@ -105,7 +105,7 @@ module _ (o : Opening) (base : ℕ) (reading : ClockReading) (k k' : Known) (log
         record {
           at = turn.claims.at;
           from = turn.claims.made.from;
-          next = subst (λ t. IsNextDue (timer_in o turn.claims.at) base reading t) (sym here) turn.claims.next;
+          next = subst (λ t. IsNextDue (timer_then o turn.claims.at) base reading t) (sym here) turn.claims.next;
           late = at;
           goes_on = begins_trans turn.claims.made.seen made.from;
           seen = begins_trans made.seen after;

@@ -13,31 +13,31 @@ use Rattle.seq_timer.specs.Steps.{Timer, now_of}
 use Rattle.seq_timer.specs.Tables.{IsNextDue}
 use Rattle.seq_timer.specs.Contents.{running_on}
 use Rattle.base_row.specs.declared.view.Opening.{Opening}
-use Rattle.hr_timers.specs.Known.{Known, timer_in}
+use Rattle.hr_timers.specs.Known.{KnownOfTimers, timer_then}
 use Rattle.hr_timers.specs.Calls.{HasNoneDue}
 use Rattle.expire_pass.specs.declared.log.Receipt.{Receipt}
-use Rattle.expire_pass.specs.Handlers.{Keeps}
+use Rattle.expire_pass.specs.Handlers.{KeepsPass}
 use Rattle.shared_timer_uses.specs.declared.cancelling.Stopped.{Stopped}
 use Rattle.shared_timer_uses.specs.declared.cancelling.Stopped.TheVariants as stops
 use Rattle.shared_timer_uses.specs.declared.periodic.Tick.{Tick}
 
 -- a timer after all that a pass has seen
-abbrev pub known_timer : Opening → Known → ℕ → Timer
-known_timer o k t = timer_in o k.seen t
+abbrev pub known_timer : Opening → KnownOfTimers → ℕ → Timer
+known_timer o k t = timer_then o k.seen t
 
 -- by all that a pass has seen nothing is due on a base, or a function runs there
-abbrev pub HasNothingToRun : Opening → Known → ℕ → ClockReading → Type 0
+abbrev pub HasNothingToRun : Opening → KnownOfTimers → ℕ → ClockReading → Type 0
 HasNothingToRun o k base reading = HasNoneDue o k.seen base reading ⊎ ((t : ℕ) × (g : ℕ) × (running_on base (known_timer o k t) ≡ Some g))
 
 -- the timer was the next to expire on its base when it was claimed, its function has ended, and that armed nothing
-pub record RanOnce (o : Opening) (base : ℕ) (reading : ClockReading) (k k' : Known) (t : ℕ) (log log' : List Receipt) : Type 0 where
+pub record RanOnce (o : Opening) (base : ℕ) (reading : ClockReading) (k k' : KnownOfTimers) (t : ℕ) (log log' : List Receipt) : Type 0 where
   pub at : List TimerEntry
   pub from : Begins k.seen at
   pub seen : Begins at k'.seen
-  pub next : IsNextDue (timer_in o at) base reading t
+  pub next : IsNextDue (timer_then o at) base reading t
   pub ended : (known_timer o k' t).running ≡ None
   pub generation : ℕ
-  pub armed : (timer_in o at t).armed ≡ Some generation
+  pub armed : (timer_then o at t).armed ≡ Some generation
   pub claim : ℕ
   pub finish : ℕ
   pub receipts : log' ≡ log
@@ -46,26 +46,26 @@ pub record RanOnce (o : Opening) (base : ℕ) (reading : ClockReading) (k k' : K
 
 -- The timer was the next to expire on its base when it was claimed. Its function has moved the expiry on by so many intervals, to the first one
 -- past the reading.
-pub record Ticked (o : Opening) (base : ℕ) (reading : ClockReading) (interval : ℕ) (k k' : Known) (tick : Tick) : Type 0 where
+pub record Ticked (o : Opening) (base : ℕ) (reading : ClockReading) (interval : ℕ) (k k' : KnownOfTimers) (tick : Tick) : Type 0 where
   pub at : List TimerEntry
   pub from : Begins k.seen at
-  pub next : IsNextDue (timer_in o at) base reading tick.timer
+  pub next : IsNextDue (timer_then o at) base reading tick.timer
   pub late : List TimerEntry
   pub goes_on : Begins at late
   pub seen : Begins late k'.seen
-  pub count : tick.count ≡ passed (timer_in o late tick.timer).expires (now_of (timer_in o late tick.timer) reading) interval
-  pub expires : tick.expires ≡ next_after (timer_in o late tick.timer).expires (now_of (timer_in o late tick.timer) reading) interval
+  pub count : tick.count ≡ passed (timer_then o late tick.timer).expires (now_of (timer_then o late tick.timer) reading) interval
+  pub expires : tick.expires ≡ next_after (timer_then o late tick.timer).expires (now_of (timer_then o late tick.timer) reading) interval
   pub ended : (known_timer o k' tick.timer).running ≡ None
 
 -- what a stop that doesn't wait has come to
-abbrev pub StoppedFits : Opening → Known → Known → ℕ → Stopped → Type 0
+abbrev pub StoppedFits : Opening → KnownOfTimers → KnownOfTimers → ℕ → Stopped → Type 0
 StoppedFits o k k' t stops.Disarmed = IsIdle (known_timer o k' t) × (length k'.mine ≡ length k.mine + 1)
 StoppedFits o k k' t stops.AtRest = IsIdle (known_timer o k' t) × (k'.mine ≡ k.mine)
 StoppedFits o k k' t (stops.Running g) = ((known_timer o k' t).running ≡ Some g) × (k'.mine ≡ k.mine)
 StoppedFits o k k' t stops.Busy = k'.mine ≡ k.mine
 
 -- so many entries of a timer were made, and none of any other
-pub record MakesEntries (t n : ℕ) (k k' : Known) : Type 0 where
-  pub keeps : Keeps k k'
+pub record MakesEntries (t n : ℕ) (k k' : KnownOfTimers) : Type 0 where
+  pub keeps : KeepsPass k k'
   pub mine : length k'.mine ≡ length k.mine + n
   pub elsewhere : (i m : ℕ) → i ≢ t → count (is_place i m) k'.mine ≡ count (is_place i m) k.mine

@@ -5,7 +5,7 @@ use Rattle.seq_timer.specs.declared.event.Event.TheVariants as events
 use Rattle.seq_timer.specs.declared.event.Reply.TheVariants as replies
 use Rattle.seq_timer.specs.declared.system.TimerEntry.{TimerEntry}
 use Rattle.hr_timers.specs.declared.numbers.ClaimNumbers.{ClaimNumbers}
-use Rattle.hr_timers.specs.Known.{Known, Made}
+use Rattle.hr_timers.specs.Known.{KnownOfTimers, MadeAt}
 use Rattle.expire_pass.specs.declared.handler.Restart.{Restart}
 use Rattle.expire_pass.specs.declared.handler.Restart.TheVariants as restarts
 use Rattle.expire_pass.specs.Handlers.{Meaning}
@@ -23,11 +23,11 @@ one_shot = record {
 }
 
 -- it has forwarded its timer, and asks for a restart; or it has done neither
-abbrev pub ForwardsBy : ℕ → Option Tick → Known → Known → ClaimNumbers → ClockReading → Restart → Type 0
+abbrev pub ForwardsBy : ℕ → Option Tick → KnownOfTimers → KnownOfTimers → ClaimNumbers → ClockReading → Restart → Type 0
 ForwardsBy interval None k k' c reading restart = restart ≡ restarts.Stop
 ForwardsBy interval (Some tick) k k' c reading restart = (restart ≡ restarts.Again) × (tick.timer ≡ c.timer)
     × ((at : List TimerEntry)
-    × Made k k' c.timer at (record { event = events.Forward reading interval; reply = replies.Forward tick.count tick.expires } ∷ []))
+    × MadeAt k k' c.timer at (record { event = events.Forward reading interval; reply = replies.Forward tick.count tick.expires } ∷ []))
 
 abbrev pub periodic : Meaning Periodic
 periodic = record {

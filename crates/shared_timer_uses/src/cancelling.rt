@@ -2,7 +2,7 @@
 ghost use Rattle.std.specs.Prelude.{◌≡◌, ◌<◌, ◌+◌, true, false, length, MatchBool};
 ghost use Rattle.seq_timer.specs.Histories.{IsIdle};
 ghost use Rattle.hr_timers.specs.Known.{IsPassOf};
-ghost use Rattle.expire_pass.specs.Handlers.{Keeps};
+ghost use Rattle.expire_pass.specs.Handlers.{KeepsPass};
 ghost use Rattle.shared_timer_uses.specs.Callers.{StoppedFits, known_timer};
 
 use expire_pass::cancel;
@@ -16,7 +16,7 @@ pub fn stop_and_wait<R: Wait>(rt: &R, timers: &Timers, pass: &mut Pass, timer: u
     requires pass { IsPassOf timers.now pass.old }
     requires timer { timer < length timers.now.about.timers }
     ensures pass { IsPassOf timers.now pass.new }
-    ensures keeps { Keeps pass.old.known pass.new.known }
+    ensures keeps { KeepsPass pass.old.known pass.new.known }
     ensures idle { IsIdle (known_timer timers.now.about pass.new.known timer) }
     ensures entries { MatchBool result (length pass.new.known.mine ≡ length pass.old.known.mine + 1) (pass.new.known.mine ≡ pass.old.known.mine) }
 {
@@ -44,7 +44,7 @@ pub fn stop_now(timers: &Timers, pass: &mut Pass, timer: u32) -> Stopped
     requires pass { IsPassOf timers.now pass.old }
     requires timer { timer < length timers.now.about.timers }
     ensures pass { IsPassOf timers.now pass.new }
-    ensures keeps { Keeps pass.old.known pass.new.known }
+    ensures keeps { KeepsPass pass.old.known pass.new.known }
     ensures stopped { StoppedFits timers.now.about pass.old.known pass.new.known timer result }
 {
     match timers.cancel_now(pass, timer) {

@@ -3,7 +3,7 @@ ghost use Rattle.std.specs.Prelude.{◌≡◌, ◌+◌, ◌<◌, ◌≤◌, ◌+
 ghost use Rattle.ktime.specs.Times.{sat};
 ghost use Rattle.seq_timer.specs.Steps.{now_of};
 ghost use Rattle.hr_timers.specs.Known.{HasClaim, IsPassOf};
-ghost use Rattle.expire_pass.specs.Handlers.{Keeps};
+ghost use Rattle.expire_pass.specs.Handlers.{KeepsPass};
 ghost use Rattle.shared_timer_uses.specs.Callers.{HasNothingToRun, RanOnce, known_timer};
 
 use expire_pass::{Handler, Log, Restart, expire};
@@ -26,7 +26,7 @@ pub fn start_once<R: Wait>(
     requires timer { timer < length timers.now.about.timers }
     requires base { base < timers.now.about.bases }
     ensures pass { IsPassOf timers.now pass.new }
-    ensures keeps { Keeps pass.old.known pass.new.known }
+    ensures keeps { KeepsPass pass.old.known pass.new.known }
     ensures armed { IfSome result (λ generation. (known_timer timers.now.about pass.new.known timer).armed ≡ Some generation) }
     ensures expires { IfSome result (λ generation. (known_timer timers.now.about pass.new.known timer).expires ≡ sat (now_of (known_timer timers.now.about pass.new.known timer) reading + ns)) }
     ensures full { IfNone result ((known_timer timers.now.about pass.new.known timer).limit ≤ (known_timer timers.now.about pass.new.known timer).stamp) }
@@ -76,7 +76,7 @@ pub fn expire_once<R: Wait>(
     requires few { length timers.now.about.timers ≤ 65536 }
     requires room { 2 ≤ log.old.spare }
     ensures pass { IsPassOf timers.now pass.new }
-    ensures keeps { Keeps pass.old.known pass.new.known }
+    ensures keeps { KeepsPass pass.old.known pass.new.known }
     ensures room { log.old.spare ≤ log.new.spare + 2 }
     ensures ran { IfSome result (λ timer. RanOnce timers.now.about base reading pass.old.known pass.new.known timer log.old.receipts log.new.receipts) }
     ensures none { IfNone result (HasNothingToRun timers.now.about pass.new.known base reading × (log.new.receipts ≡ log.old.receipts)) }

@@ -1,7 +1,7 @@
 //! A timer that expires at every interval.
 ghost use Rattle.std.specs.Prelude.{◌≡◌, ◌+◌, ◌<◌, ◌≤◌, IfSome, length};
 ghost use Rattle.hr_timers.specs.Known.{IsPassOf};
-ghost use Rattle.expire_pass.specs.Handlers.{Keeps};
+ghost use Rattle.expire_pass.specs.Handlers.{KeepsPass};
 ghost use Rattle.shared_timer_uses.specs.Callers.{Ticked};
 
 use expire_pass::{Handler, Log, Restart, expire};
@@ -73,7 +73,7 @@ pub fn expire_periodic<R: Wait>(
     requires few { length timers.now.about.timers ≤ 65536 }
     requires room { 2 ≤ log.old.spare }
     ensures pass { IsPassOf timers.now pass.new }
-    ensures keeps { Keeps pass.old.known pass.new.known }
+    ensures keeps { KeepsPass pass.old.known pass.new.known }
     ensures room { log.old.spare ≤ log.new.spare + 2 }
     ensures ticked { IfSome result (λ tick. Ticked timers.now.about base reading interval pass.old.known pass.new.known tick) }
 {

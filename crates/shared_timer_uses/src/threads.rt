@@ -5,7 +5,7 @@ ghost use Rattle.pass_names.specs.Names.{IsLast};
 ghost use Rattle.pass_names.specs.Passes.{is_place};
 ghost use Rattle.seq_timer.specs.Histories.{IsIdle};
 ghost use Rattle.hr_timers.specs.Known.{IsPassOf};
-ghost use Rattle.expire_pass.specs.Handlers.{Keeps};
+ghost use Rattle.expire_pass.specs.Handlers.{KeepsPass};
 ghost use Rattle.shared_timer_uses.specs.Callers.{MakesEntries, RanOnce, known_timer};
 
 use crate::cancelling::stop_and_wait;
@@ -156,7 +156,7 @@ pub fn expire_and_stop<R: Threads + Wait + Sync>(
     requires few { length timers.now.about.timers ≤ 65536 }
     requires room { 2 ≤ log.old.spare }
     ensures pass { IsPassOf timers.now runner.new × IsPassOf timers.now stopper.new }
-    ensures keeps { Keeps runner.old.known runner.new.known × Keeps stopper.old.known stopper.new.known }
+    ensures keeps { KeepsPass runner.old.known runner.new.known × KeepsPass stopper.old.known stopper.new.known }
     ensures room { log.old.spare ≤ log.new.spare + 2 }
     ensures ran { IfSome result.0 (λ t. RanOnce timers.now.about base reading runner.old.known runner.new.known t log.old.receipts log.new.receipts) }
     ensures idle { IsIdle (known_timer timers.now.about stopper.new.known timer) }

@@ -1,7 +1,7 @@
 //! A handler whose functions call timers, each in the way that it is told to.
 ghost use Rattle.std.specs.Prelude.{◌≡◌, ◌<◌, length};
 ghost use Rattle.hr_timers.specs.Known.{HasClaim, IsPassOf};
-ghost use Rattle.expire_pass.specs.Handlers.{Keeps};
+ghost use Rattle.expire_pass.specs.Handlers.{KeepsPass};
 
 use crate::OneShot;
 use expire_pass::{ExpireAnswer, Handler, Log, Restart, expire};
@@ -13,11 +13,11 @@ use timer_core::CancelAnswer;
 /// What a function does.
 #[derive(Clone, Copy, Debug, PartialEq, Eq)]
 pub enum Act {
-    /// Starts its own timer so many nanoseconds after the reading, on base 0.
+    /// StartsTimer its own timer so many nanoseconds after the reading, on base 0.
     StartAgain(u64),
     /// Tries to cancel the timer before its own; timer 0 tries its own.
     Cancel,
-    /// Starts its own timer, and then tries to cancel it.
+    /// StartsTimer its own timer, and then tries to cancel it.
     StartAndCancel,
 }
 
@@ -50,7 +50,7 @@ fn do_act<R: Wait>(
     requires claim { HasClaim timers.now.about pass.old.known claim.now }
     requires bases { 0 < timers.now.about.bases }
     ensures pass { IsPassOf timers.now pass.new }
-    ensures keeps { Keeps pass.old.known pass.new.known }
+    ensures keeps { KeepsPass pass.old.known pass.new.known }
 {
     let own = claim.timer();
     match act {
@@ -65,13 +65,13 @@ fn do_act<R: Wait>(
     }
 }
 
-/// Starts a timer that is due at once.
+/// StartsTimer a timer that is due at once.
 fn start_own<R: Wait>(rt: &R, timers: &Timers, pass: &mut Pass, timer: u32, reading: Reading)
     requires pass { IsPassOf timers.now pass.old }
     requires timer { timer < length timers.now.about.timers }
     requires bases { 0 < timers.now.about.bases }
     ensures pass { IsPassOf timers.now pass.new }
-    ensures keeps { Keeps pass.old.known pass.new.known }
+    ensures keeps { KeepsPass pass.old.known pass.new.known }
 {
     timers.start(rt, pass, timer, Mode::Rel, 0, 0, reading);
 }

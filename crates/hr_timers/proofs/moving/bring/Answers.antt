@@ -5,7 +5,7 @@ use Rattle.seq_timer.specs.Systems.{entries_of}
 use Rattle.base_row.specs.Calls.{known_of}
 use Rattle.base_row.proofs.Calling.{may_start, seen_same}
 use Rattle.pass_names.proofs.SharedHistory.{looks_extends}
-use Rattle.hr_timers.specs.Known.{Extends}
+use Rattle.hr_timers.specs.Known.{AddsBehind}
 use Rattle.hr_timers.specs.Calls.{entry_by}
 use Rattle.hr_timers.proofs.Making.{extends_freed, looks_on}
 use Rattle.hr_timers.proofs.moving.bring.Goals as goal
@@ -35,8 +35,8 @@ returns-clause-extends g c =
     let steady = c.lock-held.ensures.steady c.args.timer c.requires.carries.1 in
     let same = c.requires.state ∙ sym (seen_same o u v c.args.timer steady) in
     let event = Start c.args.mode c.args.ns c.args.reading c.base-asked.result in
-    subst (λ b. Extends u x c.args.timer (entry_by c.args.state (Start c.args.mode c.args.ns c.args.reading b) ∷ [])) c.base-asked.ensures
-    (subst (λ (t : Timer). Extends u x c.args.timer (entry_by t event ∷ [])) (sym same)
+    subst (λ b. AddsBehind u x c.args.timer (entry_by c.args.state (Start c.args.mode c.args.ns c.args.reading b) ∷ [])) c.base-asked.ensures
+    (subst (λ (t : Timer). AddsBehind u x c.args.timer (entry_by t event ∷ [])) (sym same)
     (looks_extends entries_of (known_of u) (known_of v) (known_of x) c.args.timer _ (looks_on u v c.lock-held.ensures.looks) steady
     (extends_freed o c.fresh.ensures.fresh c.lock-held.result c.arrive.new.held c.args.timer event v c.arrive.new.pass.knows x c.requires.within.0
     c.arrive.ensures.adds c.arrive.ensures.held

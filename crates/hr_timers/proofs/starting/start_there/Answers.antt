@@ -4,7 +4,7 @@ use Rattle.seq_timer.specs.declared.event.Event.TheVariants as events
 use Rattle.seq_timer.specs.Steps.{Timer, after}
 use Rattle.timer_core.specs.Answers.{moves_first}
 use Rattle.base_row.specs.Calls.{timer_seen}
-use Rattle.hr_timers.specs.Known.{Extends}
+use Rattle.hr_timers.specs.Known.{AddsBehind}
 use Rattle.hr_timers.proofs.StartsFrom.{along, state, starts_from}
 use Rattle.hr_timers.proofs.starting.start_there.Goals as goal
 
@@ -24,7 +24,7 @@ returns-clause-starts g c =
     ∙ (ap (λ x. after x begin) c.apply.ensures.state ∙ ap (λ x. after (after x out) begin) is)) in
     starts_from o v w c.args.timer a.mode a.ns a.base a.reading c.apply-2.new.self c.is_some.result c.stamp.result c.base.result c.one_bit.result
     c.clock.result c.expires.result
-    (subst (Extends v w c.args.timer) (along s a.mode a.ns a.base a.reading moves) c.move_and_start.ensures.extends)
+    (subst (AddsBehind v w c.args.timer) (along s a.mode a.ns a.base a.reading moves) c.move_and_start.ensures.extends)
     c.move_and_start.ensures.claims
     (ap (λ (t : Timer). t.moving) (sym is) ∙ c.requires.on.still)
     (omega (arith, c.requires.room, ap (λ (t : Timer). t.stamp) is, ap (λ (t : Timer). t.limit) is))
