@@ -2,7 +2,7 @@
 ghost use Rattle.std.specs.Prelude.{◌≡◌, ◌+◌, ◌<◌, ◌≤◌, ◌++◌, IfNone, IfSome, Some, None, length};
 ghost use Rattle.ktime.specs.Times.{sat};
 ghost use Rattle.seq_timer.specs.Steps.{now_of};
-ghost use Rattle.hr_timers.specs.Known.{HasClaim, IsPassOf};
+ghost use Rattle.hr_timers.specs.Known.{IsPassOf};
 ghost use Rattle.expire_pass.specs.Handlers.{KeepsPass};
 ghost use Rattle.shared_timer_uses.specs.Callers.{HasNothingToRun, RanOnce, known_timer};
 

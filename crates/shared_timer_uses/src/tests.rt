@@ -1,11 +1,14 @@
 //! The callers, run; and handlers that call timers from within a function.
 ghost use Rattle.std.specs.Prelude.{◌≡◌, ◌<◌, ◌≤◌, ◌^◌, [], length, IfOk};
-ghost use Rattle.pass_names.specs.Names.{IsLast};
+ghost use Rattle.pass_names.specs.Names.{IsLast, first_pass_id};
 ghost use Rattle.hr_timers.specs.Known.{IsPassOf};
 
 mod acting;
 mod callers;
+mod claims;
+mod drawn;
 mod functions;
+mod threads;
 
 use expire_pass::Log;
 use hr_timers::{Pass, Timers};
@@ -16,6 +19,7 @@ use std::alloc::{AllocError, Global};
 fn some_timers(alloc: Global, bases: u32, count: usize) -> Result<(Timers, Pass, Log), AllocError>
     requires few { (0 < bases) × (bases ≤ 64) × (count ≤ 64) }
     ensures pass { IfOk result (λ r. IsPassOf r.0 r.1 × IsLast r.1.known.id × (r.1.known.claims ≡ [])) }
+    ensures first { IfOk result (λ r. r.1.known.id ≡ first_pass_id) }
     ensures size { IfOk result (λ r. (length r.0.about.timers ≡ count) × (r.0.about.bases ≡ bases)) }
     ensures room { IfOk result (λ r. 64 ≤ r.2.spare) }
 {

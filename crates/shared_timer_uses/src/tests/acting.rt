@@ -1,6 +1,6 @@
 //! A handler whose functions call timers, each in the way that it is told to.
 ghost use Rattle.std.specs.Prelude.{◌≡◌, ◌<◌, length};
-ghost use Rattle.hr_timers.specs.Known.{HasClaim, IsPassOf};
+ghost use Rattle.hr_timers.specs.Known.{OwnsClaim, IsPassOf};
 ghost use Rattle.expire_pass.specs.Handlers.{KeepsPass};
 
 use crate::OneShot;
@@ -47,7 +47,7 @@ fn do_act<R: Wait>(
     act: Act,
 ) -> Told
     requires pass { IsPassOf timers.now pass.old }
-    requires claim { HasClaim timers.now.about pass.old.known claim.now }
+    requires claim { OwnsClaim timers.now.about pass.old.known claim.now }
     requires bases { 0 < timers.now.about.bases }
     ensures pass { IsPassOf timers.now pass.new }
     ensures keeps { KeepsPass pass.old.known pass.new.known }
