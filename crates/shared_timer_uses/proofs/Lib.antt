@@ -1,3 +1,4 @@
 pub mod Counting
 pub mod Knowing
+pub mod Nesting
 pub mod Turning

@@ -89,6 +89,23 @@ fn stop_now_running<R: Wait>(rt: &R, timers: &Timers, pass: &mut Pass) -> (Cance
     (told, armed)
 }
 
+/// Runs the function of one due timer.
+fn run_one<R: Wait>(
+    rt: &R,
+    timers: &Timers,
+    pass: &mut Pass,
+    function: &mut Waits,
+    log: &mut Log,
+) -> ExpireAnswer
+    requires pass { IsPassOf timers.now pass.old }
+    requires size { (length timers.now.about.timers ≡ 2) × (timers.now.about.bases ≡ 1) }
+    requires room { 2 ≤ log.old.spare }
+    ensures pass { IsPassOf timers.now pass.new }
+    ensures keeps { KeepsPass pass.old.known pass.new.known }
+{
+    expire(rt, timers, pass, 0, Reading::at(0), 1, function, log)
+}
+
 /// One thread runs the function of timer 1, the other stops that timer meanwhile.
 fn run_and_stop<R: Threads + Wait + Sync>(
     rt: &R,
@@ -106,7 +123,7 @@ fn run_and_stop<R: Threads + Wait + Sync>(
 {
     join_mut(
         rt,
-        &mut || expire(rt, timers, runner, 0, Reading::at(0), 1, function, log),
+        &mut || run_one(rt, timers, runner, function, log),
         &mut || stop_running(rt, timers, stopper),
     )
 }
