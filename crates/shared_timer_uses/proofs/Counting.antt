@@ -1,5 +1,5 @@
 -- Entries that passes have made, added up.
-use Rattle.std.proofs.Common.{◌≡◌, ℕ, ◌+◌, ◌^◌, ◌<◌, ◌≢◌, false, true, eqb, ◌&&◌, List, [], ◌∷◌, ◌++◌, length, refl, ap, sym, ◌∙◌, subst, length-append, arith}
+use Rattle.std.proofs.Common.{◌≡◌, ℕ, ◌+◌, ◌^◌, ◌≢◌, false, true, eqb, ◌&&◌, List, [], ◌∷◌, length, refl, ap, sym, ◌∙◌, subst, length-append, arith}
 use Rattle.std.specs.Prelude.{Bool, if◌then◌else◌}
 use Rattle.std.proofs.lemmas.Bool.{ne_eqb}
 use Rattle.std.proofs.lemmas.Nat.{pow_pos}
@@ -10,7 +10,6 @@ use Rattle.pass_names.specs.Counts.{count, one_if}
 use Rattle.pass_names.specs.Passes.{is_place, places}
 use Rattle.pass_names.proofs.Counts.{total-append}
 use Rattle.pass_names.proofs.Passes.{begins_refl, begins_trans, places_of_one}
-use Rattle.seq_timer.specs.declared.event.Event.{Event}
 use Rattle.seq_timer.specs.declared.event.Event.TheVariants as events
 use Rattle.seq_timer.specs.declared.observation.Peek.{Peek}
 use Rattle.seq_timer.specs.declared.system.TimerEntry.{TimerEntry}
@@ -24,7 +23,6 @@ use Rattle.base_row.specs.declared.view.Opening.{Opening}
 use Rattle.hr_timers.specs.declared.answer.StartAnswer.TheVariants as starts
 use Rattle.hr_timers.specs.Known.{HasEachPlace, KnownOfTimers, MadeAt, timer_then}
 use Rattle.hr_timers.specs.Calls.{Peeks, StartsTimer, entries_along}
-use Rattle.expire_pass.specs.Handlers.{KeepsPass}
 use Rattle.shared_timer_uses.specs.Callers.{MakesEntries, known_timer}
 use Rattle.shared_timer_uses.proofs.Knowing.{no_places, timer_after, timer_own}
 

@@ -1,9 +1,8 @@
 -- What a pass knows of a timer after calls on it.
 use Rattle.std.proofs.Common.{◌≡◌, ℕ, ◌+◌, ◌≤◌, List, [], ◌∷◌, ◌++◌, length, refl, ap, sym, ◌∙◌, subst, true, false, arith, length-append}
-use Rattle.std.specs.Prelude.{Bool, Some, None, if◌then◌else◌}
+use Rattle.std.specs.Prelude.{Bool, Some, if◌then◌else◌}
 use Rattle.std.proofs.lemmas.List.{append-nil}
 use Rattle.ktime.specs.declared.clock_id.ClockId.{ClockId}
-use Rattle.ktime.specs.declared.mode.Mode.{Mode}
 use Rattle.ktime.specs.declared.mode.Mode.TheVariants as modes
 use Rattle.ktime.specs.Readings.{ClockReading}
 use Rattle.ktime.specs.Times.{sat}

@@ -1,20 +1,17 @@
 -- What a run of one function comes to.
-use Rattle.std.proofs.Common.{◌≡◌, ℕ, zero, suc, List, [], ◌∷◌, ◌++◌, ◌<◌, length, refl, ap, sym, ◌∙◌, subst, true, false, arith}
-use Rattle.std.specs.Prelude.{Option, Some, None, IfSome, IfNone}
+use Rattle.std.proofs.Common.{◌≡◌, ℕ, zero, suc, List, [], ◌∷◌, ◌++◌, ◌<◌, length, refl, ap, sym, ◌∙◌, subst, arith}
+use Rattle.std.specs.Prelude.{Option, Some, None, IfSome}
 use Rattle.ktime.specs.Readings.{ClockReading}
 use Rattle.pass_names.proofs.Passes.{begins_trans}
 use Rattle.seq_timer.specs.declared.event.Event.TheVariants as events
-use Rattle.seq_timer.specs.declared.event.Rearmed.{Rearmed}
 use Rattle.seq_timer.specs.declared.event.Rearmed.TheVariants as rearmings
 use Rattle.seq_timer.specs.declared.event.Reply.TheVariants as replies
 use Rattle.seq_timer.specs.declared.system.TimerEntry.{TimerEntry}
-use Rattle.seq_timer.specs.Histories as seq
-use Rattle.seq_timer.specs.Steps.{Timer, now_of, rearmed_by}
+use Rattle.seq_timer.specs.Steps.{Timer, rearmed_by}
 use Rattle.seq_timer.specs.Systems.{AreSystemSteps, first_system}
 use Rattle.seq_timer.specs.Tables.{IsNextDue}
 use Rattle.base_row.specs.declared.view.Opening.{Opening}
-use Rattle.hr_timers.specs.declared.numbers.ClaimNumbers.{ClaimNumbers}
-use Rattle.hr_timers.specs.Known.{KnownOfTimers, MadeAt, timer_then}
+use Rattle.hr_timers.specs.Known.{KnownOfTimers, timer_then}
 use Rattle.expire_pass.specs.declared.expiry.ExpireAnswer.{ExpireAnswer}
 use Rattle.expire_pass.specs.declared.expiry.ExpireAnswer.TheVariants as expiries
 use Rattle.expire_pass.specs.declared.handler.Restart.{Restart}

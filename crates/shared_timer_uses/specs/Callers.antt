@@ -1,5 +1,5 @@
 -- What callers are told, by all that their pass has seen.
-use Rattle.std.specs.Prelude.{ℕ, ◌≡◌, ◌+◌, ◌⊎◌, ◌≢◌, List, [], ◌∷◌, ◌++◌, length, Option, Some, None, true, false}
+use Rattle.std.specs.Prelude.{ℕ, ◌≡◌, ◌+◌, ◌⊎◌, ◌≢◌, List, [], ◌∷◌, ◌++◌, length, Some, None, false}
 use Rattle.ktime.specs.Readings.{ClockReading}
 use Rattle.ktime.specs.Times.{next_after, passed}
 use Rattle.pass_names.specs.Counts.{count}

@@ -1,4 +1,4 @@
-use Rattle.std.proofs.Common.{◌≡◌, [], ap, ◌∙◌}
+use Rattle.std.proofs.Common.{ap, ◌∙◌}
 use Rattle.pass_names.specs.declared.PassId.{PassId}
 use Rattle.hr_timers.specs.Known.{KnownOfTimers}
 use Rattle.shared_timer_uses.proofs.Nesting.{answers_child, joined_alone}

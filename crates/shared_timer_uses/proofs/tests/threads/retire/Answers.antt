@@ -1,6 +1,5 @@
 use Rattle.pass_names.specs.Names.{first_pass_id}
 use Rattle.pass_names.proofs.Names.{answers_split}
-use Rattle.hr_timers.proofs.OneClaim.{last_again}
 use Rattle.shared_timer_uses.proofs.tests.threads.retire.Goals as goal
 
 pub retire-requires-clause-answers : goal.retire-requires-clause-answers
