@@ -63,6 +63,8 @@ pub fn expire<R: Wait, H: Handler>(
     ensures pass { IsPassOf timers.now pass.new }
     ensures expires { Expires H.meaning timers.now.about base reading budget pass.old.known handler.old log.old.receipts pass.new.known handler.new log.new.receipts result }
     ensures keeps { KeepsPass pass.old.known pass.new.known }
+    ensures room { log.old.spare ≤ log.new.spare + 2 * budget }
+    ensures ready { H.meaning.ready handler.old ≤ H.meaning.ready handler.new + budget }
     ensures suits { CanServe H.meaning timers.now.about handler.new }
 {
     for fired in 0..budget {

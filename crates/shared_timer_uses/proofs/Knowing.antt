@@ -1,0 +1,133 @@
+-- What a pass knows of a timer after calls on it.
+use Rattle.std.proofs.Common.{◌≡◌, ℕ, ◌+◌, ◌≤◌, List, [], ◌∷◌, ◌++◌, length, refl, ap, sym, ◌∙◌, subst, true, false, arith, length-append}
+use Rattle.std.specs.Prelude.{Bool, Some, if◌then◌else◌}
+use Rattle.std.proofs.lemmas.List.{append-nil}
+use Rattle.ktime.specs.declared.clock_id.ClockId.{ClockId}
+use Rattle.ktime.specs.declared.mode.Mode.TheVariants as modes
+use Rattle.ktime.specs.Readings.{ClockReading}
+use Rattle.ktime.specs.Times.{sat}
+use Rattle.pass_names.specs.Passes.{Begins, places}
+use Rattle.seq_timer.specs.declared.event.Event.{Event}
+use Rattle.seq_timer.specs.declared.event.Event.TheVariants as events
+use Rattle.seq_timer.specs.declared.system.TimerEntry.{TimerEntry}
+use Rattle.seq_timer.specs.Histories as seq
+use Rattle.seq_timer.specs.Steps.{Timer, after, now_of, reply_to}
+use Rattle.seq_timer.specs.Systems.{AreSystemSteps, entries_of, first_system}
+use Rattle.seq_timer.specs.Tables.{timer_at}
+use Rattle.seq_timer.proofs.Agreement.{parts}
+use Rattle.seq_timer.proofs.Systems.{after_entries-entries_of}
+use Rattle.timer_core.specs.declared.answer.CancelAnswer.{CancelAnswer}
+use Rattle.timer_core.specs.declared.answer.CancelAnswer.TheVariants as cancels
+use Rattle.timer_core.specs.Answers.{moves_first, start_events}
+use Rattle.timer_core.specs.Kept.{step_all}
+use Rattle.base_row.specs.declared.view.Opening.{Opening}
+use Rattle.base_row.proofs.Begun.{entries_of-begins}
+use Rattle.hr_timers.specs.declared.answer.StartAnswer.TheVariants as starts
+use Rattle.hr_timers.specs.Known.{KnownOfTimers, MadeAt, timer_then}
+use Rattle.hr_timers.specs.Calls.{Cancels, StartsTimer, entries_along}
+use Rattle.shared_timer_uses.specs.Callers.{known_timer}
+
+-- ---- entries
+
+after_all-append : (t : Timer) (xs ys : List seq.Entry) → seq.after_all t (xs ++ ys) ≡ seq.after_all (seq.after_all t xs) ys
+after_all-append t [] ys = refl
+after_all-append t (x ∷ xs) ys = after_all-append (after t x.event) xs ys
+
+pub timer_own : (o : Opening) (x : List TimerEntry) (t : ℕ) → timer_then o x t ≡ seq.after_all (timer_at o.timers t) (entries_of t x)
+timer_own o x t = after_entries-entries_of (first_system o.timers) t x
+
+-- the timer is then as the call's entries have left it
+pub timer_after : (o : Opening) (v w : KnownOfTimers) (t : ℕ) (x : List TimerEntry) (es : List seq.Entry) → MadeAt v w t x es
+    → known_timer o w t ≡ seq.after_all (timer_then o x t) es
+timer_after o v w t x es made =
+    timer_own o w.seen t ∙ (ap (seq.after_all (timer_at o.timers t)) made.own ∙ (after_all-append (timer_at o.timers t) (entries_of t x) es
+    ∙ ap (λ (s : Timer). seq.after_all s es) (sym (timer_own o x t))))
+
+-- no place is added where no entry is made
+pub no_places : (v w : KnownOfTimers) (t : ℕ) (x : List TimerEntry) → MadeAt v w t x [] → w.mine ≡ v.mine
+no_places v w t x made = made.mine ∙ append-nil v.mine
+
+pub one_place : (v w : KnownOfTimers) (t : ℕ) (x : List TimerEntry) (e : seq.Entry) → MadeAt v w t x (e ∷ []) → length w.mine ≡ length v.mine + 1
+one_place v w t x e made = omega (arith, ap length made.mine, length-append v.mine (places t (length (entries_of t x)) (e ∷ [])))
+
+-- the reply of an entry is that of its step
+reply_there : (t : Timer) (xs ys : List seq.Entry) (e : seq.Entry) → seq.AreSteps t ((xs ++ e ∷ []) ++ ys) → e.reply ≡ reply_to (seq.after_all t xs) e.event
+reply_there t [] ys e all = all.1
+reply_there t (x ∷ xs) ys e all = reply_there (after t x.event) xs ys e all.2
+
+pub reply_made : (o : Opening) (v w : KnownOfTimers) (t : ℕ) (x log : List TimerEntry) (e : seq.Entry) → MadeAt v w t x (e ∷ []) → Begins w.seen log
+    → AreSystemSteps o.bases (length o.timers) (first_system o.timers) log → e.reply ≡ reply_to (timer_then o x t) e.event
+reply_made o v w t x log e made begins history =
+    let own = entries_of-begins t w.seen log begins in
+    reply_there (timer_at o.timers t) (entries_of t x) own.rest e
+    (subst (λ l. seq.AreSteps (timer_at o.timers t) l) (own.whole ∙ ap (λ l. l ++ own.rest) made.own)
+    (parts o.bases (length o.timers) (first_system o.timers) log history t))
+    ∙ ap (λ (s : Timer). reply_to s e.event) (sym (timer_own o x t))
+
+-- ---- start
+
+along : (t : Timer) (es : List Event) → seq.after_all t (entries_along t es) ≡ step_all t es
+along t [] = refl
+along t (e ∷ es) = along (after t e) es
+
+abbrev started_now : Timer → ℕ → ℕ → ClockReading → Bool → Timer
+started_now t ns asked reading b = step_all t (if b then events.Out asked ∷ events.Start modes.Rel ns reading asked ∷
+    [] else events.Start modes.Rel ns reading asked ∷ [])
+
+now_armed : (t : Timer) (ns asked : ℕ) (reading : ClockReading) (b : Bool) →
+    (started_now t ns asked reading b).armed ≡ Some (started_now t ns asked reading b).stamp
+now_armed t ns asked reading true = refl
+now_armed t ns asked reading false = refl
+
+now_expires : (t : Timer) (ns asked : ℕ) (reading : ClockReading) (b : Bool) →
+    (started_now t ns asked reading b).expires ≡ sat (now_of (started_now t ns asked reading b) reading + ns)
+now_expires t ns asked reading true = refl
+now_expires t ns asked reading false = refl
+
+same_generation : (a b : Bool) (g n c d e f : ℕ) (k l : ClockId) (x y : ℕ) → starts.Started a g c e k x ≡ starts.Started b n d f l y → g ≡ n
+same_generation a b g n c d e f k l x y is = cc
+
+module _ (o : Opening) (v w : KnownOfTimers) (t ns asked : ℕ) (reading : ClockReading) (was : Bool) (generation base outs : ℕ) (clock : ClockId) (expires : ℕ)
+    (s : StartsTimer o v w t modes.Rel ns asked reading (starts.Started was generation base outs clock expires)) where
+  now : known_timer o w t ≡ started_now (timer_then o s.at t) ns asked reading (moves_first (timer_then o s.at t) asked)
+  now = timer_after o v w t s.at _ s.made ∙ along (timer_then o s.at t) (start_events (timer_then o s.at t) modes.Rel ns asked reading)
+
+  pub start_armed : (known_timer o w t).armed ≡ Some generation
+  start_armed =
+      let u = timer_then o s.at t in
+      ap (λ (x : Timer). x.armed) now ∙ (now_armed u ns asked reading (moves_first u asked) ∙ ap (λ n. Some n) (sym (same_generation _ _ _ _ _ _ _ _ _ _ _ _ s.fits.2)))
+
+  pub start_expires : (known_timer o w t).expires ≡ sat (now_of (known_timer o w t) reading + ns)
+  start_expires =
+      let u = timer_then o s.at t in
+      subst (λ (x : Timer). x.expires ≡ sat (now_of x reading + ns)) (sym now) (now_expires u ns asked reading (moves_first u asked))
+
+pub start_spent : (o : Opening) (v w : KnownOfTimers) (t ns asked : ℕ) (reading : ClockReading) (n : ℕ) → StartsTimer o v w t modes.Rel ns asked reading (starts.Spent n)
+    → (known_timer o w t).limit ≤ (known_timer o w t).stamp
+start_spent o v w t ns asked reading n s =
+    subst (λ (x : Timer). x.limit ≤ x.stamp) (sym (timer_after o v w t s.at [] s.made)) s.fits.1
+
+-- ---- cancel
+
+module _ (o : Opening) (v w : KnownOfTimers) (t : ℕ) where
+  pub cancel_rests : (n : ℕ) → Cancels o v w t (cancels.Idle n) → seq.IsIdle (known_timer o w t)
+  cancel_rests n c = subst seq.IsIdle (sym (timer_after o v w t c.at [] c.made)) c.fits.0
+
+  pub cancel_disarms : (g n : ℕ) → Cancels o v w t (cancels.Cancelled g n) → seq.IsIdle (known_timer o w t)
+  cancel_disarms g n c =
+      subst seq.IsIdle (sym (timer_after o v w t c.at _ c.made)) (record { armed = refl; running = c.fits.1; moving = c.fits.2 })
+
+  pub cancel_running : (g n : ℕ) → Cancels o v w t (cancels.Running g n) → (known_timer o w t).running ≡ Some g
+  cancel_running g n c = ap (λ (x : Timer). x.running) (timer_after o v w t c.at [] c.made) ∙ c.fits.0
+
+  -- a cancel that hasn't answered Running leaves the timer idle
+  pub cancel_idle : (a : CancelAnswer) → Cancels o v w t a → ((g n : ℕ) → a ≡ cancels.Running g n → ⊥) → seq.IsIdle (known_timer o w t)
+  cancel_idle (cancels.Idle n) c ended = cancel_rests n c
+  cancel_idle (cancels.Cancelled g n) c ended = cancel_disarms g n c
+  cancel_idle (cancels.Running g n) c ended = absurd (ended g n refl)
+
+  -- and makes an entry only where it has answered Cancelled
+  pub cancel_unmade : (a : CancelAnswer) → Cancels o v w t a → ((g n : ℕ) → a ≡ cancels.Cancelled g n → ⊥) → w.mine ≡ v.mine
+  cancel_unmade (cancels.Idle n) c other = no_places v w t c.at c.made
+  cancel_unmade (cancels.Cancelled g n) c other = absurd (other g n refl)
+  cancel_unmade (cancels.Running g n) c other = no_places v w t c.at c.made

@@ -1,0 +1,4 @@
+pub mod Counting
+pub mod Knowing
+pub mod Nesting
+pub mod Turning

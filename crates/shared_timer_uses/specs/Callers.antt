@@ -1,0 +1,71 @@
+-- What callers are told, by all that their pass has seen.
+use Rattle.std.specs.Prelude.{ℕ, ◌≡◌, ◌+◌, ◌⊎◌, ◌≢◌, List, [], ◌∷◌, ◌++◌, length, Some, None, false}
+use Rattle.ktime.specs.Readings.{ClockReading}
+use Rattle.ktime.specs.Times.{next_after, passed}
+use Rattle.pass_names.specs.Counts.{count}
+use Rattle.pass_names.specs.Passes.{Begins, is_place}
+use Rattle.seq_timer.specs.declared.event.Event.TheVariants as events
+use Rattle.seq_timer.specs.declared.event.Reply.TheVariants as replies
+use Rattle.seq_timer.specs.declared.event.Rearmed.TheVariants as rearmings
+use Rattle.seq_timer.specs.declared.system.TimerEntry.{TimerEntry}
+use Rattle.seq_timer.specs.Histories.{IsIdle}
+use Rattle.seq_timer.specs.Steps.{Timer, now_of}
+use Rattle.seq_timer.specs.Tables.{IsNextDue}
+use Rattle.seq_timer.specs.Contents.{running_on}
+use Rattle.base_row.specs.declared.view.Opening.{Opening}
+use Rattle.hr_timers.specs.Known.{KnownOfTimers, timer_then}
+use Rattle.hr_timers.specs.Calls.{HasNoneDue}
+use Rattle.expire_pass.specs.declared.log.Receipt.{Receipt}
+use Rattle.expire_pass.specs.Handlers.{KeepsPass}
+use Rattle.shared_timer_uses.specs.declared.cancelling.Stopped.{Stopped}
+use Rattle.shared_timer_uses.specs.declared.cancelling.Stopped.TheVariants as stops
+use Rattle.shared_timer_uses.specs.declared.periodic.Tick.{Tick}
+
+-- a timer after all that a pass has seen
+abbrev pub known_timer : Opening → KnownOfTimers → ℕ → Timer
+known_timer o k t = timer_then o k.seen t
+
+-- by all that a pass has seen nothing is due on a base, or a function runs there
+abbrev pub HasNothingToRun : Opening → KnownOfTimers → ℕ → ClockReading → Type 0
+HasNothingToRun o k base reading = HasNoneDue o k.seen base reading ⊎ ((t : ℕ) × (g : ℕ) × (running_on base (known_timer o k t) ≡ Some g))
+
+-- the timer was the next to expire on its base when it was claimed, its function has ended, and that armed nothing
+pub record RanOnce (o : Opening) (base : ℕ) (reading : ClockReading) (k k' : KnownOfTimers) (t : ℕ) (log log' : List Receipt) : Type 0 where
+  pub at : List TimerEntry
+  pub from : Begins k.seen at
+  pub seen : Begins at k'.seen
+  pub next : IsNextDue (timer_then o at) base reading t
+  pub ended : (known_timer o k' t).running ≡ None
+  pub generation : ℕ
+  pub armed : (timer_then o at t).armed ≡ Some generation
+  pub claim : ℕ
+  pub finish : ℕ
+  pub receipts : log' ≡ log
+      ++ record { timer = t; number = claim; event = events.Claim base reading; reply = replies.Claim generation }
+      ∷ record { timer = t; number = finish; event = events.Finish false; reply = replies.Finish generation rearmings.No } ∷ []
+
+-- The timer was the next to expire on its base when it was claimed. Its function has moved the expiry on by so many intervals, to the first one
+-- past the reading.
+pub record Ticked (o : Opening) (base : ℕ) (reading : ClockReading) (interval : ℕ) (k k' : KnownOfTimers) (tick : Tick) : Type 0 where
+  pub at : List TimerEntry
+  pub from : Begins k.seen at
+  pub next : IsNextDue (timer_then o at) base reading tick.timer
+  pub late : List TimerEntry
+  pub goes_on : Begins at late
+  pub seen : Begins late k'.seen
+  pub count : tick.count ≡ passed (timer_then o late tick.timer).expires (now_of (timer_then o late tick.timer) reading) interval
+  pub expires : tick.expires ≡ next_after (timer_then o late tick.timer).expires (now_of (timer_then o late tick.timer) reading) interval
+  pub ended : (known_timer o k' tick.timer).running ≡ None
+
+-- what a stop that doesn't wait has come to
+abbrev pub StoppedFits : Opening → KnownOfTimers → KnownOfTimers → ℕ → Stopped → Type 0
+StoppedFits o k k' t stops.Disarmed = IsIdle (known_timer o k' t) × (length k'.mine ≡ length k.mine + 1)
+StoppedFits o k k' t stops.AtRest = IsIdle (known_timer o k' t) × (k'.mine ≡ k.mine)
+StoppedFits o k k' t (stops.Running g) = ((known_timer o k' t).running ≡ Some g) × (k'.mine ≡ k.mine)
+StoppedFits o k k' t stops.Busy = k'.mine ≡ k.mine
+
+-- so many entries of a timer were made, and none of any other
+pub record MakesEntries (t n : ℕ) (k k' : KnownOfTimers) : Type 0 where
+  pub keeps : KeepsPass k k'
+  pub mine : length k'.mine ≡ length k.mine + n
+  pub elsewhere : (i m : ℕ) → i ≢ t → count (is_place i m) k'.mine ≡ count (is_place i m) k.mine

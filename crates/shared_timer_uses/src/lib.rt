@@ -1,0 +1,14 @@
+//! Callers of `hr_timers` and `expire_pass`: timers that threads share, each thread with a pass of its own.
+#![tactic(auto)]
+
+pub use cancelling::{Stopped, stop_and_wait, stop_now};
+pub use once::{OneShot, expire_once, start_once};
+pub use periodic::{Periodic, Tick, expire_periodic};
+pub use threads::{Counts, expire_and_stop, start_anew, start_by_two, start_counted, start_often};
+
+mod cancelling;
+mod once;
+mod periodic;
+#[cfg(test)]
+mod tests;
+mod threads;

@@ -1,0 +1,86 @@
+//! A timer that expires at every interval.
+ghost use Rattle.std.specs.Prelude.{◌≡◌, ◌+◌, ◌<◌, ◌≤◌, IfSome, length};
+ghost use Rattle.hr_timers.specs.Known.{IsPassOf};
+ghost use Rattle.expire_pass.specs.Handlers.{KeepsPass};
+ghost use Rattle.shared_timer_uses.specs.Callers.{Ticked};
+
+use expire_pass::{Handler, Log, Restart, expire};
+use hr_timers::{Claim, Pass, Timers};
+use ktime::Reading;
+use std::sync::Wait;
+use timer_core::ForwardAnswer;
+
+/// A tick of a periodic timer: how many intervals have passed since the last one, and when the next is due.
+#[derive(Clone, Copy, Debug, PartialEq, Eq)]
+pub struct Tick {
+    pub timer: u32,
+    pub count: u64,
+    pub expires: u64,
+}
+
+/// The functions of periodic timers: each moves its timer's expiry past the reading by whole intervals, and asks for a restart. Where a start
+/// came in, or the timer's history is full, it does neither.
+#[derive(Clone, Copy, Debug, PartialEq, Eq)]
+pub struct Periodic {
+    pub interval: u64,
+    pub tick: Option<Tick>,
+}
+
+impl Handler for Periodic {
+    ghost use Rattle.shared_timer_uses.specs.Handlers.{periodic};
+
+    ghost meaning = { periodic };
+
+    fn fire<R: Wait>(
+        &mut self,
+        rt: &R,
+        timers: &Timers,
+        pass: &mut Pass,
+        claim: &Claim,
+        reading: Reading,
+    ) -> Restart {
+        match timers.forward(rt, pass, claim, reading, self.interval) {
+            ForwardAnswer::Forwarded { count, expires, .. } => {
+                let timer = claim.timer();
+                self.tick = Some(Tick {
+                    timer,
+                    count,
+                    expires,
+                });
+                Restart::Again
+            }
+            ForwardAnswer::Spent { .. } | ForwardAnswer::Armed { .. } => {
+                self.tick = None;
+                Restart::Stop
+            }
+        }
+    }
+}
+
+/// Runs the function of the next timer that is due on a base, if one is and no other function runs there: the timer's expiry is moved past
+/// the reading by whole intervals, and it is armed again. It answers nothing where none ran, a start came in or the timer's history is full.
+pub fn expire_periodic<R: Wait>(
+    rt: &R,
+    timers: &Timers,
+    pass: &mut Pass,
+    base: u32,
+    reading: Reading,
+    interval: u64,
+    log: &mut Log,
+) -> Option<Tick>
+    requires pass { IsPassOf timers.now pass.old }
+    requires base { base < timers.now.about.bases }
+    requires few { length timers.now.about.timers ≤ 65536 }
+    requires room { 2 ≤ log.old.spare }
+    ensures pass { IsPassOf timers.now pass.new }
+    ensures keeps { KeepsPass pass.old.known pass.new.known }
+    ensures room { log.old.spare ≤ log.new.spare + 2 }
+    ensures ticked { IfSome result (λ tick. Ticked timers.now.about base reading interval pass.old.known pass.new.known tick) }
+{
+    let mut function = Periodic {
+        interval,
+        tick: None,
+    };
+    expire(rt, timers, pass, base, reading, 1, &mut function, log);
+    function.tick
+}

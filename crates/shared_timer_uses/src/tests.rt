@@ -1,0 +1,31 @@
+//! The callers, run; and handlers that call timers from within a function.
+ghost use Rattle.std.specs.Prelude.{◌≡◌, ◌<◌, ◌≤◌, ◌^◌, [], length, IfOk};
+ghost use Rattle.pass_names.specs.Names.{IsLast, first_pass_id};
+ghost use Rattle.hr_timers.specs.Known.{IsPassOf};
+
+mod acting;
+mod callers;
+mod claims;
+mod drawn;
+mod functions;
+mod threads;
+
+use expire_pass::Log;
+use hr_timers::{Pass, Timers};
+use ktime::ClockId;
+use std::alloc::{AllocError, Global};
+
+/// So many timers on the monotonic clock, so many bases, and a log with room for 64 receipts.
+fn some_timers(alloc: Global, bases: u32, count: usize) -> Result<(Timers, Pass, Log), AllocError>
+    requires few { (0 < bases) × (bases ≤ 64) × (count ≤ 64) }
+    ensures pass { IfOk result (λ r. IsPassOf r.0 r.1 × IsLast r.1.known.id × (r.1.known.claims ≡ [])) }
+    ensures first { IfOk result (λ r. r.1.known.id ≡ first_pass_id) }
+    ensures size { IfOk result (λ r. (length r.0.about.timers ≡ count) × (r.0.about.bases ≡ bases)) }
+    ensures room { IfOk result (λ r. 64 ≤ r.2.spare) }
+{
+    let mut log = Log::make(alloc);
+    log.reserve(64)?;
+    let clocks = vec![in alloc; ClockId::Monotonic; count]?;
+    let (timers, pass) = Timers::make(alloc, bases, &clocks, 100000)?;
+    Ok((timers, pass, log))
+}

@@ -1,0 +1,129 @@
+//! A handler whose functions call timers, each in the way that it is told to.
+ghost use Rattle.std.specs.Prelude.{◌≡◌, ◌<◌, length};
+ghost use Rattle.hr_timers.specs.Known.{OwnsClaim, IsPassOf};
+ghost use Rattle.expire_pass.specs.Handlers.{KeepsPass};
+
+use crate::OneShot;
+use expire_pass::{ExpireAnswer, Handler, Log, Restart, expire};
+use hr_timers::{Claim, Pass, StartAnswer, Timers};
+use ktime::{Mode, Reading};
+use std::sync::Wait;
+use timer_core::CancelAnswer;
+
+/// What a function does.
+#[derive(Clone, Copy, Debug, PartialEq, Eq)]
+pub enum Act {
+    /// StartsTimer its own timer so many nanoseconds after the reading, on base 0.
+    StartAgain(u64),
+    /// Tries to cancel the timer before its own; timer 0 tries its own.
+    Cancel,
+    /// StartsTimer its own timer, and then tries to cancel it.
+    StartAndCancel,
+}
+
+/// What a function was told.
+#[derive(Clone, Copy, Debug, PartialEq, Eq)]
+pub enum Told {
+    Nothing,
+    Start(StartAnswer),
+    Cancel(CancelAnswer),
+}
+
+/// Does the same for each timer, and keeps what the last function was told.
+#[derive(Drop)]
+pub struct Acting {
+    pub act: Act,
+    pub told: Told,
+    pub restart: Restart,
+}
+
+/// Does what is asked for a timer whose function runs.
+fn do_act<R: Wait>(
+    rt: &R,
+    timers: &Timers,
+    pass: &mut Pass,
+    claim: &Claim,
+    reading: Reading,
+    act: Act,
+) -> Told
+    requires pass { IsPassOf timers.now pass.old }
+    requires claim { OwnsClaim timers.now.about pass.old.known claim.now }
+    requires bases { 0 < timers.now.about.bases }
+    ensures pass { IsPassOf timers.now pass.new }
+    ensures keeps { KeepsPass pass.old.known pass.new.known }
+{
+    let own = claim.timer();
+    match act {
+        Act::StartAgain(ns) => {
+            Told::Start(timers.start(rt, pass, own, Mode::Rel, ns, 0, reading))
+        }
+        Act::Cancel => Told::Cancel(timers.try_to_cancel(rt, pass, own.saturating_sub(1))),
+        Act::StartAndCancel => {
+            start_own(rt, timers, pass, own, reading);
+            Told::Cancel(timers.try_to_cancel(rt, pass, own))
+        }
+    }
+}
+
+/// StartsTimer a timer that is due at once.
+fn start_own<R: Wait>(rt: &R, timers: &Timers, pass: &mut Pass, timer: u32, reading: Reading)
+    requires pass { IsPassOf timers.now pass.old }
+    requires timer { timer < length timers.now.about.timers }
+    requires bases { 0 < timers.now.about.bases }
+    ensures pass { IsPassOf timers.now pass.new }
+    ensures keeps { KeepsPass pass.old.known pass.new.known }
+{
+    timers.start(rt, pass, timer, Mode::Rel, 0, 0, reading);
+}
+
+impl Handler for Acting {
+    ghost meaning = { record { did = λ h h' k k' c reading restart. Unit; ready = λ h. 18446744073709551616; timers = λ h. 65536; bases = λ h. 1 } };
+
+    fn fire<R: Wait>(
+        &mut self,
+        rt: &R,
+        timers: &Timers,
+        pass: &mut Pass,
+        claim: &Claim,
+        reading: Reading,
+    ) -> Restart {
+        self.told = do_act(rt, timers, pass, claim, reading, self.act);
+        self.restart
+    }
+}
+
+/// Its function expires base 0, at most one timer of it, which is the base that it runs on.
+#[derive(Drop)]
+pub struct OwnBase {
+    pub log: Log,
+    pub told: Option<ExpireAnswer>,
+}
+
+impl Handler for OwnBase {
+    ghost use Rattle.std.specs.Prelude.{nat_le, if◌then◌else◌};
+
+    ghost meaning = { record { did = λ h h' k k' c reading restart. Unit; ready = λ h. if nat_le 2 h.log.spare then 1 else 0; timers = λ h. 65536; bases = λ h. 1 } };
+
+    fn fire<R: Wait>(
+        &mut self,
+        rt: &R,
+        timers: &Timers,
+        pass: &mut Pass,
+        _claim: &Claim,
+        reading: Reading,
+    ) -> Restart {
+        let mut function = OneShot { ran: None };
+        let told = expire(
+            rt,
+            timers,
+            pass,
+            0,
+            reading,
+            1,
+            &mut function,
+            &mut self.log,
+        );
+        self.told = Some(told);
+        Restart::Stop
+    }
+}

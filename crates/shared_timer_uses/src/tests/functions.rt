@@ -1,0 +1,196 @@
+//! Expiry runs: which functions run, and what a function does to timers while it runs.
+use super::acting::{Act, Acting, OwnBase, Told};
+use super::some_timers;
+use crate::{OneShot, Periodic, Tick};
+use expire_pass::{ExpireAnswer, Log, Restart, expire};
+use hr_timers::StartAnswer;
+use ktime::{ClockId, Mode, Reading};
+use seq_timer::{Peek, Rearmed, Reply};
+use std::test::Fail;
+use timer_core::CancelAnswer;
+
+/// Timer 0 armed on base 0 in the way that it is left by the function of generation 1, of which it was the third entry.
+fn armed_again() -> Peek {
+    Peek {
+        stamp: 4,
+        base: 0,
+        enqueued: true,
+        running: false,
+        moving: false,
+    }
+}
+
+#[test]
+fn three_due_timers_run_in_two_runs(rt: HostRuntime) -> Result<(), Fail> {
+    let (timers, mut pass, mut log) = some_timers(rt.alloc(), 1, 3)?;
+    let now = Reading::at(100);
+    timers.start(&rt, &mut pass, 2, Mode::Abs, 100, 0, now);
+    timers.start(&rt, &mut pass, 0, Mode::Abs, 100, 0, now);
+    timers.start(&rt, &mut pass, 1, Mode::Abs, 100, 0, now);
+    let mut shot = OneShot { ran: None };
+    let first = expire(&rt, &timers, &mut pass, 0, now, 2, &mut shot, &mut log);
+    assert_eq!(rt; first, ExpireAnswer::More { fired: 2 });
+    assert_eq!(rt; shot.ran, Some(0));
+    let second = expire(&rt, &timers, &mut pass, 0, now, 2, &mut shot, &mut log);
+    assert_eq!(rt; second, ExpireAnswer::Done { fired: 1 });
+    assert_eq!(rt; shot.ran, Some(1));
+    assert_eq!(rt; log.receipts().len(), 6);
+    timers.close(pass);
+    Ok(())
+}
+
+#[test]
+fn periodic_functions_are_armed_again(rt: HostRuntime) -> Result<(), Fail> {
+    let (timers, mut pass, mut log) = some_timers(rt.alloc(), 1, 2)?;
+    timers.start(&rt, &mut pass, 0, Mode::Rel, 100, 0, Reading::at(0));
+    timers.start(&rt, &mut pass, 1, Mode::Rel, 90, 0, Reading::at(0));
+    let now = Reading::at(130);
+    let mut function = Periodic {
+        interval: 50,
+        tick: None,
+    };
+    let ran = expire(&rt, &timers, &mut pass, 0, now, 4, &mut function, &mut log);
+    assert_eq!(rt; ran, ExpireAnswer::Done { fired: 2 });
+    let last = Tick {
+        timer: 0,
+        count: 1,
+        expires: 150,
+    };
+    assert_eq!(rt; function.tick, Some(last));
+    assert!(rt; timers.peek(&mut pass, 0).enqueued);
+    assert!(rt; timers.peek(&mut pass, 1).enqueued);
+    let cancelled = CancelAnswer::Cancelled {
+        generation: 4,
+        number: 5,
+    };
+    assert_eq!(rt; expire_pass::cancel(&rt, &timers, &mut pass, 1), cancelled);
+    let idle = CancelAnswer::Idle { stamp: 5 };
+    assert_eq!(rt; expire_pass::cancel(&rt, &timers, &mut pass, 1), idle);
+    timers.close(pass);
+    Ok(())
+}
+
+#[test]
+fn a_function_starts_its_own_timer_again(rt: HostRuntime) -> Result<(), Fail> {
+    let (timers, mut pass, mut log) = some_timers(rt.alloc(), 1, 1)?;
+    let now = Reading::at(1000);
+    timers.start(&rt, &mut pass, 0, Mode::Rel, 0, 0, now);
+    let mut function = Acting {
+        act: Act::StartAgain(50),
+        told: Told::Nothing,
+        restart: Restart::Again,
+    };
+    let ran = expire(&rt, &timers, &mut pass, 0, now, 1, &mut function, &mut log);
+    assert_eq!(rt; ran, ExpireAnswer::More { fired: 1 });
+    let started = StartAnswer::Started {
+        was_armed: false,
+        generation: 3,
+        base: 0,
+        outs: 0,
+        clock: ClockId::Monotonic,
+        expires: 1050,
+    };
+    assert_eq!(rt; function.told, Told::Start(started));
+    let finished = Reply::Finish {
+        generation: 1,
+        rearmed: Rearmed::No,
+    };
+    assert_eq!(rt; log.receipts().len(), 2);
+    assert_eq!(rt; log.receipts()[1].reply, finished);
+    assert_eq!(rt; timers.peek(&mut pass, 0), armed_again());
+    timers.close(pass);
+    Ok(())
+}
+
+#[test]
+fn a_function_cancels_another_timer(rt: HostRuntime) -> Result<(), Fail> {
+    let (timers, mut pass, mut log) = some_timers(rt.alloc(), 2, 2)?;
+    let now = Reading::at(1000);
+    timers.start(&rt, &mut pass, 0, Mode::Rel, 0, 1, now);
+    timers.start(&rt, &mut pass, 1, Mode::Rel, 0, 0, now);
+    let mut function = Acting {
+        act: Act::Cancel,
+        told: Told::Nothing,
+        restart: Restart::Stop,
+    };
+    let ran = expire(&rt, &timers, &mut pass, 0, now, 2, &mut function, &mut log);
+    assert_eq!(rt; ran, ExpireAnswer::Done { fired: 1 });
+    let cancelled = CancelAnswer::Cancelled {
+        generation: 2,
+        number: 3,
+    };
+    assert_eq!(rt; function.told, Told::Cancel(cancelled));
+    let none = expire(&rt, &timers, &mut pass, 1, now, 2, &mut function, &mut log);
+    assert_eq!(rt; none, ExpireAnswer::Done { fired: 0 });
+    timers.close(pass);
+    Ok(())
+}
+
+#[test]
+fn a_function_cannot_cancel_its_own_timer(rt: HostRuntime) -> Result<(), Fail> {
+    let (timers, mut pass, mut log) = some_timers(rt.alloc(), 1, 1)?;
+    let now = Reading::at(0);
+    timers.start(&rt, &mut pass, 0, Mode::Rel, 0, 0, now);
+    let mut function = Acting {
+        act: Act::Cancel,
+        told: Told::Nothing,
+        restart: Restart::Stop,
+    };
+    let ran = expire(&rt, &timers, &mut pass, 0, now, 1, &mut function, &mut log);
+    assert_eq!(rt; ran, ExpireAnswer::More { fired: 1 });
+    let running = CancelAnswer::Running {
+        generation: 1,
+        stamp: 2,
+    };
+    assert_eq!(rt; function.told, Told::Cancel(running));
+    assert!(rt; !timers.peek(&mut pass, 0).enqueued);
+    timers.close(pass);
+    Ok(())
+}
+
+#[test]
+fn a_start_in_the_function_outlives_its_cancel(rt: HostRuntime) -> Result<(), Fail> {
+    let (timers, mut pass, mut log) = some_timers(rt.alloc(), 1, 1)?;
+    let now = Reading::at(0);
+    timers.start(&rt, &mut pass, 0, Mode::Rel, 0, 0, now);
+    let mut function = Acting {
+        act: Act::StartAndCancel,
+        told: Told::Nothing,
+        restart: Restart::Stop,
+    };
+    let ran = expire(&rt, &timers, &mut pass, 0, now, 1, &mut function, &mut log);
+    assert_eq!(rt; ran, ExpireAnswer::More { fired: 1 });
+    let running = CancelAnswer::Running {
+        generation: 1,
+        stamp: 3,
+    };
+    assert_eq!(rt; function.told, Told::Cancel(running));
+    assert_eq!(rt; timers.peek(&mut pass, 0), armed_again());
+    timers.close(pass);
+    Ok(())
+}
+
+#[test]
+fn a_function_that_expires_its_own_base_finds_it_busy(rt: HostRuntime) -> Result<(), Fail> {
+    let mut inner = Log::make(rt.alloc());
+    inner.reserve(2)?;
+    let (timers, mut pass, mut log) = some_timers(rt.alloc(), 1, 2)?;
+    let now = Reading::at(0);
+    timers.start(&rt, &mut pass, 1, Mode::Rel, 0, 0, now);
+    timers.start(&rt, &mut pass, 0, Mode::Rel, 0, 0, now);
+    let mut function = OwnBase {
+        log: inner,
+        told: None,
+    };
+    let ran = expire(&rt, &timers, &mut pass, 0, now, 1, &mut function, &mut log);
+    assert_eq!(rt; ran, ExpireAnswer::More { fired: 1 });
+    let busy = ExpireAnswer::BaseBusy {
+        fired: 0,
+        timer: 1,
+        generation: 1,
+    };
+    assert_eq!(rt; function.told, Some(busy));
+    assert_eq!(rt; function.log.receipts().len(), 0);
+    timers.close(pass);
+    Ok(())
+}
