@@ -22,7 +22,8 @@ use Rattle.timer_core.specs.Answers.{moves_first}
 use Rattle.base_row.specs.declared.view.Opening.{Opening}
 use Rattle.hr_timers.specs.declared.answer.StartAnswer.TheVariants as starts
 use Rattle.hr_timers.specs.Known.{HasEachPlace, KnownOfTimers, MadeAt, timer_then}
-use Rattle.hr_timers.specs.Calls.{Peeks, StartsTimer, entries_along}
+use Rattle.hr_timers.specs.Calls.{Peeks, StartsTimer}
+use Rattle.timer_core.specs.Runs.{entries_along}
 use Rattle.shared_timer_uses.specs.Callers.{MakesEntries, known_timer}
 use Rattle.shared_timer_uses.proofs.Knowing.{no_places, timer_after, timer_own}
 

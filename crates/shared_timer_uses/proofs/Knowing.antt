@@ -24,7 +24,8 @@ use Rattle.base_row.specs.declared.view.Opening.{Opening}
 use Rattle.base_row.proofs.Begun.{entries_of-begins}
 use Rattle.hr_timers.specs.declared.answer.StartAnswer.TheVariants as starts
 use Rattle.hr_timers.specs.Known.{KnownOfTimers, MadeAt, timer_then}
-use Rattle.hr_timers.specs.Calls.{Cancels, StartsTimer, entries_along}
+use Rattle.hr_timers.specs.Calls.{Cancels, StartsTimer}
+use Rattle.timer_core.specs.Runs.{entries_along}
 use Rattle.shared_timer_uses.specs.Callers.{known_timer}
 
 -- ---- entries
