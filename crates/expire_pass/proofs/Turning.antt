@@ -29,7 +29,8 @@ use Rattle.expire_pass.specs.Expiring.{Ran, claim_receipt, finish_receipt}
 -- ---- claims
 
 -- a claim that was just made stands
-pub has_claim : (o : Opening) (v w : KnownOfTimers) (base : ℕ) (reading : ClockReading) (c : ClaimNumbers) → ClaimsNextDue o v w base reading c → OwnsClaim o w c
+pub has_claim : (o : Opening) (v w : KnownOfTimers) (base : ℕ) (reading : ClockReading) (c : ClaimNumbers)
+    → ClaimsNextDue o v w base reading c → OwnsClaim o w c
 has_claim o v w base reading c r = record {
   within = r.within;
   stands = omega (

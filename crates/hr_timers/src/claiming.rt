@@ -1,6 +1,6 @@
 //! Claiming the next timer of a base, and what its function may do.
-ghost use Rattle.std.specs.Prelude.{◌≡◌, ◌<◌, ◌+◌, ℕ, length, Some, None, IsSome, true, false};
-ghost use Rattle.seq_timer.specs.Tables.{IsNextDue, is_due_on, runs_on};
+ghost use Rattle.std.specs.Prelude.{◌≡◌, ◌<◌, ◌+◌, ℕ, length, Some, None, IsSome, false};
+ghost use Rattle.seq_timer.specs.Tables.{IsNextDue, runs_on};
 ghost use Rattle.seq_timer.specs.Contents.{first_due};
 ghost use Rattle.base_row.specs.Calls.{base_seen, known_of, timer_seen};
 ghost use Rattle.hr_timers.specs.Known.{HoldsBase, HoldsTimer, IsAtRest, Looks, OwnsClaim};

@@ -1,5 +1,5 @@
 //! Cancelling a timer at one try that waits for nobody.
-ghost use Rattle.std.specs.Prelude.{◌≡◌, ◌≤◌, ◌<◌, ◌^◌, ◌-◌, ℕ, length, slice_index, Some, None};
+ghost use Rattle.std.specs.Prelude.{◌≡◌, ◌≤◌, ◌<◌, ◌^◌, ◌-◌, ℕ, length, slice_index};
 ghost use Rattle.pass_names.specs.Names.{IsLast};
 ghost use Rattle.hr_timers.specs.Known.{HoldsBase, IsAtRest, pass_of};
 ghost use Rattle.hr_timers.specs.Calls.{NowFits, HeldFits};

@@ -1,5 +1,5 @@
 //! Steps under a base's lock.
-ghost use Rattle.std.specs.Prelude.{◌≡◌, ◌<◌, ℕ, length, Some, None, [], ◌∷◌, true, false, MatchOption};
+ghost use Rattle.std.specs.Prelude.{◌≡◌, ◌<◌, ℕ, length, Some, None, [], ◌∷◌, false, MatchOption};
 ghost use Rattle.ktime.specs.Readings.{ClockReading};
 ghost use Rattle.seq_timer.specs.Tables.{is_due_on, runs_on};
 ghost use Rattle.seq_timer.specs.Contents.{first_due, running_on};

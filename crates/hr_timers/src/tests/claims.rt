@@ -91,14 +91,13 @@ fn a_timer_whose_function_runs_is_not_cancelled(rt: HostRuntime) -> Result<(), F
 #[test]
 fn a_periodic_timer_goes_past_the_reading(rt: HostRuntime) -> Result<(), Fail> {
     let (timers, mut pass, claim) = claimed_timer(&rt, rt.alloc())?;
-    let forwarded = ForwardAnswer::Forwarded {
-        number: 3,
-        count: 3,
-        expires: 1037,
-    };
     assert_eq!(rt;
         forward(&rt, &timers, &mut pass, &claim, Reading::at(1030), 10),
-        forwarded
+        ForwardAnswer::Forwarded {
+            number: 3,
+            count: 3,
+            expires: 1037
+        }
     );
     let finished = Finished {
         number: 4,

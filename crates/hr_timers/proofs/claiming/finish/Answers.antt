@@ -10,6 +10,7 @@ use Rattle.hr_timers.proofs.claiming.finish.Goals as goal
 
 pub returns-clause-finishes : goal.returns-clause-finishes
 returns-clause-finishes g c =
+    let o = c.args.row.now.about in
     let u = c.args.pass.now.knows in
     let v = c.hold_claimed-held.new.pass.knows in
     let w = c.enter_once-reply.new.pass.knows in
@@ -24,7 +25,7 @@ returns-clause-finishes g c =
       number = ap (λ n. n + 1) c.stamp-number.ensures ∙ ap (λ (t : Timer). t.stamp + 1) h.state;
       rearmed = finish_same _ _ _ _ c.in-Finish.ensures.reply;
       claims = c.enter_once-reply.ensures.claims
-          ∙ (ap (λ r. without_first (is_base_claim c.args.claim.timer (unwrap_or r 0) (timer_seen c.args.row.now.about v c.args.claim.timer).base) v.claims) runs
+          ∙ (ap (λ r. without_first (is_base_claim c.args.claim.timer (unwrap_or r 0) (timer_seen o v c.args.claim.timer).base) v.claims) runs
           ∙ (ap (λ b. without_first (is_base_claim c.args.claim.timer c.args.claim.generation b) v.claims) base
           ∙ ap (without_first (is_base_claim c.args.claim.timer c.args.claim.generation c.args.claim.base)) h.looks.claims));
     }
