@@ -8,4 +8,4 @@ lock_at b = 16 * b + 16
 
 -- a timer's word, behind the lock words. With the number of timers it is the number of words.
 abbrev pub word_at : ℕ → ℕ → ℕ
-word_at bases t = 16 * bases + 16 + 8 * t
+word_at bases t = 16 * bases + 16 + 16 * t

@@ -35,7 +35,7 @@ pub fn timer_index(bases: usize, timer: usize) -> usize
     requires few { (bases < 2 ^ 32) × (timer < 2 ^ 32) }
     ensures { result ≡ word_at bases timer }
 {
-    16 * bases + 16 + 8 * timer
+    16 * bases + 16 + 16 * timer
 }
 
 /// So many words, each 0.

@@ -111,14 +111,7 @@ fn drawn(share: Share, random: &mut Random) -> u32
 }
 
 /// So many turns of a thread. It answers how many entries they made.
-fn turns<R: Wait>(
-    rt: &R,
-    row: &BaseRow,
-    pass: &mut Pass,
-    share: Share,
-    random: &mut Random,
-    times: u64,
-) -> u64
+fn turns<R: Wait>(rt: &R, row: &BaseRow, pass: &mut Pass, share: Share, times: u64) -> u64
     requires ready { IsReady row.now pass.old }
     requires base { share.base < row.now.about.bases }
     requires some { (share.first < 2) × (0 < share.timers) × (2 * share.timers ≤ length row.now.about.timers) }
@@ -127,9 +120,10 @@ fn turns<R: Wait>(
     ensures worked { Worked result times pass.old.knows pass.new.knows }
     ensures most { result ≤ 2 * times }
 {
+    let mut random = Random::of(2 * u64::from(share.first));
     let mut made = 0;
     for _ in 0..times {
-        let timer = drawn(share, random);
+        let timer = drawn(share, &mut random);
         made += start_and_cancel(rt, row, pass, share.base, timer, 1000 + random.expiry());
     }
     made
@@ -151,25 +145,23 @@ pub fn turns_of_all<R: Threads + Wait + Sync>(
     ensures both { AreBoth row.now first.new second.new }
     ensures most { result ≤ 4 * times }
 {
-    let mut random = Random::of(1);
     let own = Share {
         base: 0,
         first: 0,
         timers,
     };
     let Some(base) = workers.second() else {
-        return turns(rt, row, first, own, &mut random, times);
+        return turns(rt, row, first, own, times);
     };
     let other = Share {
         base,
         first: 1,
         timers,
     };
-    let mut another = Random::of(3);
     let (one, two) = join_mut(
         rt,
-        &mut || turns(rt, row, first, own, &mut random, times),
-        &mut || turns(rt, row, second, other, &mut another, times),
+        &mut || turns(rt, row, first, own, times),
+        &mut || turns(rt, row, second, other, times),
     );
     one + two
 }

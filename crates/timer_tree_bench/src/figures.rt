@@ -2,7 +2,7 @@
 ghost use Rattle.std.specs.Prelude.{◌≡◌, ◌<◌};
 
 use crate::moves::{filled, pair, postpone};
-use crate::random::Random;
+use bench_cases::Random;
 use std::io;
 use std::time::{Clock, Instant};
 use timer_queue::Queue;

@@ -3,11 +3,10 @@
 
 mod figures;
 mod moves;
-mod random;
 
+use bench_cases::Random;
 use figures::{Op, repeat, row};
 use moves::{filled, postpone};
-use random::Random;
 use std::alloc::{AllocError, Global};
 use std::time::Clock;
 use std::{env, io};

@@ -2,7 +2,7 @@
 ghost use Rattle.std.specs.Prelude.{◌≡◌, ◌+◌, ◌-◌, ◌^◌, ◌<◌, ◌≤◌, [], Some, min, IfOk, IfSome, IfNone, IsTrue};
 ghost use Rattle.timer_queue.specs.Pairs.{put, without, first_of, has_id};
 
-use crate::random::Random;
+use bench_cases::Random;
 use std::alloc::{AllocError, Global};
 use timer_queue::Queue;
 
