@@ -56,7 +56,7 @@ module _ (bases : ℕ) (opened : List Timer) (fresh : AreFresh opened) where
     full = λ live. length-replicate {A = ℕ} bases 0;
     met = λ b h. omega (arith, met_zero bases b);
     takes = λ b k some_one. absurd (omega arith);
-    gone = λ off. (refl, (refl, refl));
+    gone = λ off. (refl, (refl, (refl, refl)));
   }
     where
       no_lock : (h : HeldContent BaseContent) → None ≡ Some h → ⊥

@@ -1,7 +1,7 @@
 -- What the rule tells of what a pass knows that has seen the whole history.
 use Rattle.std.proofs.Common.{◌≡◌, ℕ, zero, suc, ◌<◌, ◌≤◌, ◌≢◌, true, false, List, [], ◌∷◌, length, map, set, refl, ap, sym, ◌∙◌, subst, ⊎_elim, arith}
-use Rattle.std.specs.Prelude.{Option}
-use Rattle.std.proofs.lemmas.Bool.{cases_Bool}
+use Rattle.std.specs.Prelude.{Option, Some, None, ◌==◌}
+use Rattle.std.proofs.lemmas.Bool.{cases_Bool, eqb-true}
 use Rattle.std.proofs.lemmas.Bool.Decides.{nat_tests}
 use mathlib.Core.Option.{some, some-ne-none}
 use lib.ListN.{get_elem?}
@@ -16,7 +16,7 @@ use Rattle.seq_timer.specs.Steps.{Timer}
 use Rattle.seq_timer.specs.declared.system.TimerEntry.{TimerEntry}
 use Rattle.base_row.specs.declared.view.BaseView.{BaseView}
 use Rattle.seq_timer.specs.Systems.{BaseContent, first_system, AreSystemSteps}
-use Rattle.base_row.specs.Rules.{base_pass_id, places_at, base_claims_at, takes_at, carries_at, runs, now, PassHolds, RowHolds}
+use Rattle.base_row.specs.Rules.{base_pass_id, places_at, base_claims_at, takes_at, carries_at, carried_in, runs, now, PassHolds, RowHolds}
 use Rattle.base_row.specs.Plays.{KnowsBases}
 use Rattle.base_row.proofs.Frames.{carries_one}
 
@@ -27,6 +27,10 @@ set_there (x ∷ xs) (suc i) a b e = set_there xs i a b e
 
 in_range : (k n : ℕ) → 0 < k → k ≤ n → one_if (within k n) ≡ 1
 in_range k n h le = grind (arith, nat_tests)
+
+carried_one : (t : ℕ) (carry : Option ℕ) → carried_in t carry ≡ 1 → carry ≡ Some t
+carried_one t None e = absurd (omega (arith, e))
+carried_one t (Some c) e = ap (λ n. Some n) (eqb-true c t (met (c == t) (omega (arith, e))))
 
 module _ (bases : ℕ) (opened : List Timer) (code : Timer → ℕ) (log : List TimerEntry) (s : State (Option BaseContent) (BaseView BaseContent))
     (home : RowHolds bases opened code log s)
@@ -56,9 +60,14 @@ module _ (bases : ℕ) (opened : List Timer) (code : Timer → ℕ) (log : List 
     all_entries = λ last t k h. as_seen (λ (x : Timer). places_at t k v ≡ one_if (within k x.stamp)) t
         (sym (total_only (places_at t k) s.views id v at (λ j u apart at_u. ap (count (is_place t k))
         ((home.each_view j u at_u).gone (others_gone last j u apart at_u)).0)) ∙ home.tally t k h);
+    all_carried = λ last t h moving.
+        let here = subst (λ l. ((now bases opened code l).timers t).moving ≡ true) whole moving in
+        let all = total_only (carries_at t) s.views id v at (λ j u apart at_u. ap (carried_in t)
+        ((home.each_view j u at_u).gone (others_gone last j u apart at_u)).1.1.1) in
+        carried_one t v.carry (omega (arith, all, home.carriers t h, ap one_if here));
     all_takes = λ last b k h some_one below.
         let c = home.each_base b h in
         let all = total_only (takes_at b k) s.views id v at (λ j u apart at_u. ap (count (is_place b k))
-        ((home.each_view j u at_u).gone (others_gone last j u apart at_u)).1.1) in
+        ((home.each_view j u at_u).gone (others_gone last j u apart at_u)).1.1.0) in
         omega (arith, all, c.each k, in_range k c.taken some_one (omega (arith, fits.met b h, c.number, c.once)));
   }

@@ -57,7 +57,7 @@ module _ (bases : ℕ) (opened : List Timer) (code : Timer → ℕ) where
     full = full;
     met = fits.met;
     takes = λ b k some_one. absurd (omega arith);
-    gone = λ off. (refl, (refl, refl));
+    gone = λ off. (refl, (refl, (refl, refl)));
   }
 
   fits_split : (log : List TimerEntry) (words : List ℕ) (v : BaseView BaseContent) → PassHolds bases opened code log words v
@@ -106,7 +106,7 @@ module _ (bases : ℕ) (opened : List Timer) (code : Timer → ℕ) where
     full = λ live. absurd (true≢false (sym live));
     met = λ b h. omega arith;
     takes = λ b k some_one. absurd (omega arith);
-    gone = λ off. (refl, (refl, refl));
+    gone = λ off. (refl, (refl, (refl, refl)));
   }
 
   fits_joined : (log : List TimerEntry) (words : List ℕ) (v u : BaseView BaseContent) → v.id.live ≡ true → v.held ≡ None → u.held ≡ None

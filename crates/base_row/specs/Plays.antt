@@ -152,8 +152,9 @@ module _ (bases : ℕ) (opened : List Timer) (code : Timer → ℕ) where
         × (h.word ≡ slice_index v.met h.base))
     pub carry : (t : ℕ) → t < length opened → v.carry ≡ Some t → ((now bases opened code v.seen).timers t).moving ≡ true
     pub claims : (t g b : ℕ) → t < length opened → 0 < base_claims_at t g b v → runs g b ((now bases opened code v.seen).timers t) ≡ true
-    -- the last pass has made each entry, each once, and each take
+    -- the last pass has made each entry, each once, and each take; no timer is on the move but one that it carries
     pub all_entries : IsLast v.id → (t k : ℕ) → t < length opened → places_at t k v ≡ one_if (within k ((now bases opened code v.seen).timers t).stamp)
+    pub all_carried : IsLast v.id → (t : ℕ) → t < length opened → ((now bases opened code v.seen).timers t).moving ≡ true → v.carry ≡ Some t
     pub all_takes : IsLast v.id → (b k : ℕ) → b < bases → 0 < k → k + k ≤ slice_index v.met b + 1 → takes_at b k v ≡ 1
 
   -- a load of word 0 or of a timer's word

@@ -96,7 +96,7 @@ module _ (bases : ℕ) (opened : List Timer) (code : Timer → ℕ) where
     pub met : (b : ℕ) → b < bases → slice_index v.met b ≤ slice_index words (lock_at b)
     pub takes : (b k : ℕ) → 0 < takes_at b k v → k + k ≤ slice_index v.met b + holds_at b v
     -- of a pass that is gone nothing is left
-    pub gone : v.id.live ≡ false → (v.mine ≡ []) × ((v.claims ≡ []) × (v.takes ≡ []))
+    pub gone : v.id.live ≡ false → (v.mine ≡ []) × ((v.claims ≡ []) × ((v.takes ≡ []) × (v.carry ≡ None)))
 
   -- The rule: what the table holds and what each pass knows is what one history says.
   pub record RowHolds (log : List TimerEntry) (s : State (Option BaseContent) (BaseView BaseContent)) : Type 0 where

@@ -1,24 +1,23 @@
 -- What a turn of an expiry run leaves of what its pass knows.
-use Rattle.std.proofs.Common.{◌≡◌, ℕ, ◌<◌, ◌+◌, List, [], ◌∷◌, ◌++◌, refl, ap, sym, ◌∙◌, subst, true, false, arith, length, append_assoc}
-use Rattle.std.specs.Prelude.{Bool, ◌==◌}
-use Rattle.std.proofs.lemmas.Bool.{and_from, eq-eqb}
+use Rattle.std.proofs.Common.{◌≡◌, ℕ, ◌<◌, List, [], ◌∷◌, ◌++◌, refl, ap, sym, ◌∙◌, subst, true, false, arith, length, append_assoc}
+use Rattle.std.specs.Prelude.{Bool}
 use Rattle.std.proofs.lemmas.List.{append-nil}
 use Rattle.ktime.specs.Readings.{ClockReading}
 use Rattle.pass_names.specs.Counts.{count, drop_if, one_if, without_first}
 use Rattle.pass_names.specs.Passes.{Begins, places}
 use Rattle.pass_names.specs.SharedHistory.{LooksOn}
 use Rattle.pass_names.proofs.Counts.{total-append}
-use Rattle.pass_names.proofs.Passes.{begins_more, begins_refl, begins_trans}
+use Rattle.pass_names.proofs.Passes.{begins_trans}
 use Rattle.base_row.specs.declared.view.Claimed.{Claimed}
 use Rattle.base_row.specs.declared.view.Opening.{Opening}
 use Rattle.base_row.specs.Rules.{is_base_claim}
 use Rattle.hr_timers.specs.declared.numbers.ClaimNumbers.{ClaimNumbers}
-use Rattle.hr_timers.specs.declared.answer.ClaimAnswer.TheVariants as claimings
 use Rattle.timer_core.specs.declared.answer.Finished.{Finished}
 use Rattle.seq_timer.specs.declared.event.Event.TheVariants as events
 use Rattle.seq_timer.specs.declared.event.Reply.TheVariants as replies
-use Rattle.hr_timers.specs.Known.{OwnsClaim, KnownOfTimers, MadeAt, count_of}
-use Rattle.hr_timers.specs.Calls.{Cancels, ClaimsNextDue, Finishes, cancel_entries}
+use Rattle.hr_timers.specs.Known.{KnownOfTimers, MadeAt, OwnsClaim, claimed_as, count_of}
+use Rattle.hr_timers.proofs.OneClaim.{is_own}
+use Rattle.hr_timers.specs.Calls.{ClaimsNextDue}
 use Rattle.seq_timer.specs.Histories as seq
 use Rattle.seq_timer.specs.declared.system.TimerEntry.{TimerEntry}
 use Rattle.seq_timer.specs.Systems.{entries_of}
@@ -29,22 +28,16 @@ use Rattle.expire_pass.specs.Expiring.{Ran, claim_receipt, finish_receipt}
 
 -- ---- claims
 
-abbrev place_of : ClaimNumbers → Claimed
-place_of c = record { timer = c.timer; generation = c.generation; base = c.base }
-
-is_own : (c : ClaimNumbers) → is_base_claim c.timer c.generation c.base (place_of c) ≡ true
-is_own c = and_from (c.timer == c.timer) _ (eq-eqb c.timer c.timer refl)
-    (and_from (c.generation == c.generation) (c.base == c.base) (eq-eqb c.generation c.generation refl) (eq-eqb c.base c.base refl))
-
 -- a claim that was just made stands
-pub has_claim : (o : Opening) (v w : KnownOfTimers) (base : ℕ) (reading : ClockReading) (c : ClaimNumbers) → ClaimsNextDue o v w base reading c → OwnsClaim o w c
+pub has_claim : (o : Opening) (v w : KnownOfTimers) (base : ℕ) (reading : ClockReading) (c : ClaimNumbers)
+    → ClaimsNextDue o v w base reading c → OwnsClaim o w c
 has_claim o v w base reading c r = record {
   within = r.within;
   stands = omega (
     arith,
     ap (count (is_base_claim c.timer c.generation c.base)) r.claims,
     total-append
-        (λ (d : Claimed). one_if (is_base_claim c.timer c.generation c.base d)) v.claims (place_of c ∷ []),
+        (λ (d : Claimed). one_if (is_base_claim c.timer c.generation c.base d)) v.claims (claimed_as c ∷ []),
     ap one_if (is_own c),
   );
 }
@@ -78,7 +71,7 @@ turn_keeps m o base reading k h log k' h' log' c claimed next ran =
     record {
       id = f.made.id ∙ (ran.keeps.id ∙ next.made.id);
       claims = f.claims ∙ (ap (without_first (is_base_claim c.timer c.generation c.base)) (ran.keeps.claims ∙ next.claims) ∙ taken_off
-          (is_base_claim c.timer c.generation c.base) k.claims (place_of c) next.fresh (is_own c));
+          (is_base_claim c.timer c.generation c.base) k.claims (claimed_as c) next.fresh (is_own c));
       seen = begins_trans next.made.from (begins_trans next.made.seen (begins_trans ran.keeps.seen (begins_trans f.made.from f.made.seen)));
       mine = begins_trans (mine_begins k claimed c.timer next.at _ next.made) (begins_trans ran.keeps.mine (mine_begins ran.done k' c.timer f.at _ f.made));
     }

@@ -1,7 +1,7 @@
 pub mod Making
 pub mod Standing
 pub mod Leaving
-pub mod StartsFrom
 pub mod True
 pub mod TriedNow
 pub mod OneClaim
+pub mod Last

@@ -1,11 +1,13 @@
 -- Entries and looks of a call, at one moment of the history of all timers.
-use Rattle.std.proofs.Common.{◌≡◌, ℕ, ◌<◌, List, [], ◌∷◌, ◌++◌, length, refl, ap, sym, ◌∙◌, subst}
-use Rattle.std.specs.Prelude.{Some}
-use Rattle.pass_names.specs.Passes.{Begins, places}
+use Rattle.std.proofs.Common.{◌≡◌, ℕ, ◌<◌, List, [], ◌∷◌, ◌++◌, length, refl, ap, sym, ◌∙◌, subst, true, false}
+use Rattle.std.specs.Prelude.{Bool, Option, Some, None, if◌then◌else◌}
+use Rattle.std.proofs.lemmas.Bool.{true≢false}
+use Rattle.pass_names.specs.Passes.{places}
 use Rattle.pass_names.specs.SharedHistory.{LooksOn}
 use Rattle.pass_names.proofs.Passes.{begins_refl, begins_trans}
 use Rattle.pass_names.proofs.SharedHistory.{extends_looks}
 use Rattle.seq_timer.specs.declared.event.Event.{Event}
+use Rattle.seq_timer.specs.declared.event.Event.TheVariants as events
 use Rattle.seq_timer.specs.declared.system.TimerEntry.{TimerEntry}
 use Rattle.seq_timer.specs.Histories as seq
 use Rattle.seq_timer.specs.Steps.{Timer, after}
@@ -14,6 +16,7 @@ use Rattle.base_row.specs.declared.view.HeldContent.{HeldContent}
 use Rattle.base_row.specs.declared.view.Opening.{Opening}
 use Rattle.base_row.specs.declared.view.BaseView.{BaseView}
 use Rattle.base_row.specs.Calls as rows
+use Rattle.base_row.specs.Plays.{carry_after}
 use Rattle.base_row.proofs.Calling.{extends_appended, looks_freed, seen_after}
 use Rattle.hr_timers.specs.Known.{AddsBehind, KnownOfTimers, Looks, MadeAt}
 use Rattle.hr_timers.specs.Calls.{entry_by}
@@ -71,6 +74,19 @@ made_before u v w t x es first made = record {
   mine = made.mine ∙ ap (λ l. l ++ places t (length (entries_of t x)) es) first.mine;
   id = made.id ∙ first.id;
 }
+
+-- a pass that carries nothing carries nothing after an event that leaves its timer on a base
+pub carry_stays : (id b : ℕ) (t : Timer) (event : Event) (carry : Option ℕ) → IsOn b (after t event) → carry ≡ None → carry_after id t event carry ≡ None
+carry_stays id b t (events.Out base) carry on none = absurd (true≢false on.still)
+carry_stays id b t (events.Start mode ns reading asked) carry on none = either_way t.moving
+  where
+    either_way : (m : Bool) → (if m then None else carry) ≡ None
+    either_way true = refl
+    either_way false = none
+carry_stays id b t events.Cancel carry on none = none
+carry_stays id b t (events.Claim base reading) carry on none = none
+carry_stays id b t (events.Forward reading interval) carry on none = none
+carry_stays id b t (events.Finish restart) carry on none = none
 
 same_place : (h g : HeldContent BaseContent) → Some h ≡ Some g → h.base ≡ g.base
 same_place h g e = let t : h ≡ g = cc in ap (λ (x : HeldContent BaseContent). x.base) t

@@ -9,18 +9,16 @@ use Rattle.base_row.specs.declared.view.Claimed.{Claimed}
 use Rattle.base_row.specs.declared.view.Opening.{Opening}
 use Rattle.base_row.specs.Rules.{is_base_claim}
 use Rattle.hr_timers.specs.declared.numbers.ClaimNumbers.{ClaimNumbers}
-use Rattle.hr_timers.specs.Known.{OwnsClaim, KnownOfTimers, count_of}
+use Rattle.hr_timers.specs.Known.{KnownOfTimers, OwnsClaim, claimed_as, count_of}
 
-abbrev place_of : ClaimNumbers → Claimed
-place_of c = record { timer = c.timer; generation = c.generation; base = c.base }
-
-is_own : (c : ClaimNumbers) → is_base_claim c.timer c.generation c.base (place_of c) ≡ true
+-- a claim is the one that its numbers name
+pub is_own : (c : ClaimNumbers) → is_base_claim c.timer c.generation c.base (claimed_as c) ≡ true
 is_own c = and_from (c.timer == c.timer) _ (eq-eqb c.timer c.timer refl)
     (and_from (c.generation == c.generation) (c.base == c.base) (eq-eqb c.generation c.generation refl) (eq-eqb c.base c.base refl))
 
 -- the only claim stands
 pub has_only : (o : Opening) (k : KnownOfTimers) (c : ClaimNumbers) → c.timer < length o.timers
-    → k.claims ≡ record { timer = c.timer; generation = c.generation; base = c.base } ∷ [] → OwnsClaim o k c
+    → k.claims ≡ claimed_as c ∷ [] → OwnsClaim o k c
 has_only o k c within only = record {
   within = within;
   stands = subst (λ (l : List Claimed). 0 < count_of c l) (sym only) (omega (arith, ap one_if (is_own c)));
@@ -28,9 +26,9 @@ has_only o k c within only = record {
 
 -- without it none is left
 pub none_left : (c : ClaimNumbers) (claims new : List Claimed) → new ≡ without_first (is_base_claim c.timer c.generation c.base) claims
-    → claims ≡ record { timer = c.timer; generation = c.generation; base = c.base } ∷ [] → new ≡ []
+    → claims ≡ claimed_as c ∷ [] → new ≡ []
 none_left c claims new left only =
-    left ∙ (ap (without_first (is_base_claim c.timer c.generation c.base)) only ∙ ap (λ b. drop_if b (place_of c) [] []) (is_own c))
+    left ∙ (ap (without_first (is_base_claim c.timer c.generation c.base)) only ∙ ap (λ b. drop_if b (claimed_as c) [] []) (is_own c))
 
 -- the first pass is the last one again when it has taken in the pass that it split off
 pub last_again : (l m n : PassId) → l ≡ after_retire m n → m ≡ after_split first_pass_id → n ≡ child_of first_pass_id → IsLast l

@@ -1,13 +1,10 @@
 -- What a claim that stands says of its timer.
-use Rattle.std.proofs.Common.{◌≡◌, ℕ, ◌<◌, ◌++◌, ◌∷◌, [], List, length, refl, ap, sym, ◌∙◌, subst, true, false}
+use Rattle.std.proofs.Common.{◌≡◌, ℕ, ◌<◌, List, length, refl, ap, sym, ◌∙◌, subst, true, false}
 use Rattle.std.specs.Prelude.{Option, Some, None, Bool}
 use Rattle.std.proofs.lemmas.Bool.{eqb-true, and_parts, true≢false}
-use Rattle.ktime.specs.Readings.{ClockReading}
 use Rattle.pass_names.specs.Counts.{count}
 use Rattle.seq_timer.specs.declared.event.Rearmed.{Rearmed}
-use Rattle.seq_timer.specs.declared.event.Reply.{Reply}
 use Rattle.seq_timer.specs.declared.event.Reply.TheVariants as replies
-use Rattle.seq_timer.specs.Steps.{Timer}
 use Rattle.base_row.specs.declared.view.Claimed.{Claimed}
 use Rattle.base_row.specs.declared.view.Opening.{Opening}
 use Rattle.base_row.specs.declared.view.BaseView.{BaseView}
@@ -17,10 +14,8 @@ use Rattle.base_row.specs.Calls as rows
 use Rattle.base_row.specs.Plays as plays
 use Rattle.seq_timer.proofs.Agreement.{agrees}
 use Rattle.base_row.proofs.Placed.{placed_seen}
-use Rattle.hr_timers.specs.Known.{KnownOfTimers, Looks}
-use Rattle.hr_timers.specs.Calls.{ClaimsNextDue}
+use Rattle.hr_timers.specs.Known.{Looks, OwnsClaim}
 use Rattle.hr_timers.specs.declared.numbers.ClaimNumbers.{ClaimNumbers}
-use Rattle.hr_timers.proofs.Making.{made_before}
 
 -- what a pass of a table knows, of that table's opening
 pub knows_in : (o : Opening) (v : BaseView BaseContent) → v.opening ≡ o → plays.KnowsOwn v → plays.KnowsBases o.bases o.timers number_of v
@@ -52,22 +47,17 @@ module _ (o : Opening) (v : BaseView BaseContent) (fresh : rows.AreFresh o.timer
   pub claim_inside : 0 < o.bases → b < o.bases
   claim_inside some = subst (λ x. x < o.bases) claim_base (placed_seen o v fresh knows some t)
 
--- looks before a claim
-pub claims_before : (o : Opening) (u v : BaseView BaseContent) (w : KnownOfTimers) (base : ℕ) (reading : ClockReading) (c : ClaimNumbers) → Looks u v
-    → ClaimsNextDue o (rows.known_of v) w base reading c → ClaimsNextDue o (rows.known_of u) w base reading c
-claims_before o u v w base reading c looks r = record {
-  at = r.at;
-  made = made_before u v w c.timer r.at _ looks r.made;
-  idle = r.idle;
-  next = r.next;
-  first = r.first;
-  within = r.within;
-  armed = r.armed;
-  there = r.there;
-  number = r.number;
-  fresh = ap (count (is_base_claim c.timer c.generation c.base)) (sym looks.claims) ∙ r.fresh;
-  claims = r.claims ∙ ap (λ l. l ++ record { timer = c.timer; generation = c.generation; base = c.base } ∷ []) looks.claims;
-}
+-- a claim of a pass still runs after looks
+pub still_runs : (o : Opening) (u v : BaseView BaseContent) (c : ClaimNumbers) → rows.AreFresh o.timers → v.opening ≡ o → plays.KnowsOwn v
+    → 0 < o.bases → Looks u v → OwnsClaim o (rows.known_of u) c
+    → ((rows.timer_seen o v c.timer).running ≡ Some c.generation) × IsOn c.base (rows.timer_seen o v c.timer) × (c.base < o.bases)
+still_runs o u v c fresh is own some looks owns =
+    let knows = knows_in o v is own in
+    let stands = subst (λ (l : List Claimed). 0 < count (is_base_claim c.timer c.generation c.base) l) (sym looks.claims) owns.stands in (
+      claim_runs o v fresh knows c.timer c.generation c.base owns.within stands,
+      claim_on o v fresh knows c.timer c.generation c.base owns.within stands,
+      claim_inside o v fresh knows c.timer c.generation c.base owns.within stands some,
+    )
 
 pub finish_same : (g h : ℕ) (a b : Rearmed) → replies.Finish g a ≡ replies.Finish h b → a ≡ b
 finish_same g h a b e = cc

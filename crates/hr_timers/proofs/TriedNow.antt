@@ -11,17 +11,14 @@ use Rattle.hr_timers.specs.declared.answer.NowAnswer.{NowAnswer}
 use Rattle.hr_timers.specs.declared.answer.NowAnswer.TheVariants as nows
 use Rattle.hr_timers.specs.Known.{KnownOfTimers, Looks, pass_of, timer_then}
 use Rattle.hr_timers.specs.Calls.{HeldFits, LooksAt, NowFits}
-use Rattle.hr_timers.proofs.Making.{made_before, looks_trans}
+use Rattle.hr_timers.proofs.Making.{looks_on, looks_trans, made_before}
+use Rattle.pass_names.proofs.SharedHistory as shared
 
 -- looks before a call that made no entry
-looks_at_before : (u v : BaseView BaseContent) (w : KnownOfTimers) (x : List TimerEntry) → Looks u v → LooksAt (rows.known_of v) w x → LooksAt (rows.known_of u) w x
+looks_at_before : (u v : BaseView BaseContent) (w : KnownOfTimers) (x : List TimerEntry) → Looks u v → LooksAt (rows.known_of v) w x
+    → LooksAt (rows.known_of u) w x
 looks_at_before u v w x first at = record {
-  looks = record {
-    seen = begins_trans first.seen at.looks.seen;
-    mine = at.looks.mine ∙ first.mine;
-    id = at.looks.id ∙ first.id;
-    claims = at.looks.claims ∙ first.claims;
-  };
+  looks = shared.looks_trans (rows.known_of u) (rows.known_of v) w (looks_on u v first) at.looks;
   from = begins_trans first.seen at.from;
   seen = at.seen;
 }

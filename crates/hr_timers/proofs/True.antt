@@ -1,5 +1,6 @@
 -- What a pass knows is true.
-use Rattle.std.proofs.Common.{◌≡◌, ℕ, ap, ◌∙◌}
+use Rattle.std.proofs.Common.{◌≡◌, ℕ, ap, ◌∙◌, refl, true, false}
+use Rattle.std.specs.Prelude.{Bool, None, Some}
 use Rattle.pass_names.specs.Counts.{one_if}
 use Rattle.pass_names.specs.Passes.{within}
 use Rattle.seq_timer.specs.Systems.{BaseContent}
@@ -11,10 +12,18 @@ use Rattle.base_row.proofs.Calling.{stamp_seen}
 use Rattle.hr_timers.specs.Known.{KnowsTimers}
 use Rattle.hr_timers.proofs.Standing.{claim_base, claim_runs, knows_in}
 
-pub true_of : (o : Opening) (v : BaseView BaseContent) → rows.AreFresh o.timers → v.opening ≡ o → KnowsOwn v → KnowsTimers o (rows.known_of v)
-true_of o v fresh is own =
+pub true_of : (o : Opening) (v : BaseView BaseContent) → rows.AreFresh o.timers → v.opening ≡ o → v.carry ≡ None → KnowsOwn v → KnowsTimers o (rows.known_of v)
+true_of o v fresh is free own =
     let knows = knows_in o v is own in record {
       history = knows.allowed;
       claims = λ t g b inside stands. (claim_runs o v fresh knows t g b inside stands, claim_base o v fresh knows t g b inside stands);
       whole = λ last. record { once = λ t n inside. knows.all_entries last t n inside ∙ ap (λ k. one_if (within n k)) (stamp_seen o fresh v t) };
+      still = λ last t inside. not_true (rows.timer_seen o v t).moving (λ moves. carries_none (knows.all_carried last t inside moves));
     }
+  where
+    carries_none : {t : ℕ} → v.carry ≡ Some t → ⊥
+    carries_none is = cc
+
+    not_true : (b : Bool) → (b ≡ true → ⊥) → b ≡ false
+    not_true true never = absurd (never refl)
+    not_true false never = refl

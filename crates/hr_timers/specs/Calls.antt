@@ -1,6 +1,6 @@
 -- What each call answers, and which entries it makes, in the one history of all timers. A clause names the moment of the call, `at`, as the list of
 -- all entries so far; what the call answers is a function of the timer at that moment.
-use Rattle.std.specs.Prelude.{ℕ, ◌≡◌, ◌≢◌, ◌^◌, ◌+◌, ◌≤◌, ◌<◌, Bool, true, false, List, [], ◌∷◌, ◌++◌, length, Option, Some, None, is_some, if◌then◌else◌}
+use Rattle.std.specs.Prelude.{ℕ, ◌≡◌, ◌≢◌, ◌^◌, ◌+◌, ◌≤◌, ◌<◌, Bool, true, false, List, [], ◌∷◌, ◌++◌, length, Some, None, is_some, if◌then◌else◌}
 use Rattle.ktime.specs.declared.mode.Mode.{Mode}
 use Rattle.ktime.specs.Readings.{ClockReading}
 use Rattle.pass_names.specs.Counts.{without_first}
@@ -32,7 +32,7 @@ use Rattle.hr_timers.specs.declared.answer.NowAnswer.TheVariants as nows
 use Rattle.hr_timers.specs.declared.answer.StartAnswer.{StartAnswer}
 use Rattle.hr_timers.specs.declared.answer.StartAnswer.TheVariants as starts
 use Rattle.hr_timers.specs.declared.numbers.ClaimNumbers.{ClaimNumbers}
-use Rattle.hr_timers.specs.Known.{KnownOfTimers, PassOf, MadeAt, HasMissed, count_of, timer_then}
+use Rattle.hr_timers.specs.Known.{KnownOfTimers, PassOf, MadeAt, HasMissed, claimed_as, count_of, timer_then}
 
 -- the entry of an event, as it stands in its timer's history
 abbrev pub entry_by : Timer → Event → seq.Entry
@@ -152,7 +152,7 @@ pub record ClaimsNextDue (o : Opening) (v w : KnownOfTimers) (base : ℕ) (readi
   pub there : c.base ≡ base
   pub number : c.number ≡ (timer_then o at c.timer).stamp + 1
   pub fresh : count_of c v.claims ≡ 0
-  pub claims : w.claims ≡ v.claims ++ record { timer = c.timer; generation = c.generation; base = c.base } ∷ []
+  pub claims : w.claims ≡ v.claims ++ claimed_as c ∷ []
 
 -- no function runs on the base, and no timer is due there
 pub record HasNoneDue (o : Opening) (x : List TimerEntry) (base : ℕ) (reading : ClockReading) : Type 0 where

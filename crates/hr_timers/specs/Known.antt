@@ -1,5 +1,5 @@
 -- What the holder of a pass knows of timers, and how single calls change it.
-use Rattle.std.specs.Prelude.{ℕ, ◌≡◌, ◌+◌, ◌<◌, ◌≤◌, ◌^◌, ◌-◌, ◌⊎◌, List, ◌++◌, length, slice_index, Some}
+use Rattle.std.specs.Prelude.{ℕ, ◌≡◌, ◌+◌, ◌<◌, ◌≤◌, ◌^◌, ◌-◌, ◌⊎◌, List, ◌++◌, length, slice_index, Some, None, false}
 use Rattle.atomic_table.specs.Seated.{TableId}
 use Rattle.pass_names.specs.Counts.{count}
 use Rattle.pass_names.specs.Names.{IsLast}
@@ -8,12 +8,14 @@ use Rattle.pass_names.specs.SharedHistory as shared
 use Rattle.seq_timer.specs.declared.system.TimerEntry.{TimerEntry}
 use Rattle.seq_timer.specs.Histories as seq
 use Rattle.seq_timer.specs.Steps.{Timer}
-use Rattle.seq_timer.specs.Systems.{BaseContent, AreSystemSteps, entries_of, first_system, system_after}
+use Rattle.seq_timer.specs.Systems.{BaseContent, AreSystemSteps, IsOn, entries_of, first_system, system_after}
 use Rattle.base_row.specs.declared.view.Claimed.{Claimed}
 use Rattle.base_row.specs.declared.view.Opening.{Opening}
 use Rattle.base_row.specs.declared.view.BaseView.{BaseView}
+use Rattle.base_row.specs.declared.view.HeldContent.{HeldContent}
 use Rattle.base_row.specs.Rules.{is_base_claim}
 use Rattle.base_row.specs.Calls as rows
+use Rattle.base_row.specs.Rests.{Rests}
 use Rattle.hr_timers.specs.declared.numbers.ClaimNumbers.{ClaimNumbers}
 
 -- what a pass knows of timers: its name, the beginning of the history of all timers that it has seen, the places of its own entries, and its
@@ -38,6 +40,10 @@ pass_of p = record { row = p.row; opening = p.knows.opening; known = rows.known_
 abbrev pub timer_then : Opening → List TimerEntry → ℕ → Timer
 timer_then o x t = (system_after o.timers x).timers t
 
+-- a claim as it stands among a pass's
+abbrev pub claimed_as : ClaimNumbers → Claimed
+claimed_as c = record { timer = c.timer; generation = c.generation; base = c.base }
+
 -- how often a claim stands among claims
 abbrev pub count_of : ClaimNumbers → List Claimed → ℕ
 count_of c claims = count (is_base_claim c.timer c.generation c.base) claims
@@ -46,12 +52,13 @@ count_of c claims = count (is_base_claim c.timer c.generation c.base) claims
 abbrev pub HasEachPlace : Opening → KnownOfTimers → Type 0
 HasEachPlace o k = shared.HasAll entries_of (length o.timers) k
 
--- what is known is true: a history of all timers was seen, whose claims run, and the last pass has made each entry
+-- what is known is true: a history of all timers was seen, whose claims run; and the last pass has made each entry, and no timer is on the move
 pub record KnowsTimers (o : Opening) (k : KnownOfTimers) : Type 0 where
   pub history : AreSystemSteps o.bases (length o.timers) (first_system o.timers) k.seen
   pub claims : (t g b : ℕ) → t < length o.timers → 0 < count (is_base_claim t g b) k.claims
       → ((timer_then o k.seen t).running ≡ Some g) × ((timer_then o k.seen t).base ≡ b)
   pub whole : IsLast k.id → HasEachPlace o k
+  pub still : IsLast k.id → (t : ℕ) → t < length o.timers → (timer_then o k.seen t).moving ≡ false
 
 -- a pass of these timers, and what it knows is true
 pub record IsPassOf (timers : rows.BaseRowOf) (p : PassOf) : Type 0 where
@@ -91,3 +98,21 @@ pub record Looks (v w : BaseView BaseContent) : Type 0 where
 -- these entries were added behind what a pass had seen of a timer
 abbrev pub AddsBehind : BaseView BaseContent → BaseView BaseContent → ℕ → List seq.Entry → Type 0
 AddsBehind v w t es = shared.ExtendsBy entries_of (rows.known_of v) (rows.known_of w) t es
+
+-- a pass of these bases holds none of them and carries no timer
+pub record IsAtRest (r : rows.BaseRowOf) (p : rows.BasePassOf) : Type 0 where
+  pub row : rows.IsBasePassOf r p
+  pub rests : Rests p.knows
+
+-- a pass of these bases holds this one and carries no timer
+pub record HoldsBase (r : rows.BaseRowOf) (p : rows.BasePassOf) (h : HeldContent BaseContent) : Type 0 where
+  pub row : rows.IsBasePassOf r p
+  pub within : h.base < r.about.bases
+  pub held : p.knows.held ≡ Some h
+  pub free : p.knows.carry ≡ None
+
+-- a pass of these bases holds the one where this timer is
+pub record HoldsTimer (r : rows.BaseRowOf) (p : rows.BasePassOf) (h : HeldContent BaseContent) (t : ℕ) : Type 0 where
+  pub holds : HoldsBase r p h
+  pub within : t < length r.about.timers
+  pub on : IsOn h.base (rows.timer_seen r.about p.knows t)

@@ -1,11 +1,9 @@
 //! Claiming the next timer of a base, and what its function may do.
-ghost use Rattle.std.specs.Prelude.{◌≡◌, ◌<◌, ◌+◌, ℕ, length, Some, None, IsSome, true, false};
-ghost use Rattle.seq_timer.specs.Tables.{IsNextDue, is_due_on, runs_on};
+ghost use Rattle.std.specs.Prelude.{◌≡◌, ◌<◌, ◌+◌, ℕ, length, Some, None, IsSome, false};
+ghost use Rattle.seq_timer.specs.Tables.{IsNextDue, runs_on};
 ghost use Rattle.seq_timer.specs.Contents.{first_due};
-ghost use Rattle.seq_timer.specs.Systems.{IsOn};
-ghost use Rattle.base_row.specs.Calls.{IsBasePassOf, base_seen, known_of, timer_seen};
-ghost use Rattle.base_row.specs.Rests.{Rests};
-ghost use Rattle.hr_timers.specs.Known.{OwnsClaim, Looks};
+ghost use Rattle.base_row.specs.Calls.{base_seen, known_of, timer_seen};
+ghost use Rattle.hr_timers.specs.Known.{HoldsBase, HoldsTimer, IsAtRest, Looks, OwnsClaim};
 ghost use Rattle.hr_timers.specs.Calls.{ClaimFits, ClaimsNextDue, Finishes, Forwards};
 
 use crate::answer::ClaimAnswer;
@@ -26,11 +24,9 @@ pub fn claim_next<R: Wait>(
     base: u32,
     reading: Reading,
 ) -> ClaimAnswer
-    requires row { IsBasePassOf row.now pass.old }
+    requires rest { IsAtRest row.now pass.old }
     requires base { base < row.now.about.bases }
-    requires rests { Rests pass.old.knows }
-    ensures row { IsBasePassOf row.now pass.new }
-    ensures rests { Rests pass.new.knows }
+    ensures rest { IsAtRest row.now pass.new }
     ensures claims { ClaimFits row.now.about (known_of pass.old.knows) (known_of pass.new.knows) base reading result }
 {
     let held = lock(rt, row, pass, base);
@@ -55,16 +51,14 @@ fn claim_held(
     timer: u32,
     reading: Reading,
 ) -> ClaimNumbers
-    requires row { IsBasePassOf row.now pass.old }
-    requires within { (timer < length row.now.about.timers) × (held.base < row.now.about.bases) }
-    requires held { (pass.old.knows.held ≡ Some held) × (pass.old.knows.carry ≡ None) }
+    requires holds { HoldsBase row.now pass.old held }
+    requires timer { timer < length row.now.about.timers }
     requires base { held.base ≡ base }
     requires unmarked { held.content.content.running ≡ None }
     requires idle { (t : ℕ) → runs_on held.base (timer_seen row.now.about pass.old.knows t) ≡ false }
     requires next { IsNextDue (timer_seen row.now.about pass.old.knows) held.base reading timer }
     requires first { first_due (base_seen row.now.about pass.old.knows base).content reading ≡ Some ((timer_seen row.now.about pass.old.knows timer).expires, timer) }
-    ensures row { IsBasePassOf row.now pass.new }
-    ensures rests { Rests pass.new.knows }
+    ensures rest { IsAtRest row.now pass.new }
     ensures timer { result.timer ≡ timer }
     ensures claimed { ClaimsNextDue row.now.about (known_of pass.old.knows) (known_of pass.new.knows) base reading result }
 {
@@ -101,17 +95,13 @@ fn hold_claimed<R: Wait>(
     pass: &mut Pass,
     claim: ClaimNumbers,
 ) -> (HeldBase, TimerState)
-    requires row { IsBasePassOf row.now pass.old }
+    requires rest { IsAtRest row.now pass.old }
     requires claim { OwnsClaim row.now.about (known_of pass.old.knows) claim }
-    requires rests { Rests pass.old.knows }
-    ensures row { IsBasePassOf row.now pass.new }
-    ensures held { pass.new.knows.held ≡ Some result.0 }
-    ensures looks { Looks pass.old.knows pass.new.knows }
-    ensures within { result.0.base < row.now.about.bases }
+    ensures holds { HoldsTimer row.now pass.new result.0 claim.timer }
     ensures base { result.0.base ≡ claim.base }
     ensures state { result.1 ≡ timer_seen row.now.about pass.new.knows claim.timer }
     ensures runs { result.1.running ≡ Some claim.generation }
-    ensures on { IsOn claim.base result.1 }
+    ensures looks { Looks pass.old.knows pass.new.knows }
 {
     row.fresh();
     pass.known();
@@ -129,11 +119,9 @@ pub fn finish<R: Wait>(
     claim: ClaimNumbers,
     restart: bool,
 ) -> Finished
-    requires row { IsBasePassOf row.now pass.old }
+    requires rest { IsAtRest row.now pass.old }
     requires claim { OwnsClaim row.now.about (known_of pass.old.knows) claim }
-    requires rests { Rests pass.old.knows }
-    ensures row { IsBasePassOf row.now pass.new }
-    ensures rests { Rests pass.new.knows }
+    ensures rest { IsAtRest row.now pass.new }
     ensures finishes { Finishes row.now.about (known_of pass.old.knows) (known_of pass.new.knows) claim restart result }
 {
     let (held, state) = hold_claimed(rt, row, pass, claim);
@@ -155,11 +143,9 @@ pub fn forward<R: Wait>(
     reading: Reading,
     interval: u64,
 ) -> ForwardAnswer
-    requires row { IsBasePassOf row.now pass.old }
+    requires rest { IsAtRest row.now pass.old }
     requires claim { OwnsClaim row.now.about (known_of pass.old.knows) claim }
-    requires rests { Rests pass.old.knows }
-    ensures row { IsBasePassOf row.now pass.new }
-    ensures rests { Rests pass.new.knows }
+    ensures rest { IsAtRest row.now pass.new }
     ensures forwards { Forwards row.now.about (known_of pass.old.knows) (known_of pass.new.knows) claim reading interval result }
 {
     let (held, state) = hold_claimed(rt, row, pass, claim);
@@ -176,15 +162,12 @@ fn forward_held(
     reading: Reading,
     interval: u64,
 ) -> ForwardAnswer
-    requires row { IsBasePassOf row.now pass.old }
     requires claim { OwnsClaim row.now.about (known_of pass.old.knows) claim }
-    requires held { (pass.old.knows.held ≡ Some held) × (pass.old.knows.carry ≡ None) }
-    requires base { (held.base ≡ claim.base) × (held.base < row.now.about.bases) }
+    requires holds { HoldsTimer row.now pass.old held claim.timer }
+    requires base { held.base ≡ claim.base }
     requires state { state ≡ timer_seen row.now.about pass.old.knows claim.timer }
     requires runs { state.running ≡ Some claim.generation }
-    requires on { IsOn claim.base state }
-    ensures row { IsBasePassOf row.now pass.new }
-    ensures rests { Rests pass.new.knows }
+    ensures rest { IsAtRest row.now pass.new }
     ensures forwards { Forwards row.now.about (known_of pass.old.knows) (known_of pass.new.knows) claim reading interval result }
 {
     let stamp = state.stamp();

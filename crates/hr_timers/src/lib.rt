@@ -2,6 +2,7 @@
 #![tactic(auto)]
 
 mod answer;
+mod asked;
 mod cancelling;
 mod claiming;
 mod moving;

@@ -2,57 +2,47 @@
 ghost use Rattle.std.specs.Prelude.{◌≡◌, ◌<◌, length, Some, None, [], ◌∷◌, true};
 ghost use Rattle.seq_timer.specs.Steps.{Needs, after};
 ghost use Rattle.seq_timer.specs.declared.event.Event.TheVariants.{Out, Start};
-ghost use Rattle.seq_timer.specs.Systems.{IsOn};
 ghost use Rattle.base_row.specs.Calls.{IsBasePassOf, timer_seen};
-ghost use Rattle.base_row.specs.Rests.{Rests};
-ghost use Rattle.hr_timers.specs.Known.{AddsBehind};
+ghost use Rattle.hr_timers.specs.Known.{AddsBehind, HoldsTimer, IsAtRest};
 ghost use Rattle.hr_timers.specs.Calls.{entries_along, entry_by};
 
+use crate::asked::{Asked, start_event};
 use crate::under_lock::lock;
 use base_row::{BaseRow, HeldBase, Pass};
-use ktime::{Mode, Reading};
-use seq_timer::{Event, TimerState};
+use seq_timer::TimerState;
 use std::sync::Wait;
 
-/// Sends a timer from a held base to another, lets the base go, and starts the timer under the other's lock.
+/// Sends a timer from a held base to the one that is asked for, lets the base go, and starts the timer under the other's lock.
 pub fn move_and_start<R: Wait>(
     rt: &R,
     row: &BaseRow,
     pass: &mut Pass,
     held: HeldBase,
     timer: u32,
-    to: u32,
-    mode: Mode,
-    ns: u64,
-    reading: Reading,
+    asked: &Asked,
 )
-    requires row { IsBasePassOf row.now pass.old }
-    requires within { (timer < length row.now.about.timers) × (held.base < row.now.about.bases) × (to < row.now.about.bases) }
-    requires held { (pass.old.knows.held ≡ Some held) × (pass.old.knows.carry ≡ None) }
-    requires on { IsOn held.base (timer_seen row.now.about pass.old.knows timer) }
-    requires needs { Needs (timer_seen row.now.about pass.old.knows timer) (Out to) }
-    ensures row { IsBasePassOf row.now pass.new }
-    ensures rests { Rests pass.new.knows }
+    requires holds { HoldsTimer row.now pass.old held timer }
+    requires to { asked.now.base < row.now.about.bases }
+    requires needs { Needs (timer_seen row.now.about pass.old.knows timer) (Out asked.now.base) }
+    ensures rest { IsAtRest row.now pass.new }
     ensures claims { pass.new.knows.claims ≡ pass.old.knows.claims }
-    ensures extends { AddsBehind pass.old.knows pass.new.knows timer (entries_along (timer_seen row.now.about pass.old.knows timer) (Out to ∷ Start mode ns reading to ∷ [])) }
+    ensures adds { AddsBehind pass.old.knows pass.new.knows timer (entries_along (timer_seen row.now.about pass.old.knows timer) (Out asked.now.base ∷ Start asked.now.mode asked.now.ns asked.now.reading asked.now.base ∷ [])) }
 {
-    let moved = send(row, pass, held, timer, to);
-    bring(rt, row, pass, timer, moved, mode, ns, reading);
+    let moved = send(row, pass, held, timer, asked.base);
+    bring(rt, row, pass, timer, moved, asked);
 }
 
 /// Sends a timer off a held base to another, and lets the base go. The pass carries the timer then.
 fn send(row: &BaseRow, pass: &mut Pass, held: HeldBase, timer: u32, to: u32) -> TimerState
-    requires row { IsBasePassOf row.now pass.old }
-    requires within { (timer < length row.now.about.timers) × (held.base < row.now.about.bases) × (to < row.now.about.bases) }
-    requires held { (pass.old.knows.held ≡ Some held) × (pass.old.knows.carry ≡ None) }
-    requires on { IsOn held.base (timer_seen row.now.about pass.old.knows timer) }
+    requires holds { HoldsTimer row.now pass.old held timer }
+    requires to { to < row.now.about.bases }
     requires needs { Needs (timer_seen row.now.about pass.old.knows timer) (Out to) }
     ensures row { IsBasePassOf row.now pass.new }
     ensures carries { (pass.new.knows.held ≡ None) × (pass.new.knows.carry ≡ Some timer) }
     ensures claims { pass.new.knows.claims ≡ pass.old.knows.claims }
     ensures seen { timer_seen row.now.about pass.new.knows timer ≡ after (timer_seen row.now.about pass.old.knows timer) (Out to) }
     ensures state { result ≡ timer_seen row.now.about pass.new.knows timer }
-    ensures extends { AddsBehind pass.old.knows pass.new.knows timer (entry_by (timer_seen row.now.about pass.old.knows timer) (Out to) ∷ []) }
+    ensures adds { AddsBehind pass.old.knows pass.new.knows timer (entry_by (timer_seen row.now.about pass.old.knows timer) (Out to) ∷ []) }
 {
     row.fresh();
     let mut held = held;
@@ -68,29 +58,19 @@ fn bring<R: Wait>(
     pass: &mut Pass,
     timer: u32,
     state: TimerState,
-    mode: Mode,
-    ns: u64,
-    reading: Reading,
+    asked: &Asked,
 )
     requires row { IsBasePassOf row.now pass.old }
-    requires within { (timer < length row.now.about.timers) × (state.base < row.now.about.bases) }
+    requires within { (timer < length row.now.about.timers) × (asked.now.base < row.now.about.bases) }
     requires carries { (pass.old.knows.held ≡ None) × (pass.old.knows.carry ≡ Some timer) }
     requires state { state ≡ timer_seen row.now.about pass.old.knows timer }
-    requires moving { state.moving ≡ true }
-    ensures row { IsBasePassOf row.now pass.new }
-    ensures rests { Rests pass.new.knows }
+    requires moving { (state.moving ≡ true) × (state.base ≡ asked.now.base) }
+    ensures rest { IsAtRest row.now pass.new }
     ensures claims { pass.new.knows.claims ≡ pass.old.knows.claims }
-    ensures extends { AddsBehind pass.old.knows pass.new.knows timer (entry_by state (Start mode ns reading state.base) ∷ []) }
+    ensures adds { AddsBehind pass.old.knows pass.new.knows timer (entry_by state (Start asked.now.mode asked.now.ns asked.now.reading asked.now.base) ∷ []) }
 {
     row.fresh();
-    let asked = state.base();
-    let mut held = lock(rt, row, pass, asked);
-    let event = Event::Start {
-        mode,
-        ns,
-        reading,
-        asked,
-    };
-    row.arrive(pass, &mut held, timer, state, event);
+    let mut held = lock(rt, row, pass, asked.base);
+    row.arrive(pass, &mut held, timer, state, start_event(asked));
     row.unlock_base(pass, held);
 }

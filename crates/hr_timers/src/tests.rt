@@ -12,6 +12,7 @@ use crate::{NowAnswer, Pass, StartAnswer, Timers};
 use ktime::{ClockId, Mode, Reading};
 use seq_timer::Peek;
 use std::alloc::{AllocError, Global};
+use std::sync::Wait;
 use std::test::Fail;
 use timer_core::CancelAnswer;
 
@@ -23,6 +24,24 @@ fn two_timers(alloc: Global) -> Result<(Timers, Pass), AllocError>
 {
     let clocks = [ClockId::Monotonic, ClockId::Monotonic];
     Timers::make(alloc, 2, &clocks, 100000)
+}
+
+/// The same, with both timers started on base 0, to expire at these times.
+fn two_started<R: Wait>(
+    rt: &R,
+    alloc: Global,
+    first: u64,
+    second: u64,
+) -> Result<(Timers, Pass), AllocError>
+    ensures pass { IfOk result (λ r. IsPassOf r.0 r.1 × IsLast r.1.known.id × (r.1.known.claims ≡ [])) }
+    ensures first { IfOk result (λ r. r.1.known.id ≡ first_pass_id) }
+    ensures size { IfOk result (λ r. (length r.0.about.timers ≡ 2) × (r.0.about.bases ≡ 2)) }
+{
+    let (timers, mut pass) = two_timers(alloc)?;
+    let now = Reading::at(1000);
+    timers.start(rt, &mut pass, 0, Mode::Abs, first, 0, now);
+    timers.start(rt, &mut pass, 1, Mode::Abs, second, 0, now);
+    Ok((timers, pass))
 }
 
 #[test]

@@ -9,7 +9,7 @@ ghost use Rattle.hr_timers.specs.Calls.{Cancels, ClaimFits, Finishes, Forwards, 
 ghost use Rattle.hr_timers.specs.declared.answer.NowAnswer.TheVariants as nows;
 
 use crate::answer::{ClaimAnswer, NowAnswer, StartAnswer};
-use crate::starting::Asked;
+use crate::asked::Asked;
 use crate::tokens::{Claim, Pass};
 use crate::{cancelling, claiming, starting, trying_now};
 use base_row::BaseRow;
@@ -101,14 +101,16 @@ impl Timers {
         answer
     }
 
-    /// Disarms a timer, if its function isn't running, at one try that waits for nobody. To the last pass it never answers Contended, up to
-    /// 2^63 - 1 takes of the base's lock.
+    /// Disarms a timer, if its function isn't running, at one try that waits for nobody. To the last pass it never answers Moving or Moved,
+    /// nor Contended, up to 2^63 - 1 takes of the base's lock.
     pub fn cancel_now(&self, pass: &mut Pass, timer: u32) -> NowAnswer
         requires pass { IsPassOf self.now pass.old }
         requires timer { timer < length self.now.about.timers }
         ensures pass { IsPassOf self.now pass.new }
         ensures cancels { NowFits self.now.about pass.old pass.new timer result }
         ensures alone { IsLast pass.old.known.id → (b : ℕ) → result ≡ nows.Contended b → 2 ^ 64 - 2 ≤ slice_index pass.new.met b }
+        ensures moving { IsLast pass.old.known.id → (b : ℕ) → result ≡ nows.Moving b → ⊥ }
+        ensures moved { IsLast pass.old.known.id → (a b : ℕ) → result ≡ nows.Moved a b → ⊥ }
     {
         let answer = trying_now::cancel_now(&self.row, &mut pass.inner, timer);
         self.check(pass);

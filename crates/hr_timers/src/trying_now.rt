@@ -1,9 +1,7 @@
 //! Cancelling a timer at one try that waits for nobody.
-ghost use Rattle.std.specs.Prelude.{◌≡◌, ◌≤◌, ◌<◌, ◌^◌, ◌-◌, ℕ, length, slice_index, Some, None};
+ghost use Rattle.std.specs.Prelude.{◌≡◌, ◌≤◌, ◌<◌, ◌^◌, ◌-◌, ℕ, length, slice_index};
 ghost use Rattle.pass_names.specs.Names.{IsLast};
-ghost use Rattle.base_row.specs.Calls.{IsBasePassOf};
-ghost use Rattle.base_row.specs.Rests.{Rests};
-ghost use Rattle.hr_timers.specs.Known.{pass_of};
+ghost use Rattle.hr_timers.specs.Known.{HoldsBase, IsAtRest, pass_of};
 ghost use Rattle.hr_timers.specs.Calls.{NowFits, HeldFits};
 ghost use Rattle.hr_timers.specs.declared.answer.NowAnswer.TheVariants as nows;
 
@@ -15,11 +13,9 @@ use timer_core::CancelAnswer;
 
 /// Looks at the timer's word, and tries the lock of the base that it names once.
 pub fn cancel_now(row: &BaseRow, pass: &mut Pass, timer: u32) -> NowAnswer
-    requires row { IsBasePassOf row.now pass.old }
+    requires rest { IsAtRest row.now pass.old }
     requires timer { timer < length row.now.about.timers }
-    requires rests { Rests pass.old.knows }
-    ensures row { IsBasePassOf row.now pass.new }
-    ensures rests { Rests pass.new.knows }
+    ensures rest { IsAtRest row.now pass.new }
     ensures cancels { NowFits row.now.about (pass_of pass.old) (pass_of pass.new) timer result }
     ensures alone { IsLast pass.old.knows.id → (b : ℕ) → result ≡ nows.Contended b → 2 ^ 64 - 2 ≤ slice_index pass.new.knows.met b }
 {
@@ -44,12 +40,10 @@ fn cancel_held_now(
     timer: u32,
     base: u32,
 ) -> NowAnswer
-    requires row { IsBasePassOf row.now pass.old }
-    requires within { (timer < length row.now.about.timers) × (held.base < row.now.about.bases) }
-    requires held { (pass.old.knows.held ≡ Some held) × (pass.old.knows.carry ≡ None) }
+    requires holds { HoldsBase row.now pass.old held }
+    requires timer { timer < length row.now.about.timers }
     requires base { held.base ≡ base }
-    ensures row { IsBasePassOf row.now pass.new }
-    ensures rests { Rests pass.new.knows }
+    ensures rest { IsAtRest row.now pass.new }
     ensures cancels { HeldFits row.now.about (pass_of pass.old) (pass_of pass.new) timer base result }
 {
     let word = row.load_word(pass, timer);

@@ -1,16 +1,17 @@
 //! Steps under a base's lock.
-ghost use Rattle.std.specs.Prelude.{◌≡◌, ◌<◌, ℕ, length, Some, None, [], ◌∷◌, true, false};
+ghost use Rattle.std.specs.Prelude.{◌≡◌, ◌<◌, ℕ, length, Some, None, [], ◌∷◌, false, MatchOption};
 ghost use Rattle.ktime.specs.Readings.{ClockReading};
 ghost use Rattle.seq_timer.specs.Tables.{is_due_on, runs_on};
 ghost use Rattle.seq_timer.specs.Contents.{first_due, running_on};
 ghost use Rattle.seq_timer.specs.Steps.{after, reply_to};
 ghost use Rattle.seq_timer.specs.Systems.{IsOn, entries_of};
-ghost use Rattle.base_row.specs.Plays.{Steady, claims_with_event, carry_after};
+ghost use Rattle.base_row.specs.Plays.{Steady, claims_with_event};
 ghost use Rattle.base_row.specs.Calls.{IsBasePassOf, MayAppend, timer_seen};
-ghost use Rattle.hr_timers.specs.Known.{AddsBehind, Looks};
+ghost use Rattle.hr_timers.specs.Known.{AddsBehind, HoldsBase, HoldsTimer, IsAtRest, Looks};
 ghost use Rattle.hr_timers.specs.Calls.{entry_by};
 
 use base_row::{BaseRow, HeldBase, Pass};
+use crossbeam_utils::Backoff;
 use seq_timer::{Event, Reply, TimerState};
 use std::sync::Wait;
 
@@ -28,19 +29,64 @@ pub fn lock<R: Wait>(rt: &R, row: &BaseRow, pass: &mut Pass, base: u32) -> HeldB
     row.lock_base(rt, pass, base)
 }
 
+/// Takes the lock of the base where a timer is, once the timer isn't on the move. It gives the timer's state too.
+pub fn lock_timer<R: Wait>(
+    rt: &R,
+    row: &BaseRow,
+    pass: &mut Pass,
+    timer: u32,
+) -> (HeldBase, TimerState)
+    requires rest { IsAtRest row.now pass.old }
+    requires timer { timer < length row.now.about.timers }
+    ensures holds { HoldsTimer row.now pass.new result.0 timer }
+    ensures state { result.1 ≡ timer_seen row.now.about pass.new.knows timer }
+    ensures looks { Looks pass.old.knows pass.new.knows }
+{
+    let backoff = Backoff::new();
+    for _ in rt.forever() {
+        if let Some(locked) = lock_named(rt, row, pass, timer) {
+            return locked;
+        }
+        backoff.snooze();
+    }
+    unreachable!()
+}
+
+/// One try, on the base that the timer's word names.
+fn lock_named<R: Wait>(
+    rt: &R,
+    row: &BaseRow,
+    pass: &mut Pass,
+    timer: u32,
+) -> Option<(HeldBase, TimerState)>
+    requires rest { IsAtRest row.now pass.old }
+    requires timer { timer < length row.now.about.timers }
+    ensures holds { MatchOption result (IsAtRest row.now pass.new) (λ l. HoldsTimer row.now pass.new l.0 timer) }
+    ensures state { MatchOption result Unit (λ l. l.1 ≡ timer_seen row.now.about pass.new.knows timer) }
+    ensures looks { Looks pass.old.knows pass.new.knows }
+{
+    let word = row.load_word(pass, timer);
+    if word.moving {
+        return None;
+    }
+    let held = lock(rt, row, pass, word.base);
+    let state = row.state(pass, &held, timer);
+    if state.base() != word.base || state.is_moving() {
+        leave(row, pass, held, timer);
+        return None;
+    }
+    Some((held, state))
+}
+
 /// Adds an entry of a timer that stays on a held base, and lets the base go.
 pub fn enter_once(row: &BaseRow, pass: &mut Pass, held: HeldBase, timer: u32, event: Event) -> Reply
-    requires row { IsBasePassOf row.now pass.old }
-    requires within { (timer < length row.now.about.timers) × (held.base < row.now.about.bases) }
+    requires holds { HoldsTimer row.now pass.old held timer }
     requires may { MayAppend row.now.about pass.old.knows held timer event }
-    requires on { IsOn held.base (timer_seen row.now.about pass.old.knows timer) }
     requires stays { IsOn held.base (after (timer_seen row.now.about pass.old.knows timer) event) }
-    ensures row { IsBasePassOf row.now pass.new }
-    ensures free { pass.new.knows.held ≡ None }
-    ensures carry { pass.new.knows.carry ≡ carry_after timer (timer_seen row.now.about pass.old.knows timer) event pass.old.knows.carry }
+    ensures rest { IsAtRest row.now pass.new }
     ensures claims { pass.new.knows.claims ≡ claims_with_event timer (timer_seen row.now.about pass.old.knows timer) event pass.old.knows.claims }
     ensures reply { result ≡ reply_to (timer_seen row.now.about pass.old.knows timer) event }
-    ensures extends { AddsBehind pass.old.knows pass.new.knows timer (entry_by (timer_seen row.now.about pass.old.knows timer) event ∷ []) }
+    ensures adds { AddsBehind pass.old.knows pass.new.knows timer (entry_by (timer_seen row.now.about pass.old.knows timer) event ∷ []) }
 {
     row.fresh();
     let mut held = held;
@@ -51,11 +97,9 @@ pub fn enter_once(row: &BaseRow, pass: &mut Pass, held: HeldBase, timer: u32, ev
 
 /// Lets a base go, of which one timer was looked at.
 pub fn leave(row: &BaseRow, pass: &mut Pass, held: HeldBase, timer: u32)
-    requires row { IsBasePassOf row.now pass.old }
-    requires within { (timer < length row.now.about.timers) × (held.base < row.now.about.bases) }
-    requires held { pass.old.knows.held ≡ Some held }
-    ensures row { IsBasePassOf row.now pass.new }
-    ensures free { pass.new.knows.held ≡ None }
+    requires holds { HoldsBase row.now pass.old held }
+    requires timer { timer < length row.now.about.timers }
+    ensures rest { IsAtRest row.now pass.new }
     ensures looks { Looks pass.old.knows pass.new.knows }
     ensures own { IsOn held.base (timer_seen row.now.about pass.old.knows timer) → entries_of timer pass.new.knows.seen ≡ entries_of timer pass.old.knows.seen }
 {
@@ -64,12 +108,9 @@ pub fn leave(row: &BaseRow, pass: &mut Pass, held: HeldBase, timer: u32)
 
 /// Lets a base go. What it has then is what was held.
 pub fn leave_base(row: &BaseRow, pass: &mut Pass, held: HeldBase, base: u32)
-    requires row { IsBasePassOf row.now pass.old }
-    requires within { held.base < row.now.about.bases }
-    requires held { pass.old.knows.held ≡ Some held }
+    requires holds { HoldsBase row.now pass.old held }
     requires base { held.base ≡ base }
-    ensures row { IsBasePassOf row.now pass.new }
-    ensures free { pass.new.knows.held ≡ None }
+    ensures rest { IsAtRest row.now pass.new }
     ensures looks { Looks pass.old.knows pass.new.knows }
     ensures idle { held.content.content.running ≡ None → (t : ℕ) → runs_on base (timer_seen row.now.about pass.new.knows t) ≡ false }
     ensures busy { (t g : ℕ) → held.content.content.running ≡ Some (t, g) → running_on base (timer_seen row.now.about pass.new.knows t) ≡ Some g }
@@ -78,11 +119,4 @@ pub fn leave_base(row: &BaseRow, pass: &mut Pass, held: HeldBase, base: u32)
     row.fresh();
     row.unlock_base(pass, held);
     pass.known();
-}
-
-/// Whether a base that keeps this state of a timer has it.
-pub fn is_here(state: &TimerState, base: u32) -> bool
-    ensures { (result ≡ true) → IsOn base state.now }
-{
-    state.base() == base && !state.is_moving()
 }

@@ -1,11 +1,14 @@
 //! Claims as the tests make them: by a pass that has no other claim.
-ghost use Rattle.std.specs.Prelude.{◌≡◌, ◌<◌, length, [], ◌∷◌, MatchOption};
+ghost use Rattle.std.specs.Prelude.{◌≡◌, ◌<◌, length, [], ◌∷◌, IfOk, MatchOption};
 ghost use Rattle.pass_names.specs.Names.{IsLast, after_split, child_of, first_pass_id};
-ghost use Rattle.hr_timers.specs.Known.{IsPassOf};
+ghost use Rattle.hr_timers.specs.Known.{IsPassOf, claimed_as};
 
+use super::two_timers;
 use crate::{Claim, ClaimAnswer, Pass, Timers};
-use ktime::Reading;
+use ktime::{Mode, Reading};
+use std::alloc::Global;
 use std::sync::Wait;
+use std::test::Fail;
 use timer_core::{Finished, ForwardAnswer};
 
 /// Claims the next timer of a base.
@@ -22,7 +25,7 @@ pub fn claim<R: Wait>(
     ensures pass { IsPassOf timers.now pass.new }
     ensures id { pass.new.known.id ≡ pass.old.known.id }
     ensures within { MatchOption result Unit (λ c. c.timer < length timers.now.about.timers) }
-    ensures claims { MatchOption result (pass.new.known.claims ≡ []) (λ c. pass.new.known.claims ≡ record { timer = c.timer; generation = c.generation; base = c.base } ∷ []) }
+    ensures claims { MatchOption result (pass.new.known.claims ≡ []) (λ c. pass.new.known.claims ≡ claimed_as c ∷ []) }
 {
     match timers.claim_next(rt, pass, base, reading) {
         ClaimAnswer::Claimed(claim) => Some(claim),
@@ -31,6 +34,22 @@ pub fn claim<R: Wait>(
             timer: _,
             generation: _,
         } => None,
+    }
+}
+
+/// Two timers, of which the first was started and is claimed.
+pub fn claimed_timer<R: Wait>(rt: &R, alloc: Global) -> Result<(Timers, Pass, Claim), Fail>
+    ensures pass { IfOk result (λ r. IsPassOf r.0 r.1 × IsLast r.1.known.id × (r.1.known.claims ≡ claimed_as r.2 ∷ [])) }
+    ensures size { IfOk result (λ r. (length r.0.about.timers ≡ 2) × (r.0.about.bases ≡ 2) × (r.2.timer < 2)) }
+{
+    let (timers, mut pass) = two_timers(alloc)?;
+    timers.start(rt, &mut pass, 0, Mode::Rel, 7, 0, Reading::at(1000));
+    match claim(rt, &timers, &mut pass, 0, Reading::at(1030)) {
+        Some(claim) => Ok((timers, pass, claim)),
+        None => {
+            timers.close(pass);
+            Err(Fail::from("a timer was due, and was not claimed"))
+        }
     }
 }
 
@@ -44,7 +63,7 @@ pub fn finish<R: Wait>(
 ) -> Finished
     requires pass { IsPassOf timers.now pass.old }
     requires within { claim.timer < length timers.now.about.timers }
-    requires only { pass.old.known.claims ≡ record { timer = claim.timer; generation = claim.generation; base = claim.base } ∷ [] }
+    requires only { pass.old.known.claims ≡ claimed_as claim ∷ [] }
     ensures pass { IsPassOf timers.now pass.new }
     ensures id { pass.new.known.id ≡ pass.old.known.id }
     ensures unclaimed { pass.new.known.claims ≡ [] }
@@ -63,7 +82,7 @@ pub fn forward<R: Wait>(
 ) -> ForwardAnswer
     requires pass { IsPassOf timers.now pass.old }
     requires within { claim.now.timer < length timers.now.about.timers }
-    requires only { pass.old.known.claims ≡ record { timer = claim.now.timer; generation = claim.now.generation; base = claim.now.base } ∷ [] }
+    requires only { pass.old.known.claims ≡ claimed_as claim.now ∷ [] }
     ensures pass { IsPassOf timers.now pass.new }
     ensures id { pass.new.known.id ≡ pass.old.known.id }
     ensures claims { pass.new.known.claims ≡ pass.old.known.claims }

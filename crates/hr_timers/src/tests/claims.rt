@@ -1,6 +1,6 @@
 //! Claims: when a timer is due, what its function finds while it runs, and what its end leaves.
-use super::callers::{Found, claim, finish, forward, run};
-use super::two_timers;
+use super::callers::{Found, claim, claimed_timer, finish, forward, run};
+use super::{two_started, two_timers};
 use crate::{ClaimNumbers, NowAnswer};
 use ktime::{Mode, Reading};
 use seq_timer::{Peek, Rearmed};
@@ -46,10 +46,8 @@ fn a_timer_runs_at_its_expiry_and_once(rt: HostRuntime) -> Result<(), Fail> {
 
 #[test]
 fn of_two_timers_the_earlier_runs_first(rt: HostRuntime) -> Result<(), Fail> {
-    let (timers, mut pass) = two_timers(rt.alloc())?;
+    let (timers, mut pass) = two_started(&rt, rt.alloc(), 900, 800)?;
     let now = Reading::at(1000);
-    timers.start(&rt, &mut pass, 0, Mode::Abs, 900, 0, now);
-    timers.start(&rt, &mut pass, 1, Mode::Abs, 800, 0, now);
     assert_eq!(rt;
         run(&rt, &timers, &mut pass, 0, now),
         Found::Ran { timer: 1 }
@@ -70,13 +68,7 @@ fn of_two_timers_the_earlier_runs_first(rt: HostRuntime) -> Result<(), Fail> {
 
 #[test]
 fn a_timer_whose_function_runs_is_not_cancelled(rt: HostRuntime) -> Result<(), Fail> {
-    let (timers, mut pass) = two_timers(rt.alloc())?;
-    timers.start(&rt, &mut pass, 0, Mode::Rel, 7, 0, Reading::at(1000));
-    let Some(claim) = claim(&rt, &timers, &mut pass, 0, Reading::at(1030)) else {
-        assert!(rt; false);
-        timers.close(pass);
-        return Ok(());
-    };
+    let (timers, mut pass, claim) = claimed_timer(&rt, rt.alloc())?;
     let running = CancelAnswer::Running {
         generation: 1,
         stamp: 2,
@@ -98,21 +90,14 @@ fn a_timer_whose_function_runs_is_not_cancelled(rt: HostRuntime) -> Result<(), F
 
 #[test]
 fn a_periodic_timer_goes_past_the_reading(rt: HostRuntime) -> Result<(), Fail> {
-    let (timers, mut pass) = two_timers(rt.alloc())?;
-    timers.start(&rt, &mut pass, 0, Mode::Rel, 7, 0, Reading::at(1000));
-    let Some(claim) = claim(&rt, &timers, &mut pass, 0, Reading::at(1030)) else {
-        assert!(rt; false);
-        timers.close(pass);
-        return Ok(());
-    };
-    let forwarded = ForwardAnswer::Forwarded {
-        number: 3,
-        count: 3,
-        expires: 1037,
-    };
+    let (timers, mut pass, claim) = claimed_timer(&rt, rt.alloc())?;
     assert_eq!(rt;
         forward(&rt, &timers, &mut pass, &claim, Reading::at(1030), 10),
-        forwarded
+        ForwardAnswer::Forwarded {
+            number: 3,
+            count: 3,
+            expires: 1037
+        }
     );
     let finished = Finished {
         number: 4,
@@ -133,13 +118,7 @@ fn a_periodic_timer_goes_past_the_reading(rt: HostRuntime) -> Result<(), Fail> {
 
 #[test]
 fn a_start_while_the_function_runs_stands(rt: HostRuntime) -> Result<(), Fail> {
-    let (timers, mut pass) = two_timers(rt.alloc())?;
-    timers.start(&rt, &mut pass, 0, Mode::Rel, 7, 0, Reading::at(1000));
-    let Some(claim) = claim(&rt, &timers, &mut pass, 0, Reading::at(1030)) else {
-        assert!(rt; false);
-        timers.close(pass);
-        return Ok(());
-    };
+    let (timers, mut pass, claim) = claimed_timer(&rt, rt.alloc())?;
     timers.start(&rt, &mut pass, 0, Mode::Rel, 7, 1, Reading::at(1030));
     let armed = ForwardAnswer::Armed {
         generation: 3,

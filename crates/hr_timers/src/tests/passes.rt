@@ -1,10 +1,33 @@
 //! Two passes: what one does while the other holds a base, moves a timer or runs a function.
 use super::callers::{Found, claim, finish, retire, run};
-use super::two_timers;
+use super::{two_started, two_timers};
 use crate::{NowAnswer, Pass};
 use ktime::{Mode, Reading};
 use std::test::Fail;
 use timer_core::CancelAnswer;
+
+#[test]
+fn a_base_where_a_function_runs_is_busy(rt: HostRuntime) -> Result<(), Fail> {
+    let (timers, mut pass) = two_started(&rt, rt.alloc(), 900, 950)?;
+    let now = Reading::at(1000);
+    let mut other = timers.split(&mut pass);
+    if let Some(claim) = claim(&rt, &timers, &mut pass, 0, now) {
+        let busy = Found::Busy {
+            timer: 0,
+            generation: 1,
+        };
+        assert_eq!(rt; run(&rt, &timers, &mut other, 0, now), busy);
+        assert_eq!(rt; run(&rt, &timers, &mut other, 1, now), Found::NoneDue);
+        finish(&rt, &timers, &mut pass, claim, false);
+    }
+    assert_eq!(rt;
+        run(&rt, &timers, &mut other, 0, now),
+        Found::Ran { timer: 1 }
+    );
+    retire(&timers, &mut pass, other);
+    timers.close(pass);
+    Ok(())
+}
 
 #[test]
 fn a_held_base_is_contended_and_no_other(rt: HostRuntime) -> Result<(), Fail> {
@@ -36,31 +59,6 @@ fn a_held_base_is_contended_and_no_other(rt: HostRuntime) -> Result<(), Fail> {
         timers.cancel_now(&mut pass, 0),
         NowAnswer::Tried(cancelled)
     );
-    timers.close(pass);
-    Ok(())
-}
-
-#[test]
-fn a_base_where_a_function_runs_is_busy(rt: HostRuntime) -> Result<(), Fail> {
-    let (timers, mut pass) = two_timers(rt.alloc())?;
-    let now = Reading::at(1000);
-    timers.start(&rt, &mut pass, 0, Mode::Abs, 900, 0, now);
-    timers.start(&rt, &mut pass, 1, Mode::Abs, 950, 0, now);
-    let mut other = timers.split(&mut pass);
-    if let Some(claim) = claim(&rt, &timers, &mut pass, 0, now) {
-        let busy = Found::Busy {
-            timer: 0,
-            generation: 1,
-        };
-        assert_eq!(rt; run(&rt, &timers, &mut other, 0, now), busy);
-        assert_eq!(rt; run(&rt, &timers, &mut other, 1, now), Found::NoneDue);
-        finish(&rt, &timers, &mut pass, claim, false);
-    }
-    assert_eq!(rt;
-        run(&rt, &timers, &mut other, 0, now),
-        Found::Ran { timer: 1 }
-    );
-    retire(&timers, &mut pass, other);
     timers.close(pass);
     Ok(())
 }

@@ -1,7 +1,5 @@
-use Rattle.std.proofs.Common.{◌≡◌, ap, sym, subst, ◌∙◌, Some, refl}
-use Rattle.seq_timer.specs.Contents.{first_due}
+use Rattle.std.proofs.Common.{sym}
 use Rattle.hr_timers.proofs.Making.{looks_on, looks_trans}
-use Rattle.hr_timers.proofs.Standing.{claims_before}
 use Rattle.hr_timers.proofs.claiming.claim_next.Goals as goal
 
 pub returns-in-Some-clause-claims : goal.returns-in-Some-clause-claims

@@ -1,5 +1,5 @@
-use Rattle.std.proofs.Common.{◌<◌, ◌≡◌, ◌+◌, ap, sym, subst, ◌∙◌}
-use Rattle.std.specs.Prelude.{Option, unwrap_or}
+use Rattle.std.proofs.Common.{◌+◌, ap, sym, ◌∙◌}
+use Rattle.std.specs.Prelude.{unwrap_or}
 use Rattle.pass_names.specs.Counts.{without_first}
 use Rattle.base_row.specs.Calls.{timer_seen}
 use Rattle.base_row.specs.Rules.{is_base_claim}
@@ -10,21 +10,22 @@ use Rattle.hr_timers.proofs.claiming.finish.Goals as goal
 
 pub returns-clause-finishes : goal.returns-clause-finishes
 returns-clause-finishes g c =
+    let o = c.args.row.now.about in
     let u = c.args.pass.now.knows in
     let v = c.hold_claimed-held.new.pass.knows in
     let w = c.enter_once-reply.new.pass.knows in
     let h = c.hold_claimed-held.ensures in
     let runs = ap (λ (t : Timer). t.running) (sym h.state) ∙ h.runs in
-    let base = ap (λ (t : Timer). t.base) (sym h.state) ∙ h.on.at in
+    let base = h.holds.on.at ∙ h.base in
     record {
       at = v.seen;
-      made = made_then u v w c.args.claim.timer _ h.looks c.enter_once-reply.ensures.extends;
+      made = made_then u v w c.args.claim.timer _ h.looks c.enter_once-reply.ensures.adds;
       runs = runs;
       base = base;
       number = ap (λ n. n + 1) c.stamp-number.ensures ∙ ap (λ (t : Timer). t.stamp + 1) h.state;
       rearmed = finish_same _ _ _ _ c.in-Finish.ensures.reply;
       claims = c.enter_once-reply.ensures.claims
-          ∙ (ap (λ r. without_first (is_base_claim c.args.claim.timer (unwrap_or r 0) (timer_seen c.args.row.now.about v c.args.claim.timer).base) v.claims) runs
+          ∙ (ap (λ r. without_first (is_base_claim c.args.claim.timer (unwrap_or r 0) (timer_seen o v c.args.claim.timer).base) v.claims) runs
           ∙ (ap (λ b. without_first (is_base_claim c.args.claim.timer c.args.claim.generation b) v.claims) base
           ∙ ap (without_first (is_base_claim c.args.claim.timer c.args.claim.generation c.args.claim.base)) h.looks.claims));
     }

@@ -1,5 +1,4 @@
-use Rattle.std.proofs.Common.{◌<◌, ◌≡◌, ◌≤◌, ◌+◌, ap, sym, subst, ◌∙◌, arith}
-use Rattle.std.specs.Prelude.{Option}
+use Rattle.std.proofs.Common.{◌+◌, ap, sym, ◌∙◌, arith}
 use Rattle.seq_timer.specs.Steps.{Timer}
 use Rattle.timer_core.specs.declared.answer.ForwardAnswer.TheVariants as forwards
 use Rattle.hr_timers.proofs.Making.{made_then, looks_refl}
@@ -14,9 +13,9 @@ returns-clause-forwards c =
     let stamp = c.stamp-stamp.ensures ∙ ap (λ (t : Timer). t.stamp) c.requires.state in
     record {
       at = v.seen;
-      made = made_then v v w c.args.claim.timer _ (looks_refl v) c.enter_once-reply.ensures.extends;
+      made = made_then v v w c.args.claim.timer _ (looks_refl v) c.enter_once-reply.ensures.adds;
       runs = ap (λ (t : Timer). t.running) (sym c.requires.state) ∙ c.requires.runs;
-      base = ap (λ (t : Timer). t.base) (sym c.requires.state) ∙ c.requires.on.at;
+      base = c.requires.holds.on.at ∙ c.requires.base;
       fits = (
         omega (arith, stamp, c.limit.ensures ∙ ap (λ (t : Timer). t.limit) c.requires.state, c.if-stamp-limit.false),
         ap (λ (t : Timer). t.armed) (sym c.requires.state) ∙ (sym c.armed.ensures ∙ c.in_default.is),

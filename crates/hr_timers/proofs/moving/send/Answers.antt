@@ -21,8 +21,8 @@ returns-clause-state c =
     c.out-state.ensures.state
     ∙ sym (seen_same o c.out-state.new.pass.knows c.unlock_base.new.pass.knows c.args.timer (c.unlock_base.ensures.free.steady c.args.timer carry))
 
-pub returns-clause-extends : goal.returns-clause-extends
-returns-clause-extends c =
+pub returns-clause-adds : goal.returns-clause-adds
+returns-clause-adds c =
     let o = c.args.row.now.about in
     let v = c.args.pass.now.knows in
     let w = c.out-state.new.pass.knows in

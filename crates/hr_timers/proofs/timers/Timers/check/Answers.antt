@@ -11,5 +11,5 @@ returns c = record {
   knows = subst (λ (p : PassOf). KnowsTimers c.args.self.now.about p.known) c.pass.view_is
       (true_of c.args.self.now.about c.pass.inside.inner.knows
       (subst (λ (r : rows.BaseRowOf). rows.AreFresh r.about.timers) c.self.view_is c.fresh.ensures.fresh)
-      (ap (λ (p : PassOf). p.opening) c.pass.view_is ∙ c.requires.opening) c.known.ensures);
+      (ap (λ (p : PassOf). p.opening) c.pass.view_is ∙ c.requires.opening) c.pass.invariant.carry c.known.ensures);
 }
