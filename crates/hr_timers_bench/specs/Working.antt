@@ -7,19 +7,19 @@ use Rattle.hr_timers.specs.declared.answer.StartAnswer.TheVariants as starts
 use Rattle.hr_timers.specs.Known.{IsPassOf, PassOf}
 
 -- a pass of the timers that has no claims
-pub record IsReady (timers : BaseRowOf) (pass : PassOf) : Type 0 where
+pub record IsUnclaimed (timers : BaseRowOf) (pass : PassOf) : Type 0 where
   pub pass_of : IsPassOf timers pass
   pub unclaimed : pass.known.claims ≡ []
 
 -- the timers' passes: the first one, and the one that was split off it
-pub record AreBoth (timers : BaseRowOf) (main other : PassOf) : Type 0 where
-  pub first : IsReady timers main
-  pub second : IsReady timers other
+pub record AreTwoPasses (timers : BaseRowOf) (main other : PassOf) : Type 0 where
+  pub first : IsUnclaimed timers main
+  pub second : IsUnclaimed timers other
   pub splitter : main.known.id ≡ after_split first_pass_id
   pub child : other.known.id ≡ child_of first_pass_id
 
 -- a pass has made so many entries
-pub record Worked (entries : ℕ) (v w : PassOf) : Type 0 where
+pub record MadeEntries (entries : ℕ) (v w : PassOf) : Type 0 where
   pub mine : length w.known.mine ≡ length v.known.mine + entries
   pub id : w.known.id ≡ v.known.id
 

@@ -1,6 +1,6 @@
 //! Which cases there are, and the line that is printed for each.
 ghost use Rattle.std.specs.Prelude.{◌≡◌, ◌*◌, ◌^◌, ◌<◌, ◌≤◌, length, IfOk};
-ghost use Rattle.hr_timers_bench.specs.Working.{AreBoth, IsReady, Worked};
+ghost use Rattle.hr_timers_bench.specs.Working.{AreTwoPasses, IsUnclaimed, MadeEntries};
 
 use crate::single::{cancel, start};
 use crate::turns::{Op, turns_of_all};
@@ -34,11 +34,11 @@ struct Done {
 /// Starts all timers but two in turn on the two bases, and leaves these two idle: the first on base 0, the other one on the base that is named.
 /// It answers how many entries that made.
 fn fill<R: Wait>(rt: &R, timers: &Timers, pass: &mut Pass, second: u32) -> u64
-    requires ready { IsReady timers.now pass.old }
+    requires ready { IsUnclaimed timers.now pass.old }
     requires size { (timers.now.about.bases ≡ 2) × (length timers.now.about.timers ≡ 514) }
     requires base { second < 2 }
-    ensures ready { IsReady timers.now pass.new }
-    ensures worked { Worked result pass.old pass.new }
+    ensures ready { IsUnclaimed timers.now pass.new }
+    ensures worked { MadeEntries result pass.old pass.new }
     ensures most { result ≤ 1031 }
 {
     let mut random = Random::new();
@@ -58,10 +58,10 @@ fn rounds<R: Threads + Wait + Sync + Clock>(
     case: (Workers, Op),
     load: (u64, u64),
 ) -> io::Result<Done>
-    requires both { AreBoth timers.now first.old second.old }
+    requires both { AreTwoPasses timers.now first.old second.old }
     requires size { (timers.now.about.bases ≡ 2) × (2 ≤ length timers.now.about.timers) }
     requires few { load.1 < 2 ^ 32 }
-    ensures both { AreBoth timers.now first.new second.new }
+    ensures both { AreTwoPasses timers.now first.new second.new }
 {
     let mut least = Least::new();
     let mut made = 0u64;
@@ -76,9 +76,9 @@ fn rounds<R: Threads + Wait + Sync + Clock>(
 
 /// What the stamps of all timers add up to.
 fn stamps(timers: &Timers, pass: &mut Pass) -> u64
-    requires ready { IsReady timers.now pass.old }
+    requires ready { IsUnclaimed timers.now pass.old }
     requires size { length timers.now.about.timers ≡ 514 }
-    ensures ready { IsReady timers.now pass.new }
+    ensures ready { IsUnclaimed timers.now pass.new }
     ensures id { pass.new.known.id ≡ pass.old.known.id }
 {
     let mut sum = 0u64;

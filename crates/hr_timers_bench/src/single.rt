@@ -1,6 +1,6 @@
 //! Single calls of a pass that has no claims. Each answers how many entries it made.
 ghost use Rattle.std.specs.Prelude.{◌≡◌, ◌<◌, ◌≤◌, length};
-ghost use Rattle.hr_timers_bench.specs.Working.{IsReady, Worked, entries_told};
+ghost use Rattle.hr_timers_bench.specs.Working.{IsUnclaimed, MadeEntries, entries_told};
 
 use hr_timers::{ClaimAnswer, NowAnswer, Pass, StartAnswer, Timers};
 use ktime::{Mode, Reading};
@@ -18,10 +18,10 @@ pub fn start<R: Wait>(
     base: u32,
     ns: u64,
 ) -> u64
-    requires ready { IsReady timers.now pass.old }
+    requires ready { IsUnclaimed timers.now pass.old }
     requires within { (timer < length timers.now.about.timers) × (base < timers.now.about.bases) }
-    ensures ready { IsReady timers.now pass.new }
-    ensures worked { Worked result pass.old pass.new }
+    ensures ready { IsUnclaimed timers.now pass.new }
+    ensures worked { MadeEntries result pass.old pass.new }
     ensures most { result ≤ 2 }
 {
     let answer = timers.start(rt, pass, timer, Mode::Abs, ns, base, Reading::at(NOW));
@@ -41,10 +41,10 @@ fn entries_told(answer: &StartAnswer) -> u64
 }
 
 pub fn cancel<R: Wait>(rt: &R, timers: &Timers, pass: &mut Pass, timer: u32) -> u64
-    requires ready { IsReady timers.now pass.old }
+    requires ready { IsUnclaimed timers.now pass.old }
     requires within { timer < length timers.now.about.timers }
-    ensures ready { IsReady timers.now pass.new }
-    ensures worked { Worked result pass.old pass.new }
+    ensures ready { IsUnclaimed timers.now pass.new }
+    ensures worked { MadeEntries result pass.old pass.new }
     ensures most { result ≤ 1 }
 {
     match timers.try_to_cancel(rt, pass, timer) {
@@ -54,10 +54,10 @@ pub fn cancel<R: Wait>(rt: &R, timers: &Timers, pass: &mut Pass, timer: u32) -> 
 }
 
 pub fn cancel_now(timers: &Timers, pass: &mut Pass, timer: u32) -> u64
-    requires ready { IsReady timers.now pass.old }
+    requires ready { IsUnclaimed timers.now pass.old }
     requires within { timer < length timers.now.about.timers }
-    ensures ready { IsReady timers.now pass.new }
-    ensures worked { Worked result pass.old pass.new }
+    ensures ready { IsUnclaimed timers.now pass.new }
+    ensures worked { MadeEntries result pass.old pass.new }
     ensures most { result ≤ 1 }
 {
     match timers.cancel_now(pass, timer) {
@@ -68,10 +68,10 @@ pub fn cancel_now(timers: &Timers, pass: &mut Pass, timer: u32) -> u64
 
 /// Claims the next timer of a base, and finishes the claim.
 pub fn run_next<R: Wait>(rt: &R, timers: &Timers, pass: &mut Pass, base: u32) -> u64
-    requires ready { IsReady timers.now pass.old }
+    requires ready { IsUnclaimed timers.now pass.old }
     requires base { base < timers.now.about.bases }
-    ensures ready { IsReady timers.now pass.new }
-    ensures worked { Worked result pass.old pass.new }
+    ensures ready { IsUnclaimed timers.now pass.new }
+    ensures worked { MadeEntries result pass.old pass.new }
     ensures most { result ≤ 2 }
 {
     match timers.claim_next(rt, pass, base, Reading::at(NOW)) {

@@ -1,6 +1,6 @@
 //! What the threads do: one kind of call, so many times.
 ghost use Rattle.std.specs.Prelude.{◌≡◌, ◌*◌, ◌^◌, ◌<◌, ◌≤◌, length};
-ghost use Rattle.hr_timers_bench.specs.Working.{AreBoth, IsReady, Worked};
+ghost use Rattle.hr_timers_bench.specs.Working.{AreTwoPasses, IsUnclaimed, MadeEntries};
 
 use crate::single::{cancel, cancel_now, run_next, start};
 use bench_cases::{Random, Workers};
@@ -45,10 +45,10 @@ fn turn<R: Wait>(
     op: Op,
     random: &mut Random,
 ) -> u64
-    requires ready { IsReady timers.now pass.old }
+    requires ready { IsUnclaimed timers.now pass.old }
     requires within { (own.timer < length timers.now.about.timers) × (own.base < timers.now.about.bases) }
-    ensures ready { IsReady timers.now pass.new }
-    ensures worked { Worked result pass.old pass.new }
+    ensures ready { IsUnclaimed timers.now pass.new }
+    ensures worked { MadeEntries result pass.old pass.new }
     ensures most { result ≤ 4 }
 {
     let Own { timer, base } = own;
@@ -74,11 +74,11 @@ fn turn<R: Wait>(
 
 /// So many turns of a thread.
 fn turns<R: Wait>(rt: &R, timers: &Timers, pass: &mut Pass, own: Own, op: Op, times: u64) -> u64
-    requires ready { IsReady timers.now pass.old }
+    requires ready { IsUnclaimed timers.now pass.old }
     requires within { (own.timer < length timers.now.about.timers) × (own.base < timers.now.about.bases) }
     requires few { times < 2 ^ 32 }
-    ensures ready { IsReady timers.now pass.new }
-    ensures worked { Worked result pass.old pass.new }
+    ensures ready { IsUnclaimed timers.now pass.new }
+    ensures worked { MadeEntries result pass.old pass.new }
     ensures most { result ≤ 4 * times }
 {
     let mut random = Random::of(u64::from(own.timer));
@@ -99,10 +99,10 @@ pub fn turns_of_all<R: Threads + Wait + Sync>(
     op: Op,
     times: u64,
 ) -> u64
-    requires both { AreBoth timers.now first.old second.old }
+    requires both { AreTwoPasses timers.now first.old second.old }
     requires size { (timers.now.about.bases ≡ 2) × (2 ≤ length timers.now.about.timers) }
     requires few { times < 2 ^ 32 }
-    ensures both { AreBoth timers.now first.new second.new }
+    ensures both { AreTwoPasses timers.now first.new second.new }
     ensures most { result ≤ 8 * times }
 {
     let own = Own { timer: 0, base: 0 };

@@ -13,11 +13,11 @@ use timer_core::CancelAnswer;
 /// What a function does.
 #[derive(Clone, Copy, Debug, PartialEq, Eq)]
 pub enum Act {
-    /// StartsTimer its own timer so many nanoseconds after the reading, on base 0.
+    /// Starts its own timer so many nanoseconds after the reading, on base 0.
     StartAgain(u64),
     /// Tries to cancel the timer before its own; timer 0 tries its own.
     Cancel,
-    /// StartsTimer its own timer, and then tries to cancel it.
+    /// Starts its own timer, and then tries to cancel it.
     StartAndCancel,
 }
 
@@ -35,6 +35,17 @@ pub struct Acting {
     pub act: Act,
     pub told: Told,
     pub restart: Restart,
+}
+
+impl Acting {
+    /// A handler that has been told nothing yet.
+    pub fn of(act: Act, restart: Restart) -> Acting {
+        Acting {
+            act,
+            told: Told::Nothing,
+            restart,
+        }
+    }
 }
 
 /// Does what is asked for a timer whose function runs.
@@ -65,7 +76,7 @@ fn do_act<R: Wait>(
     }
 }
 
-/// StartsTimer a timer that is due at once.
+/// Starts a timer that is due at once.
 fn start_own<R: Wait>(rt: &R, timers: &Timers, pass: &mut Pass, timer: u32, reading: Reading)
     requires pass { IsPassOf timers.now pass.old }
     requires timer { timer < length timers.now.about.timers }

@@ -20,6 +20,14 @@ fn armed_again() -> Peek {
     }
 }
 
+/// What a cancel of timer 0 is told while its first function runs.
+fn told_running(stamp: u64) -> Told {
+    Told::Cancel(CancelAnswer::Running {
+        generation: 1,
+        stamp,
+    })
+}
+
 #[test]
 fn three_due_timers_run_in_two_runs(rt: HostRuntime) -> Result<(), Fail> {
     let (timers, mut pass, mut log) = some_timers(rt.alloc(), 1, 3)?;
@@ -75,11 +83,7 @@ fn a_function_starts_its_own_timer_again(rt: HostRuntime) -> Result<(), Fail> {
     let (timers, mut pass, mut log) = some_timers(rt.alloc(), 1, 1)?;
     let now = Reading::at(1000);
     timers.start(&rt, &mut pass, 0, Mode::Rel, 0, 0, now);
-    let mut function = Acting {
-        act: Act::StartAgain(50),
-        told: Told::Nothing,
-        restart: Restart::Again,
-    };
+    let mut function = Acting::of(Act::StartAgain(50), Restart::Again);
     let ran = expire(&rt, &timers, &mut pass, 0, now, 1, &mut function, &mut log);
     assert_eq!(rt; ran, ExpireAnswer::More { fired: 1 });
     let started = StartAnswer::Started {
@@ -108,11 +112,7 @@ fn a_function_cancels_another_timer(rt: HostRuntime) -> Result<(), Fail> {
     let now = Reading::at(1000);
     timers.start(&rt, &mut pass, 0, Mode::Rel, 0, 1, now);
     timers.start(&rt, &mut pass, 1, Mode::Rel, 0, 0, now);
-    let mut function = Acting {
-        act: Act::Cancel,
-        told: Told::Nothing,
-        restart: Restart::Stop,
-    };
+    let mut function = Acting::of(Act::Cancel, Restart::Stop);
     let ran = expire(&rt, &timers, &mut pass, 0, now, 2, &mut function, &mut log);
     assert_eq!(rt; ran, ExpireAnswer::Done { fired: 1 });
     let cancelled = CancelAnswer::Cancelled {
@@ -131,18 +131,10 @@ fn a_function_cannot_cancel_its_own_timer(rt: HostRuntime) -> Result<(), Fail> {
     let (timers, mut pass, mut log) = some_timers(rt.alloc(), 1, 1)?;
     let now = Reading::at(0);
     timers.start(&rt, &mut pass, 0, Mode::Rel, 0, 0, now);
-    let mut function = Acting {
-        act: Act::Cancel,
-        told: Told::Nothing,
-        restart: Restart::Stop,
-    };
+    let mut function = Acting::of(Act::Cancel, Restart::Stop);
     let ran = expire(&rt, &timers, &mut pass, 0, now, 1, &mut function, &mut log);
     assert_eq!(rt; ran, ExpireAnswer::More { fired: 1 });
-    let running = CancelAnswer::Running {
-        generation: 1,
-        stamp: 2,
-    };
-    assert_eq!(rt; function.told, Told::Cancel(running));
+    assert_eq!(rt; function.told, told_running(2));
     assert!(rt; !timers.peek(&mut pass, 0).enqueued);
     timers.close(pass);
     Ok(())
@@ -153,18 +145,10 @@ fn a_start_in_the_function_outlives_its_cancel(rt: HostRuntime) -> Result<(), Fa
     let (timers, mut pass, mut log) = some_timers(rt.alloc(), 1, 1)?;
     let now = Reading::at(0);
     timers.start(&rt, &mut pass, 0, Mode::Rel, 0, 0, now);
-    let mut function = Acting {
-        act: Act::StartAndCancel,
-        told: Told::Nothing,
-        restart: Restart::Stop,
-    };
+    let mut function = Acting::of(Act::StartAndCancel, Restart::Stop);
     let ran = expire(&rt, &timers, &mut pass, 0, now, 1, &mut function, &mut log);
     assert_eq!(rt; ran, ExpireAnswer::More { fired: 1 });
-    let running = CancelAnswer::Running {
-        generation: 1,
-        stamp: 3,
-    };
-    assert_eq!(rt; function.told, Told::Cancel(running));
+    assert_eq!(rt; function.told, told_running(3));
     assert_eq!(rt; timers.peek(&mut pass, 0), armed_again());
     timers.close(pass);
     Ok(())
