@@ -8,7 +8,7 @@ mod callers;
 mod threads;
 
 use crate::{BaseRow, Pass};
-use callers::{cancel, move_to, start};
+use callers::{cancel, move_to, run, start};
 use ktime::{ClockId, Reading};
 use std::alloc::{AllocError, Global};
 use std::test::Fail;
@@ -55,6 +55,20 @@ fn a_timer_starts_moves_and_is_cancelled(rt: HostRuntime) -> Result<(), Fail> {
     assert!(rt; cancel(&rt, &row, &mut pass, 1, 1));
     assert_eq!(rt; row.load_word(&mut pass, 1), word(4, 1, false));
     assert!(rt; !cancel(&rt, &row, &mut pass, 1, 1));
+    row.close(pass);
+    Ok(())
+}
+
+#[test]
+fn a_due_timer_is_claimed_and_finished(rt: HostRuntime) -> Result<(), Fail> {
+    let (row, mut pass) = three_timers(rt.alloc())?;
+    assert!(rt; start(&rt, &row, &mut pass, 0, 1, 500, reading()));
+    assert!(rt; !run(&rt, &row, &mut pass, 1, reading()));
+    assert_eq!(rt; row.load_word(&mut pass, 1), word(1, 0, true));
+    assert!(rt; run(&rt, &row, &mut pass, 0, reading()));
+    assert_eq!(rt; row.load_word(&mut pass, 1), word(3, 0, false));
+    assert!(rt; !run(&rt, &row, &mut pass, 0, reading()));
+    assert_eq!(rt; row.load_word(&mut pass, 1), word(3, 0, false));
     row.close(pass);
     Ok(())
 }

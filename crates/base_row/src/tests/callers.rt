@@ -1,5 +1,5 @@
 //! Callers of a row. Each takes one base or two, adds its entries there, and lets them go.
-ghost use Rattle.std.specs.Prelude.{◌≡◌, ◌<◌, length, MatchBool, Some, None, true};
+ghost use Rattle.std.specs.Prelude.{◌≡◌, ◌<◌, length, [], MatchBool, Some, None, true};
 ghost use Rattle.seq_timer.specs.declared.event.Event.TheVariants.{Cancel};
 ghost use Rattle.seq_timer.specs.Steps.{Needs};
 ghost use Rattle.seq_timer.specs.Systems.{IsOn};
@@ -132,4 +132,29 @@ fn bring<R: Wait>(
     };
     row.arrive(pass, &mut held, timer, state, event);
     row.unlock_base(pass, held);
+}
+
+/// Claims the timer that is the next to expire on a base where no function runs, and finishes the claim. It answers whether it did.
+pub fn run<R: Wait>(rt: &R, row: &BaseRow, pass: &mut Pass, base: u32, reading: Reading) -> bool
+    requires row { IsBasePassOf row.now pass.old × Rests pass.old.knows }
+    requires within { base < row.now.about.bases }
+    requires unclaimed { pass.old.knows.claims ≡ [] }
+    ensures row { IsBasePassOf row.now pass.new × Rests pass.new.knows }
+    ensures same { (pass.new.knows.claims ≡ []) × (pass.new.knows.id ≡ pass.old.knows.id) }
+{
+    let mut held = row.lock_base(rt, pass, base);
+    if row.running(pass, &held).is_some() {
+        row.unlock_base(pass, held);
+        return false;
+    }
+    let Some((_, timer)) = row.first(pass, &held, reading) else {
+        row.unlock_base(pass, held);
+        return false;
+    };
+    row.fresh();
+    pass.known();
+    row.append(pass, &mut held, timer, Event::Claim { base, reading });
+    row.append(pass, &mut held, timer, Event::Finish { restart: false });
+    row.unlock_base(pass, held);
+    true
 }

@@ -1,10 +1,10 @@
-//! Two threads that start, move and cancel the same timers over two bases.
-ghost use Rattle.std.specs.Prelude.{◌≡◌, ◌≤◌, ◌<◌, [], ◌++◌, length};
+//! Two threads that start, move and cancel the same timers over two bases, and claim and finish them.
+ghost use Rattle.std.specs.Prelude.{◌≡◌, ◌≤◌, ◌<◌, [], length};
 ghost use Rattle.pass_names.specs.Names.{IsLast};
 ghost use Rattle.base_row.specs.Calls.{IsBasePassOf};
 ghost use Rattle.base_row.specs.Rests.{Rests};
 
-use super::callers::{cancel, move_to, start};
+use super::callers::{cancel, move_to, run, start};
 use crate::{BaseRow, Pass};
 use ktime::Reading;
 use std::sync::Wait;
@@ -14,15 +14,17 @@ use std::thread::{Threads, join_mut};
 fn turn<R: Wait>(rt: &R, row: &BaseRow, pass: &mut Pass, number: u32, reading: Reading) -> u64
     requires row { IsBasePassOf row.now pass.old × Rests pass.old.knows }
     requires size { (length row.now.about.timers ≡ 3) × (row.now.about.bases ≡ 2) }
+    requires unclaimed { pass.old.knows.claims ≡ [] }
     ensures row { IsBasePassOf row.now pass.new × Rests pass.new.knows }
-    ensures same { (pass.new.knows.claims ≡ pass.old.knows.claims) × (pass.new.knows.id ≡ pass.old.knows.id) }
+    ensures same { (pass.new.knows.claims ≡ []) × (pass.new.knows.id ≡ pass.old.knows.id) }
     ensures few { result ≤ 2 }
 {
     let timer = number % 3;
     let base = row.load_word(pass, timer).base;
-    match number % 4 {
+    match number % 5 {
         0 => u64::from(cancel(rt, row, pass, base, timer)),
         1 => 2 * u64::from(move_to(rt, row, pass, base, timer, 1 - base, 500, reading)),
+        2 => 2 * u64::from(run(rt, row, pass, base, reading)),
         _ => u64::from(start(rt, row, pass, base, timer, 500, reading)),
     }
 }
@@ -31,9 +33,10 @@ fn turn<R: Wait>(rt: &R, row: &BaseRow, pass: &mut Pass, number: u32, reading: R
 fn turns<R: Wait>(rt: &R, row: &BaseRow, pass: &mut Pass, first: u32, reading: Reading) -> u64
     requires row { IsBasePassOf row.now pass.old × Rests pass.old.knows }
     requires size { (length row.now.about.timers ≡ 3) × (row.now.about.bases ≡ 2) }
+    requires unclaimed { pass.old.knows.claims ≡ [] }
     requires small { first < 100 }
     ensures row { IsBasePassOf row.now pass.new × Rests pass.new.knows }
-    ensures same { (pass.new.knows.claims ≡ pass.old.knows.claims) × (pass.new.knows.id ≡ pass.old.knows.id) }
+    ensures same { (pass.new.knows.claims ≡ []) × (pass.new.knows.id ≡ pass.old.knows.id) }
     ensures few { result ≤ 2000 }
 {
     let mut made = 0;
@@ -53,9 +56,10 @@ fn both<R: Threads + Wait + Sync>(
 ) -> (u64, u64)
     requires row { IsBasePassOf row.now first.old × Rests first.old.knows × IsBasePassOf row.now second.old × Rests second.old.knows }
     requires size { (length row.now.about.timers ≡ 3) × (row.now.about.bases ≡ 2) }
+    requires unclaimed { (first.old.knows.claims ≡ []) × (second.old.knows.claims ≡ []) }
     ensures row { IsBasePassOf row.now first.new × Rests first.new.knows × IsBasePassOf row.now second.new × Rests second.new.knows }
-    ensures same { (first.new.knows.claims ≡ first.old.knows.claims) × (first.new.knows.id ≡ first.old.knows.id) }
-    ensures other { (second.new.knows.claims ≡ second.old.knows.claims) × (second.new.knows.id ≡ second.old.knows.id) }
+    ensures same { (first.new.knows.claims ≡ []) × (first.new.knows.id ≡ first.old.knows.id) }
+    ensures other { (second.new.knows.claims ≡ []) × (second.new.knows.id ≡ second.old.knows.id) }
     ensures few { (result.0 ≤ 2000) × (result.1 ≤ 2000) }
 {
     join_mut(
@@ -74,8 +78,9 @@ pub fn turns_of_two<R: Threads + Wait + Sync>(
 ) -> u64
     requires row { IsBasePassOf row.now main.old × Rests main.old.knows }
     requires size { (length row.now.about.timers ≡ 3) × (row.now.about.bases ≡ 2) }
+    requires unclaimed { main.old.knows.claims ≡ [] }
     ensures row { IsBasePassOf row.now main.new × Rests main.new.knows }
-    ensures claims { main.new.knows.claims ≡ main.old.knows.claims ++ [] }
+    ensures unclaimed { main.new.knows.claims ≡ [] }
     ensures last { IsLast main.old.knows.id → IsLast main.new.knows.id }
 {
     let mut other = row.split(main);

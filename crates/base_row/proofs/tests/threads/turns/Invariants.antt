@@ -1,4 +1,4 @@
-use Rattle.std.proofs.Common.{◌≡◌, ◌*◌, ◌≤◌}
+use Rattle.std.proofs.Common.{◌≡◌, ◌*◌, ◌≤◌, []}
 use Rattle.base_row.specs.Calls.{IsBasePassOf}
 use Rattle.base_row.specs.Rests.{Rests}
 use Rattle.base_row.proofs.tests.threads.turns.Given as goal
@@ -7,7 +7,7 @@ abbrev pub invariant-loop-number : goal.invariant-loop-number
 invariant-loop-number g l = record {
   row : IsBasePassOf l.fn.row l.pass;
   rests : Rests l.pass.knows;
-  claims : l.pass.knows.claims ≡ l.fn.pass.knows.claims;
+  claims : l.pass.knows.claims ≡ [];
   id : l.pass.knows.id ≡ l.fn.pass.knows.id;
   few : l.made ≤ 2 * l.number;
 }
