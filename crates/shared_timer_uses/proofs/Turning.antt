@@ -18,6 +18,7 @@ use Rattle.expire_pass.specs.declared.handler.Restart.{Restart}
 use Rattle.expire_pass.specs.declared.log.Receipt.{Receipt}
 use Rattle.expire_pass.specs.Expiring.{Expires, Turn, Turns}
 use Rattle.expire_pass.specs.Handlers.{Meaning, asks}
+use Rattle.hr_timers.proofs.Standing.{forward_same}
 use Rattle.shared_timer_uses.specs.declared.once.OneShot.{OneShot}
 use Rattle.shared_timer_uses.specs.declared.periodic.Periodic.{Periodic}
 use Rattle.shared_timer_uses.specs.declared.periodic.Tick.{Tick}
@@ -84,9 +85,6 @@ module _ (o : Opening) (base : ℕ) (reading : ClockReading) (k k' : KnownOfTime
       (λ h. IfSome h.ran (λ t. RanOnce o base reading k k' t log log')) tt (ran_turn (record { ran = None }) h') a is
 
   module _ (interval : ℕ) (history : AreSystemSteps o.bases (length o.timers) (first_system o.timers) k'.seen) where
-    told : (a b c d : ℕ) → replies.Forward a b ≡ replies.Forward c d → (a ≡ c) × (b ≡ d)
-    told a b c d e = (cc, cc)
-
     ticked_turn : (h h' : Periodic) → h.interval ≡ interval → (turn : Turn periodic o base reading k h log k' h' log') → (t : Option Tick)
         → ForwardsBy h.interval t turn.claimed turn.ran.done turn.claim reading turn.ran.restart
         → IfSome t (λ tick. Ticked o base reading interval k k' tick)
@@ -98,7 +96,7 @@ module _ (o : Opening) (base : ℕ) (reading : ClockReading) (k k' : KnownOfTime
         let made = did.2.1 in
         let after = begins_trans f.made.from f.made.seen in
         let here : tick.timer ≡ c.timer = did.1 in
-        let is = told _ _ _ _ (reply_made o turn.claimed turn.ran.done c.timer at k'.seen _ made after history) in
+        let is = forward_same _ _ _ _ (reply_made o turn.claimed turn.ran.done c.timer at k'.seen _ made after history) in
         record {
           at = turn.claims.at;
           from = turn.claims.made.from;
