@@ -2,6 +2,7 @@ pub mod Histories
 pub mod Frames
 pub mod Knowing
 pub mod Looking
+pub mod Calls
 pub mod Taking
 pub mod Committing
 pub mod Splitting

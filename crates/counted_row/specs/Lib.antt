@@ -1,5 +1,6 @@
 pub mod Meaning
 pub mod Views
+pub mod Calls
 pub mod Rules
 pub mod Plays
 pub use Rattle.pass_names.specs.Passes

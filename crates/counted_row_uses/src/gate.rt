@@ -1,7 +1,10 @@
 //! A gate as a value of a row: who enters gets a claim, which only its pass can end.
-ghost use Rattle.std.specs.Prelude.{◌≡◌, ℕ, ◌<◌, [], ◌∷◌, ◌++◌, None, length, IfSome, MatchOption, MatchBool};
+ghost use Rattle.std.specs.Prelude.{◌≡◌, ℕ, ◌+◌, ◌<◌, [], ◌∷◌, None, length, IfSome, MatchOption, MatchBool};
 ghost use Rattle.counted_row.specs.Views.{IsPassOfRow, MayLock, HasClaim, is_claim};
+ghost use Rattle.counted_row.specs.Calls.{Commits, Reads};
 ghost use Rattle.pass_names.specs.Counts.{without_first};
+ghost use Rattle.counted_row_uses.specs.Gates.{gating};
+ghost use Rattle.counted_row_uses.specs.declared.gate.Turn.TheVariants.{Enter, Leave};
 
 use counted_row::{Object, Row, RowPass};
 use std::sync::Wait;
@@ -54,12 +57,10 @@ pub fn enter<R: Wait>(
 ) -> Option<u64>
     requires lock { MayLock row.now pass.old index }
     ensures row { IsPassOfRow row.now pass.new }
-    ensures idle { pass.new.knows.held ≡ None }
-    ensures id { pass.new.knows.pass.id ≡ pass.old.knows.pass.id }
+    ensures turn { MatchOption result
+        (Reads gating pass.old pass.new index)
+        (λ n. (enters : Commits gating pass.old pass.new index Enter) × (n ≡ enters.state.entries + 1)) }
     ensures claim { IfSome result (λ n. HasClaim index (n ∷ []) pass.new.knows.claims) }
-    ensures claims { MatchOption result
-        (pass.new.knows.claims ≡ pass.old.knows.claims)
-        (λ n. pass.new.knows.claims ≡ pass.old.knows.claims ++ (index, n ∷ []) ∷ []) }
 {
     let held = row.lock(rt, pass, index);
     let gate = *held.state();

@@ -1,5 +1,6 @@
 use Rattle.std.proofs.Common.{◌+◌, [], ◌∷◌, ◌++◌, sym, subst}
 use Rattle.counted_row.specs.Views.{HasClaim}
+use Rattle.counted_row.proofs.Calls.{commits_of}
 use Rattle.counted_row_uses.proofs.Gating.{has_last}
 use Rattle.counted_row_uses.proofs.gate.enter.Goals as goal
 
@@ -12,3 +13,9 @@ returns-else-stamp-gt-LAST_STAMP-clause-claim g c =
     (subst (λ i. HasClaim i ((c.lock-held.result.state.entries + 1) ∷ [])
     (claims ++ (c.lock-held.result.index, (c.lock-held.result.state.entries + 1) ∷ []) ∷ [])) c.lock-held.ensures.locks.index
     (has_last c.lock-held.result.index ((c.lock-held.result.state.entries + 1) ∷ []) claims)))
+
+pub returns-else-stamp-gt-LAST_STAMP-clause-turn : goal.returns-else-stamp-gt-LAST_STAMP-clause-turn
+returns-else-stamp-gt-LAST_STAMP-clause-turn g c =
+    let locked = c.lock-held.ensures in
+    let made = c.commit-number.ensures in
+    (commits_of locked.locks locked.row made.row made.adds made.knows made.known, made.reply)
