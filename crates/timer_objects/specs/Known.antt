@@ -1,0 +1,79 @@
+-- What a caller of objects knows of them.
+use Rattle.std.specs.Prelude.{ℕ, ◌≡◌, ◌+◌, ◌<◌, List, [], ◌∷◌, length, get_or, Some, None}
+use Rattle.atomic_table.specs.Seated.{TableId}
+use Rattle.ktime.specs.declared.clock_id.ClockId.TheVariants as clocks
+use Rattle.pass_names.specs.Passes.{Adds, entries}
+use Rattle.seq_timer.specs.Tables.{timer_at}
+use Rattle.base_row.specs.declared.view.Opening.{Opening}
+use Rattle.counted_row.specs.declared.view.Entry.{Entry}
+use Rattle.counted_row.specs.declared.view.Locked.{Locked}
+use Rattle.counted_row.specs.Views.{IsPassOfRow, Knows, PassOfRow, RowOf, committed}
+use Rattle.timer_objects.specs.declared.cell.ObjectCell.{ObjectCell}
+use Rattle.timer_objects.specs.declared.cell.SpannedCall.{SpannedCall}
+use Rattle.timer_objects.specs.declared.cell.Span.{Span}
+use Rattle.timer_objects.specs.declared.log.ObjectReceipt.{ObjectReceipt}
+use Rattle.timer_objects.specs.declared.object.ObjectCall.{ObjectCall}
+use Rattle.timer_objects.specs.declared.object.Decl.{Decl}
+use Rattle.timer_objects.specs.declared.object.Kind.TheVariants as kinds
+use Rattle.timer_objects.specs.declared.object.ObjectReply.{ObjectReply}
+use Rattle.timer_objects.specs.Steps.{IsObjectOf, object_answer}
+use Rattle.timer_objects.specs.Cells.{MaySpan, cell_meaning, opened_cells, spanned}
+
+-- objects, and what they were made of
+pub record ObjectsOf : Type 0 where
+  pub id : TableId
+  pub decls : List Decl
+  pub limit : ℕ
+
+-- the row that they stand in
+abbrev pub row_of : ObjectsOf → RowOf ObjectCell
+row_of x = record { id = x.id; made = opened_cells x.decls x.limit }
+
+-- a pass of objects, and what it knows
+abbrev pub ObjectsPass : Type 0
+ObjectsPass = PassOfRow ObjectCell SpannedCall ObjectReply
+
+-- a pass of these objects that holds none, and what it knows is true
+pub record IsObjectsPass (x : ObjectsOf) (p : ObjectsPass) : Type 0 where
+  pub row : IsPassOfRow (row_of x) p
+  pub idle : p.knows.held ≡ None
+  pub unclaimed : p.knows.claims ≡ []
+  pub knows : Knows cell_meaning p.knows
+
+-- the history of an object, as far as a pass has seen it
+abbrev pub seen_of : ObjectsPass → ℕ → List (Entry SpannedCall ObjectReply)
+seen_of p i = entries i p.knows.pass.seen
+
+-- the declaration of an object
+abbrev pub decl_at : ObjectsOf → ℕ → Decl
+decl_at x i = get_or x.decls i (record { kind = kinds.Raw; clock = clocks.Monotonic; base = 0 })
+
+-- a held value is that of its object, with as many entries as the history has
+abbrev pub HoldsObject : ObjectsOf → Locked ObjectCell → Type 0
+HoldsObject x h = IsObjectOf (decl_at x h.index) x.limit h.stamp h.state.object
+
+-- a pass that holds an object may make this call on it
+pub record MayEnter (x : ObjectsOf) (p : ObjectsPass) (h : Locked ObjectCell) (id : ℕ) (call : ObjectCall) (span : Span) : Type 0 where
+  pub row : IsPassOfRow (row_of x) p
+  pub unclaimed : p.knows.claims ≡ []
+  pub held : p.knows.held ≡ Some h
+  pub index : h.index ≡ id
+  pub holds : HoldsObject x h
+  pub may : MaySpan h.state (spanned call span)
+
+-- a pass has made this call on the object that it held, and holds none
+pub record Enters (p q : ObjectsPass) (h : Locked ObjectCell) (call : SpannedCall) (answer : ObjectReply) : Type 0 where
+  pub row : q.row ≡ p.row
+  pub knows : q.knows ≡ committed cell_meaning h call p.knows
+  pub adds : Adds p.knows.pass q.knows.pass h.index (record { call = call; reply = answer } ∷ [])
+  pub reply : answer ≡ object_answer h.state.object call.call
+
+-- the receipt of a call on a held object
+abbrev pub receipt_of : Locked ObjectCell → SpannedCall → ObjectReceipt
+receipt_of h call = record { object = h.index; number = h.stamp + 1; call = call; reply = object_answer h.state.object call.call }
+
+-- there are as many timers as objects, each declared on its object's clock, and each object's base is one of theirs
+pub record Suits (x : ObjectsOf) (o : Opening) : Type 0 where
+  pub many : length o.timers ≡ length x.decls
+  pub clocks : (i : ℕ) → i < length x.decls → (timer_at o.timers i).declared ≡ (decl_at x i).clock
+  pub bases : (i : ℕ) → i < length x.decls → (decl_at x i).base < o.bases

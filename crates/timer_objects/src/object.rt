@@ -1,0 +1,81 @@
+//! What an object is, and its calls that make an entry.
+ghost use Rattle.std.specs.Prelude.{◌≡◌, ◌≤◌, ◌<◌};
+ghost use Rattle.timer_setting.specs.Settimes.{most_entries};
+ghost use Rattle.timer_objects.specs.Steps.{ObjectAllows, object_answer, object_step, opened};
+
+use ktime::ClockId;
+use posix_timer::PosixState;
+use timer_fd::FdState;
+
+/// What stands over a timer.
+#[derive(Clone, Copy, Debug, PartialEq, Eq)]
+pub enum Kind {
+    /// Nothing: callers start the timer themselves.
+    Raw,
+    /// A POSIX timer.
+    Posix,
+    /// A timer descriptor.
+    Fd,
+}
+
+/// What an object is declared with: its kind, the clock of its timer, and the base on which that is armed.
+#[derive(Clone, Copy, Debug, PartialEq, Eq)]
+pub struct Decl {
+    pub kind: Kind,
+    pub clock: ClockId,
+    pub base: u32,
+}
+
+/// An object. A timer by itself has no calls.
+#[derive(Clone, Copy, Debug, PartialEq, Eq)]
+pub enum Object {
+    Raw,
+    Posix(PosixState),
+    Fd(FdState),
+}
+
+/// A call that makes an entry in an object's history.
+#[derive(Clone, Copy, Debug, PartialEq, Eq)]
+pub enum ObjectCall {
+    Posix(posix_timer::Call),
+    Fd(timer_fd::Call),
+}
+
+/// What such a call answers.
+#[derive(Clone, Copy, Debug, PartialEq, Eq)]
+pub enum ObjectReply {
+    /// The object has no such call.
+    None,
+    Posix(posix_timer::Reply),
+    Fd(timer_fd::Reply),
+}
+
+impl Object {
+    /// An object that was just made. At `limit` entries its history is full.
+    pub fn make(decl: Decl, limit: u64) -> Object
+        requires some { 0 < limit }
+        requires few { limit ≤ most_entries }
+        ensures { result ≡ opened limit decl }
+    {
+        match decl.kind {
+            Kind::Raw => Object::Raw,
+            Kind::Posix => Object::Posix(PosixState::make(decl.clock, decl.base, limit)),
+            Kind::Fd => Object::Fd(FdState::make(decl.clock, decl.base, limit)),
+        }
+    }
+
+    /// Makes the entry of a call.
+    pub fn apply(&mut self, call: ObjectCall) -> ObjectReply
+        requires allowed { ObjectAllows self.old call }
+        ensures state { self.new ≡ object_step self.old call }
+        ensures reply { result ≡ object_answer self.old call }
+    {
+        match (self, call) {
+            (Object::Posix(timer), ObjectCall::Posix(call)) => {
+                ObjectReply::Posix(timer.apply(call))
+            }
+            (Object::Fd(timer), ObjectCall::Fd(call)) => ObjectReply::Fd(timer.apply(call)),
+            _ => ObjectReply::None,
+        }
+    }
+}

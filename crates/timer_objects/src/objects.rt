@@ -1,0 +1,333 @@
+//! Objects that many threads share, and what each call does at their row.
+ghost use Rattle.std.specs.Prelude.{◌≡◌, ◌≤◌, ◌<◌, ◌+◌, [], ◌∷◌, ◌++◌, Some, length, IfOk};
+ghost use Rattle.pass_names.specs.Names.{AnswersFor, IsLast};
+ghost use Rattle.pass_names.specs.Passes.{HasEach, Meets, Retires};
+ghost use Rattle.timer_setting.specs.Settimes.{most_entries};
+ghost use Rattle.counted_row.specs.Views.{IsPassOfRow, Knows, Locks, first_view, new_view, released, split_view};
+ghost use Rattle.timer_objects.specs.declared.object.ObjectCall.TheVariants as calls;
+ghost use Rattle.timer_objects.specs.Cells.{cell_meaning, opened_cell, opened_cells, spanned};
+ghost use Rattle.timer_objects.specs.Known.{Enters, HoldsObject, IsObjectsPass, MayEnter, decl_at, receipt_of, row_of, seen_of};
+
+use crate::cell::{ObjectCell, Span, SpannedCall};
+use crate::log::ObjectLog;
+use crate::object::{Decl, Kind, Object, ObjectCall, ObjectReply};
+use counted_row::{Held, Row, RowPass};
+use std::alloc::{AllocError, Global};
+use std::marker::Model;
+use std::sync::Wait;
+
+/// POSIX timers, timer descriptors and timers by themselves, each over the timer of the same number.
+#[derive(Drop)]
+pub struct Objects {
+    row: Row<ObjectCell>,
+    decls: Vec<Decl>,
+    limit: u64,
+}
+
+impl Model for Objects {
+    ghost use Rattle.std.specs.Prelude.{◌≡◌, ◌≤◌, ◌<◌, length};
+    ghost use Rattle.timer_setting.specs.Settimes.{most_entries};
+    ghost use Rattle.timer_objects.specs.declared.object.ObjectCall.TheVariants as calls;
+ghost use Rattle.timer_objects.specs.Cells.{opened_cells};
+    ghost use Rattle.timer_objects.specs.Known.{ObjectsOf};
+
+    ghost Value = { ObjectsOf };
+
+    ghost view = { λ o. record { id = o.row.id; decls = o.decls.items; limit = o.limit } };
+
+    ghost invariant = { λ o. (o.row.made ≡ opened_cells o.decls.items o.limit) × (0 < o.limit) × (o.limit ≤ most_entries) };
+}
+
+impl Objects {
+    /// Objects of these declarations, and the first pass. At `max_events` entries an object's history is full. No other call but `split` and
+    /// `meet` takes memory.
+    pub fn make(
+        alloc: Global,
+        decls: &[Decl],
+        max_events: u64,
+    ) -> Result<(Objects, RowPass<ObjectCell>), AllocError>
+        requires some { 0 < max_events }
+        requires few { max_events ≤ most_entries }
+        ensures made { IfOk result (λ r. (r.0.decls ≡ decls.now) × (r.0.limit ≡ max_events)) }
+        ensures pass { IfOk result (λ r. IsObjectsPass r.0 r.1) }
+        ensures first { IfOk result (λ r. r.1.knows ≡ first_view (opened_cells decls.now max_events)) }
+    {
+        let mut kept = Vec::new(alloc);
+        kept.extend_from_slice(decls)?;
+        let cells = cells_of(alloc, decls, max_events)?;
+        let (row, pass) = Row::make(alloc, cells)?;
+        let objects = Objects {
+            row,
+            decls: kept,
+            limit: max_events,
+        };
+        Ok((objects, pass))
+    }
+
+    /// What an object was declared with.
+    pub fn decl(&self, id: u32) -> Decl
+        requires within { id < length self.now.decls }
+        ensures { result ≡ decl_at self.now id }
+    {
+        self.decls[id as usize]
+    }
+
+    /// Its kind.
+    pub fn kind(&self, id: u32) -> Kind
+        requires within { id < length self.now.decls }
+        ensures { result ≡ (decl_at self.now id).kind }
+    {
+        self.decl(id).kind
+    }
+
+    /// How many objects there are.
+    pub fn len(&self) -> usize
+        ensures { result ≡ length self.now.decls }
+    {
+        self.decls.len()
+    }
+
+    /// Waits until the lock of an object is free, and takes it.
+    pub(crate) fn lock<R: Wait>(
+        &self,
+        rt: &R,
+        pass: &mut RowPass<ObjectCell>,
+        id: u32,
+    ) -> Held<ObjectCell>
+        requires pass { IsObjectsPass self.now pass.old }
+        requires within { id < length self.now.decls }
+        ensures row { IsPassOfRow (row_of self.now) pass.new }
+        ensures locks { Locks cell_meaning pass.old pass.new id result }
+        ensures holds { HoldsObject self.now result }
+    {
+        self.row.lock(rt, pass, id as usize)
+    }
+
+    /// Makes a call on a held object, notes the receipt, and lets the object's lock go.
+    pub(crate) fn enter(
+        &self,
+        pass: &mut RowPass<ObjectCell>,
+        held: Held<ObjectCell>,
+        log: &mut ObjectLog,
+        id: u32,
+        call: ObjectCall,
+        span: Span,
+    ) -> ObjectReply
+        requires may { MayEnter self.now pass.old held id call span }
+        requires room { 0 < log.old.spare }
+        ensures pass { IsObjectsPass self.now pass.new }
+        ensures enters { Enters pass.old pass.new held (spanned call span) result }
+        ensures receipt { log.new.receipts ≡ log.old.receipts ++ receipt_of held (spanned call span) ∷ [] }
+        ensures spare { log.new.spare + 1 ≡ log.old.spare }
+    {
+        match call {
+            ObjectCall::Posix(call) => self.enter_posix(pass, held, log, id, call, span),
+            ObjectCall::Fd(call) => self.enter_fd(pass, held, log, id, call, span),
+        }
+    }
+
+    /// The same of a call of a POSIX timer.
+    fn enter_posix(
+        &self,
+        pass: &mut RowPass<ObjectCell>,
+        held: Held<ObjectCell>,
+        log: &mut ObjectLog,
+        id: u32,
+        call: posix_timer::Call,
+        span: Span,
+    ) -> ObjectReply
+        requires may { MayEnter self.now pass.old held id (calls.Posix call) span }
+        requires room { 0 < log.old.spare }
+        ensures pass { IsObjectsPass self.now pass.new }
+        ensures enters { Enters pass.old pass.new held (spanned (calls.Posix call) span) result }
+        ensures receipt { log.new.receipts ≡ log.old.receipts ++ receipt_of held (spanned (calls.Posix call) span) ∷ [] }
+        ensures spare { log.new.spare + 1 ≡ log.old.spare }
+    {
+        let (number, reply) = self.commit_posix(pass, held, call, span);
+        note_posix(log, id, number, &call, span, reply);
+        reply
+    }
+
+    /// The same of a call of a descriptor.
+    fn enter_fd(
+        &self,
+        pass: &mut RowPass<ObjectCell>,
+        held: Held<ObjectCell>,
+        log: &mut ObjectLog,
+        id: u32,
+        call: timer_fd::Call,
+        span: Span,
+    ) -> ObjectReply
+        requires may { MayEnter self.now pass.old held id (calls.Fd call) span }
+        requires room { 0 < log.old.spare }
+        ensures pass { IsObjectsPass self.now pass.new }
+        ensures enters { Enters pass.old pass.new held (spanned (calls.Fd call) span) result }
+        ensures receipt { log.new.receipts ≡ log.old.receipts ++ receipt_of held (spanned (calls.Fd call) span) ∷ [] }
+        ensures spare { log.new.spare + 1 ≡ log.old.spare }
+    {
+        let (number, reply) = self.commit_fd(pass, held, call, span);
+        note_fd(log, id, number, &call, span, reply);
+        reply
+    }
+
+    /// The commit of a call of a POSIX timer.
+    fn commit_posix(
+        &self,
+        pass: &mut RowPass<ObjectCell>,
+        held: Held<ObjectCell>,
+        call: posix_timer::Call,
+        span: Span,
+    ) -> (u64, ObjectReply)
+        requires may { MayEnter self.now pass.old held held.index (calls.Posix call) span }
+        ensures pass { IsObjectsPass self.now pass.new }
+        ensures enters { Enters pass.old pass.new held (spanned (calls.Posix call) span) result.1 }
+        ensures number { result.0 ≡ held.stamp + 1 }
+    {
+        let Span { from, to } = span;
+        self.row.commit(
+            pass,
+            held,
+            SpannedCall {
+                call: ObjectCall::Posix(call),
+                from,
+                to,
+            },
+        )
+    }
+
+    /// The commit of a call of a descriptor.
+    fn commit_fd(
+        &self,
+        pass: &mut RowPass<ObjectCell>,
+        held: Held<ObjectCell>,
+        call: timer_fd::Call,
+        span: Span,
+    ) -> (u64, ObjectReply)
+        requires may { MayEnter self.now pass.old held held.index (calls.Fd call) span }
+        ensures pass { IsObjectsPass self.now pass.new }
+        ensures enters { Enters pass.old pass.new held (spanned (calls.Fd call) span) result.1 }
+        ensures number { result.0 ≡ held.stamp + 1 }
+    {
+        let Span { from, to } = span;
+        self.row.commit(
+            pass,
+            held,
+            SpannedCall {
+                call: ObjectCall::Fd(call),
+                from,
+                to,
+            },
+        )
+    }
+
+    /// Lets the lock of a held object go, and answers how many entries the object's history has.
+    pub(crate) fn release(&self, pass: &mut RowPass<ObjectCell>, held: Held<ObjectCell>) -> u64
+        requires row { IsPassOfRow (row_of self.now) pass.old }
+        requires unclaimed { pass.old.knows.claims ≡ [] }
+        requires held { pass.old.knows.held ≡ Some held }
+        ensures pass { IsObjectsPass self.now pass.new }
+        ensures knows { pass.new.knows ≡ released pass.old.knows }
+        ensures stamp { result ≡ held.stamp }
+        ensures count { result ≡ length (seen_of pass.new held.index) }
+    {
+        self.row.release(pass, held)
+    }
+
+    /// Makes one more pass, which has seen as much.
+    pub fn split(&self, pass: &mut RowPass<ObjectCell>) -> RowPass<ObjectCell>
+        requires pass { IsObjectsPass self.now pass.old }
+        ensures pass { IsObjectsPass self.now pass.new × IsObjectsPass self.now result }
+        ensures splitter { pass.new.knows ≡ split_view pass.old.knows }
+        ensures new { result.knows ≡ new_view pass.old.knows }
+    {
+        self.row.split(pass)
+    }
+
+    /// Two passes tell each other what they have seen.
+    pub fn meet(&self, a: &mut RowPass<ObjectCell>, b: &mut RowPass<ObjectCell>)
+        requires pass { IsObjectsPass self.now a.old × IsObjectsPass self.now b.old }
+        ensures pass { IsObjectsPass self.now a.new × IsObjectsPass self.now b.new }
+        ensures meets { Meets a.old.knows.pass b.old.knows.pass a.new.knows.pass b.new.knows.pass }
+    {
+        self.row.meet(a, b);
+    }
+
+    /// A pass takes in another, which was split off it, or off one that it took in.
+    pub fn join(&self, main: &mut RowPass<ObjectCell>, other: RowPass<ObjectCell>)
+        requires pass { IsObjectsPass self.now main.old × IsObjectsPass self.now other }
+        requires answers { AnswersFor main.old.knows.pass.id other.knows.pass.id }
+        ensures pass { IsObjectsPass self.now main.new }
+        ensures retires { Retires main.old.knows.pass other.knows.pass main.new.knows.pass }
+    {
+        self.row.join(main, other);
+    }
+
+    /// Ends objects with their last pass.
+    pub fn close(self, pass: RowPass<ObjectCell>)
+        requires pass { IsObjectsPass self pass }
+        requires last { IsLast pass.knows.pass.id }
+
+        // All entries of all objects are the pass's own, each once, and it has seen all histories whole.
+        ensures all { HasEach pass.knows.pass.seen pass.knows.pass.mine }
+    {
+        let Objects {
+            row,
+            decls: _,
+            limit: _,
+        } = self;
+        row.close(pass);
+    }
+}
+
+/// What the row keeps of each of these objects at first.
+fn cells_of(alloc: Global, decls: &[Decl], limit: u64) -> Result<Vec<ObjectCell>, AllocError>
+    requires some { 0 < limit }
+    requires few { limit ≤ most_entries }
+    ensures { IfOk result (λ cells. cells.items ≡ opened_cells decls.now limit) }
+{
+    decls.iter().map(|decl| opened(*decl, limit)).collect(alloc)
+}
+
+/// What the row keeps of an object at first.
+fn opened(decl: Decl, limit: u64) -> ObjectCell
+    requires some { 0 < limit }
+    requires few { limit ≤ most_entries }
+    ensures { result ≡ opened_cell limit decl }
+{
+    ObjectCell {
+        object: Object::make(decl, limit),
+        last: 0,
+    }
+}
+
+/// Notes the receipt of a call of a POSIX timer.
+fn note_posix(
+    log: &mut ObjectLog,
+    id: u32,
+    number: u64,
+    call: &posix_timer::Call,
+    span: Span,
+    reply: ObjectReply,
+)
+    requires room { 0 < log.old.spare }
+    ensures receipt { log.new.receipts ≡ log.old.receipts ++ record { object = id; number = number; call = spanned (calls.Posix call.now) span; reply = reply } ∷ [] }
+    ensures spare { log.new.spare + 1 ≡ log.old.spare }
+{
+    log.note(id, number, span.of(ObjectCall::Posix(*call)), reply);
+}
+
+/// Notes the receipt of a call of a descriptor.
+fn note_fd(
+    log: &mut ObjectLog,
+    id: u32,
+    number: u64,
+    call: &timer_fd::Call,
+    span: Span,
+    reply: ObjectReply,
+)
+    requires room { 0 < log.old.spare }
+    ensures receipt { log.new.receipts ≡ log.old.receipts ++ record { object = id; number = number; call = spanned (calls.Fd call.now) span; reply = reply } ∷ [] }
+    ensures spare { log.new.spare + 1 ≡ log.old.spare }
+{
+    log.note(id, number, span.of(ObjectCall::Fd(*call)), reply);
+}
