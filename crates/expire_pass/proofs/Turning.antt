@@ -21,6 +21,7 @@ use Rattle.hr_timers.specs.Calls.{ClaimsNextDue}
 use Rattle.seq_timer.specs.Histories as seq
 use Rattle.seq_timer.specs.declared.system.TimerEntry.{TimerEntry}
 use Rattle.seq_timer.specs.Systems.{entries_of}
+use Rattle.expire_pass.specs.declared.log.Noted.TheVariants as noteds
 use Rattle.expire_pass.specs.declared.log.Receipt.{Receipt}
 use Rattle.expire_pass.specs.Handlers.{KeepsPass, Meaning, asks}
 use Rattle.expire_pass.specs.declared.handler.Restart.{Restart}
@@ -79,15 +80,15 @@ turn_keeps m o base reading k h log k' h' log' c claimed next ran =
 -- the receipts of a claim and of its finish, as they are noted
 pub two_receipts : (reading : ClockReading) (c d : ClaimNumbers) (again : Bool) (restart : Restart) (f : Finished) (log mid end : List Receipt)
     → d ≡ c → again ≡ asks restart
-    → mid ≡ log ++ record { timer = d.timer; number = d.number; event = events.Claim d.base reading; reply = replies.Claim d.generation } ∷ []
-    → end ≡ mid ++ record { timer = d.timer; number = f.number; event = events.Finish again; reply = replies.Finish d.generation f.rearmed } ∷ []
+    → mid ≡ log ++ record { timer = d.timer; number = d.number; event = events.Claim d.base reading; reply = noteds.Entry (replies.Claim d.generation) } ∷ []
+    → end ≡ mid ++ record { timer = d.timer; number = f.number; event = events.Finish again; reply = noteds.Entry (replies.Finish d.generation f.rearmed) } ∷ []
     → end ≡ log ++ claim_receipt reading c ∷ finish_receipt c restart f ∷ []
 two_receipts reading c d again restart f log mid end n a first second =
-    let one : Receipt = record { timer = d.timer; number = d.number; event = events.Claim d.base reading; reply = replies.Claim d.generation } in
-    let two : Receipt = record { timer = d.timer; number = f.number; event = events.Finish again; reply = replies.Finish d.generation f.rearmed } in
+    let one : Receipt = record { timer = d.timer; number = d.number; event = events.Claim d.base reading; reply = noteds.Entry (replies.Claim d.generation) } in
+    let two : Receipt = record { timer = d.timer; number = f.number; event = events.Finish again; reply = noteds.Entry (replies.Finish d.generation f.rearmed) } in
     second ∙ (ap (λ l. l ++ two ∷ []) first ∙ (append_assoc log (one ∷ []) (two ∷ [])
     ∙ (λ i. log ++ claim_receipt reading (n i) ∷
-    record { timer = (n i).timer; number = f.number; event = events.Finish (a i); reply = replies.Finish (n i).generation f.rearmed } ∷ [])))
+    record { timer = (n i).timer; number = f.number; event = events.Finish (a i); reply = noteds.Entry (replies.Finish (n i).generation f.rearmed) } ∷ [])))
 
 -- ---- cancel
 

@@ -9,6 +9,7 @@ use Rattle.hr_timers.specs.declared.numbers.ClaimNumbers.{ClaimNumbers}
 use Rattle.hr_timers.specs.declared.answer.ClaimAnswer.TheVariants as claimings
 use Rattle.hr_timers.specs.Known.{KnownOfTimers}
 use Rattle.hr_timers.specs.Calls.{ClaimFits, Finishes}
+use Rattle.expire_pass.specs.declared.log.Noted.TheVariants as noteds
 use Rattle.expire_pass.specs.declared.log.Receipt.{Receipt}
 use Rattle.expire_pass.specs.declared.handler.Restart.{Restart}
 use Rattle.expire_pass.specs.declared.expiry.Next.{Next}
@@ -19,12 +20,12 @@ use Rattle.expire_pass.specs.Handlers.{KeepsPass, Meaning, asks}
 
 -- the receipt of a claim
 abbrev pub claim_receipt : ClockReading → ClaimNumbers → Receipt
-claim_receipt reading c = record { timer = c.timer; number = c.number; event = events.Claim c.base reading; reply = replies.Claim c.generation }
+claim_receipt reading c = record { timer = c.timer; number = c.number; event = events.Claim c.base reading; reply = noteds.Entry (replies.Claim c.generation) }
 
 -- the receipt of its finish
 abbrev pub finish_receipt : ClaimNumbers → Restart → Finished → Receipt
 finish_receipt c restart f =
-    record { timer = c.timer; number = f.number; event = events.Finish (asks restart); reply = replies.Finish c.generation f.rearmed }
+    record { timer = c.timer; number = f.number; event = events.Finish (asks restart); reply = noteds.Entry (replies.Finish c.generation f.rearmed) }
 
 -- A claim's function has run, and the claim is finished: `done` is what the pass knows after the function. Each goes on from what the one before
 -- has seen.
@@ -32,7 +33,7 @@ pub record Ran {A : Type 0} (m : Meaning A) (o : Opening) (reading : ClockReadin
     (k' : KnownOfTimers) (h' : A) (log' : List Receipt) : Type 0 where
   pub done : KnownOfTimers
   pub restart : Restart
-  pub did : m.did h h' k done c reading restart
+  pub did : m.did o h h' k done c reading restart
   pub keeps : KeepsPass k done
   pub finished : Finished
   pub finishes : Finishes o done k' c (asks restart) finished

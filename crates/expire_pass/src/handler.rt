@@ -34,7 +34,7 @@ pub trait Handler {
         requires suits { CanServe meaning timers.now.about self.old }
         ensures pass { IsPassOf timers.now pass.new }
         ensures keeps { KeepsPass pass.old.known pass.new.known }
-        ensures did { meaning.did self.old self.new pass.old.known pass.new.known claim.now reading result }
+        ensures did { meaning.did timers.now.about self.old self.new pass.old.known pass.new.known claim.now reading result }
         ensures ready { meaning.ready self.old ≤ meaning.ready self.new + 1 }
         ensures numbers { (meaning.timers self.new ≡ meaning.timers self.old) × (meaning.bases self.new ≡ meaning.bases self.old) };
 }

@@ -9,4 +9,4 @@ mod tests;
 
 pub use expiry::{ExpireAnswer, cancel, expire};
 pub use handler::{Handler, Restart};
-pub use log::{Log, Receipt};
+pub use log::{Log, Noted, Receipt};

@@ -1,17 +1,25 @@
-//! A log of a caller's own entries.
+//! A log of a caller's own entries and looks.
 ghost use Rattle.std.specs.Prelude.{◌≡◌, ◌≤◌, ◌<◌, ◌+◌, [], ◌∷◌, ◌++◌, OnOk, OnErr};
+ghost use Rattle.expire_pass.specs.declared.log.Noted.TheVariants as noteds;
 
-use seq_timer::{Event, Reply};
+use seq_timer::{Event, Observation, Reply};
 use std::alloc::{AllocError, Global};
 use std::marker::Model;
 
-/// An entry of a timer, with its number among the timer's.
+/// What an event answered, or what was seen of the timer in place of an entry.
+#[derive(Clone, Copy, Debug, PartialEq, Eq)]
+pub enum Noted {
+    Entry(Reply),
+    Look(Observation),
+}
+
+/// An entry of a timer, with its number among the timer's; or a look at the timer, with the stamp at which it stands.
 #[derive(Clone, Copy, Debug, PartialEq, Eq)]
 pub struct Receipt {
     pub timer: u32,
     pub number: u64,
     pub event: Event,
-    pub reply: Reply,
+    pub reply: Noted,
 }
 
 /// Receipts in order, with room for more.
@@ -60,17 +68,33 @@ impl Log {
         self.spare
     }
 
-    /// Adds a receipt in the room that was made. It takes no memory.
+    /// Adds a receipt of an entry in the room that was made. It takes no memory.
     pub fn note(&mut self, timer: u32, number: u64, event: Event, reply: Reply)
         requires room { 0 < self.old.spare }
-        ensures receipts { self.new.receipts ≡ self.old.receipts ++ record { timer = timer; number = number; event = event; reply = reply } ∷ [] }
+        ensures receipts { self.new.receipts ≡ self.old.receipts ++ record { timer = timer; number = number; event = event; reply = noteds.Entry reply } ∷ [] }
         ensures spare { self.new.spare + 1 ≡ self.old.spare }
     {
         self.receipts.push_reserved(Receipt {
             timer,
             number,
             event,
-            reply,
+            reply: Noted::Entry(reply),
+        });
+        self.spare -= 1;
+    }
+
+    /// Adds a receipt of a look in the room that was made: what was seen of the timer at this stamp, where the event made no entry. It takes
+    /// no memory.
+    pub fn note_look(&mut self, timer: u32, stamp: u64, event: Event, observation: Observation)
+        requires room { 0 < self.old.spare }
+        ensures receipts { self.new.receipts ≡ self.old.receipts ++ record { timer = timer; number = stamp; event = event; reply = noteds.Look observation } ∷ [] }
+        ensures spare { self.new.spare + 1 ≡ self.old.spare }
+    {
+        self.receipts.push_reserved(Receipt {
+            timer,
+            number: stamp,
+            event,
+            reply: Noted::Look(observation),
         });
         self.spare -= 1;
     }

@@ -1,33 +1,49 @@
 //! The log as callers use it.
-use crate::{Log, Receipt};
-use seq_timer::{Event, Rearmed, Reply};
+use crate::{Log, Noted, Receipt};
+use seq_timer::{Event, Observation, Rearmed, Reply};
 use std::test::Fail;
 
 #[test]
 fn receipts_stand_in_the_order_of_their_notes(rt: HostRuntime) -> Result<(), Fail> {
     let mut log = Log::make(rt.alloc());
     assert_eq!(rt; log.spare(), 0);
-    log.reserve(2)?;
+    log.reserve(3)?;
     let first = Receipt {
         timer: 3,
         number: 7,
         event: Event::Cancel,
-        reply: Reply::Cancel { generation: 6 },
+        reply: Noted::Entry(Reply::Cancel { generation: 6 }),
     };
     let second = Receipt {
         timer: 4,
         number: 2,
         event: Event::Finish { restart: true },
-        reply: Reply::Finish {
+        reply: Noted::Entry(Reply::Finish {
+            generation: 1,
+            rearmed: Rearmed::No,
+        }),
+    };
+    let third = Receipt {
+        timer: 3,
+        number: 7,
+        event: Event::Cancel,
+        reply: Noted::Look(Observation::Idle),
+    };
+    log.note(3, 7, Event::Cancel, Reply::Cancel { generation: 6 });
+    log.note(
+        4,
+        2,
+        Event::Finish { restart: true },
+        Reply::Finish {
             generation: 1,
             rearmed: Rearmed::No,
         },
-    };
-    log.note(3, 7, first.event, first.reply);
-    log.note(4, 2, second.event, second.reply);
-    assert_eq!(rt; log.receipts().len(), 2);
+    );
+    log.note_look(3, 7, Event::Cancel, Observation::Idle);
+    assert_eq!(rt; log.receipts().len(), 3);
     assert_eq!(rt; log.receipts()[0], first);
     assert_eq!(rt; log.receipts()[1], second);
+    assert_eq!(rt; log.receipts()[2], third);
     assert_eq!(rt; log.spare(), 0);
     Ok(())
 }

@@ -15,6 +15,7 @@ use Rattle.hr_timers.specs.Known.{KnownOfTimers, timer_then}
 use Rattle.expire_pass.specs.declared.expiry.ExpireAnswer.{ExpireAnswer}
 use Rattle.expire_pass.specs.declared.expiry.ExpireAnswer.TheVariants as expiries
 use Rattle.expire_pass.specs.declared.handler.Restart.{Restart}
+use Rattle.expire_pass.specs.declared.log.Noted.TheVariants as noteds
 use Rattle.expire_pass.specs.declared.log.Receipt.{Receipt}
 use Rattle.expire_pass.specs.Expiring.{Expires, Turn, Turns}
 use Rattle.expire_pass.specs.Handlers.{Meaning, asks}
@@ -70,12 +71,12 @@ module _ (o : Opening) (base : ℕ) (reading : ClockReading) (k k' : KnownOfTime
         claim = c.number;
         finish = turn.ran.finished.number;
         receipts = turn.ran.receipts ∙ (λ i. log
-            ++ record { timer = c.timer; number = c.number; event = events.Claim (turn.claims.there i) reading; reply = replies.Claim c.generation }
+            ++ record { timer = c.timer; number = c.number; event = events.Claim (turn.claims.there i) reading; reply = noteds.Entry (replies.Claim c.generation) }
             ∷ record {
               timer = c.timer;
               number = turn.ran.finished.number;
               event = events.Finish (asks (did.2 i));
-              reply = replies.Finish c.generation (rearmed i);
+              reply = noteds.Entry (replies.Finish c.generation (rearmed i));
             } ∷ []);
       })
 

@@ -15,6 +15,7 @@ use Rattle.seq_timer.specs.Contents.{running_on}
 use Rattle.base_row.specs.declared.view.Opening.{Opening}
 use Rattle.hr_timers.specs.Known.{KnownOfTimers, timer_then}
 use Rattle.hr_timers.specs.Calls.{HasNoneDue}
+use Rattle.expire_pass.specs.declared.log.Noted.TheVariants as noteds
 use Rattle.expire_pass.specs.declared.log.Receipt.{Receipt}
 use Rattle.expire_pass.specs.Handlers.{KeepsPass}
 use Rattle.shared_timer_uses.specs.declared.cancelling.Stopped.{Stopped}
@@ -41,8 +42,8 @@ pub record RanOnce (o : Opening) (base : ℕ) (reading : ClockReading) (k k' : K
   pub claim : ℕ
   pub finish : ℕ
   pub receipts : log' ≡ log
-      ++ record { timer = t; number = claim; event = events.Claim base reading; reply = replies.Claim generation }
-      ∷ record { timer = t; number = finish; event = events.Finish false; reply = replies.Finish generation rearmings.No } ∷ []
+      ++ record { timer = t; number = claim; event = events.Claim base reading; reply = noteds.Entry (replies.Claim generation) }
+      ∷ record { timer = t; number = finish; event = events.Finish false; reply = noteds.Entry (replies.Finish generation rearmings.No) } ∷ []
 
 -- The timer was the next to expire on its base when it was claimed. Its function has moved the expiry on by so many intervals, to the first one
 -- past the reading.

@@ -16,7 +16,7 @@ use Rattle.shared_timer_uses.specs.declared.periodic.Tick.{Tick}
 -- it notes the timer, calls none, and asks for no restart
 abbrev pub one_shot : Meaning OneShot
 one_shot = record {
-  did = λ h h' k k' c reading restart. (h'.ran ≡ Some c.timer) × (k' ≡ k) × (restart ≡ restarts.Stop);
+  did = λ o h h' k k' c reading restart. (h'.ran ≡ Some c.timer) × (k' ≡ k) × (restart ≡ restarts.Stop);
   ready = λ h. 18446744073709551616;
   timers = λ h. 65536;
   bases = λ h. 0;
@@ -31,7 +31,7 @@ ForwardsBy interval (Some tick) k k' c reading restart = (restart ≡ restarts.A
 
 abbrev pub periodic : Meaning Periodic
 periodic = record {
-  did = λ h h' k k' c reading restart. (h'.interval ≡ h.interval) × ForwardsBy h.interval h'.tick k k' c reading restart;
+  did = λ o h h' k k' c reading restart. (h'.interval ≡ h.interval) × ForwardsBy h.interval h'.tick k k' c reading restart;
   ready = λ h. 18446744073709551616;
   timers = λ h. 65536;
   bases = λ h. 0;

@@ -1,7 +1,7 @@
 //! The callers, each run by one pass.
 use super::some_timers;
 use crate::{Stopped, Tick, expire_once, expire_periodic, start_once, stop_and_wait, stop_now};
-use expire_pass::Receipt;
+use expire_pass::{Noted, Receipt};
 use ktime::Reading;
 use seq_timer::{Event, Rearmed, Reply};
 use std::test::Fail;
@@ -24,16 +24,16 @@ fn a_timer_expires_once(rt: HostRuntime) -> Result<(), Fail> {
             base: 0,
             reading: now,
         },
-        reply: Reply::Claim { generation: 1 },
+        reply: Noted::Entry(Reply::Claim { generation: 1 }),
     };
     let finish = Receipt {
         timer: 1,
         number: 3,
         event: Event::Finish { restart: false },
-        reply: Reply::Finish {
+        reply: Noted::Entry(Reply::Finish {
             generation: 1,
             rearmed: Rearmed::No,
-        },
+        }),
     };
     assert_eq!(rt; log.receipts(), [claim, finish].as_slice());
     let again = expire_once(&rt, &timers, &mut pass, 0, Reading::at(900), &mut log);

@@ -72,7 +72,7 @@ struct Functions {
 }
 
 impl Handler for Functions {
-    ghost meaning = { record { did = λ h h' k k' c reading restart. Unit; ready = λ h. 18446744073709551616; timers = λ h. 65536; bases = λ h. 0 } };
+    ghost meaning = { record { did = λ o h h' k k' c reading restart. Unit; ready = λ h. 18446744073709551616; timers = λ h. 65536; bases = λ h. 0 } };
 
     fn fire<R: Wait>(
         &mut self,

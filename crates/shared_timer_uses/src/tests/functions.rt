@@ -2,7 +2,7 @@
 use super::acting::{Act, Acting, OwnBase, Told};
 use super::some_timers;
 use crate::{OneShot, Periodic, Tick};
-use expire_pass::{ExpireAnswer, Log, Restart, expire};
+use expire_pass::{ExpireAnswer, Log, Noted, Restart, expire};
 use hr_timers::StartAnswer;
 use ktime::{ClockId, Mode, Reading};
 use seq_timer::{Peek, Rearmed, Reply};
@@ -100,7 +100,7 @@ fn a_function_starts_its_own_timer_again(rt: HostRuntime) -> Result<(), Fail> {
         rearmed: Rearmed::No,
     };
     assert_eq!(rt; log.receipts().len(), 2);
-    assert_eq!(rt; log.receipts()[1].reply, finished);
+    assert_eq!(rt; log.receipts()[1].reply, Noted::Entry(finished));
     assert_eq!(rt; timers.peek(&mut pass, 0), armed_again());
     timers.close(pass);
     Ok(())
