@@ -5,3 +5,4 @@ pub mod True
 pub mod TriedNow
 pub mod OneClaim
 pub mod Last
+pub mod Moments

@@ -25,7 +25,8 @@ use Rattle.hr_timers.specs.Known.{HasEachPlace, KnownOfTimers, MadeAt, timer_the
 use Rattle.hr_timers.specs.Calls.{Peeks, StartsTimer}
 use Rattle.timer_core.specs.Runs.{entries_along}
 use Rattle.shared_timer_uses.specs.Callers.{MakesEntries, known_timer}
-use Rattle.shared_timer_uses.proofs.Knowing.{no_places, timer_after, timer_own}
+use Rattle.hr_timers.proofs.Moments.{timer_after, timer_own}
+use Rattle.shared_timer_uses.proofs.Knowing.{no_places}
 
 -- ---- one call
 

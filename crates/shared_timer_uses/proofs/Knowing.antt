@@ -7,7 +7,6 @@ use Rattle.ktime.specs.declared.mode.Mode.TheVariants as modes
 use Rattle.ktime.specs.Readings.{ClockReading}
 use Rattle.ktime.specs.Times.{sat}
 use Rattle.pass_names.specs.Passes.{Begins, places}
-use Rattle.seq_timer.specs.declared.event.Event.{Event}
 use Rattle.seq_timer.specs.declared.event.Event.TheVariants as events
 use Rattle.seq_timer.specs.declared.system.TimerEntry.{TimerEntry}
 use Rattle.seq_timer.specs.Histories as seq
@@ -15,7 +14,6 @@ use Rattle.seq_timer.specs.Steps.{Timer, after, now_of, reply_to}
 use Rattle.seq_timer.specs.Systems.{AreSystemSteps, entries_of, first_system}
 use Rattle.seq_timer.specs.Tables.{timer_at}
 use Rattle.seq_timer.proofs.Agreement.{parts}
-use Rattle.seq_timer.proofs.Systems.{after_entries-entries_of}
 use Rattle.timer_core.specs.declared.answer.CancelAnswer.{CancelAnswer}
 use Rattle.timer_core.specs.declared.answer.CancelAnswer.TheVariants as cancels
 use Rattle.timer_core.specs.Answers.{moves_first, start_events}
@@ -25,24 +23,10 @@ use Rattle.base_row.proofs.Begun.{entries_of-begins}
 use Rattle.hr_timers.specs.declared.answer.StartAnswer.TheVariants as starts
 use Rattle.hr_timers.specs.Known.{KnownOfTimers, MadeAt, timer_then}
 use Rattle.hr_timers.specs.Calls.{Cancels, StartsTimer}
-use Rattle.timer_core.specs.Runs.{entries_along}
+use Rattle.hr_timers.proofs.Moments.{along, timer_after, timer_own}
 use Rattle.shared_timer_uses.specs.Callers.{known_timer}
 
 -- ---- entries
-
-after_all-append : (t : Timer) (xs ys : List seq.Entry) → seq.after_all t (xs ++ ys) ≡ seq.after_all (seq.after_all t xs) ys
-after_all-append t [] ys = refl
-after_all-append t (x ∷ xs) ys = after_all-append (after t x.event) xs ys
-
-pub timer_own : (o : Opening) (x : List TimerEntry) (t : ℕ) → timer_then o x t ≡ seq.after_all (timer_at o.timers t) (entries_of t x)
-timer_own o x t = after_entries-entries_of (first_system o.timers) t x
-
--- the timer is then as the call's entries have left it
-pub timer_after : (o : Opening) (v w : KnownOfTimers) (t : ℕ) (x : List TimerEntry) (es : List seq.Entry) → MadeAt v w t x es
-    → known_timer o w t ≡ seq.after_all (timer_then o x t) es
-timer_after o v w t x es made =
-    timer_own o w.seen t ∙ (ap (seq.after_all (timer_at o.timers t)) made.own ∙ (after_all-append (timer_at o.timers t) (entries_of t x) es
-    ∙ ap (λ (s : Timer). seq.after_all s es) (sym (timer_own o x t))))
 
 -- no place is added where no entry is made
 pub no_places : (v w : KnownOfTimers) (t : ℕ) (x : List TimerEntry) → MadeAt v w t x [] → w.mine ≡ v.mine
@@ -66,10 +50,6 @@ reply_made o v w t x log e made begins history =
     ∙ ap (λ (s : Timer). reply_to s e.event) (sym (timer_own o x t))
 
 -- ---- start
-
-along : (t : Timer) (es : List Event) → seq.after_all t (entries_along t es) ≡ step_all t es
-along t [] = refl
-along t (e ∷ es) = along (after t e) es
 
 abbrev started_now : Timer → ℕ → ℕ → ClockReading → Bool → Timer
 started_now t ns asked reading b = step_all t (if b then events.Out asked ∷ events.Start modes.Rel ns reading asked ∷

@@ -25,7 +25,8 @@ use Rattle.shared_timer_uses.specs.declared.periodic.Periodic.{Periodic}
 use Rattle.shared_timer_uses.specs.declared.periodic.Tick.{Tick}
 use Rattle.shared_timer_uses.specs.Callers.{RanOnce, Ticked, known_timer}
 use Rattle.shared_timer_uses.specs.Handlers.{ForwardsBy, one_shot, periodic}
-use Rattle.shared_timer_uses.proofs.Knowing.{reply_made, timer_after}
+use Rattle.hr_timers.proofs.Moments.{timer_after}
+use Rattle.shared_timer_uses.proofs.Knowing.{reply_made}
 
 module _ {A : Type 0} (m : Meaning A) (o : Opening) (base : ℕ) (reading : ClockReading) (k k' : KnownOfTimers) (h h' : A) (log log' : List Receipt) where
   one_turn : (n : ℕ) → n ≡ 1 → Turns m o base reading n k h log k' h' log' → Turn m o base reading k h log k' h' log'

@@ -1,0 +1,37 @@
+-- A timer at the moments of a call, and after the entries that the call made.
+use Rattle.std.proofs.Common.{◌≡◌, ℕ, ◌+◌, List, [], ◌∷◌, ◌++◌, length, refl, ap, sym, ◌∙◌}
+use Rattle.seq_timer.specs.declared.event.Event.{Event}
+use Rattle.seq_timer.specs.declared.system.TimerEntry.{TimerEntry}
+use Rattle.seq_timer.specs.Histories as seq
+use Rattle.seq_timer.specs.Steps.{Timer, after}
+use Rattle.seq_timer.specs.Systems.{entries_of, first_system}
+use Rattle.seq_timer.specs.Tables.{timer_at}
+use Rattle.seq_timer.proofs.Limits.{stamp-after_all}
+use Rattle.seq_timer.proofs.Systems.{after_entries-entries_of}
+use Rattle.timer_core.specs.Kept.{step_all}
+use Rattle.timer_core.specs.Runs.{entries_along}
+use Rattle.base_row.specs.declared.view.Opening.{Opening}
+use Rattle.hr_timers.specs.Known.{KnownOfTimers, MadeAt, timer_then}
+
+after_all-append : (t : Timer) (xs ys : List seq.Entry) → seq.after_all t (xs ++ ys) ≡ seq.after_all (seq.after_all t xs) ys
+after_all-append t [] ys = refl
+after_all-append t (x ∷ xs) ys = after_all-append (after t x.event) xs ys
+
+pub timer_own : (o : Opening) (x : List TimerEntry) (t : ℕ) → timer_then o x t ≡ seq.after_all (timer_at o.timers t) (entries_of t x)
+timer_own o x t = after_entries-entries_of (first_system o.timers) t x
+
+-- the timer is then as the call's entries have left it
+pub timer_after : (o : Opening) (v w : KnownOfTimers) (t : ℕ) (x : List TimerEntry) (es : List seq.Entry) → MadeAt v w t x es
+    → timer_then o w.seen t ≡ seq.after_all (timer_then o x t) es
+timer_after o v w t x es made =
+    timer_own o w.seen t ∙ (ap (seq.after_all (timer_at o.timers t)) made.own ∙ (after_all-append (timer_at o.timers t) (entries_of t x) es
+    ∙ ap (λ (s : Timer). seq.after_all s es) (sym (timer_own o x t))))
+
+pub along : (t : Timer) (es : List Event) → seq.after_all t (entries_along t es) ≡ step_all t es
+along t [] = refl
+along t (e ∷ es) = along (after t e) es
+
+-- its stamp has grown by their number
+pub stamp_made : (o : Opening) (v w : KnownOfTimers) (t : ℕ) (x : List TimerEntry) (es : List seq.Entry) → MadeAt v w t x es
+    → (timer_then o w.seen t).stamp ≡ (timer_then o x t).stamp + length es
+stamp_made o v w t x es made = ap (λ (s : Timer). s.stamp) (timer_after o v w t x es made) ∙ stamp-after_all (timer_then o x t) es

@@ -1,0 +1,95 @@
+-- What calls on an object do to its timer.
+use Rattle.std.proofs.Common.{arith, refl, sym, ap, subst, ◌≡◌, ◌∙◌, ℕ, zero, suc, ◌+◌, ◌-◌, ◌^◌, ◌≤◌, ◌<◌, Bool, true, false, not, nat_eq, List, [], ◌∷◌, ◌++◌, length}
+use Rattle.std.proofs.lemmas.Bool.Decides.{nat_tests}
+use Rattle.std.proofs.lemmas.Nat.{pow_pos}
+use Rattle.std.specs.Prelude.{is_some, Some, None, if◌then◌else◌}
+use Rattle.ktime.specs.declared.clock_id.ClockId.{ClockId}
+use Rattle.ktime.specs.declared.mode.Mode.{Mode}
+use Rattle.ktime.specs.Times.{effective_clock}
+use Rattle.ktime.specs.Readings.{ClockReading}
+use Rattle.pass_names.specs.SharedHistory.{LooksOn}
+use Rattle.pass_names.proofs.SharedHistory.{looks_refl}
+use Rattle.seq_timer.specs.declared.event.Event.{Event}
+use Rattle.seq_timer.specs.declared.event.Event.TheVariants as events
+use Rattle.seq_timer.specs.declared.event.Reply.TheVariants as replies
+use Rattle.seq_timer.specs.declared.observation.Peek.{Peek}
+use Rattle.seq_timer.specs.Histories as seq
+use Rattle.seq_timer.specs.Steps.{Timer, expiry_from}
+use Rattle.timer_core.specs.Answers.{moves_first, start_events}
+use Rattle.timer_core.specs.Kept.{step_all}
+use Rattle.timer_core.specs.Runs.{entries_along}
+use Rattle.timer_core.specs.declared.answer.CancelAnswer.{CancelAnswer}
+use Rattle.base_row.specs.declared.view.Opening.{Opening}
+use Rattle.hr_timers.specs.declared.answer.StartAnswer.{StartAnswer}
+use Rattle.hr_timers.specs.declared.answer.StartAnswer.TheVariants as starts
+use Rattle.hr_timers.specs.Known.{KnownOfTimers, MadeAt, timer_then}
+use Rattle.hr_timers.specs.Calls.{Cancels, Peeks, StartsTimer, start_answer}
+use Rattle.hr_timers.proofs.Moments.{stamp_made}
+use Rattle.expire_pass.proofs.Turning.{looks_then}
+use Rattle.expire_pass.specs.declared.log.Noted.TheVariants as noteds
+use Rattle.expire_pass.specs.declared.log.Receipt.{Receipt}
+use Rattle.timer_objects.specs.Arming.{SeesTimer, receipts_of, stamp_seen}
+
+module _ (o : Opening) (v w : KnownOfTimers) (t : ℕ) (p : Peek) (peeks : Peeks o v w t p) where
+  pub peek_looks : LooksOn v w
+  peek_looks = looks_then v v w t peeks.at (looks_refl v) peeks.made peeks.claims
+
+  pub peek_sees : (last : ℕ) → last ≤ p.stamp → SeesTimer o v w t last p.stamp
+  peek_sees last behind = record {
+    looks = peek_looks;
+    number = ap (λ (q : Peek). q.stamp) peeks.fits ∙ sym (stamp_made o v w t peeks.at [] peeks.made ∙ omega arith);
+    behind = behind;
+  }
+
+-- the receipts that a start notes, by its answer; two where it has moved the timer
+abbrev pub noted_by : ℕ → Mode → ℕ → ℕ → ClockReading → Bool → StartAnswer → List Receipt
+noted_by t mode ns asked reading true (starts.Started was_armed generation base outs clock expires) =
+    record { timer = t; number = generation - 1; event = events.Out asked; reply = noteds.Entry (replies.Out was_armed) }
+    ∷ record { timer = t; number = generation; event = events.Start mode ns reading asked; reply = noteds.Entry (replies.Start base clock expires false) } ∷ []
+noted_by t mode ns asked reading false (starts.Started was_armed generation base outs clock expires) =
+    record { timer = t; number = generation; event = events.Start mode ns reading asked; reply = noteds.Entry (replies.Start base clock expires was_armed) } ∷ []
+noted_by t mode ns asked reading moved (starts.Spent n) = []
+
+abbrev events_by : Mode → ℕ → ℕ → ClockReading → Bool → List Event
+events_by mode ns asked reading moves = if moves then events.Out asked ∷ events.Start mode ns reading asked ∷ [] else events.Start mode ns reading asked ∷ []
+
+abbrev answer_by : Timer → ℕ → Bool → List Event → StartAnswer
+answer_by u asked moves es =
+    let now = step_all u es in starts.Started (is_some u.armed) now.stamp now.base (if moves then 2 ^ asked else 0) now.clock now.expires
+
+abbrev outs_in : StartAnswer → ℕ
+outs_in (starts.Started was_armed generation base outs clock expires) = outs
+outs_in (starts.Spent n) = 0
+
+module _ (t : ℕ) (u : Timer) (mode : Mode) (ns asked : ℕ) (reading : ClockReading) where
+  noted_along : (moves : Bool) → noted_by t mode ns asked reading moves (answer_by u asked moves (events_by mode ns asked reading moves))
+      ≡ receipts_of t u.stamp (entries_along u (events_by mode ns asked reading moves))
+  noted_along true =
+      let clock = effective_clock u.declared mode u.clock in
+      let start : Receipt = record {
+        timer = t;
+        number = u.stamp + 1 + 1;
+        event = events.Start mode ns reading asked;
+        reply = noteds.Entry (replies.Start asked clock (expiry_from mode ns clock reading) false);
+      } in
+      ap (λ n. record { timer = t; number = n; event = events.Out asked; reply = noteds.Entry (replies.Out (is_some u.armed)) } ∷ start ∷ [])
+          {x = u.stamp + 1 + 1 - 1} {y = u.stamp + 1} (omega arith)
+  noted_along false = refl
+
+  -- whether a start has moved the timer is told by its answer's outs
+  moved : (moves : Bool) (a : StartAnswer) → a ≡ answer_by u asked moves (events_by mode ns asked reading moves) → nat_eq (outs_in a) 0 ≡ not moves
+  moved true a e = ap (λ b. nat_eq (outs_in b) 0) e ∙ grind (arith, nat_tests, pow_pos asked)
+  moved false a e = ap (λ b. nat_eq (outs_in b) 0) e
+
+  pub noted_start : (a : StartAnswer) (moves : Bool) → a ≡ start_answer u (step_all u (start_events u mode ns asked reading)) asked → nat_eq (outs_in a) 0 ≡ not moves
+      → noted_by t mode ns asked reading moves a ≡ receipts_of t u.stamp (entries_along u (start_events u mode ns asked reading))
+  noted_start a moves e told =
+      let b = moves_first u asked in
+      let same : moves ≡ b = flip moves b (sym told ∙ moved b a e) in
+      ap (λ m. noted_by t mode ns asked reading m a) same ∙ (ap (noted_by t mode ns asked reading b) e ∙ noted_along b)
+    where
+      flip : (x y : Bool) → not x ≡ not y → x ≡ y
+      flip true true e = refl
+      flip false false e = refl
+      flip true false e = sym e
+      flip false true e = sym e

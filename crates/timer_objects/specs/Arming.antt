@@ -1,0 +1,63 @@
+-- What a call on an object does to its timer: it disarms it or looks at it, starts it where it wants that, and notes a receipt of each entry.
+use Rattle.std.specs.Prelude.{ℕ, ◌≡◌, ◌+◌, ◌≤◌, List, [], ◌∷◌, ◌++◌, length, Option, Some, None}
+use Rattle.ktime.specs.Readings.{ClockReading}
+use Rattle.pass_names.specs.SharedHistory.{LooksOn}
+use Rattle.seq_timer.specs.Histories as seq
+use Rattle.seq_timer.specs.Steps.{Timer}
+use Rattle.timer_core.specs.declared.answer.CancelAnswer.{CancelAnswer}
+use Rattle.timer_core.specs.declared.answer.CancelAnswer.TheVariants as cancels
+use Rattle.base_row.specs.declared.view.Opening.{Opening}
+use Rattle.hr_timers.specs.declared.answer.StartAnswer.{StartAnswer}
+use Rattle.hr_timers.specs.declared.answer.StartAnswer.TheVariants as starts
+use Rattle.hr_timers.specs.Known.{KnownOfTimers, timer_then}
+use Rattle.hr_timers.specs.Calls.{Cancels, StartsTimer, cancel_entries, start_entries}
+use Rattle.expire_pass.specs.declared.log.Noted.TheVariants as noteds
+use Rattle.expire_pass.specs.declared.log.Receipt.{Receipt}
+use Rattle.timer_setting.specs.declared.arming.Arm.{Arm}
+use Rattle.timer_setting.specs.declared.arming.Arm.TheVariants as arms
+use Rattle.timer_setting.specs.declared.arming.Wanted.{Wanted}
+use Rattle.timer_objects.specs.declared.cell.Span.{Span}
+
+-- the receipts of entries that stand behind so many of a timer
+abbrev pub receipts_of : ℕ → ℕ → List seq.Entry → List Receipt
+receipts_of t n [] = []
+receipts_of t n (e ∷ es) = record { timer = t; number = n + 1; event = e.event; reply = noteds.Entry e.reply } ∷ receipts_of t (n + 1) es
+
+-- how many entries of a timer a pass has seen
+abbrev pub stamp_seen : Opening → KnownOfTimers → ℕ → ℕ
+stamp_seen o k t = (timer_then o k.seen t).stamp
+
+-- the outcome of a start, by what it answered
+abbrev pub arm_of : StartAnswer → Arm
+arm_of (starts.Started was_armed generation base outs clock expires) = arms.Armed generation
+arm_of (starts.Spent n) = arms.Unarmed n
+
+-- a start that was wanted was made, with this outcome, and a receipt noted of each of its entries
+pub record Starts (o : Opening) (v w : KnownOfTimers) (t : ℕ) (wanted : Wanted) (base : ℕ) (reading : ClockReading) (arm : Arm)
+    (log log' : List Receipt) : Type 0 where
+  pub answer : StartAnswer
+  pub starts : StartsTimer o v w t wanted.mode wanted.ns base reading answer
+  pub outcome : arm ≡ arm_of answer
+  pub receipts : log' ≡ log ++ receipts_of t (timer_then o starts.at t).stamp (start_entries (timer_then o starts.at t) wanted.mode wanted.ns base reading answer)
+
+-- the start that a step wants was made, or none was wanted and nothing is other than before
+abbrev pub Arms : Opening → KnownOfTimers → KnownOfTimers → ℕ → Option Wanted → ℕ → ClockReading → Arm → List Receipt → List Receipt → Type 0
+Arms o v w t None base reading arm log log' = (arm ≡ arms.NotAsked) × (w ≡ v) × (log' ≡ log)
+Arms o v w t (Some wanted) base reading arm log log' = Starts o v w t wanted base reading arm log log'
+
+-- A timer whose function wasn't running was disarmed, or seen to be idle, after a number of entries that isn't below `last`. The span so far
+-- goes from that number to the call's own entry.
+pub record Disarms (o : Opening) (v w : KnownOfTimers) (t last : ℕ) (span : Span) (log log' : List Receipt) : Type 0 where
+  pub answer : CancelAnswer
+  pub cancelled : Cancels o v w t answer
+  pub ended : (g n : ℕ) → answer ≡ cancels.Running g n → ⊥
+  pub from : span.from ≡ (timer_then o cancelled.at t).stamp
+  pub behind : last ≤ span.from
+  pub to : span.to ≡ span.from + length (cancel_entries answer)
+  pub receipts : log' ≡ log ++ receipts_of t span.from (cancel_entries answer)
+
+-- a timer was seen after so many entries, which aren't below `last`
+pub record SeesTimer (o : Opening) (v w : KnownOfTimers) (t last n : ℕ) : Type 0 where
+  pub looks : LooksOn v w
+  pub number : n ≡ stamp_seen o w t
+  pub behind : last ≤ n

@@ -1,0 +1,265 @@
+-- What each call on an object does and answers, by what the caller's passes know and what its logs have before and after it.
+use Rattle.std.specs.Prelude.{ℕ, ◌≡◌, ◌+◌, ◌≤◌, ◌<◌, not, ◌||◌, nat_eq, List, [], ◌∷◌, ◌++◌, length, Option, Some, None, MatchOption, if◌then◌else◌}
+use Rattle.ktime.specs.declared.timespec.TimeSpec.{TimeSpec}
+use Rattle.ktime.specs.Readings.{ClockReading}
+use Rattle.pass_names.specs.SharedHistory.{LooksOn}
+use Rattle.base_row.specs.declared.view.Opening.{Opening}
+use Rattle.hr_timers.specs.Known.{KnownOfTimers, timer_then}
+use Rattle.expire_pass.specs.declared.log.Receipt.{Receipt}
+use Rattle.timer_setting.specs.declared.arming.Arm.{Arm}
+use Rattle.timer_setting.specs.declared.arming.Arm.TheVariants as arms
+use Rattle.timer_setting.specs.declared.arming.Wanted.{Wanted}
+use Rattle.timer_setting.specs.declared.phase.Phase.{Phase}
+use Rattle.timer_setting.specs.declared.phase.Phase.TheVariants as phases
+use Rattle.timer_setting.specs.declared.settime_call.SettimeCall.{SettimeCall}
+use Rattle.timer_setting.specs.Arguments.{abstime, bits_beyond, is_bad, start_by, time_of}
+use Rattle.counted_row.specs.Views.{StateAfter}
+use Rattle.counted_row.specs.Calls.{Commits, Reads}
+use Rattle.posix_timer.specs.declared.answers.AcceptAnswer.{AcceptAnswer}
+use Rattle.posix_timer.specs.declared.answers.AcceptAnswer.TheVariants as acceptances
+use Rattle.posix_timer.specs.declared.answers.SettimeAnswer.TheVariants as posix_settings
+use Rattle.posix_timer.specs.declared.calls.Call.TheVariants as posix_calls
+use Rattle.posix_timer.specs.declared.calls.Reply.TheVariants as posix_replies
+use Rattle.posix_timer.specs.States.{setting_of}
+use Rattle.posix_timer.specs.Steps.{accept_wanted}
+use Rattle.timer_fd.specs.declared.answers.SettimeAnswer.{SettimeAnswer}
+use Rattle.timer_fd.specs.declared.answers.SettimeAnswer.TheVariants as settings
+use Rattle.timer_fd.specs.declared.answers.ReadAnswer.{ReadAnswer}
+use Rattle.timer_fd.specs.declared.answers.ReadAnswer.TheVariants as reads
+use Rattle.timer_fd.specs.declared.answers.GettimeAnswer.TheVariants as lefts
+use Rattle.timer_fd.specs.declared.calls.Call.TheVariants as fd_calls
+use Rattle.timer_fd.specs.declared.calls.Reply.TheVariants as fd_replies
+use Rattle.timer_fd.specs.States.{fd_flags, is_readable}
+use Rattle.timer_fd.specs.Steps.{count_length, next_to_read}
+use Rattle.timer_setting.specs.Phases.{next_start}
+use Rattle.timer_objects.specs.declared.answers.Gettime.{Gettime}
+use Rattle.timer_objects.specs.declared.answers.Gettime.TheVariants as gettimes
+use Rattle.timer_objects.specs.declared.answers.Overrun.{Overrun}
+use Rattle.timer_objects.specs.declared.answers.Readable.{Readable}
+use Rattle.timer_objects.specs.declared.cell.ObjectCell.{ObjectCell}
+use Rattle.timer_objects.specs.declared.cell.Span.{Span}
+use Rattle.timer_objects.specs.declared.cell.SpannedCall.{SpannedCall}
+use Rattle.timer_objects.specs.declared.log.ObjectReceipt.{ObjectReceipt}
+use Rattle.timer_objects.specs.declared.object.Kind.{Kind}
+use Rattle.timer_objects.specs.declared.object.Kind.TheVariants as kinds
+use Rattle.timer_objects.specs.declared.object.Object.{Object}
+use Rattle.timer_objects.specs.declared.object.Object.TheVariants as objects
+use Rattle.timer_objects.specs.declared.object.ObjectCall.{ObjectCall}
+use Rattle.timer_objects.specs.declared.object.ObjectCall.TheVariants as calls
+use Rattle.timer_objects.specs.declared.object.ObjectReply.{ObjectReply}
+use Rattle.timer_objects.specs.declared.object.ObjectReply.TheVariants as replies
+use Rattle.timer_objects.specs.Steps.{object_answer, object_step}
+use Rattle.timer_objects.specs.Cells.{cell_meaning, spanned}
+use Rattle.timer_objects.specs.Known.{ObjectsOf, ObjectsPass, decl_at, seen_of}
+use Rattle.timer_objects.specs.Arming.{Arms, Disarms, Starts, stamp_seen}
+
+-- what a caller's passes know, and what its logs have
+pub record Caller : Type 0 where
+  pub timers : KnownOfTimers
+  pub objects : ObjectsPass
+  pub log : List Receipt
+  pub object_log : List ObjectReceipt
+
+-- ---- what all calls share
+
+-- The history of the object is full. Nothing was done but to look at it, and so many entries stand there.
+pub record FindsFull (x : ObjectsOf) (old new : Caller) (id n : ℕ) : Type 0 where
+  pub looks : LooksOn old.timers new.timers
+  pub reads : Reads cell_meaning old.objects new.objects id
+  pub full : x.limit ≤ n
+  pub stamp : n ≡ length (seen_of new.objects id)
+  pub log : new.log ≡ old.log
+  pub object_log : new.object_log ≡ old.object_log
+
+-- The call stands last in the object's history, which had room for it, and a receipt of it was noted.
+pub record EntersCall (x : ObjectsOf) (old new : Caller) (id : ℕ) (call : SpannedCall) (answer : ObjectReply) : Type 0 where
+  pub commits : Commits cell_meaning old.objects new.objects id call
+  pub reply : answer ≡ object_answer commits.state.object call.call
+  pub room : length commits.adds.before < x.limit
+  pub object_log : new.object_log
+      ≡ old.object_log ++ record { object = id; number = length commits.adds.before + 1; call = call; reply = answer } ∷ []
+
+-- the phase of an object
+abbrev pub phase_of : Object → Phase
+phase_of objects.Raw = phases.Idle
+phase_of (objects.Posix t) = t.phase
+phase_of (objects.Fd t) = t.phase
+
+-- ---- settime
+
+-- the flags of a settime that an object has
+abbrev pub flags_of : Kind → ℕ
+flags_of kinds.Raw = abstime
+flags_of kinds.Posix = abstime
+flags_of kinds.Fd = fd_flags
+
+-- why the arguments of a settime are refused, if they are: an unknown flag comes first, then a bad time
+abbrev pub argument_refusal : Kind → ℕ → TimeSpec → TimeSpec → Option SettimeAnswer
+argument_refusal kind flags value interval =
+    if not (nat_eq (bits_beyond (flags_of kind) flags) 0) then Some settings.BadFlags
+    else (if is_bad value || is_bad interval then Some settings.BadTime else None)
+
+-- a settime as a call on an object of this kind
+abbrev pub settime_call : Kind → SettimeCall → ObjectCall
+settime_call kinds.Raw c = calls.Posix (posix_calls.Settime c)
+settime_call kinds.Posix c = calls.Posix (posix_calls.Settime c)
+settime_call kinds.Fd c = calls.Fd (fd_calls.Settime c)
+
+-- the same with its arguments
+abbrev pub settime_by : ObjectsOf → ℕ → ℕ → ℕ → ℕ → ClockReading → Arm → ObjectCall
+settime_by x id flags value interval reading arm =
+    settime_call (decl_at x id).kind (record { flags = flags; value = value; interval = interval; reading = reading; arm = arm })
+
+-- what its reply answers to the caller
+abbrev pub SettimeTells : ObjectReply → SettimeAnswer → Type 0
+SettimeTells (replies.Posix (posix_replies.Settime (posix_settings.Old left interval))) a = a ≡ settings.Old left interval
+SettimeTells (replies.Posix (posix_replies.Settime (posix_settings.Unarmed stamp))) a = a ≡ settings.Unarmed stamp
+SettimeTells (replies.Posix (posix_replies.Settime posix_settings.BadFlags)) a = ⊥
+SettimeTells (replies.Posix (posix_replies.Settime posix_settings.BadTime)) a = ⊥
+SettimeTells (replies.Posix (posix_replies.Settime (posix_settings.Spent stamp))) a = ⊥
+SettimeTells (replies.Posix (posix_replies.Trigger r)) a = ⊥
+SettimeTells (replies.Posix (posix_replies.Accept r)) a = ⊥
+SettimeTells (replies.Fd (fd_replies.Settime r)) a = a ≡ r
+SettimeTells (replies.Fd (fd_replies.Trigger r)) a = ⊥
+SettimeTells (replies.Fd (fd_replies.Read r)) a = ⊥
+SettimeTells (replies.Fd (fd_replies.Gettime r)) a = ⊥
+SettimeTells replies.None a = ⊥
+
+-- a generation that a settime armed is the one that the object's phase has, with the timer's clock and expiry
+abbrev pub BearsStart : Opening → KnownOfTimers → ℕ → Arm → Phase → Type 0
+BearsStart o k t arms.NotAsked phase = phase ≡ phases.Idle
+BearsStart o k t (arms.Armed generation) phase = phase ≡ phases.Armed generation (timer_then o k.seen t).clock (timer_then o k.seen t).expires
+BearsStart o k t (arms.Unarmed stamp) phase = phase ≡ phases.Idle
+
+-- A settime with these arguments was made: while the object was locked its timer was disarmed, or seen to be idle; then started where the value
+-- isn't zero; then the object's entry was made, of the span of both.
+pub record SetsTimer (x : ObjectsOf) (o : Opening) (old new : Caller) (id flags value interval : ℕ) (reading : ClockReading) (a : SettimeAnswer) : Type 0 where
+  pub arm : Arm
+  pub span : Span
+  pub reply : ObjectReply
+  pub enters : EntersCall x old new id (spanned (settime_by x id flags value interval reading arm) span) reply
+  pub disarmed : KnownOfTimers
+  pub cancel_log : List Receipt
+  pub so_far : Span
+  pub disarms : Disarms o old.timers disarmed id enters.commits.state.last so_far old.log cancel_log
+  pub arms : Arms o disarmed new.timers id (start_by flags value) (decl_at x id).base reading arm cancel_log new.log
+  pub from : span.from ≡ so_far.from
+  pub to : span.to ≡ stamp_seen o new.timers id
+  pub bears : BearsStart o new.timers id arm (phase_of (object_step enters.commits.state.object (settime_by x id flags value interval reading arm)))
+  pub answer : SettimeTells reply a
+
+-- a settime with valid arguments: it is refused exactly where the object's history is full
+abbrev pub SettimeMade : ObjectsOf → Opening → Caller → Caller → ℕ → ℕ → ℕ → ℕ → ClockReading → SettimeAnswer → Type 0
+SettimeMade x o old new id flags value interval reading (settings.Spent n) = FindsFull x old new id n
+SettimeMade x o old new id flags value interval reading (settings.Old left was) = SetsTimer x o old new id flags value interval reading (settings.Old left was)
+SettimeMade x o old new id flags value interval reading (settings.Unarmed n) = SetsTimer x o old new id flags value interval reading (settings.Unarmed n)
+SettimeMade x o old new id flags value interval reading settings.Canceled = SetsTimer x o old new id flags value interval reading settings.Canceled
+SettimeMade x o old new id flags value interval reading settings.BadFlags = ⊥
+SettimeMade x o old new id flags value interval reading settings.BadTime = ⊥
+
+-- a settime: where its arguments are refused, that is its answer and nothing is other than before
+abbrev pub Settimes : ObjectsOf → Opening → Caller → Caller → ℕ → ℕ → TimeSpec → TimeSpec → ClockReading → SettimeAnswer → Type 0
+Settimes x o old new id flags value interval reading a =
+    MatchOption (argument_refusal (decl_at x id).kind flags value interval)
+        (SettimeMade x o old new id flags (time_of value) (time_of interval) reading a) (λ refusal. (a ≡ refusal) × (new ≡ old))
+
+-- ---- accept, read, and gettime of a descriptor
+
+-- A timer that is to be started was seen, after `from` entries, and started.
+pub record Rearms (o : Opening) (v w : KnownOfTimers) (t last : ℕ) (wanted : Wanted) (base : ℕ) (reading : ClockReading) (arm : Arm) (span : Span)
+    (log log' : List Receipt) : Type 0 where
+  pub begin : KnownOfTimers
+  pub looks : LooksOn v begin
+  pub from : span.from ≡ stamp_seen o begin t
+  pub behind : last ≤ span.from
+  pub starts : Starts o begin w t wanted base reading arm log log'
+  pub to : span.to ≡ stamp_seen o w t
+
+-- the same, or no start was wanted: then the timer isn't touched, and the span ends where the last one did
+abbrev pub RearmsFor : Opening → KnownOfTimers → KnownOfTimers → ℕ → ℕ → Option Wanted → ℕ → ClockReading → Arm → Span → List Receipt → List Receipt → Type 0
+RearmsFor o v w t last None base reading arm span log log' =
+    (arm ≡ arms.NotAsked) × LooksOn v w × (span ≡ record { from = last; to = last }) × (log' ≡ log)
+RearmsFor o v w t last (Some wanted) base reading arm span log log' = Rearms o v w t last wanted base reading arm span log log'
+
+-- the phase of a timer that was armed again has its generation and expiry
+abbrev pub BearsRestart : Opening → KnownOfTimers → ℕ → Arm → Phase → Type 0
+BearsRestart o k t arms.NotAsked phase = Unit {0}
+BearsRestart o k t (arms.Armed generation) phases.Idle = ⊥
+BearsRestart o k t (arms.Armed generation) (phases.Armed armed clock expires) = (armed ≡ generation) × (expires ≡ (timer_then o k.seen t).expires)
+BearsRestart o k t (arms.Armed generation) (phases.Expired clock expires) = ⊥
+BearsRestart o k t (arms.Unarmed stamp) phase = phase ≡ phases.Idle
+
+-- the start that a call of this kind wants of an object whose history has room
+pub data Rearming : Type 0 where
+  Accepting : Rearming
+  Reading : Rearming
+  Getting : Rearming
+
+abbrev pub wanted_by : Rearming → Object → ClockReading → Option Wanted
+wanted_by Accepting (objects.Posix t) reading = accept_wanted t reading
+wanted_by Reading (objects.Fd t) reading = next_to_read t reading
+wanted_by Getting (objects.Fd t) reading = next_start t.phase t.interval reading
+wanted_by r object reading = None
+
+abbrev pub rearming_call : Rearming → ClockReading → Arm → ObjectCall
+rearming_call Accepting reading arm = calls.Posix (posix_calls.Accept reading arm)
+rearming_call Reading reading arm = calls.Fd (fd_calls.Read reading arm)
+rearming_call Getting reading arm = calls.Fd (fd_calls.Gettime reading arm)
+
+-- Such a call was made: while the object was locked its timer was started in the mode that keeps its clock, where the call wants that; then the
+-- object's entry was made.
+pub record MakesRearming (x : ObjectsOf) (o : Opening) (old new : Caller) (id : ℕ) (r : Rearming) (reading : ClockReading) (reply : ObjectReply) : Type 0 where
+  pub arm : Arm
+  pub span : Span
+  pub enters : EntersCall x old new id (spanned (rearming_call r reading arm) span) reply
+  pub rearms : RearmsFor o old.timers new.timers id enters.commits.state.last (wanted_by r enters.commits.state.object reading) (decl_at x id).base reading
+      arm span old.log new.log
+  pub bears : BearsRestart o new.timers id arm (phase_of (object_step enters.commits.state.object (rearming_call r reading arm)))
+
+-- an accept: it is refused exactly where the object's history is full
+abbrev pub Accepts : ObjectsOf → Opening → Caller → Caller → ℕ → ClockReading → AcceptAnswer → Type 0
+Accepts x o old new id reading (acceptances.Spent n) = FindsFull x old new id n
+Accepts x o old new id reading (acceptances.Accepted overrun) =
+    MakesRearming x o old new id Accepting reading (replies.Posix (posix_replies.Accept (acceptances.Accepted overrun)))
+Accepts x o old new id reading acceptances.NoSignal =
+    MakesRearming x o old new id Accepting reading (replies.Posix (posix_replies.Accept acceptances.NoSignal))
+
+-- a read: a buffer that is too short is refused first, and nothing is other than before
+abbrev pub ReadsFd : ObjectsOf → Opening → Caller → Caller → ℕ → ℕ → ClockReading → ReadAnswer → Type 0
+ReadsFd x o old new id len reading reads.ShortBuffer = (len < count_length) × (new ≡ old)
+ReadsFd x o old new id len reading (reads.Spent n) = (count_length ≤ len) × FindsFull x old new id n
+ReadsFd x o old new id len reading (reads.Count total) =
+    (count_length ≤ len) × MakesRearming x o old new id Reading reading (replies.Fd (fd_replies.Read (reads.Count total)))
+ReadsFd x o old new id len reading reads.Canceled =
+    (count_length ≤ len) × MakesRearming x o old new id Reading reading (replies.Fd (fd_replies.Read reads.Canceled))
+ReadsFd x o old new id len reading reads.Again =
+    (count_length ≤ len) × MakesRearming x o old new id Reading reading (replies.Fd (fd_replies.Read reads.Again))
+
+-- ---- looks
+
+-- an object was looked at, and nothing of timers or logs is other than before; its state, and so many entries
+pub record LooksAtObject (old new : Caller) (id : ℕ) (object : Object) (n : ℕ) : Type 0 where
+  pub reads : Reads cell_meaning old.objects new.objects id
+  pub state : object ≡ reads.state.object
+  pub stamp : n ≡ length (seen_of new.objects id)
+  pub timers : new.timers ≡ old.timers
+  pub log : new.log ≡ old.log
+  pub object_log : new.object_log ≡ old.object_log
+
+-- a gettime: of a POSIX timer a look, of a descriptor a call that may arm its timer again, and makes entry number `stamp`
+abbrev pub Gettimes : ObjectsOf → Opening → Caller → Caller → ℕ → ClockReading → Kind → Gettime → Type 0
+Gettimes x o old new id reading kinds.Posix (gettimes.Left left interval stamp) =
+    (t : _) × LooksAtObject old new id (objects.Posix t) stamp × (record { left = left; interval = interval } ≡ setting_of t reading)
+Gettimes x o old new id reading kinds.Posix (gettimes.Spent stamp) = ⊥
+Gettimes x o old new id reading kinds.Fd (gettimes.Left left interval stamp) =
+    MakesRearming x o old new id Getting reading (replies.Fd (fd_replies.Gettime (lefts.Left left interval))) × (stamp ≡ length (seen_of new.objects id))
+Gettimes x o old new id reading kinds.Fd (gettimes.Spent n) = FindsFull x old new id n
+Gettimes x o old new id reading kinds.Raw a = ⊥
+
+-- whether a descriptor is ready to be read
+abbrev pub LooksReadable : Caller → Caller → ℕ → ClockReading → Readable → Type 0
+LooksReadable old new id reading a = (t : _) × LooksAtObject old new id (objects.Fd t) a.stamp × (a.ready ≡ is_readable t reading)
+
+-- the overrun of the last signal of a POSIX timer that was accepted
+abbrev pub LooksOverrun : Caller → Caller → ℕ → Overrun → Type 0
+LooksOverrun old new id a = (t : _) × LooksAtObject old new id (objects.Posix t) a.stamp × (a.overrun ≡ t.overrun)

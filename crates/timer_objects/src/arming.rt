@@ -1,0 +1,171 @@
+//! What calls on objects do to the timers below.
+ghost use Rattle.std.specs.Prelude.{◌≡◌, ◌≤◌, ◌<◌, ◌+◌, [], ◌∷◌, ◌++◌, length, MatchOption};
+ghost use Rattle.pass_names.specs.SharedHistory.{LooksOn};
+ghost use Rattle.hr_timers.specs.Known.{IsPassOf};
+ghost use Rattle.timer_setting.specs.Phases.{IsOutcomeOf};
+ghost use Rattle.seq_timer.specs.declared.event.Reply.TheVariants as replies;
+ghost use Rattle.expire_pass.specs.declared.log.Noted.TheVariants as noteds;
+ghost use Rattle.timer_objects.specs.Arming.{Arms, Disarms, SeesTimer, Starts};
+
+use crate::cell::Span;
+use expire_pass::Log;
+use hr_timers::{Pass, StartAnswer, Timers};
+use ktime::{ClockId, Reading};
+use seq_timer::{Event, Reply};
+use std::sync::Wait;
+use timer_core::CancelAnswer;
+use timer_setting::{Arm, Wanted};
+
+/// Looks at a timer. It answers after how many entries, or nothing where that is below `last`.
+pub(crate) fn look(timers: &Timers, pass: &mut Pass, timer: u32, last: u64) -> Option<u64>
+    requires pass { IsPassOf timers.now pass.old }
+    requires timer { timer < length timers.now.about.timers }
+    ensures pass { IsPassOf timers.now pass.new }
+    ensures sees { MatchOption result (LooksOn pass.old.known pass.new.known) (λ n. SeesTimer timers.now.about pass.old.known pass.new.known timer last n) }
+{
+    let seen = timers.peek(pass, timer);
+    if seen.stamp < last {
+        return None;
+    }
+    Some(seen.stamp)
+}
+
+/// Tries to disarm a timer, which is to have had at least `last` entries. It answers the span so far, or nothing where the timer's function
+/// is running.
+pub(crate) fn disarm<R: Wait>(
+    rt: &R,
+    timers: &Timers,
+    pass: &mut Pass,
+    log: &mut Log,
+    timer: u32,
+    last: u64,
+) -> Option<Span>
+    requires pass { IsPassOf timers.now pass.old }
+    requires timer { timer < length timers.now.about.timers }
+    requires room { 0 < log.old.spare }
+    ensures pass { IsPassOf timers.now pass.new }
+    ensures disarms { MatchOption result (LooksOn pass.old.known pass.new.known × (log.new ≡ log.old)) (λ span. Disarms timers.now.about pass.old.known pass.new.known timer last span log.old.receipts log.new.receipts) }
+    ensures room { log.old.spare ≤ log.new.spare + 1 }
+{
+    look(timers, pass, timer, last)?;
+    match timers.try_to_cancel(rt, pass, timer) {
+        CancelAnswer::Running { .. } => None,
+        CancelAnswer::Idle { stamp } => Some(Span {
+            from: stamp,
+            to: stamp,
+        }),
+        CancelAnswer::Cancelled { generation, number } => {
+            log.note(timer, number, Event::Cancel, Reply::Cancel { generation });
+            Some(Span {
+                from: number - 1,
+                to: number,
+            })
+        }
+    }
+}
+
+/// Makes the start that a step wants, if it wants one.
+pub(crate) fn arm<R: Wait>(
+    rt: &R,
+    timers: &Timers,
+    pass: &mut Pass,
+    log: &mut Log,
+    timer: u32,
+    wanted: Option<Wanted>,
+    base: u32,
+    reading: Reading,
+) -> Arm
+    requires pass { IsPassOf timers.now pass.old }
+    requires timer { timer < length timers.now.about.timers }
+    requires base { base < timers.now.about.bases }
+    requires room { 2 ≤ log.old.spare }
+    ensures pass { IsPassOf timers.now pass.new }
+    ensures arms { Arms timers.now.about pass.old.known pass.new.known timer wanted base reading result log.old.receipts log.new.receipts }
+    ensures outcome { IsOutcomeOf result wanted }
+    ensures room { log.old.spare ≤ log.new.spare + 2 }
+{
+    let Some(wanted) = wanted else {
+        return Arm::NotAsked;
+    };
+    start(rt, timers, pass, log, timer, wanted, base, reading)
+}
+
+/// Starts a timer.
+fn start<R: Wait>(
+    rt: &R,
+    timers: &Timers,
+    pass: &mut Pass,
+    log: &mut Log,
+    timer: u32,
+    wanted: Wanted,
+    base: u32,
+    reading: Reading,
+) -> Arm
+    requires pass { IsPassOf timers.now pass.old }
+    requires timer { timer < length timers.now.about.timers }
+    requires base { base < timers.now.about.bases }
+    requires room { 2 ≤ log.old.spare }
+    ensures pass { IsPassOf timers.now pass.new }
+    ensures starts { Starts timers.now.about pass.old.known pass.new.known timer wanted base reading result log.old.receipts log.new.receipts }
+    ensures room { log.old.spare ≤ log.new.spare + 2 }
+{
+    let Wanted { mode, ns } = wanted;
+    match timers.start(rt, pass, timer, mode, ns, base, reading) {
+        StartAnswer::Spent { stamp } => Arm::Unarmed(stamp),
+        StartAnswer::Started {
+            was_armed,
+            generation,
+            base: there,
+            outs,
+            clock,
+            expires,
+        } => {
+            let event = Event::Start {
+                mode,
+                ns,
+                reading,
+                asked: base,
+            };
+            if outs == 0 {
+                note_start(log, timer, generation, event, there, clock, expires, was_armed);
+            } else {
+                log.note(
+                    timer,
+                    generation - 1,
+                    Event::Out { base },
+                    Reply::Out { was_armed },
+                );
+                note_start(log, timer, generation, event, there, clock, expires, false);
+            }
+            Arm::Armed(generation)
+        }
+    }
+}
+
+/// Notes the receipt of a start's own entry.
+fn note_start(
+    log: &mut Log,
+    timer: u32,
+    generation: u64,
+    event: Event,
+    base: u32,
+    clock: ClockId,
+    expires: u64,
+    was_armed: bool,
+)
+    requires room { 0 < log.old.spare }
+    ensures receipt { log.new.receipts ≡ log.old.receipts ++ record { timer = timer; number = generation; event = event; reply = noteds.Entry (replies.Start base clock expires was_armed) } ∷ [] }
+    ensures spare { log.new.spare + 1 ≡ log.old.spare }
+{
+    log.note(
+        timer,
+        generation,
+        event,
+        Reply::Start {
+            base,
+            clock,
+            expires,
+            was_armed,
+        },
+    );
+}
