@@ -13,3 +13,4 @@ mod cell;
 mod log;
 mod object;
 mod objects;
+mod settime;
