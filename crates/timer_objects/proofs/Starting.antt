@@ -1,5 +1,5 @@
 -- What calls on an object do to its timer.
-use Rattle.std.proofs.Common.{arith, refl, sym, ap, subst, ◌≡◌, ◌∙◌, ℕ, zero, suc, ◌+◌, ◌-◌, ◌^◌, ◌≤◌, ◌<◌, Bool, true, false, not, nat_eq, List, [], ◌∷◌, ◌++◌, length}
+use Rattle.std.proofs.Common.{arith, refl, sym, ap, subst, ◌≡◌, ◌∙◌, ℕ, zero, suc, ◌+◌, ◌-◌, ◌^◌, ◌≤◌, ◌<◌, Bool, true, false, not, nat_eq, List, [], ◌∷◌, ◌++◌, length, append_assoc}
 use Rattle.std.proofs.lemmas.Bool.Decides.{nat_tests}
 use Rattle.std.proofs.lemmas.Nat.{pow_pos}
 use Rattle.std.specs.Prelude.{is_some, Some, None, if◌then◌else◌}
@@ -49,7 +49,7 @@ module _ (o : Opening) (v w : KnownOfTimers) (t : ℕ) (p : Peek) (peeks : Peeks
   }
 
 -- what was seen before a cancel goes on to it
-abbrev cancels_after : (o : Opening) (u v w : KnownOfTimers) (t : ℕ) (a : CancelAnswer) → LooksOn u v → Cancels o v w t a → Cancels o u w t a
+abbrev pub cancels_after : (o : Opening) (u v w : KnownOfTimers) (t : ℕ) (a : CancelAnswer) → LooksOn u v → Cancels o v w t a → Cancels o u w t a
 cancels_after o u v w t a looks c = record {
   at = c.at;
   made = record {
@@ -101,7 +101,7 @@ noted_by t mode ns asked reading false (starts.Started was_armed generation base
     record { timer = t; number = generation; event = events.Start mode ns reading asked; reply = noteds.Entry (replies.Start base clock expires was_armed) } ∷ []
 noted_by t mode ns asked reading moved (starts.Spent n) = []
 
-abbrev events_by : Mode → ℕ → ℕ → ClockReading → Bool → List Event
+abbrev pub events_by : Mode → ℕ → ℕ → ClockReading → Bool → List Event
 events_by mode ns asked reading moves = if moves then events.Out asked ∷ events.Start mode ns reading asked ∷ [] else events.Start mode ns reading asked ∷ []
 
 abbrev answer_by : Timer → ℕ → Bool → List Event → StartAnswer
@@ -159,3 +159,7 @@ starts_of o v w t base wanted reading log log' (starts.Spent n) moves told k arm
   where
     armed_not : (g n : ℕ) → arms.Armed g ≡ arms.Unarmed n → ⊥
     armed_not g n e = cc
+
+-- two receipts, one behind the other
+pub noted_both : (log mid all : List Receipt) (a b : Receipt) → mid ≡ log ++ a ∷ [] → all ≡ mid ++ b ∷ [] → all ≡ log ++ a ∷ b ∷ []
+noted_both log mid all a b first second = second ∙ (ap (λ l. l ++ b ∷ []) first ∙ append_assoc log (a ∷ []) (b ∷ []))

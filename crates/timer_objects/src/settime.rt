@@ -70,11 +70,38 @@ impl Objects {
             interval,
             reading,
         };
+        self.settime_valid(rt, timers, pass, objects_pass, log, object_log, id, &valid)
+    }
+
+    /// A settime with valid arguments.
+    fn settime_valid<R: Wait>(
+        &self,
+        rt: &R,
+        timers: &Timers,
+        pass: &mut Pass,
+        objects_pass: &mut RowPass<ObjectCell>,
+        log: &mut Log,
+        object_log: &mut ObjectLog,
+        id: u32,
+        valid: &ValidSettime,
+    ) -> SettimeAnswer
+        requires timers { IsPassOf timers.now pass.old }
+        requires objects { IsObjectsPass self.now objects_pass.old }
+        requires suits { Suits self.now timers.now.about }
+        requires within { id < length self.now.decls }
+        requires kind { (decl_at self.now id).kind ≢ kinds.Raw }
+        requires valid { IsValidSettime (decl_at self.now id).kind valid.now }
+        requires room { (4 ≤ log.old.spare) × (0 < object_log.old.spare) }
+        ensures timers { IsPassOf timers.now pass.new }
+        ensures objects { IsObjectsPass self.now objects_pass.new }
+        ensures made { SettimeMade self.now timers.now.about (record { timers = pass.old.known; objects = objects_pass.old; log = log.old.receipts; object_log = object_log.old.receipts }) (record { timers = pass.new.known; objects = objects_pass.new; log = log.new.receipts; object_log = object_log.new.receipts }) id valid.now.flags valid.now.value valid.now.interval valid.now.reading result }
+        ensures room { (log.old.spare ≤ log.new.spare + 4) × (object_log.old.spare ≤ object_log.new.spare + 1) }
+    {
         let backoff = Backoff::new();
         for _ in rt.forever() {
-            if let Some(answer) =
-                self.settime_once(rt, timers, pass, objects_pass, log, object_log, id, valid)
-            {
+            let tried =
+                self.settime_once(rt, timers, pass, objects_pass, log, object_log, id, valid);
+            if let Some(answer) = tried {
                 return answer;
             }
             backoff.snooze();
@@ -92,18 +119,18 @@ impl Objects {
         log: &mut Log,
         object_log: &mut ObjectLog,
         id: u32,
-        valid: ValidSettime,
+        valid: &ValidSettime,
     ) -> Option<SettimeAnswer>
         requires timers { IsPassOf timers.now pass.old }
         requires objects { IsObjectsPass self.now objects_pass.old }
         requires suits { Suits self.now timers.now.about }
         requires within { id < length self.now.decls }
         requires kind { (decl_at self.now id).kind ≢ kinds.Raw }
-        requires valid { IsValidSettime (decl_at self.now id).kind valid }
+        requires valid { IsValidSettime (decl_at self.now id).kind valid.now }
         requires room { (4 ≤ log.old.spare) × (0 < object_log.old.spare) }
         ensures timers { IsPassOf timers.now pass.new }
         ensures objects { IsObjectsPass self.now objects_pass.new }
-        ensures turn { MatchOption result (Waits (record { timers = pass.old.known; objects = objects_pass.old; log = log.old.receipts; object_log = object_log.old.receipts }) (record { timers = pass.new.known; objects = objects_pass.new; log = log.new.receipts; object_log = object_log.new.receipts })) (λ a. SettimeMade self.now timers.now.about (record { timers = pass.old.known; objects = objects_pass.old; log = log.old.receipts; object_log = object_log.old.receipts }) (record { timers = pass.new.known; objects = objects_pass.new; log = log.new.receipts; object_log = object_log.new.receipts }) id valid.flags valid.value valid.interval valid.reading a) }
+        ensures turn { MatchOption result (Waits (record { timers = pass.old.known; objects = objects_pass.old; log = log.old.receipts; object_log = object_log.old.receipts }) (record { timers = pass.new.known; objects = objects_pass.new; log = log.new.receipts; object_log = object_log.new.receipts })) (λ a. SettimeMade self.now timers.now.about (record { timers = pass.old.known; objects = objects_pass.old; log = log.old.receipts; object_log = object_log.old.receipts }) (record { timers = pass.new.known; objects = objects_pass.new; log = log.new.receipts; object_log = object_log.new.receipts }) id valid.now.flags valid.now.value valid.now.interval valid.now.reading a) }
         ensures again { IfNone result ((log.new ≡ log.old) × (object_log.new ≡ object_log.old)) }
         ensures room { (log.old.spare ≤ log.new.spare + 4) × (object_log.old.spare ≤ object_log.new.spare + 1) }
     {
@@ -161,8 +188,8 @@ impl Objects {
 
 impl ValidSettime {
     /// The settime with the outcome of the start that it wanted.
-    fn with(self, arm: Arm) -> SettimeCall
-        ensures { result ≡ record { flags = self.flags; value = self.value; interval = self.interval; reading = self.reading; arm = arm } }
+    fn with(&self, arm: Arm) -> SettimeCall
+        ensures { result ≡ record { flags = self.now.flags; value = self.now.value; interval = self.now.interval; reading = self.now.reading; arm = arm } }
     {
         SettimeCall {
             flags: self.flags,
