@@ -4,3 +4,6 @@ pub mod Logs
 pub mod Known
 pub mod Arming
 pub mod Calls
+pub mod Callbacks
+pub mod Triggers
+pub mod Firings
