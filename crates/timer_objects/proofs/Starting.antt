@@ -124,7 +124,7 @@ module _ (t : ℕ) (u : Timer) (mode : Mode) (ns asked : ℕ) (reading : ClockRe
         reply = noteds.Entry (replies.Start asked clock (expiry_from mode ns clock reading) false);
       } in
       ap (λ n. record { timer = t; number = n; event = events.Out asked; reply = noteds.Entry (replies.Out (is_some u.armed)) } ∷ start ∷ [])
-          {x = u.stamp + 1 + 1 - 1} {y = u.stamp + 1} (omega arith)
+      {x = u.stamp + 1 + 1 - 1} {y = u.stamp + 1} (omega arith)
   noted_along false = refl
 
   -- whether a start has moved the timer is told by its answer's outs

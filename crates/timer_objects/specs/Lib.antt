@@ -5,3 +5,6 @@ pub mod Known
 pub mod Arming
 pub mod Calls
 pub mod Valid
+pub mod Callbacks
+pub mod Triggers
+pub mod Firings

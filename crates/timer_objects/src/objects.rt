@@ -28,7 +28,7 @@ impl Model for Objects {
     ghost use Rattle.std.specs.Prelude.{◌≡◌, ◌≤◌, ◌<◌, length};
     ghost use Rattle.timer_setting.specs.Settimes.{most_entries};
     ghost use Rattle.timer_objects.specs.declared.object.ObjectCall.TheVariants as calls;
-ghost use Rattle.timer_objects.specs.Cells.{opened_cells};
+    ghost use Rattle.timer_objects.specs.Cells.{opened_cells};
     ghost use Rattle.timer_objects.specs.Known.{ObjectsOf};
 
     ghost Value = { ObjectsOf };
@@ -87,6 +87,13 @@ impl Objects {
         self.decls.len()
     }
 
+    /// The number of entries at which an object's history is full.
+    pub(crate) fn limit(&self) -> u64
+        ensures { result ≡ self.now.limit }
+    {
+        self.limit
+    }
+
     /// Waits until the lock of an object is free, and takes it.
     pub(crate) fn lock<R: Wait>(
         &self,
@@ -94,7 +101,8 @@ impl Objects {
         pass: &mut RowPass<ObjectCell>,
         id: u32,
     ) -> Held<ObjectCell>
-        requires pass { IsObjectsPass self.now pass.old }
+        requires row { IsPassOfRow (row_of self.now) pass.old }
+        requires idle { pass.old.knows.held ≡ None }
         requires within { id < length self.now.decls }
         ensures row { IsPassOfRow (row_of self.now) pass.new }
         ensures locks { Locks cell_meaning pass.old pass.new id result }
