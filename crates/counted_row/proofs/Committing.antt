@@ -16,6 +16,7 @@ use Rattle.counted_row.specs.declared.view.Locked.{Locked}
 use Rattle.counted_row.specs.declared.view.View.{View}
 use Rattle.counted_row.specs.Meaning.{CallMeaning}
 use Rattle.counted_row.specs.Views.{HasClaim, is_claim, StateAfter, Knows}
+use Rattle.counted_row.specs.Places.{row_word_at}
 use Rattle.counted_row.specs.Rules.{row_places, claims_at, Cell, HoldsValue, RowAgrees, RowInvariant}
 use Rattle.counted_row.proofs.Frames.{moved}
 use Rattle.pass_names.proofs.Counts.{set_there}
@@ -238,7 +239,7 @@ module _ {S C R : Type 0} (m : CallMeaning S C R) (counts : Counts m) (made : Li
   enters_count = omega (arith, ap length seen_here, length-append log (entry ∷ []), holds.stamp)
 
   pub enters_inv : RowInvariant m made record {
-    words = slice_set s.words (i + 1) (h.stamp + 1);
+    words = slice_set s.words (row_word_at i) (h.stamp + 1);
     homes = slice_set s.homes i (some (Some (m.next h.state c)));
     views = slice_set s.views id v';
   }
@@ -250,7 +251,7 @@ module _ {S C R : Type 0} (m : CallMeaning S C R) (counts : Counts m) (made : Li
   pub enters_knows : Knows m v'
   enters_knows =
       knows_of m made record {
-        words = slice_set s.words (i + 1) (h.stamp + 1);
+        words = slice_set s.words (row_word_at i) (h.stamp + 1);
         homes = slice_set s.homes i (some (Some (m.next h.state c)));
         views = slice_set s.views id v';
       } enters_inv id v' (set_there s.views id v v' at) live heard
@@ -258,8 +259,8 @@ module _ {S C R : Type 0} (m : CallMeaning S C R) (counts : Counts m) (made : Li
 module _ {S C R : Type 0} (m : CallMeaning S C R) (counts : Counts m) (made : List S) where
   pub enters : (slots id : ℕ) (v : View S C R) (h : Locked S) (c : C) (asks : C → Type 0) → asks c
       → v.pass.id.live ≡ true → v.heard ≡ [] → v.held ≡ Some h → m.may h.state c → HasClaimFor v.claims h.index (m.effect h.state c) → h.stamp < 2 ^ 48
-      → Allows (RowInvariant m made) slots id (v, (h.index, Some (m.next h.state c)) ∷ []) (h.index + 1) (λ _. h.stamp + 1)
-      (λ _. Enters m asks (step slots (h.index + 1) (h.stamp + 1) 0 none) (v, (h.index, Some (m.next h.state c)) ∷ []) (h.stamp + 1))
+      → Allows (RowInvariant m made) slots id (v, (h.index, Some (m.next h.state c)) ∷ []) (row_word_at h.index) (λ _. h.stamp + 1)
+      (λ _. Enters m asks (step slots (row_word_at h.index) (h.stamp + 1) 0 none) (v, (h.index, Some (m.next h.state c)) ∷ []) (h.stamp + 1))
   enters slots id v h c asks asked live heard held may permits low s inv many at small = (
     committed m h c v,
     gives,

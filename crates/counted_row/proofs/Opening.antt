@@ -16,6 +16,7 @@ use Rattle.counted_row.specs.declared.view.Locked.{Locked}
 use Rattle.counted_row.specs.declared.view.View.{View}
 use Rattle.counted_row.specs.Meaning.{CallMeaning}
 use Rattle.counted_row.specs.Views.{StateAfter, Knows, first_view}
+use Rattle.counted_row.specs.Places.{row_word_at}
 use Rattle.counted_row.specs.Rules.{Cell, RowAgrees, RowInvariant}
 use Rattle.counted_row.proofs.Knowing.{knows_of}
 
@@ -28,9 +29,6 @@ slot_at : {A : Type 0} (xs : List A) (i : ℕ) (x : A) → get_elem? xs i ≡ so
 slot_at [] i x e = absurd (some-ne-none x (sym e))
 slot_at (y ∷ ys) zero x e = ap (λ z. some (some (Some z))) (some-injective y x e)
 slot_at (y ∷ ys) (suc i) x e = slot_at ys i x e
-
-word_at : (n i : ℕ) → i < n + 1 → slice_index (replicate (n + 1) 0) i ≡ 0
-word_at n i h = get_or-replicate (n + 1) i 0 0 h
 
 module _ {S C R : Type 0} (m : CallMeaning S C R) (made : List S) where
   abbrev first : View S C R
@@ -64,14 +62,14 @@ module _ {S C R : Type 0} (m : CallMeaning S C R) (made : List S) where
   start i x at = subst (λ l. StateAfter m made i l x) (sym (entries_replicate (length made) i)) (record { from = x; at = at; leads = refl })
 
   cell : (i : ℕ) → i < length made
-      → Cell m made i (entries i logs) (get_elem? (map some (map Some made)) i) (slice_index (replicate (length made + 1) 0) (i + 1)) (slice_index holders i)
+      → Cell m made i (entries i logs) (get_elem? (map some (map Some made)) i) (slice_index (replicate (row_word_at (length made)) 0) (row_word_at i)) (slice_index holders i)
   cell i h =
       let x = value_at made i h in
       record {
         state = x.0;
         after = start i x.0 x.1;
         short = omega (arith, empty i);
-        free = λ e. (omega (arith, word_at (length made) (i + 1) (omega arith), empty i), slot_at made i x.0 x.1);
+        free = λ e. (omega (arith, get_or-replicate {A = ℕ} (row_word_at (length made)) (row_word_at i) 0 0 (omega arith), empty i), slot_at made i x.0 x.1);
         taken = λ n. absurd (n (get_or-replicate (length made) i 0 0 h));
       }
 
@@ -82,11 +80,11 @@ module _ {S C R : Type 0} (m : CallMeaning S C R) (made : List S) where
       none k = grind (arith, nat_tests)
 
   pub opens_inv : ((i : ℕ) (x : S) → get_elem? made i ≡ some x → m.claims x ≡ [])
-      → RowInvariant m made (opening (replicate (length made + 1) 0) (map Some made) first)
+      → RowInvariant m made (opening (replicate (row_word_at (length made)) 0) (map Some made) first)
   opens_inv unclaimed = record {
     logs = logs;
     holders = holders;
-    words_len = length-replicate (length made + 1) 0;
+    words_len = length-replicate (row_word_at (length made)) 0;
     homes_len = length-map (map Some made) some ∙ length-map made Some;
     logs_len = length-replicate (length made) [];
     holders_len = length-replicate (length made) 0;
@@ -111,15 +109,15 @@ module _ {S C R : Type 0} (m : CallMeaning S C R) (made : List S) where
   all_at P (y ∷ ys) all zero x e = subst P (some-injective y x e) (all 0 y (omega arith))
   all_at P (y ∷ ys) all (suc i) x e = all_at P ys (λ k d h. all (suc k) d (omega arith)) i x e
 
-  pub opens : (words : List ℕ) (slots : List (Option S)) → All (λ x. m.claims x ≡ []) made → words ≡ replicate (length made + 1) 0
+  pub opens : (words : List ℕ) (slots : List (Option S)) → All (λ x. m.claims x ≡ []) made → words ≡ replicate (row_word_at (length made)) 0
       → slots ≡ map Some made → RowInvariant m made (opening words slots first)
   opens words slots unclaimed is_words is_slots =
       subst (λ ws. RowInvariant m made (opening ws slots first)) (sym is_words)
-      (subst (λ ss. RowInvariant m made (opening (replicate (length made + 1) 0) ss first)) (sym is_slots)
+      (subst (λ ss. RowInvariant m made (opening (replicate (row_word_at (length made)) 0) ss first)) (sym is_slots)
       (opens_inv (λ i x e. all_at (λ y. m.claims y ≡ []) made unclaimed i x e)))
 
   -- the first pass knows that it is the last
   pub knows_first : All (λ x. m.claims x ≡ []) made → Knows m first
   knows_first unclaimed =
-      knows_of m made (opening (replicate (length made + 1) 0) (map Some made) first)
-      (opens (replicate (length made + 1) 0) (map Some made) unclaimed refl refl) 0 first refl refl refl
+      knows_of m made (opening (replicate (row_word_at (length made)) 0) (map Some made) first)
+      (opens (replicate (row_word_at (length made)) 0) (map Some made) unclaimed refl refl) 0 first refl refl refl

@@ -13,6 +13,7 @@ use Rattle.counted_row.specs.declared.view.Locked.{Locked}
 use Rattle.counted_row.specs.declared.view.View.{View}
 use Rattle.counted_row.specs.Meaning.{CallMeaning}
 use Rattle.counted_row.specs.Views.{having_seen}
+use Rattle.counted_row.specs.Places.{row_word_at}
 use Rattle.counted_row.specs.Rules.{taken_mark, Cell, HoldsValue, RowAgrees, RowInvariant}
 use Rattle.counted_row.specs.Plays.{Looked, Hit, Took}
 use Rattle.pass_names.proofs.Counts.{set_there}
@@ -60,17 +61,17 @@ module _ {S C R : Type 0} (m : CallMeaning S C R) (made : List S) where
     abbrev Goes : State (Option S) (View S C R) → Bool → Type 0
     Goes s hit =
         (w : View S C R) × (a : Act (Option S)) × Valid s.homes [] a × RowInvariant m made
-        (stepped s (i + 1) (either hit (stamp + taken_mark) (slice_index s.words (i + 1))) id [] w a)
-        × ((k : ℕ) → i + 1 ≡ k + 1 → MatchBool hit (Hit m (step slots (i + 1) stamp (stamp + taken_mark) none) (v, []) k (w, carried_after [] a))
-        (Looked m (step slots (i + 1) stamp (stamp + taken_mark) none) (v, []) (slice_index s.words (i + 1)) (w, carried_after [] a)))
+        (stepped s (row_word_at i) (either hit (stamp + taken_mark) (slice_index s.words (row_word_at i))) id [] w a)
+        × ((k : ℕ) → row_word_at i ≡ row_word_at k → MatchBool hit (Hit m (step slots (row_word_at i) stamp (stamp + taken_mark) none) (v, []) k (w, carried_after [] a))
+        (Looked m (step slots (row_word_at i) stamp (stamp + taken_mark) none) (v, []) (slice_index s.words (row_word_at i)) (w, carried_after [] a)))
 
     goes : (s : State (Option S) (View S C R)) → RowInvariant m made s → length s.homes ≡ slots → get_elem? s.views id ≡ some v
-        → (hit : Bool) → eqb (slice_index s.words (i + 1)) stamp ≡ hit → Goes s hit
+        → (hit : Bool) → eqb (slice_index s.words (row_word_at i)) stamp ≡ hit → Goes s hit
     goes s inv many at false miss =
-        let l = looks_at m made slots id v [] live (step slots (i + 1) stamp (stamp + taken_mark) none) (i + 1) refl refl s inv many at in
+        let l = looks_at m made slots id v [] live (step slots (row_word_at i) stamp (stamp + taken_mark) none) (row_word_at i) refl refl s inv many at in
         (l.0, l.1, l.2, l.3, λ k e. l.4)
     goes s inv many at true hit =
-        let found : slice_index s.words (i + 1) ≡ stamp = eqb-true (slice_index s.words (i + 1)) stamp hit in
+        let found : slice_index s.words (row_word_at i) ≡ stamp = eqb-true (slice_index s.words (row_word_at i)) stamp hit in
         let in_made : i < length made = omega (arith, inv.homes_len) in
         let cell = inv.each_cell i in_made in
         let unheld : slice_index inv.holders i ≡ 0 = ⊎_elim (λ e. e) (λ n. absurd (omega (arith, cell.taken n))) (cases_eq (slice_index inv.holders i) 0) in
@@ -97,7 +98,7 @@ module _ {S C R : Type 0} (m : CallMeaning S C R) (made : List S) where
           taken = λ n. omega (arith, free.0);
         } in
         let next : RowInvariant m made record {
-          words = slice_set s.words (i + 1) (stamp + taken_mark);
+          words = slice_set s.words (row_word_at i) (stamp + taken_mark);
           homes = slice_set s.homes i none;
           views = slice_set s.views id v2;
         } =
@@ -107,26 +108,26 @@ module _ {S C R : Type 0} (m : CallMeaning S C R) (made : List S) where
           free.1,
           next,
           λ k e.
-              subst (λ q. Hit m (step slots (i + 1) stamp (stamp + taken_mark) none) (v, []) q (v2, (i, Some cell.state) ∷ [])) (omega arith) (record {
+              subst (λ q. Hit m (step slots (row_word_at i) stamp (stamp + taken_mark) none) (v, []) q (v2, (i, Some cell.state) ∷ [])) (omega arith) (record {
                 state = cell.state;
                 seen = inv.logs;
                 goes_on = (inv.each_view id v at).seen;
                 rest = refl;
                 knows = knows_of m made record {
-                  words = slice_set s.words (i + 1) (stamp + taken_mark);
+                  words = slice_set s.words (row_word_at i) (stamp + taken_mark);
                   homes = slice_set s.homes i none;
                   views = slice_set s.views id v2;
                 } next id v2 (set_there s.views id v v2 at) live refl;
               }),
         )
 
-    pub takes_lock : Allows (RowInvariant m made) slots id (v, []) (i + 1) (λ n. either (eqb n stamp) (stamp + taken_mark) n)
-        (Took m (step slots (i + 1) stamp (stamp + taken_mark) none) (v, []))
-    takes_lock s inv many at small = goes s inv many at (eqb (slice_index s.words (i + 1)) stamp) refl
+    pub takes_lock : Allows (RowInvariant m made) slots id (v, []) (row_word_at i) (λ n. either (eqb n stamp) (stamp + taken_mark) n)
+        (Took m (step slots (row_word_at i) stamp (stamp + taken_mark) none) (v, []))
+    takes_lock s inv many at small = goes s inv many at (eqb (slice_index s.words (row_word_at i)) stamp) refl
 
   module _ (slots id : ℕ) (v : View S C R) (h : Locked S) (live : v.pass.id.live ≡ true) (heard : v.heard ≡ []) (held : v.held ≡ Some h) where
-    pub frees : Allows (RowInvariant m made) slots id (v, (h.index, Some h.state) ∷ []) (h.index + 1) (λ _. h.stamp)
-        (λ _. Freed m (step slots (h.index + 1) h.stamp 0 none) (v, (h.index, Some h.state) ∷ []) h.stamp)
+    pub frees : Allows (RowInvariant m made) slots id (v, (h.index, Some h.state) ∷ []) (row_word_at h.index) (λ _. h.stamp)
+        (λ _. Freed m (step slots (row_word_at h.index) h.stamp 0 none) (v, (h.index, Some h.state) ∷ []) h.stamp)
     frees s inv many at small =
         let t = (inv.each_view id v at).held h held in
         let i = h.index in
@@ -142,7 +143,7 @@ module _ {S C R : Type 0} (m : CallMeaning S C R) (made : List S) where
           taken = λ n. absurd (n refl);
         } in
         let next : RowInvariant m made record {
-          words = slice_set s.words (i + 1) h.stamp;
+          words = slice_set s.words (row_word_at i) h.stamp;
           homes = slice_set s.homes i (some (Some h.state));
           views = slice_set s.views id v';
         } =
@@ -155,7 +156,7 @@ module _ {S C R : Type 0} (m : CallMeaning S C R) (made : List S) where
             after = refl;
             count = λ g e. let same : h ≡ g = cc in subst (λ q. q.stamp ≡ length (entries q.index v.pass.seen)) same (t.stamp ∙ ap length (sym t.seen));
             knows = knows_of m made record {
-              words = slice_set s.words (i + 1) h.stamp;
+              words = slice_set s.words (row_word_at i) h.stamp;
               homes = slice_set s.homes i (some (Some h.state));
               views = slice_set s.views id v';
             } next id v' (set_there s.views id v v' at) live heard;
