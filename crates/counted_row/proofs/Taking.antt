@@ -17,40 +17,23 @@ use Rattle.counted_row.specs.Places.{row_word_at}
 use Rattle.counted_row.specs.Rules.{taken_mark, Cell, HoldsValue, RowAgrees, RowInvariant}
 use Rattle.counted_row.specs.Plays.{Looked, Hit, Took}
 use Rattle.pass_names.proofs.Counts.{set_there}
-use Rattle.counted_row.proofs.Knowing.{knows_of}
+use Rattle.counted_row.proofs.Knowing.{knows_of, no_lock}
 use Rattle.counted_row.specs.Views.{released}
 use Rattle.counted_row.specs.Plays.{Freed}
 use Rattle.counted_row.proofs.Frames.{shifted}
 use Rattle.counted_row.proofs.Looking.{agrees_seen, looks_at}
 
 module _ {S C R : Type 0} (m : CallMeaning S C R) (made : List S) where
-  -- a seat that holds nothing fits whoever holds what
-  pub agrees_idle : (logs : List (List (Entry C R))) (holders holders' : List ℕ) (id : ℕ) (v : View S C R) → v.held ≡ None
-      → RowAgrees m made logs holders id v → RowAgrees m made logs holders' id v
-  agrees_idle logs holders holders' id v idle agrees = record {
+  -- a seat may come to hold what fits, whoever holds what else
+  agrees_held : (logs : List (List (Entry C R))) (holders holders' : List ℕ) (id : ℕ) (v : View S C R) (held : Option (Locked S))
+      → RowAgrees m made logs holders id v → ((h : Locked S) → held ≡ Some h → HoldsValue m made logs holders' id v.pass.seen h)
+      → RowAgrees m made logs holders' id (record v { held = held })
+  agrees_held logs holders holders' id v held agrees holds = record {
     opening = agrees.opening;
     wide = agrees.wide;
     seen = agrees.seen;
     heard = agrees.heard;
-    held = λ h e. absurd (no_lock h (sym idle ∙ e));
-    mine = agrees.mine;
-    claims = agrees.claims;
-    gone = agrees.gone;
-  }
-    where
-      no_lock : (h : Locked S) → None ≡ Some h → ⊥
-      no_lock h e = cc
-
-  -- a seat that has seen all of a history may hold its value
-  agrees_holding : (logs : List (List (Entry C R))) (holders : List ℕ) (id : ℕ) (v : View S C R) (h : Locked S)
-      → RowAgrees m made logs holders id v → HoldsValue m made logs holders id v.pass.seen h
-      → RowAgrees m made logs holders id (record v { held = Some h })
-  agrees_holding logs holders id v h agrees holds = record {
-    opening = agrees.opening;
-    wide = agrees.wide;
-    seen = agrees.seen;
-    heard = agrees.heard;
-    held = λ k e. let t : h ≡ k = cc in subst (HoldsValue m made logs holders id v.pass.seen) t holds;
+    held = holds;
     mine = agrees.mine;
     claims = agrees.claims;
     gone = agrees.gone;
@@ -88,8 +71,8 @@ module _ {S C R : Type 0} (m : CallMeaning S C R) (made : List S) where
           state = cell.after;
         } in
         let agrees : RowAgrees m made inv.logs holders id v2 =
-        agrees_holding inv.logs holders id v1 h (agrees_idle inv.logs inv.holders holders id v1 idle
-        (agrees_seen m made inv.logs inv.holders id v inv.logs_len (inv.each_view id v at))) holds in
+        agrees_held inv.logs inv.holders holders id v1 (Some h) (agrees_seen m made inv.logs inv.holders id v inv.logs_len (inv.each_view id v at))
+        (λ k e. let t : h ≡ k = cc in subst (HoldsValue m made inv.logs holders id inv.logs) t holds) in
         let cell' : Cell m made i (entries i inv.logs) (some none) (stamp + taken_mark) (id + 1) = record {
           state = cell.state;
           after = cell.after;
@@ -97,11 +80,12 @@ module _ {S C R : Type 0} (m : CallMeaning S C R) (made : List S) where
           free = λ e. absurd (omega arith);
           taken = λ n. omega (arith, free.0);
         } in
-        let next : RowInvariant m made record {
+        let taken : State (Option S) (View S C R) = record {
           words = slice_set s.words (row_word_at i) (stamp + taken_mark);
           homes = slice_set s.homes i none;
           views = slice_set s.views id v2;
-        } =
+        } in
+        let next : RowInvariant m made taken =
         shifted m made s inv i id v v2 (stamp + taken_mark) (id + 1) none at in_made (inl unheld) cell' agrees refl (λ k n. refl) (λ k name. refl) in (
           v2,
           takes i (Some cell.state),
@@ -113,11 +97,7 @@ module _ {S C R : Type 0} (m : CallMeaning S C R) (made : List S) where
                 seen = inv.logs;
                 goes_on = (inv.each_view id v at).seen;
                 rest = refl;
-                knows = knows_of m made record {
-                  words = slice_set s.words (row_word_at i) (stamp + taken_mark);
-                  homes = slice_set s.homes i none;
-                  views = slice_set s.views id v2;
-                } next id v2 (set_there s.views id v v2 at) live refl;
+                knows = knows_of m made taken next id v2 (set_there s.views id v v2 at) live refl;
               }),
         )
 
@@ -134,7 +114,7 @@ module _ {S C R : Type 0} (m : CallMeaning S C R) (made : List S) where
         let v' : View S C R = released v in
         let cell = inv.each_cell i t.within in
         let agrees : RowAgrees m made inv.logs (set inv.holders i 0) id v' =
-        agrees_idle inv.logs inv.holders (set inv.holders i 0) id v' refl (agrees_let_go inv.logs inv.holders v (inv.each_view id v at)) in
+        agrees_held inv.logs inv.holders (set inv.holders i 0) id v None (inv.each_view id v at) (λ h e. absurd (no_lock h e)) in
         let cell' : Cell m made i (entries i inv.logs) (some (some (Some h.state))) h.stamp 0 = record {
           state = h.state;
           after = t.state;
@@ -142,11 +122,12 @@ module _ {S C R : Type 0} (m : CallMeaning S C R) (made : List S) where
           free = λ e. (t.stamp, refl);
           taken = λ n. absurd (n refl);
         } in
-        let next : RowInvariant m made record {
+        let freed : State (Option S) (View S C R) = record {
           words = slice_set s.words (row_word_at i) h.stamp;
           homes = slice_set s.homes i (some (Some h.state));
           views = slice_set s.views id v';
-        } =
+        } in
+        let next : RowInvariant m made freed =
         shifted m made s inv i id v v' h.stamp 0 (some (Some h.state)) at t.within (inr t.holder) cell' agrees refl (λ k n. refl) (λ k name. refl) in (
           v',
           gives,
@@ -155,26 +136,6 @@ module _ {S C R : Type 0} (m : CallMeaning S C R) (made : List S) where
           record {
             after = refl;
             count = λ g e. let same : h ≡ g = cc in subst (λ q. q.stamp ≡ length (entries q.index v.pass.seen)) same (t.stamp ∙ ap length (sym t.seen));
-            knows = knows_of m made record {
-              words = slice_set s.words (row_word_at i) h.stamp;
-              homes = slice_set s.homes i (some (Some h.state));
-              views = slice_set s.views id v';
-            } next id v' (set_there s.views id v v' at) live heard;
+            knows = knows_of m made freed next id v' (set_there s.views id v v' at) live heard;
           },
         )
-      where
-        agrees_let_go : (logs : List (List (Entry C R))) (holders : List ℕ) (v : View S C R) → RowAgrees m made logs holders id v
-            → RowAgrees m made logs holders id (released v)
-        agrees_let_go logs holders v agrees = record {
-          opening = agrees.opening;
-          wide = agrees.wide;
-          seen = agrees.seen;
-          heard = agrees.heard;
-          held = λ h e. absurd (no_lock h e);
-          mine = agrees.mine;
-          claims = agrees.claims;
-          gone = agrees.gone;
-        }
-          where
-            no_lock : (h : Locked S) → None ≡ Some h → ⊥
-            no_lock h e = cc

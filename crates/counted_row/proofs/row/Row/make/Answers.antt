@@ -1,4 +1,4 @@
-use Rattle.std.proofs.Common.{◌≡◌, ◌+◌, ◌∙◌, length, replicate, ap, sym, subst, arith}
+use Rattle.std.proofs.Common.{◌≡◌, ◌∙◌, length, replicate, ap, sym, subst, arith}
 use Rattle.counted_row.specs.Places.{row_word_at}
 use Rattle.counted_row.specs.Views.{Knows, first_view}
 use Rattle.counted_row.proofs.Opening.{opens, knows_first}
