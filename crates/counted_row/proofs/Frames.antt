@@ -159,7 +159,11 @@ module _ {S C R : Type 0} (m : CallMeaning S C R) (made : List S) where
           ))
           (cases_eq k i)
 
-      pub moved : RowInvariant m made record { words = slice_set s.words (row_word_at i) word; homes = slice_set s.homes i slot; views = slice_set s.views id v' }
+      pub moved : RowInvariant m made record {
+        words = slice_set s.words (row_word_at i) word;
+        homes = slice_set s.homes i slot;
+        views = slice_set s.views id v';
+      }
       moved = record {
         logs = set inv.logs i new;
         holders = set inv.holders i holder;
@@ -264,7 +268,11 @@ module _ {S C R : Type 0} (m : CallMeaning S C R) (made : List S) where
       unchanged : set inv.logs i (entries i inv.logs) ≡ inv.logs
       unchanged = set-get_or inv.logs i []
 
-      pub shifted : RowInvariant m made record { words = slice_set s.words (row_word_at i) word; homes = slice_set s.homes i slot; views = slice_set s.views id v' }
+      pub shifted : RowInvariant m made record {
+        words = slice_set s.words (row_word_at i) word;
+        homes = slice_set s.homes i slot;
+        views = slice_set s.views id v';
+      }
       shifted =
           moved i id v v' (entries i inv.logs) word holder slot at inside (inl refl) idle cell
           (subst (λ ls. RowAgrees m made ls (set inv.holders i holder) id v') (sym unchanged) agrees)

@@ -140,7 +140,11 @@ module _ {S C R : Type 0} (m : CallMeaning S C R) (v : View S C R) (knows : Know
   }
 
   pub knows_split : Knows m (split_view v)
-  knows_split = knows_less (after_split v.pass.id) v.pass.mine v.heard v.claims v.held (splitter_not_last v.pass.id) (λ i name one. one) (λ h e. e) (λ i k. le_refl _)
+  knows_split =
+      knows_less (after_split v.pass.id) v.pass.mine v.heard v.claims v.held (splitter_not_last v.pass.id) (λ i name one. one) (λ h e. e)
+      (λ i k. le_refl _)
 
   pub knows_new : Knows m (new_view v)
-  knows_new = knows_less (child_of v.pass.id) [] [] [] None (child_not_last v.pass.id) (λ i name one. absurd (omega arith)) (λ h e. absurd (no_lock h e)) (λ i k. omega arith)
+  knows_new =
+      knows_less (child_of v.pass.id) [] [] [] None (child_not_last v.pass.id) (λ i name one. absurd (omega arith))
+      (λ h e. absurd (no_lock h e)) (λ i k. omega arith)

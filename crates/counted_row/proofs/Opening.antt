@@ -49,7 +49,8 @@ module _ {S C R : Type 0} (m : CallMeaning S C R) (made : List S) where
   start i x at = subst (λ l. StateAfter m made i l x) (sym (entries_replicate (length made) i)) (record { from = x; at = at; leads = refl })
 
   cell : (i : ℕ) → i < length made
-      → Cell m made i (entries i logs) (get_elem? (map some (map Some made)) i) (slice_index (replicate (row_word_at (length made)) 0) (row_word_at i)) (slice_index holders i)
+      → Cell m made i (entries i logs) (get_elem? (map some (map Some made)) i) (slice_index (replicate (row_word_at (length made)) 0) (row_word_at i))
+      (slice_index holders i)
   cell i h =
       let x = value_at made i h in
       record {

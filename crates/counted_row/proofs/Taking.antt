@@ -45,7 +45,8 @@ module _ {S C R : Type 0} (m : CallMeaning S C R) (made : List S) where
     Goes s hit =
         (w : View S C R) × (a : Act (Option S)) × Valid s.homes [] a × RowInvariant m made
         (stepped s (row_word_at i) (either hit (stamp + taken_mark) (slice_index s.words (row_word_at i))) id [] w a)
-        × ((k : ℕ) → row_word_at i ≡ row_word_at k → MatchBool hit (Hit m (step slots (row_word_at i) stamp (stamp + taken_mark) none) (v, []) k (w, carried_after [] a))
+        × ((k : ℕ) → row_word_at i ≡ row_word_at k
+        → MatchBool hit (Hit m (step slots (row_word_at i) stamp (stamp + taken_mark) none) (v, []) k (w, carried_after [] a))
         (Looked m (step slots (row_word_at i) stamp (stamp + taken_mark) none) (v, []) (slice_index s.words (row_word_at i)) (w, carried_after [] a)))
 
     goes : (s : State (Option S) (View S C R)) → RowInvariant m made s → length s.homes ≡ slots → get_elem? s.views id ≡ some v
