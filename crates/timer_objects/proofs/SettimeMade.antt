@@ -1,11 +1,9 @@
 -- A turn of a settime, as its clause tells it.
 use Rattle.std.proofs.Common.{arith, refl, sym, ap, subst, ◌≡◌, ◌≢◌, ◌∙◌, ℕ, ◌+◌, ◌<◌, ◌≤◌, List, [], ◌∷◌, ◌++◌, length}
 use Rattle.ktime.specs.Readings.{ClockReading}
-use Rattle.ktime.specs.Times.{last_time}
-use Rattle.pass_names.specs.Passes.{Begins}
 use Rattle.pass_names.proofs.Passes.{begins_trans}
 use Rattle.base_row.specs.declared.view.Opening.{Opening}
-use Rattle.hr_timers.specs.Known.{KnownOfTimers, timer_then}
+use Rattle.hr_timers.specs.Known.{KnownOfTimers}
 use Rattle.hr_timers.proofs.Moments.{stamp_rises}
 use Rattle.expire_pass.specs.declared.log.Receipt.{Receipt}
 use Rattle.timer_setting.specs.declared.arming.Arm.{Arm}

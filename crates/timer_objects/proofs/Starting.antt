@@ -1,9 +1,8 @@
 -- What calls on an object do to its timer.
-use Rattle.std.proofs.Common.{arith, refl, sym, ap, subst, ◌≡◌, ◌∙◌, ℕ, zero, suc, ◌+◌, ◌-◌, ◌^◌, ◌≤◌, ◌<◌, Bool, true, false, not, nat_eq, List, [], ◌∷◌, ◌++◌, length, append_assoc}
+use Rattle.std.proofs.Common.{arith, refl, sym, ap, ◌≡◌, ◌∙◌, ℕ, ◌+◌, ◌-◌, ◌^◌, ◌≤◌, Bool, true, false, not, nat_eq, List, [], ◌∷◌, ◌++◌, length, append_assoc}
 use Rattle.std.proofs.lemmas.Bool.Decides.{nat_tests}
 use Rattle.std.proofs.lemmas.Nat.{pow_pos}
-use Rattle.std.specs.Prelude.{is_some, Some, None, if◌then◌else◌}
-use Rattle.ktime.specs.declared.clock_id.ClockId.{ClockId}
+use Rattle.std.specs.Prelude.{is_some, if◌then◌else◌}
 use Rattle.ktime.specs.declared.mode.Mode.{Mode}
 use Rattle.ktime.specs.Times.{effective_clock}
 use Rattle.ktime.specs.Readings.{ClockReading}
@@ -19,7 +18,6 @@ use Rattle.seq_timer.specs.declared.event.Event.{Event}
 use Rattle.seq_timer.specs.declared.event.Event.TheVariants as events
 use Rattle.seq_timer.specs.declared.event.Reply.TheVariants as replies
 use Rattle.seq_timer.specs.declared.observation.Peek.{Peek}
-use Rattle.seq_timer.specs.Histories as seq
 use Rattle.seq_timer.specs.Steps.{Timer, expiry_from}
 use Rattle.timer_core.specs.Answers.{moves_first, start_events}
 use Rattle.timer_core.specs.Kept.{step_all}
@@ -29,7 +27,7 @@ use Rattle.timer_core.specs.declared.answer.CancelAnswer.TheVariants as cancels
 use Rattle.base_row.specs.declared.view.Opening.{Opening}
 use Rattle.hr_timers.specs.declared.answer.StartAnswer.{StartAnswer}
 use Rattle.hr_timers.specs.declared.answer.StartAnswer.TheVariants as starts
-use Rattle.hr_timers.specs.Known.{KnownOfTimers, MadeAt, timer_then}
+use Rattle.hr_timers.specs.Known.{KnownOfTimers, timer_then}
 use Rattle.hr_timers.specs.Calls.{Cancels, Peeks, StartsTimer, cancel_entries, start_answer}
 use Rattle.hr_timers.proofs.Moments.{stamp_made, stamp_rises}
 use Rattle.expire_pass.proofs.Turning.{looks_then}

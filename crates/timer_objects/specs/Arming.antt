@@ -3,7 +3,6 @@ use Rattle.std.specs.Prelude.{ℕ, ◌≡◌, ◌+◌, ◌≤◌, List, [], ◌�
 use Rattle.ktime.specs.Readings.{ClockReading}
 use Rattle.pass_names.specs.SharedHistory.{LooksOn}
 use Rattle.seq_timer.specs.Histories as seq
-use Rattle.seq_timer.specs.Steps.{Timer}
 use Rattle.timer_core.specs.declared.answer.CancelAnswer.{CancelAnswer}
 use Rattle.timer_core.specs.declared.answer.CancelAnswer.TheVariants as cancels
 use Rattle.base_row.specs.declared.view.Opening.{Opening}
