@@ -192,6 +192,7 @@ module _ (o : Opening) (v w : KnownOfTimers) (t : ℕ) (d : Decl) (flags value b
   pub arms_bears : (arm : Arm) → Arms o v w t (start_by flags value) base reading arm log log' → BearsStart o w t arm (set_armed arm)
   arms_bears arm a = at (nat_eq value 0) a
     where
-      at : (b : Bool) → Arms o v w t (if b then None else Some (record { mode = mode_by flags; ns = value })) base reading arm log log' → BearsStart o w t arm (set_armed arm)
+      at : (b : Bool) → Arms o v w t (if b then None else Some (record { mode = mode_by flags; ns = value })) base reading arm log log'
+          → BearsStart o w t arm (set_armed arm)
       at true a = subst (λ x. BearsStart o w t x (set_armed x)) (sym a.0) refl
       at false a = start_bears arm a.answer a.outcome a.starts
