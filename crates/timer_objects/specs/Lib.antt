@@ -4,3 +4,4 @@ pub mod Logs
 pub mod Known
 pub mod Arming
 pub mod Calls
+pub mod Rearming

@@ -11,5 +11,10 @@ mod answers;
 mod arming;
 mod cell;
 mod log;
+mod looking;
 mod object;
 mod objects;
+mod rearming;
+mod wanting;
+#[cfg(test)]
+mod tests;

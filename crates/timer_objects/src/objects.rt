@@ -1,5 +1,5 @@
 //! Objects that many threads share, and what each call does at their row.
-ghost use Rattle.std.specs.Prelude.{◌≡◌, ◌≤◌, ◌<◌, ◌+◌, [], ◌∷◌, ◌++◌, Some, length, IfOk};
+ghost use Rattle.std.specs.Prelude.{◌≡◌, ◌≤◌, ◌<◌, ◌+◌, [], ◌∷◌, ◌++◌, Some, length, nat_le, IfOk};
 ghost use Rattle.pass_names.specs.Names.{AnswersFor, IsLast};
 ghost use Rattle.pass_names.specs.Passes.{HasEach, Meets, Retires};
 ghost use Rattle.timer_setting.specs.Settimes.{most_entries};
@@ -218,6 +218,13 @@ impl Objects {
                 to,
             },
         )
+    }
+
+    /// Whether the history of a held object is full.
+    pub(crate) fn is_full(&self, held: &Held<ObjectCell>) -> bool
+        ensures { result ≡ nat_le self.now.limit held.now.stamp }
+    {
+        held.stamp() >= self.limit
     }
 
     /// Lets the lock of a held object go, and answers how many entries the object's history has.
