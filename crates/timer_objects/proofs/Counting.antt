@@ -65,7 +65,7 @@ after_log : (d : Decl) (limit n : ℕ) (x y : ObjectCell) (log : List (Entry Spa
 after_log d limit n x y [] is leads = subst (λ z. IsObjectOf d limit (n + 0) z.object) (sym leads) (subst (λ k. IsObjectOf d limit k x.object) (omega arith) is)
 after_log d limit n x y (e ∷ es) is leads =
     subst (λ k. IsObjectOf d limit k y.object) (omega arith)
-        (after_log d limit (n + 1) (cell_meaning.next x e.call) y es (one_more d limit n x.object e.call.call is leads.0.allowed) leads.2)
+    (after_log d limit (n + 1) (cell_meaning.next x e.call) y es (one_more d limit n x.object e.call.call is leads.0.allowed) leads.2)
 
 opened_is : (d : Decl) (limit : ℕ) (kind : Kind) → d.kind ≡ kind → IsObjectOf d limit 0 (opened_as kind d.clock d.base limit)
 opened_is d limit kinds.Raw e = (e, refl)

@@ -18,18 +18,18 @@ use Rattle.timer_objects.specs.declared.wanting.Ended.{Ended}
 use Rattle.timer_objects.specs.declared.wanting.Ended.TheVariants as ends
 use Rattle.timer_objects.specs.Known.{ObjectsOf}
 use Rattle.timer_objects.specs.Arming.{Starts}
-use Rattle.timer_objects.specs.Calls.{Caller, EntersCall, RearmsFor}
-use Rattle.timer_objects.specs.Rearming.{Ends, Misses}
+use Rattle.timer_objects.specs.Calls.{Caller, EntersCall, RearmsFor, Waits}
+use Rattle.timer_objects.specs.Rearming.{Ends}
 
 module _ {a b c : Caller} where
   -- an entry of an object behind looks
-  abbrev pub enters_after : {x : ObjectsOf} {id : ℕ} {call : SpannedCall} {answer : ObjectReply} → Misses a b → EntersCall x b c id call answer
+  abbrev pub enters_after : {x : ObjectsOf} {id : ℕ} {call : SpannedCall} {answer : ObjectReply} → Waits a b → EntersCall x b c id call answer
       → EntersCall x a c id call answer
-  enters_after {x} {id} {call} {answer} misses e = record {
-    commits = commits_after misses.objects e.commits;
+  enters_after {x} {id} {call} {answer} waits e = record {
+    commits = commits_after waits.objects e.commits;
     reply = e.reply;
     room = e.room;
-    object_log = e.object_log ∙ ap (λ l. l ++ record { object = id; number = length e.commits.adds.before + 1; call = call; reply = answer } ∷ []) misses.object_log;
+    object_log = e.object_log ∙ ap (λ l. l ++ record { object = id; number = length e.commits.adds.before + 1; call = call; reply = answer } ∷ []) waits.object_log;
   }
 
 module _ (o : Opening) (u v w : KnownOfTimers) (t last base : ℕ) (reading : ClockReading) (arm : Arm) (span : Span) (log log' log'' : List Receipt) where
@@ -45,22 +45,22 @@ module _ (o : Opening) (u v w : KnownOfTimers) (t last base : ℕ) (reading : Cl
     to = rearms.to;
   }
 
-pub ends_after : (x : ObjectsOf) (o : Opening) (a b c : Caller) (id : ℕ) (r : Rearming) (reading : ClockReading) (e : Ended) → Misses a b
+pub ends_after : (x : ObjectsOf) (o : Opening) (a b c : Caller) (id : ℕ) (r : Rearming) (reading : ClockReading) (e : Ended) → Waits a b
     → Ends x o b c id r reading e → Ends x o a c id r reading e
-ends_after x o a b c id r reading (ends.Full n) misses found = record {
-  looks = looks_trans a.timers b.timers c.timers misses.timers found.looks;
-  reads = reads_after misses.objects found.reads;
+ends_after x o a b c id r reading (ends.Full n) waits found = record {
+  looks = looks_trans a.timers b.timers c.timers waits.timers found.looks;
+  reads = reads_after waits.objects found.reads;
   full = found.full;
   stamp = found.stamp;
-  log = found.log ∙ misses.log;
-  object_log = found.object_log ∙ misses.object_log;
+  log = found.log ∙ waits.log;
+  object_log = found.object_log ∙ waits.object_log;
 }
-ends_after x o a b c id r reading (ends.Made n reply) misses made =
+ends_after x o a b c id r reading (ends.Made n reply) waits made =
     let m = made.0 in
     (record {
       arm = m.arm;
       span = m.span;
-      enters = enters_after misses m.enters;
-      rearms = rearms_after o a.timers b.timers c.timers id _ _ reading m.arm m.span a.log b.log c.log _ misses.timers misses.log m.rearms;
+      enters = enters_after waits m.enters;
+      rearms = rearms_after o a.timers b.timers c.timers id _ _ reading m.arm m.span a.log b.log c.log _ waits.timers waits.log m.rearms;
       bears = m.bears;
     }, made.1, made.2)

@@ -4,4 +4,8 @@ pub mod Logs
 pub mod Known
 pub mod Arming
 pub mod Calls
+pub mod Valid
 pub mod Rearming
+pub mod Callbacks
+pub mod Triggers
+pub mod Firings

@@ -3,8 +3,6 @@ use Rattle.std.specs.Prelude.{ℕ, ◌≡◌, ◌<◌, length}
 use Rattle.ktime.specs.Readings.{ClockReading}
 use Rattle.expire_pass.specs.Logs.{LogOf}
 use Rattle.hr_timers.specs.Known.{PassOf}
-use Rattle.pass_names.specs.SharedHistory.{LooksOn}
-use Rattle.counted_row.specs.Views.{Sees}
 use Rattle.base_row.specs.declared.view.Opening.{Opening}
 use Rattle.posix_timer.specs.declared.answers.AcceptAnswer.{AcceptAnswer}
 use Rattle.posix_timer.specs.declared.answers.AcceptAnswer.TheVariants as acceptances
@@ -35,13 +33,6 @@ use Rattle.timer_objects.specs.Calls.{Caller, FindsFull, MakesRearming}
 -- what a caller's passes know, and what its logs have
 abbrev pub caller_of : PassOf → ObjectsPass → LogOf → ObjectLogOf → Caller
 caller_of pass objects log object_log = record { timers = pass.known; objects = objects; log = log.receipts; object_log = object_log.receipts }
-
--- nothing was done but to look: all is tried again
-pub record Misses (old new : Caller) : Type 0 where
-  pub timers : LooksOn old.timers new.timers
-  pub objects : Sees old.objects new.objects
-  pub log : new.log ≡ old.log
-  pub object_log : new.object_log ≡ old.object_log
 
 -- the kind of object that has such a call
 abbrev pub kind_of : Rearming → Kind

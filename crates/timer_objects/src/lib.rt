@@ -2,19 +2,25 @@
 #![tactic(auto)]
 
 pub use answers::{Gettime, Overrun, Readable};
+pub use callback::Callback;
 pub use cell::{ObjectCell, Span, SpannedCall};
+pub use firing::{Firing, FiringWith};
 pub use log::{ObjectLog, ObjectReceipt};
 pub use object::{Decl, Kind, Object, ObjectCall, ObjectReply};
 pub use objects::Objects;
 
 mod answers;
 mod arming;
+mod callback;
 mod cell;
+mod firing;
 mod log;
 mod looking;
 mod object;
 mod objects;
 mod rearming;
-mod wanting;
+mod settime;
 #[cfg(test)]
 mod tests;
+mod trigger;
+mod wanting;

@@ -1,5 +1,5 @@
 //! Objects that many threads share, and what each call does at their row.
-ghost use Rattle.std.specs.Prelude.{◌≡◌, ◌≤◌, ◌<◌, ◌+◌, [], ◌∷◌, ◌++◌, Some, length, nat_le, IfOk};
+ghost use Rattle.std.specs.Prelude.{◌≡◌, ◌≤◌, ◌<◌, ◌+◌, [], ◌∷◌, ◌++◌, Some, length, IfOk, MatchBool};
 ghost use Rattle.pass_names.specs.Names.{AnswersFor, IsLast};
 ghost use Rattle.pass_names.specs.Passes.{HasEach, Meets, Retires};
 ghost use Rattle.timer_setting.specs.Settimes.{most_entries};
@@ -28,7 +28,7 @@ impl Model for Objects {
     ghost use Rattle.std.specs.Prelude.{◌≡◌, ◌≤◌, ◌<◌, length};
     ghost use Rattle.timer_setting.specs.Settimes.{most_entries};
     ghost use Rattle.timer_objects.specs.declared.object.ObjectCall.TheVariants as calls;
-ghost use Rattle.timer_objects.specs.Cells.{opened_cells};
+    ghost use Rattle.timer_objects.specs.Cells.{opened_cells};
     ghost use Rattle.timer_objects.specs.Known.{ObjectsOf};
 
     ghost Value = { ObjectsOf };
@@ -87,6 +87,13 @@ impl Objects {
         self.decls.len()
     }
 
+    /// The number of entries at which an object's history is full.
+    pub(crate) fn limit(&self) -> u64
+        ensures { result ≡ self.now.limit }
+    {
+        self.limit
+    }
+
     /// Waits until the lock of an object is free, and takes it.
     pub(crate) fn lock<R: Wait>(
         &self,
@@ -94,13 +101,21 @@ impl Objects {
         pass: &mut RowPass<ObjectCell>,
         id: u32,
     ) -> Held<ObjectCell>
-        requires pass { IsObjectsPass self.now pass.old }
+        requires row { IsPassOfRow (row_of self.now) pass.old }
+        requires idle { pass.old.knows.held ≡ None }
         requires within { id < length self.now.decls }
         ensures row { IsPassOfRow (row_of self.now) pass.new }
         ensures locks { Locks cell_meaning pass.old pass.new id result }
         ensures holds { HoldsObject self.now result }
     {
         self.row.lock(rt, pass, id as usize)
+    }
+
+    /// Whether the history of a held object is full.
+    pub(crate) fn is_full(&self, held: &Held<ObjectCell>) -> bool
+        ensures { MatchBool result (self.now.limit ≤ held.now.stamp) (held.now.stamp < self.now.limit) }
+    {
+        held.stamp() >= self.limit
     }
 
     /// Makes a call on a held object, notes the receipt, and lets the object's lock go.
@@ -218,13 +233,6 @@ impl Objects {
                 to,
             },
         )
-    }
-
-    /// Whether the history of a held object is full.
-    pub(crate) fn is_full(&self, held: &Held<ObjectCell>) -> bool
-        ensures { result ≡ nat_le self.now.limit held.now.stamp }
-    {
-        held.stamp() >= self.limit
     }
 
     /// Lets the lock of a held object go, and answers how many entries the object's history has.

@@ -1,5 +1,5 @@
 //! The calls that make an entry of an object and arm its timer again where it is periodic and has expired.
-ghost use Rattle.std.specs.Prelude.{◌≡◌, ◌≤◌, ◌<◌, ◌+◌, [], ◌∷◌, ◌++◌, length, IfSome, MatchOption};
+ghost use Rattle.std.specs.Prelude.{◌≡◌, ◌≤◌, ◌<◌, ◌+◌, [], ◌∷◌, ◌++◌, length, IfNone, IfSome, MatchOption};
 ghost use Rattle.pass_names.specs.SharedHistory.{LooksOn};
 ghost use Rattle.hr_timers.specs.Known.{IsPassOf};
 ghost use Rattle.counted_row.specs.Views.{Sees};
@@ -8,8 +8,8 @@ ghost use Rattle.timer_objects.specs.declared.object.Kind.TheVariants as kinds;
 ghost use Rattle.timer_objects.specs.declared.wanting.Rearming.TheVariants as rearmings;
 ghost use Rattle.timer_objects.specs.Cells.{spanned};
 ghost use Rattle.timer_objects.specs.Known.{HoldsObject, IsObjectsPass, MayEnter, Enters, Suits, decl_at, receipt_of};
-ghost use Rattle.timer_objects.specs.Calls.{Accepts, Gettimes, ReadsFd, RearmsFor, rearming_call};
-ghost use Rattle.timer_objects.specs.Rearming.{Ends, Misses, caller_of, kind_of};
+ghost use Rattle.timer_objects.specs.Calls.{Accepts, Gettimes, ReadsFd, RearmsFor, Waits, rearming_call};
+ghost use Rattle.timer_objects.specs.Rearming.{Ends, caller_of, kind_of};
 
 use crate::answers::Gettime;
 use crate::arming::{arm, look};
@@ -17,6 +17,7 @@ use crate::cell::{ObjectCell, Span};
 use crate::log::ObjectLog;
 use crate::object::{ObjectCall, ObjectReply};
 use crate::objects::Objects;
+use crate::settime::end_of;
 use crate::wanting::{COUNT_LENGTH, Ended, Rearming, wanted};
 use counted_row::{Held, RowPass};
 use crossbeam_utils::Backoff;
@@ -200,9 +201,9 @@ impl Objects {
         requires room { (2 ≤ log.old.spare) × (1 ≤ object_log.old.spare) }
         ensures pass { IsPassOf timers.now pass.new }
         ensures objects { IsObjectsPass self.now objects_pass.new }
-        ensures ends { MatchOption result (Misses (caller_of pass.old objects_pass.old log.old object_log.old) (caller_of pass.new objects_pass.new log.new object_log.new)) (λ e. Ends self.now timers.now.about (caller_of pass.old objects_pass.old log.old object_log.old) (caller_of pass.new objects_pass.new log.new object_log.new) id call reading e) }
+        ensures ends { MatchOption result (Waits (caller_of pass.old objects_pass.old log.old object_log.old) (caller_of pass.new objects_pass.new log.new object_log.new)) (λ e. Ends self.now timers.now.about (caller_of pass.old objects_pass.old log.old object_log.old) (caller_of pass.new objects_pass.new log.new object_log.new) id call reading e) }
         ensures room { (log.old.spare ≤ log.new.spare + 2) × (object_log.old.spare ≤ object_log.new.spare + 1) }
-        ensures again { MatchOption result ((log.new ≡ log.old) × (object_log.new ≡ object_log.old)) (λ e. Unit) }
+        ensures again { IfNone result ((log.new ≡ log.old) × (object_log.new ≡ object_log.old)) }
     {
         let held = self.lock(rt, objects_pass, id);
         if self.is_full(&held) {
@@ -280,18 +281,15 @@ fn start_again<R: Wait>(
     ensures outcome { IfSome result (λ r. IsOutcomeOf r.0 wanted) }
     ensures room { log.old.spare ≤ log.new.spare + 2 }
 {
-    if wanted.is_none() {
+    let Some(start) = wanted else {
         let span = Span {
             from: last,
             to: last,
         };
         return Some((Arm::NotAsked, span));
-    }
-    let from = look(timers, pass, timer, last)?;
-    let outcome = arm(rt, timers, pass, log, timer, wanted, base, reading);
-    let to = match outcome {
-        Arm::NotAsked => from,
-        Arm::Armed(number) | Arm::Unarmed(number) => number,
     };
+    let from = look(timers, pass, timer, last)?;
+    let outcome = arm(rt, timers, pass, log, timer, Some(start), base, reading);
+    let to = end_of(outcome, from);
     Some((outcome, Span { from, to }))
 }

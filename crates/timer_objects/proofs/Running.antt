@@ -1,0 +1,58 @@
+-- A timer whose function runs, at a call that its function makes.
+use Rattle.std.proofs.Common.{◌≡◌, ℕ, ◌<◌, List, [], ◌∷◌, refl, ap, sym, ◌∙◌, subst, true, false}
+use Rattle.std.specs.Prelude.{Bool, Some, unwrap_or, if◌then◌else◌}
+use Rattle.std.proofs.lemmas.Option.{none-some}
+use Rattle.ktime.specs.declared.mode.Mode.{Mode}
+use Rattle.ktime.specs.Readings.{ClockReading}
+use Rattle.seq_timer.specs.declared.event.Event.TheVariants as events
+use Rattle.seq_timer.specs.declared.system.TimerEntry.{TimerEntry}
+use Rattle.seq_timer.specs.Histories as seq
+use Rattle.seq_timer.specs.Steps.{Timer}
+use Rattle.timer_core.specs.declared.answer.CancelAnswer.{CancelAnswer}
+use Rattle.timer_core.specs.declared.answer.CancelAnswer.TheVariants as cancels
+use Rattle.timer_core.specs.Answers.{moves_first}
+use Rattle.timer_core.specs.Runs.{entries_along}
+use Rattle.hr_timers.specs.declared.answer.StartAnswer.{StartAnswer}
+use Rattle.hr_timers.specs.declared.answer.StartAnswer.TheVariants as starts
+use Rattle.hr_timers.specs.Calls.{Cancels, cancel_entries, start_entries}
+use Rattle.hr_timers.specs.Known.{KnownOfTimers, KnowsTimers, MadeAt, OwnsClaim, count_of, timer_then}
+use Rattle.hr_timers.specs.declared.numbers.ClaimNumbers.{ClaimNumbers}
+use Rattle.hr_timers.proofs.Moments.{timer_after}
+use Rattle.base_row.specs.declared.view.Opening.{Opening}
+
+-- a timer whose claim a pass keeps through a call ran before the call's entries, where these leave that as it is
+pub ran_before : (o : Opening) (v w : KnownOfTimers) (c : ClaimNumbers) (x : List TimerEntry) (es : List seq.Entry) → KnowsTimers o w
+    → OwnsClaim o v c → w.claims ≡ v.claims → MadeAt v w c.timer x es
+    → (seq.after_all (timer_then o x c.timer) es).running ≡ (timer_then o x c.timer).running → (timer_then o x c.timer).running ≡ Some c.generation
+ran_before o v w c x es knows owns claims made stays =
+    sym stays ∙ (ap (λ (s : Timer). s.running) (sym (timer_after o v w c.timer x es made))
+    ∙ (knows.claims c.timer c.generation c.base owns.within (subst (λ l. 0 < count_of c l) (sym claims) owns.stands)).0)
+
+-- a start leaves a function running
+pub start-running : (t : Timer) (mode : Mode) (ns asked : ℕ) (reading : ClockReading) (a : StartAnswer)
+    → (seq.after_all t (start_entries t mode ns asked reading a)).running ≡ t.running
+start-running t mode ns asked reading (starts.Started was_armed generation base outs clock expires) = at (moves_first t asked)
+  where
+    at : (b : Bool) → (seq.after_all t (entries_along t (if b then events.Out asked ∷ events.Start mode ns reading asked ∷ [] else
+        events.Start mode ns reading asked ∷ []))).running ≡ t.running
+    at true = refl
+    at false = refl
+start-running t mode ns asked reading (starts.Spent n) = refl
+
+-- so does a cancel, and a claim's own timer is seen to run
+cancel-running : (t : Timer) (a : CancelAnswer) → (seq.after_all t (cancel_entries a)).running ≡ t.running
+cancel-running t (cancels.Idle n) = refl
+cancel-running t (cancels.Cancelled g n) = refl
+cancel-running t (cancels.Running g n) = refl
+
+module _ (o : Opening) (v w : KnownOfTimers) (c : ClaimNumbers) (knows : KnowsTimers o w) (owns : OwnsClaim o v c) where
+  pub runs_yet : (a : CancelAnswer) (k : Cancels o v w c.timer a) → (timer_then o k.at c.timer).running ≡ Some c.generation
+  runs_yet a k = ran_before o v w c k.at (cancel_entries a) knows owns k.claims k.made (cancel-running (timer_then o k.at c.timer) a)
+
+  pub seen_running : (a : CancelAnswer) → Cancels o v w c.timer a → (g n : ℕ) × (a ≡ cancels.Running g n)
+  seen_running (cancels.Idle n) k = absurd (none-some c.generation (sym k.fits.0.running ∙ runs_yet (cancels.Idle n) k))
+  seen_running (cancels.Cancelled g n) k = absurd (none-some c.generation (sym k.fits.1 ∙ runs_yet (cancels.Cancelled g n) k))
+  seen_running (cancels.Running g n) k = (g, n, refl)
+
+  pub its_own : (g n : ℕ) → Cancels o v w c.timer (cancels.Running g n) → g ≡ c.generation
+  its_own g n k = ap (λ x. unwrap_or x 0) (sym k.fits.0 ∙ runs_yet (cancels.Running g n) k)

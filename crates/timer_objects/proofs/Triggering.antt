@@ -1,0 +1,35 @@
+-- A trigger, from the clauses of the lock of its object and of its end.
+use Rattle.std.proofs.Common.{◌≡◌, ℕ, ◌+◌, ◌<◌, List, [], ◌∷◌, ◌++◌, length, ap, ◌∙◌, subst}
+use Rattle.pass_names.specs.Passes.{Adds}
+use Rattle.counted_row.specs.declared.view.Locked.{Locked}
+use Rattle.counted_row.specs.Views.{IsPassOfRow, Locks}
+use Rattle.counted_row.proofs.Calls.{commits_of}
+use Rattle.timer_objects.specs.declared.cell.ObjectCell.{ObjectCell}
+use Rattle.timer_objects.specs.declared.cell.SpannedCall.{SpannedCall}
+use Rattle.timer_objects.specs.declared.log.ObjectReceipt.{ObjectReceipt}
+use Rattle.timer_objects.specs.declared.object.ObjectReply.{ObjectReply}
+use Rattle.timer_objects.specs.Steps.{object_answer}
+use Rattle.timer_objects.specs.Cells.{cell_meaning}
+use Rattle.timer_objects.specs.Known.{Enters, IsObjectsPass, ObjectsOf, ObjectsPass, receipt_of, row_of, seen_of}
+use Rattle.timer_objects.specs.Triggers.{EntersTrigger}
+
+module _ (x : ObjectsOf) (p m q : ObjectsPass) (id : ℕ) (h : Locked ObjectCell) (call : SpannedCall) (log log' : List ObjectReceipt)
+    (locks : Locks cell_meaning p m id h) (here : IsPassOfRow (row_of x) m) (after : IsObjectsPass x q) where
+  -- what is held counts the entries of its object
+  counted : h.stamp ≡ length (seen_of m id)
+  counted = locks.now.stamp ∙ ap (λ i. length (seen_of m i)) locks.index
+
+  pub entered : (answer : ObjectReply) → Enters m q h call answer → h.stamp < x.limit → log' ≡ log ++ receipt_of h call ∷ []
+      → EntersTrigger x p q log log' id call
+  entered answer enters room noted =
+      let told = subst (λ r. Adds m.knows.pass q.knows.pass h.index (record { call = call; reply = r } ∷ [])) enters.reply enters.adds in
+      record {
+        commits = commits_of locks here after.row told enters.knows after.knows;
+        room = subst (λ n. n < x.limit) counted room;
+        receipt = noted ∙ (λ i. log ++ record {
+          object = locks.index i;
+          number = counted i + 1;
+          call = call;
+          reply = object_answer h.state.object call.call;
+        } ∷ []);
+      }

@@ -1,0 +1,88 @@
+-- What the callbacks of timers by themselves do.
+use Rattle.std.specs.Prelude.{ℕ, ◌≡◌, ◌+◌, max, List, [], ◌∷◌, ◌++◌, Some}
+use Rattle.ktime.specs.declared.mode.Mode.TheVariants as modes
+use Rattle.ktime.specs.Readings.{ClockReading}
+use Rattle.seq_timer.specs.declared.event.Event.{Event}
+use Rattle.seq_timer.specs.declared.event.Event.TheVariants as events
+use Rattle.seq_timer.specs.declared.event.Reply.TheVariants as replies
+use Rattle.seq_timer.specs.declared.observation.Observation.{Observation}
+use Rattle.seq_timer.specs.declared.observation.Observation.TheVariants as observations
+use Rattle.timer_core.specs.declared.answer.CancelAnswer.TheVariants as cancels
+use Rattle.timer_core.specs.declared.answer.ForwardAnswer.{ForwardAnswer}
+use Rattle.timer_core.specs.declared.answer.ForwardAnswer.TheVariants as forwards
+use Rattle.base_row.specs.declared.view.Opening.{Opening}
+use Rattle.hr_timers.specs.declared.answer.StartAnswer.{StartAnswer}
+use Rattle.hr_timers.specs.declared.answer.StartAnswer.TheVariants as starts
+use Rattle.hr_timers.specs.declared.numbers.ClaimNumbers.{ClaimNumbers}
+use Rattle.hr_timers.specs.Known.{KnownOfTimers, timer_then}
+use Rattle.hr_timers.specs.Calls.{Cancels, Forwards, StartsTimer}
+use Rattle.expire_pass.specs.declared.handler.Restart.{Restart}
+use Rattle.expire_pass.specs.declared.handler.Restart.TheVariants as restarts
+use Rattle.expire_pass.specs.declared.log.Noted.TheVariants as noteds
+use Rattle.expire_pass.specs.declared.log.Receipt.{Receipt}
+use Rattle.timer_objects.specs.declared.callback.Callback.{Callback}
+use Rattle.timer_objects.specs.declared.callback.Callback.TheVariants as callbacks
+
+-- the least number above every base that a callback asks for
+abbrev pub bases_for : Callback → ℕ
+bases_for callbacks.Once = 0
+bases_for (callbacks.Every interval) = 0
+bases_for callbacks.Cancels = 0
+bases_for (callbacks.Starts ns base) = base + 1
+
+-- the least number above every base that one of the callbacks asks for
+abbrev pub bases_of : List Callback → ℕ
+bases_of [] = 0
+bases_of (x ∷ xs) = max (bases_for x) (bases_of xs)
+
+-- ---- receipts
+
+-- the receipt of what was seen of a claim's timer at this stamp, in place of an entry
+abbrev pub look_receipt : ClaimNumbers → ℕ → Event → Observation → Receipt
+look_receipt c stamp event seen = record { timer = c.timer; number = stamp; event = event; reply = noteds.Look seen }
+
+-- the receipt of a forward
+abbrev pub forward_receipt : ClaimNumbers → ClockReading → ℕ → ForwardAnswer → Receipt
+forward_receipt c reading interval (forwards.Forwarded number passed expires) =
+    record { timer = c.timer; number = number; event = events.Forward reading interval; reply = noteds.Entry (replies.Forward passed expires) }
+forward_receipt c reading interval (forwards.Spent n) = look_receipt c n (events.Forward reading interval) observations.Spent
+forward_receipt c reading interval (forwards.Armed g n) = look_receipt c n (events.Forward reading interval) (observations.Armed g)
+
+-- the receipt of a start
+abbrev pub start_receipt : ClaimNumbers → ClockReading → ℕ → ℕ → StartAnswer → Receipt
+start_receipt c reading ns asked (starts.Started was_armed generation base outs clock expires) = record {
+  timer = c.timer;
+  number = generation;
+  event = events.Start modes.Rel ns reading asked;
+  reply = noteds.Entry (replies.Start base clock expires was_armed);
+}
+start_receipt c reading ns asked (starts.Spent n) = look_receipt c n (events.Start modes.Rel ns reading asked) observations.Spent
+
+-- ---- callbacks
+
+module _ (o : Opening) (v w : KnownOfTimers) (c : ClaimNumbers) where
+  -- the claim's timer was asked to move on by whole intervals
+  pub record RunsForward (reading : ClockReading) (log log' : List Receipt) (interval : ℕ) : Type 0 where
+    pub answer : ForwardAnswer
+    pub forwards : Forwards o v w c reading interval answer
+    pub receipt : log' ≡ log ++ forward_receipt c reading interval answer ∷ []
+
+  -- the claim's timer was seen to run, by a try to cancel it
+  pub record RunsCancel (log log' : List Receipt) : Type 0 where
+    pub stamp : ℕ
+    pub cancels : Cancels o v w c.timer (cancels.Running c.generation stamp)
+    pub receipt : log' ≡ log ++ look_receipt c stamp events.Cancel (observations.Running c.generation) ∷ []
+
+  -- the claim's timer was started, or its history is full. It ran, so it has kept its base.
+  pub record RunsStart (reading : ClockReading) (log log' : List Receipt) (ns asked : ℕ) : Type 0 where
+    pub answer : StartAnswer
+    pub starts : StartsTimer o v w c.timer modes.Rel ns asked reading answer
+    pub runs : (timer_then o starts.at c.timer).running ≡ Some c.generation
+    pub receipt : log' ≡ log ++ start_receipt c reading ns asked answer ∷ []
+
+  -- what a callback does, the receipts that it notes, and whether it asks for a restart
+  abbrev pub RunsCallback : ClockReading → List Receipt → List Receipt → Callback → Restart → Type 0
+  RunsCallback reading log log' callbacks.Once restart = (w ≡ v) × (log' ≡ log) × (restart ≡ restarts.Stop)
+  RunsCallback reading log log' (callbacks.Every interval) restart = RunsForward reading log log' interval × (restart ≡ restarts.Again)
+  RunsCallback reading log log' callbacks.Cancels restart = RunsCancel log log' × (restart ≡ restarts.Stop)
+  RunsCallback reading log log' (callbacks.Starts ns asked) restart = RunsStart reading log log' ns asked × (restart ≡ restarts.Again)

@@ -1,0 +1,53 @@
+-- What the handler of objects' timers does.
+use Rattle.std.specs.Prelude.{ℕ, ◌≡◌, length, get_or, min, Option, Some, None}
+use Rattle.ktime.specs.Readings.{ClockReading}
+use Rattle.base_row.specs.declared.view.Opening.{Opening}
+use Rattle.hr_timers.specs.declared.numbers.ClaimNumbers.{ClaimNumbers}
+use Rattle.hr_timers.specs.Known.{KnownOfTimers}
+use Rattle.expire_pass.specs.Handlers.{Meaning}
+use Rattle.expire_pass.specs.declared.handler.Restart.{Restart}
+use Rattle.expire_pass.specs.declared.handler.Restart.TheVariants as restarts
+use Rattle.expire_pass.specs.declared.log.Log.{Log}
+use Rattle.timer_objects.specs.declared.callback.Callback.{Callback}
+use Rattle.timer_objects.specs.declared.callback.Callback.TheVariants as callbacks
+use Rattle.timer_objects.specs.declared.firing.FiringWith.{FiringWith}
+use Rattle.timer_objects.specs.declared.log.ObjectLog.{ObjectLog}
+use Rattle.timer_objects.specs.declared.object.ObjectCall.{ObjectCall}
+use Rattle.timer_objects.specs.Known.{decl_at}
+use Rattle.timer_objects.specs.Callbacks.{RunsCallback, bases_of}
+use Rattle.timer_objects.specs.Triggers.{Triggers, trigger_of}
+
+-- the handler, with its logs
+abbrev pub Firing : Type 0
+Firing = FiringWith Log ObjectLog
+
+-- for how many functions its logs have room
+abbrev pub ready_of : Firing → ℕ
+ready_of h = min h.log.spare h.object_log.spare
+
+-- the callback that is stated for a timer
+abbrev pub callback_at : Firing → ℕ → Callback
+callback_at h t = get_or h.callbacks.now t callbacks.Once
+
+-- it has borrowed the same objects, the same pass of theirs, and the same callbacks
+pub record IsSameLoan (h h' : Firing) : Type 0 where
+  pub objects : h'.objects.now ≡ h.objects.now
+  pub callbacks : h'.callbacks.now ≡ h.callbacks.now
+  pub lent : h'.objects_pass.ghost_name ≡ h.objects_pass.ghost_name
+
+module _ (o : Opening) (h h' : Firing) (v w : KnownOfTimers) (c : ClaimNumbers) (reading : ClockReading) (restart : Restart) where
+  -- a timer by itself runs its callback, and objects are left alone; an object is triggered, and its timer is left alone
+  abbrev pub FiresBy : Option ObjectCall → Type 0
+  FiresBy None = RunsCallback o v w c reading h.log.receipts h'.log.receipts (callback_at h c.timer) restart
+      × (h'.objects_pass.now ≡ h.objects_pass.now) × (h'.object_log.receipts ≡ h.object_log.receipts)
+  FiresBy (Some call) = Triggers h.objects.now h.objects_pass.now h'.objects_pass.now h.object_log.receipts h'.object_log.receipts c call
+      × (w ≡ v) × (h'.log.receipts ≡ h.log.receipts) × (restart ≡ restarts.Stop)
+
+  -- the function of a claim has run
+  pub record Fires : Type 0 where
+    pub loan : IsSameLoan h h'
+    pub fires : FiresBy (trigger_of (decl_at h.objects.now c.timer).kind c reading)
+
+-- it needs a base for each start that is stated
+abbrev pub firing : Meaning Firing
+firing = record { did = Fires; ready = ready_of; timers = λ h. length h.objects.now.decls; bases = λ h. bases_of h.callbacks.now }

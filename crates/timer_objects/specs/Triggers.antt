@@ -1,0 +1,56 @@
+-- What the expiry of its timer does to an object.
+use Rattle.std.specs.Prelude.{ℕ, ◌≡◌, ◌+◌, ◌-◌, ◌<◌, ◌≤◌, ◌⊎◌, List, [], ◌∷◌, ◌++◌, length, Option, Some, None}
+use Rattle.ktime.specs.Readings.{ClockReading}
+use Rattle.hr_timers.specs.declared.numbers.ClaimNumbers.{ClaimNumbers}
+use Rattle.timer_setting.specs.declared.trigger_answer.TriggerAnswer.TheVariants as triggers
+use Rattle.counted_row.specs.Calls.{Commits, Reads}
+use Rattle.posix_timer.specs.declared.calls.Call.TheVariants as posix_calls
+use Rattle.posix_timer.specs.declared.calls.Reply.TheVariants as posix_replies
+use Rattle.timer_fd.specs.declared.calls.Call.TheVariants as fd_calls
+use Rattle.timer_fd.specs.declared.calls.Reply.TheVariants as fd_replies
+use Rattle.timer_objects.specs.declared.cell.Span.{Span}
+use Rattle.timer_objects.specs.declared.cell.SpannedCall.{SpannedCall}
+use Rattle.timer_objects.specs.declared.log.ObjectReceipt.{ObjectReceipt}
+use Rattle.timer_objects.specs.declared.object.Kind.{Kind}
+use Rattle.timer_objects.specs.declared.object.Kind.TheVariants as kinds
+use Rattle.timer_objects.specs.declared.object.ObjectCall.{ObjectCall}
+use Rattle.timer_objects.specs.declared.object.ObjectCall.TheVariants as calls
+use Rattle.timer_objects.specs.declared.object.ObjectReply.{ObjectReply}
+use Rattle.timer_objects.specs.declared.object.ObjectReply.TheVariants as replies
+use Rattle.timer_objects.specs.Steps.{object_answer}
+use Rattle.timer_objects.specs.Cells.{cell_meaning, spanned}
+use Rattle.timer_objects.specs.Known.{ObjectsOf, ObjectsPass, seen_of}
+
+-- the trigger of an object of this kind by a claim of its timer, at this reading; a timer by itself has none
+abbrev pub trigger_of : Kind → ClaimNumbers → ClockReading → Option ObjectCall
+trigger_of kinds.Raw c reading = None
+trigger_of kinds.Posix c reading = Some (calls.Posix (posix_calls.Trigger c.generation reading))
+trigger_of kinds.Fd c reading = Some (calls.Fd (fd_calls.Trigger c.generation reading))
+
+-- what a trigger answers where the object's history is full, with so many entries
+abbrev pub refused_at : ObjectCall → ℕ → ObjectReply
+refused_at (calls.Posix c) n = replies.Posix (posix_replies.Trigger (triggers.Spent n))
+refused_at (calls.Fd c) n = replies.Fd (fd_replies.Trigger (triggers.Spent n))
+
+-- the span of a claim's own entry
+abbrev pub span_of : ClaimNumbers → Span
+span_of c = record { from = c.number - 1; to = c.number }
+
+module _ (x : ObjectsOf) (p q : ObjectsPass) (log log' : List ObjectReceipt) where
+  -- The trigger stands last in the object's history, which had room for it, and a receipt of it was noted.
+  pub record EntersTrigger (id : ℕ) (call : SpannedCall) : Type 0 where
+    pub commits : Commits cell_meaning p q id call
+    pub room : length commits.adds.before < x.limit
+    pub receipt : log'
+        ≡ log ++ record { object = id; number = length commits.adds.before + 1; call = call; reply = object_answer commits.state.object call.call } ∷ []
+
+  -- The history of the object is full. Nothing was done but to look at it, and a receipt says that the trigger was refused, at so many entries.
+  pub record SkipsTrigger (id : ℕ) (call : SpannedCall) : Type 0 where
+    pub reads : Reads cell_meaning p q id
+    pub full : x.limit ≤ length (seen_of q id)
+    pub receipt : log'
+        ≡ log ++ record { object = id; number = length (seen_of q id); call = call; reply = refused_at call.call (length (seen_of q id)) } ∷ []
+
+  -- a claim of its timer triggers the object, unless that one's history is full
+  abbrev pub Triggers : ClaimNumbers → ObjectCall → Type 0
+  Triggers c call = EntersTrigger c.timer (spanned call (span_of c)) ⊎ SkipsTrigger c.timer (spanned call (span_of c))

@@ -1,0 +1,139 @@
+//! The trigger of an object by the expiry of its timer.
+ghost use Rattle.std.specs.Prelude.{◌≡◌, ◌≤◌, ◌<◌, ◌+◌, [], ◌∷◌, ◌++◌, None, Some, length};
+ghost use Rattle.counted_row.specs.Views.{IsPassOfRow, Locks, released};
+ghost use Rattle.timer_objects.specs.Cells.{cell_meaning, spanned};
+ghost use Rattle.timer_objects.specs.Known.{HoldsObject, IsObjectsPass, decl_at, row_of, seen_of};
+ghost use Rattle.timer_objects.specs.Triggers.{Triggers, refused_at, span_of, trigger_of};
+
+use crate::cell::{ObjectCell, Span};
+use crate::log::ObjectLog;
+use crate::object::{Kind, ObjectCall, ObjectReply};
+use crate::objects::Objects;
+use counted_row::{Held, RowPass};
+use crossbeam_utils::Backoff;
+use hr_timers::Claim;
+use ktime::Reading;
+use std::sync::Wait;
+use timer_setting::TriggerAnswer;
+
+/// The trigger of an object of this kind by the expiry of its timer. A timer by itself has none.
+pub(crate) fn trigger_of(kind: Kind, claim: &Claim, reading: Reading) -> Option<ObjectCall>
+    ensures { result ≡ trigger_of kind claim.now reading }
+{
+    let generation = claim.generation();
+    match kind {
+        Kind::Raw => None,
+        Kind::Posix => Some(ObjectCall::Posix(posix_timer::Call::Trigger {
+            generation,
+            reading,
+        })),
+        Kind::Fd => Some(ObjectCall::Fd(timer_fd::Call::Trigger {
+            generation,
+            reading,
+        })),
+    }
+}
+
+/// What a trigger of an object answers whose history is full, with so many entries.
+fn refused_at(call: &ObjectCall, stamp: u64) -> ObjectReply
+    ensures { result ≡ refused_at call.now stamp }
+{
+    let answer = TriggerAnswer::Spent { stamp };
+    match call {
+        ObjectCall::Posix(_) => ObjectReply::Posix(posix_timer::Reply::Trigger(answer)),
+        ObjectCall::Fd(_) => ObjectReply::Fd(timer_fd::Reply::Trigger(answer)),
+    }
+}
+
+/// The span of a claim's own entry.
+fn span_of(claim: &Claim) -> Span
+    ensures { result ≡ span_of claim.now }
+{
+    let to = claim.number();
+    Span {
+        from: to.saturating_sub(1),
+        to,
+    }
+}
+
+/// Triggers the object over a claim's timer, or notes that its history is full.
+pub(crate) fn trigger<R: Wait>(
+    rt: &R,
+    objects: &Objects,
+    pass: &mut RowPass<ObjectCell>,
+    log: &mut ObjectLog,
+    call: ObjectCall,
+    claim: &Claim,
+    reading: Reading,
+)
+    requires row { IsPassOfRow (row_of objects.now) pass.old }
+    requires idle { pass.old.knows.held ≡ None }
+    requires unclaimed { pass.old.knows.claims ≡ [] }
+    requires within { claim.now.timer < length objects.now.decls }
+    requires call { trigger_of (decl_at objects.now claim.now.timer).kind claim.now reading ≡ Some call }
+    requires room { 0 < log.old.spare }
+    ensures pass { IsObjectsPass objects.now pass.new }
+    ensures triggers { Triggers objects.now pass.old pass.new log.old.receipts log.new.receipts claim.now call }
+    ensures spare { log.new.spare + 1 ≡ log.old.spare }
+{
+    let id = claim.timer();
+    let span = span_of(claim);
+    let held = hold(rt, objects, pass, id, span.from);
+    if held.stamp() >= objects.limit() {
+        return skip(objects, pass, held, log, id, &call, span);
+    }
+    let _ = objects.enter(pass, held, log, id, call, span);
+}
+
+/// Takes the lock of an object, once the spans of its calls don't go beyond this number of its timer's entries, or its history is full.
+fn hold<R: Wait>(
+    rt: &R,
+    objects: &Objects,
+    pass: &mut RowPass<ObjectCell>,
+    id: u32,
+    from: u64,
+) -> Held<ObjectCell>
+    requires row { IsPassOfRow (row_of objects.now) pass.old }
+    requires idle { pass.old.knows.held ≡ None }
+    requires unclaimed { pass.old.knows.claims ≡ [] }
+    requires within { id < length objects.now.decls }
+    ensures row { IsPassOfRow (row_of objects.now) pass.new }
+    ensures locks { Locks cell_meaning pass.old pass.new id result }
+    ensures holds { HoldsObject objects.now result }
+    ensures behind { result.stamp < objects.now.limit → result.state.last ≤ from }
+{
+    let backoff = Backoff::new();
+    for _ in rt.forever() {
+        let held = objects.lock(rt, pass, id);
+        if held.stamp() >= objects.limit() || held.state().last <= from {
+            return held;
+        }
+        objects.release(pass, held);
+        backoff.snooze();
+    }
+    unreachable!()
+}
+
+/// Lets the lock of an object go whose history is full, and notes the trigger that was refused.
+fn skip(
+    objects: &Objects,
+    pass: &mut RowPass<ObjectCell>,
+    held: Held<ObjectCell>,
+    log: &mut ObjectLog,
+    id: u32,
+    call: &ObjectCall,
+    span: Span,
+)
+    requires row { IsPassOfRow (row_of objects.now) pass.old }
+    requires unclaimed { pass.old.knows.claims ≡ [] }
+    requires held { pass.old.knows.held ≡ Some held }
+    requires room { 0 < log.old.spare }
+    ensures pass { IsObjectsPass objects.now pass.new }
+    ensures knows { pass.new.knows ≡ released pass.old.knows }
+    ensures count { held.stamp ≡ length (seen_of pass.new held.index) }
+    ensures receipt { log.new.receipts ≡ log.old.receipts ++ record { object = id; number = held.stamp; call = spanned call.now span; reply = refused_at call.now held.stamp } ∷ [] }
+    ensures spare { log.new.spare + 1 ≡ log.old.spare }
+{
+    let stamp = objects.release(pass, held);
+    log.note(id, stamp, span.of(*call), refused_at(call, stamp));
+}
