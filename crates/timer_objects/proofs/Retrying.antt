@@ -35,7 +35,9 @@ module _ {a b c : Caller} where
 module _ (o : Opening) (u v w : KnownOfTimers) (t last base : ℕ) (reading : ClockReading) (arm : Arm) (span : Span) (log log' log'' : List Receipt) where
   rearms_after : (wanted : Option Wanted) → LooksOn u v → log' ≡ log → RearmsFor o v w t last wanted base reading arm span log' log''
       → RearmsFor o u w t last wanted base reading arm span log log''
-  rearms_after None looks same rearms = (rearms.0, looks_trans u v w looks rearms.1, rearms.2, rearms.3 ∙ same)
+  rearms_after None looks same rearms =
+      let q = rearms.1 in
+      (rearms.0, record { looks = looks_trans u v w looks q.looks; empty = q.empty; behind = q.behind; seen = q.seen }, rearms.2 ∙ same)
   rearms_after (Some wanted) looks same rearms = record {
     begin = rearms.begin;
     looks = looks_trans u v rearms.begin looks rearms.looks;

@@ -52,7 +52,7 @@ use Rattle.timer_objects.specs.declared.wanting.Rearming.TheVariants as rearming
 use Rattle.timer_objects.specs.Steps.{object_answer, object_step}
 use Rattle.timer_objects.specs.Cells.{cell_meaning, spanned}
 use Rattle.timer_objects.specs.Known.{ObjectsOf, ObjectsPass, decl_at, seen_of}
-use Rattle.timer_objects.specs.Arming.{Arms, Disarms, Starts, stamp_seen}
+use Rattle.timer_objects.specs.Arming.{Arms, Disarms, SeesQuietly, Starts, stamp_seen}
 
 -- what a caller's passes know, and what its logs have
 pub record Caller : Type 0 where
@@ -183,10 +183,9 @@ pub record Rearms (o : Opening) (v w : KnownOfTimers) (t last : ℕ) (wanted : W
   pub starts : Starts o begin w t wanted base reading arm log log'
   pub to : span.to ≡ stamp_seen o w t
 
--- the same, or no start was wanted: then the timer isn't touched, and the span ends where the last one did
+-- the same, or no start was wanted: then the timer was only looked at
 abbrev pub RearmsFor : Opening → KnownOfTimers → KnownOfTimers → ℕ → ℕ → Option Wanted → ℕ → ClockReading → Arm → Span → List Receipt → List Receipt → Type 0
-RearmsFor o v w t last None base reading arm span log log' =
-    (arm ≡ arms.NotAsked) × LooksOn v w × (span ≡ record { from = last; to = last }) × (log' ≡ log)
+RearmsFor o v w t last None base reading arm span log log' = (arm ≡ arms.NotAsked) × SeesQuietly o v w t last span × (log' ≡ log)
 RearmsFor o v w t last (Some wanted) base reading arm span log log' = Rearms o v w t last wanted base reading arm span log log'
 
 -- the phase of a timer that was armed again has its generation and expiry
