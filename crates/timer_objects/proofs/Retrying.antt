@@ -28,6 +28,7 @@ module _ {a b c : Caller} where
   enters_after {x} {id} {call} {answer} waits e = record {
     commits = commits_after waits.objects e.commits;
     reply = e.reply;
+    may = e.may;
     room = e.room;
     object_log = e.object_log ∙ ap (λ l. l ++ record { object = id; number = length e.commits.adds.before + 1; call = call; reply = answer } ∷ []) waits.object_log;
   }

@@ -50,7 +50,7 @@ use Rattle.timer_objects.specs.declared.object.ObjectReply.TheVariants as replie
 use Rattle.timer_objects.specs.declared.wanting.Rearming.{Rearming}
 use Rattle.timer_objects.specs.declared.wanting.Rearming.TheVariants as rearmings
 use Rattle.timer_objects.specs.Steps.{object_answer, object_step}
-use Rattle.timer_objects.specs.Cells.{cell_meaning, spanned}
+use Rattle.timer_objects.specs.Cells.{MaySpan, cell_meaning, spanned}
 use Rattle.timer_objects.specs.Known.{ObjectsOf, ObjectsPass, decl_at, seen_of}
 use Rattle.timer_objects.specs.Arming.{Arms, Disarms, SeesQuietly, Starts, stamp_seen}
 
@@ -79,10 +79,12 @@ pub record FindsFull (x : ObjectsOf) (old new : Caller) (id n : ℕ) : Type 0 wh
   pub log : new.log ≡ old.log
   pub object_log : new.object_log ≡ old.object_log
 
--- The call stands last in the object's history, which had room for it, and a receipt of it was noted.
+-- The call stands last in the object's history, which had room for it; its table allows it, and its span begins where the last one ended, or later.
+-- A receipt of it was noted.
 pub record EntersCall (x : ObjectsOf) (old new : Caller) (id : ℕ) (call : SpannedCall) (answer : ObjectReply) : Type 0 where
   pub commits : Commits cell_meaning old.objects new.objects id call
   pub reply : answer ≡ object_answer commits.state.object call.call
+  pub may : MaySpan commits.state call
   pub room : length commits.adds.before < x.limit
   pub object_log : new.object_log
       ≡ old.object_log ++ record { object = id; number = length commits.adds.before + 1; call = call; reply = answer } ∷ []
