@@ -3,9 +3,9 @@ use Rattle.std.proofs.Common.{◌≡◌, ℕ, ◌+◌, ◌<◌, ◌≤◌, false
 use Rattle.std.proofs.lemmas.Bool.{cases_eq, eq-eqb, ne_eqb}
 use Rattle.std.proofs.lemmas.Bool.Decides.{nat_tests}
 use Rattle.std.proofs.lemmas.List.{get_or_past, set_past}
-use Rattle.timer_tree.specs.Nodes.{none, blank, node_at, knot}
+use Rattle.timer_tree.specs.Nodes.{none, blank, node_at, with_links}
 use Rattle.timer_tree.specs.Links.{adopted, replaced, relinked}
-use Rattle.timer_tree.specs.Trees.{Tree, Leaf, Fork, top, tall, pairs, Stands, IsAt, IsEven, one, times}
+use Rattle.timer_tree.specs.Trees.{Tree, Leaf, Fork, top, tall, pairs, Stands, IsAt, IsBalanced, one, times}
 use Rattle.timer_tree.specs.Contexts.{Frame, fork, filled, plug, above, root_of, IsAround, around, before, after, ahead, behind, Fits}
 use Rattle.timer_tree.specs.declared.node.Node.{Node}
 use Rattle.timer_tree.specs.declared.node.Side.{Side}
@@ -123,48 +123,48 @@ pub length-fork : (s : Side) (a b : Tree) (n e h : ℕ) → length (pairs (fork 
 length-fork sides.Left a b n e h = omega (arith, length-append (pairs a) ((e, n) ∷ pairs b))
 length-fork sides.Right a b n e h = omega (arith, length-append (pairs b) ((e, n) ∷ pairs a))
 
-pub IsAt-fork : (xs : List Node) (p : ℕ) (s : Side) (a b : Tree) (n e h : ℕ) → IsAt xs p (fork s a n e h b) → Stands xs n (knot s e (top a) (top b) p h) × IsAt xs n a × IsAt xs n b
+pub IsAt-fork : (xs : List Node) (p : ℕ) (s : Side) (a b : Tree) (n e h : ℕ) → IsAt xs p (fork s a n e h b) → Stands xs n (with_links s e (top a) (top b) p h) × IsAt xs n a × IsAt xs n b
 IsAt-fork xs p sides.Left a b n e h at = at
 IsAt-fork xs p sides.Right a b n e h at = (at.0, at.2, at.1)
 
-pub fork-IsAt : (xs : List Node) (p : ℕ) (s : Side) (a b : Tree) (n e h : ℕ) → Stands xs n (knot s e (top a) (top b) p h) → IsAt xs n a → IsAt xs n b → IsAt xs p (fork s a n e h b)
+pub fork-IsAt : (xs : List Node) (p : ℕ) (s : Side) (a b : Tree) (n e h : ℕ) → Stands xs n (with_links s e (top a) (top b) p h) → IsAt xs n a → IsAt xs n b → IsAt xs p (fork s a n e h b)
 fork-IsAt xs p sides.Left a b n e h stands at_a at_b = (stands, at_a, at_b)
 fork-IsAt xs p sides.Right a b n e h stands at_a at_b = (stands, at_b, at_a)
 
--- the two parts of an even node, by their sides
-pub record Evens (a b : Tree) (h : ℕ) : Type 0 where
+-- the two parts of an balanced node, by their sides
+pub record Balances (a b : Tree) (h : ℕ) : Type 0 where
   pub height : h ≡ max (tall a) (tall b) + 1
   pub near : tall a ≤ tall b + 1
   pub far : tall b ≤ tall a + 1
-  pub even_a : IsEven a
-  pub even_b : IsEven b
+  pub balanced_a : IsBalanced a
+  pub balanced_b : IsBalanced b
 
-pub IsEven-fork : (s : Side) (a b : Tree) (n e h : ℕ) → IsEven (fork s a n e h b) → Evens a b h
-IsEven-fork sides.Left a b n e h even = record { height = even.0; near = even.1; far = even.2; even_a = even.3; even_b = even.4 }
-IsEven-fork sides.Right a b n e h even = record { height = omega (arith, even.0); near = even.2; far = even.1; even_a = even.4; even_b = even.3 }
+pub IsBalanced-fork : (s : Side) (a b : Tree) (n e h : ℕ) → IsBalanced (fork s a n e h b) → Balances a b h
+IsBalanced-fork sides.Left a b n e h balanced = record { height = balanced.0; near = balanced.1; far = balanced.2; balanced_a = balanced.3; balanced_b = balanced.4 }
+IsBalanced-fork sides.Right a b n e h balanced = record { height = omega (arith, balanced.0); near = balanced.2; far = balanced.1; balanced_a = balanced.4; balanced_b = balanced.3 }
 
-pub fork-IsEven : (s : Side) (a b : Tree) (n e h : ℕ) → Evens a b h → IsEven (fork s a n e h b)
-fork-IsEven sides.Left a b n e h even = (even.height, even.near, even.far, even.even_a, even.even_b)
-fork-IsEven sides.Right a b n e h even = (omega (arith, even.height), even.far, even.near, even.even_b, even.even_a)
+pub fork-IsBalanced : (s : Side) (a b : Tree) (n e h : ℕ) → Balances a b h → IsBalanced (fork s a n e h b)
+fork-IsBalanced sides.Left a b n e h balanced = (balanced.height, balanced.near, balanced.far, balanced.balanced_a, balanced.balanced_b)
+fork-IsBalanced sides.Right a b n e h balanced = (omega (arith, balanced.height), balanced.far, balanced.near, balanced.balanced_b, balanced.balanced_a)
 
 -- a tree has at least as many nodes as it is high
-pub tall-le : (t : Tree) → IsEven t → tall t ≤ length (pairs t)
-tall-le Leaf even = omega arith
-tall-le (Fork l n e h r) even = omega (arith, even.0, tall-le l even.3, tall-le r even.4, length-fork sides.Left l r n e h)
+pub tall-le : (t : Tree) → IsBalanced t → tall t ≤ length (pairs t)
+tall-le Leaf balanced = omega arith
+tall-le (Fork l n e h r) balanced = omega (arith, balanced.0, tall-le l balanced.3, tall-le r balanced.4, length-fork sides.Left l r n e h)
 
 -- ---- another number in a hole
 
-pub knot-parent : (s : Side) (e a b p h : ℕ) → (knot s e a b p h).parent ≡ p
-knot-parent sides.Left e a b p h = refl
-knot-parent sides.Right e a b p h = refl
+pub with_links-parent : (s : Side) (e a b p h : ℕ) → (with_links s e a b p h).parent ≡ p
+with_links-parent sides.Left e a b p h = refl
+with_links-parent sides.Right e a b p h = refl
 
-pub knot-height : (s : Side) (e a b p h : ℕ) → (knot s e a b p h).height ≡ h
-knot-height sides.Left e a b p h = refl
-knot-height sides.Right e a b p h = refl
+pub with_links-height : (s : Side) (e a b p h : ℕ) → (with_links s e a b p h).height ≡ h
+with_links-height sides.Left e a b p h = refl
+with_links-height sides.Right e a b p h = refl
 
-replaced_knot : (s : Side) (e a b p h to : ℕ) → (b ≡ a → ⊥) → replaced (knot s e a b p h) a to ≡ knot s e to b p h
-replaced_knot sides.Left e a b p h to apart = ap (λ x. if x then record { expires = e; left = to; right = b; parent = p; height = h } else record { expires = e; left = a; right = to; parent = p; height = h }) (eq-eqb a a refl)
-replaced_knot sides.Right e a b p h to apart = ap (λ x. if x then record { expires = e; left = to; right = a; parent = p; height = h } else record { expires = e; left = b; right = to; parent = p; height = h }) (ne_eqb b a apart)
+replaced_with_links : (s : Side) (e a b p h to : ℕ) → (b ≡ a → ⊥) → replaced (with_links s e a b p h) a to ≡ with_links s e to b p h
+replaced_with_links sides.Left e a b p h to apart = ap (λ x. if x then record { expires = e; left = to; right = b; parent = p; height = h } else record { expires = e; left = a; right = to; parent = p; height = h }) (eq-eqb a a refl)
+replaced_with_links sides.Right e a b p h to apart = ap (λ x. if x then record { expires = e; left = to; right = a; parent = p; height = h } else record { expires = e; left = b; right = to; parent = p; height = h }) (ne_eqb b a apart)
 
 -- a part that doesn't have a node doesn't have it at the top
 pub top_apart : (n : ℕ) (t : Tree) → n < none → times n (pairs t) ≡ 0 → top t ≡ n → ⊥
@@ -185,7 +185,7 @@ relinked_linked xs root hole to (f ∷ c) small once low gone at root_is =
     let ys = slice_set xs f.n new in
     let sum : (k : ℕ) → times k (around (f ∷ c)) ≡ one k f.n + times k (pairs f.other) + times k (around c) = λ k. omega (arith, times-append k (pairs f.other) (around c)) in
     let apart = top_apart hole f.other low (omega (arith, sum hole, gone)) in
-    let is : new ≡ knot f.side f.e to (top f.other) (above c) f.h = ap (λ x. replaced x hole to) at.0.is ∙ replaced_knot f.side f.e hole (top f.other) (above c) f.h to apart in
+    let is : new ≡ with_links f.side f.e to (top f.other) (above c) f.h = ap (λ x. replaced x hole to) at.0.is ∙ replaced_with_links f.side f.e hole (top f.other) (above c) f.h to apart in
     let some : nat_eq f.n none ≡ false = ne_eqb f.n none (λ same. omega (arith, same, at.0.inside, small)) in
     subst (λ x. Linked xs to (f ∷ c) (if x then (xs, to) else (ys, root))) (sym some) (record {
       at = (
@@ -218,12 +218,12 @@ pairs-plug (f ∷ c) t =
     ∙ ap (λ ps. before c ++ (ps ++ after c)) (ahead-behind f t)
     ∙ simp append_assoc refl
 
--- an even context with an even part of the height that it was made for
-pub plug-even : (c : List Frame) (t : Tree) → Fits c (tall t) → IsEven t → IsEven (plug c t)
-plug-even [] t fits even = even
-plug-even (f ∷ c) t fits even =
-    plug-even c (filled f t) (subst (λ h. Fits c h) (sym (tall-fork f.side t f.other f.n f.e f.h)) fits.4)
-    (fork-IsEven f.side t f.other f.n f.e f.h (record { height = fits.0; near = fits.1; far = fits.2; even_a = even; even_b = fits.3 }))
+-- an balanced context with an balanced part of the height that it was made for
+pub plug-balanced : (c : List Frame) (t : Tree) → Fits c (tall t) → IsBalanced t → IsBalanced (plug c t)
+plug-balanced [] t fits balanced = balanced
+plug-balanced (f ∷ c) t fits balanced =
+    plug-balanced c (filled f t) (subst (λ h. Fits c h) (sym (tall-fork f.side t f.other f.n f.e f.h)) fits.4)
+    (fork-IsBalanced f.side t f.other f.n f.e f.h (record { height = fits.0; near = fits.1; far = fits.2; balanced_a = balanced; balanced_b = fits.3 }))
 
 pub IsAt-plug : (xs : List Node) (c : List Frame) (t : Tree) → IsAround xs (top t) c → IsAt xs (above c) t → IsAt xs none (plug c t)
 IsAt-plug xs [] t at under = under
@@ -256,12 +256,12 @@ IsAt-join xs [] c t at under = (at, under)
 IsAt-join xs (f ∷ d) c t at under =
     IsAt-join xs d c (filled f t) (subst (λ k. IsAround xs k (d ++ c)) (sym (top-fork f.side t f.other f.n f.e f.h)) at.2) (fork-IsAt xs (above (d ++ c)) f.side t f.other f.n f.e f.h at.0 under at.1)
 
-pub even-cut : (c : List Frame) (t : Tree) → IsEven (plug c t) → Fits c (tall t) × IsEven t
-even-cut [] t even = (tt, even)
-even-cut (f ∷ c) t even =
-    let rest = even-cut c (filled f t) even in
-    let here = IsEven-fork f.side t f.other f.n f.e f.h rest.1 in
-    ((here.height, here.near, here.far, here.even_b, subst (λ h. Fits c h) (tall-fork f.side t f.other f.n f.e f.h) rest.0), here.even_a)
+pub balanced-cut : (c : List Frame) (t : Tree) → IsBalanced (plug c t) → Fits c (tall t) × IsBalanced t
+balanced-cut [] t balanced = (tt, balanced)
+balanced-cut (f ∷ c) t balanced =
+    let rest = balanced-cut c (filled f t) balanced in
+    let here = IsBalanced-fork f.side t f.other f.n f.e f.h rest.1 in
+    ((here.height, here.near, here.far, here.balanced_b, subst (λ h. Fits c h) (tall-fork f.side t f.other f.n f.e f.h) rest.0), here.balanced_a)
 
 -- a node that stands in a tree, with what is above it
 pub record Located (t : Tree) (k : ℕ) : Type 0 where
@@ -301,5 +301,5 @@ root_of-frames hole (g ∷ d) f c = root_of-frames g.n d f c
 -- whether a context fits doesn't hang on the numbers of its nodes
 pub Fits-renamed : (d : List Frame) (f g : Frame) (c : List Frame) (h : ℕ) → g.h ≡ f.h → g.other ≡ f.other → Fits (d ++ f ∷ c) h → Fits (d ++ g ∷ c) h
 Fits-renamed [] f g c h same_h same_t fits =
-    subst (λ t. (g.h ≡ max h (tall t) + 1) × (h ≤ tall t + 1) × (tall t ≤ h + 1) × IsEven t × Fits c g.h) (sym same_t) (same_h ∙ fits.0, fits.1, fits.2, fits.3, subst (λ k. Fits c k) (sym same_h) fits.4)
+    subst (λ t. (g.h ≡ max h (tall t) + 1) × (h ≤ tall t + 1) × (tall t ≤ h + 1) × IsBalanced t × Fits c g.h) (sym same_t) (same_h ∙ fits.0, fits.1, fits.2, fits.3, subst (λ k. Fits c k) (sym same_h) fits.4)
 Fits-renamed (e ∷ d) f g c h same_h same_t fits = (fits.0, fits.1, fits.2, fits.3, Fits-renamed d f g c e.h same_h same_t fits.4)

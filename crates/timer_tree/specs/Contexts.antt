@@ -1,9 +1,9 @@
 -- A tree with a hole in it: what stands above a part, from the nearest node to the root.
 use Rattle.std.specs.Prelude.{ℕ, ◌+◌, ◌*◌, ◌≤◌, ◌≡◌, List, [], ◌∷◌, ◌++◌, length, max}
-use Rattle.timer_tree.specs.Nodes.{none, knot, node_at}
-use Rattle.timer_tree.specs.Trees.{Tree, Fork, top, tall, pairs, IsAt, IsEven, IsTree, Stands, times}
+use Rattle.timer_tree.specs.Nodes.{none, with_links, node_at}
+use Rattle.timer_tree.specs.Trees.{Tree, Fork, top, tall, pairs, IsAt, IsBalanced, IsTree, Stands, times}
 use Rattle.timer_tree.specs.declared.node.Node.{Node}
-use Rattle.timer_tree.specs.declared.repair.Uneven.{Uneven}
+use Rattle.timer_tree.specs.declared.repair.Unbalanced.{Unbalanced}
 use Rattle.timer_tree.specs.declared.node.Side.{Side}
 use Rattle.timer_tree.specs.declared.node.Side.TheVariants as sides
 
@@ -42,7 +42,7 @@ root_of hole (f ∷ c) = root_of f.n c
 -- the nodes are linked as this context, with this number in its hole
 abbrev pub IsAround : List Node → ℕ → List Frame → Type 0
 IsAround xs hole [] = Unit
-IsAround xs hole (f ∷ c) = Stands xs f.n (knot f.side f.e hole (top f.other) (above c) f.h) × IsAt xs f.n f.other × IsAround xs f.n c
+IsAround xs hole (f ∷ c) = Stands xs f.n (with_links f.side f.e hole (top f.other) (above c) f.h) × IsAt xs f.n f.other × IsAround xs f.n c
 
 -- the pairs of the context, in any order
 abbrev pub around : List Frame → List (ℕ × ℕ)
@@ -66,13 +66,13 @@ abbrev pub after : List Frame → List (ℕ × ℕ)
 after [] = []
 after (f ∷ c) = behind f.side f.other (f.e, f.n) ++ after c
 
--- the context is even where its hole holds a part of this height
+-- the context is balanced where its hole holds a part of this height
 abbrev pub Fits : List Frame → ℕ → Type 0
 Fits [] h = Unit
-Fits (f ∷ c) h = (f.h ≡ max h (tall f.other) + 1) × (h ≤ tall f.other + 1) × (tall f.other ≤ h + 1) × IsEven f.other × Fits c f.h
+Fits (f ∷ c) h = (f.h ≡ max h (tall f.other) + 1) × (h ≤ tall f.other + 1) × (tall f.other ≤ h + 1) × IsBalanced f.other × Fits c f.h
 
--- the block holds a tree of these pairs that is even but for the heights from one node upwards, with so many nodes from there to the root
-pub record IsUneven (xs : List Node) (r : Uneven) (ps : List (ℕ × ℕ)) (levels : ℕ) : Type 0 where
+-- the block holds a tree of these pairs that is balanced but for the heights from one node upwards, with so many nodes from there to the root
+pub record IsUnbalanced (xs : List Node) (r : Unbalanced) (ps : List (ℕ × ℕ)) (levels : ℕ) : Type 0 where
   pub context : List Frame
   pub part : Tree
   pub old_height : ℕ
@@ -80,7 +80,9 @@ pub record IsUneven (xs : List Node) (r : Uneven) (ps : List (ℕ × ℕ)) (leve
   pub under : IsAt xs (above context) part
   pub root_is : r.root ≡ root_of (top part) context
   pub at_is : r.at ≡ above context
-  pub even : IsEven part
+  pub child_is : (r.at ≡ none → ⊥) → r.child.root ≡ top part
+  pub height_is : (r.at ≡ none → ⊥) → r.child.height ≡ tall part
+  pub balanced : IsBalanced part
   pub fits : Fits context old_height
   pub lower : old_height ≤ tall part + 1
   pub higher : tall part ≤ old_height + 1
@@ -92,22 +94,22 @@ pub record KeepsOthers (xs ys : List Node) (ps : List (ℕ × ℕ)) : Type 0 whe
   pub size : length ys ≡ length xs
   pub rest : (k : ℕ) → times k ps ≡ 0 → node_at ys k ≡ node_at xs k
 
--- a tree that a repair makes even: its pairs stand once and fit the block
-pub record CanRepair (xs : List Node) (r : Uneven) (ps : List (ℕ × ℕ)) (levels : ℕ) : Type 0 where
-  pub uneven : IsUneven xs r ps levels
+-- a tree that a repair makes balanced: its pairs stand once and fit the block
+pub record CanRepair (xs : List Node) (r : Unbalanced) (ps : List (ℕ × ℕ)) (levels : ℕ) : Type 0 where
+  pub unbalanced : IsUnbalanced xs r ps levels
   pub small : length xs ≤ none
   pub few : length ps ≤ none
   pub once : (k : ℕ) → times k ps ≤ 1
 
--- what a repair has done when so many nodes are left, at 15 steps a node
-pub record IsRepairing (xs ys : List Node) (r : Uneven) (ps : List (ℕ × ℕ)) (levels old_steps steps : ℕ) : Type 0 where
+-- what a repair has done when so many nodes are left, at 13 steps a node
+pub record IsRepairing (xs ys : List Node) (r : Unbalanced) (ps : List (ℕ × ℕ)) (levels old_steps steps : ℕ) : Type 0 where
   pub left : ℕ
   pub can : CanRepair ys r ps left
   pub kept : KeepsOthers xs ys ps
-  pub count : steps + 15 * left ≤ old_steps + 15 * levels
+  pub count : steps + 13 * left ≤ old_steps + 13 * levels
 
--- the block holds an even tree of the same pairs, after so many steps at most
+-- the block holds an balanced tree of the same pairs, after so many steps at most
 pub record IsRepaired (xs ys : List Node) (root : ℕ) (ps : List (ℕ × ℕ)) (levels old_steps steps : ℕ) : Type 0 where
   pub tree : IsTree ys root ps
   pub kept : KeepsOthers xs ys ps
-  pub count : steps ≤ old_steps + 15 * levels
+  pub count : steps ≤ old_steps + 13 * levels

@@ -1,5 +1,5 @@
 -- The nodes of the block, one for each timer number below the room.
-use Rattle.std.specs.Prelude.{ℕ, ◌+◌, ◌-◌, ◌^◌, List, min, slice_index_or}
+use Rattle.std.specs.Prelude.{◌≡◌, ℕ, ◌+◌, ◌-◌, ◌^◌, ◌<◌, List, length, min, slice_index_or}
 use Rattle.timer_tree.specs.declared.node.Node.{Node}
 use Rattle.timer_tree.specs.declared.node.Side.{Side}
 use Rattle.timer_tree.specs.declared.node.Side.TheVariants as sides
@@ -26,10 +26,23 @@ far sides.Left node = node.right
 far sides.Right node = node.left
 
 -- a node from what stands on a side and on the other
-abbrev pub knot : Side → (expires near far parent height : ℕ) → Node
-knot sides.Left e a b p h = record { expires = e; left = a; right = b; parent = p; height = h }
-knot sides.Right e a b p h = record { expires = e; left = b; right = a; parent = p; height = h }
+abbrev pub with_links : Side → (expires near far parent height : ℕ) → Node
+with_links sides.Left e a b p h = record { expires = e; left = a; right = b; parent = p; height = h }
+with_links sides.Right e a b p h = record { expires = e; left = b; right = a; parent = p; height = h }
 
 -- one more, within 32 bits
 unfoldable pub next : ℕ → ℕ
 next h = min (h + 1) (2 ^ 32 - 1)
+
+-- the number of no node, or one below the room
+abbrev pub IsLink : ℕ → ℕ → Type 0
+IsLink room n = (n ≡ none → ⊥) → n < room
+
+-- each of a node's links is the number of a node or of none
+pub record HasLinks (room : ℕ) (node : Node) : Type 0 where
+  pub left : IsLink room node.left
+  pub right : IsLink room node.right
+  pub parent : IsLink room node.parent
+
+abbrev pub AreLinked : List Node → Type 0
+AreLinked xs = (k : ℕ) → HasLinks (length xs) (node_at xs k)

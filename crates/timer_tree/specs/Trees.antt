@@ -45,9 +45,9 @@ IsAt xs p Leaf = Unit
 IsAt xs p (Fork l n e h r) = Stands xs n (record { expires = e; left = top l; right = top r; parent = p; height = h }) × IsAt xs n l × IsAt xs n r
 
 -- the heights are right, and those of two sides differ by at most one
-abbrev pub IsEven : Tree → Type 0
-IsEven Leaf = Unit
-IsEven (Fork l n e h r) = (h ≡ max (tall l) (tall r) + 1) × (tall l ≤ tall r + 1) × (tall r ≤ tall l + 1) × IsEven l × IsEven r
+abbrev pub IsBalanced : Tree → Type 0
+IsBalanced Leaf = Unit
+IsBalanced (Fork l n e h r) = (h ≡ max (tall l) (tall r) + 1) × (tall l ≤ tall r + 1) × (tall r ≤ tall l + 1) × IsBalanced l × IsBalanced r
 
 -- how often a timer stands in a list of pairs
 abbrev pub one : ℕ → ℕ → ℕ
@@ -67,7 +67,7 @@ pub record IsTree (xs : List Node) (root : ℕ) (ps : List (ℕ × ℕ)) : Type 
   pub tree : Tree
   pub at : IsAt xs none tree
   pub root_is : root ≡ top tree
-  pub even : IsEven tree
+  pub balanced : IsBalanced tree
   pub pairs_are : pairs tree ≡ ps
 
 -- the block and the numbers of the root and of the first node are those of this queue, and each timer that isn't in it has the height 0

@@ -1,5 +1,6 @@
+//! The links of one timer.
 ghost use Rattle.std.specs.Prelude.{◌≡◌};
-ghost use Rattle.timer_tree.specs.Nodes.{near, far, knot, blank, next};
+ghost use Rattle.timer_tree.specs.Nodes.{near, far, with_links, blank, next};
 
 /// The number of no node: no room reaches so far.
 pub(crate) const NONE: u32 = u32::MAX;
@@ -56,8 +57,15 @@ impl Node {
     }
 
     /// The node with the nodes `near` below it on this side, `far` on the other.
-    pub(crate) fn knot(self, side: Side, near: u32, far: u32, parent: u32, height: u32) -> Node
-        ensures { result ≡ knot side self.expires near far parent height }
+    pub(crate) fn with_links(
+        self,
+        side: Side,
+        near: u32,
+        far: u32,
+        parent: u32,
+        height: u32,
+    ) -> Node
+        ensures { result ≡ with_links side self.expires near far parent height }
     {
         let expires = self.expires;
         match side {

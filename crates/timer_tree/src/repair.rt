@@ -1,23 +1,26 @@
-ghost use Rattle.std.specs.Prelude.{◌≡◌, ℕ, ◌+◌, ◌≤◌, List};
+//! How heights are put right from one node upwards.
+ghost use Rattle.std.specs.Prelude.{◌≡◌, ℕ, ◌+◌, ◌≤◌, ◌<◌, List, length};
+ghost use Rattle.timer_tree.specs.Nodes.{node_at, none, IsLink};
 ghost use Rattle.timer_tree.specs.Contexts.{CanRepair, IsRepaired};
 ghost use Rattle.timer_tree.specs.Moves.{lifted};
 
 use crate::block::Block;
-use crate::links::{read, relink};
+use crate::links::relink;
 use crate::node::NONE;
+use crate::rotate::{Top, rebalance};
 use crate::steps::Steps;
-use crate::turns::even;
 use std::sync::ledger::Ledger;
 
-/// A tree whose heights may be wrong from one node upwards.
+/// A tree whose heights may be wrong from one node upwards, with the balanced subtree below it that has changed.
 #[derive(Clone, Copy)]
-pub(crate) struct Uneven {
+pub(crate) struct Unbalanced {
     pub(crate) root: u32,
     pub(crate) at: u32,
+    pub(crate) child: Top,
 }
 
-/// Evens the tree out from a node upwards, as far as heights change, and gives the root.
-pub(crate) fn repair<L: Ledger>(block: &mut Block, broken: Uneven, steps: &mut Steps<L>) -> u32
+/// Rebalances the tree from a node upwards, as far as heights change, and gives the root.
+pub(crate) fn repair<L: Ledger>(block: &mut Block, broken: Unbalanced, steps: &mut Steps<L>) -> u32
     requires { (ps : List (ℕ × ℕ)) × (levels : ℕ) × CanRepair block.old broken ps levels }
     ensures { (ps : List (ℕ × ℕ)) (levels : ℕ) → CanRepair block.old broken ps levels → IsRepaired block.old block.new result ps levels steps.old steps.new }
 {
@@ -28,26 +31,39 @@ pub(crate) fn repair<L: Ledger>(block: &mut Block, broken: Uneven, steps: &mut S
     rest.root
 }
 
-/// Evens one node out. The repair goes on at its parent, or ends where the height is as before.
+/// Rebalances one node. The repair goes on at its parent, or ends where the height is as before.
 #[tactic(auto, unfolding(crate::specs::Moves::lifted))]
-fn lift<L: Ledger>(block: &mut Block, rest: Uneven, steps: &mut Steps<L>) -> Uneven
+fn lift<L: Ledger>(block: &mut Block, rest: Unbalanced, steps: &mut Steps<L>) -> Unbalanced
+    requires inside { rest.at < length block.old }
+    requires small { length block.old ≤ none }
+    requires known { rest.child.height ≡ (node_at block.old rest.child.root).height }
+    requires below { ((node_at block.old rest.at).left ≡ rest.child.root → ⊥) → (node_at block.old rest.at).right ≡ rest.child.root }
     ensures block { (block.new, result) ≡ lifted block.old rest }
-    ensures steps { steps.new ≤ steps.old + 15 }
+    ensures steps { steps.new ≤ steps.old + 13 }
 {
-    let Uneven { root, at } = rest;
-    let node = read(block, at, steps);
-    let top = even(block, at, node, steps);
+    let Unbalanced { root, at, child } = rest;
+    let node = block.read(at, steps);
+    if child.height < node.height && child.height + 1 == node.height {
+        return Unbalanced {
+            root,
+            at: NONE,
+            child,
+        };
+    }
+    let top = rebalance(block, at, node, child, steps);
     let root = if top.root == at {
         root
     } else {
         relink(block, root, node.parent, at, top.root, steps)
     };
-    if top.height == node.height {
-        Uneven { root, at: NONE }
+    let at = if top.height == node.height {
+        NONE
     } else {
-        Uneven {
-            root,
-            at: node.parent,
-        }
+        node.parent
+    };
+    Unbalanced {
+        root,
+        at,
+        child: top,
     }
 }

@@ -1,4 +1,4 @@
-use Rattle.timer_tree.proofs.Lifts.{repairing_step, repairing_smaller, repairing_end, repairing_start}
+use Rattle.timer_tree.proofs.Lifts.{can_lift, repairing_step, repairing_smaller, repairing_end, repairing_start}
 use Rattle.timer_tree.proofs.repair.repair.Goals as goal
 
 pub loop-rest-smaller : goal.loop-rest-smaller
@@ -15,3 +15,10 @@ loop-rest-init g c = λ ps levels can. repairing_start c.args.block.now c.args.b
 
 pub returns : goal.returns
 returns g c = λ ps levels can. repairing_end c.args.block.now c.loop-rest.block c.loop-rest.rest ps levels c.args.steps.now c.loop-rest.steps (c.loop-rest.invariant ps levels can) c.loop-rest-test.false
+
+pub lift-rest-requires : goal.lift-rest-requires
+lift-rest-requires g c =
+    let start = c.requires in
+    let so_far = c.loop-rest.invariant start.0 start.1 start.2 in
+    let can = can_lift c.loop-rest.block c.loop-rest.rest start.0 so_far.left c.loop-rest-test.true so_far.can in
+    record { inside = can.inside; small = can.small; known = can.known; below = can.below }
