@@ -24,7 +24,7 @@ with_child-with_links sides.Right e b p h id = refl
 -- the context, with the new node in its hole
 record Inserted (xs : List Node) (c : List Frame) (expires id : ℕ) (new : List Node × ℕ) : Type 0 where
   at : IsAround new.0 id c
-  stands : Stands new.0 id (record { expires = expires; left = none; right = none; parent = above c; height = 1 })
+  stands : Stands new.0 id (record { expires = expires; left = none; right = none; parent = above c; rank = 1 })
   root_is : new.1 ≡ root_of id c
   rest : (k : ℕ) → times k (around c) ≡ 0 → (k ≡ id → ⊥) → node_at new.0 k ≡ node_at xs k
   size : length new.0 ≡ length xs
@@ -32,7 +32,7 @@ record Inserted (xs : List Node) (c : List Frame) (expires id : ℕ) (new : List
 inserted_at : (xs : List Node) (root : ℕ) (place : Place) (expires id : ℕ) (c : List Frame) → length xs ≤ none → id < length xs → times id (around c) ≡ 0 → ((k : ℕ) → times k (around c) ≤ 1) → IsHole place c → IsAround xs none c → root ≡ root_of none c → Inserted xs c expires id (inserted xs root (record { parent = above c; side = place.side }) expires id)
 unfolding inserted
 inserted_at xs root place expires id [] small inside gone once hole linked root_is =
-    let node : Node = record { expires = expires; left = none; right = none; parent = none; height = 1 } in
+    let node : Node = record { expires = expires; left = none; right = none; parent = none; rank = 1 } in
     record {
       at = tt;
       stands = Stands-set_same xs id node inside;
@@ -41,7 +41,7 @@ inserted_at xs root place expires id [] small inside gone once hole linked root_
       size = length-set xs id node;
     }
 inserted_at xs root place expires id (f ∷ c) small inside gone once hole linked root_is =
-    let node : Node = record { expires = expires; left = none; right = none; parent = f.n; height = 1 } in
+    let node : Node = record { expires = expires; left = none; right = none; parent = f.n; rank = 1 } in
     let ys = slice_set xs id node in
     let new = with_child (node_at ys f.n) place.side id in
     let zs = slice_set ys f.n new in
@@ -73,7 +73,7 @@ inserted_new xs root first place expires id ps old steps new stored absent insid
     subst (λ x. Inserted xs c expires id x) (sym is) (subst (λ k. Inserted xs c expires id (inserted xs root (record { parent = k; side = place.side }) expires id)) (sym found.hole.parent) done)
 
 -- what a repair is asked for
-pub inserted_can : (xs : List Node) (root first : ℕ) (place : Place) (expires id : ℕ) (ps : List (ℕ × ℕ)) (old steps : ℕ) (new : List Node × ℕ) → IsStored xs root first ps → has_id id ps ≡ false → id < length xs → (found : IsPlace xs root place expires ps old steps) → new ≡ inserted xs root place expires id → CanRepair new.0 (record { root = new.1; at = place.parent; child = record { root = id; height = 1 } }) (put expires id ps) (length found.context) × KeepsOthers xs new.0 (put expires id ps)
+pub inserted_can : (xs : List Node) (root first : ℕ) (place : Place) (expires id : ℕ) (ps : List (ℕ × ℕ)) (old steps : ℕ) (new : List Node × ℕ) → IsStored xs root first ps → has_id id ps ≡ false → id < length xs → (found : IsPlace xs root place expires ps old steps) → new ≡ inserted xs root place expires id → CanRepair new.0 (record { root = new.1; at = place.parent; child = record { root = id; rank = 1 } }) (put expires id ps) (length found.context) × KeepsOthers xs new.0 (put expires id ps)
 inserted_can xs root first place expires id ps old steps new stored absent inside found is =
     let c = found.context in
     let done = inserted_new xs root first place expires id ps old steps new stored absent inside found is in
@@ -83,14 +83,14 @@ inserted_can xs root first place expires id ps old steps new stored absent insid
         unbalanced = record {
           context = c;
           part = Fork Leaf id expires 1 Leaf;
-          old_height = 0;
+          old_rank = 0;
           linked = done.at;
           under = (done.stands, tt, tt);
           root_is = done.root_is;
           at_is = found.hole.parent;
           child_is = λ some. refl;
-          height_is = λ some. refl;
-          balanced = (omega arith, omega arith, omega arith, tt, tt);
+          rank_is = λ some. refl;
+          balanced = (record { below_a = omega arith; below_b = omega arith; near_a = omega arith; near_b = omega arith; near_both = omega arith }, tt, tt);
           fits = found.fits;
           lower = omega arith;
           higher = omega arith;
@@ -140,7 +140,7 @@ added_stored xs root first place expires id ps old steps new zs new_root old_ste
     record {
       is_tree = repaired.tree;
       first_is = first_placed place c first id expires found.hole (λ k. omega (arith, times-context k c ps found.pairs_are, times-le k ps stored.queue.once)) (stored.first_is ∙ ap first_id whole) ∙ sym (ap first_id (found.puts id));
-      free = λ k gone. ap (λ (x : Node). x.height) (repaired.kept.rest k gone ∙ kept.rest k gone) ∙ stored.free k (omega (arith, times-put k expires id ps, gone));
+      free = λ k gone. ap (λ (x : Node). x.rank) (repaired.kept.rest k gone ∙ kept.rest k gone) ∙ stored.free k (omega (arith, times-put k expires id ps, gone));
       queue = subst (λ n. IsQueue n (put expires id ps)) (sym size) (IsQueue-put (length xs) expires id ps absent inside stored.queue);
       small = omega (arith, size, stored.small);
     }
@@ -161,7 +161,7 @@ pub record Added (ps : List (ℕ × ℕ)) (room expires id : ℕ) (zs : List Nod
   pub size : length zs ≡ room
   pub count : (d : ℕ) → length ps + 1 < 2 ^ d → steps ≤ old_steps + 32 * (d + 1)
 
-pub added : (xs : List Node) (root first : ℕ) (place : Place) (expires id : ℕ) (ps : List (ℕ × ℕ)) (old steps : ℕ) (new : List Node × ℕ) (inserted_steps : ℕ) (zs : List Node) (new_root new_first new_steps : ℕ) → IsStored xs root first ps → has_id id ps ≡ false → id < length xs → IsPlace xs root place expires ps old steps → new ≡ inserted xs root place expires id → inserted_steps ≤ steps + 3 → ((qs : List (ℕ × ℕ)) (levels : ℕ) → CanRepair new.0 (record { root = new.1; at = place.parent; child = record { root = id; height = 1 } }) qs levels → IsRepaired new.0 zs new_root qs levels inserted_steps new_steps) → new_first ≡ first_with place first id → Added ps (length xs) expires id zs new_root new_first old new_steps
+pub added : (xs : List Node) (root first : ℕ) (place : Place) (expires id : ℕ) (ps : List (ℕ × ℕ)) (old steps : ℕ) (new : List Node × ℕ) (inserted_steps : ℕ) (zs : List Node) (new_root new_first new_steps : ℕ) → IsStored xs root first ps → has_id id ps ≡ false → id < length xs → IsPlace xs root place expires ps old steps → new ≡ inserted xs root place expires id → inserted_steps ≤ steps + 3 → ((qs : List (ℕ × ℕ)) (levels : ℕ) → CanRepair new.0 (record { root = new.1; at = place.parent; child = record { root = id; rank = 1 } }) qs levels → IsRepaired new.0 zs new_root qs levels inserted_steps new_steps) → new_first ≡ first_with place first id → Added ps (length xs) expires id zs new_root new_first old new_steps
 added xs root first place expires id ps old steps new inserted_steps zs new_root new_first new_steps stored absent inside found is few repairs first_is =
     let can = inserted_can xs root first place expires id ps old steps new stored absent inside found is in
     let repaired = repairs (put expires id ps) (length found.context) can.0 in

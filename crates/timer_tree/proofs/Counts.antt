@@ -10,8 +10,8 @@ enough : (k : ℕ) (t : Tree) → IsBalanced t → 2 * k ≤ tall t → 2 ^ k �
 enough zero t balanced high = omega arith
 enough (suc k) Leaf balanced high = let never : ⊥ = omega (arith, high) in absurd never
 enough (suc k) (Fork l n e h r) balanced high =
-    let left = enough k l balanced.3 (omega (arith, high, balanced.0, balanced.1, balanced.2)) in
-    let right = enough k r balanced.4 (omega (arith, high, balanced.0, balanced.1, balanced.2)) in
+    let left = enough k l balanced.1 (omega (arith, high, balanced.0.near_a)) in
+    let right = enough k r balanced.2 (omega (arith, high, balanced.0.near_b)) in
     grind (arith, left, right, length-fork sides.Left l r n e h)
 
 -- a tree is lower than twice as many binary digits as its pairs and one have
@@ -25,4 +25,4 @@ tall-lt d t balanced few =
 -- a context has no more nodes than the tree is high
 pub length-context-le : (c : List Frame) (h : ℕ) (t : Tree) → tall t ≡ h → Fits c h → h + length c ≤ tall (plug c t)
 length-context-le [] h t is fits = omega (arith, is)
-length-context-le (f ∷ c) h t is fits = omega (arith, fits.0, length-context-le c f.h (filled f t) (tall-fork f.side t f.other f.n f.e f.h) fits.4)
+length-context-le (f ∷ c) h t is fits = omega (arith, fits.0.below_a, length-context-le c f.h (filled f t) (tall-fork f.side t f.other f.n f.e f.h) fits.2)

@@ -40,11 +40,11 @@ first_stays : (ps qs : List (ℕ × ℕ)) (e id : ℕ) → (first_id (ps ++ (e, 
 first_stays [] qs e id other = absurd (other refl)
 first_stays (p ∷ ps) qs e id other = refl
 
--- a part of height one at most has its first node at the top
+-- a part of rank one at most has its first node at the top
 low_first : (xs : List Node) (p : ℕ) (r : Tree) (c : List Frame) → length xs ≤ none → IsAt xs p r → IsBalanced r → tall r ≤ 1 → before c ≡ [] → first_id (pairs r ++ after c) ≡ (if nat_eq (top r) none then above c else top r)
 low_first xs p Leaf c small at balanced low nothing = first_after c nothing
 low_first xs p (Fork Leaf m f g b) c small at balanced low nothing = sym (ap (λ x. if x then above c else m) (ne_eqb m none (λ same. omega (arith, same, at.0.inside, small))))
-low_first xs p (Fork (Fork a m' f' g' b') m f g b) c small at balanced low nothing = let never : ⊥ = omega (arith, balanced.0, balanced.3.0, low) in absurd never
+low_first xs p (Fork (Fork a m' f' g' b') m f g b) c small at balanced low nothing = let never : ⊥ = omega (arith, balanced.0.below_a, balanced.1.0.below_a, low) in absurd never
 
 pub erased_first : (xs : List Node) (root first id : ℕ) (node : Node) (ps : List (ℕ × ℕ)) (new_first : ℕ) → (taking : IsTaking xs root id ps) → first ≡ first_id ps → node ≡ node_at xs id → new_first ≡ (if nat_eq first id then (if nat_eq node.right none then node.parent else node.right) else first) → new_first ≡ first_id (without id ps)
 erased_first xs root first id node ps new_first taking first_is node_is new_is =
@@ -64,8 +64,8 @@ erased_first xs root first id node ps new_first taking first_is node_is new_is =
     elim (nat_eq first id) as (λ b. nat_eq first id ≡ b → new_first ≡ (if b then (if nat_eq node.right none then node.parent else node.right) else first) → new_first ≡ first_id (without id ps)) [
       | true ↦ λ same is.
           let both = nothing_both (before c) (pairs l) (nothing_before left right e id gone (sym (ap first_id whole) ∙ sym first_is ∙ eqb-true _ _ same)) in
-          let flat : tall l ≤ 0 = omega (arith, tall-le l stands.balanced.3, ap length both.1) in
-          let low = low_first xs id r c taking.small stands.under.2 stands.balanced.4 (omega (arith, stands.balanced.2, flat)) both.0 in
+          let flat : tall l ≤ 0 = omega (arith, tall-le l stands.balanced.1, ap length both.1) in
+          let low = low_first xs id r c taking.small stands.under.2 stands.balanced.2 (omega (arith, stands.balanced.0.near_a, stands.balanced.0.below_b, flat)) both.0 in
           is ∙ ap (λ (x : Node). if nat_eq x.right none then x.parent else x.right) here ∙ sym (ap first_id rest ∙ ap (λ qs. first_id (qs ++ right)) (ap (λ qs. qs ++ pairs l) both.0 ∙ both.1) ∙ low)
       | false ↦ λ other is. is ∙ first_is ∙ ap first_id whole ∙ first_stays left right e id (λ same. eqb-false _ _ other (first_is ∙ ap first_id whole ∙ same)) ∙ sym (ap first_id rest)
     ] refl new_is
@@ -92,13 +92,13 @@ unbalanced_kept xs r ps levels n node gone broken =
     record {
       context = c;
       part = t;
-      old_height = broken.old_height;
+      old_rank = broken.old_rank;
       linked = IsAround-agree xs (slice_set xs n node) (top t) c (length-set xs n node) (λ k some. node_at-set_other xs n k node (λ same. omega (arith, sum, gone, some, ap (λ j. times j (around c)) same))) broken.linked;
       under = IsAt-set xs n node (above c) t (omega (arith, sum, gone)) broken.under;
       root_is = broken.root_is;
       at_is = broken.at_is;
       child_is = broken.child_is;
-      height_is = broken.height_is;
+      rank_is = broken.rank_is;
       balanced = broken.balanced;
       fits = broken.fits;
       lower = broken.lower;
@@ -110,9 +110,9 @@ unbalanced_kept xs r ps levels n node gone broken =
 pub takes : (xs : List Node) (root first id : ℕ) (ps : List (ℕ × ℕ)) → IsStored xs root first ps → has_id id ps ≡ true → IsTaking xs root id ps
 takes xs root first id ps stored present = record { tree = stored.is_tree; present = present_times id ps present; once = λ k. times-le k ps stored.queue.once; small = stored.small }
 
--- the node without its height
+-- the node without its rank
 abbrev pub unlinked : List Node → ℕ → Node
-unlinked xs n = record (node_at xs n) { height = 0 }
+unlinked xs n = record (node_at xs n) { rank = 0 }
 
 -- what a repair is asked for
 pub taken_can : (xs : List Node) (root first id : ℕ) (ps : List (ℕ × ℕ)) (ys : List Node) (r : Unbalanced) (old steps : ℕ) (zs : List Node) → IsStored xs root first ps → (taken : IsTaken xs id ps ys r old steps) → zs ≡ slice_set ys id (unlinked ys id) → CanRepair zs r (without id ps) taken.levels
@@ -141,9 +141,9 @@ erased xs root first id node ps ys r old read_steps taken_steps zs written_steps
     let size_z : length zs ≡ length xs = ap length zs_is ∙ length-set ys id (unlinked ys id) ∙ taken.size in
     let size : length ws ≡ length xs = repaired.kept.size ∙ size_z in
     let inside : id < length ys = omega (arith, taken.size, inside_at xs none taking.tree.tree id taking.tree.at (subst (λ qs. 0 < times id qs) (sym taking.tree.pairs_are) taking.present)) in
-    let free : (k : ℕ) → times k (without id ps) ≡ 0 → (node_at ws k).height ≡ 0 = λ k gone. ap (λ (x : Node). x.height) (repaired.kept.rest k gone ∙ ap (λ us. node_at us k) zs_is) ∙ elim (cases_eq k id) [
-      | inl same ↦ subst (λ j. (node_at (slice_set ys id (unlinked ys id)) j).height ≡ 0) (sym same) (ap (λ (x : Node). x.height) (node_at-set_same ys id (unlinked ys id) inside))
-      | inr apart ↦ let absent : times k ps ≡ 0 = sym (other_times k id ps apart) ∙ gone in ap (λ (x : Node). x.height) (node_at-set_other ys id k (unlinked ys id) apart ∙ taken.rest k absent) ∙ stored.free k absent
+    let free : (k : ℕ) → times k (without id ps) ≡ 0 → (node_at ws k).rank ≡ 0 = λ k gone. ap (λ (x : Node). x.rank) (repaired.kept.rest k gone ∙ ap (λ us. node_at us k) zs_is) ∙ elim (cases_eq k id) [
+      | inl same ↦ subst (λ j. (node_at (slice_set ys id (unlinked ys id)) j).rank ≡ 0) (sym same) (ap (λ (x : Node). x.rank) (node_at-set_same ys id (unlinked ys id) inside))
+      | inr apart ↦ let absent : times k ps ≡ 0 = sym (other_times k id ps apart) ∙ gone in ap (λ (x : Node). x.rank) (node_at-set_other ys id k (unlinked ys id) apart ∙ taken.rest k absent) ∙ stored.free k absent
     ] in
     let done : IsStored ws new_root new_first (without id ps) = record {
       is_tree = repaired.tree;

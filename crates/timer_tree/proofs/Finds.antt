@@ -8,7 +8,7 @@ use Rattle.timer_tree.specs.Nodes.{none, node_at, near}
 use Rattle.timer_tree.specs.Trees.{Tree, Leaf, Fork, top, tall, pairs, IsAt, IsBalanced}
 use Rattle.timer_tree.specs.Contexts.{Frame, plug, above, root_of, IsAround, before, after, Fits}
 use Rattle.timer_tree.specs.Places.{side_of, IsHole, IsFinding, IsPlace, IsSearched}
-use Rattle.timer_tree.proofs.Trees.{height_at, pairs-plug}
+use Rattle.timer_tree.proofs.Trees.{rank_at, turn_ranks, pairs-plug}
 use Rattle.timer_tree.proofs.Puts.{put_left, put_right, up_to, IsByExpiry-behind}
 use Rattle.timer_tree.specs.declared.node.Node.{Node}
 use Rattle.timer_tree.specs.declared.node.Side.{Side}
@@ -28,8 +28,8 @@ left_at xs root expires ps old steps c l n e h r less linked under root_is balan
       at_is = refl;
       root_is = root_is;
       hole = record { parent = refl; side = refl };
-      balanced = balanced.3;
-      fits = (balanced.0, balanced.1, balanced.2, balanced.4, fits);
+      balanced = balanced.1;
+      fits = (balanced.0, balanced.2, fits);
       pairs_are = pairs_are;
       puts = λ id. puts id ∙ ap (λ qs. before c ++ (qs ++ after c)) (put_left expires id (pairs l) (pairs r) (e, n) less) ∙ simp (append_assoc, append-nil) refl;
       count = omega (arith, count);
@@ -52,8 +52,8 @@ right_at xs root expires ps old steps c l n e h r more sorted linked under root_
       at_is = refl;
       root_is = root_is;
       hole = record { parent = refl; side = refl };
-      balanced = balanced.4;
-      fits = (omega (arith, balanced.0), balanced.2, balanced.1, balanced.3, fits);
+      balanced = balanced.2;
+      fits = (turn_ranks (tall l) (tall r) h balanced.0, balanced.1, fits);
       pairs_are = pairs_are;
       puts = λ id. puts id ∙ ap (λ qs. before c ++ (qs ++ after c)) (put_right expires id (pairs l) ((e, n) ∷ pairs r) earlier ∙ ap (λ qs. pairs l ++ qs) (not_before id)) ∙ simp (append_assoc, append-nil) refl;
       count = omega (arith, count);
@@ -62,17 +62,17 @@ right_at xs root expires ps old steps c l n e h r more sorted linked under root_
 -- what holds at a node that was read
 abbrev pub Down : List Node → ℕ → ℕ → ℕ → List (ℕ × ℕ) → ℕ → ℕ → Node → Side → Type 0
 Down xs root at expires ps old steps node side =
-    IsFinding xs root (record { parent = at; side = side }) (near side node) expires ps old steps × ((node_at xs (near side node)).height < node.height)
+    IsFinding xs root (record { parent = at; side = side }) (near side node) expires ps old steps × ((node_at xs (near side node)).rank < node.rank)
 
 down_at : (xs : List Node) (root expires : ℕ) (ps : List (ℕ × ℕ)) (old steps : ℕ) (c : List Frame) (t : Tree) → (top t ≡ none → ⊥) → IsByExpiry ps → length xs ≤ none → IsAround xs (top t) c → IsAt xs (above c) t → root ≡ root_of (top t) c → IsBalanced t → Fits c (tall t) → pairs (plug c t) ≡ ps → ((id : ℕ) → put expires id ps ≡ before c ++ (put expires id (pairs t) ++ after c)) → steps ≡ old + length c →
     Down xs root (top t) expires ps old (steps + 1) (node_at xs (top t)) (side_of expires (node_at xs (top t)).expires)
 down_at xs root expires ps old steps c Leaf some sorted small linked under root_is balanced fits pairs_are puts count = absurd (some refl)
 down_at xs root expires ps old steps c (Fork l n e h r) some sorted small linked under root_is balanced fits pairs_are puts count =
-    let node : Node = record { expires = e; left = top l; right = top r; parent = above c; height = h } in
+    let node : Node = record { expires = e; left = top l; right = top r; parent = above c; rank = h } in
     subst (λ (x : Node). Down xs root n expires ps old (steps + 1) x (side_of expires x.expires)) (sym under.0.is)
     (elim (nat_lt expires e) as (λ b. nat_lt expires e ≡ b → Down xs root n expires ps old (steps + 1) node (if b then sides.Left else sides.Right)) [
-      | true ↦ λ less. (left_at xs root expires ps old steps c l n e h r (ltb-true _ _ less) linked under root_is balanced fits pairs_are puts count, omega (arith, height_at xs n l small under.1, balanced.0))
-      | false ↦ λ more. (right_at xs root expires ps old steps c l n e h r (ltb-false _ _ more) sorted linked under root_is balanced fits pairs_are puts count, omega (arith, height_at xs n r small under.2, balanced.0))
+      | true ↦ λ less. (left_at xs root expires ps old steps c l n e h r (ltb-true _ _ less) linked under root_is balanced fits pairs_are puts count, omega (arith, rank_at xs n l small under.1, balanced.0.below_a))
+      | false ↦ λ more. (right_at xs root expires ps old steps c l n e h r (ltb-false _ _ more) sorted linked under root_is balanced fits pairs_are puts count, omega (arith, rank_at xs n r small under.2, balanced.0.below_b))
     ] refl)
 
 pub finding_down : (xs : List Node) (root : ℕ) (place : Place) (at expires : ℕ) (ps : List (ℕ × ℕ)) (old steps new : ℕ) (node : Node) (side : Side) → IsSearched xs root ps → (at ≡ none → ⊥) → IsFinding xs root place at expires ps old steps → node ≡ node_at xs at → new ≡ steps + 1 → side ≡ side_of expires node.expires → Down xs root at expires ps old new node side

@@ -10,3 +10,4 @@ pub mod Taking
 pub mod Told
 pub mod Trees
 pub mod Rotations
+pub mod Rebalances

@@ -11,7 +11,7 @@ use Rattle.timer_tree.specs.declared.node.Side.TheVariants as sides
 use Rattle.timer_tree.specs.Nodes.{none, blank, node_at, IsLink}
 use Rattle.timer_tree.specs.Trees.{Tree, Leaf, Fork, top, tall, pairs, IsAt, IsBalanced, IsTree, IsStored, one, times, first_id, pairs_below, queue_at}
 use Rattle.timer_tree.specs.Places.{IsSearched}
-use Rattle.timer_tree.proofs.Trees.{height_at, inside_at, apart_one, times-fork, tall-le}
+use Rattle.timer_tree.proofs.Trees.{rank_at, inside_at, apart_one, times-fork, tall-le}
 use Rattle.timer_tree.specs.declared.node.Node.{Node}
 
 times-apart : (k : ℕ) (ps : List (ℕ × ℕ)) → AllByRecursion (λ p. nat_eq k p.1 ≡ false) ps → times k ps ≡ 0
@@ -36,11 +36,11 @@ times-le k (p ∷ ps) once =
 
 pairs_below-is : (k : ℕ) (xs : List Node) (p : ℕ) (t : Tree) → length xs ≤ none → tall t ≤ k → IsBalanced t → IsAt xs p t → pairs_below k xs (top t) ≡ pairs t
 pairs_below-is zero xs p Leaf small low balanced at = refl
-pairs_below-is zero xs p (Fork l n e h r) small low balanced at = let never : ⊥ = omega (arith, low, balanced.0) in absurd never
+pairs_below-is zero xs p (Fork l n e h r) small low balanced at = let never : ⊥ = omega (arith, low, balanced.0.below_a) in absurd never
 pairs_below-is (suc k) xs p Leaf small low balanced at = refl
 pairs_below-is (suc k) xs p (Fork l n e h r) small low balanced at =
-    let left = pairs_below-is k xs n l small (omega (arith, low, balanced.0)) balanced.3 at.1 in
-    let right = pairs_below-is k xs n r small (omega (arith, low, balanced.0)) balanced.4 at.2 in
+    let left = pairs_below-is k xs n l small (omega (arith, low, balanced.0.below_a)) balanced.1 at.1 in
+    let right = pairs_below-is k xs n r small (omega (arith, low, balanced.0.below_b)) balanced.2 at.2 in
     let some : nat_eq n none ≡ false = ne_eqb n none (λ same. omega (arith, same, at.0.inside, small)) in
     ap (λ b. if b then [] else pairs_below k xs (node_at xs n).left ++ ((node_at xs n).expires, n) ∷ pairs_below k xs (node_at xs n).right) some
     ∙ ap (λ (x : Node). pairs_below k xs x.left ++ (x.expires, n) ∷ pairs_below k xs x.right) at.0.is
@@ -50,7 +50,7 @@ pairs_below-is (suc k) xs p (Fork l n e h r) small low balanced at =
 pub queue_at-is : (xs : List Node) (root : ℕ) (ps : List (ℕ × ℕ)) → length xs ≤ none → IsTree xs root ps → queue_at xs root ≡ ps
 queue_at-is xs root ps small tree =
     subst (λ n. queue_at xs n ≡ ps) (sym tree.root_is)
-    (ap (λ k. pairs_below k xs (top tree.tree)) (height_at xs none tree.tree small tree.at)
+    (ap (λ k. pairs_below k xs (top tree.tree)) (rank_at xs none tree.tree small tree.at)
     ∙ pairs_below-is (tall tree.tree) xs none tree.tree small (omega arith) tree.balanced tree.at
     ∙ tree.pairs_are)
 
@@ -78,8 +78,8 @@ first_node xs p (Fork Leaf n e h r) small balanced at = (
 )
 first_node xs p (Fork (Fork a m f g b) n e h r) small balanced at =
     let l = Fork a m f g b in
-    let more = first_of-behind (pairs l) ((e, n) ∷ pairs r) (omega (arith, tall-le l balanced.3, balanced.3.0)) in
-    let rest = first_node xs n (Fork a m f g b) small balanced.3 at.1 in
+    let more = first_of-behind (pairs l) ((e, n) ∷ pairs r) (omega (arith, tall-le l balanced.1, balanced.1.0.below_a)) in
+    let rest = first_node xs n (Fork a m f g b) small balanced.1 at.1 in
     (more.0 ∙ rest.0 ∙ ap (λ k. first_at xs k) (sym more.1), subst (λ k. IsLink (length xs) k) (sym more.1) rest.1)
 
 pub first_stored : (xs : List Node) (root first : ℕ) (ps : List (ℕ × ℕ)) → IsStored xs root first ps → (first_of ps ≡ first_at xs first) × IsLink (length xs) first
@@ -89,14 +89,14 @@ first_stored xs root first ps stored =
     let same : first_id (pairs tree.tree) ≡ first = ap first_id tree.pairs_are ∙ sym stored.first_is in
     (ap first_of (sym tree.pairs_are) ∙ done.0 ∙ ap (λ k. first_at xs k) same, subst (λ k. IsLink (length xs) k) same done.1)
 
-pub linked_height : (xs : List Node) (p : ℕ) (t : Tree) (k : ℕ) → IsBalanced t → IsAt xs p t → 0 < times k (pairs t) → 0 < (node_at xs k).height
-linked_height xs p Leaf k balanced at some = omega (arith, some)
-linked_height xs p (Fork l n e h r) k balanced at some =
+pub linked_rank : (xs : List Node) (p : ℕ) (t : Tree) (k : ℕ) → IsBalanced t → IsAt xs p t → 0 < times k (pairs t) → 0 < (node_at xs k).rank
+linked_rank xs p Leaf k balanced at some = omega (arith, some)
+linked_rank xs p (Fork l n e h r) k balanced at some =
     elim (cases_eq k n) [
-      | inl same ↦ subst (λ j. 0 < (node_at xs j).height) (sym same) (omega (arith, ap (λ (x : Node). x.height) at.0.is, balanced.0))
+      | inl same ↦ subst (λ j. 0 < (node_at xs j).rank) (sym same) (omega (arith, ap (λ (x : Node). x.rank) at.0.is, balanced.0.below_a))
       | inr apart ↦ elim (cases_eq (times k (pairs l)) 0) [
-        | inl gone ↦ linked_height xs n r k balanced.4 at.2 (omega (arith, times-fork k sides.Left l r n e h, apart_one k n apart, some, gone))
-        | inr here ↦ linked_height xs n l k balanced.3 at.1 (omega (arith, here))
+        | inl gone ↦ linked_rank xs n r k balanced.2 at.2 (omega (arith, times-fork k sides.Left l r n e h, apart_one k n apart, some, gone))
+        | inr here ↦ linked_rank xs n l k balanced.1 at.1 (omega (arith, here))
       ]
     ]
 
@@ -108,12 +108,12 @@ present_times k (p ∷ ps) present =
       | inr apart ↦ let rest : has_id k ps ≡ true = grind (arith, nat_tests) in omega (arith, present_times k ps rest)
     ]
 
-pub has_stored : (xs : List Node) (root first : ℕ) (ps : List (ℕ × ℕ)) (k : ℕ) → IsStored xs root first ps → not (nat_eq (node_at xs k).height 0) ≡ has_id k ps
+pub has_stored : (xs : List Node) (root first : ℕ) (ps : List (ℕ × ℕ)) (k : ℕ) → IsStored xs root first ps → not (nat_eq (node_at xs k).rank 0) ≡ has_id k ps
 has_stored xs root first ps k stored =
-    elim (has_id k ps) as (λ b. has_id k ps ≡ b → not (nat_eq (node_at xs k).height 0) ≡ b) [
+    elim (has_id k ps) as (λ b. has_id k ps ≡ b → not (nat_eq (node_at xs k).rank 0) ≡ b) [
       | true ↦ λ present.
-          let some = linked_height xs none stored.is_tree.tree k stored.is_tree.balanced stored.is_tree.at (subst (λ qs. 0 < times k qs) (sym stored.is_tree.pairs_are) (present_times k ps present)) in
-          ap not (ne_eqb (node_at xs k).height 0 (λ zero_h. omega (arith, zero_h, some)))
+          let some = linked_rank xs none stored.is_tree.tree k stored.is_tree.balanced stored.is_tree.at (subst (λ qs. 0 < times k qs) (sym stored.is_tree.pairs_are) (present_times k ps present)) in
+          ap not (ne_eqb (node_at xs k).rank 0 (λ zero_h. omega (arith, zero_h, some)))
       | false ↦ λ absent. ap (λ h. not (nat_eq h 0)) (stored.free k (times-absent k ps absent))
     ] refl
 
@@ -130,7 +130,7 @@ empty_stored xs room small is =
     let stored : IsStored xs none none [] = record {
       is_tree = tree;
       first_is = refl;
-      free = λ k gone. ap (λ (x : Node). x.height) (blank_at k);
+      free = λ k gone. ap (λ (x : Node). x.rank) (blank_at k);
       queue = IsQueue-empty (length xs);
       small = omega (arith, size, small);
     } in (queue_again xs none none [] stored, queue_at-is xs none [] stored.small tree)
@@ -140,4 +140,4 @@ pub has_inside : (xs : List Node) (root first : ℕ) (ps : List (ℕ × ℕ)) (k
 has_inside xs root first ps k stored present = inside_at xs none stored.is_tree.tree k stored.is_tree.at (subst (λ qs. 0 < times k qs) (sym stored.is_tree.pairs_are) (present_times k ps present))
 
 pub has_past : (xs : List Node) (root first : ℕ) (ps : List (ℕ × ℕ)) (k : ℕ) → IsStored xs root first ps → length xs ≤ k → false ≡ has_id k ps
-has_past xs root first ps k stored past = ap (λ (x : Node). not (nat_eq x.height 0)) (sym (get_or_past xs k blank past)) ∙ has_stored xs root first ps k stored
+has_past xs root first ps k stored past = ap (λ (x : Node). not (nat_eq x.rank 0)) (sym (get_or_past xs k blank past)) ∙ has_stored xs root first ps k stored

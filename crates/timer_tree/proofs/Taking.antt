@@ -8,7 +8,7 @@ use Rattle.timer_tree.specs.Moves.{only_child, spliced, substituted}
 use Rattle.timer_tree.specs.Trees.{Tree, Leaf, Fork, top, tall, pairs, IsAt, IsBalanced, one, times}
 use Rattle.timer_tree.specs.Contexts.{Frame, plug, above, root_of, IsAround, around, before, after, Fits}
 use Rattle.timer_tree.specs.Takes.{IsSubtree, IsLowering, IsLeftmost, IsTaking, IsTaken}
-use Rattle.timer_tree.proofs.Trees.{node_at-set_other, Stands-set_same, times-append, times-fork, times-plug, one_same, one_apart, IsAt-agree, IsAround-agree, IsAt-set, height_at, length-adopted, IsAt-adopted, adopted_other, relinked_linked, pairs-plug, plug-append, IsAt-cut, IsAt-join, balanced-cut, Located, locate, top-plug, times-frames, cut, root_of-frames, Fits-renamed}
+use Rattle.timer_tree.proofs.Trees.{node_at-set_other, Stands-set_same, times-append, times-fork, times-plug, one_same, one_apart, IsAt-agree, IsAround-agree, IsAt-set, rank_at, length-adopted, IsAt-adopted, adopted_other, relinked_linked, pairs-plug, plug-append, IsAt-cut, IsAt-join, balanced-cut, Located, locate, top-plug, times-frames, cut, root_of-frames, Fits-renamed}
 use Rattle.timer_tree.proofs.Puts.{without_at}
 use Rattle.timer_tree.proofs.Counts.{tall-lt, length-context-le}
 use Rattle.timer_tree.specs.declared.node.Node.{Node}
@@ -29,22 +29,22 @@ lowering_at xs t n node old steps c (Fork a m f g b) e h r p some is first at ba
   is = is;
   first = append-nil (before c) ∙ first;
   at = at.1;
-  balanced = balanced.3;
+  balanced = balanced.1;
   node_is = refl;
   count = omega (arith, count);
 }
 
-left_is : (xs : List Node) (p : ℕ) (l : Tree) (n e h : ℕ) (r : Tree) (node : Node) → node ≡ node_at xs n → IsAt xs p (Fork l n e h r) → node ≡ record { expires = e; left = top l; right = top r; parent = p; height = h }
+left_is : (xs : List Node) (p : ℕ) (l : Tree) (n e h : ℕ) (r : Tree) (node : Node) → node ≡ node_at xs n → IsAt xs p (Fork l n e h r) → node ≡ record { expires = e; left = top l; right = top r; parent = p; rank = h }
 left_is xs p l n e h r node is at = is ∙ at.0.is
 
-pub lowering_step : (xs : List Node) (t : Tree) (n : ℕ) (node next : Node) (old steps new : ℕ) → length xs ≤ none → IsLowering xs t n node old steps → (node.left ≡ none → ⊥) → next ≡ node_at xs node.left → new ≡ steps + 1 → IsLowering xs t node.left next old new × ((node_at xs node.left).height < (node_at xs n).height)
+pub lowering_step : (xs : List Node) (t : Tree) (n : ℕ) (node next : Node) (old steps new : ℕ) → length xs ≤ none → IsLowering xs t n node old steps → (node.left ≡ none → ⊥) → next ≡ node_at xs node.left → new ≡ steps + 1 → IsLowering xs t node.left next old new × ((node_at xs node.left).rank < (node_at xs n).rank)
 lowering_step xs t n node next old steps new small so_far some is one_more =
     let here = left_is xs so_far.p so_far.l n so_far.e so_far.h so_far.r node so_far.node_is so_far.at in
     let left = ap (λ (x : Node). x.left) here in
     let done = lowering_at xs t n node old steps so_far.context so_far.l so_far.e so_far.h so_far.r so_far.p (λ same. some (left ∙ same)) so_far.is so_far.first so_far.at so_far.balanced so_far.count in
     let moved = subst (λ k. IsLowering xs t k (node_at xs k) old (steps + 1)) (sym left) done in (
       subst (λ k. IsLowering xs t node.left next old k) (sym one_more) (subst (λ x. IsLowering xs t node.left x old (steps + 1)) (sym is) moved),
-      omega (arith, ap (λ k. (node_at xs k).height) left, height_at xs n so_far.l small so_far.at.1, ap (λ (x : Node). x.height) so_far.at.0.is, so_far.balanced.0),
+      omega (arith, ap (λ k. (node_at xs k).rank) left, rank_at xs n so_far.l small so_far.at.1, ap (λ (x : Node). x.rank) so_far.at.0.is, so_far.balanced.0.below_a),
     )
 
 lowered_at : (xs : List Node) (t : Tree) (n : ℕ) (node : Node) (old steps : ℕ) (c : List Frame) (l : Tree) (e h : ℕ) (r : Tree) (p : ℕ) → length xs ≤ none → top l ≡ none → plug c (Fork l n e h r) ≡ t → before c ≡ [] → IsAt xs p (Fork l n e h r) → node ≡ node_at xs n → steps ≡ old + length c + 1 → IsLeftmost xs t (record { n = n; node = node }) old steps
@@ -100,7 +100,7 @@ substituted_put xs root id heir c l e h r small inside once at under root_is =
     let y = heir.n in
     let us = adopted xs (top l) y in
     let vs = adopted us (top r) y in
-    let new : Node = record { expires = heir.node.expires; left = top l; right = top r; parent = above c; height = h } in
+    let new : Node = record { expires = heir.node.expires; left = top l; right = top r; parent = above c; rank = h } in
     let ws = slice_set vs y new in
     let size_u = length-adopted xs (top l) y in
     let size_v = length-adopted us (top r) y in
@@ -165,8 +165,8 @@ standing xs root id ps c l e h r taking is =
     }
 
 -- a timer with at most one part below it
-one_part : (xs : List Node) (root id : ℕ) (node : Node) (ps : List (ℕ × ℕ)) (c : List Frame) (l : Tree) (e h : ℕ) (r u : Tree) (new : List Node × ℕ) (old steps : ℕ) → IsTaking xs root id ps → Standing xs root id ps c l e h r → ((k : ℕ) → times k (pairs u) ≡ times k (pairs l) + times k (pairs r)) → pairs l ++ pairs r ≡ pairs u → IsAt xs id u → IsBalanced u → h ≡ tall u + 1 → (only_child node).root ≡ top u → node.parent ≡ above c → node.height ≡ h → new ≡ spliced xs root (record { n = id; node = node }) → steps ≤ old + 3 → IsTaken xs id ps new.0 (record { root = new.1; at = node.parent; child = only_child node }) old steps
-one_part xs root id node ps c l e h r u new old steps taking stands same_times same_pairs at_u balanced_u height part_is parent_is height_stored is few =
+one_part : (xs : List Node) (root id : ℕ) (node : Node) (ps : List (ℕ × ℕ)) (c : List Frame) (l : Tree) (e h : ℕ) (r u : Tree) (new : List Node × ℕ) (old steps : ℕ) → IsTaking xs root id ps → Standing xs root id ps c l e h r → ((k : ℕ) → times k (pairs u) ≡ times k (pairs l) + times k (pairs r)) → pairs l ++ pairs r ≡ pairs u → IsAt xs id u → IsBalanced u → h ≡ tall u + 1 → (only_child node).root ≡ top u → node.parent ≡ above c → node.rank ≡ h → new ≡ spliced xs root (record { n = id; node = node }) → steps ≤ old + 3 → IsTaken xs id ps new.0 (record { root = new.1; at = node.parent; child = only_child node }) old steps
+one_part xs root id node ps c l e h r u new old steps taking stands same_times same_pairs at_u balanced_u rank part_is parent_is rank_stored is few =
     let low : id < none = omega (arith, stands.under.0.inside, taking.small) in
     let done = subst (λ x. Put xs c u x) (sym is) (spliced_put xs root id node c u taking.small low (λ k. omega (arith, taking.once k, stands.sum k, same_times k)) stands.linked at_u stands.root_is part_is parent_is) in
     record {
@@ -174,17 +174,17 @@ one_part xs root id node ps c l e h r u new old steps taking stands same_times s
       unbalanced = record {
         context = c;
         part = u;
-        old_height = h;
+        old_rank = h;
         linked = done.linked;
         under = done.under;
         root_is = done.root_is;
         at_is = parent_is;
         child_is = λ some. part_is;
-        height_is = λ some. omega (arith, height_stored, height);
+        rank_is = λ some. omega (arith, rank_stored, rank);
         balanced = balanced_u;
         fits = stands.fits;
-        lower = omega (arith, height);
-        higher = omega (arith, height);
+        lower = omega (arith, rank);
+        higher = omega (arith, rank);
         pairs_are = pairs-plug c u ∙ ap (λ qs. before c ++ (qs ++ after c)) (sym same_pairs) ∙ without_part c l e id h r ps stands.pairs_are taking.once;
         levels_are = refl;
       };
@@ -194,15 +194,15 @@ one_part xs root id node ps c l e h r u new old steps taking stands same_times s
       count = omega (arith, few);
     }
 
-one_at : (xs : List Node) (root id : ℕ) (node : Node) (ps : List (ℕ × ℕ)) (c : List Frame) (l : Tree) (e h : ℕ) (r : Tree) (new : List Node × ℕ) (old steps : ℕ) → (taking : IsTaking xs root id ps) → plug c (Fork l id e h r) ≡ taking.tree.tree → node ≡ record { expires = e; left = top l; right = top r; parent = above c; height = h } → ((top l ≡ none) ⊎ (top r ≡ none)) → new ≡ spliced xs root (record { n = id; node = node }) → steps ≤ old + 3 → IsTaken xs id ps new.0 (record { root = new.1; at = node.parent; child = only_child node }) old steps
+one_at : (xs : List Node) (root id : ℕ) (node : Node) (ps : List (ℕ × ℕ)) (c : List Frame) (l : Tree) (e h : ℕ) (r : Tree) (new : List Node × ℕ) (old steps : ℕ) → (taking : IsTaking xs root id ps) → plug c (Fork l id e h r) ≡ taking.tree.tree → node ≡ record { expires = e; left = top l; right = top r; parent = above c; rank = h } → ((top l ≡ none) ⊎ (top r ≡ none)) → new ≡ spliced xs root (record { n = id; node = node }) → steps ≤ old + 3 → IsTaken xs id ps new.0 (record { root = new.1; at = node.parent; child = only_child node }) old steps
 one_at xs root id node ps c Leaf e h r new old steps taking is here part_free spliced_is few =
     let stands = standing xs root id ps c Leaf e h r taking is in
-    one_part xs root id node ps c Leaf e h r r new old steps taking stands (λ k. omega arith) refl stands.under.2 stands.balanced.4 (omega (arith, stands.balanced.0)) (ap (λ (x : Node). (only_child x).root) here) (ap (λ (x : Node). x.parent) here) (ap (λ (x : Node). x.height) here) spliced_is few
+    one_part xs root id node ps c Leaf e h r r new old steps taking stands (λ k. omega arith) refl stands.under.2 stands.balanced.2 (omega (arith, stands.balanced.0.below_b, stands.balanced.0.near_both)) (ap (λ (x : Node). (only_child x).root) here) (ap (λ (x : Node). x.parent) here) (ap (λ (x : Node). x.rank) here) spliced_is few
 one_at xs root id node ps c (Fork a m f g b) e h Leaf new old steps taking is here part_free spliced_is few =
     let l = Fork a m f g b in
     let stands = standing xs root id ps c l e h Leaf taking is in
     let some : nat_eq m none ≡ false = ne_eqb m none (λ same. omega (arith, same, stands.under.1.0.inside, taking.small)) in
-    one_part xs root id node ps c l e h Leaf l new old steps taking stands (λ k. omega arith) (append-nil (pairs l)) stands.under.1 stands.balanced.3 (omega (arith, stands.balanced.0)) (ap (λ (x : Node). (only_child x).root) here ∙ ap (λ x. if x then none else m) some) (ap (λ (x : Node). x.parent) here) (ap (λ (x : Node). x.height) here) spliced_is few
+    one_part xs root id node ps c l e h Leaf l new old steps taking stands (λ k. omega arith) (append-nil (pairs l)) stands.under.1 stands.balanced.1 (omega (arith, stands.balanced.0.below_a, stands.balanced.0.near_both)) (ap (λ (x : Node). (only_child x).root) here ∙ ap (λ x. if x then none else m) some) (ap (λ (x : Node). x.parent) here) (ap (λ (x : Node). x.rank) here) spliced_is few
 one_at xs root id node ps c (Fork a m f g b) e h (Fork a' m' f' g' b') new old steps taking is here part_free spliced_is few =
     let stands = standing xs root id ps c (Fork a m f g b) e h (Fork a' m' f' g' b') taking is in
     elim part_free [
@@ -239,7 +239,7 @@ two_at xs root id ps c l e h r low mid new at old steps low_steps taking is lowe
     let pairs_are : pairs (plug whole part) ≡ ps = ap pairs whole_is ∙ taking.tree.pairs_are in
     let sum : (k : ℕ) → times k ps ≡ times k (pairs rest) + one k y + times k (around d) + one k id + times k (pairs l) + times k (around c) = λ k. subst (λ qs. times k qs ≡ times k (pairs rest) + one k y + times k (around d) + one k id + times k (pairs l) + times k (around c)) pairs_are (omega (arith, times-plug k whole part, times-frames k d (f ∷ c), times-append k (pairs l) (around c), times-fork k sides.Left Leaf rest y lowest.e lowest.h)) in
     let around_whole : (k : ℕ) → times k (around whole) ≡ times k (around d) + one k id + times k (pairs l) + times k (around c) = λ k. omega (arith, times-frames k d (f ∷ c), times-append k (pairs l) (around c)) in
-    let here : low.node ≡ record { expires = lowest.e; left = none; right = top rest; parent = above whole; height = lowest.h } = lowest.node_is ∙ parts.1.0.is in
+    let here : low.node ≡ record { expires = lowest.e; left = none; right = top rest; parent = above whole; rank = lowest.h } = lowest.node_is ∙ parts.1.0.is in
     let root_whole : root ≡ root_of y whole = taking.tree.root_is ∙ sym (ap top whole_is) ∙ top-plug whole part in
     let first = subst (λ x. Put xs whole rest x) (sym mid_is) (spliced_put xs root y low.node whole rest taking.small (omega (arith, parts.1.0.inside, taking.small)) (λ k. omega (arith, taking.once k, sum k, around_whole k)) parts.0 parts.1.2 root_whole (ap (λ (x : Node). (only_child x).root) here) (ap (λ (x : Node). x.parent) here)) in
     let joined = IsAt-join mid.0 d (f ∷ c) rest first.linked first.under in
@@ -258,23 +258,23 @@ two_at xs root id ps c l e h r low mid new at old steps low_steps taking is lowe
       unbalanced = record {
         context = d ++ g ∷ c;
         part = rest;
-        old_height = lowest.h;
+        old_rank = lowest.h;
         linked = again.0;
         under = again.1;
         root_is = second.root_is ∙ sym (root_of-frames (top rest) d g c);
         at_is = at_is ∙ ap (λ k. if nat_eq k id then y else k) (ap (λ (x : Node). x.parent) here) ∙ heir_above d f g c (omega (arith, taking.once id, sum id, one_same id));
         child_is = λ some. ap (λ (x : Node). (only_child x).root) here;
-        height_is = λ some. omega (arith, ap (λ (x : Node). x.height) here, balances.1.0);
-        balanced = balances.1.4;
+        rank_is = λ some. omega (arith, ap (λ (x : Node). x.rank) here, balances.1.0.near_both, balances.1.0.below_b);
+        balanced = balances.1.2;
         fits = Fits-renamed d f g c lowest.h refl refl balances.0;
-        lower = omega (arith, balances.1.0);
-        higher = omega (arith, balances.1.0);
+        lower = omega (arith, balances.1.0.near_both, balances.1.0.below_b);
+        higher = omega (arith, balances.1.0.near_both, balances.1.0.below_b);
         pairs_are = ap pairs (plug-append d (g ∷ c) rest) ∙ pairs-plug c (Fork l y low.node.expires h left) ∙ ap (λ qs. before c ++ ((pairs l ++ qs) ++ after c)) kept_pairs ∙ without_part c l e id h r ps (ap pairs is ∙ taking.tree.pairs_are) taking.once;
         levels_are = refl;
       };
       size = second.size ∙ first.size;
       rest = λ k gone. second.rest k (omega (arith, sum k, sum_left k, gone, times-fork k sides.Left l left y low.node.expires h)) (omega (arith, sum k, gone)) ∙ first.rest k (omega (arith, sum k, gone)) (omega (arith, sum k, around_whole k, gone));
-      low = λ digits small. let high = tall-lt digits (plug whole part) balanced (subst (λ qs. length qs + 1 < 2 ^ digits) (sym pairs_are) small) in omega (arith, high, length-context-le whole lowest.h part refl balances.0, size_c, size_g, balances.1.0);
+      low = λ digits small. let high = tall-lt digits (plug whole part) balanced (subst (λ qs. length qs + 1 < 2 ^ digits) (sym pairs_are) small) in omega (arith, high, length-context-le whole lowest.h part refl balances.0, size_c, size_g, balances.1.0.below_a);
       count = omega (arith, few, lowest.count, size_g);
     }
 
@@ -285,7 +285,7 @@ pub right_part : (xs : List Node) (root id : ℕ) (node : Node) (ps : List (ℕ 
 right_part xs root id node ps taking node_is some =
     let place = place_of xs root id ps taking in
     let stands = standing xs root id ps place.context place.l place.e place.h place.r taking place.is in
-    record { at = stands.under.2; from_is = ap (λ (x : Node). x.right) (node_is ∙ stands.under.0.is); some = some; balanced = stands.balanced.4; small = taking.small }
+    record { at = stands.under.2; from_is = ap (λ (x : Node). x.right) (node_is ∙ stands.under.0.is); some = some; balanced = stands.balanced.2; small = taking.small }
 
 pub taken_two : (xs : List Node) (root id : ℕ) (ps : List (ℕ × ℕ)) (low : Numbered) (mid new : List Node × ℕ) (at old steps low_steps : ℕ) → (taking : IsTaking xs root id ps) → IsLeftmost xs (place_of xs root id ps taking).r low old low_steps → mid ≡ spliced xs root low → new ≡ substituted mid.0 mid.1 id low → at ≡ (if nat_eq low.node.parent id then low.n else low.node.parent) → steps ≤ low_steps + 9 → IsTaken xs id ps new.0 (record { root = new.1; at = at; child = only_child low.node }) old steps
 taken_two xs root id ps low mid new at old steps low_steps taking lowest mid_is new_is at_is few =

@@ -1,11 +1,11 @@
 -- What a write leaves of a tree that stands in the block.
-use Rattle.std.proofs.Common.{◌≡◌, ℕ, ◌+◌, ◌<◌, ◌≤◌, false, List, [], ◌∷◌, ◌++◌, length, nat_eq, if◌then◌else◌, arith, refl, ap, ◌∙◌, sym, subst, length-set, get_or-set_same, get_or-set_other, slice_set, max, append_assoc, append-nil, length-append, inl, inr}
+use Rattle.std.proofs.Common.{◌≡◌, ℕ, ◌+◌, ◌<◌, ◌≤◌, false, List, [], ◌∷◌, ◌++◌, length, nat_eq, if◌then◌else◌, arith, refl, ap, ◌∙◌, sym, subst, length-set, get_or-set_same, get_or-set_other, slice_set, append_assoc, append-nil, length-append, inl, inr}
 use Rattle.std.proofs.lemmas.Bool.{cases_eq, eq-eqb, ne_eqb}
 use Rattle.std.proofs.lemmas.Bool.Decides.{nat_tests}
 use Rattle.std.proofs.lemmas.List.{get_or_past, set_past}
 use Rattle.timer_tree.specs.Nodes.{none, blank, node_at, with_links}
 use Rattle.timer_tree.specs.Links.{adopted, replaced, relinked}
-use Rattle.timer_tree.specs.Trees.{Tree, Leaf, Fork, top, tall, pairs, Stands, IsAt, IsBalanced, one, times}
+use Rattle.timer_tree.specs.Trees.{Tree, Leaf, Fork, top, tall, pairs, Stands, IsAt, HasRank, IsBalanced, one, times}
 use Rattle.timer_tree.specs.Contexts.{Frame, fork, filled, plug, above, root_of, IsAround, around, before, after, ahead, behind, Fits}
 use Rattle.timer_tree.specs.declared.node.Node.{Node}
 use Rattle.timer_tree.specs.declared.node.Side.{Side}
@@ -84,10 +84,10 @@ inside_at xs p (Fork l n e h r) k at some =
       ]
     ]
 
--- the height of a part is that of its top node; the blank node past the block has the height 0
-pub height_at : (xs : List Node) (p : ℕ) (t : Tree) → length xs ≤ none → IsAt xs p t → (node_at xs (top t)).height ≡ tall t
-height_at xs p Leaf small at = ap (λ (x : Node). x.height) (get_or_past xs none blank small)
-height_at xs p (Fork l n e h r) small at = ap (λ (x : Node). x.height) at.0.is
+-- the rank of a part is that of its top node; the blank node past the block has the rank 0
+pub rank_at : (xs : List Node) (p : ℕ) (t : Tree) → length xs ≤ none → IsAt xs p t → (node_at xs (top t)).rank ≡ tall t
+rank_at xs p Leaf small at = ap (λ (x : Node). x.rank) (get_or_past xs none blank small)
+rank_at xs p (Fork l n e h r) small at = ap (λ (x : Node). x.rank) at.0.is
 
 -- ---- a part gets another parent
 
@@ -131,26 +131,25 @@ pub fork-IsAt : (xs : List Node) (p : ℕ) (s : Side) (a b : Tree) (n e h : ℕ)
 fork-IsAt xs p sides.Left a b n e h stands at_a at_b = (stands, at_a, at_b)
 fork-IsAt xs p sides.Right a b n e h stands at_a at_b = (stands, at_b, at_a)
 
--- the two parts of an balanced node, by their sides
-pub record Balances (a b : Tree) (h : ℕ) : Type 0 where
-  pub height : h ≡ max (tall a) (tall b) + 1
-  pub near : tall a ≤ tall b + 1
-  pub far : tall b ≤ tall a + 1
-  pub balanced_a : IsBalanced a
-  pub balanced_b : IsBalanced b
+pub turn_ranks : (a b h : ℕ) → HasRank a b h → HasRank b a h
+turn_ranks a b h has = record { below_a = has.below_b; below_b = has.below_a; near_a = has.near_b; near_b = has.near_a; near_both = omega (arith, has.near_both) }
+
+-- the two subtrees of a balanced node, by their sides
+abbrev pub Balances : Tree → Tree → ℕ → Type 0
+Balances a b h = HasRank (tall a) (tall b) h × IsBalanced a × IsBalanced b
 
 pub IsBalanced-fork : (s : Side) (a b : Tree) (n e h : ℕ) → IsBalanced (fork s a n e h b) → Balances a b h
-IsBalanced-fork sides.Left a b n e h balanced = record { height = balanced.0; near = balanced.1; far = balanced.2; balanced_a = balanced.3; balanced_b = balanced.4 }
-IsBalanced-fork sides.Right a b n e h balanced = record { height = omega (arith, balanced.0); near = balanced.2; far = balanced.1; balanced_a = balanced.4; balanced_b = balanced.3 }
+IsBalanced-fork sides.Left a b n e h balanced = balanced
+IsBalanced-fork sides.Right a b n e h balanced = (turn_ranks (tall b) (tall a) h balanced.0, balanced.2, balanced.1)
 
 pub fork-IsBalanced : (s : Side) (a b : Tree) (n e h : ℕ) → Balances a b h → IsBalanced (fork s a n e h b)
-fork-IsBalanced sides.Left a b n e h balanced = (balanced.height, balanced.near, balanced.far, balanced.balanced_a, balanced.balanced_b)
-fork-IsBalanced sides.Right a b n e h balanced = (omega (arith, balanced.height), balanced.far, balanced.near, balanced.balanced_b, balanced.balanced_a)
+fork-IsBalanced sides.Left a b n e h balanced = balanced
+fork-IsBalanced sides.Right a b n e h balanced = (turn_ranks (tall a) (tall b) h balanced.0, balanced.2, balanced.1)
 
 -- a tree has at least as many nodes as it is high
 pub tall-le : (t : Tree) → IsBalanced t → tall t ≤ length (pairs t)
 tall-le Leaf balanced = omega arith
-tall-le (Fork l n e h r) balanced = omega (arith, balanced.0, tall-le l balanced.3, tall-le r balanced.4, length-fork sides.Left l r n e h)
+tall-le (Fork l n e h r) balanced = omega (arith, balanced.0.near_both, tall-le l balanced.1, tall-le r balanced.2, length-fork sides.Left l r n e h)
 
 -- ---- another number in a hole
 
@@ -158,13 +157,13 @@ pub with_links-parent : (s : Side) (e a b p h : ℕ) → (with_links s e a b p h
 with_links-parent sides.Left e a b p h = refl
 with_links-parent sides.Right e a b p h = refl
 
-pub with_links-height : (s : Side) (e a b p h : ℕ) → (with_links s e a b p h).height ≡ h
-with_links-height sides.Left e a b p h = refl
-with_links-height sides.Right e a b p h = refl
+pub with_links-rank : (s : Side) (e a b p h : ℕ) → (with_links s e a b p h).rank ≡ h
+with_links-rank sides.Left e a b p h = refl
+with_links-rank sides.Right e a b p h = refl
 
 replaced_with_links : (s : Side) (e a b p h to : ℕ) → (b ≡ a → ⊥) → replaced (with_links s e a b p h) a to ≡ with_links s e to b p h
-replaced_with_links sides.Left e a b p h to apart = ap (λ x. if x then record { expires = e; left = to; right = b; parent = p; height = h } else record { expires = e; left = a; right = to; parent = p; height = h }) (eq-eqb a a refl)
-replaced_with_links sides.Right e a b p h to apart = ap (λ x. if x then record { expires = e; left = to; right = a; parent = p; height = h } else record { expires = e; left = b; right = to; parent = p; height = h }) (ne_eqb b a apart)
+replaced_with_links sides.Left e a b p h to apart = ap (λ x. if x then record { expires = e; left = to; right = b; parent = p; rank = h } else record { expires = e; left = a; right = to; parent = p; rank = h }) (eq-eqb a a refl)
+replaced_with_links sides.Right e a b p h to apart = ap (λ x. if x then record { expires = e; left = to; right = a; parent = p; rank = h } else record { expires = e; left = b; right = to; parent = p; rank = h }) (ne_eqb b a apart)
 
 -- a part that doesn't have a node doesn't have it at the top
 pub top_apart : (n : ℕ) (t : Tree) → n < none → times n (pairs t) ≡ 0 → top t ≡ n → ⊥
@@ -218,12 +217,11 @@ pairs-plug (f ∷ c) t =
     ∙ ap (λ ps. before c ++ (ps ++ after c)) (ahead-behind f t)
     ∙ simp append_assoc refl
 
--- an balanced context with an balanced part of the height that it was made for
+-- an balanced context with an balanced part of the rank that it was made for
 pub plug-balanced : (c : List Frame) (t : Tree) → Fits c (tall t) → IsBalanced t → IsBalanced (plug c t)
 plug-balanced [] t fits balanced = balanced
 plug-balanced (f ∷ c) t fits balanced =
-    plug-balanced c (filled f t) (subst (λ h. Fits c h) (sym (tall-fork f.side t f.other f.n f.e f.h)) fits.4)
-    (fork-IsBalanced f.side t f.other f.n f.e f.h (record { height = fits.0; near = fits.1; far = fits.2; balanced_a = balanced; balanced_b = fits.3 }))
+    plug-balanced c (filled f t) (subst (λ h. Fits c h) (sym (tall-fork f.side t f.other f.n f.e f.h)) fits.2) (fork-IsBalanced f.side t f.other f.n f.e f.h (fits.0, balanced, fits.1))
 
 pub IsAt-plug : (xs : List Node) (c : List Frame) (t : Tree) → IsAround xs (top t) c → IsAt xs (above c) t → IsAt xs none (plug c t)
 IsAt-plug xs [] t at under = under
@@ -261,7 +259,7 @@ balanced-cut [] t balanced = (tt, balanced)
 balanced-cut (f ∷ c) t balanced =
     let rest = balanced-cut c (filled f t) balanced in
     let here = IsBalanced-fork f.side t f.other f.n f.e f.h rest.1 in
-    ((here.height, here.near, here.far, here.balanced_b, subst (λ h. Fits c h) (tall-fork f.side t f.other f.n f.e f.h) rest.0), here.balanced_a)
+    ((here.0, here.2, subst (λ h. Fits c h) (tall-fork f.side t f.other f.n f.e f.h) rest.0), here.1)
 
 -- a node that stands in a tree, with what is above it
 pub record Located (t : Tree) (k : ℕ) : Type 0 where
@@ -301,5 +299,5 @@ root_of-frames hole (g ∷ d) f c = root_of-frames g.n d f c
 -- whether a context fits doesn't hang on the numbers of its nodes
 pub Fits-renamed : (d : List Frame) (f g : Frame) (c : List Frame) (h : ℕ) → g.h ≡ f.h → g.other ≡ f.other → Fits (d ++ f ∷ c) h → Fits (d ++ g ∷ c) h
 Fits-renamed [] f g c h same_h same_t fits =
-    subst (λ t. (g.h ≡ max h (tall t) + 1) × (h ≤ tall t + 1) × (tall t ≤ h + 1) × IsBalanced t × Fits c g.h) (sym same_t) (same_h ∙ fits.0, fits.1, fits.2, fits.3, subst (λ k. Fits c k) (sym same_h) fits.4)
-Fits-renamed (e ∷ d) f g c h same_h same_t fits = (fits.0, fits.1, fits.2, fits.3, Fits-renamed d f g c e.h same_h same_t fits.4)
+    subst (λ t. HasRank h (tall t) g.h × IsBalanced t × Fits c g.h) (sym same_t) (subst (λ k. HasRank h (tall f.other) k × IsBalanced f.other × Fits c k) (sym same_h) fits)
+Fits-renamed (e ∷ d) f g c h same_h same_t fits = (fits.0, fits.1, Fits-renamed d f g c e.h same_h same_t fits.2)

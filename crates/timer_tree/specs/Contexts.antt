@@ -1,7 +1,7 @@
 -- A tree with a hole in it: what stands above a part, from the nearest node to the root.
-use Rattle.std.specs.Prelude.{ℕ, ◌+◌, ◌*◌, ◌≤◌, ◌≡◌, List, [], ◌∷◌, ◌++◌, length, max}
+use Rattle.std.specs.Prelude.{ℕ, ◌+◌, ◌*◌, ◌≤◌, ◌≡◌, List, [], ◌∷◌, ◌++◌, length}
 use Rattle.timer_tree.specs.Nodes.{none, with_links, node_at}
-use Rattle.timer_tree.specs.Trees.{Tree, Fork, top, tall, pairs, IsAt, IsBalanced, IsTree, Stands, times}
+use Rattle.timer_tree.specs.Trees.{Tree, Fork, top, tall, pairs, IsAt, HasRank, IsBalanced, IsTree, Stands, times}
 use Rattle.timer_tree.specs.declared.node.Node.{Node}
 use Rattle.timer_tree.specs.declared.repair.Unbalanced.{Unbalanced}
 use Rattle.timer_tree.specs.declared.node.Side.{Side}
@@ -66,26 +66,26 @@ abbrev pub after : List Frame → List (ℕ × ℕ)
 after [] = []
 after (f ∷ c) = behind f.side f.other (f.e, f.n) ++ after c
 
--- the context is balanced where its hole holds a part of this height
+-- the context is balanced where its hole holds a subtree of this rank
 abbrev pub Fits : List Frame → ℕ → Type 0
 Fits [] h = Unit
-Fits (f ∷ c) h = (f.h ≡ max h (tall f.other) + 1) × (h ≤ tall f.other + 1) × (tall f.other ≤ h + 1) × IsBalanced f.other × Fits c f.h
+Fits (f ∷ c) h = HasRank h (tall f.other) f.h × IsBalanced f.other × Fits c f.h
 
--- the block holds a tree of these pairs that is balanced but for the heights from one node upwards, with so many nodes from there to the root
+-- the block holds a tree of these pairs that is balanced but for the ranks from one node upwards, with so many nodes from there to the root
 pub record IsUnbalanced (xs : List Node) (r : Unbalanced) (ps : List (ℕ × ℕ)) (levels : ℕ) : Type 0 where
   pub context : List Frame
   pub part : Tree
-  pub old_height : ℕ
+  pub old_rank : ℕ
   pub linked : IsAround xs (top part) context
   pub under : IsAt xs (above context) part
   pub root_is : r.root ≡ root_of (top part) context
   pub at_is : r.at ≡ above context
   pub child_is : (r.at ≡ none → ⊥) → r.child.root ≡ top part
-  pub height_is : (r.at ≡ none → ⊥) → r.child.height ≡ tall part
+  pub rank_is : (r.at ≡ none → ⊥) → r.child.rank ≡ tall part
   pub balanced : IsBalanced part
-  pub fits : Fits context old_height
-  pub lower : old_height ≤ tall part + 1
-  pub higher : tall part ≤ old_height + 1
+  pub fits : Fits context old_rank
+  pub lower : old_rank ≤ tall part + 1
+  pub higher : tall part ≤ old_rank + 1
   pub pairs_are : pairs (plug context part) ≡ ps
   pub levels_are : length context ≡ levels
 

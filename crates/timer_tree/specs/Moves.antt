@@ -1,5 +1,5 @@
 -- How a timer's link is inserted into the tree and taken out.
-use Rattle.std.specs.Prelude.{ℕ, ◌+◌, ◌-◌, List, nat_eq, if◌then◌else◌, slice_set}
+use Rattle.std.specs.Prelude.{ℕ, ◌-◌, List, nat_eq, if◌then◌else◌, slice_set}
 use Rattle.timer_tree.specs.Nodes.{none, node_at}
 use Rattle.timer_tree.specs.Links.{adopted, relinked}
 use Rattle.timer_tree.specs.Rotate.{rebalanced}
@@ -11,17 +11,15 @@ use Rattle.timer_tree.specs.declared.rotate.Top.{Top}
 use Rattle.timer_tree.specs.declared.repair.Unbalanced.{Unbalanced}
 use Rattle.timer_tree.specs.declared.add.Place.{Place}
 
--- a node is rebalanced and linked to its parent, and the repair goes on there where the height has changed
+-- a node is rebalanced and linked to its parent, and the repair goes on there where the rank has changed
 abbrev pub moved_up : List Node × Top → Unbalanced → Node → List Node × Unbalanced
 moved_up done r node =
     let linked = if nat_eq done.1.root r.at then (done.0, r.root) else relinked done.0 r.root node.parent r.at done.1.root in
-    (linked.0, record { root = linked.1; at = if nat_eq done.1.height node.height then none else node.parent; child = done.1 })
+    (linked.0, record { root = linked.1; at = if nat_eq done.1.rank node.rank then none else node.parent; child = done.1 })
 
--- one step of a repair, which ends at once where the node is one higher than the subtree that has changed
+-- one step of a repair
 unfoldable pub lifted : List Node → Unbalanced → List Node × Unbalanced
-lifted xs r =
-    let node = node_at xs r.at in
-    if nat_eq (r.child.height + 1) node.height then (xs, record { root = r.root; at = none; child = r.child }) else moved_up (rebalanced xs r.at node) r node
+lifted xs r = moved_up (rebalanced xs (record { n = r.at; node = node_at xs r.at }) r.child) r (node_at xs r.at)
 
 -- a node with one more below it, on a side
 abbrev pub with_child : Node → Side → ℕ → Node
@@ -31,12 +29,12 @@ with_child node sides.Right n = record node { right = n }
 -- a timer inserted into its place
 unfoldable pub inserted : List Node → (root : ℕ) → Place → (expires id : ℕ) → List Node × ℕ
 inserted xs root place expires id =
-    let linked = slice_set xs id (record { expires = expires; left = none; right = none; parent = place.parent; height = 1 }) in
+    let linked = slice_set xs id (record { expires = expires; left = none; right = none; parent = place.parent; rank = 1 }) in
     if nat_eq place.parent none then (linked, id) else (slice_set linked place.parent (with_child (node_at linked place.parent) place.side id), root)
 
--- the subtree of a node with at most one, and its height
+-- the subtree of a node with at most one, and its rank
 abbrev pub only_child : Node → Top
-only_child node = record { root = if nat_eq node.left none then node.right else node.left; height = node.height - 1 }
+only_child node = record { root = if nat_eq node.left none then node.right else node.left; rank = node.rank - 1 }
 
 -- a node with at most one subtree is taken out, and the subtree gets its place
 unfoldable pub spliced : List Node → (root : ℕ) → Numbered → List Node × ℕ

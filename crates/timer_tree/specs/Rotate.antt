@@ -1,43 +1,64 @@
 -- How a subtree is rotated where one of its sides is too high.
-use Rattle.std.specs.Prelude.{ℕ, ◌+◌, List, max, nat_eq, nat_lt, nat_le, if◌then◌else◌, slice_set}
-use Rattle.timer_tree.specs.Nodes.{node_at, near, far, with_links, next}
+use Rattle.std.specs.Prelude.{ℕ, ◌+◌, ◌-◌, List, max, nat_eq, nat_lt, nat_le, if◌then◌else◌, slice_set}
+use Rattle.timer_tree.specs.Nodes.{node_at, near, far, with_links, next, other_side, child_side, is_high_leaf}
 use Rattle.timer_tree.specs.Links.{adopted}
 use Rattle.timer_tree.specs.declared.node.Node.{Node}
 use Rattle.timer_tree.specs.declared.node.Side.{Side}
-use Rattle.timer_tree.specs.declared.node.Side.TheVariants as sides
 use Rattle.timer_tree.specs.declared.rotate.Top.{Top}
 use Rattle.timer_tree.specs.declared.rotate.Numbered.{Numbered}
 
 -- the high node is set above the low one
 unfoldable pub rotated_once : List Node → Side → (low high : Numbered) → (inner : Top) → List Node × Top
 rotated_once xs side low high inner =
-    let below = next inner.height in
+    let below = next inner.rank in
     let kept = adopted xs inner.root low.n in
     let lowered = slice_set kept low.n (with_links side low.node.expires inner.root (far side low.node) high.n below) in
-    (slice_set lowered high.n (with_links side high.node.expires (near side high.node) low.n low.node.parent (next below)), record { root = high.n; height = next below })
+    let rank = max (next below) low.node.rank in
+    (slice_set lowered high.n (with_links side high.node.expires (near side high.node) low.n low.node.parent rank), record { root = high.n; rank = rank })
 
 -- the inner node is set above both
 unfoldable pub rotated_twice : List Node → Side → (low high inner : Numbered) → List Node × Top
 rotated_twice xs side low high inner =
-    let below = inner.node.height in
+    let below = inner.node.rank in
     let kept = adopted (adopted xs (near side inner.node) high.n) (far side inner.node) low.n in
     let lowered = slice_set kept low.n (with_links side low.node.expires (far side inner.node) (far side low.node) inner.n below) in
     let raised = slice_set lowered high.n (with_links side high.node.expires (near side high.node) (near side inner.node) inner.n below) in
-    (slice_set raised inner.n (with_links side inner.node.expires high.n low.n low.node.parent (next below)), record { root = inner.n; height = next below })
+    (slice_set raised inner.n (with_links side inner.node.expires high.n low.n low.node.parent low.node.rank), record { root = inner.n; rank = low.node.rank })
+
+-- a node with another rank
+abbrev pub ranked : List Node → (n rank : ℕ) → List Node
+ranked xs n rank = slice_set xs n (record (node_at xs n) { rank = rank })
+
+-- a node and the higher one below it get lower ranks
+unfoldable pub lowered : List Node → (low : Numbered) → (high : ℕ) → List Node × Top
+lowered xs low high = (ranked (ranked xs high (low.node.rank - 2)) low.n (low.node.rank - 1), record { root = low.n; rank = low.node.rank - 1 })
 
 -- a subtree that is too high on a side
 unfoldable pub rotated : List Node → Side → (low high : Numbered) → List Node × Top
 rotated xs side low high =
     let n = far side high.node in
     let inner = node_at xs n in
-    if nat_le inner.height (node_at xs (near side high.node)).height then rotated_once xs side low high (record { root = n; height = inner.height }) else rotated_twice xs side low high (record { n = n; node = inner })
+    let outer = (node_at xs (near side high.node)).rank in
+    if nat_lt (max outer inner.rank) (low.node.rank - 2) then lowered xs low high.n
+    else (if nat_le inner.rank outer then rotated_once xs side low high (record { root = n; rank = inner.rank }) else rotated_twice xs side low high (record { n = n; node = inner }))
 
--- a subtree whose two sides are balanced
-unfoldable pub rebalanced : List Node → ℕ → Node → List Node × Top
-rebalanced xs n node =
-    let left = node_at xs node.left in
-    let right = node_at xs node.right in
-    let height = next (max left.height right.height) in
-    if nat_lt (right.height + 1) left.height then rotated xs sides.Left (record { n = n; node = node }) (record { n = node.left; node = left })
-    else (if nat_lt (left.height + 1) right.height then rotated xs sides.Right (record { n = n; node = node }) (record { n = node.right; node = right })
-    else (if nat_eq height node.height then (xs, record { root = n; height = height }) else (slice_set xs n (record node { height = height }), record { root = n; height = height })))
+-- a node that its subtree on a side, with this root, has come up to
+unfoldable pub raised : List Node → Side → Numbered → ℕ → List Node × Top
+raised xs side low high =
+    if nat_eq ((node_at xs (far side low.node)).rank + 1) low.node.rank then (ranked xs low.n (next low.node.rank), record { root = low.n; rank = next low.node.rank })
+    else rotated xs side low (record { n = high; node = node_at xs high })
+
+-- a node that has its subtree on a side three lower
+unfoldable pub sunk : List Node → Side → Numbered → List Node × Top
+sunk xs side low =
+    let n = far side low.node in
+    if nat_eq ((node_at xs n).rank + 1) low.node.rank then rotated xs (other_side side) low (record { n = n; node = node_at xs n })
+    else (ranked xs low.n (low.node.rank - 1), record { root = low.n; rank = low.node.rank - 1 })
+
+-- a node one of whose subtrees has risen or sunk by one
+unfoldable pub rebalanced : List Node → Numbered → Top → List Node × Top
+rebalanced xs low child =
+    let side = child_side low.node child.root in
+    if nat_le low.node.rank child.rank then raised xs side low child.root
+    else (if nat_lt 2 (low.node.rank - child.rank) then sunk xs side low
+    else (if is_high_leaf low.node then (ranked xs low.n 1, record { root = low.n; rank = 1 }) else (xs, record { root = low.n; rank = low.node.rank })))

@@ -49,7 +49,7 @@ pub record IsTaking (xs : List Node) (root id : ℕ) (ps : List (ℕ × ℕ)) : 
   pub once : (k : ℕ) → times k ps ≤ 1
   pub small : length xs ≤ none
 
--- the tree without it, which is balanced but for some heights; other timers' nodes have not changed
+-- the tree without it, which is balanced but for some ranks; other timers' nodes have not changed
 pub record IsTaken (xs : List Node) (id : ℕ) (ps : List (ℕ × ℕ)) (ys : List Node) (r : Unbalanced) (old_steps steps : ℕ) : Type 0 where
   pub levels : ℕ
   pub unbalanced : IsUnbalanced ys r (without id ps) levels

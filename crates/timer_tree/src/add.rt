@@ -67,7 +67,7 @@ pub(crate) fn insert<L: Ledger>(
         left: NONE,
         right: NONE,
         parent,
-        height: 1,
+        rank: 1,
     };
     block.write(id, node, steps);
     if parent == NONE {

@@ -94,17 +94,17 @@ impl Block {
         held.parts.slots.get_mut(n as usize).parent = parent;
     }
 
-    /// Gives a node another height, and counts it.
-    pub(crate) fn set_height<L: Ledger>(&mut self, n: u32, height: u32, steps: &mut Steps<L>)
+    /// Gives a node another rank, and counts it.
+    pub(crate) fn set_rank<L: Ledger>(&mut self, n: u32, rank: u32, steps: &mut Steps<L>)
         requires inside { n < length self.old }
-        ensures block { self.new ≡ slice_set self.old n (record (node_at self.old n) { height = height }) }
+        ensures block { self.new ≡ slice_set self.old n (record (node_at self.old n) { rank = rank }) }
         ensures room { length self.new ≡ length self.old }
         ensures steps { steps.new ≡ steps.old + 1 }
     {
         steps.tick();
         let held = &mut self.held;
         let node = *held.parts.slots.get(n as usize);
-        held.parts.slots.put(n as usize, Node { height, ..node });
+        held.parts.slots.put(n as usize, Node { rank, ..node });
     }
 }
 

@@ -13,7 +13,7 @@ use crate::rotate::{Numbered, Top};
 use crate::steps::Steps;
 use std::sync::ledger::Ledger;
 
-/// Takes a timer out of the tree. The heights may be wrong then from a node upwards.
+/// Takes a timer out of the tree. The ranks may be wrong then from a node upwards.
 pub(crate) fn take_out<L: Ledger>(
     block: &mut Block,
     root: u32,
@@ -53,7 +53,7 @@ fn parent_of_gap(heir: Numbered, id: u32) -> u32
     }
 }
 
-/// The subtree of a node with at most one, and its height.
+/// The subtree of a node with at most one, and its rank.
 fn only_child(node: Node) -> Top
     ensures { result ≡ only_child node }
 {
@@ -64,7 +64,7 @@ fn only_child(node: Node) -> Top
     };
     Top {
         root,
-        height: node.height.saturating_sub(1),
+        rank: node.rank.saturating_sub(1),
     }
 }
 

@@ -8,17 +8,17 @@ use crate::node::{NONE, Node};
 use crate::steps::Steps;
 use std::sync::ledger::Ledger;
 
-/// The height of the subtree below a link.
-pub(crate) fn height<L: Ledger>(block: &Block, n: u32, steps: &mut Steps<L>) -> u32
+/// The rank of the subtree below a link.
+pub(crate) fn rank<L: Ledger>(block: &Block, n: u32, steps: &mut Steps<L>) -> u32
     requires link { IsLink (length block.now) n }
     requires small { length block.now ≤ none }
-    ensures height { result ≡ (node_at block.now n).height }
+    ensures rank { result ≡ (node_at block.now n).rank }
     ensures steps { steps.new ≤ steps.old + 1 }
 {
     if n == NONE {
         0
     } else {
-        block.read(n, steps).height
+        block.read(n, steps).rank
     }
 }
 

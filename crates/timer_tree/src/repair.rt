@@ -1,4 +1,4 @@
-//! How heights are put right from one node upwards.
+//! How ranks are put right from one node upwards.
 ghost use Rattle.std.specs.Prelude.{◌≡◌, ℕ, ◌+◌, ◌≤◌, ◌<◌, List, length};
 ghost use Rattle.timer_tree.specs.Nodes.{node_at, none, IsLink};
 ghost use Rattle.timer_tree.specs.Contexts.{CanRepair, IsRepaired};
@@ -7,11 +7,11 @@ ghost use Rattle.timer_tree.specs.Moves.{lifted};
 use crate::block::Block;
 use crate::links::relink;
 use crate::node::NONE;
-use crate::rotate::{Top, rebalance};
+use crate::rotate::{Numbered, Top, rebalance};
 use crate::steps::Steps;
 use std::sync::ledger::Ledger;
 
-/// A tree whose heights may be wrong from one node upwards, with the balanced subtree below it that has changed.
+/// A tree whose ranks may be wrong from one node upwards, with the balanced subtree below it that has changed.
 #[derive(Clone, Copy)]
 pub(crate) struct Unbalanced {
     pub(crate) root: u32,
@@ -19,7 +19,7 @@ pub(crate) struct Unbalanced {
     pub(crate) child: Top,
 }
 
-/// Rebalances the tree from a node upwards, as far as heights change, and gives the root.
+/// Rebalances the tree from a node upwards, as far as ranks change, and gives the root.
 pub(crate) fn repair<L: Ledger>(block: &mut Block, broken: Unbalanced, steps: &mut Steps<L>) -> u32
     requires { (ps : List (ℕ × ℕ)) × (levels : ℕ) × CanRepair block.old broken ps levels }
     ensures { (ps : List (ℕ × ℕ)) (levels : ℕ) → CanRepair block.old broken ps levels → IsRepaired block.old block.new result ps levels steps.old steps.new }
@@ -31,32 +31,24 @@ pub(crate) fn repair<L: Ledger>(block: &mut Block, broken: Unbalanced, steps: &m
     rest.root
 }
 
-/// Rebalances one node. The repair goes on at its parent, or ends where the height is as before.
+/// Rebalances one node. The repair goes on at its parent, or ends where the rank is as before.
 #[tactic(auto, unfolding(crate::specs::Moves::lifted))]
 fn lift<L: Ledger>(block: &mut Block, rest: Unbalanced, steps: &mut Steps<L>) -> Unbalanced
     requires inside { rest.at < length block.old }
     requires small { length block.old ≤ none }
-    requires known { rest.child.height ≡ (node_at block.old rest.child.root).height }
-    requires below { ((node_at block.old rest.at).left ≡ rest.child.root → ⊥) → (node_at block.old rest.at).right ≡ rest.child.root }
+    requires child { (node_at block.old rest.at).rank ≤ rest.child.rank → rest.child.root < length block.old }
     ensures block { (block.new, result) ≡ lifted block.old rest }
     ensures steps { steps.new ≤ steps.old + 13 }
 {
     let Unbalanced { root, at, child } = rest;
     let node = block.read(at, steps);
-    if child.height < node.height && child.height + 1 == node.height {
-        return Unbalanced {
-            root,
-            at: NONE,
-            child,
-        };
-    }
-    let top = rebalance(block, at, node, child, steps);
+    let top = rebalance(block, Numbered { n: at, node }, child, steps);
     let root = if top.root == at {
         root
     } else {
         relink(block, root, node.parent, at, top.root, steps)
     };
-    let at = if top.height == node.height {
+    let at = if top.rank == node.rank {
         NONE
     } else {
         node.parent

@@ -1,19 +1,19 @@
-//! How one node is rebalanced: where one side is higher by two, the tree is rotated there.
-ghost use Rattle.std.specs.Prelude.{◌≡◌, ◌+◌, ◌≤◌, ◌<◌, length, slice_set};
-ghost use Rattle.timer_tree.specs.Nodes.{node_at, next, none, IsLink, HasLinks};
-ghost use Rattle.timer_tree.specs.Rotate.{rotated_once, rotated_twice, rotated, rebalanced};
+//! How one node is rebalanced: it gets another rank, or the tree is rotated there.
+ghost use Rattle.std.specs.Prelude.{◌≡◌, ◌+◌, ◌≤◌, ◌<◌, length};
+ghost use Rattle.timer_tree.specs.Nodes.{node_at, none, IsLink, HasLinks};
+ghost use Rattle.timer_tree.specs.Rotate.{rotated_once, rotated_twice, lowered, rotated, raised, sunk, rebalanced};
 
 use crate::block::Block;
-use crate::links::{adopt, height};
+use crate::links::{adopt, rank};
 use crate::node::{Node, Side};
 use crate::steps::Steps;
 use std::sync::ledger::Ledger;
 
-/// A subtree by the number at its root, and its height.
+/// A subtree by the number at its root, and its rank.
 #[derive(Clone, Copy)]
 pub(crate) struct Top {
     pub(crate) root: u32,
-    pub(crate) height: u32,
+    pub(crate) rank: u32,
 }
 
 /// A node with its number.
@@ -23,46 +23,93 @@ pub(crate) struct Numbered {
     pub(crate) node: Node,
 }
 
-/// Rebalances a node whose subtrees on both sides are balanced, where the height of one of them is known.
-#[tactic(auto, unfolding(crate::specs::Rotate::rebalanced, crate::specs::Nodes::next))]
+/// Gives a node another rank where one of its subtrees has risen or sunk by one. Where that isn't enough, the tree is rotated there.
+#[tactic(auto, unfolding(crate::specs::Rotate::rebalanced))]
 pub(crate) fn rebalance<L: Ledger>(
     block: &mut Block,
-    n: u32,
-    node: Node,
+    low: Numbered,
     child: Top,
     steps: &mut Steps<L>,
 ) -> Top
-    requires inside { n < length block.old }
-    requires links { HasLinks (length block.old) node }
+    requires inside { low.n < length block.old }
+    requires links { HasLinks (length block.old) low.node }
     requires small { length block.old ≤ none }
-    requires here { node ≡ node_at block.old n }
-    requires known { child.height ≡ (node_at block.old child.root).height }
-    requires below { (node.left ≡ child.root → ⊥) → node.right ≡ child.root }
-    ensures block { (block.new, result) ≡ rebalanced block.old n node }
+    requires child { low.node.rank ≤ child.rank → child.root < length block.old }
+    ensures block { (block.new, result) ≡ rebalanced block.old low child }
     ensures room { length block.new ≡ length block.old }
     ensures top { result.root < length block.old }
     ensures steps { steps.new ≤ steps.old + 10 }
 {
-    let (left, right) = if node.left == child.root {
-        (child.height, height(block, node.right, steps))
+    let Numbered { n, node } = low;
+    let side = node.side_of(child.root);
+    if node.rank <= child.rank {
+        raise(block, side, low, child.root, steps)
+    } else if node.rank - child.rank > 2 {
+        sink(block, side, low, steps)
+    } else if node.is_high_leaf() {
+        block.set_rank(n, 1, steps);
+        Top { root: n, rank: 1 }
     } else {
-        (height(block, node.left, steps), child.height)
-    };
-    if right < left && right + 1 < left {
-        rotate(block, Side::Left, Numbered { n, node }, node.left, steps)
-    } else if left < right && left + 1 < right {
-        rotate(block, Side::Right, Numbered { n, node }, node.right, steps)
-    } else {
-        let height = left.max(right).saturating_add(1);
-        if height != node.height {
-            block.set_height(n, height, steps);
+        Top {
+            root: n,
+            rank: node.rank,
         }
-        Top { root: n, height }
     }
 }
 
-/// Rotates the tree at a node whose subtree on this side is too high.
-#[tactic(auto, unfolding(crate::specs::Rotate::rotated, crate::specs::Nodes::next))]
+/// Gives a node one rank more, or rotates the tree there, where a subtree has come as high as it is.
+#[tactic(auto, unfolding(crate::specs::Rotate::raised, crate::specs::Nodes::next))]
+fn raise<L: Ledger>(
+    block: &mut Block,
+    side: Side,
+    low: Numbered,
+    high: u32,
+    steps: &mut Steps<L>,
+) -> Top
+    requires inside { low.n < length block.old }
+    requires links { HasLinks (length block.old) low.node }
+    requires small { length block.old ≤ none }
+    requires high { high < length block.old }
+    ensures block { (block.new, result) ≡ raised block.old side low high }
+    ensures room { length block.new ≡ length block.old }
+    ensures top { result.root < length block.old }
+    ensures steps { steps.new ≤ steps.old + 10 }
+{
+    let sibling = rank(block, low.node.far(side), steps);
+    if sibling < low.node.rank && sibling + 1 == low.node.rank {
+        let rank = low.node.rank.saturating_add(1);
+        block.set_rank(low.n, rank, steps);
+        Top { root: low.n, rank }
+    } else {
+        rotate(block, side, low, high, steps)
+    }
+}
+
+/// Gives a node one rank less, or rotates the tree there, where a subtree has come three lower than it is.
+#[tactic(auto, unfolding(crate::specs::Rotate::sunk))]
+fn sink<L: Ledger>(block: &mut Block, side: Side, low: Numbered, steps: &mut Steps<L>) -> Top
+    requires inside { low.n < length block.old }
+    requires links { HasLinks (length block.old) low.node }
+    requires small { length block.old ≤ none }
+    requires high { 2 < low.node.rank }
+    ensures block { (block.new, result) ≡ sunk block.old side low }
+    ensures room { length block.new ≡ length block.old }
+    ensures top { result.root < length block.old }
+    ensures steps { steps.new ≤ steps.old + 10 }
+{
+    let n = low.node.far(side);
+    let sibling = rank(block, n, steps);
+    if sibling < low.node.rank && sibling + 1 == low.node.rank {
+        rotate(block, side.other(), low, n, steps)
+    } else {
+        let rank = low.node.rank - 1;
+        block.set_rank(low.n, rank, steps);
+        Top { root: low.n, rank }
+    }
+}
+
+/// Rotates the tree at a node whose subtree on this side is too high. Where both subtrees of that one are low, ranks are lowered instead.
+#[tactic(auto, unfolding(crate::specs::Rotate::rotated))]
 fn rotate<L: Ledger>(
     block: &mut Block,
     side: Side,
@@ -83,28 +130,37 @@ fn rotate<L: Ledger>(
         n: high,
         node: block.read(high, steps),
     };
-    let outer = height(block, high.node.near(side), steps);
-    let inner = high.node.far(side);
-    let below = height(block, inner, steps);
-    if below <= outer {
-        rotate_once(
-            block,
-            side,
-            low,
-            high,
-            Top {
-                root: inner,
-                height: below,
-            },
-            steps,
-        )
-    } else {
-        let inner = Numbered {
-            n: inner,
-            node: block.read(inner, steps),
+    let outer = rank(block, high.node.near(side), steps);
+    let n = high.node.far(side);
+    let inner = rank(block, n, steps);
+    if outer.max(inner) < low.node.rank.saturating_sub(2) {
+        lower(block, low, high.n, steps)
+    } else if inner <= outer {
+        let inner = Top {
+            root: n,
+            rank: inner,
         };
-        rotate_twice(block, side, low, high, inner, steps)
+        rotate_once(block, side, low, high, inner, steps)
+    } else {
+        let node = block.read(n, steps);
+        rotate_twice(block, side, low, high, Numbered { n, node }, steps)
     }
+}
+
+/// Lowers the ranks of a node and of the higher one below it.
+#[tactic(auto, unfolding(crate::specs::Rotate::lowered))]
+fn lower<L: Ledger>(block: &mut Block, low: Numbered, high: u32, steps: &mut Steps<L>) -> Top
+    requires low { low.n < length block.old }
+    requires high { high < length block.old }
+    ensures block { (block.new, result) ≡ lowered block.old low high }
+    ensures room { length block.new ≡ length block.old }
+    ensures top { result.root < length block.old }
+    ensures steps { steps.new ≤ steps.old + 2 }
+{
+    let rank = low.node.rank.saturating_sub(1);
+    block.set_rank(high, low.node.rank.saturating_sub(2), steps);
+    block.set_rank(low.n, rank, steps);
+    Top { root: low.n, rank }
 }
 
 /// Sets the high node above the low one.
@@ -128,8 +184,8 @@ fn rotate_once<L: Ledger>(
     ensures top { result.root < length block.old }
     ensures steps { steps.new ≤ steps.old + 3 }
 {
-    let below = inner.height.saturating_add(1);
-    let height = below.saturating_add(1);
+    let below = inner.rank.saturating_add(1);
+    let rank = below.saturating_add(1).max(low.node.rank);
     adopt(block, inner.root, low.n, steps);
     let lowered = low
         .node
@@ -137,16 +193,13 @@ fn rotate_once<L: Ledger>(
     block.write(low.n, lowered, steps);
     let raised = high
         .node
-        .with_links(side, high.node.near(side), low.n, low.node.parent, height);
+        .with_links(side, high.node.near(side), low.n, low.node.parent, rank);
     block.write(high.n, raised, steps);
-    Top {
-        root: high.n,
-        height,
-    }
+    Top { root: high.n, rank }
 }
 
 /// Sets the inner node above both.
-#[tactic(auto, unfolding(crate::specs::Rotate::rotated_twice, crate::specs::Nodes::next))]
+#[tactic(auto, unfolding(crate::specs::Rotate::rotated_twice))]
 fn rotate_twice<L: Ledger>(
     block: &mut Block,
     side: Side,
@@ -167,8 +220,8 @@ fn rotate_twice<L: Ledger>(
     ensures top { result.root < length block.old }
     ensures steps { steps.new ≤ steps.old + 5 }
 {
-    let below = inner.node.height;
-    let height = below.saturating_add(1);
+    let below = inner.node.rank;
+    let rank = low.node.rank;
     let (near, far) = (inner.node.near(side), inner.node.far(side));
     adopt(block, near, high.n, steps);
     adopt(block, far, low.n, steps);
@@ -182,10 +235,10 @@ fn rotate_twice<L: Ledger>(
     block.write(high.n, lowered, steps);
     let raised = inner
         .node
-        .with_links(side, high.n, low.n, low.node.parent, height);
+        .with_links(side, high.n, low.n, low.node.parent, rank);
     block.write(inner.n, raised, steps);
     Top {
         root: inner.n,
-        height,
+        rank,
     }
 }

@@ -51,10 +51,7 @@ impl TimerTree {
         let broken = Unbalanced {
             root,
             at: place.parent,
-            child: Top {
-                root: id,
-                height: 1,
-            },
+            child: Top { root: id, rank: 1 },
         };
         self.root = repair(&mut self.block, broken, steps);
     }
@@ -71,7 +68,7 @@ impl TimerTree {
         let node = self.block.read(id, steps);
         self.first = first_without(node, self.first, id);
         let broken = take_out(&mut self.block, self.root, id, node, steps);
-        self.block.set_height(id, 0, steps);
+        self.block.set_rank(id, 0, steps);
         self.root = repair(&mut self.block, broken, steps);
     }
 
@@ -143,7 +140,7 @@ impl TimerTree {
             return false;
         }
         let node = self.block.read(id, &mut steps);
-        node.height != 0
+        node.rank != 0
     }
 }
 

@@ -22,7 +22,7 @@ pub loop-at-smaller : goal.loop-at-smaller
 loop-at-smaller g c =
     let start = c.requires in
     let down = finding_down c.args.block.now c.args.root c.loop-at.place c.loop-at.at c.args.expires start.0 c.args.steps.now c.loop-at.steps c.read-node.new.steps c.read-node.result c.side_of-side.result start.1 c.loop-at-test.true (c.loop-at.invariant start.0 start.1) c.read-node.ensures.node c.read-node.ensures.steps c.side_of-side.ensures in
-    omega (arith, down.1, ap (λ k. (node_at c.args.block.now k).height) c.near-at.ensures, ap (λ (x : Node). x.height) c.read-node.ensures.node)
+    omega (arith, down.1, ap (λ k. (node_at c.args.block.now k).rank) c.near-at.ensures, ap (λ (x : Node). x.rank) c.read-node.ensures.node)
 
 pub returns : goal.returns
 returns g c = λ ps searched. finding_end c.args.block.now c.args.root c.loop-at.place c.loop-at.at c.args.expires ps c.args.steps.now c.loop-at.steps searched c.loop-at-test.false (c.loop-at.invariant ps searched)

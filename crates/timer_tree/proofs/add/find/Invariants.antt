@@ -8,4 +8,4 @@ abbrev pub invariant-loop-at : goal.invariant-loop-at
 invariant-loop-at g l = (ps : List (ℕ × ℕ)) → IsSearched l.fn.block l.fn.root ps → IsFinding l.fn.block l.fn.root l.place l.at l.expires ps l.fn.steps l.steps
 
 abbrev pub decreases-loop-at : goal.decreases-loop-at
-decreases-loop-at g l = (node_at l.block l.at).height
+decreases-loop-at g l = (node_at l.block l.at).rank

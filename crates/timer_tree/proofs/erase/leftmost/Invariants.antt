@@ -12,4 +12,4 @@ invariant-loop-node g l = record {
 }
 
 abbrev pub decreases-loop-node : goal.decreases-loop-node
-decreases-loop-node g l = (node_at l.block l.n).height
+decreases-loop-node g l = (node_at l.block l.n).rank

@@ -8,4 +8,4 @@ abbrev pub invariant-loop-rest : goal.invariant-loop-rest
 invariant-loop-rest g l = (ps : List (ℕ × ℕ)) (levels : ℕ) → CanRepair l.fn.block l.fn.broken ps levels → IsRepairing l.fn.block l.block l.rest ps levels l.fn.steps l.steps
 
 abbrev pub decreases-loop-rest : goal.decreases-loop-rest
-decreases-loop-rest g l = if nat_eq l.rest.at none then 0 else 2 ^ 32 + 10 - (node_at l.block l.rest.at).height
+decreases-loop-rest g l = if nat_eq l.rest.at none then 0 else 2 ^ 32 + 10 - (node_at l.block l.rest.at).rank

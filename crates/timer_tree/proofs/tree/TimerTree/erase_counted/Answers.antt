@@ -12,8 +12,8 @@ read-node-requires g c = record { inside = has_inside c.self.inside.block c.self
 pub take_out-broken-requires-clause-inside : goal.take_out-broken-requires-clause-inside
 take_out-broken-requires-clause-inside g c = has_inside c.self.inside.block c.self.inside.root c.self.inside.first (queue_at c.self.inside.block c.self.inside.root) c.args.id c.self.invariant (subst (λ v. has_id c.args.id v.0 ≡ true) (sym c.self.view_is) c.requires.present)
 
-pub set_height-requires : goal.set_height-requires
-set_height-requires g c =
+pub set_rank-requires : goal.set_rank-requires
+set_rank-requires g c =
     let xs = c.self.inside.block in
     let ps = queue_at xs c.self.inside.root in
     let present = subst (λ v. has_id c.args.id v.0 ≡ true) (sym c.self.view_is) c.requires.present in
@@ -31,7 +31,7 @@ repair-self-inside-requires g c =
     let ps = queue_at xs c.self.inside.root in
     let present = subst (λ v. has_id c.args.id v.0 ≡ true) (sym c.self.view_is) c.requires.present in
     let taken = c.take_out-broken.ensures ps (takes xs c.self.inside.root c.self.inside.first c.args.id ps c.self.invariant present) in
-    (without c.args.id ps, taken.levels, taken_can xs c.self.inside.root c.self.inside.first c.args.id ps c.take_out-broken.new.block c.take_out-broken.result c.read-node.new.steps c.take_out-broken.new.steps c.set_height.new.self c.self.invariant taken c.set_height.ensures.block)
+    (without c.args.id ps, taken.levels, taken_can xs c.self.inside.root c.self.inside.first c.args.id ps c.take_out-broken.new.block c.take_out-broken.result c.read-node.new.steps c.take_out-broken.new.steps c.set_rank.new.self c.self.invariant taken c.set_rank.ensures.block)
 
 done : (g : Over) (c : goal.After-self-2-1 g) → Erased (queue_at c.self.inside.block c.self.inside.root) (length c.self.inside.block) c.args.id c.repair-self-inside.new.block c.repair-self-inside.result c.first_without-self-inside.result c.args.steps.now c.repair-self-inside.new.steps
 done g c =
@@ -39,7 +39,7 @@ done g c =
     let ps = queue_at xs c.self.inside.root in
     let present = subst (λ v. has_id c.args.id v.0 ≡ true) (sym c.self.view_is) c.requires.present in
     let taken = c.take_out-broken.ensures ps (takes xs c.self.inside.root c.self.inside.first c.args.id ps c.self.invariant present) in
-    erased xs c.self.inside.root c.self.inside.first c.args.id c.read-node.result ps c.take_out-broken.new.block c.take_out-broken.result c.args.steps.now c.read-node.new.steps c.take_out-broken.new.steps c.set_height.new.self c.set_height.new.steps c.repair-self-inside.new.block c.repair-self-inside.result c.first_without-self-inside.result c.repair-self-inside.new.steps c.self.invariant present c.read-node.ensures.node c.first_without-self-inside.ensures c.read-node.ensures.steps taken c.set_height.ensures.block c.set_height.ensures.steps c.repair-self-inside.ensures
+    erased xs c.self.inside.root c.self.inside.first c.args.id c.read-node.result ps c.take_out-broken.new.block c.take_out-broken.result c.args.steps.now c.read-node.new.steps c.take_out-broken.new.steps c.set_rank.new.self c.set_rank.new.steps c.repair-self-inside.new.block c.repair-self-inside.result c.first_without-self-inside.result c.repair-self-inside.new.steps c.self.invariant present c.read-node.ensures.node c.first_without-self-inside.ensures c.read-node.ensures.steps taken c.set_rank.ensures.block c.set_rank.ensures.steps c.repair-self-inside.ensures
 
 pub invariant_of-self : goal.invariant_of-self
 invariant_of-self g c = (done g c).stored

@@ -13,6 +13,6 @@ returns-then-not-holds-clause-has g c =
 
 pub returns-clause-has : goal.returns-clause-has
 returns-clause-has g c =
-    ap (λ (x : Node). not (nat_eq x.height 0)) c.read-node.ensures.node
+    ap (λ (x : Node). not (nat_eq x.rank 0)) c.read-node.ensures.node
     ∙ has_stored c.self.inside.block c.self.inside.root c.self.inside.first (queue_at c.self.inside.block c.self.inside.root) c.args.id c.self.invariant
     ∙ ap (λ v. has_id c.args.id v.0) c.self.view_is
