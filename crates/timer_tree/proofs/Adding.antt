@@ -146,7 +146,7 @@ added_stored xs root first place expires id ps old steps new zs new_root old_ste
     }
 
 -- the steps of finding, hanging and repairing together
-pub added_steps : (xs : List Node) (root : ℕ) (place : Place) (expires : ℕ) (ps : List (ℕ × ℕ)) (old steps inserted_steps new_steps d : ℕ) → (found : IsPlace xs root place expires ps old steps) → inserted_steps ≤ steps + 3 → new_steps ≤ inserted_steps + 13 * length found.context → length ps + 1 < 2 ^ d → new_steps ≤ old + 32 * (d + 1)
+pub added_steps : (xs : List Node) (root : ℕ) (place : Place) (expires : ℕ) (ps : List (ℕ × ℕ)) (old steps inserted_steps new_steps d : ℕ) → (found : IsPlace xs root place expires ps old steps) → inserted_steps ≤ steps + 3 → new_steps ≤ inserted_steps + 14 * length found.context → length ps + 1 < 2 ^ d → new_steps ≤ old + 32 * (d + 1)
 added_steps xs root place expires ps old steps inserted_steps new_steps d found hang repair few =
     let c = found.context in
     let balanced = plug-balanced c Leaf found.fits tt in

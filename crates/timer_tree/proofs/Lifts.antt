@@ -1,14 +1,13 @@
 -- One step of a repair, and its end.
-use Rattle.std.proofs.Common.{◌≡◌, ℕ, true, false, ◌+◌, ◌-◌, ◌^◌, ◌<◌, ◌≤◌, List, [], ◌∷◌, length, nat_eq, if◌then◌else◌, arith, refl, ap, ◌∙◌, sym, subst}
-use Rattle.std.proofs.lemmas.Bool.{eqb-true, eqb-false, ne_eqb}
-use Rattle.timer_tree.specs.Nodes.{none, node_at, with_links}
+use Rattle.std.proofs.Common.{◌≡◌, ℕ, Bool, true, false, ◌+◌, ◌-◌, ◌^◌, ◌<◌, ◌≤◌, List, [], ◌∷◌, length, nat_eq, if◌then◌else◌, arith, refl, ap, ◌∙◌, sym, subst}
+use Rattle.std.proofs.lemmas.Bool.{eqb-true, eqb-false, eq-eqb, ne_eqb}
+use Rattle.timer_tree.specs.Nodes.{none, node_at, with_links, child_side}
 use Rattle.timer_tree.specs.Links.{relinked}
-use Rattle.timer_tree.specs.Rotate.{rebalanced}
-use Rattle.timer_tree.specs.Moves.{lifted}
+use Rattle.timer_tree.specs.Moves.{stepped, lifted}
 use Rattle.timer_tree.specs.Trees.{Tree, Leaf, Fork, top, tall, pairs, IsAt, IsBalanced, IsTree, times}
 use Rattle.timer_tree.specs.Contexts.{Frame, filled, plug, above, root_of, IsAround, around, Fits, IsUnbalanced, KeepsOthers, CanRepair, IsRepairing, IsRepaired}
 use Rattle.timer_tree.proofs.Trees.{times-fork, times-plug, one_same, IsAt-agree, IsAround-agree, rank_at, length-fork, fork-IsAt, with_links-parent, with_links-rank, Linked, relinked_linked, length-plug, plug-balanced, IsAt-plug, top-plug, tall-le, plug_pairs}
-use Rattle.timer_tree.proofs.Rebalances.{Changed, rebalanced_fork}
+use Rattle.timer_tree.proofs.Rebalances.{Rebalanced, Changed, Handles, stepped_rebalanced}
 use Rattle.timer_tree.specs.declared.node.Node.{Node}
 use Rattle.timer_tree.specs.declared.rotate.Top.{Top}
 use Rattle.timer_tree.specs.declared.repair.Unbalanced.{Unbalanced}
@@ -16,14 +15,6 @@ use Rattle.timer_tree.specs.declared.repair.Unbalanced.{Unbalanced}
 -- the nodes and the root after a rebalanced subtree is linked to its parent
 abbrev linked_up : List Node × Top → (root n parent : ℕ) → List Node × ℕ
 linked_up balanced root n parent = if nat_eq balanced.1.root n then (balanced.0, root) else relinked balanced.0 root parent n balanced.1.root
-
-abbrev lifted_by : List Node × Top → (root n parent rank : ℕ) → List Node × Unbalanced
-lifted_by balanced root n parent rank =
-    ((linked_up balanced root n parent).0, record { root = (linked_up balanced root n parent).1; at = if nat_eq balanced.1.rank rank then none else parent; child = balanced.1 })
-
-lifted_is : (xs : List Node) (r : Unbalanced) → lifted xs r ≡ lifted_by (rebalanced xs (record { n = r.at; node = node_at xs r.at }) r.child) r.root r.at (node_at xs r.at).parent (node_at xs r.at).rank
-unfolding lifted
-lifted_is xs r = refl
 
 linked_up_linked : (xs : List Node) (root n : ℕ) (c : List Frame) (balanced : List Node × Top) (u : Tree) → length xs ≤ none → n < length xs → ((k : ℕ) → times k (around c) ≤ 1) → times n (around c) ≡ 0 → IsAround xs n c → root ≡ root_of n c → balanced.0 ≡ xs → balanced.1.root ≡ top u → Linked xs (top u) c (linked_up balanced root n (above c))
 linked_up_linked xs root n c balanced u small inside once gone at root_is nodes_are top_is =
@@ -46,18 +37,18 @@ rises_above : (xs : List Node) (hole h : ℕ) (c : List Frame) → IsAround xs h
 rises_above xs hole h [] at fits some = absurd (some refl)
 rises_above xs hole h (f ∷ c) at fits some = omega (arith, fits.0.below_a, ap (λ (x : Node). x.rank) at.0.is, with_links-rank f.side f.e hole (top f.other) (above c) f.h)
 
-lifted_frame : (xs : List Node) (root : ℕ) (child : Top) (f : Frame) (c : List Frame) (t : Tree) (h : ℕ) (ps : List (ℕ × ℕ)) → length xs ≤ none → length ps ≤ none → ((k : ℕ) → times k ps ≤ 1) → IsAround xs (top t) (f ∷ c) → IsAt xs f.n t → root ≡ root_of f.n c → child.root ≡ top t → child.rank ≡ tall t → IsBalanced t → Fits (f ∷ c) h → h ≤ tall t + 1 → tall t ≤ h + 1 → pairs (plug c (filled f t)) ≡ ps →
-    Lifted xs (record { root = root; at = f.n; child = child }) ps (length c + 1) (lifted_by (rebalanced xs (record { n = f.n; node = with_links f.side f.e (top t) (top f.other) (above c) f.h }) child) root f.n (above c) f.h)
-lifted_frame xs root child f c t h ps small few once at under root_is child_is rank_is balanced_t fits lower higher pairs_are =
+-- a rebalanced subtree is linked to its parent: the repair may go on there, or end where the rank is as before
+pub record Ways (xs : List Node) (r : Unbalanced) (ps : List (ℕ × ℕ)) (levels parent h rank : ℕ) (new : List Node × ℕ) (child : Top) : Type 0 where
+  pub on : Lifted xs r ps levels (new.0, record { root = new.1; at = parent; child = child })
+  pub ends : rank ≡ h → (other : Top) → Lifted xs r ps levels (new.0, record { root = new.1; at = none; child = other })
+
+ways : (xs : List Node) (r : Unbalanced) (f : Frame) (c : List Frame) (t : Tree) (h : ℕ) (ps : List (ℕ × ℕ)) (ev : List Node × Top) → r.at ≡ f.n → length xs ≤ none → ((k : ℕ) → times k ps ≤ 1) → IsAround xs (top t) (f ∷ c) → r.root ≡ root_of f.n c → Fits (f ∷ c) h → pairs (plug c (filled f t)) ≡ ps → Rebalanced xs (above c) (filled f t) f.h ev →
+    Ways xs r ps (length c + 1) (above c) f.h ev.1.rank (linked_up ev r.root f.n (above c)) ev.1
+ways xs r f c t h ps ev at_is small once at root_is fits pairs_are done =
+    let root = r.root in
     let x = filled f t in
     let sum : (k : ℕ) → times k ps ≡ times k (pairs x) + times k (around c) = λ k. subst (λ qs. times k qs ≡ times k (pairs x) + times k (around c)) pairs_are (times-plug k c x) in
-    let count : length ps ≡ length (pairs x) + length (around c) = subst (λ qs. length qs ≡ length (pairs x) + length (around c)) pairs_are (length-plug c x) in
     let parts = times-fork f.n f.side t f.other f.n f.e f.h in
-    let at_x = fork-IsAt xs (above c) f.side t f.other f.n f.e f.h at.0 under at.1 in
-    let node = with_links f.side f.e (top t) (top f.other) (above c) f.h in
-    let ev = rebalanced xs (record { n = f.n; node = node }) child in
-    let changed : Changed xs (above c) f.side t f.other f.n f.e f.h h = record { small = small; fits = omega (arith, count, few); once = λ k. omega (arith, sum k, once k); at = at_x; balanced_t = balanced_t; balanced_o = fits.1; has = fits.0; lower = lower; higher = higher } in
-    let done = rebalanced_fork xs f.side t f.other f.n f.e f.h h (above c) child changed child_is rank_is in
     let u = done.u in
     let ys = ev.0 in
     let around_y = IsAround-agree xs ys f.n c done.moved.size (λ k some. done.moved.rest k (omega (arith, sum k, once k, some))) at.2 in
@@ -66,32 +57,9 @@ lifted_frame xs root child f c t h ps small few once at under root_is child_is r
     let under_z = IsAt-agree ys new.0 (above c) u link.size (λ k some. link.rest k (omega (arith, sum k, once k, some, ap (λ qs. times k qs) done.same))) done.moved.at in
     let same_pairs : pairs (plug c u) ≡ ps = plug_pairs c u x done.same ∙ pairs_are in
     let kept : KeepsOthers xs new.0 ps = record { size = link.size ∙ done.moved.size; rest = λ k gone. link.rest k (omega (arith, sum k, gone)) ∙ done.moved.rest k (omega (arith, sum k, gone)) } in
-    let stored : (node_at xs f.n).rank ≡ f.h = ap (λ (y : Node). y.rank) at.0.is ∙ with_links-rank f.side f.e (top t) (top f.other) (above c) f.h in
-    elim (nat_eq ev.1.rank f.h) as (λ b. nat_eq ev.1.rank f.h ≡ b → Lifted xs (record { root = root; at = f.n; child = child }) ps (length c + 1) (new.0, record { root = new.1; at = if b then none else above c; child = ev.1 })) [
-      | true ↦ λ same. let level : tall u ≡ f.h = sym done.rank_is ∙ eqb-true _ _ same in record {
-        left = 0;
-        fewer = omega arith;
-        unbalanced = record {
-          context = [];
-          part = plug c u;
-          old_rank = tall (plug c u);
-          linked = tt;
-          under = IsAt-plug new.0 c u link.at under_z;
-          root_is = link.root_is ∙ sym (top-plug c u);
-          at_is = refl;
-          child_is = λ some. absurd (some refl);
-          rank_is = λ some. absurd (some refl);
-          balanced = plug-balanced c u (subst (λ k. Fits c k) (sym level) fits.2) done.balanced;
-          fits = tt;
-          lower = omega arith;
-          higher = omega arith;
-          pairs_are = same_pairs;
-          levels_are = refl;
-        };
-        kept = kept;
-        rises = λ some. absurd (some refl);
-      }
-      | false ↦ λ other. record {
+    let stored : (node_at xs r.at).rank ≡ f.h = ap (λ k. (node_at xs k).rank) at_is ∙ ap (λ (y : Node). y.rank) at.0.is ∙ with_links-rank f.side f.e (top t) (top f.other) (above c) f.h in
+    record {
+      on = record {
         left = length c;
         fewer = omega arith;
         unbalanced = record {
@@ -113,21 +81,72 @@ lifted_frame xs root child f c t h ps small few once at under root_is child_is r
         };
         kept = kept;
         rises = λ some. omega (arith, stored, rises_above new.0 (top u) f.h c link.at fits.2 some);
-      }
-    ] refl
+      };
+      ends = λ same other. record {
+        left = 0;
+        fewer = omega arith;
+        unbalanced = record {
+          context = [];
+          part = plug c u;
+          old_rank = tall (plug c u);
+          linked = tt;
+          under = IsAt-plug new.0 c u link.at under_z;
+          root_is = link.root_is ∙ sym (top-plug c u);
+          at_is = refl;
+          child_is = λ some. absurd (some refl);
+          rank_is = λ some. absurd (some refl);
+          balanced = plug-balanced c u (subst (λ k. Fits c k) (sym same ∙ done.rank_is) fits.2) done.balanced;
+          fits = tt;
+          lower = omega arith;
+          higher = omega arith;
+          pairs_are = same_pairs;
+          levels_are = refl;
+        };
+        kept = kept;
+        rises = λ some. absurd (some refl);
+      };
+    }
+
+lifted_is : (xs : List Node) (r : Unbalanced) → lifted xs r ≡ stepped xs (child_side (node_at xs r.at) r.child.root) r (node_at xs r.at)
+unfolding lifted
+lifted_is xs r = refl
 
 lifted_at : (xs : List Node) (root : ℕ) (child : Top) (c : List Frame) (t : Tree) (h : ℕ) (ps : List (ℕ × ℕ)) → length xs ≤ none → length ps ≤ none → ((k : ℕ) → times k ps ≤ 1) → IsAround xs (top t) c → IsAt xs (above c) t → root ≡ root_of (top t) c → (above c ≡ none → ⊥) → child.root ≡ top t → child.rank ≡ tall t → IsBalanced t → Fits c h → h ≤ tall t + 1 → tall t ≤ h + 1 → pairs (plug c t) ≡ ps →
     Lifted xs (record { root = root; at = above c; child = child }) ps (length c) (lifted xs (record { root = root; at = above c; child = child }))
 lifted_at xs root child [] t h ps small few once at under root_is some child_is rank_is balanced_t fits lower higher pairs_are = absurd (some refl)
 lifted_at xs root child (f ∷ c) t h ps small few once at under root_is some child_is rank_is balanced_t fits lower higher pairs_are =
     let r : Unbalanced = record { root = root; at = f.n; child = child } in
+    let x = filled f t in
     let node = with_links f.side f.e (top t) (top f.other) (above c) f.h in
-    let ev = rebalanced xs (record { n = f.n; node = node }) child in
-    let done = lifted_frame xs root child f c t h ps small few once at under root_is child_is rank_is balanced_t fits lower higher pairs_are in
-    let with_rank = subst (λ k. Lifted xs r ps (length c + 1) (lifted_by ev root f.n (above c) k)) (sym (with_links-rank f.side f.e (top t) (top f.other) (above c) f.h)) done in
-    let with_parent = subst (λ k. Lifted xs r ps (length c + 1) (lifted_by ev root f.n k node.rank)) (sym (with_links-parent f.side f.e (top t) (top f.other) (above c) f.h)) with_rank in
-    let with_node = subst (λ (y : Node). Lifted xs r ps (length c + 1) (lifted_by (rebalanced xs (record { n = f.n; node = y }) child) root f.n y.parent y.rank)) (sym at.0.is) with_parent in
-    subst (λ k. Lifted xs r ps k (lifted xs r)) (omega arith) (subst (λ new. Lifted xs r ps (length c + 1) new) (sym (lifted_is xs r)) with_node)
+    let sum : (k : ℕ) → times k ps ≡ times k (pairs x) + times k (around c) = λ k. subst (λ qs. times k qs ≡ times k (pairs x) + times k (around c)) pairs_are (times-plug k c x) in
+    let count : length ps ≡ length (pairs x) + length (around c) = subst (λ qs. length qs ≡ length (pairs x) + length (around c)) pairs_are (length-plug c x) in
+    let changed : Changed xs (above c) f.side t f.other f.n f.e f.h h = record { small = small; fits = omega (arith, count, few); once = λ k. omega (arith, sum k, once k); at = fork-IsAt xs (above c) f.side t f.other f.n f.e f.h at.0 under at.1; balanced_t = balanced_t; balanced_o = fits.1; has = fits.0; lower = lower; higher = higher } in
+    let Goal : List Node × Unbalanced → Type 0 = λ new. Lifted xs r ps (length c + 1) new in
+    let parent_is = sym (with_links-parent f.side f.e (top t) (top f.other) (above c) f.h) in
+    let rank_of = sym (with_links-rank f.side f.e (top t) (top f.other) (above c) f.h) in
+    let linked = λ (ev : List Node × Top) (b : Bool). if b then (ev.0, root) else relinked ev.0 root (above c) f.n ev.1.root in
+    let here = eq-eqb f.n f.n refl in
+    let all = λ (ev : List Node × Top) (done : Rebalanced xs (above c) x f.h ev). ways xs r f c t h ps ev refl small once at root_is fits pairs_are done in
+    let handles : Handles xs (above c) x f.h r node Goal = record {
+      on = λ ys rank done.
+          let ev : List Node × Top = (ys, record { root = f.n; rank = rank }) in
+          subst (λ k. Goal (ys, record { root = root; at = k; child = ev.1 })) parent_is (subst (λ b. Goal ((linked ev b).0, record { root = (linked ev b).1; at = above c; child = ev.1 })) here (all ev done).on);
+      moved = λ ev done.
+          let way = all ev done in
+          let new = linked_up ev root f.n (above c) in
+          subst (λ k. Goal ((linked_up ev root f.n k).0, record { root = (linked_up ev root f.n k).1; at = if nat_eq ev.1.rank node.rank then none else k; child = ev.1 })) parent_is
+          (subst (λ k. Goal (new.0, record { root = new.1; at = if nat_eq ev.1.rank k then none else above c; child = ev.1 })) rank_of
+          (elim (nat_eq ev.1.rank f.h) as (λ b. nat_eq ev.1.rank f.h ≡ b → Goal (new.0, record { root = new.1; at = if b then none else above c; child = ev.1 })) [
+            | true ↦ λ same. way.ends (eqb-true _ _ same) ev.1
+            | false ↦ λ other. way.on
+          ] refl));
+      stop = λ done.
+          let ev : List Node × Top = (xs, record { root = f.n; rank = f.h }) in
+          subst (λ b. Goal ((linked ev b).0, record { root = (linked ev b).1; at = none; child = child })) here ((all ev done).ends refl child);
+    } in
+    let done = stepped_rebalanced xs f.side t f.other f.e f.h h (above c) r Goal handles changed child_is rank_is in
+    let with_node = subst (λ (y : Node). Goal (stepped xs (child_side y child.root) r y)) (sym at.0.is) done in
+    subst (λ k. Lifted xs r ps k (lifted xs r)) (omega arith) (subst Goal (sym (lifted_is xs r)) with_node)
 
 pub lifted_unbalanced : (xs : List Node) (r : Unbalanced) (ps : List (ℕ × ℕ)) (levels : ℕ) → length xs ≤ none → length ps ≤ none → ((k : ℕ) → times k ps ≤ 1) → (r.at ≡ none → ⊥) → IsUnbalanced xs r ps levels → Lifted xs r ps levels (lifted xs r)
 lifted_unbalanced xs r ps levels small few once some broken =
@@ -157,7 +176,7 @@ low_rank xs r ps levels small broken =
 lifted_new : (xs : List Node) (r : Unbalanced) (ps : List (ℕ × ℕ)) (levels : ℕ) (new : List Node × Unbalanced) → (r.at ≡ none → ⊥) → CanRepair xs r ps levels → new ≡ lifted xs r → Lifted xs r ps levels new
 lifted_new xs r ps levels new some can is = subst (λ x. Lifted xs r ps levels x) (sym is) (lifted_unbalanced xs r ps levels can.small can.few can.once some can.unbalanced)
 
-pub repairing_step : (xs ys zs : List Node) (r r' : Unbalanced) (ps : List (ℕ × ℕ)) (levels old_steps steps new_steps : ℕ) → IsRepairing xs ys r ps levels old_steps steps → (r.at ≡ none → ⊥) → (zs, r') ≡ lifted ys r → new_steps ≤ steps + 13 → IsRepairing xs zs r' ps levels old_steps new_steps
+pub repairing_step : (xs ys zs : List Node) (r r' : Unbalanced) (ps : List (ℕ × ℕ)) (levels old_steps steps new_steps : ℕ) → IsRepairing xs ys r ps levels old_steps steps → (r.at ≡ none → ⊥) → (zs, r') ≡ lifted ys r → new_steps ≤ steps + 14 → IsRepairing xs zs r' ps levels old_steps new_steps
 repairing_step xs ys zs r r' ps levels old_steps steps new_steps so_far some is few =
     let done = lifted_new ys r ps so_far.left (zs, r') some so_far.can is in
     record {

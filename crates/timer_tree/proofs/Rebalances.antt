@@ -3,7 +3,9 @@ use Rattle.std.proofs.Common.{◌≡◌, ℕ, true, false, ◌+◌, ◌-◌, ◌
 use Rattle.std.proofs.lemmas.Bool.{leb-true, leb-false, ltb-true, ltb-false, eqb-true, eqb-false, eq-eqb, ne_eqb, cases_lt, cases_eq, false≢true}
 use Rattle.std.proofs.lemmas.Bool.Decides.{nat_tests}
 use Rattle.timer_tree.specs.Nodes.{none, node_at, with_links, next, other_side, child_side, is_high_leaf}
-use Rattle.timer_tree.specs.Rotate.{rotated_once, rotated_twice, rotated, ranked, lowered, raised, sunk, rebalanced}
+use Rattle.timer_tree.specs.Rotate.{rotated_once, rotated_twice, rotated, ranked, lowered}
+use Rattle.timer_tree.specs.Moves.{gone_on, moved_up, rotated_up, raised, sunk, stepped}
+use Rattle.timer_tree.specs.declared.repair.Unbalanced.{Unbalanced}
 use Rattle.timer_tree.specs.Trees.{Tree, Leaf, Fork, top, tall, pairs, Stands, IsAt, HasRank, IsBalanced, one, times}
 use Rattle.timer_tree.specs.Contexts.{fork}
 use Rattle.timer_tree.proofs.Trees.{with_links-rank, node_at-set_other, Stands-set_same, Stands-set_other, times-fork, one_same, one_apart, top_apart, IsAt-set, rank_at, top-fork, tall-fork, length-fork, IsAt-fork, fork-IsAt, IsBalanced-fork, fork-IsBalanced, tall-le}
@@ -294,14 +296,22 @@ pub record Changed (xs : List Node) (p : ℕ) (s : Side) (t o : Tree) (n e h old
   pub lower : old ≤ tall t + 1
   pub higher : tall t ≤ old + 1
 
-raised_is : (xs : List Node) (s : Side) (n e a b p h : ℕ) →
-    raised xs s (noded s n e a b p h) a ≡ (if nat_eq ((node_at xs b).rank + 1) h then (ranked xs n (next h), record { root = n; rank = next h }) else rotated xs s (noded s n e a b p h) (record { n = a; node = node_at xs a }))
-unfolding raised
-raised_is xs sides.Left n e a b p h = refl
-raised_is xs sides.Right n e a b p h = refl
+-- what follows from each result of a step
+pub record Handles (xs : List Node) (p : ℕ) (t : Tree) (h : ℕ) (r : Unbalanced) (node : Node) (Goal : List Node × Unbalanced → Type 0) : Type 0 where
+  pub on : (ys : List Node) (rank : ℕ) → Rebalanced xs p t h (ys, record { root = r.at; rank = rank }) → Goal (gone_on ys r node rank)
+  pub moved : (done : List Node × Top) → Rebalanced xs p t h done → Goal (moved_up done r node)
+  pub stop : Rebalanced xs p t h (xs, record { root = r.at; rank = h }) → Goal (xs, record { root = r.root; at = none; child = r.child })
 
-raised_rebalanced : (xs : List Node) (s : Side) (t o : Tree) (n e h old p : ℕ) → Changed xs p s t o n e h old → h ≤ tall t → Rebalanced xs p (fork s t n e h o) h (raised xs s (noded s n e (top t) (top o) p h) (top t))
-raised_rebalanced xs s t o n e h old p is up =
+raised_is : (xs : List Node) (s : Side) (e a b p h : ℕ) (r : Unbalanced) → raised xs s r (with_links s e a b p h) ≡
+    (if nat_eq ((node_at xs b).rank + 1) h then gone_on (ranked xs r.at (next h)) r (with_links s e a b p h) (next h)
+    else moved_up (rotated xs s (noded s r.at e a b p h) (record { n = r.child.root; node = node_at xs r.child.root })) r (with_links s e a b p h))
+unfolding raised rotated_up
+raised_is xs sides.Left e a b p h r = refl
+raised_is xs sides.Right e a b p h r = refl
+
+raised_rebalanced : (xs : List Node) (s : Side) (t o : Tree) (e h old p : ℕ) (r : Unbalanced) (Goal : List Node × Unbalanced → Type 0) → Handles xs p (fork s t r.at e h o) h r (with_links s e (top t) (top o) p h) Goal → Changed xs p s t o r.at e h old → r.child.root ≡ top t → h ≤ tall t → Goal (raised xs s r (with_links s e (top t) (top o) p h))
+raised_rebalanced xs s t o e h old p r Goal handles is child_is up =
+    let n = r.at in
     let parts = IsAt-fork xs p s t o n e h is.at in
     let ho = rank_at xs n o is.small parts.2 in
     let has = is.has in
@@ -313,29 +323,32 @@ raised_rebalanced xs s t o n e h old p is up =
     let count_t = tall-le t is.balanced_t in
     let fits = is.fits in
     let low = noded s n e (top t) (top o) p h in
+    let node = with_links s e (top t) (top o) p h in
     let other = (node_at xs (top o)).rank in
-    let Done : List Node × Top → Type 0 = λ new. Rebalanced xs p (fork s t n e h o) h new in
-    subst Done (sym (raised_is xs s n e (top t) (top o) p h))
-    (elim (nat_eq (other + 1) h) as (λ x. nat_eq (other + 1) h ≡ x → Done (if x then (ranked xs n (next h), record { root = n; rank = next h }) else rotated xs s low (record { n = top t; node = node_at xs (top t) }))) [
+    subst Goal (sym (raised_is xs s e (top t) (top o) p h r))
+    (elim (nat_eq (other + 1) h) as (λ x. nat_eq (other + 1) h ≡ x → Goal (if x then gone_on (ranked xs n (next h)) r node (next h) else moved_up (rotated xs s low (record { n = r.child.root; node = node_at xs r.child.root })) r node)) [
       | true ↦ λ yes. let same = eqb-true _ _ yes in
-          ranked_rebalanced xs s t o n e h p (h + 1) (next h) is.once is.at is.balanced_t is.balanced_o (record { below_a = omega arith; below_b = omega arith; near_a = omega arith; near_b = omega arith; near_both = omega arith }) (omega arith) (omega arith) (next_is h (omega arith))
+          handles.on (ranked xs n (next h)) (next h) (ranked_rebalanced xs s t o n e h p (h + 1) (next h) is.once is.at is.balanced_t is.balanced_o (record { below_a = omega arith; below_b = omega arith; near_a = omega arith; near_b = omega arith; near_both = omega arith }) (omega arith) (omega arith) (next_is h (omega arith)))
       | false ↦ λ no'. let apart = eqb-false _ _ no' in
           let lean : tall t ≡ tall o + 2 = omega (arith, apart) in
-          lean_rotated xs s t o n e h p (record { small = is.small; fits = is.fits; once = is.once; at = is.at; balanced_t = is.balanced_t; balanced_c = is.balanced_o; lean = lean; low = omega arith; near = omega arith })
+          subst (λ k. Goal (moved_up (rotated xs s low (record { n = k; node = node_at xs k })) r node)) (sym child_is)
+          (handles.moved _ (lean_rotated xs s t o n e h p (record { small = is.small; fits = is.fits; once = is.once; at = is.at; balanced_t = is.balanced_t; balanced_c = is.balanced_o; lean = lean; low = omega arith; near = omega arith })))
     ] refl)
 
-sunk_is : (xs : List Node) (s : Side) (n e a b p h : ℕ) →
-    sunk xs s (noded s n e a b p h) ≡ (if nat_eq ((node_at xs b).rank + 1) h then rotated xs (other_side s) (noded s n e a b p h) (record { n = b; node = node_at xs b }) else (ranked xs n (h - 1), record { root = n; rank = h - 1 }))
-unfolding sunk
-sunk_is xs sides.Left n e a b p h = refl
-sunk_is xs sides.Right n e a b p h = refl
+sunk_is : (xs : List Node) (s : Side) (e a b p h : ℕ) (r : Unbalanced) → sunk xs s r (with_links s e a b p h) ≡
+    (if nat_eq ((node_at xs b).rank + 1) h then moved_up (rotated xs (other_side s) (noded s r.at e a b p h) (record { n = b; node = node_at xs b })) r (with_links s e a b p h)
+    else gone_on (ranked xs r.at (h - 1)) r (with_links s e a b p h) (h - 1))
+unfolding sunk rotated_up
+sunk_is xs sides.Left e a b p h r = refl
+sunk_is xs sides.Right e a b p h r = refl
 
 sunk_rotated : (xs : List Node) (s : Side) (t o : Tree) (n e h old p : ℕ) → Changed xs p s t o n e h old → tall o ≡ tall t + 2 → tall o ≤ h → h ≤ tall o + 1 → Rebalanced xs p (fork s t n e h o) h (rotated xs (other_side s) (noded s n e (top t) (top o) p h) (record { n = top o; node = node_at xs (top o) }))
 sunk_rotated xs sides.Left t o n e h old p is lean low near = lean_rotated xs sides.Right o t n e h p (record { small = is.small; fits = is.fits; once = is.once; at = is.at; balanced_t = is.balanced_o; balanced_c = is.balanced_t; lean = lean; low = low; near = near })
 sunk_rotated xs sides.Right t o n e h old p is lean low near = lean_rotated xs sides.Left o t n e h p (record { small = is.small; fits = is.fits; once = is.once; at = is.at; balanced_t = is.balanced_o; balanced_c = is.balanced_t; lean = lean; low = low; near = near })
 
-sunk_rebalanced : (xs : List Node) (s : Side) (t o : Tree) (n e h old p : ℕ) → Changed xs p s t o n e h old → tall t + 2 < h → Rebalanced xs p (fork s t n e h o) h (sunk xs s (noded s n e (top t) (top o) p h))
-sunk_rebalanced xs s t o n e h old p is down =
+sunk_rebalanced : (xs : List Node) (s : Side) (t o : Tree) (e h old p : ℕ) (r : Unbalanced) (Goal : List Node × Unbalanced → Type 0) → Handles xs p (fork s t r.at e h o) h r (with_links s e (top t) (top o) p h) Goal → Changed xs p s t o r.at e h old → tall t + 2 < h → Goal (sunk xs s r (with_links s e (top t) (top o) p h))
+sunk_rebalanced xs s t o e h old p r Goal handles is down =
+    let n = r.at in
     let parts = IsAt-fork xs p s t o n e h is.at in
     let ho = rank_at xs n o is.small parts.2 in
     let has = is.has in
@@ -344,14 +357,14 @@ sunk_rebalanced xs s t o n e h old p is down =
     let near_o = has.near_b in
     let lower = is.lower in
     let low = noded s n e (top t) (top o) p h in
+    let node = with_links s e (top t) (top o) p h in
     let other = (node_at xs (top o)).rank in
-    let Done : List Node × Top → Type 0 = λ new. Rebalanced xs p (fork s t n e h o) h new in
-    subst Done (sym (sunk_is xs s n e (top t) (top o) p h))
-    (elim (nat_eq (other + 1) h) as (λ x. nat_eq (other + 1) h ≡ x → Done (if x then rotated xs (other_side s) low (record { n = top o; node = node_at xs (top o) }) else (ranked xs n (h - 1), record { root = n; rank = h - 1 }))) [
-      | true ↦ λ yes. let same = eqb-true _ _ yes in sunk_rotated xs s t o n e h old p is (omega arith) (omega arith) (omega arith)
+    subst Goal (sym (sunk_is xs s e (top t) (top o) p h r))
+    (elim (nat_eq (other + 1) h) as (λ x. nat_eq (other + 1) h ≡ x → Goal (if x then moved_up (rotated xs (other_side s) low (record { n = top o; node = node_at xs (top o) })) r node else gone_on (ranked xs n (h - 1)) r node (h - 1))) [
+      | true ↦ λ yes. let same = eqb-true _ _ yes in handles.moved _ (sunk_rotated xs s t o n e h old p is (omega arith) (omega arith) (omega arith))
       | false ↦ λ no'. let apart = eqb-false _ _ no' in
           let two : tall o + 2 ≡ h = omega (arith, apart) in
-          ranked_rebalanced xs s t o n e h p (h - 1) (h - 1) is.once is.at is.balanced_t is.balanced_o (record { below_a = omega arith; below_b = omega arith; near_a = omega arith; near_b = omega arith; near_both = omega arith }) (omega arith) (omega arith) refl
+          handles.on (ranked xs n (h - 1)) (h - 1) (ranked_rebalanced xs s t o n e h p (h - 1) (h - 1) is.once is.at is.balanced_t is.balanced_o (record { below_a = omega arith; below_b = omega arith; near_a = omega arith; near_b = omega arith; near_both = omega arith }) (omega arith) (omega arith) refl)
     ] refl)
 
 -- a node whose subtree has come one or two lower than it is
@@ -371,21 +384,22 @@ no_rank : (xs : List Node) (p : ℕ) (t : Tree) → length xs ≤ none → IsAt 
 no_rank xs p Leaf small at is = refl
 no_rank xs p (Fork l n e h r) small at is = let never : ⊥ = omega (arith, is, at.0.inside, small) in absurd never
 
-settled_rebalanced : (xs : List Node) (s : Side) (t o : Tree) (n e h old p : ℕ) → Changed xs p s t o n e h old → tall t < h → h ≤ tall t + 2 → Rebalanced xs p (fork s t n e h o) h (if is_high_leaf (with_links s e (top t) (top o) p h) then (ranked xs n 1, record { root = n; rank = 1 }) else (xs, record { root = n; rank = h }))
-settled_rebalanced xs s t o n e h old p is above near =
+settled_rebalanced : (xs : List Node) (s : Side) (t o : Tree) (e h old p : ℕ) (r : Unbalanced) (Goal : List Node × Unbalanced → Type 0) → Handles xs p (fork s t r.at e h o) h r (with_links s e (top t) (top o) p h) Goal → Changed xs p s t o r.at e h old → tall t < h → h ≤ tall t + 2 →
+    Goal (if is_high_leaf (with_links s e (top t) (top o) p h) then gone_on (ranked xs r.at 1) r (with_links s e (top t) (top o) p h) 1 else (xs, record { root = r.root; at = none; child = r.child }))
+settled_rebalanced xs s t o e h old p r Goal handles is above near =
+    let n = r.at in
     let parts = IsAt-fork xs p s t o n e h is.at in
     let has = is.has in
     let below_o = has.below_b in
     let near_o = has.near_b in
     let node = with_links s e (top t) (top o) p h in
-    let Done : List Node × Top → Type 0 = λ new. Rebalanced xs p (fork s t n e h o) h new in
-    elim (is_high_leaf node) as (λ x. is_high_leaf node ≡ x → Done (if x then (ranked xs n 1, record { root = n; rank = 1 }) else (xs, record { root = n; rank = h }))) [
+    elim (is_high_leaf node) as (λ x. is_high_leaf node ≡ x → Goal (if x then gone_on (ranked xs n 1) r node 1 else (xs, record { root = r.root; at = none; child = r.child }))) [
       | true ↦ λ yes.
           let leaf = high_leaf s e (top t) (top o) p h yes in
           let flat_t = no_rank xs n t is.small parts.1 leaf.1 in
           let flat_o = no_rank xs n o is.small parts.2 leaf.2 in
           let two = leaf.0 in
-          ranked_rebalanced xs s t o n e h p 1 1 is.once is.at is.balanced_t is.balanced_o (record { below_a = omega arith; below_b = omega arith; near_a = omega arith; near_b = omega arith; near_both = omega arith }) (omega arith) (omega arith) refl
+          handles.on (ranked xs n 1) 1 (ranked_rebalanced xs s t o n e h p 1 1 is.once is.at is.balanced_t is.balanced_o (record { below_a = omega arith; below_b = omega arith; near_a = omega arith; near_b = omega arith; near_both = omega arith }) (omega arith) (omega arith) refl)
       | false ↦ λ no'.
           let both : h ≤ tall t + tall o + 1 = elim (cases_lt 0 (tall t + tall o)) [
             | inl some ↦ omega arith
@@ -397,7 +411,7 @@ settled_rebalanced xs s t o n e h old p is above near =
               | inr other ↦ omega (arith, nothing, other)
             ]
           ] in
-          record {
+          handles.stop (record {
             u = fork s t n e h o;
             moved = record { at = is.at; rest = λ k gone. refl; size = refl };
             root_is = sym (top-fork s t o n e h);
@@ -406,7 +420,7 @@ settled_rebalanced xs s t o n e h old p is above near =
             same = refl;
             lower = omega (arith, tall-fork s t o n e h);
             higher = omega (arith, tall-fork s t o n e h);
-          }
+          })
     ] refl
 
 -- ---- all of it
@@ -422,33 +436,33 @@ roots_apart xs s Leaf (Fork l m f g r) n e h small once at_t at_o some same = om
 roots_apart xs s (Fork l m f g r) o n e h small once at_t at_o some same =
     top_apart m o (omega (arith, at_t.0.inside, small)) (omega (arith, once m, times-fork m s (Fork l m f g r) o n e h, times-fork m sides.Left l r m f g, one_same m)) same
 
-rebalanced_is : (xs : List Node) (s : Side) (n e a b p h : ℕ) (child : Top) → rebalanced xs (noded s n e a b p h) child ≡
-    (if nat_le h child.rank then raised xs (child_side (with_links s e a b p h) child.root) (noded s n e a b p h) child.root
-    else (if nat_lt 2 (h - child.rank) then sunk xs (child_side (with_links s e a b p h) child.root) (noded s n e a b p h)
-    else (if is_high_leaf (with_links s e a b p h) then (ranked xs n 1, record { root = n; rank = 1 }) else (xs, record { root = n; rank = h }))))
-unfolding rebalanced
-rebalanced_is xs sides.Left n e a b p h child = refl
-rebalanced_is xs sides.Right n e a b p h child = refl
+stepped_is : (xs : List Node) (s d : Side) (e a b p h : ℕ) (r : Unbalanced) → stepped xs d r (with_links s e a b p h) ≡
+    (if nat_le h r.child.rank then raised xs d r (with_links s e a b p h)
+    else (if nat_lt 2 (h - r.child.rank) then sunk xs d r (with_links s e a b p h)
+    else (if is_high_leaf (with_links s e a b p h) then gone_on (ranked xs r.at 1) r (with_links s e a b p h) 1 else (xs, record { root = r.root; at = none; child = r.child }))))
+unfolding stepped
+stepped_is xs sides.Left d e a b p h r = refl
+stepped_is xs sides.Right d e a b p h r = refl
 
-pub rebalanced_fork : (xs : List Node) (s : Side) (t o : Tree) (n e h old p : ℕ) (child : Top) → Changed xs p s t o n e h old → child.root ≡ top t → child.rank ≡ tall t → Rebalanced xs p (fork s t n e h o) h (rebalanced xs (noded s n e (top t) (top o) p h) child)
-rebalanced_fork xs s t o n e h old p child is child_is rank_is =
+pub stepped_rebalanced : (xs : List Node) (s : Side) (t o : Tree) (e h old p : ℕ) (r : Unbalanced) (Goal : List Node × Unbalanced → Type 0) → Handles xs p (fork s t r.at e h o) h r (with_links s e (top t) (top o) p h) Goal → Changed xs p s t o r.at e h old → r.child.root ≡ top t → r.child.rank ≡ tall t →
+    Goal (stepped xs (child_side (with_links s e (top t) (top o) p h) r.child.root) r (with_links s e (top t) (top o) p h))
+stepped_rebalanced xs s t o e h old p r Goal handles is child_is rank_is =
+    let n = r.at in
     let parts = IsAt-fork xs p s t o n e h is.at in
-    let low = noded s n e (top t) (top o) p h in
     let node = with_links s e (top t) (top o) p h in
-    let settled : List Node × Top = if is_high_leaf node then (ranked xs n 1, record { root = n; rank = 1 }) else (xs, record { root = n; rank = h }) in
-    let Done : List Node × Top → Type 0 = λ new. Rebalanced xs p (fork s t n e h o) h new in
-    let side : 0 < tall t + tall o → child_side node child.root ≡ s = λ some. ap (λ k. child_side node k) child_is ∙ child_side_is s e (top t) (top o) p h (roots_apart xs s t o n e h is.small is.once parts.1 parts.2 some) in
-    let old_side = child_side node child.root in
-    subst Done (sym (rebalanced_is xs s n e (top t) (top o) p h child))
-    (elim (nat_le h child.rank) as (λ x. nat_le h child.rank ≡ x → Done (if x then raised xs old_side low child.root else (if nat_lt 2 (h - child.rank) then sunk xs old_side low else settled))) [
+    let settled : List Node × Unbalanced = if is_high_leaf node then gone_on (ranked xs n 1) r node 1 else (xs, record { root = r.root; at = none; child = r.child }) in
+    let d = child_side node r.child.root in
+    let side : 0 < tall t + tall o → d ≡ s = λ some. ap (λ k. child_side node k) child_is ∙ child_side_is s e (top t) (top o) p h (roots_apart xs s t o n e h is.small is.once parts.1 parts.2 some) in
+    subst Goal (sym (stepped_is xs s d e (top t) (top o) p h r))
+    (elim (nat_le h r.child.rank) as (λ x. nat_le h r.child.rank ≡ x → Goal (if x then raised xs d r node else (if nat_lt 2 (h - r.child.rank) then sunk xs d r node else settled))) [
       | true ↦ λ yes.
           let up : h ≤ tall t = omega (arith, leb-true _ _ yes, rank_is) in
-          subst (λ k. Done (raised xs old_side low k)) (sym child_is) (subst (λ k. Done (raised xs k low (top t))) (sym (side (omega (arith, up, is.has.below_a)))) (raised_rebalanced xs s t o n e h old p is up))
+          subst (λ k. Goal (raised xs k r node)) (sym (side (omega (arith, up, is.has.below_a)))) (raised_rebalanced xs s t o e h old p r Goal handles is child_is up)
       | false ↦ λ no'.
           let above : tall t < h = omega (arith, leb-false _ _ no', rank_is) in
-          elim (nat_lt 2 (h - child.rank)) as (λ x. nat_lt 2 (h - child.rank) ≡ x → Done (if x then sunk xs old_side low else settled)) [
+          elim (nat_lt 2 (h - r.child.rank)) as (λ x. nat_lt 2 (h - r.child.rank) ≡ x → Goal (if x then sunk xs d r node else settled)) [
             | true ↦ λ far. let down : tall t + 2 < h = omega (arith, ltb-true _ _ far, rank_is) in
-                subst (λ k. Done (sunk xs k low)) (sym (side (omega (arith, down, is.has.near_b)))) (sunk_rebalanced xs s t o n e h old p is down)
-            | false ↦ λ close. settled_rebalanced xs s t o n e h old p is above (omega (arith, ltb-false _ _ close, rank_is))
+                subst (λ k. Goal (sunk xs k r node)) (sym (side (omega (arith, down, is.has.near_b)))) (sunk_rebalanced xs s t o e h old p r Goal handles is down)
+            | false ↦ λ close. settled_rebalanced xs s t o e h old p r Goal handles is above (omega (arith, ltb-false _ _ close, rank_is))
           ] refl
     ] refl)

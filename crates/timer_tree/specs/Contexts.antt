@@ -101,15 +101,15 @@ pub record CanRepair (xs : List Node) (r : Unbalanced) (ps : List (ℕ × ℕ)) 
   pub few : length ps ≤ none
   pub once : (k : ℕ) → times k ps ≤ 1
 
--- what a repair has done when so many nodes are left, at 13 steps a node
+-- what a repair has done when so many nodes are left, at 14 steps a node
 pub record IsRepairing (xs ys : List Node) (r : Unbalanced) (ps : List (ℕ × ℕ)) (levels old_steps steps : ℕ) : Type 0 where
   pub left : ℕ
   pub can : CanRepair ys r ps left
   pub kept : KeepsOthers xs ys ps
-  pub count : steps + 13 * left ≤ old_steps + 13 * levels
+  pub count : steps + 14 * left ≤ old_steps + 14 * levels
 
 -- the block holds an balanced tree of the same pairs, after so many steps at most
 pub record IsRepaired (xs ys : List Node) (root : ℕ) (ps : List (ℕ × ℕ)) (levels old_steps steps : ℕ) : Type 0 where
   pub tree : IsTree ys root ps
   pub kept : KeepsOthers xs ys ps
-  pub count : steps ≤ old_steps + 13 * levels
+  pub count : steps ≤ old_steps + 14 * levels

@@ -1,6 +1,6 @@
 -- How a subtree is rotated where one of its sides is too high.
-use Rattle.std.specs.Prelude.{ℕ, ◌+◌, ◌-◌, List, max, nat_eq, nat_lt, nat_le, if◌then◌else◌, slice_set}
-use Rattle.timer_tree.specs.Nodes.{node_at, near, far, with_links, next, other_side, child_side, is_high_leaf}
+use Rattle.std.specs.Prelude.{ℕ, ◌-◌, List, max, nat_lt, nat_le, if◌then◌else◌, slice_set}
+use Rattle.timer_tree.specs.Nodes.{node_at, near, far, with_links, next}
 use Rattle.timer_tree.specs.Links.{adopted}
 use Rattle.timer_tree.specs.declared.node.Node.{Node}
 use Rattle.timer_tree.specs.declared.node.Side.{Side}
@@ -41,24 +41,3 @@ rotated xs side low high =
     let outer = (node_at xs (near side high.node)).rank in
     if nat_lt (max outer inner.rank) (low.node.rank - 2) then lowered xs low high.n
     else (if nat_le inner.rank outer then rotated_once xs side low high (record { root = n; rank = inner.rank }) else rotated_twice xs side low high (record { n = n; node = inner }))
-
--- a node that its subtree on a side, with this root, has come up to
-unfoldable pub raised : List Node → Side → Numbered → ℕ → List Node × Top
-raised xs side low high =
-    if nat_eq ((node_at xs (far side low.node)).rank + 1) low.node.rank then (ranked xs low.n (next low.node.rank), record { root = low.n; rank = next low.node.rank })
-    else rotated xs side low (record { n = high; node = node_at xs high })
-
--- a node that has its subtree on a side three lower
-unfoldable pub sunk : List Node → Side → Numbered → List Node × Top
-sunk xs side low =
-    let n = far side low.node in
-    if nat_eq ((node_at xs n).rank + 1) low.node.rank then rotated xs (other_side side) low (record { n = n; node = node_at xs n })
-    else (ranked xs low.n (low.node.rank - 1), record { root = low.n; rank = low.node.rank - 1 })
-
--- a node one of whose subtrees has risen or sunk by one
-unfoldable pub rebalanced : List Node → Numbered → Top → List Node × Top
-rebalanced xs low child =
-    let side = child_side low.node child.root in
-    if nat_le low.node.rank child.rank then raised xs side low child.root
-    else (if nat_lt 2 (low.node.rank - child.rank) then sunk xs side low
-    else (if is_high_leaf low.node then (ranked xs low.n 1, record { root = low.n; rank = 1 }) else (xs, record { root = low.n; rank = low.node.rank })))

@@ -1,13 +1,14 @@
 //! How ranks are put right from one node upwards.
 ghost use Rattle.std.specs.Prelude.{◌≡◌, ℕ, ◌+◌, ◌≤◌, ◌<◌, List, length};
-ghost use Rattle.timer_tree.specs.Nodes.{node_at, none, IsLink};
+ghost use Rattle.timer_tree.specs.Nodes.{node_at, none, HasLinks};
 ghost use Rattle.timer_tree.specs.Contexts.{CanRepair, IsRepaired};
-ghost use Rattle.timer_tree.specs.Moves.{lifted};
+ghost use Rattle.timer_tree.specs.Moves.{gone_on, rotated_up, raised, sunk, stepped, lifted};
+ghost use Rattle.timer_tree.specs.Rotate.{ranked};
 
 use crate::block::Block;
-use crate::links::relink;
-use crate::node::NONE;
-use crate::rotate::{Numbered, Top, rebalance};
+use crate::links::{rank, relink};
+use crate::node::{NONE, Node, Side};
+use crate::rotate::{Numbered, Top, rotate};
 use crate::steps::Steps;
 use std::sync::ledger::Ledger;
 
@@ -38,24 +39,153 @@ fn lift<L: Ledger>(block: &mut Block, rest: Unbalanced, steps: &mut Steps<L>) ->
     requires small { length block.old ≤ none }
     requires child { (node_at block.old rest.at).rank ≤ rest.child.rank → rest.child.root < length block.old }
     ensures block { (block.new, result) ≡ lifted block.old rest }
+    ensures steps { steps.new ≤ steps.old + 14 }
+{
+    let node = block.read(rest.at, steps);
+    if node.left == rest.child.root {
+        step(block, Side::Left, rest, node, steps)
+    } else {
+        step(block, Side::Right, rest, node, steps)
+    }
+}
+
+/// Gives a node another rank where its subtree on this side has risen or sunk by one. Where that isn't enough, the tree is rotated.
+#[inline(always)]
+#[tactic(auto, unfolding(crate::specs::Moves::stepped))]
+fn step<L: Ledger>(
+    block: &mut Block,
+    side: Side,
+    rest: Unbalanced,
+    node: Node,
+    steps: &mut Steps<L>,
+) -> Unbalanced
+    requires inside { rest.at < length block.old }
+    requires small { length block.old ≤ none }
+    requires node { node ≡ node_at block.old rest.at }
+    requires links { HasLinks (length block.old) node }
+    requires child { node.rank ≤ rest.child.rank → rest.child.root < length block.old }
+    ensures block { (block.new, result) ≡ stepped block.old side rest node }
     ensures steps { steps.new ≤ steps.old + 13 }
 {
-    let Unbalanced { root, at, child } = rest;
+    if node.rank <= rest.child.rank {
+        raise(block, side, rest, node, steps)
+    } else if node.rank - rest.child.rank > 2 {
+        sink(block, side, rest, node, steps)
+    } else if node.is_high_leaf() {
+        go_on(block, rest, node, 1, steps)
+    } else {
+        Unbalanced {
+            root: rest.root,
+            at: NONE,
+            child: rest.child,
+        }
+    }
+}
+
+/// Gives a node one rank more, or rotates the tree there, where a subtree has come as high as it is.
+#[inline(always)]
+#[tactic(auto, unfolding(crate::specs::Moves::raised, crate::specs::Nodes::next))]
+fn raise<L: Ledger>(
+    block: &mut Block,
+    side: Side,
+    rest: Unbalanced,
+    node: Node,
+    steps: &mut Steps<L>,
+) -> Unbalanced
+    requires inside { rest.at < length block.old }
+    requires small { length block.old ≤ none }
+    requires node { node ≡ node_at block.old rest.at }
+    requires links { HasLinks (length block.old) node }
+    requires child { rest.child.root < length block.old }
+    ensures block { (block.new, result) ≡ raised block.old side rest node }
+    ensures steps { steps.new ≤ steps.old + 13 }
+{
+    let sibling = rank(block, node.far(side), steps);
+    if sibling < node.rank && sibling + 1 == node.rank {
+        let rank = node.rank.saturating_add(1);
+        go_on(block, rest, node, rank, steps)
+    } else {
+        rotate_up(block, side, rest, rest.child.root, steps)
+    }
+}
+
+/// Gives a node one rank less, or rotates the tree there, where a subtree has come three lower than it is.
+#[inline(always)]
+#[tactic(auto, unfolding(crate::specs::Moves::sunk))]
+fn sink<L: Ledger>(
+    block: &mut Block,
+    side: Side,
+    rest: Unbalanced,
+    node: Node,
+    steps: &mut Steps<L>,
+) -> Unbalanced
+    requires inside { rest.at < length block.old }
+    requires small { length block.old ≤ none }
+    requires node { node ≡ node_at block.old rest.at }
+    requires links { HasLinks (length block.old) node }
+    requires high { 2 < node.rank }
+    ensures block { (block.new, result) ≡ sunk block.old side rest node }
+    ensures steps { steps.new ≤ steps.old + 13 }
+{
+    let n = node.far(side);
+    let sibling = rank(block, n, steps);
+    if sibling < node.rank && sibling + 1 == node.rank {
+        rotate_up(block, side.other(), rest, n, steps)
+    } else {
+        go_on(block, rest, node, node.rank - 1, steps)
+    }
+}
+
+/// Gives a node another rank. The repair goes on at its parent.
+#[inline(always)]
+fn go_on<L: Ledger>(
+    block: &mut Block,
+    rest: Unbalanced,
+    node: Node,
+    rank: u32,
+    steps: &mut Steps<L>,
+) -> Unbalanced
+    requires inside { rest.at < length block.old }
+    ensures block { (block.new, result) ≡ gone_on (ranked block.old rest.at rank) rest node rank }
+    ensures steps { steps.new ≡ steps.old + 1 }
+{
+    let Unbalanced { root, at, .. } = rest;
+    block.set_rank(at, rank, steps);
+    Unbalanced {
+        root,
+        at: node.parent,
+        child: Top { root: at, rank },
+    }
+}
+
+/// Rotates the tree at a node. The repair goes on at its parent, or ends where the rank is as before.
+#[inline(always)]
+#[tactic(auto, unfolding(crate::specs::Moves::rotated_up))]
+fn rotate_up<L: Ledger>(
+    block: &mut Block,
+    side: Side,
+    rest: Unbalanced,
+    high: u32,
+    steps: &mut Steps<L>,
+) -> Unbalanced
+    requires inside { rest.at < length block.old }
+    requires small { length block.old ≤ none }
+    requires high { high < length block.old }
+    ensures block { (block.new, result) ≡ rotated_up block.old side rest (node_at block.old rest.at) high }
+    ensures steps { steps.new ≤ steps.old + 12 }
+{
+    let Unbalanced { root, at, .. } = rest;
     let node = block.read(at, steps);
-    let top = rebalance(block, Numbered { n: at, node }, child, steps);
-    let root = if top.root == at {
+    let child = rotate(block, side, Numbered { n: at, node }, high, steps);
+    let root = if child.root == at {
         root
     } else {
-        relink(block, root, node.parent, at, top.root, steps)
+        relink(block, root, node.parent, at, child.root, steps)
     };
-    let at = if top.rank == node.rank {
+    let at = if child.rank == node.rank {
         NONE
     } else {
         node.parent
     };
-    Unbalanced {
-        root,
-        at,
-        child: top,
-    }
+    Unbalanced { root, at, child }
 }

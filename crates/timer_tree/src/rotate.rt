@@ -1,7 +1,7 @@
-//! How one node is rebalanced: it gets another rank, or the tree is rotated there.
+//! How the tree is rotated at a node.
 ghost use Rattle.std.specs.Prelude.{◌≡◌, ◌+◌, ◌≤◌, ◌<◌, length};
 ghost use Rattle.timer_tree.specs.Nodes.{node_at, none, IsLink, HasLinks};
-ghost use Rattle.timer_tree.specs.Rotate.{rotated_once, rotated_twice, lowered, rotated, raised, sunk, rebalanced};
+ghost use Rattle.timer_tree.specs.Rotate.{rotated_once, rotated_twice, lowered, rotated};
 
 use crate::block::Block;
 use crate::links::{adopt, rank};
@@ -23,94 +23,10 @@ pub(crate) struct Numbered {
     pub(crate) node: Node,
 }
 
-/// Gives a node another rank where one of its subtrees has risen or sunk by one. Where that isn't enough, the tree is rotated there.
-#[tactic(auto, unfolding(crate::specs::Rotate::rebalanced))]
-pub(crate) fn rebalance<L: Ledger>(
-    block: &mut Block,
-    low: Numbered,
-    child: Top,
-    steps: &mut Steps<L>,
-) -> Top
-    requires inside { low.n < length block.old }
-    requires links { HasLinks (length block.old) low.node }
-    requires small { length block.old ≤ none }
-    requires child { low.node.rank ≤ child.rank → child.root < length block.old }
-    ensures block { (block.new, result) ≡ rebalanced block.old low child }
-    ensures room { length block.new ≡ length block.old }
-    ensures top { result.root < length block.old }
-    ensures steps { steps.new ≤ steps.old + 10 }
-{
-    let Numbered { n, node } = low;
-    let side = node.side_of(child.root);
-    if node.rank <= child.rank {
-        raise(block, side, low, child.root, steps)
-    } else if node.rank - child.rank > 2 {
-        sink(block, side, low, steps)
-    } else if node.is_high_leaf() {
-        block.set_rank(n, 1, steps);
-        Top { root: n, rank: 1 }
-    } else {
-        Top {
-            root: n,
-            rank: node.rank,
-        }
-    }
-}
-
-/// Gives a node one rank more, or rotates the tree there, where a subtree has come as high as it is.
-#[tactic(auto, unfolding(crate::specs::Rotate::raised, crate::specs::Nodes::next))]
-fn raise<L: Ledger>(
-    block: &mut Block,
-    side: Side,
-    low: Numbered,
-    high: u32,
-    steps: &mut Steps<L>,
-) -> Top
-    requires inside { low.n < length block.old }
-    requires links { HasLinks (length block.old) low.node }
-    requires small { length block.old ≤ none }
-    requires high { high < length block.old }
-    ensures block { (block.new, result) ≡ raised block.old side low high }
-    ensures room { length block.new ≡ length block.old }
-    ensures top { result.root < length block.old }
-    ensures steps { steps.new ≤ steps.old + 10 }
-{
-    let sibling = rank(block, low.node.far(side), steps);
-    if sibling < low.node.rank && sibling + 1 == low.node.rank {
-        let rank = low.node.rank.saturating_add(1);
-        block.set_rank(low.n, rank, steps);
-        Top { root: low.n, rank }
-    } else {
-        rotate(block, side, low, high, steps)
-    }
-}
-
-/// Gives a node one rank less, or rotates the tree there, where a subtree has come three lower than it is.
-#[tactic(auto, unfolding(crate::specs::Rotate::sunk))]
-fn sink<L: Ledger>(block: &mut Block, side: Side, low: Numbered, steps: &mut Steps<L>) -> Top
-    requires inside { low.n < length block.old }
-    requires links { HasLinks (length block.old) low.node }
-    requires small { length block.old ≤ none }
-    requires high { 2 < low.node.rank }
-    ensures block { (block.new, result) ≡ sunk block.old side low }
-    ensures room { length block.new ≡ length block.old }
-    ensures top { result.root < length block.old }
-    ensures steps { steps.new ≤ steps.old + 10 }
-{
-    let n = low.node.far(side);
-    let sibling = rank(block, n, steps);
-    if sibling < low.node.rank && sibling + 1 == low.node.rank {
-        rotate(block, side.other(), low, n, steps)
-    } else {
-        let rank = low.node.rank - 1;
-        block.set_rank(low.n, rank, steps);
-        Top { root: low.n, rank }
-    }
-}
-
 /// Rotates the tree at a node whose subtree on this side is too high. Where both subtrees of that one are low, ranks are lowered instead.
 #[tactic(auto, unfolding(crate::specs::Rotate::rotated))]
-fn rotate<L: Ledger>(
+#[inline(always)]
+pub(crate) fn rotate<L: Ledger>(
     block: &mut Block,
     side: Side,
     low: Numbered,
@@ -149,6 +65,7 @@ fn rotate<L: Ledger>(
 
 /// Lowers the ranks of a node and of the higher one below it.
 #[tactic(auto, unfolding(crate::specs::Rotate::lowered))]
+#[inline(always)]
 fn lower<L: Ledger>(block: &mut Block, low: Numbered, high: u32, steps: &mut Steps<L>) -> Top
     requires low { low.n < length block.old }
     requires high { high < length block.old }
@@ -165,6 +82,7 @@ fn lower<L: Ledger>(block: &mut Block, low: Numbered, high: u32, steps: &mut Ste
 
 /// Sets the high node above the low one.
 #[tactic(auto, unfolding(crate::specs::Rotate::rotated_once, crate::specs::Nodes::next))]
+#[inline(always)]
 fn rotate_once<L: Ledger>(
     block: &mut Block,
     side: Side,
@@ -200,6 +118,7 @@ fn rotate_once<L: Ledger>(
 
 /// Sets the inner node above both.
 #[tactic(auto, unfolding(crate::specs::Rotate::rotated_twice))]
+#[inline(always)]
 fn rotate_twice<L: Ledger>(
     block: &mut Block,
     side: Side,
