@@ -73,7 +73,7 @@ inserted_new xs root first place expires id ps old steps new stored absent insid
     subst (λ x. Inserted xs c expires id x) (sym is) (subst (λ k. Inserted xs c expires id (inserted xs root (record { parent = k; side = place.side }) expires id)) (sym found.hole.parent) done)
 
 -- what a repair is asked for
-pub inserted_can : (xs : List Node) (root first : ℕ) (place : Place) (expires id : ℕ) (ps : List (ℕ × ℕ)) (old steps : ℕ) (new : List Node × ℕ) → IsStored xs root first ps → has_id id ps ≡ false → id < length xs → (found : IsPlace xs root place expires ps old steps) → new ≡ inserted xs root place expires id → CanRepair new.0 (record { root = new.1; at = place.parent; child = record { root = id; rank = 1 } }) (put expires id ps) (length found.context) × KeepsOthers xs new.0 (put expires id ps)
+pub inserted_can : (xs : List Node) (root first : ℕ) (place : Place) (expires id : ℕ) (ps : List (ℕ × ℕ)) (old steps : ℕ) (new : List Node × ℕ) → IsStored xs root first ps → has_id id ps ≡ false → id < length xs → (found : IsPlace xs root place expires ps old steps) → new ≡ inserted xs root place expires id → CanRepair new.0 (record { root = new.1; at = place.parent; child = id; rank = 1 }) (put expires id ps) (length found.context) × KeepsOthers xs new.0 (put expires id ps)
 inserted_can xs root first place expires id ps old steps new stored absent inside found is =
     let c = found.context in
     let done = inserted_new xs root first place expires id ps old steps new stored absent inside found is in
@@ -161,7 +161,7 @@ pub record Added (ps : List (ℕ × ℕ)) (room expires id : ℕ) (zs : List Nod
   pub size : length zs ≡ room
   pub count : (d : ℕ) → length ps + 1 < 2 ^ d → steps ≤ old_steps + 32 * (d + 1)
 
-pub added : (xs : List Node) (root first : ℕ) (place : Place) (expires id : ℕ) (ps : List (ℕ × ℕ)) (old steps : ℕ) (new : List Node × ℕ) (inserted_steps : ℕ) (zs : List Node) (new_root new_first new_steps : ℕ) → IsStored xs root first ps → has_id id ps ≡ false → id < length xs → IsPlace xs root place expires ps old steps → new ≡ inserted xs root place expires id → inserted_steps ≤ steps + 3 → ((qs : List (ℕ × ℕ)) (levels : ℕ) → CanRepair new.0 (record { root = new.1; at = place.parent; child = record { root = id; rank = 1 } }) qs levels → IsRepaired new.0 zs new_root qs levels inserted_steps new_steps) → new_first ≡ first_with place first id → Added ps (length xs) expires id zs new_root new_first old new_steps
+pub added : (xs : List Node) (root first : ℕ) (place : Place) (expires id : ℕ) (ps : List (ℕ × ℕ)) (old steps : ℕ) (new : List Node × ℕ) (inserted_steps : ℕ) (zs : List Node) (new_root new_first new_steps : ℕ) → IsStored xs root first ps → has_id id ps ≡ false → id < length xs → IsPlace xs root place expires ps old steps → new ≡ inserted xs root place expires id → inserted_steps ≤ steps + 3 → ((qs : List (ℕ × ℕ)) (levels : ℕ) → CanRepair new.0 (record { root = new.1; at = place.parent; child = id; rank = 1 }) qs levels → IsRepaired new.0 zs new_root qs levels inserted_steps new_steps) → new_first ≡ first_with place first id → Added ps (length xs) expires id zs new_root new_first old new_steps
 added xs root first place expires id ps old steps new inserted_steps zs new_root new_first new_steps stored absent inside found is few repairs first_is =
     let can = inserted_can xs root first place expires id ps old steps new stored absent inside found is in
     let repaired = repairs (put expires id ps) (length found.context) can.0 in

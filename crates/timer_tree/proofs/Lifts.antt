@@ -39,8 +39,8 @@ rises_above xs hole h (f ∷ c) at fits some = omega (arith, fits.0.below_a, ap 
 
 -- a rebalanced subtree is linked to its parent: the repair may go on there, or end where the rank is as before
 pub record Ways (xs : List Node) (r : Unbalanced) (ps : List (ℕ × ℕ)) (levels parent h rank : ℕ) (new : List Node × ℕ) (child : Top) : Type 0 where
-  pub on : Lifted xs r ps levels (new.0, record { root = new.1; at = parent; child = child })
-  pub ends : rank ≡ h → (other : Top) → Lifted xs r ps levels (new.0, record { root = new.1; at = none; child = other })
+  pub on : Lifted xs r ps levels (new.0, record { root = new.1; at = parent; child = child.root; rank = child.rank })
+  pub ends : rank ≡ h → (other : Top) → Lifted xs r ps levels (new.0, record { root = new.1; at = none; child = other.root; rank = other.rank })
 
 ways : (xs : List Node) (r : Unbalanced) (f : Frame) (c : List Frame) (t : Tree) (h : ℕ) (ps : List (ℕ × ℕ)) (ev : List Node × Top) → r.at ≡ f.n → length xs ≤ none → ((k : ℕ) → times k ps ≤ 1) → IsAround xs (top t) (f ∷ c) → r.root ≡ root_of f.n c → Fits (f ∷ c) h → pairs (plug c (filled f t)) ≡ ps → Rebalanced xs (above c) (filled f t) f.h ev →
     Ways xs r ps (length c + 1) (above c) f.h ev.1.rank (linked_up ev r.root f.n (above c)) ev.1
@@ -107,15 +107,15 @@ ways xs r f c t h ps ev at_is small once at root_is fits pairs_are done =
       };
     }
 
-lifted_is : (xs : List Node) (r : Unbalanced) → lifted xs r ≡ stepped xs (child_side (node_at xs r.at) r.child.root) r (node_at xs r.at)
+lifted_is : (xs : List Node) (r : Unbalanced) → lifted xs r ≡ stepped xs (child_side (node_at xs r.at) r.child) r (node_at xs r.at)
 unfolding lifted
 lifted_is xs r = refl
 
 lifted_at : (xs : List Node) (root : ℕ) (child : Top) (c : List Frame) (t : Tree) (h : ℕ) (ps : List (ℕ × ℕ)) → length xs ≤ none → length ps ≤ none → ((k : ℕ) → times k ps ≤ 1) → IsAround xs (top t) c → IsAt xs (above c) t → root ≡ root_of (top t) c → (above c ≡ none → ⊥) → child.root ≡ top t → child.rank ≡ tall t → IsBalanced t → Fits c h → h ≤ tall t + 1 → tall t ≤ h + 1 → pairs (plug c t) ≡ ps →
-    Lifted xs (record { root = root; at = above c; child = child }) ps (length c) (lifted xs (record { root = root; at = above c; child = child }))
+    Lifted xs (record { root = root; at = above c; child = child.root; rank = child.rank }) ps (length c) (lifted xs (record { root = root; at = above c; child = child.root; rank = child.rank }))
 lifted_at xs root child [] t h ps small few once at under root_is some child_is rank_is balanced_t fits lower higher pairs_are = absurd (some refl)
 lifted_at xs root child (f ∷ c) t h ps small few once at under root_is some child_is rank_is balanced_t fits lower higher pairs_are =
-    let r : Unbalanced = record { root = root; at = f.n; child = child } in
+    let r : Unbalanced = record { root = root; at = f.n; child = child.root; rank = child.rank } in
     let x = filled f t in
     let node = with_links f.side f.e (top t) (top f.other) (above c) f.h in
     let sum : (k : ℕ) → times k ps ≡ times k (pairs x) + times k (around c) = λ k. subst (λ qs. times k qs ≡ times k (pairs x) + times k (around c)) pairs_are (times-plug k c x) in
@@ -130,19 +130,19 @@ lifted_at xs root child (f ∷ c) t h ps small few once at under root_is some ch
     let handles : Handles xs (above c) x f.h r node Goal = record {
       on = λ ys rank done.
           let ev : List Node × Top = (ys, record { root = f.n; rank = rank }) in
-          subst (λ k. Goal (ys, record { root = root; at = k; child = ev.1 })) parent_is (subst (λ b. Goal ((linked ev b).0, record { root = (linked ev b).1; at = above c; child = ev.1 })) here (all ev done).on);
+          subst (λ k. Goal (ys, record { root = root; at = k; child = ev.1.root; rank = ev.1.rank })) parent_is (subst (λ b. Goal ((linked ev b).0, record { root = (linked ev b).1; at = above c; child = ev.1.root; rank = ev.1.rank })) here (all ev done).on);
       moved = λ ev done.
           let way = all ev done in
           let new = linked_up ev root f.n (above c) in
-          subst (λ k. Goal ((linked_up ev root f.n k).0, record { root = (linked_up ev root f.n k).1; at = if nat_eq ev.1.rank node.rank then none else k; child = ev.1 })) parent_is
-          (subst (λ k. Goal (new.0, record { root = new.1; at = if nat_eq ev.1.rank k then none else above c; child = ev.1 })) rank_of
-          (elim (nat_eq ev.1.rank f.h) as (λ b. nat_eq ev.1.rank f.h ≡ b → Goal (new.0, record { root = new.1; at = if b then none else above c; child = ev.1 })) [
+          subst (λ k. Goal ((linked_up ev root f.n k).0, record { root = (linked_up ev root f.n k).1; at = if nat_eq ev.1.rank node.rank then none else k; child = ev.1.root; rank = ev.1.rank })) parent_is
+          (subst (λ k. Goal (new.0, record { root = new.1; at = if nat_eq ev.1.rank k then none else above c; child = ev.1.root; rank = ev.1.rank })) rank_of
+          (elim (nat_eq ev.1.rank f.h) as (λ b. nat_eq ev.1.rank f.h ≡ b → Goal (new.0, record { root = new.1; at = if b then none else above c; child = ev.1.root; rank = ev.1.rank })) [
             | true ↦ λ same. way.ends (eqb-true _ _ same) ev.1
             | false ↦ λ other. way.on
           ] refl));
       stop = λ done.
           let ev : List Node × Top = (xs, record { root = f.n; rank = f.h }) in
-          subst (λ b. Goal ((linked ev b).0, record { root = (linked ev b).1; at = none; child = child })) here ((all ev done).ends refl child);
+          subst (λ b. Goal ((linked ev b).0, record { root = (linked ev b).1; at = none; child = child.root; rank = child.rank })) here ((all ev done).ends refl child);
     } in
     let done = stepped_rebalanced xs f.side t f.other f.e f.h h (above c) r Goal handles changed child_is rank_is in
     let with_node = subst (λ (y : Node). Goal (stepped xs (child_side y child.root) r y)) (sym at.0.is) done in
@@ -150,8 +150,8 @@ lifted_at xs root child (f ∷ c) t h ps small few once at under root_is some ch
 
 pub lifted_unbalanced : (xs : List Node) (r : Unbalanced) (ps : List (ℕ × ℕ)) (levels : ℕ) → length xs ≤ none → length ps ≤ none → ((k : ℕ) → times k ps ≤ 1) → (r.at ≡ none → ⊥) → IsUnbalanced xs r ps levels → Lifted xs r ps levels (lifted xs r)
 lifted_unbalanced xs r ps levels small few once some broken =
-    let done = lifted_at xs r.root r.child broken.context broken.part broken.old_rank ps small few once broken.linked broken.under broken.root_is (λ same. some (broken.at_is ∙ same)) (broken.child_is some) (broken.rank_is some) broken.balanced broken.fits broken.lower broken.higher broken.pairs_are in
-    subst (λ k. Lifted xs r ps k (lifted xs r)) broken.levels_are (subst (λ k. Lifted xs (record { root = r.root; at = k; child = r.child }) ps (length broken.context) (lifted xs (record { root = r.root; at = k; child = r.child }))) (sym broken.at_is) done)
+    let done = lifted_at xs r.root (record { root = r.child; rank = r.rank }) broken.context broken.part broken.old_rank ps small few once broken.linked broken.under broken.root_is (λ same. some (broken.at_is ∙ same)) (broken.child_is some) (broken.rank_is some) broken.balanced broken.fits broken.lower broken.higher broken.pairs_are in
+    subst (λ k. Lifted xs r ps k (lifted xs r)) broken.levels_are (subst (λ k. Lifted xs (record { root = r.root; at = k; child = r.child; rank = r.rank }) ps (length broken.context) (lifted xs (record { root = r.root; at = k; child = r.child; rank = r.rank }))) (sym broken.at_is) done)
 
 -- where no node is left, the tree is balanced
 ended_at : (xs : List Node) (root : ℕ) (c : List Frame) (t : Tree) (ps : List (ℕ × ℕ)) → length xs ≤ none → IsAround xs (top t) c → IsAt xs (above c) t → root ≡ root_of (top t) c → above c ≡ none → IsBalanced t → pairs (plug c t) ≡ ps → IsTree xs root ps
@@ -212,20 +212,22 @@ repairing_start xs r ps levels steps can = record { left = levels; can = can; ke
 -- a node that is linked, with one of its subtrees
 pub record CanLift (xs : List Node) (r : Unbalanced) : Type 0 where
   pub inside : r.at < length xs
-  pub child : (node_at xs r.at).rank ≤ r.child.rank → r.child.root < length xs
+  pub child : (node_at xs r.at).rank ≤ r.rank → r.child < length xs
+  pub some : 0 < (node_at xs r.at).rank
 
 high_inside : (xs : List Node) (p : ℕ) (t : Tree) → IsAt xs p t → 0 < tall t → top t < length xs
 high_inside xs p Leaf at some = omega (arith, some)
 high_inside xs p (Fork l n e h r) at some = at.0.inside
 
-can_lift_at : (xs : List Node) (root : ℕ) (child : Top) (c : List Frame) (t : Tree) (h : ℕ) → IsAround xs (top t) c → IsAt xs (above c) t → (above c ≡ none → ⊥) → Fits c h → child.root ≡ top t → child.rank ≡ tall t → CanLift xs (record { root = root; at = above c; child = child })
+can_lift_at : (xs : List Node) (root : ℕ) (child : Top) (c : List Frame) (t : Tree) (h : ℕ) → IsAround xs (top t) c → IsAt xs (above c) t → (above c ≡ none → ⊥) → Fits c h → child.root ≡ top t → child.rank ≡ tall t → CanLift xs (record { root = root; at = above c; child = child.root; rank = child.rank })
 can_lift_at xs root child [] t h at under some fits child_is rank_is = absurd (some refl)
 can_lift_at xs root child (f ∷ c) t h at under some fits child_is rank_is = record {
   inside = at.0.inside;
+  some = omega (arith, fits.0.below_a, ap (λ (x : Node). x.rank) at.0.is, with_links-rank f.side f.e (top t) (top f.other) (above c) f.h);
   child = λ up. omega (arith, child_is, high_inside xs f.n t under (omega (arith, up, rank_is, fits.0.below_a, ap (λ (x : Node). x.rank) at.0.is, with_links-rank f.side f.e (top t) (top f.other) (above c) f.h)));
 }
 
 pub can_lift : (xs : List Node) (r : Unbalanced) (ps : List (ℕ × ℕ)) (levels : ℕ) → (r.at ≡ none → ⊥) → CanRepair xs r ps levels → CanLift xs r
 can_lift xs r ps levels some can =
     let broken = can.unbalanced in
-    subst (λ k. CanLift xs (record { root = r.root; at = k; child = r.child })) (sym broken.at_is) (can_lift_at xs r.root r.child broken.context broken.part broken.old_rank broken.linked broken.under (λ same. some (broken.at_is ∙ same)) broken.fits (broken.child_is some) (broken.rank_is some))
+    subst (λ k. CanLift xs (record { root = r.root; at = k; child = r.child; rank = r.rank })) (sym broken.at_is) (can_lift_at xs r.root (record { root = r.child; rank = r.rank }) broken.context broken.part broken.old_rank broken.linked broken.under (λ same. some (broken.at_is ∙ same)) broken.fits (broken.child_is some) (broken.rank_is some))

@@ -2,6 +2,7 @@
 use Rattle.std.proofs.Common.{◌≡◌, ℕ, true, false, ◌+◌, ◌-◌, ◌<◌, ◌≤◌, List, length, nat_eq, nat_lt, nat_le, if◌then◌else◌, arith, refl, ap, ◌∙◌, sym, subst, length-set, slice_set, max, inl, inr}
 use Rattle.std.proofs.lemmas.Bool.{leb-true, leb-false, ltb-true, ltb-false, eqb-true, eqb-false, eq-eqb, ne_eqb, cases_lt, cases_eq, false≢true}
 use Rattle.std.proofs.lemmas.Bool.Decides.{nat_tests}
+use Rattle.std.proofs.Math.Nat.{mod-eq_of_lt}
 use Rattle.timer_tree.specs.Nodes.{none, node_at, with_links, next, other_side, child_side, is_high_leaf}
 use Rattle.timer_tree.specs.Rotate.{rotated_once, rotated_twice, rotated, ranked, lowered}
 use Rattle.timer_tree.specs.Moves.{gone_on, moved_up, rotated_up, raised, sunk, stepped}
@@ -31,7 +32,7 @@ pub record Rebalanced (xs : List Node) (p : ℕ) (t : Tree) (h : ℕ) (new : Lis
 
 next_is : (h : ℕ) → h + 1 ≤ none → next h ≡ h + 1
 unfolding next
-next_is h fits = omega arith
+next_is h fits = mod-eq_of_lt (omega (arith, fits))
 
 -- a node whose subtree on a side is higher by two than the other one, and has come as high as the node or one lower
 pub record Leans (xs : List Node) (p : ℕ) (s : Side) (t c : Tree) (n e h : ℕ) : Type 0 where
@@ -300,16 +301,16 @@ pub record Changed (xs : List Node) (p : ℕ) (s : Side) (t o : Tree) (n e h old
 pub record Handles (xs : List Node) (p : ℕ) (t : Tree) (h : ℕ) (r : Unbalanced) (node : Node) (Goal : List Node × Unbalanced → Type 0) : Type 0 where
   pub on : (ys : List Node) (rank : ℕ) → Rebalanced xs p t h (ys, record { root = r.at; rank = rank }) → Goal (gone_on ys r node rank)
   pub moved : (done : List Node × Top) → Rebalanced xs p t h done → Goal (moved_up done r node)
-  pub stop : Rebalanced xs p t h (xs, record { root = r.at; rank = h }) → Goal (xs, record { root = r.root; at = none; child = r.child })
+  pub stop : Rebalanced xs p t h (xs, record { root = r.at; rank = h }) → Goal (xs, record { root = r.root; at = none; child = r.child; rank = r.rank })
 
 raised_is : (xs : List Node) (s : Side) (e a b p h : ℕ) (r : Unbalanced) → raised xs s r (with_links s e a b p h) ≡
     (if nat_eq ((node_at xs b).rank + 1) h then gone_on (ranked xs r.at (next h)) r (with_links s e a b p h) (next h)
-    else moved_up (rotated xs s (noded s r.at e a b p h) (record { n = r.child.root; node = node_at xs r.child.root })) r (with_links s e a b p h))
+    else moved_up (rotated xs s (noded s r.at e a b p h) (record { n = r.child; node = node_at xs r.child })) r (with_links s e a b p h))
 unfolding raised rotated_up
 raised_is xs sides.Left e a b p h r = refl
 raised_is xs sides.Right e a b p h r = refl
 
-raised_rebalanced : (xs : List Node) (s : Side) (t o : Tree) (e h old p : ℕ) (r : Unbalanced) (Goal : List Node × Unbalanced → Type 0) → Handles xs p (fork s t r.at e h o) h r (with_links s e (top t) (top o) p h) Goal → Changed xs p s t o r.at e h old → r.child.root ≡ top t → h ≤ tall t → Goal (raised xs s r (with_links s e (top t) (top o) p h))
+raised_rebalanced : (xs : List Node) (s : Side) (t o : Tree) (e h old p : ℕ) (r : Unbalanced) (Goal : List Node × Unbalanced → Type 0) → Handles xs p (fork s t r.at e h o) h r (with_links s e (top t) (top o) p h) Goal → Changed xs p s t o r.at e h old → r.child ≡ top t → h ≤ tall t → Goal (raised xs s r (with_links s e (top t) (top o) p h))
 raised_rebalanced xs s t o e h old p r Goal handles is child_is up =
     let n = r.at in
     let parts = IsAt-fork xs p s t o n e h is.at in
@@ -326,7 +327,7 @@ raised_rebalanced xs s t o e h old p r Goal handles is child_is up =
     let node = with_links s e (top t) (top o) p h in
     let other = (node_at xs (top o)).rank in
     subst Goal (sym (raised_is xs s e (top t) (top o) p h r))
-    (elim (nat_eq (other + 1) h) as (λ x. nat_eq (other + 1) h ≡ x → Goal (if x then gone_on (ranked xs n (next h)) r node (next h) else moved_up (rotated xs s low (record { n = r.child.root; node = node_at xs r.child.root })) r node)) [
+    (elim (nat_eq (other + 1) h) as (λ x. nat_eq (other + 1) h ≡ x → Goal (if x then gone_on (ranked xs n (next h)) r node (next h) else moved_up (rotated xs s low (record { n = r.child; node = node_at xs r.child })) r node)) [
       | true ↦ λ yes. let same = eqb-true _ _ yes in
           handles.on (ranked xs n (next h)) (next h) (ranked_rebalanced xs s t o n e h p (h + 1) (next h) is.once is.at is.balanced_t is.balanced_o (record { below_a = omega arith; below_b = omega arith; near_a = omega arith; near_b = omega arith; near_both = omega arith }) (omega arith) (omega arith) (next_is h (omega arith)))
       | false ↦ λ no'. let apart = eqb-false _ _ no' in
@@ -385,7 +386,7 @@ no_rank xs p Leaf small at is = refl
 no_rank xs p (Fork l n e h r) small at is = let never : ⊥ = omega (arith, is, at.0.inside, small) in absurd never
 
 settled_rebalanced : (xs : List Node) (s : Side) (t o : Tree) (e h old p : ℕ) (r : Unbalanced) (Goal : List Node × Unbalanced → Type 0) → Handles xs p (fork s t r.at e h o) h r (with_links s e (top t) (top o) p h) Goal → Changed xs p s t o r.at e h old → tall t < h → h ≤ tall t + 2 →
-    Goal (if is_high_leaf (with_links s e (top t) (top o) p h) then gone_on (ranked xs r.at 1) r (with_links s e (top t) (top o) p h) 1 else (xs, record { root = r.root; at = none; child = r.child }))
+    Goal (if is_high_leaf (with_links s e (top t) (top o) p h) then gone_on (ranked xs r.at 1) r (with_links s e (top t) (top o) p h) 1 else (xs, record { root = r.root; at = none; child = r.child; rank = r.rank }))
 settled_rebalanced xs s t o e h old p r Goal handles is above near =
     let n = r.at in
     let parts = IsAt-fork xs p s t o n e h is.at in
@@ -393,7 +394,7 @@ settled_rebalanced xs s t o e h old p r Goal handles is above near =
     let below_o = has.below_b in
     let near_o = has.near_b in
     let node = with_links s e (top t) (top o) p h in
-    elim (is_high_leaf node) as (λ x. is_high_leaf node ≡ x → Goal (if x then gone_on (ranked xs n 1) r node 1 else (xs, record { root = r.root; at = none; child = r.child }))) [
+    elim (is_high_leaf node) as (λ x. is_high_leaf node ≡ x → Goal (if x then gone_on (ranked xs n 1) r node 1 else (xs, record { root = r.root; at = none; child = r.child; rank = r.rank }))) [
       | true ↦ λ yes.
           let leaf = high_leaf s e (top t) (top o) p h yes in
           let flat_t = no_rank xs n t is.small parts.1 leaf.1 in
@@ -437,30 +438,30 @@ roots_apart xs s (Fork l m f g r) o n e h small once at_t at_o some same =
     top_apart m o (omega (arith, at_t.0.inside, small)) (omega (arith, once m, times-fork m s (Fork l m f g r) o n e h, times-fork m sides.Left l r m f g, one_same m)) same
 
 stepped_is : (xs : List Node) (s d : Side) (e a b p h : ℕ) (r : Unbalanced) → stepped xs d r (with_links s e a b p h) ≡
-    (if nat_le h r.child.rank then raised xs d r (with_links s e a b p h)
-    else (if nat_lt 2 (h - r.child.rank) then sunk xs d r (with_links s e a b p h)
-    else (if is_high_leaf (with_links s e a b p h) then gone_on (ranked xs r.at 1) r (with_links s e a b p h) 1 else (xs, record { root = r.root; at = none; child = r.child }))))
+    (if nat_le h r.rank then raised xs d r (with_links s e a b p h)
+    else (if nat_lt 2 (h - r.rank) then sunk xs d r (with_links s e a b p h)
+    else (if is_high_leaf (with_links s e a b p h) then gone_on (ranked xs r.at 1) r (with_links s e a b p h) 1 else (xs, record { root = r.root; at = none; child = r.child; rank = r.rank }))))
 unfolding stepped
 stepped_is xs sides.Left d e a b p h r = refl
 stepped_is xs sides.Right d e a b p h r = refl
 
-pub stepped_rebalanced : (xs : List Node) (s : Side) (t o : Tree) (e h old p : ℕ) (r : Unbalanced) (Goal : List Node × Unbalanced → Type 0) → Handles xs p (fork s t r.at e h o) h r (with_links s e (top t) (top o) p h) Goal → Changed xs p s t o r.at e h old → r.child.root ≡ top t → r.child.rank ≡ tall t →
-    Goal (stepped xs (child_side (with_links s e (top t) (top o) p h) r.child.root) r (with_links s e (top t) (top o) p h))
+pub stepped_rebalanced : (xs : List Node) (s : Side) (t o : Tree) (e h old p : ℕ) (r : Unbalanced) (Goal : List Node × Unbalanced → Type 0) → Handles xs p (fork s t r.at e h o) h r (with_links s e (top t) (top o) p h) Goal → Changed xs p s t o r.at e h old → r.child ≡ top t → r.rank ≡ tall t →
+    Goal (stepped xs (child_side (with_links s e (top t) (top o) p h) r.child) r (with_links s e (top t) (top o) p h))
 stepped_rebalanced xs s t o e h old p r Goal handles is child_is rank_is =
     let n = r.at in
     let parts = IsAt-fork xs p s t o n e h is.at in
     let node = with_links s e (top t) (top o) p h in
-    let settled : List Node × Unbalanced = if is_high_leaf node then gone_on (ranked xs n 1) r node 1 else (xs, record { root = r.root; at = none; child = r.child }) in
-    let d = child_side node r.child.root in
+    let settled : List Node × Unbalanced = if is_high_leaf node then gone_on (ranked xs n 1) r node 1 else (xs, record { root = r.root; at = none; child = r.child; rank = r.rank }) in
+    let d = child_side node r.child in
     let side : 0 < tall t + tall o → d ≡ s = λ some. ap (λ k. child_side node k) child_is ∙ child_side_is s e (top t) (top o) p h (roots_apart xs s t o n e h is.small is.once parts.1 parts.2 some) in
     subst Goal (sym (stepped_is xs s d e (top t) (top o) p h r))
-    (elim (nat_le h r.child.rank) as (λ x. nat_le h r.child.rank ≡ x → Goal (if x then raised xs d r node else (if nat_lt 2 (h - r.child.rank) then sunk xs d r node else settled))) [
+    (elim (nat_le h r.rank) as (λ x. nat_le h r.rank ≡ x → Goal (if x then raised xs d r node else (if nat_lt 2 (h - r.rank) then sunk xs d r node else settled))) [
       | true ↦ λ yes.
           let up : h ≤ tall t = omega (arith, leb-true _ _ yes, rank_is) in
           subst (λ k. Goal (raised xs k r node)) (sym (side (omega (arith, up, is.has.below_a)))) (raised_rebalanced xs s t o e h old p r Goal handles is child_is up)
       | false ↦ λ no'.
           let above : tall t < h = omega (arith, leb-false _ _ no', rank_is) in
-          elim (nat_lt 2 (h - r.child.rank)) as (λ x. nat_lt 2 (h - r.child.rank) ≡ x → Goal (if x then sunk xs d r node else settled)) [
+          elim (nat_lt 2 (h - r.rank)) as (λ x. nat_lt 2 (h - r.rank) ≡ x → Goal (if x then sunk xs d r node else settled)) [
             | true ↦ λ far. let down : tall t + 2 < h = omega (arith, ltb-true _ _ far, rank_is) in
                 subst (λ k. Goal (sunk xs k r node)) (sym (side (omega (arith, down, is.has.near_b)))) (sunk_rebalanced xs s t o e h old p r Goal handles is down)
             | false ↦ λ close. settled_rebalanced xs s t o e h old p r Goal handles is above (omega (arith, ltb-false _ _ close, rank_is))

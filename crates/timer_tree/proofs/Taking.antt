@@ -165,7 +165,7 @@ standing xs root id ps c l e h r taking is =
     }
 
 -- a timer with at most one part below it
-one_part : (xs : List Node) (root id : ℕ) (node : Node) (ps : List (ℕ × ℕ)) (c : List Frame) (l : Tree) (e h : ℕ) (r u : Tree) (new : List Node × ℕ) (old steps : ℕ) → IsTaking xs root id ps → Standing xs root id ps c l e h r → ((k : ℕ) → times k (pairs u) ≡ times k (pairs l) + times k (pairs r)) → pairs l ++ pairs r ≡ pairs u → IsAt xs id u → IsBalanced u → h ≡ tall u + 1 → (only_child node).root ≡ top u → node.parent ≡ above c → node.rank ≡ h → new ≡ spliced xs root (record { n = id; node = node }) → steps ≤ old + 3 → IsTaken xs id ps new.0 (record { root = new.1; at = node.parent; child = only_child node }) old steps
+one_part : (xs : List Node) (root id : ℕ) (node : Node) (ps : List (ℕ × ℕ)) (c : List Frame) (l : Tree) (e h : ℕ) (r u : Tree) (new : List Node × ℕ) (old steps : ℕ) → IsTaking xs root id ps → Standing xs root id ps c l e h r → ((k : ℕ) → times k (pairs u) ≡ times k (pairs l) + times k (pairs r)) → pairs l ++ pairs r ≡ pairs u → IsAt xs id u → IsBalanced u → h ≡ tall u + 1 → (only_child node).root ≡ top u → node.parent ≡ above c → node.rank ≡ h → new ≡ spliced xs root (record { n = id; node = node }) → steps ≤ old + 3 → IsTaken xs id ps new.0 (record { root = new.1; at = node.parent; child = (only_child node).root; rank = (only_child node).rank }) old steps
 one_part xs root id node ps c l e h r u new old steps taking stands same_times same_pairs at_u balanced_u rank part_is parent_is rank_stored is few =
     let low : id < none = omega (arith, stands.under.0.inside, taking.small) in
     let done = subst (λ x. Put xs c u x) (sym is) (spliced_put xs root id node c u taking.small low (λ k. omega (arith, taking.once k, stands.sum k, same_times k)) stands.linked at_u stands.root_is part_is parent_is) in
@@ -194,7 +194,7 @@ one_part xs root id node ps c l e h r u new old steps taking stands same_times s
       count = omega (arith, few);
     }
 
-one_at : (xs : List Node) (root id : ℕ) (node : Node) (ps : List (ℕ × ℕ)) (c : List Frame) (l : Tree) (e h : ℕ) (r : Tree) (new : List Node × ℕ) (old steps : ℕ) → (taking : IsTaking xs root id ps) → plug c (Fork l id e h r) ≡ taking.tree.tree → node ≡ record { expires = e; left = top l; right = top r; parent = above c; rank = h } → ((top l ≡ none) ⊎ (top r ≡ none)) → new ≡ spliced xs root (record { n = id; node = node }) → steps ≤ old + 3 → IsTaken xs id ps new.0 (record { root = new.1; at = node.parent; child = only_child node }) old steps
+one_at : (xs : List Node) (root id : ℕ) (node : Node) (ps : List (ℕ × ℕ)) (c : List Frame) (l : Tree) (e h : ℕ) (r : Tree) (new : List Node × ℕ) (old steps : ℕ) → (taking : IsTaking xs root id ps) → plug c (Fork l id e h r) ≡ taking.tree.tree → node ≡ record { expires = e; left = top l; right = top r; parent = above c; rank = h } → ((top l ≡ none) ⊎ (top r ≡ none)) → new ≡ spliced xs root (record { n = id; node = node }) → steps ≤ old + 3 → IsTaken xs id ps new.0 (record { root = new.1; at = node.parent; child = (only_child node).root; rank = (only_child node).rank }) old steps
 one_at xs root id node ps c Leaf e h r new old steps taking is here part_free spliced_is few =
     let stands = standing xs root id ps c Leaf e h r taking is in
     one_part xs root id node ps c Leaf e h r r new old steps taking stands (λ k. omega arith) refl stands.under.2 stands.balanced.2 (omega (arith, stands.balanced.0.below_b, stands.balanced.0.near_both)) (ap (λ (x : Node). (only_child x).root) here) (ap (λ (x : Node). x.parent) here) (ap (λ (x : Node). x.rank) here) spliced_is few
@@ -210,7 +210,7 @@ one_at xs root id node ps c (Fork a m f g b) e h (Fork a' m' f' g' b') new old s
       | inr end ↦ let never : ⊥ = omega (arith, end, stands.under.2.0.inside, taking.small) in absurd never
     ]
 
-pub taken_one : (xs : List Node) (root id : ℕ) (node : Node) (ps : List (ℕ × ℕ)) (new : List Node × ℕ) (old steps : ℕ) → IsTaking xs root id ps → node ≡ node_at xs id → ((node.left ≡ none) ⊎ (node.right ≡ none)) → new ≡ spliced xs root (record { n = id; node = node }) → steps ≤ old + 3 → IsTaken xs id ps new.0 (record { root = new.1; at = node.parent; child = only_child node }) old steps
+pub taken_one : (xs : List Node) (root id : ℕ) (node : Node) (ps : List (ℕ × ℕ)) (new : List Node × ℕ) (old steps : ℕ) → IsTaking xs root id ps → node ≡ node_at xs id → ((node.left ≡ none) ⊎ (node.right ≡ none)) → new ≡ spliced xs root (record { n = id; node = node }) → steps ≤ old + 3 → IsTaken xs id ps new.0 (record { root = new.1; at = node.parent; child = (only_child node).root; rank = (only_child node).rank }) old steps
 taken_one xs root id node ps new old steps taking node_is part_free is few =
     let place = locate taking.tree.tree id (subst (λ qs. 0 < times id qs) (sym taking.tree.pairs_are) taking.present) in
     let stands = standing xs root id ps place.context place.l place.e place.h place.r taking place.is in
@@ -223,7 +223,7 @@ heir_above : (d : List Frame) (f g : Frame) (c : List Frame) → times f.n (arou
 heir_above [] f g c gone = ap (λ b. if b then g.n else f.n) (eq-eqb f.n f.n refl)
 heir_above (x ∷ d) f g c gone = ap (λ b. if b then g.n else x.n) (ne_eqb x.n f.n (λ same. omega (arith, one_same f.n, ap (λ k. one f.n k) same, gone)))
 
-two_at : (xs : List Node) (root id : ℕ) (ps : List (ℕ × ℕ)) (c : List Frame) (l : Tree) (e h : ℕ) (r : Tree) (low : Numbered) (mid new : List Node × ℕ) (at old steps low_steps : ℕ) → (taking : IsTaking xs root id ps) → plug c (Fork l id e h r) ≡ taking.tree.tree → IsLeftmost xs r low old low_steps → mid ≡ spliced xs root low → new ≡ substituted mid.0 mid.1 id low → at ≡ (if nat_eq low.node.parent id then low.n else low.node.parent) → steps ≤ low_steps + 9 → IsTaken xs id ps new.0 (record { root = new.1; at = at; child = only_child low.node }) old steps
+two_at : (xs : List Node) (root id : ℕ) (ps : List (ℕ × ℕ)) (c : List Frame) (l : Tree) (e h : ℕ) (r : Tree) (low : Numbered) (mid new : List Node × ℕ) (at old steps low_steps : ℕ) → (taking : IsTaking xs root id ps) → plug c (Fork l id e h r) ≡ taking.tree.tree → IsLeftmost xs r low old low_steps → mid ≡ spliced xs root low → new ≡ substituted mid.0 mid.1 id low → at ≡ (if nat_eq low.node.parent id then low.n else low.node.parent) → steps ≤ low_steps + 9 → IsTaken xs id ps new.0 (record { root = new.1; at = at; child = (only_child low.node).root; rank = (only_child low.node).rank }) old steps
 two_at xs root id ps c l e h r low mid new at old steps low_steps taking is lowest mid_is new_is at_is few =
     let d = lowest.context in
     let y = low.n in
@@ -287,7 +287,7 @@ right_part xs root id node ps taking node_is some =
     let stands = standing xs root id ps place.context place.l place.e place.h place.r taking place.is in
     record { at = stands.under.2; from_is = ap (λ (x : Node). x.right) (node_is ∙ stands.under.0.is); some = some; balanced = stands.balanced.2; small = taking.small }
 
-pub taken_two : (xs : List Node) (root id : ℕ) (ps : List (ℕ × ℕ)) (low : Numbered) (mid new : List Node × ℕ) (at old steps low_steps : ℕ) → (taking : IsTaking xs root id ps) → IsLeftmost xs (place_of xs root id ps taking).r low old low_steps → mid ≡ spliced xs root low → new ≡ substituted mid.0 mid.1 id low → at ≡ (if nat_eq low.node.parent id then low.n else low.node.parent) → steps ≤ low_steps + 9 → IsTaken xs id ps new.0 (record { root = new.1; at = at; child = only_child low.node }) old steps
+pub taken_two : (xs : List Node) (root id : ℕ) (ps : List (ℕ × ℕ)) (low : Numbered) (mid new : List Node × ℕ) (at old steps low_steps : ℕ) → (taking : IsTaking xs root id ps) → IsLeftmost xs (place_of xs root id ps taking).r low old low_steps → mid ≡ spliced xs root low → new ≡ substituted mid.0 mid.1 id low → at ≡ (if nat_eq low.node.parent id then low.n else low.node.parent) → steps ≤ low_steps + 9 → IsTaken xs id ps new.0 (record { root = new.1; at = at; child = (only_child low.node).root; rank = (only_child low.node).rank }) old steps
 taken_two xs root id ps low mid new at old steps low_steps taking lowest mid_is new_is at_is few =
     let place = place_of xs root id ps taking in
     two_at xs root id ps place.context place.l place.e place.h place.r low mid new at old steps low_steps taking place.is lowest mid_is new_is at_is few

@@ -80,8 +80,8 @@ pub record IsUnbalanced (xs : List Node) (r : Unbalanced) (ps : List (ℕ × ℕ
   pub under : IsAt xs (above context) part
   pub root_is : r.root ≡ root_of (top part) context
   pub at_is : r.at ≡ above context
-  pub child_is : (r.at ≡ none → ⊥) → r.child.root ≡ top part
-  pub rank_is : (r.at ≡ none → ⊥) → r.child.rank ≡ tall part
+  pub child_is : (r.at ≡ none → ⊥) → r.child ≡ top part
+  pub rank_is : (r.at ≡ none → ⊥) → r.rank ≡ tall part
   pub balanced : IsBalanced part
   pub fits : Fits context old_rank
   pub lower : old_rank ≤ tall part + 1

@@ -13,13 +13,13 @@ use Rattle.timer_tree.specs.declared.add.Place.{Place}
 
 -- a node has got another rank, and the repair goes on at its parent
 abbrev pub gone_on : List Node → Unbalanced → Node → ℕ → List Node × Unbalanced
-gone_on xs r node rank = (xs, record { root = r.root; at = node.parent; child = record { root = r.at; rank = rank } })
+gone_on xs r node rank = (xs, record { root = r.root; at = node.parent; child = r.at; rank = rank })
 
 -- a rotated subtree is linked to its parent, and the repair goes on there where the rank has changed
 abbrev pub moved_up : List Node × Top → Unbalanced → Node → List Node × Unbalanced
 moved_up done r node =
     let linked = if nat_eq done.1.root r.at then (done.0, r.root) else relinked done.0 r.root node.parent r.at done.1.root in
-    (linked.0, record { root = linked.1; at = if nat_eq done.1.rank node.rank then none else node.parent; child = done.1 })
+    (linked.0, record { root = linked.1; at = if nat_eq done.1.rank node.rank then none else node.parent; child = done.1.root; rank = done.1.rank })
 
 -- the tree is rotated at a node
 unfoldable pub rotated_up : List Node → Side → Unbalanced → Node → ℕ → List Node × Unbalanced
@@ -28,7 +28,7 @@ rotated_up xs side r node high = moved_up (rotated xs side (record { n = r.at; n
 -- a node that its subtree on a side has come up to
 unfoldable pub raised : List Node → Side → Unbalanced → Node → List Node × Unbalanced
 raised xs side r node =
-    if nat_eq ((node_at xs (far side node)).rank + 1) node.rank then gone_on (ranked xs r.at (next node.rank)) r node (next node.rank) else rotated_up xs side r node r.child.root
+    if nat_eq ((node_at xs (far side node)).rank + 1) node.rank then gone_on (ranked xs r.at (next node.rank)) r node (next node.rank) else rotated_up xs side r node r.child
 
 -- a node that has its subtree on a side three lower
 unfoldable pub sunk : List Node → Side → Unbalanced → Node → List Node × Unbalanced
@@ -38,13 +38,13 @@ sunk xs side r node =
 -- a node whose subtree on a side has risen or sunk by one
 unfoldable pub stepped : List Node → Side → Unbalanced → Node → List Node × Unbalanced
 stepped xs side r node =
-    if nat_le node.rank r.child.rank then raised xs side r node
-    else (if nat_lt 2 (node.rank - r.child.rank) then sunk xs side r node
-    else (if is_high_leaf node then gone_on (ranked xs r.at 1) r node 1 else (xs, record { root = r.root; at = none; child = r.child })))
+    if nat_le node.rank r.rank then raised xs side r node
+    else (if nat_lt 2 (node.rank - r.rank) then sunk xs side r node
+    else (if is_high_leaf node then gone_on (ranked xs r.at 1) r node 1 else (xs, record { root = r.root; at = none; child = r.child; rank = r.rank })))
 
 -- one step of a repair
 unfoldable pub lifted : List Node → Unbalanced → List Node × Unbalanced
-lifted xs r = stepped xs (child_side (node_at xs r.at) r.child.root) r (node_at xs r.at)
+lifted xs r = stepped xs (child_side (node_at xs r.at) r.child) r (node_at xs r.at)
 
 -- a node with one more below it, on a side
 abbrev pub with_child : Node → Side → ℕ → Node

@@ -1,5 +1,5 @@
 -- The nodes of the block, one for each timer number below the room.
-use Rattle.std.specs.Prelude.{Bool, nat_eq, if◌then◌else◌, ◌&&◌, ◌≡◌, ℕ, ◌+◌, ◌-◌, ◌^◌, ◌<◌, List, length, min, slice_index_or}
+use Rattle.std.specs.Prelude.{Bool, nat_eq, if◌then◌else◌, ◌&&◌, ◌≡◌, ℕ, ◌+◌, ◌-◌, ◌^◌, ◌<◌, List, length, ◌%◌, slice_index_or}
 use Rattle.timer_tree.specs.declared.node.Node.{Node}
 use Rattle.timer_tree.specs.declared.node.Side.{Side}
 use Rattle.timer_tree.specs.declared.node.Side.TheVariants as sides
@@ -44,7 +44,7 @@ with_links sides.Right e a b p h = record { expires = e; left = b; right = a; pa
 
 -- one more, within 32 bits
 unfoldable pub next : ℕ → ℕ
-next h = min (h + 1) (2 ^ 32 - 1)
+next h = (h + 1) % 2 ^ 32
 
 -- the number of no node, or one below the room
 abbrev pub IsLink : ℕ → ℕ → Type 0

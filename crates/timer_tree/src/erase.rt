@@ -34,12 +34,22 @@ pub(crate) fn take_out<L: Ledger>(
         let root = splice(block, root, heir, steps);
         let root = substitute(block, root, id, heir, steps);
         let at = parent_of_gap(heir, id);
-        return Unbalanced { root, at, child };
+        return Unbalanced {
+            root,
+            at,
+            child: child.root,
+            rank: child.rank,
+        };
     }
     let at = node.parent;
     let child = only_child(node);
     let root = splice(block, root, Numbered { n: id, node }, steps);
-    Unbalanced { root, at, child }
+    Unbalanced {
+        root,
+        at,
+        child: child.root,
+        rank: child.rank,
+    }
 }
 
 /// The parent of the place that a node was taken from, once it has the place of this timer.

@@ -12,12 +12,13 @@ use crate::rotate::{Numbered, Top, rotate};
 use crate::steps::Steps;
 use std::sync::ledger::Ledger;
 
-/// A tree whose ranks may be wrong from one node upwards, with the balanced subtree below it that has changed.
+/// A tree whose ranks may be wrong from one node upwards, with the subtree below it that has changed, and its rank.
 #[derive(Clone, Copy)]
 pub(crate) struct Unbalanced {
     pub(crate) root: u32,
     pub(crate) at: u32,
-    pub(crate) child: Top,
+    pub(crate) child: u32,
+    pub(crate) rank: u32,
 }
 
 /// Rebalances the tree from a node upwards, as far as ranks change, and gives the root.
@@ -37,12 +38,13 @@ pub(crate) fn repair<L: Ledger>(block: &mut Block, broken: Unbalanced, steps: &m
 fn lift<L: Ledger>(block: &mut Block, rest: Unbalanced, steps: &mut Steps<L>) -> Unbalanced
     requires inside { rest.at < length block.old }
     requires small { length block.old ≤ none }
-    requires child { (node_at block.old rest.at).rank ≤ rest.child.rank → rest.child.root < length block.old }
+    requires child { (node_at block.old rest.at).rank ≤ rest.rank → rest.child < length block.old }
+    requires some { 0 < (node_at block.old rest.at).rank }
     ensures block { (block.new, result) ≡ lifted block.old rest }
     ensures steps { steps.new ≤ steps.old + 14 }
 {
     let node = block.read(rest.at, steps);
-    if node.left == rest.child.root {
+    if node.left == rest.child {
         step(block, Side::Left, rest, node, steps)
     } else {
         step(block, Side::Right, rest, node, steps)
@@ -63,13 +65,14 @@ fn step<L: Ledger>(
     requires small { length block.old ≤ none }
     requires node { node ≡ node_at block.old rest.at }
     requires links { HasLinks (length block.old) node }
-    requires child { node.rank ≤ rest.child.rank → rest.child.root < length block.old }
+    requires child { node.rank ≤ rest.rank → rest.child < length block.old }
+    requires some { 0 < node.rank }
     ensures block { (block.new, result) ≡ stepped block.old side rest node }
     ensures steps { steps.new ≤ steps.old + 13 }
 {
-    if node.rank <= rest.child.rank {
+    if node.rank <= rest.rank {
         raise(block, side, rest, node, steps)
-    } else if node.rank - rest.child.rank > 2 {
+    } else if node.rank - rest.rank > 2 {
         sink(block, side, rest, node, steps)
     } else if node.is_high_leaf() {
         go_on(block, rest, node, 1, steps)
@@ -78,6 +81,7 @@ fn step<L: Ledger>(
             root: rest.root,
             at: NONE,
             child: rest.child,
+            rank: rest.rank,
         }
     }
 }
@@ -96,16 +100,17 @@ fn raise<L: Ledger>(
     requires small { length block.old ≤ none }
     requires node { node ≡ node_at block.old rest.at }
     requires links { HasLinks (length block.old) node }
-    requires child { rest.child.root < length block.old }
+    requires child { rest.child < length block.old }
+    requires some { 0 < node.rank }
     ensures block { (block.new, result) ≡ raised block.old side rest node }
     ensures steps { steps.new ≤ steps.old + 13 }
 {
     let sibling = rank(block, node.far(side), steps);
-    if sibling < node.rank && sibling + 1 == node.rank {
-        let rank = node.rank.saturating_add(1);
+    if sibling == node.rank - 1 {
+        let rank = node.rank.wrapping_add(1);
         go_on(block, rest, node, rank, steps)
     } else {
-        rotate_up(block, side, rest, rest.child.root, steps)
+        rotate_up(block, side, rest, rest.child, steps)
     }
 }
 
@@ -129,7 +134,7 @@ fn sink<L: Ledger>(
 {
     let n = node.far(side);
     let sibling = rank(block, n, steps);
-    if sibling < node.rank && sibling + 1 == node.rank {
+    if sibling == node.rank - 1 {
         rotate_up(block, side.other(), rest, n, steps)
     } else {
         go_on(block, rest, node, node.rank - 1, steps)
@@ -154,7 +159,8 @@ fn go_on<L: Ledger>(
     Unbalanced {
         root,
         at: node.parent,
-        child: Top { root: at, rank },
+        child: at,
+        rank,
     }
 }
 
@@ -176,16 +182,17 @@ fn rotate_up<L: Ledger>(
 {
     let Unbalanced { root, at, .. } = rest;
     let node = block.read(at, steps);
-    let child = rotate(block, side, Numbered { n: at, node }, high, steps);
-    let root = if child.root == at {
+    let Top { root: child, rank } = rotate(block, side, Numbered { n: at, node }, high, steps);
+    let root = if child == at {
         root
     } else {
-        relink(block, root, node.parent, at, child.root, steps)
+        relink(block, root, node.parent, at, child, steps)
     };
-    let at = if child.rank == node.rank {
-        NONE
-    } else {
-        node.parent
-    };
-    Unbalanced { root, at, child }
+    let at = if rank == node.rank { NONE } else { node.parent };
+    Unbalanced {
+        root,
+        at,
+        child,
+        rank,
+    }
 }

@@ -102,8 +102,8 @@ fn rotate_once<L: Ledger>(
     ensures top { result.root < length block.old }
     ensures steps { steps.new ≤ steps.old + 3 }
 {
-    let below = inner.rank.saturating_add(1);
-    let rank = below.saturating_add(1).max(low.node.rank);
+    let below = inner.rank.wrapping_add(1);
+    let rank = below.wrapping_add(1).max(low.node.rank);
     adopt(block, inner.root, low.n, steps);
     let lowered = low
         .node

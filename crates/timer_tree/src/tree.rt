@@ -10,7 +10,6 @@ use crate::block::Block;
 use crate::erase::take_out;
 use crate::node::{NONE, Node, Side};
 use crate::repair::{Unbalanced, repair};
-use crate::rotate::Top;
 use crate::steps::Steps;
 use std::alloc::{AllocError, Global};
 use std::marker::{Brand, Model};
@@ -51,7 +50,8 @@ impl TimerTree {
         let broken = Unbalanced {
             root,
             at: place.parent,
-            child: Top { root: id, rank: 1 },
+            child: id,
+            rank: 1,
         };
         self.root = repair(&mut self.block, broken, steps);
     }

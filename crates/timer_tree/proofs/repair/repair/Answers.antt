@@ -21,4 +21,4 @@ lift-rest-requires g c =
     let start = c.requires in
     let so_far = c.loop-rest.invariant start.0 start.1 start.2 in
     let can = can_lift c.loop-rest.block c.loop-rest.rest start.0 so_far.left c.loop-rest-test.true so_far.can in
-    record { inside = can.inside; small = so_far.can.small; child = can.child }
+    record { inside = can.inside; small = so_far.can.small; child = can.child; some = can.some }
