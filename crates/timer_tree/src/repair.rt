@@ -22,11 +22,38 @@ pub(crate) struct Unbalanced {
 }
 
 /// Rebalances the tree from a node upwards, as far as ranks change, and gives the root.
+#[inline(always)]
 pub(crate) fn repair<L: Ledger>(block: &mut Block, broken: Unbalanced, steps: &mut Steps<L>) -> u32
     requires { (ps : List (ℕ × ℕ)) × (levels : ℕ) × CanRepair block.old broken ps levels }
     ensures { (ps : List (ℕ × ℕ)) (levels : ℕ) → CanRepair block.old broken ps levels → IsRepaired block.old block.new result ps levels steps.old steps.new }
 {
-    let mut rest = broken;
+    let Unbalanced {
+        root,
+        at,
+        child,
+        rank,
+    } = broken;
+    climb(block, root, at, child, rank, steps)
+}
+
+/// The repair, with what it begins with as plain numbers.
+fn climb<L: Ledger>(
+    block: &mut Block,
+    root: u32,
+    at: u32,
+    child: u32,
+    rank: u32,
+    steps: &mut Steps<L>,
+) -> u32
+    requires { (ps : List (ℕ × ℕ)) × (levels : ℕ) × CanRepair block.old (record { root = root; at = at; child = child; rank = rank }) ps levels }
+    ensures { (ps : List (ℕ × ℕ)) (levels : ℕ) → CanRepair block.old (record { root = root; at = at; child = child; rank = rank }) ps levels → IsRepaired block.old block.new result ps levels steps.old steps.new }
+{
+    let mut rest = Unbalanced {
+        root,
+        at,
+        child,
+        rank,
+    };
     while rest.at != NONE {
         rest = lift(block, rest, steps);
     }

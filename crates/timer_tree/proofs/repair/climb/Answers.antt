@@ -1,5 +1,5 @@
 use Rattle.timer_tree.proofs.Lifts.{can_lift, repairing_step, repairing_smaller, repairing_end, repairing_start}
-use Rattle.timer_tree.proofs.repair.repair.Goals as goal
+use Rattle.timer_tree.proofs.repair.climb.Goals as goal
 
 pub loop-rest-smaller : goal.loop-rest-smaller
 loop-rest-smaller g c =
@@ -11,7 +11,7 @@ pub loop-rest-preserved : goal.loop-rest-preserved
 loop-rest-preserved g c = λ ps levels can. repairing_step c.args.block.now c.loop-rest.block c.lift-rest.new.block c.loop-rest.rest c.lift-rest.result ps levels c.args.steps.now c.loop-rest.steps c.lift-rest.new.steps (c.loop-rest.invariant ps levels can) c.loop-rest-test.true c.lift-rest.ensures.block c.lift-rest.ensures.steps
 
 pub loop-rest-init : goal.loop-rest-init
-loop-rest-init g c = λ ps levels can. repairing_start c.args.block.now c.args.broken ps levels c.args.steps.now can
+loop-rest-init g c = λ ps levels can. repairing_start c.args.block.now (record { root = c.args.root; at = c.args.at; child = c.args.child; rank = c.args.rank }) ps levels c.args.steps.now can
 
 pub returns : goal.returns
 returns g c = λ ps levels can. repairing_end c.args.block.now c.loop-rest.block c.loop-rest.rest ps levels c.args.steps.now c.loop-rest.steps (c.loop-rest.invariant ps levels can) c.loop-rest-test.false
