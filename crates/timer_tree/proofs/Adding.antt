@@ -6,7 +6,7 @@ use Rattle.timer_queue.proofs.Pairs.{IsQueue-put, length-le_room}
 use Rattle.timer_tree.specs.Nodes.{none, node_at, with_links}
 use Rattle.timer_tree.specs.Moves.{inserted, with_child}
 use Rattle.timer_tree.specs.Trees.{Tree, Leaf, Fork, top, pairs, Stands, IsStored, one, times, first_id, queue_at}
-use Rattle.timer_tree.specs.Contexts.{Frame, plug, above, root_of, IsAround, around, before, after, ahead, behind, KeepsOthers, CanRepair, IsRepaired}
+use Rattle.timer_tree.specs.Contexts.{Frame, plug, parent_of, root_of, IsAround, around, before, after, ahead, behind, KeepsOthers, CanRepair, IsRepaired}
 use Rattle.timer_tree.specs.Places.{first_on, first_with, IsHole, IsPlace}
 use Rattle.timer_tree.proofs.Trees.{node_at-set_same, node_at-set_other, Stands-set_same, Stands-set_other, times-append, times-plug, one_same, one_apart, IsAround-agree, IsAt-set, pairs-plug, plug-balanced}
 use Rattle.timer_tree.proofs.Puts.{times-put}
@@ -24,12 +24,12 @@ with_child-with_links sides.Right e b p h id = refl
 -- the context, with the new node in its hole
 record Inserted (xs : List Node) (c : List Frame) (expires id : ℕ) (new : List Node × ℕ) : Type 0 where
   at : IsAround new.0 id c
-  stands : Stands new.0 id (record { expires = expires; left = none; right = none; parent = above c; rank = 1 })
+  stands : Stands new.0 id (record { expires = expires; left = none; right = none; parent = parent_of c; rank = 1 })
   root_is : new.1 ≡ root_of id c
   rest : (k : ℕ) → times k (around c) ≡ 0 → (k ≡ id → ⊥) → node_at new.0 k ≡ node_at xs k
   size : length new.0 ≡ length xs
 
-inserted_at : (xs : List Node) (root : ℕ) (place : Place) (expires id : ℕ) (c : List Frame) → length xs ≤ none → id < length xs → times id (around c) ≡ 0 → ((k : ℕ) → times k (around c) ≤ 1) → IsHole place c → IsAround xs none c → root ≡ root_of none c → Inserted xs c expires id (inserted xs root (record { parent = above c; side = place.side }) expires id)
+inserted_at : (xs : List Node) (root : ℕ) (place : Place) (expires id : ℕ) (c : List Frame) → length xs ≤ none → id < length xs → times id (around c) ≡ 0 → ((k : ℕ) → times k (around c) ≤ 1) → IsHole place c → IsAround xs none c → root ≡ root_of none c → Inserted xs c expires id (inserted xs root (record { parent = parent_of c; side = place.side }) expires id)
 unfolding inserted
 inserted_at xs root place expires id [] small inside gone once hole linked root_is =
     let node : Node = record { expires = expires; left = none; right = none; parent = none; rank = 1 } in
@@ -48,7 +48,7 @@ inserted_at xs root place expires id (f ∷ c) small inside gone once hole linke
     let sum : (k : ℕ) → times k (around (f ∷ c)) ≡ one k f.n + times k (pairs f.other) + times k (around c) = λ k. omega (arith, times-append k (pairs f.other) (around c)) in
     let apart : f.n ≡ id → ⊥ = λ same. omega (arith, one_same id, sum id, gone, ap (λ k. one id k) same) in
     let kept = IsAround-agree xs ys none (f ∷ c) (length-set xs id node) (λ k some. node_at-set_other xs id k node (λ same. omega (arith, gone, some, ap (λ j. times j (around (f ∷ c))) same))) linked in
-    let is : new ≡ with_links f.side f.e id (top f.other) (above c) f.h = ap (λ s. with_child (node_at ys f.n) s id) hole.side ∙ ap (λ x. with_child x f.side id) kept.0.is ∙ with_child-with_links f.side f.e (top f.other) (above c) f.h id in
+    let is : new ≡ with_links f.side f.e id (top f.other) (parent_of c) f.h = ap (λ s. with_child (node_at ys f.n) s id) hole.side ∙ ap (λ x. with_child x f.side id) kept.0.is ∙ with_child-with_links f.side f.e (top f.other) (parent_of c) f.h id in
     let some : nat_eq f.n none ≡ false = ne_eqb f.n none (λ same. omega (arith, same, linked.0.inside, small)) in
     subst (λ b. Inserted xs (f ∷ c) expires id (if b then (ys, id) else (zs, root))) (sym some) (record {
       at = (
@@ -82,7 +82,7 @@ inserted_can xs root first place expires id ps old steps new stored absent insid
       record {
         unbalanced = record {
           context = c;
-          part = Fork Leaf id expires 1 Leaf;
+          subtree = Fork Leaf id expires 1 Leaf;
           old_rank = 0;
           linked = done.at;
           under = (done.stands, tt, tt);
@@ -115,7 +115,7 @@ first_right [] [] qs p q = refl
 first_right [] (o ∷ os) qs p q = refl
 first_right (r ∷ ps) os qs p q = refl
 
--- a timer in the hole of a context is the first where the first one was just above it on the right
+-- a timer in the hole of a context is the first where the first one was its parent on the right
 first_frame : (s : Side) (other : Tree) (c : List Frame) (e n first id expires : ℕ) → times n (before c) ≡ 0 → first ≡ first_id ((before c ++ ahead s other (e, n)) ++ (behind s other (e, n) ++ after c)) →
     first_on s n first id ≡ first_id ((before c ++ ahead s other (e, n)) ++ (expires, id) ∷ (behind s other (e, n) ++ after c))
 first_frame sides.Left other c e n first id expires gone is =

@@ -6,7 +6,7 @@ use Rattle.timer_queue.specs.Pairs.{without, has_id, IsQueue}
 use Rattle.timer_queue.proofs.Pairs.{IsQueue-without, length-le_room}
 use Rattle.timer_tree.specs.Nodes.{none, node_at}
 use Rattle.timer_tree.specs.Trees.{Tree, Leaf, Fork, top, tall, pairs, IsAt, IsBalanced, IsStored, one, times, first_id, queue_at}
-use Rattle.timer_tree.specs.Contexts.{Frame, above, around, before, after, ahead, behind, IsUnbalanced, CanRepair, IsRepaired}
+use Rattle.timer_tree.specs.Contexts.{Frame, parent_of, around, before, after, ahead, behind, IsUnbalanced, CanRepair, IsRepaired}
 use Rattle.timer_tree.specs.Takes.{IsTaking, IsTaken}
 use Rattle.timer_tree.proofs.Trees.{node_at-set_same, node_at-set_other, times-append, times-plug, one_same, IsAt-set, IsAround-agree, pairs-plug, tall-le, inside_at}
 use Rattle.timer_tree.proofs.Stores.{times-le, queue_again, queue_at-is, present_times}
@@ -23,7 +23,7 @@ first_behind sides.Left f c nothing = refl
 first_behind sides.Right f c nothing =
     let never : ⊥ = omega (arith, ap length nothing, length-append (before c) (pairs f.other ++ (f.e, f.n) ∷ []), length-append (pairs f.other) ((f.e, f.n) ∷ [])) in absurd never
 
-first_after : (c : List Frame) → before c ≡ [] → first_id (after c) ≡ above c
+first_after : (c : List Frame) → before c ≡ [] → first_id (after c) ≡ parent_of c
 first_after [] nothing = refl
 first_after (f ∷ c) nothing = first_behind f.side f c nothing
 
@@ -40,10 +40,10 @@ first_stays : (ps qs : List (ℕ × ℕ)) (e id : ℕ) → (first_id (ps ++ (e, 
 first_stays [] qs e id other = absurd (other refl)
 first_stays (p ∷ ps) qs e id other = refl
 
--- a part of rank one at most has its first node at the top
-low_first : (xs : List Node) (p : ℕ) (r : Tree) (c : List Frame) → length xs ≤ none → IsAt xs p r → IsBalanced r → tall r ≤ 1 → before c ≡ [] → first_id (pairs r ++ after c) ≡ (if nat_eq (top r) none then above c else top r)
+-- a subtree of rank one at most has its first node at the top
+low_first : (xs : List Node) (p : ℕ) (r : Tree) (c : List Frame) → length xs ≤ none → IsAt xs p r → IsBalanced r → tall r ≤ 1 → before c ≡ [] → first_id (pairs r ++ after c) ≡ (if nat_eq (top r) none then parent_of c else top r)
 low_first xs p Leaf c small at balanced low nothing = first_after c nothing
-low_first xs p (Fork Leaf m f g b) c small at balanced low nothing = sym (ap (λ x. if x then above c else m) (ne_eqb m none (λ same. omega (arith, same, at.0.inside, small))))
+low_first xs p (Fork Leaf m f g b) c small at balanced low nothing = sym (ap (λ x. if x then parent_of c else m) (ne_eqb m none (λ same. omega (arith, same, at.0.inside, small))))
 low_first xs p (Fork (Fork a m' f' g' b') m f g b) c small at balanced low nothing = let never : ⊥ = omega (arith, balanced.0.below_a, balanced.1.0.below_a, low) in absurd never
 
 pub erased_first : (xs : List Node) (root first id : ℕ) (node : Node) (ps : List (ℕ × ℕ)) (new_first : ℕ) → (taking : IsTaking xs root id ps) → first ≡ first_id ps → node ≡ node_at xs id → new_first ≡ (if nat_eq first id then (if nat_eq node.right none then node.parent else node.right) else first) → new_first ≡ first_id (without id ps)
@@ -87,14 +87,14 @@ other_times k id ps apart = times-without k id ps ∙ ap (λ b. if b then 0 else
 unbalanced_kept : (xs : List Node) (r : Unbalanced) (ps : List (ℕ × ℕ)) (levels n : ℕ) (node : Node) → times n ps ≡ 0 → IsUnbalanced xs r ps levels → IsUnbalanced (slice_set xs n node) r ps levels
 unbalanced_kept xs r ps levels n node gone broken =
     let c = broken.context in
-    let t = broken.part in
+    let t = broken.subtree in
     let sum : times n ps ≡ times n (pairs t) + times n (around c) = subst (λ qs. times n qs ≡ times n (pairs t) + times n (around c)) broken.pairs_are (times-plug n c t) in
     record {
       context = c;
-      part = t;
+      subtree = t;
       old_rank = broken.old_rank;
       linked = IsAround-agree xs (slice_set xs n node) (top t) c (length-set xs n node) (λ k some. node_at-set_other xs n k node (λ same. omega (arith, sum, gone, some, ap (λ j. times j (around c)) same))) broken.linked;
-      under = IsAt-set xs n node (above c) t (omega (arith, sum, gone)) broken.under;
+      under = IsAt-set xs n node (parent_of c) t (omega (arith, sum, gone)) broken.under;
       root_is = broken.root_is;
       at_is = broken.at_is;
       child_is = broken.child_is;

@@ -6,7 +6,7 @@ use Rattle.timer_queue.specs.Pairs.{put, IsByExpiry}
 use Rattle.timer_queue.proofs.Pairs.{AllByRecursion-follows}
 use Rattle.timer_tree.specs.Nodes.{none, node_at, near}
 use Rattle.timer_tree.specs.Trees.{Tree, Leaf, Fork, top, tall, pairs, IsAt, IsBalanced}
-use Rattle.timer_tree.specs.Contexts.{Frame, plug, above, root_of, IsAround, before, after, Fits}
+use Rattle.timer_tree.specs.Contexts.{Frame, plug, parent_of, root_of, IsAround, before, after, Fits}
 use Rattle.timer_tree.specs.Places.{side_of, IsHole, IsFinding, IsPlace, IsSearched}
 use Rattle.timer_tree.proofs.Trees.{rank_at, turn_ranks, pairs-plug}
 use Rattle.timer_tree.proofs.Puts.{put_left, put_right, up_to, IsByExpiry-behind}
@@ -16,13 +16,13 @@ use Rattle.timer_tree.specs.declared.node.Side.TheVariants as sides
 use Rattle.timer_tree.specs.declared.add.Place.{Place}
 
 -- a step to the left
-left_at : (xs : List Node) (root expires : ℕ) (ps : List (ℕ × ℕ)) (old steps : ℕ) (c : List Frame) (l : Tree) (n e h : ℕ) (r : Tree) → expires < e → IsAround xs n c → IsAt xs (above c) (Fork l n e h r) → root ≡ root_of n c → IsBalanced (Fork l n e h r) → Fits c h → pairs (plug c (Fork l n e h r)) ≡ ps → ((id : ℕ) → put expires id ps ≡ before c ++ (put expires id (pairs l ++ (e, n) ∷ pairs r) ++ after c)) → steps ≡ old + length c →
+left_at : (xs : List Node) (root expires : ℕ) (ps : List (ℕ × ℕ)) (old steps : ℕ) (c : List Frame) (l : Tree) (n e h : ℕ) (r : Tree) → expires < e → IsAround xs n c → IsAt xs (parent_of c) (Fork l n e h r) → root ≡ root_of n c → IsBalanced (Fork l n e h r) → Fits c h → pairs (plug c (Fork l n e h r)) ≡ ps → ((id : ℕ) → put expires id ps ≡ before c ++ (put expires id (pairs l ++ (e, n) ∷ pairs r) ++ after c)) → steps ≡ old + length c →
     IsFinding xs root (record { parent = n; side = sides.Left }) (top l) expires ps old (steps + 1)
 left_at xs root expires ps old steps c l n e h r less linked under root_is balanced fits pairs_are puts count =
     let f : Frame = record { side = sides.Left; n = n; e = e; h = h; other = r } in
     record {
       context = f ∷ c;
-      part = l;
+      subtree = l;
       linked = (under.0, under.2, linked);
       under = under.1;
       at_is = refl;
@@ -36,7 +36,7 @@ left_at xs root expires ps old steps c l n e h r less linked under root_is balan
     }
 
 -- a step to the right
-right_at : (xs : List Node) (root expires : ℕ) (ps : List (ℕ × ℕ)) (old steps : ℕ) (c : List Frame) (l : Tree) (n e h : ℕ) (r : Tree) → e ≤ expires → IsByExpiry ps → IsAround xs n c → IsAt xs (above c) (Fork l n e h r) → root ≡ root_of n c → IsBalanced (Fork l n e h r) → Fits c h → pairs (plug c (Fork l n e h r)) ≡ ps → ((id : ℕ) → put expires id ps ≡ before c ++ (put expires id (pairs l ++ (e, n) ∷ pairs r) ++ after c)) → steps ≡ old + length c →
+right_at : (xs : List Node) (root expires : ℕ) (ps : List (ℕ × ℕ)) (old steps : ℕ) (c : List Frame) (l : Tree) (n e h : ℕ) (r : Tree) → e ≤ expires → IsByExpiry ps → IsAround xs n c → IsAt xs (parent_of c) (Fork l n e h r) → root ≡ root_of n c → IsBalanced (Fork l n e h r) → Fits c h → pairs (plug c (Fork l n e h r)) ≡ ps → ((id : ℕ) → put expires id ps ≡ before c ++ (put expires id (pairs l ++ (e, n) ∷ pairs r) ++ after c)) → steps ≡ old + length c →
     IsFinding xs root (record { parent = n; side = sides.Right }) (top r) expires ps old (steps + 1)
 right_at xs root expires ps old steps c l n e h r more sorted linked under root_is balanced fits pairs_are puts count =
     let f : Frame = record { side = sides.Right; n = n; e = e; h = h; other = l } in
@@ -46,7 +46,7 @@ right_at xs root expires ps old steps c l n e h r more sorted linked under root_
     let not_before : (id : ℕ) → put expires id ((e, n) ∷ pairs r) ≡ (e, n) ∷ put expires id (pairs r) = λ id. put_right expires id ((e, n) ∷ []) (pairs r) (more, tt) in
     record {
       context = f ∷ c;
-      part = r;
+      subtree = r;
       linked = (under.0, under.1, linked);
       under = under.2;
       at_is = refl;
@@ -64,11 +64,11 @@ abbrev pub Down : List Node → ℕ → ℕ → ℕ → List (ℕ × ℕ) → �
 Down xs root at expires ps old steps node side =
     IsFinding xs root (record { parent = at; side = side }) (near side node) expires ps old steps × ((node_at xs (near side node)).rank < node.rank)
 
-down_at : (xs : List Node) (root expires : ℕ) (ps : List (ℕ × ℕ)) (old steps : ℕ) (c : List Frame) (t : Tree) → (top t ≡ none → ⊥) → IsByExpiry ps → length xs ≤ none → IsAround xs (top t) c → IsAt xs (above c) t → root ≡ root_of (top t) c → IsBalanced t → Fits c (tall t) → pairs (plug c t) ≡ ps → ((id : ℕ) → put expires id ps ≡ before c ++ (put expires id (pairs t) ++ after c)) → steps ≡ old + length c →
+down_at : (xs : List Node) (root expires : ℕ) (ps : List (ℕ × ℕ)) (old steps : ℕ) (c : List Frame) (t : Tree) → (top t ≡ none → ⊥) → IsByExpiry ps → length xs ≤ none → IsAround xs (top t) c → IsAt xs (parent_of c) t → root ≡ root_of (top t) c → IsBalanced t → Fits c (tall t) → pairs (plug c t) ≡ ps → ((id : ℕ) → put expires id ps ≡ before c ++ (put expires id (pairs t) ++ after c)) → steps ≡ old + length c →
     Down xs root (top t) expires ps old (steps + 1) (node_at xs (top t)) (side_of expires (node_at xs (top t)).expires)
 down_at xs root expires ps old steps c Leaf some sorted small linked under root_is balanced fits pairs_are puts count = absurd (some refl)
 down_at xs root expires ps old steps c (Fork l n e h r) some sorted small linked under root_is balanced fits pairs_are puts count =
-    let node : Node = record { expires = e; left = top l; right = top r; parent = above c; rank = h } in
+    let node : Node = record { expires = e; left = top l; right = top r; parent = parent_of c; rank = h } in
     subst (λ (x : Node). Down xs root n expires ps old (steps + 1) x (side_of expires x.expires)) (sym under.0.is)
     (elim (nat_lt expires e) as (λ b. nat_lt expires e ≡ b → Down xs root n expires ps old (steps + 1) node (if b then sides.Left else sides.Right)) [
       | true ↦ λ less. (left_at xs root expires ps old steps c l n e h r (ltb-true _ _ less) linked under root_is balanced fits pairs_are puts count, omega (arith, rank_at xs n l small under.1, balanced.0.below_a))
@@ -77,7 +77,7 @@ down_at xs root expires ps old steps c (Fork l n e h r) some sorted small linked
 
 pub finding_down : (xs : List Node) (root : ℕ) (place : Place) (at expires : ℕ) (ps : List (ℕ × ℕ)) (old steps new : ℕ) (node : Node) (side : Side) → IsSearched xs root ps → (at ≡ none → ⊥) → IsFinding xs root place at expires ps old steps → node ≡ node_at xs at → new ≡ steps + 1 → side ≡ side_of expires node.expires → Down xs root at expires ps old new node side
 finding_down xs root place at expires ps old steps new node side searched some so_far is one_more side_is =
-    let down = down_at xs root expires ps old steps so_far.context so_far.part (λ same. some (so_far.at_is ∙ same)) searched.by_expiry searched.small so_far.linked so_far.under so_far.root_is so_far.balanced so_far.fits so_far.pairs_are so_far.puts so_far.count in
+    let down = down_at xs root expires ps old steps so_far.context so_far.subtree (λ same. some (so_far.at_is ∙ same)) searched.by_expiry searched.small so_far.linked so_far.under so_far.root_is so_far.balanced so_far.fits so_far.pairs_are so_far.puts so_far.count in
     subst (λ s. Down xs root at expires ps old new node s) (sym side_is)
     (subst (λ k. Down xs root at expires ps old k node (side_of expires node.expires)) (sym one_more)
     (subst (λ (x : Node). Down xs root at expires ps old (steps + 1) x (side_of expires x.expires)) (sym is)
@@ -89,22 +89,22 @@ top_inside xs p Leaf some at = absurd (some refl)
 top_inside xs p (Fork l n e h r) some at = at.0.inside
 
 pub finding_inside : (xs : List Node) (root : ℕ) (place : Place) (at expires : ℕ) (ps : List (ℕ × ℕ)) (old steps : ℕ) → (at ≡ none → ⊥) → IsFinding xs root place at expires ps old steps → at < length xs
-finding_inside xs root place at expires ps old steps some so_far = subst (λ k. k < length xs) (sym so_far.at_is) (top_inside xs (above so_far.context) so_far.part (λ same. some (so_far.at_is ∙ same)) so_far.under)
+finding_inside xs root place at expires ps old steps some so_far = subst (λ k. k < length xs) (sym so_far.at_is) (top_inside xs (parent_of so_far.context) so_far.subtree (λ same. some (so_far.at_is ∙ same)) so_far.under)
 
-found_at : (xs : List Node) (root : ℕ) (place : Place) (expires : ℕ) (ps : List (ℕ × ℕ)) (old steps : ℕ) (c : List Frame) (t : Tree) → top t ≡ none → length xs ≤ none → IsAround xs (top t) c → IsAt xs (above c) t → root ≡ root_of (top t) c → IsHole place c → Fits c (tall t) → pairs (plug c t) ≡ ps → ((id : ℕ) → put expires id ps ≡ before c ++ (put expires id (pairs t) ++ after c)) → steps ≡ old + length c → IsPlace xs root place expires ps old steps
+found_at : (xs : List Node) (root : ℕ) (place : Place) (expires : ℕ) (ps : List (ℕ × ℕ)) (old steps : ℕ) (c : List Frame) (t : Tree) → top t ≡ none → length xs ≤ none → IsAround xs (top t) c → IsAt xs (parent_of c) t → root ≡ root_of (top t) c → IsHole place c → Fits c (tall t) → pairs (plug c t) ≡ ps → ((id : ℕ) → put expires id ps ≡ before c ++ (put expires id (pairs t) ++ after c)) → steps ≡ old + length c → IsPlace xs root place expires ps old steps
 found_at xs root place expires ps old steps c Leaf end small linked under root_is hole fits pairs_are puts count = record { context = c; linked = linked; root_is = root_is; hole = hole; fits = fits; pairs_are = pairs_are; puts = puts; count = count }
 found_at xs root place expires ps old steps c (Fork l n e h r) end small linked under root_is hole fits pairs_are puts count = let never : ⊥ = omega (arith, end, under.0.inside, small) in absurd never
 
 pub finding_end : (xs : List Node) (root : ℕ) (place : Place) (at expires : ℕ) (ps : List (ℕ × ℕ)) (old steps : ℕ) → IsSearched xs root ps → at ≡ none → IsFinding xs root place at expires ps old steps → IsPlace xs root place expires ps old steps
 finding_end xs root place at expires ps old steps searched end so_far =
-    found_at xs root place expires ps old steps so_far.context so_far.part (sym so_far.at_is ∙ end) searched.small so_far.linked so_far.under so_far.root_is so_far.hole so_far.fits so_far.pairs_are so_far.puts so_far.count
+    found_at xs root place expires ps old steps so_far.context so_far.subtree (sym so_far.at_is ∙ end) searched.small so_far.linked so_far.under so_far.root_is so_far.hole so_far.fits so_far.pairs_are so_far.puts so_far.count
 
 pub finding_start : (xs : List Node) (root expires : ℕ) (ps : List (ℕ × ℕ)) (steps : ℕ) → IsSearched xs root ps → IsFinding xs root (record { parent = none; side = sides.Left }) root expires ps steps steps
 finding_start xs root expires ps steps searched =
     let t = searched.tree.tree in
     record {
       context = [];
-      part = t;
+      subtree = t;
       linked = tt;
       under = searched.tree.at;
       at_is = searched.tree.root_is;

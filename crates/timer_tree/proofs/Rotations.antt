@@ -1,4 +1,4 @@
--- What rebalancing a node makes of the part of the tree below it.
+-- What rebalancing a node makes of the subtree of the tree below it.
 use Rattle.std.proofs.Common.{◌≡◌, ℕ, ◌+◌, ◌<◌, ◌≤◌, List, ◌∷◌, ◌++◌, length, arith, refl, ap, ◌∙◌, sym, subst, length-set, slice_set, max, append_assoc}
 use Rattle.timer_tree.specs.Nodes.{none, node_at, with_links, next}
 use Rattle.timer_tree.specs.Links.{adopted}
@@ -10,7 +10,7 @@ use Rattle.timer_tree.specs.declared.node.Node.{Node}
 use Rattle.timer_tree.specs.declared.node.Side.{Side}
 use Rattle.timer_tree.specs.declared.node.Side.TheVariants as sides
 
--- one part of a tree has become another, and no node outside has changed
+-- one subtree of a tree has become another, and no node outside has changed
 pub record Moved (xs ys : List Node) (p : ℕ) (t u : Tree) : Type 0 where
   pub at : IsAt ys p u
   pub rest : (k : ℕ) → times k (pairs t) ≡ 0 → node_at ys k ≡ node_at xs k
@@ -19,7 +19,7 @@ pub record Moved (xs ys : List Node) (p : ℕ) (t u : Tree) : Type 0 where
 abbrev pub Once : Tree → Type 0
 Once t = (k : ℕ) → times k (pairs t) ≤ 1
 
--- the part before and after a single turn, with any ranks
+-- the subtree before and after a single rotation, with any ranks
 abbrev pub high : Side → (a b c : Tree) → (n e h m f g : ℕ) → Tree
 high s a b c n e h m f g = fork s (fork s a m f g b) n e h c
 
@@ -65,7 +65,7 @@ once_moved xs s a b c n e h m f g p i j small once at =
       size = omega (arith, length-set zs m new, size_z, size);
     }
 
--- the part before and after a double turn
+-- the subtree before and after a double rotation
 abbrev pub bent : Side → (a b d c : Tree) → (n e h m f g k i j : ℕ) → Tree
 bent s a b d c n e h m f g k i j = fork s (fork s a m f g (fork s b k i j d)) n e h c
 
@@ -112,10 +112,10 @@ twice_moved xs s a b d c n e h m f g k i j p o q small once at =
     let size_w = length-set vs n low in
     let size_y = length-set ws m raised in
     let small_u : length us ≤ none = omega (arith, size_u, small) in
-    let after_sets : (t : Tree) (r : ℕ) → ((x : ℕ) → times x (pairs t) ≤ times x (pairs a) + times x (pairs b) + times x (pairs d) + times x (pairs c)) → IsAt vs r t → IsAt zs r t = λ t r part at_t.
-    let gone_n : times n (pairs t) ≡ 0 = omega (arith, part n, sum n, once n, one_same n) in
-    let gone_m : times m (pairs t) ≡ 0 = omega (arith, part m, sum m, once m, one_same m) in
-    let gone_k : times k (pairs t) ≡ 0 = omega (arith, part k, sum k, once k, one_same k) in
+    let after_sets : (t : Tree) (r : ℕ) → ((x : ℕ) → times x (pairs t) ≤ times x (pairs a) + times x (pairs b) + times x (pairs d) + times x (pairs c)) → IsAt vs r t → IsAt zs r t = λ t r subtree at_t.
+    let gone_n : times n (pairs t) ≡ 0 = omega (arith, subtree n, sum n, once n, one_same n) in
+    let gone_m : times m (pairs t) ≡ 0 = omega (arith, subtree m, sum m, once m, one_same m) in
+    let gone_k : times k (pairs t) ≡ 0 = omega (arith, subtree k, sum k, once k, one_same k) in
     IsAt-set ys k new r t gone_k (IsAt-set ws m raised r t gone_m (IsAt-set vs n low r t gone_n at_t)) in
     let kept : (t : Tree) (r : ℕ) → ((x : ℕ) → 0 < times x (pairs t) → (times x (pairs b) ≡ 0) × (times x (pairs d) ≡ 0)) → IsAt xs r t → IsAt vs r t = λ t r apart at_t.
     IsAt-agree xs vs r t (omega (arith, size_u, size_v)) (λ x some. adopted_other us m n d x small_u (apart x some).1 ∙ adopted_other xs k m b x small (apart x some).0) at_t in

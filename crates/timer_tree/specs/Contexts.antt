@@ -1,4 +1,4 @@
--- A tree with a hole in it: what stands above a part, from the nearest node to the root.
+-- A tree with a hole in it: what stands above a subtree, from the nearest node to the root.
 use Rattle.std.specs.Prelude.{ℕ, ◌+◌, ◌*◌, ◌≤◌, ◌≡◌, List, [], ◌∷◌, ◌++◌, length}
 use Rattle.timer_tree.specs.Nodes.{none, with_links, node_at}
 use Rattle.timer_tree.specs.Trees.{Tree, Fork, top, tall, pairs, IsAt, HasRank, IsBalanced, IsTree, Stands, times}
@@ -7,12 +7,12 @@ use Rattle.timer_tree.specs.declared.repair.Unbalanced.{Unbalanced}
 use Rattle.timer_tree.specs.declared.node.Side.{Side}
 use Rattle.timer_tree.specs.declared.node.Side.TheVariants as sides
 
--- a node between a part on a side and one on the other
+-- a node between a subtree on a side and one on the other
 abbrev pub fork : Side → Tree → (n e h : ℕ) → Tree → Tree
 fork sides.Left a n e h b = Fork a n e h b
 fork sides.Right a n e h b = Fork b n e h a
 
--- a node above a hole: the hole's side, the node, and the part on the other side
+-- the parent of a hole: the hole's side, the node, and the subtree on the other side
 pub record Frame : Type 0 where
   pub side : Side
   pub n : ℕ
@@ -20,7 +20,7 @@ pub record Frame : Type 0 where
   pub h : ℕ
   pub other : Tree
 
--- the part from a node on, with its hole filled
+-- the subtree from a node on, with its hole filled
 abbrev pub filled : Frame → Tree → Tree
 filled f t = fork f.side t f.n f.e f.h f.other
 
@@ -29,10 +29,10 @@ abbrev pub plug : List Frame → Tree → Tree
 plug [] t = t
 plug (f ∷ c) t = plug c (filled f t)
 
--- the number of the node just above the hole
-abbrev pub above : List Frame → ℕ
-above [] = none
-above (f ∷ c) = f.n
+-- the number of the hole's parent
+abbrev pub parent_of : List Frame → ℕ
+parent_of [] = none
+parent_of (f ∷ c) = f.n
 
 -- the number of the root, where the hole holds this number
 abbrev pub root_of : ℕ → List Frame → ℕ
@@ -42,7 +42,7 @@ root_of hole (f ∷ c) = root_of f.n c
 -- the nodes are linked as this context, with this number in its hole
 abbrev pub IsAround : List Node → ℕ → List Frame → Type 0
 IsAround xs hole [] = Unit
-IsAround xs hole (f ∷ c) = Stands xs f.n (with_links f.side f.e hole (top f.other) (above c) f.h) × IsAt xs f.n f.other × IsAround xs f.n c
+IsAround xs hole (f ∷ c) = Stands xs f.n (with_links f.side f.e hole (top f.other) (parent_of c) f.h) × IsAt xs f.n f.other × IsAround xs f.n c
 
 -- the pairs of the context, in any order
 abbrev pub around : List Frame → List (ℕ × ℕ)
@@ -74,19 +74,19 @@ Fits (f ∷ c) h = HasRank h (tall f.other) f.h × IsBalanced f.other × Fits c 
 -- the block holds a tree of these pairs that is balanced but for the ranks from one node upwards, with so many nodes from there to the root
 pub record IsUnbalanced (xs : List Node) (r : Unbalanced) (ps : List (ℕ × ℕ)) (levels : ℕ) : Type 0 where
   pub context : List Frame
-  pub part : Tree
+  pub subtree : Tree
   pub old_rank : ℕ
-  pub linked : IsAround xs (top part) context
-  pub under : IsAt xs (above context) part
-  pub root_is : r.root ≡ root_of (top part) context
-  pub at_is : r.at ≡ above context
-  pub child_is : (r.at ≡ none → ⊥) → r.child ≡ top part
-  pub rank_is : (r.at ≡ none → ⊥) → r.rank ≡ tall part
-  pub balanced : IsBalanced part
+  pub linked : IsAround xs (top subtree) context
+  pub under : IsAt xs (parent_of context) subtree
+  pub root_is : r.root ≡ root_of (top subtree) context
+  pub at_is : r.at ≡ parent_of context
+  pub child_is : (r.at ≡ none → ⊥) → r.child ≡ top subtree
+  pub rank_is : (r.at ≡ none → ⊥) → r.rank ≡ tall subtree
+  pub balanced : IsBalanced subtree
   pub fits : Fits context old_rank
-  pub lower : old_rank ≤ tall part + 1
-  pub higher : tall part ≤ old_rank + 1
-  pub pairs_are : pairs (plug context part) ≡ ps
+  pub lower : old_rank ≤ tall subtree + 1
+  pub higher : tall subtree ≤ old_rank + 1
+  pub pairs_are : pairs (plug context subtree) ≡ ps
   pub levels_are : length context ≡ levels
 
 -- no node of other timers has changed
@@ -108,7 +108,7 @@ pub record IsRepairing (xs ys : List Node) (r : Unbalanced) (ps : List (ℕ × �
   pub kept : KeepsOthers xs ys ps
   pub count : steps + 14 * left ≤ old_steps + 14 * levels
 
--- the block holds an balanced tree of the same pairs, after so many steps at most
+-- the block holds a balanced tree of the same pairs, after so many steps at most
 pub record IsRepaired (xs ys : List Node) (root : ℕ) (ps : List (ℕ × ℕ)) (levels old_steps steps : ℕ) : Type 0 where
   pub tree : IsTree ys root ps
   pub kept : KeepsOthers xs ys ps

@@ -43,8 +43,8 @@ stepped xs side r node =
     else (if is_high_leaf node then gone_on (ranked xs r.at 1) r node 1 else (xs, record { root = r.root; at = none; child = r.child; rank = r.rank })))
 
 -- one step of a repair
-unfoldable pub lifted : List Node → Unbalanced → List Node × Unbalanced
-lifted xs r = stepped xs (child_side (node_at xs r.at) r.child) r (node_at xs r.at)
+unfoldable pub rebalanced_at : List Node → Unbalanced → List Node × Unbalanced
+rebalanced_at xs r = stepped xs (child_side (node_at xs r.at) r.child) r (node_at xs r.at)
 
 -- a node with one more below it, on a side
 abbrev pub with_child : Node → Side → ℕ → Node

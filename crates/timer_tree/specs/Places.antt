@@ -3,7 +3,7 @@ use Rattle.std.specs.Prelude.{ℕ, ◌+◌, ◌≤◌, ◌≡◌, nat_eq, nat_lt
 use Rattle.timer_queue.specs.Pairs.{put, IsByExpiry}
 use Rattle.timer_tree.specs.Nodes.{none}
 use Rattle.timer_tree.specs.Trees.{Tree, Leaf, top, tall, pairs, IsAt, IsBalanced, IsTree}
-use Rattle.timer_tree.specs.Contexts.{Frame, plug, above, root_of, IsAround, before, after, Fits}
+use Rattle.timer_tree.specs.Contexts.{Frame, plug, parent_of, root_of, IsAround, before, after, Fits}
 use Rattle.timer_tree.specs.declared.node.Node.{Node}
 use Rattle.timer_tree.specs.declared.node.Side.{Side}
 use Rattle.timer_tree.specs.declared.node.Side.TheVariants as sides
@@ -19,22 +19,22 @@ HasSide place [] = place.side ≡ sides.Left
 HasSide place (f ∷ c) = place.side ≡ f.side
 
 pub record IsHole (place : Place) (c : List Frame) : Type 0 where
-  pub parent : place.parent ≡ above c
+  pub parent : place.parent ≡ parent_of c
   pub side : HasSide place c
 
 -- on the way down to the place for this expiry, with one step for each node that was passed
 pub record IsFinding (xs : List Node) (root : ℕ) (place : Place) (at expires : ℕ) (ps : List (ℕ × ℕ)) (old_steps steps : ℕ) : Type 0 where
   pub context : List Frame
-  pub part : Tree
-  pub linked : IsAround xs (top part) context
-  pub under : IsAt xs (above context) part
-  pub at_is : at ≡ top part
-  pub root_is : root ≡ root_of (top part) context
+  pub subtree : Tree
+  pub linked : IsAround xs (top subtree) context
+  pub under : IsAt xs (parent_of context) subtree
+  pub at_is : at ≡ top subtree
+  pub root_is : root ≡ root_of (top subtree) context
   pub hole : IsHole place context
-  pub balanced : IsBalanced part
-  pub fits : Fits context (tall part)
-  pub pairs_are : pairs (plug context part) ≡ ps
-  pub puts : (id : ℕ) → put expires id ps ≡ before context ++ (put expires id (pairs part) ++ after context)
+  pub balanced : IsBalanced subtree
+  pub fits : Fits context (tall subtree)
+  pub pairs_are : pairs (plug context subtree) ≡ ps
+  pub puts : (id : ℕ) → put expires id ps ≡ before context ++ (put expires id (pairs subtree) ++ after context)
   pub count : steps ≡ old_steps + length context
 
 -- the place where a pair of this expiry belongs

@@ -8,7 +8,7 @@ use Rattle.timer_tree.specs.declared.node.Node.{Node}
 use Rattle.timer_tree.specs.declared.rotate.Numbered.{Numbered}
 use Rattle.timer_tree.specs.declared.repair.Unbalanced.{Unbalanced}
 
--- an balanced part of the tree that has a node with this number at its top
+-- a balanced subtree of the tree that has a node with this number at its top
 pub record IsSubtree (xs : List Node) (from p : ℕ) (t : Tree) : Type 0 where
   pub at : IsAt xs p t
   pub from_is : from ≡ top t
@@ -16,7 +16,7 @@ pub record IsSubtree (xs : List Node) (from p : ℕ) (t : Tree) : Type 0 where
   pub balanced : IsBalanced t
   pub small : length xs ≤ none
 
--- on the way to the first node of a part, with one step for each node
+-- on the way to the first node of a subtree, with one step for each node
 pub record IsLowering (xs : List Node) (t : Tree) (n : ℕ) (node : Node) (old_steps steps : ℕ) : Type 0 where
   pub context : List Frame
   pub l : Tree
@@ -31,7 +31,7 @@ pub record IsLowering (xs : List Node) (t : Tree) (n : ℕ) (node : Node) (old_s
   pub node_is : node ≡ node_at xs n
   pub count : steps ≡ old_steps + length context + 1
 
--- the first node of a part
+-- the first node of a subtree
 pub record IsLeftmost (xs : List Node) (t : Tree) (low : Numbered) (old_steps steps : ℕ) : Type 0 where
   pub context : List Frame
   pub e : ℕ

@@ -4,7 +4,7 @@ use Rattle.timer_queue.specs.Pairs.{IsQueue}
 use Rattle.timer_tree.specs.Nodes.{none, node_at}
 use Rattle.timer_tree.specs.declared.node.Node.{Node}
 
--- the pairs of the part of the tree below a node, the first due at the front; the first number is at least its rank
+-- the pairs of the subtree of the tree below a node, the first due at the front; the first number is at least its rank
 abbrev pub pairs_below : ℕ → List Node → ℕ → List (ℕ × ℕ)
 pairs_below zero xs n = []
 pairs_below (suc k) xs n =
@@ -14,7 +14,7 @@ pairs_below (suc k) xs n =
 abbrev pub queue_at : List Node → ℕ → List (ℕ × ℕ)
 queue_at xs root = pairs_below (node_at xs root).rank xs root
 
--- a part of a tree: nothing, or a node with its number, expiry and rank between two parts
+-- a subtree of a tree: nothing, or a node with its number, expiry and rank between two parts
 pub data Tree : Type 0 where
   Leaf : Tree
   Fork : (l : Tree) (n e h : ℕ) (r : Tree) → Tree
@@ -39,7 +39,7 @@ pub record Stands (xs : List Node) (n : ℕ) (node : Node) : Type 0 where
   pub inside : n < length xs
   pub is : node_at xs n ≡ node
 
--- the nodes are linked as this part of a tree below a parent
+-- the nodes are linked as this subtree of a tree below a parent
 abbrev pub IsAt : List Node → ℕ → Tree → Type 0
 IsAt xs p Leaf = Unit
 IsAt xs p (Fork l n e h r) = Stands xs n (record { expires = e; left = top l; right = top r; parent = p; rank = h }) × IsAt xs n l × IsAt xs n r

@@ -73,10 +73,10 @@ pub(crate) fn insert<L: Ledger>(
     if parent == NONE {
         return id;
     }
-    let above = block.read(parent, steps);
+    let node = block.read(parent, steps);
     match side {
-        Side::Left => block.write(parent, Node { left: id, ..above }, steps),
-        Side::Right => block.write(parent, Node { right: id, ..above }, steps),
+        Side::Left => block.write(parent, Node { left: id, ..node }, steps),
+        Side::Right => block.write(parent, Node { right: id, ..node }, steps),
     }
     root
 }

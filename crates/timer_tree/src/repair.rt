@@ -2,7 +2,7 @@
 ghost use Rattle.std.specs.Prelude.{◌≡◌, ℕ, ◌+◌, ◌≤◌, ◌<◌, List, length};
 ghost use Rattle.timer_tree.specs.Nodes.{node_at, none, HasLinks};
 ghost use Rattle.timer_tree.specs.Contexts.{CanRepair, IsRepaired};
-ghost use Rattle.timer_tree.specs.Moves.{gone_on, rotated_up, raised, sunk, stepped, lifted};
+ghost use Rattle.timer_tree.specs.Moves.{gone_on, rotated_up, raised, sunk, stepped, rebalanced_at};
 ghost use Rattle.timer_tree.specs.Rotate.{ranked};
 
 use crate::block::Block;
@@ -55,19 +55,19 @@ fn climb<L: Ledger>(
         rank,
     };
     while rest.at != NONE {
-        rest = lift(block, rest, steps);
+        rest = rebalance(block, rest, steps);
     }
     rest.root
 }
 
 /// Rebalances one node. The repair goes on at its parent, or ends where the rank is as before.
-#[tactic(auto, unfolding(crate::specs::Moves::lifted))]
-fn lift<L: Ledger>(block: &mut Block, rest: Unbalanced, steps: &mut Steps<L>) -> Unbalanced
+#[tactic(auto, unfolding(crate::specs::Moves::rebalanced_at))]
+fn rebalance<L: Ledger>(block: &mut Block, rest: Unbalanced, steps: &mut Steps<L>) -> Unbalanced
     requires inside { rest.at < length block.old }
     requires small { length block.old ≤ none }
     requires child { (node_at block.old rest.at).rank ≤ rest.rank → rest.child < length block.old }
     requires some { 0 < (node_at block.old rest.at).rank }
-    ensures block { (block.new, result) ≡ lifted block.old rest }
+    ensures block { (block.new, result) ≡ rebalanced_at block.old rest }
     ensures steps { steps.new ≤ steps.old + 14 }
 {
     let node = block.read(rest.at, steps);

@@ -12,8 +12,8 @@ leftmost-heir-requires g c =
 
 pub returns-then-node-ne-NONE-2 : goal.returns-then-node-ne-NONE-2
 returns-then-node-ne-NONE-2 g c = λ ps taking.
-    let part = right_part c.args.block.now c.args.root c.args.id c.args.node ps taking c.requires.node c.if-node-ne-NONE-2.true in
-    let lowest = c.leftmost-heir.ensures.lowest c.args.id (place_of c.args.block.now c.args.root c.args.id ps taking).r part in
+    let subtree = right_part c.args.block.now c.args.root c.args.id c.args.node ps taking c.requires.node c.if-node-ne-NONE-2.true in
+    let lowest = c.leftmost-heir.ensures.lowest c.args.id (place_of c.args.block.now c.args.root c.args.id ps taking).r subtree in
     subst (λ child. IsTaken c.args.block.now c.args.id ps c.substitute-root.new.block (record { root = c.substitute-root.result; at = c.parent_of_gap-at.result; child = child.root; rank = child.rank }) c.args.steps.now c.substitute-root.new.steps) (sym c.only_child-child.ensures)
     (taken_two c.args.block.now c.args.root c.args.id ps c.leftmost-heir.result (c.splice-root.new.block, c.splice-root.result) (c.substitute-root.new.block, c.substitute-root.result) c.parent_of_gap-at.result c.args.steps.now c.substitute-root.new.steps c.leftmost-heir.new.steps taking lowest c.splice-root.ensures.block c.substitute-root.ensures.block c.parent_of_gap-at.ensures (omega (arith, c.splice-root.ensures.steps, c.substitute-root.ensures.steps)))
 
