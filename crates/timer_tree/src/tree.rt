@@ -1,4 +1,4 @@
-//! The queue.
+//! A queue of timers as a tree, and the calls that count what they touch.
 ghost use Rattle.std.specs.Prelude.{◌≡◌, ℕ, ◌+◌, ◌*◌, ◌^◌, ◌<◌, ◌≤◌, false, List, length, IsTrue, nat_eq, if◌then◌else◌};
 ghost use Rattle.timer_tree.specs.Nodes.{none};
 ghost use Rattle.timer_tree.specs.Places.{first_with};
@@ -16,7 +16,7 @@ use std::marker::{Brand, Model};
 use std::sync::ledger::{Blank, Ledger};
 use timer_queue::Queue;
 
-/// A queue of timers as a balanced (AVL) tree. Its nodes lie in one block that is taken by `make` and given back when the queue is
+/// A queue of timers as a balanced tree. Its nodes lie in one block that is taken by `make` and given back when the queue is
 /// dropped: adding and erasing take and give nothing. Node n is the link of timer n, and the first node's number is kept.
 #[derive(Drop)]
 pub struct TimerTree {
