@@ -49,19 +49,22 @@ abbrev pub around : List Frame → List (ℕ × ℕ)
 around [] = []
 around (f ∷ c) = (f.e, f.n) ∷ pairs f.other ++ around c
 
--- the pairs before the hole, and those behind it
+-- the pairs of a node and of its subtree on the other side, where they stand before the hole
 abbrev pub ahead : Side → Tree → (ℕ × ℕ) → List (ℕ × ℕ)
 ahead sides.Left t p = []
 ahead sides.Right t p = pairs t ++ p ∷ []
 
+-- the pairs of a node and of its subtree on the other side, where they stand behind the hole
 abbrev pub behind : Side → Tree → (ℕ × ℕ) → List (ℕ × ℕ)
 behind sides.Left t p = p ∷ pairs t
 behind sides.Right t p = []
 
+-- all pairs before the hole
 abbrev pub before : List Frame → List (ℕ × ℕ)
 before [] = []
 before (f ∷ c) = before c ++ ahead f.side f.other (f.e, f.n)
 
+-- all pairs behind the hole
 abbrev pub after : List Frame → List (ℕ × ℕ)
 after [] = []
 after (f ∷ c) = behind f.side f.other (f.e, f.n) ++ after c

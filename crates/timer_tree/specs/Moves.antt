@@ -28,12 +28,14 @@ rotated_up xs side r node high = moved_up (rotated xs side (record { n = r.at; n
 -- a node that its subtree on a side has come up to
 unfoldable pub raised : List Node → Side → Unbalanced → Node → List Node × Unbalanced
 raised xs side r node =
-    if nat_eq ((node_at xs (far side node)).rank + 1) node.rank then gone_on (ranked xs r.at (next node.rank)) r node (next node.rank) else rotated_up xs side r node r.child
+    if nat_eq ((node_at xs (far side node)).rank + 1) node.rank then gone_on (ranked xs r.at (next node.rank)) r node (next node.rank)
+    else rotated_up xs side r node r.child
 
 -- a node that has its subtree on a side three lower
 unfoldable pub sunk : List Node → Side → Unbalanced → Node → List Node × Unbalanced
 sunk xs side r node =
-    if nat_eq ((node_at xs (far side node)).rank + 1) node.rank then rotated_up xs (other_side side) r node (far side node) else gone_on (ranked xs r.at (node.rank - 1)) r node (node.rank - 1)
+    if nat_eq ((node_at xs (far side node)).rank + 1) node.rank then rotated_up xs (other_side side) r node (far side node)
+    else gone_on (ranked xs r.at (node.rank - 1)) r node (node.rank - 1)
 
 -- a node whose subtree on a side has risen or sunk by one
 unfoldable pub stepped : List Node → Side → Unbalanced → Node → List Node × Unbalanced

@@ -16,15 +16,17 @@ blank = record { expires = 0; left = none; right = none; parent = none; rank = 0
 abbrev pub node_at : List Node → ℕ → Node
 node_at xs n = slice_index_or xs n blank
 
--- the node below on a side, and the one on the other side
+-- the node below on a side
 abbrev pub near : Side → Node → ℕ
 near sides.Left node = node.left
 near sides.Right node = node.right
 
+-- the node below on the other side
 abbrev pub far : Side → Node → ℕ
 far sides.Left node = node.right
 far sides.Right node = node.left
 
+-- the other side
 abbrev pub other_side : Side → Side
 other_side sides.Left = sides.Right
 other_side sides.Right = sides.Left
@@ -56,5 +58,6 @@ pub record HasLinks (room : ℕ) (node : Node) : Type 0 where
   pub right : IsLink room node.right
   pub parent : IsLink room node.parent
 
+-- each link of each node is the number of a node or of none
 abbrev pub AreLinked : List Node → Type 0
 AreLinked xs = (k : ℕ) → HasLinks (length xs) (node_at xs k)

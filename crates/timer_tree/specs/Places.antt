@@ -13,11 +13,12 @@ use Rattle.timer_tree.specs.declared.add.Place.{Place}
 abbrev pub side_of : (expires node : ℕ) → Side
 side_of expires node = if nat_lt expires node then sides.Left else sides.Right
 
--- the place is the hole of this context: its side below the nearest node
+-- the place is on the hole's side of its parent, and on the left where it has none
 abbrev pub HasSide : Place → List Frame → Type 0
 HasSide place [] = place.side ≡ sides.Left
 HasSide place (f ∷ c) = place.side ≡ f.side
 
+-- the place is the hole of this context, with its parent
 pub record IsHole (place : Place) (c : List Frame) : Type 0 where
   pub parent : place.parent ≡ parent_of c
   pub side : HasSide place c
@@ -54,10 +55,11 @@ pub record IsSearched (xs : List Node) (root : ℕ) (ps : List (ℕ × ℕ)) : T
   pub small : length xs ≤ none
   pub by_expiry : IsByExpiry ps
 
--- the number of the first timer once this one has got its place
+-- the number of the first timer once this one has got its place on a side of this parent
 abbrev pub first_on : Side → (parent first id : ℕ) → ℕ
 first_on sides.Left parent first id = if nat_eq parent first then id else first
 first_on sides.Right parent first id = first
 
+-- the number of the first timer once this one has got this place
 abbrev pub first_with : Place → (first id : ℕ) → ℕ
 first_with place first id = first_on place.side place.parent first id

@@ -40,4 +40,5 @@ rotated xs side low high =
     let inner = node_at xs n in
     let outer = (node_at xs (near side high.node)).rank in
     if nat_lt (max outer inner.rank) (low.node.rank - 2) then lowered xs low high.n
-    else (if nat_le inner.rank outer then rotated_once xs side low high (record { root = n; rank = inner.rank }) else rotated_twice xs side low high (record { n = n; node = inner }))
+    else (if nat_le inner.rank outer then rotated_once xs side low high (record { root = n; rank = inner.rank })
+    else rotated_twice xs side low high (record { n = n; node = inner }))

@@ -57,10 +57,11 @@ abbrev pub IsBalanced : Tree → Type 0
 IsBalanced Leaf = Unit
 IsBalanced (Fork l n e h r) = HasRank (tall l) (tall r) h × IsBalanced l × IsBalanced r
 
--- how often a timer stands in a list of pairs
+-- 1 where two numbers are equal, else 0
 abbrev pub one : ℕ → ℕ → ℕ
 one k n = if nat_eq k n then 1 else 0
 
+-- how often a timer stands in a list of pairs
 abbrev pub times : ℕ → List (ℕ × ℕ) → ℕ
 times k [] = 0
 times k (p ∷ ps) = one k p.1 + times k ps
