@@ -17,4 +17,6 @@ mod firing;
 mod log;
 mod object;
 mod objects;
+#[cfg(test)]
+mod tests;
 mod trigger;

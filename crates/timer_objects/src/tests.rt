@@ -1,0 +1,2 @@
+//! Objects as callers use them.
+mod firing;
