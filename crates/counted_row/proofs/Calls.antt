@@ -56,8 +56,8 @@ module _ {S C R : Type 0} {m : CallMeaning S C R} where
       }
 
   -- a lock, and the release that ended it
-  abbrev pub reads_of : {r : RowOf S} {old mid new : PassOfRow S C R} {i : ℕ} {h : Locked S} → Locks m old mid i h → IsPassOfRow r mid → IsPassOfRow r new
-      → old.knows.held ≡ None → new.knows ≡ released mid.knows → Knows m new.knows → Reads m old new i
+  abbrev pub reads_of : {r : RowOf S} {old mid new : PassOfRow S C R} {i : ℕ} {h : Locked S} → Locks m old mid i h
+      → IsPassOfRow r mid → IsPassOfRow r new → old.knows.held ≡ None → new.knows ≡ released mid.knows → Knows m new.knows → Reads m old new i
   reads_of {r} {old} {mid} {new} {i} {h} locks here after idle is knows = record {
     row = after.row ∙ sym here.row ∙ locks.row;
     opening = ap (λ v. v.opening) is ∙ locks.opening;
@@ -117,6 +117,7 @@ module _ {S C R : Type 0} {m : CallMeaning S C R} where
   abbrev pub commits_after : {p q r : PassOfRow S C R} {i : ℕ} {call : C} → Sees p q → Commits m q r i call → Commits m p r i call
   commits_after {p} {q} {r} {i} {call} a b =
       let adds = b.adds in
+      let entry : Entry C R = record { call = call; reply = m.reply b.state call } in
       record {
         row = b.row ∙ a.row;
         opening = b.opening ∙ a.opening;
@@ -126,7 +127,7 @@ module _ {S C R : Type 0} {m : CallMeaning S C R} where
           before = adds.before;
           begins = begins_trans (a.pass.seen.each i) adds.begins;
           last = adds.last;
-          mine = adds.mine ∙ ap (λ l. l ++ places {E = Entry C R} i (length adds.before) (record { call = call; reply = m.reply b.state call } ∷ [])) a.pass.mine;
+          mine = adds.mine ∙ ap (λ l. l ++ places i (length adds.before) (entry ∷ [])) a.pass.mine;
           id = adds.id ∙ a.pass.id;
         };
         at = subst (λ o. StateAfter m o i adds.before b.state) a.opening b.at;

@@ -1,6 +1,6 @@
 -- The store of a commit keeps the rule: one entry more, of the seat that holds the value.
 use Rattle.std.proofs.Common.{◌≡◌, ℕ, eqb, ◌&&◌, ◌^◌, ◌+◌, ◌<◌, ◌≤◌, ◌≢◌, true, false, List, [], ◌∷◌, ◌++◌, length, set, refl, ap, sym, ◌∙◌, subst, ◌⊎◌, inl, inr, ⊎_elim, length-append, arith}
-use Rattle.std.specs.Prelude.{slice_set, Option, Some, None}
+use Rattle.std.specs.Prelude.{slice_set, Option, Some}
 use Rattle.std.proofs.lemmas.Bool.{cases_eq, eqb-true, true≢false}
 use Rattle.std.proofs.lemmas.List.{length-set}
 use mathlib.Core.Option.{some, none}
@@ -16,10 +16,11 @@ use Rattle.counted_row.specs.declared.view.Locked.{Locked}
 use Rattle.counted_row.specs.declared.view.View.{View}
 use Rattle.counted_row.specs.Meaning.{CallMeaning}
 use Rattle.counted_row.specs.Views.{HasClaim, is_claim, StateAfter, Knows}
+use Rattle.counted_row.specs.Places.{row_word_at}
 use Rattle.counted_row.specs.Rules.{row_places, claims_at, Cell, HoldsValue, RowAgrees, RowInvariant}
 use Rattle.counted_row.proofs.Frames.{moved}
 use Rattle.pass_names.proofs.Counts.{set_there}
-use Rattle.counted_row.proofs.Knowing.{knows_of}
+use Rattle.counted_row.proofs.Knowing.{knows_of, no_lock}
 use Rattle.std.proofs.lemmas.Bool.{and_parts, cases_lt, ne_eqb, eq-eqb}
 use Rattle.pass_names.specs.Names.{same}
 use Rattle.pass_names.specs.Passes.{Adds}
@@ -218,9 +219,6 @@ module _ {S C R : Type 0} (m : CallMeaning S C R) (counts : Counts m) (made : Li
     claims = own_claims;
     gone = λ off. absurd (true≢false (sym live ∙ off));
   }
-    where
-      no_lock : (g : Locked S) → None ≡ Some g → ⊥
-      no_lock g e = cc
 
   cell : Cell m made i longer (some (some (Some (m.next h.state c)))) (h.stamp + 1) 0
   cell = record {
@@ -237,29 +235,28 @@ module _ {S C R : Type 0} (m : CallMeaning S C R) (counts : Counts m) (made : Li
   pub enters_count : length (entries i v'.pass.seen) ≡ h.stamp + 1
   enters_count = omega (arith, ap length seen_here, length-append log (entry ∷ []), holds.stamp)
 
-  pub enters_inv : RowInvariant m made record {
-    words = slice_set s.words (i + 1) (h.stamp + 1);
+  -- the table after the store
+  abbrev stored : State (Option S) (View S C R)
+  stored = record {
+    words = slice_set s.words (row_word_at i) (h.stamp + 1);
     homes = slice_set s.homes i (some (Some (m.next h.state c)));
     views = slice_set s.views id v';
   }
+
+  pub enters_inv : RowInvariant m made stored
   enters_inv =
       moved m made s inv i id v v' longer (h.stamp + 1) 0 (some (Some (m.next h.state c))) at holds.within (inr (entry, refl))
       (inr holds.holder) cell agrees_after refl same_places
       (λ k name n. claims_else v.claims i (m.effect h.state c) permits k name n) open_here
 
   pub enters_knows : Knows m v'
-  enters_knows =
-      knows_of m made record {
-        words = slice_set s.words (i + 1) (h.stamp + 1);
-        homes = slice_set s.homes i (some (Some (m.next h.state c)));
-        views = slice_set s.views id v';
-      } enters_inv id v' (set_there s.views id v v' at) live heard
+  enters_knows = knows_of m made stored enters_inv id v' (set_there s.views id v v' at) live heard
 
 module _ {S C R : Type 0} (m : CallMeaning S C R) (counts : Counts m) (made : List S) where
   pub enters : (slots id : ℕ) (v : View S C R) (h : Locked S) (c : C) (asks : C → Type 0) → asks c
       → v.pass.id.live ≡ true → v.heard ≡ [] → v.held ≡ Some h → m.may h.state c → HasClaimFor v.claims h.index (m.effect h.state c) → h.stamp < 2 ^ 48
-      → Allows (RowInvariant m made) slots id (v, (h.index, Some (m.next h.state c)) ∷ []) (h.index + 1) (λ _. h.stamp + 1)
-      (λ _. Enters m asks (step slots (h.index + 1) (h.stamp + 1) 0 none) (v, (h.index, Some (m.next h.state c)) ∷ []) (h.stamp + 1))
+      → Allows (RowInvariant m made) slots id (v, (h.index, Some (m.next h.state c)) ∷ []) (row_word_at h.index) (λ _. h.stamp + 1)
+      (λ _. Enters m asks (step slots (row_word_at h.index) (h.stamp + 1) 0 none) (v, (h.index, Some (m.next h.state c)) ∷ []) (h.stamp + 1))
   enters slots id v h c asks asked live heard held may permits low s inv many at small = (
     committed m h c v,
     gives,

@@ -17,6 +17,7 @@ use Rattle.counted_row.specs.declared.view.Locked.{Locked}
 use Rattle.counted_row.specs.declared.view.View.{View}
 use Rattle.counted_row.specs.Meaning.{CallMeaning}
 use Rattle.counted_row.specs.Views.{HasClaim, StateAfter}
+use Rattle.counted_row.specs.Places.{row_word_at}
 use Rattle.counted_row.specs.Rules.{row_pass_id, row_places, claims_at, Cell, HoldsValue, RowAgrees, RowInvariant}
 
 module _ {S C R : Type 0} (m : CallMeaning S C R) (made : List S) where
@@ -123,22 +124,22 @@ module _ {S C R : Type 0} (m : CallMeaning S C R) (made : List S) where
 
       cells : (k : ℕ) → k < length made
           → Cell m made k (entries k (set inv.logs i new)) (get_elem? (set s.homes i slot) k)
-          (slice_index (set s.words (i + 1) word) (k + 1)) (slice_index (set inv.holders i holder) k)
+          (slice_index (set s.words (row_word_at i) word) (row_word_at k)) (slice_index (set inv.holders i holder) k)
       cells k h =
           ⊎_elim
           (λ e. subst (λ q. Cell m made q (entries q (set inv.logs i new)) (get_elem? (set s.homes i slot) q)
-          (slice_index (set s.words (i + 1) word) (q + 1)) (slice_index (set inv.holders i holder) q)) (sym e)
+          (slice_index (set s.words (row_word_at i) word) (row_word_at q)) (slice_index (set inv.holders i holder) q)) (sym e)
           (rw (
             entries_here inv.logs i new in_logs,
             set_here s.homes i slot (omega (arith, inv.homes_len)),
-            get_or-set_same s.words (i + 1) word 0 (omega (arith, inv.words_len)),
+            get_or-set_same s.words (row_word_at i) word 0 (omega (arith, inv.words_len)),
             get_or-set_same inv.holders i holder 0 in_holders,
           ) cell))
           (λ n.
           rw (
             entries_else inv.logs i k new n,
             set_else s.homes i k slot n,
-            get_or-set_other s.words (i + 1) (k + 1) word 0 (λ e. n (omega arith)),
+            get_or-set_other s.words (row_word_at i) (row_word_at k) word 0 (λ e. n (omega arith)),
             get_or-set_other inv.holders i k holder 0 n,
           ) (inv.each_cell k h))
           (cases_eq k i)
@@ -158,11 +159,15 @@ module _ {S C R : Type 0} (m : CallMeaning S C R) (made : List S) where
           ))
           (cases_eq k i)
 
-      pub moved : RowInvariant m made record { words = slice_set s.words (i + 1) word; homes = slice_set s.homes i slot; views = slice_set s.views id v' }
+      pub moved : RowInvariant m made record {
+        words = slice_set s.words (row_word_at i) word;
+        homes = slice_set s.homes i slot;
+        views = slice_set s.views id v';
+      }
       moved = record {
         logs = set inv.logs i new;
         holders = set inv.holders i holder;
-        words_len = length-set s.words (i + 1) word ∙ inv.words_len;
+        words_len = length-set s.words (row_word_at i) word ∙ inv.words_len;
         homes_len = length-set s.homes i slot ∙ inv.homes_len;
         logs_len = length-set inv.logs i new ∙ inv.logs_len;
         holders_len = length-set inv.holders i holder ∙ inv.holders_len;
@@ -263,7 +268,11 @@ module _ {S C R : Type 0} (m : CallMeaning S C R) (made : List S) where
       unchanged : set inv.logs i (entries i inv.logs) ≡ inv.logs
       unchanged = set-get_or inv.logs i []
 
-      pub shifted : RowInvariant m made record { words = slice_set s.words (i + 1) word; homes = slice_set s.homes i slot; views = slice_set s.views id v' }
+      pub shifted : RowInvariant m made record {
+        words = slice_set s.words (row_word_at i) word;
+        homes = slice_set s.homes i slot;
+        views = slice_set s.views id v';
+      }
       shifted =
           moved i id v v' (entries i inv.logs) word holder slot at inside (inl refl) idle cell
           (subst (λ ls. RowAgrees m made ls (set inv.holders i holder) id v') (sym unchanged) agrees)

@@ -22,6 +22,9 @@ use Rattle.counted_row.specs.Views.{is_claim, StateAfter, IsNow, Knows, PassOfRo
 use Rattle.counted_row.specs.Rules.{row_pass_id, row_places, claims_at, RowAgrees, RowInvariant}
 use Rattle.counted_row.proofs.Histories.{after_part}
 
+pub no_lock : {S : Type 0} (h : Locked S) → None ≡ Some h → ⊥
+no_lock h e = cc
+
 in_range : (n : ℕ) → 0 < n → one_if (within n n) ≡ 1
 in_range n h = grind (arith, nat_tests)
 
@@ -137,10 +140,11 @@ module _ {S C R : Type 0} (m : CallMeaning S C R) (v : View S C R) (knows : Know
   }
 
   pub knows_split : Knows m (split_view v)
-  knows_split = knows_less (after_split v.pass.id) v.pass.mine v.heard v.claims v.held (splitter_not_last v.pass.id) (λ i name one. one) (λ h e. e) (λ i k. le_refl _)
+  knows_split =
+      knows_less (after_split v.pass.id) v.pass.mine v.heard v.claims v.held (splitter_not_last v.pass.id) (λ i name one. one) (λ h e. e)
+      (λ i k. le_refl _)
 
   pub knows_new : Knows m (new_view v)
-  knows_new = knows_less (child_of v.pass.id) [] [] [] None (child_not_last v.pass.id) (λ i name one. absurd (omega arith)) (λ h e. absurd (no_lock h e)) (λ i k. omega arith)
-    where
-      no_lock : (h : Locked S) → None ≡ Some h → ⊥
-      no_lock h e = cc
+  knows_new =
+      knows_less (child_of v.pass.id) [] [] [] None (child_not_last v.pass.id) (λ i name one. absurd (omega arith))
+      (λ h e. absurd (no_lock h e)) (λ i k. omega arith)

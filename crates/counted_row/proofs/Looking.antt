@@ -1,5 +1,5 @@
 -- A load, and an exchange of a lock's word, keep the rule.
-use Rattle.std.proofs.Common.{◌≡◌, ℕ, ◌+◌, true, List, [], length, refl, sym, ◌∙◌, subst, inl, inr, ⊎_elim, arith}
+use Rattle.std.proofs.Common.{◌≡◌, ℕ, true, List, [], length, refl, sym, ◌∙◌, subst, inl, inr, ⊎_elim, arith}
 use Rattle.std.specs.Prelude.{slice_index, slice_set, Option}
 use Rattle.std.proofs.lemmas.Bool.{cases_eq}
 use Rattle.std.proofs.lemmas.List.{set-get_or}
@@ -12,6 +12,7 @@ use Rattle.counted_row.specs.declared.view.Entry.{Entry}
 use Rattle.counted_row.specs.declared.view.View.{View}
 use Rattle.counted_row.specs.Meaning.{CallMeaning}
 use Rattle.counted_row.specs.Views.{having_seen}
+use Rattle.counted_row.specs.Places.{row_word_at}
 use Rattle.counted_row.specs.Rules.{Cell, RowAgrees, RowInvariant}
 use Rattle.counted_row.specs.Plays.{IsLockWord, Looked, Checked}
 use Rattle.counted_row.proofs.Frames.{turned}
@@ -68,7 +69,7 @@ module _ {S C R : Type 0} (m : CallMeaning S C R) (made : List S) where
             counts = λ i e h.
                 let c = inv.each_cell i (omega (arith, inv.homes_len)) in
                 subst (λ k. IsLockWord (length (entries i inv.logs)) (slice_index s.words k)) (sym e ∙ at_word)
-                (word_tells i (entries i inv.logs) (get_elem? s.homes i) (slice_index s.words (i + 1)) (slice_index inv.holders i) c);
+                (word_tells i (entries i inv.logs) (get_elem? s.homes i) (slice_index s.words (row_word_at i)) (slice_index inv.holders i) c);
           },
         )
 

@@ -1,23 +1,25 @@
 -- The rule holds of a new row: every lock is free and every history is empty.
-use Rattle.std.proofs.Common.{◌≡◌, ℕ, zero, suc, ◌+◌, ◌<◌, List, [], ◌∷◌, length, map, replicate, refl, ap, sym, ◌∙◌, subst, arith}
-use Rattle.std.specs.Prelude.{slice_index, Option, Some, None, All}
+use Rattle.std.proofs.Common.{◌≡◌, ℕ, zero, suc, ◌<◌, List, [], ◌∷◌, length, map, replicate, refl, ap, sym, ◌∙◌, subst, arith}
+use Rattle.std.specs.Prelude.{slice_index, Option, Some, All}
 use Rattle.std.proofs.lemmas.Bool.Decides.{nat_tests}
 use Rattle.std.proofs.lemmas.List.{length-replicate, length-map, get_or-replicate}
 use mathlib.Core.Option.{some, some-injective, some-ne-none}
 use lib.ListN.{get_elem?}
+use Rattle.atomic_table.proofs.Lists.{at_map}
 use Rattle.atomic_table.specs.Table.{opening}
 use Rattle.pass_names.specs.Counts.{one_if}
 use Rattle.pass_names.specs.Names.{occurrences}
 use Rattle.pass_names.specs.Passes.{entries, within}
 use Rattle.pass_names.proofs.Names.{first_tree}
-use Rattle.pass_names.proofs.Passes.{goes_nil, goes_refl, entries_replicate}
+use Rattle.pass_names.proofs.Passes.{goes_refl, entries_replicate}
 use Rattle.counted_row.specs.declared.view.Entry.{Entry}
-use Rattle.counted_row.specs.declared.view.Locked.{Locked}
 use Rattle.counted_row.specs.declared.view.View.{View}
 use Rattle.counted_row.specs.Meaning.{CallMeaning}
 use Rattle.counted_row.specs.Views.{StateAfter, Knows, first_view}
+use Rattle.counted_row.specs.Places.{row_word_at}
 use Rattle.counted_row.specs.Rules.{Cell, RowAgrees, RowInvariant}
 use Rattle.counted_row.proofs.Knowing.{knows_of}
+use Rattle.counted_row.proofs.Splitting.{agrees_reader}
 
 value_at : {A : Type 0} (xs : List A) (i : ℕ) → i < length xs → (x : A) × (get_elem? xs i ≡ some x)
 value_at [] i h = absurd (omega arith)
@@ -25,12 +27,7 @@ value_at (x ∷ xs) zero h = (x, refl)
 value_at (x ∷ xs) (suc i) h = value_at xs i (omega arith)
 
 slot_at : {A : Type 0} (xs : List A) (i : ℕ) (x : A) → get_elem? xs i ≡ some x → get_elem? (map some (map Some xs)) i ≡ some (some (Some x))
-slot_at [] i x e = absurd (some-ne-none x (sym e))
-slot_at (y ∷ ys) zero x e = ap (λ z. some (some (Some z))) (some-injective y x e)
-slot_at (y ∷ ys) (suc i) x e = slot_at ys i x e
-
-word_at : (n i : ℕ) → i < n + 1 → slice_index (replicate (n + 1) 0) i ≡ 0
-word_at n i h = get_or-replicate (n + 1) i 0 0 h
+slot_at xs i x e = at_map some (map Some xs) i (Some x) (at_map Some xs i x e)
 
 module _ {S C R : Type 0} (m : CallMeaning S C R) (made : List S) where
   abbrev first : View S C R
@@ -46,32 +43,21 @@ module _ {S C R : Type 0} (m : CallMeaning S C R) (made : List S) where
   empty i = ap length (entries_replicate (length made) i)
 
   agrees_first : (j : ℕ) → RowAgrees m made logs holders j first
-  agrees_first j = record {
-    opening = λ live. refl;
-    wide = λ live. length-replicate (length made) [];
-    seen = goes_refl logs;
-    heard = goes_nil logs;
-    held = λ h e. absurd (no_lock h e);
-    mine = λ i k some_one. absurd (omega arith);
-    claims = λ i name log x has a b c after. absurd (omega arith);
-    gone = λ off. (refl, refl);
-  }
-    where
-      no_lock : (h : Locked S) → None ≡ Some h → ⊥
-      no_lock h e = cc
+  agrees_first j = agrees_reader m made logs holders j first.pass.id made logs (λ live. refl) (λ live. length-replicate (length made) []) (goes_refl logs)
 
   start : (i : ℕ) (x : S) → get_elem? made i ≡ some x → StateAfter m made i (entries i logs) x
   start i x at = subst (λ l. StateAfter m made i l x) (sym (entries_replicate (length made) i)) (record { from = x; at = at; leads = refl })
 
   cell : (i : ℕ) → i < length made
-      → Cell m made i (entries i logs) (get_elem? (map some (map Some made)) i) (slice_index (replicate (length made + 1) 0) (i + 1)) (slice_index holders i)
+      → Cell m made i (entries i logs) (get_elem? (map some (map Some made)) i) (slice_index (replicate (row_word_at (length made)) 0) (row_word_at i))
+      (slice_index holders i)
   cell i h =
       let x = value_at made i h in
       record {
         state = x.0;
         after = start i x.0 x.1;
         short = omega (arith, empty i);
-        free = λ e. (omega (arith, word_at (length made) (i + 1) (omega arith), empty i), slot_at made i x.0 x.1);
+        free = λ e. (omega (arith, get_or-replicate {A = ℕ} (row_word_at (length made)) (row_word_at i) 0 0 (omega arith), empty i), slot_at made i x.0 x.1);
         taken = λ n. absurd (n (get_or-replicate (length made) i 0 0 h));
       }
 
@@ -82,11 +68,11 @@ module _ {S C R : Type 0} (m : CallMeaning S C R) (made : List S) where
       none k = grind (arith, nat_tests)
 
   pub opens_inv : ((i : ℕ) (x : S) → get_elem? made i ≡ some x → m.claims x ≡ [])
-      → RowInvariant m made (opening (replicate (length made + 1) 0) (map Some made) first)
+      → RowInvariant m made (opening (replicate (row_word_at (length made)) 0) (map Some made) first)
   opens_inv unclaimed = record {
     logs = logs;
     holders = holders;
-    words_len = length-replicate (length made + 1) 0;
+    words_len = length-replicate (row_word_at (length made)) 0;
     homes_len = length-map (map Some made) some ∙ length-map made Some;
     logs_len = length-replicate (length made) [];
     holders_len = length-replicate (length made) 0;
@@ -111,15 +97,15 @@ module _ {S C R : Type 0} (m : CallMeaning S C R) (made : List S) where
   all_at P (y ∷ ys) all zero x e = subst P (some-injective y x e) (all 0 y (omega arith))
   all_at P (y ∷ ys) all (suc i) x e = all_at P ys (λ k d h. all (suc k) d (omega arith)) i x e
 
-  pub opens : (words : List ℕ) (slots : List (Option S)) → All (λ x. m.claims x ≡ []) made → words ≡ replicate (length made + 1) 0
+  pub opens : (words : List ℕ) (slots : List (Option S)) → All (λ x. m.claims x ≡ []) made → words ≡ replicate (row_word_at (length made)) 0
       → slots ≡ map Some made → RowInvariant m made (opening words slots first)
   opens words slots unclaimed is_words is_slots =
       subst (λ ws. RowInvariant m made (opening ws slots first)) (sym is_words)
-      (subst (λ ss. RowInvariant m made (opening (replicate (length made + 1) 0) ss first)) (sym is_slots)
+      (subst (λ ss. RowInvariant m made (opening (replicate (row_word_at (length made)) 0) ss first)) (sym is_slots)
       (opens_inv (λ i x e. all_at (λ y. m.claims y ≡ []) made unclaimed i x e)))
 
   -- the first pass knows that it is the last
   pub knows_first : All (λ x. m.claims x ≡ []) made → Knows m first
   knows_first unclaimed =
-      knows_of m made (opening (replicate (length made + 1) 0) (map Some made) first)
-      (opens (replicate (length made + 1) 0) (map Some made) unclaimed refl refl) 0 first refl refl refl
+      knows_of m made (opening (replicate (row_word_at (length made)) 0) (map Some made) first)
+      (opens (replicate (row_word_at (length made)) 0) (map Some made) unclaimed refl refl) 0 first refl refl refl

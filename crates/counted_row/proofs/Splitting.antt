@@ -1,6 +1,6 @@
 -- Passes are split off and taken in, and told of each other, and the rule stays.
 use Rattle.std.proofs.Common.{◌≡◌, ℕ, true, List, [], ◌∷◌, ◌++◌, length, map, set, refl, ap, sym, ◌∙◌, subst, inl, inr, ⊎_elim, arith}
-use Rattle.std.specs.Prelude.{Some, None}
+use Rattle.std.specs.Prelude.{None}
 use Rattle.std.proofs.lemmas.Bool.{cases_lt, true≢false}
 use Rattle.std.proofs.lemmas.List.{map-set}
 use mathlib.Core.Option.{some}
@@ -15,20 +15,17 @@ use Rattle.pass_names.proofs.Counts.{total-append}
 use Rattle.pass_names.proofs.Names.{splits_tree, gone_tree, joins_tree}
 use Rattle.pass_names.proofs.Passes.{begins_nil, goes_nil}
 use Rattle.counted_row.specs.declared.view.Entry.{Entry}
-use Rattle.counted_row.specs.declared.view.Locked.{Locked}
 use Rattle.counted_row.specs.declared.view.View.{View}
 use Rattle.counted_row.specs.Meaning.{CallMeaning}
 use Rattle.counted_row.specs.Views.{is_claim, split_view, new_view}
 use Rattle.counted_row.specs.Rules.{row_pass_id, row_places, claims_at, RowAgrees, RowInvariant}
 use Rattle.counted_row.specs.Plays.{note_of, gone_view, joined_view, told_view}
 use Rattle.counted_row.proofs.Frames.{grown, merged}
-
-no_lock : {S : Type 0} (h : Locked S) → None ≡ Some h → ⊥
-no_lock h e = cc
+use Rattle.counted_row.proofs.Knowing.{no_lock}
 
 module _ {S C R : Type 0} (m : CallMeaning S C R) (made : List S) where
   -- a view with no place and no claim of its own, of histories that were seen
-  agrees_reader : (logs : List (List (Entry C R))) (holders : List ℕ) (j : ℕ) (id : PassId) (opening : List S) (seen : List (List (Entry C R)))
+  pub agrees_reader : (logs : List (List (Entry C R))) (holders : List ℕ) (j : ℕ) (id : PassId) (opening : List S) (seen : List (List (Entry C R)))
       → (id.live ≡ true → opening ≡ made) → (id.live ≡ true → length seen ≡ length made) → GoesOn seen logs
       → RowAgrees m made logs holders j record { pass = record { id = id; seen = seen; mine = [] }; opening = opening; heard = []; claims = []; held = None }
   agrees_reader logs holders j id opening seen told wide goes = record {

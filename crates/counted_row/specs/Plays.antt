@@ -8,6 +8,7 @@ use Rattle.counted_row.specs.declared.view.Entry.{Entry}
 use Rattle.counted_row.specs.declared.view.Locked.{Locked}
 use Rattle.counted_row.specs.declared.view.View.{View}
 use Rattle.counted_row.specs.Meaning.{CallMeaning}
+use Rattle.counted_row.specs.Places.{row_word_at}
 use Rattle.counted_row.specs.Views.{HasClaimFor, Knows, having_seen, committed, released}
 use Rattle.counted_row.specs.Rules.{taken_mark}
 
@@ -29,7 +30,7 @@ module _ {S C R : Type 0} where
     pub seen : GoesOn me.0.pass.seen new.0.pass.seen
     pub heard : GoesOn me.0.heard new.0.pass.seen
     pub knows : Knows m new.0
-    pub counts : (i : ℕ) → st.word ≡ i + 1 → i < st.slots → IsLockWord (length (entries i new.0.pass.seen)) found
+    pub counts : (i : ℕ) → st.word ≡ row_word_at i → i < st.slots → IsLockWord (length (entries i new.0.pass.seen)) found
 
   -- what a load tells where the seat stays as it is
   pub record Checked (m : CallMeaning S C R) (st : Step (Option S)) (me : Me (Option S) (View S C R)) (found : ℕ)
@@ -39,7 +40,7 @@ module _ {S C R : Type 0} where
 
   -- a seat that may take value i's lock, by the word with this number: its pass is one, and it holds nothing
   pub record MayTake (table : TableId) (me : Me (Option S) (View S C R)) (i at : ℕ) : Type 0 where
-    pub word : at ≡ i + 1
+    pub word : at ≡ row_word_at i
     pub in_words : at < table.words
     pub in_slots : i < table.slots
     pub live : me.0.pass.id.live ≡ true
@@ -57,7 +58,7 @@ module _ {S C R : Type 0} where
 
   -- what an exchange from a free lock tells
   abbrev pub Took : CallMeaning S C R → Step (Option S) → Me (Option S) (View S C R) → ℕ → Me (Option S) (View S C R) → Type 0
-  Took m st me found new = (i : ℕ) → st.word ≡ i + 1 → MatchBool (found == st.first) (Hit m st me i new) (Looked m st me found new)
+  Took m st me found new = (i : ℕ) → st.word ≡ row_word_at i → MatchBool (found == st.first) (Hit m st me i new) (Looked m st me found new)
 
   -- what a seat that is about to commit has: the value after the call is back in its slot
   pub record Ready (m : CallMeaning S C R) (me : Me (Option S) (View S C R)) (h : Locked S) (call : C) : Type 0 where

@@ -11,6 +11,7 @@ use Rattle.counted_row.specs.declared.view.Entry.{Entry}
 use Rattle.counted_row.specs.declared.view.Locked.{Locked}
 use Rattle.counted_row.specs.declared.view.View.{View}
 use Rattle.counted_row.specs.Meaning.{CallMeaning}
+use Rattle.counted_row.specs.Places.{row_word_at}
 use Rattle.counted_row.specs.Views.{HasClaim, is_claim, StateAfter}
 
 -- what is added to a value's word while its lock is taken
@@ -66,11 +67,11 @@ module _ {S C R : Type 0} (m : CallMeaning S C R) (made : List S) where
   pub record RowInvariant (s : State (Option S) (View S C R)) : Type 0 where
     pub logs : List (List (Entry C R))
     pub holders : List ℕ
-    pub words_len : length s.words ≡ length made + 1
+    pub words_len : length s.words ≡ row_word_at (length made)
     pub homes_len : length s.homes ≡ length made
     pub logs_len : length logs ≡ length made
     pub holders_len : length holders ≡ length made
-    pub each_cell : (i : ℕ) → i < length made → Cell i (entries i logs) (get_elem? s.homes i) (slice_index s.words (i + 1)) (slice_index holders i)
+    pub each_cell : (i : ℕ) → i < length made → Cell i (entries i logs) (get_elem? s.homes i) (slice_index s.words (row_word_at i)) (slice_index holders i)
     pub each_view : (j : ℕ) (v : View S C R) → get_elem? s.views j ≡ some v → RowAgrees logs holders j v
     pub tree : IsPassTree (map row_pass_id s.views)
     -- each entry of each history is one pass's own, once

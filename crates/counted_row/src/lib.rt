@@ -1,6 +1,7 @@
 //! Values behind locks, each with a counted history of the calls that were made on it.
 #![tactic(auto)]
 
+mod cell;
 mod handles;
 mod object;
 mod parts;

@@ -1,4 +1,5 @@
 //! The rule of a row's table, and what each step on it tells.
+use crate::cell::ValueCell;
 use crate::object::Object;
 use crate::view::View;
 use atomic_table::{Join, Play, Split, TableRule};
@@ -7,7 +8,7 @@ use std::snapshot::Snapshot;
 
 pub struct RowRule;
 
-impl<O: Object> TableRule<Option<O>, View<O, O::Call, O::Reply>, Snapshot<Vec<O>>> for RowRule {
+impl<O: Object> TableRule<ValueCell<O>, View<O, O::Call, O::Reply>, Snapshot<Vec<O>>> for RowRule {
     ghost use Rattle.counted_row.specs.Rules.{RowInvariant};
     ghost use Rattle.counted_row.specs.Views.{first_view};
 
@@ -19,7 +20,7 @@ impl<O: Object> TableRule<Option<O>, View<O, O::Call, O::Reply>, Snapshot<Vec<O>
 /// A load: all histories so far are seen.
 pub struct Look;
 
-impl<O: Object> Play<Option<O>, View<O, O::Call, O::Reply>> for Look {
+impl<O: Object> Play<ValueCell<O>, View<O, O::Call, O::Reply>> for Look {
     ghost use Rattle.counted_row.specs.Plays.{Looked};
 
     ghost then = { Looked O.meaning };
@@ -28,7 +29,7 @@ impl<O: Object> Play<Option<O>, View<O, O::Call, O::Reply>> for Look {
 /// A load that leaves what the seat has seen as it is.
 pub struct Check;
 
-impl<O: Object> Play<Option<O>, View<O, O::Call, O::Reply>> for Check {
+impl<O: Object> Play<ValueCell<O>, View<O, O::Call, O::Reply>> for Check {
     ghost use Rattle.counted_row.specs.Plays.{Checked};
 
     ghost then = { Checked O.meaning };
@@ -37,7 +38,7 @@ impl<O: Object> Play<Option<O>, View<O, O::Call, O::Reply>> for Check {
 /// An exchange from a free lock to a taken one.
 pub struct Take;
 
-impl<O: Object> Play<Option<O>, View<O, O::Call, O::Reply>> for Take {
+impl<O: Object> Play<ValueCell<O>, View<O, O::Call, O::Reply>> for Take {
     ghost use Rattle.counted_row.specs.Plays.{Took};
 
     ghost then = { Took O.meaning };
@@ -61,7 +62,7 @@ pub struct Enter<K: Asked> {
     of: PhantomData<K>,
 }
 
-impl<O: Object, K: Asked> Play<Option<O>, View<O, O::Call, O::Reply>> for Enter<K> {
+impl<O: Object, K: Asked> Play<ValueCell<O>, View<O, O::Call, O::Reply>> for Enter<K> {
     ghost use Rattle.std.specs.Prelude.{◌≡◌};
     ghost use Rattle.counted_row.specs.Plays.{Enters};
 
@@ -71,7 +72,7 @@ impl<O: Object, K: Asked> Play<Option<O>, View<O, O::Call, O::Reply>> for Enter<
 /// The store of a release.
 pub struct Free;
 
-impl<O: Object> Play<Option<O>, View<O, O::Call, O::Reply>> for Free {
+impl<O: Object> Play<ValueCell<O>, View<O, O::Call, O::Reply>> for Free {
     ghost use Rattle.counted_row.specs.Plays.{Freed};
 
     ghost then = { Freed O.meaning };

@@ -2,8 +2,10 @@
 ghost use Rattle.std.specs.Prelude.{◌≡◌, ℕ, ◌+◌, ◌^◌, ◌<◌, Some, None, [], ◌∷◌, ◌++◌, length, All, IfOk, MatchOption};
 ghost use Rattle.pass_names.specs.Names.{AnswersFor, IsLast};
 ghost use Rattle.pass_names.specs.Passes.{Adds, Looks, Retires, Meets, HasEach, entries};
+ghost use Rattle.counted_row.specs.Places.{row_word_at};
 ghost use Rattle.counted_row.specs.Views.{IsPassOfRow, Sees, Locks, Knows, HasClaimFor, claims_after, first_view, committed, released, split_view, new_view};
 
+use crate::cell::ValueCell;
 use crate::handles::{Held, RowPass};
 use crate::object::Object;
 use crate::parts::{filled, zeros};
@@ -18,21 +20,22 @@ use std::snapshot::Snapshot;
 use std::sync::Wait;
 
 /// Values that many threads share. A call on a value is made under the value's lock, and each value
-/// has one history of calls. Value i has word i + 1 and slot i of a table; word 0 stays 0.
+/// has one history of calls. Value i has word 16 i + 16 and slot i of a table; all other words stay 0.
 #[derive(Drop)]
 pub struct Row<O: Object> {
-    table: Table<Option<O>, Known<O>, Snapshot<Vec<O>>, RowRule, Global>,
+    table: Table<ValueCell<O>, Known<O>, Snapshot<Vec<O>>, RowRule, Global>,
 }
 
 impl<O: Object> Model for Row<O> {
-    ghost use Rattle.std.specs.Prelude.{◌≡◌, ◌+◌, length};
+    ghost use Rattle.std.specs.Prelude.{◌≡◌, length};
+    ghost use Rattle.counted_row.specs.Places.{row_word_at};
     ghost use Rattle.counted_row.specs.Views.{RowOf};
 
     ghost Value = { RowOf O };
 
     ghost view = { λ r. record { id = r.table.shared.table_id; made = r.table.shared.key.value.items } };
 
-    ghost invariant = { λ r. (r.table.shared.table_id.words ≡ length r.table.shared.key.value.items + 1) × (r.table.shared.table_id.slots ≡ length r.table.shared.key.value.items) };
+    ghost invariant = { λ r. (r.table.shared.table_id.words ≡ row_word_at (length r.table.shared.key.value.items)) × (r.table.shared.table_id.slots ≡ length r.table.shared.key.value.items) };
 }
 
 impl<O: Object> Row<O> {
@@ -63,10 +66,10 @@ impl<O: Object> Row<O> {
     /// Which word a value has.
     fn word_of(&self, index: usize) -> usize
         requires { index < length self.now.made }
-        ensures { result ≡ index + 1 }
+        ensures { result ≡ row_word_at index }
     {
-        prove!(index < self.table.slot_count());
-        index + 1
+        prove!(index < self.table.word_count() / 16);
+        16 * index + 16
     }
 
     /// Waits until the lock of a value is free, and takes it.

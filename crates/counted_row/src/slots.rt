@@ -17,7 +17,7 @@ pub fn take_out<O: Object>(cells: &Cells<O>, seat: &mut RowSeat<O>, index: usize
     ensures value { seat.old.me.1 ≡ (index, Some result) ∷ [] }
     ensures empty { seat.new.me ≡ (seat.old.me.0, (index, None) ∷ []) }
 {
-    match cells.exchange(seat, index, None) {
+    match seat.slot_mut(cells, index).take() {
         Some(object) => object,
         None => unreachable!(),
     }
@@ -30,7 +30,7 @@ pub fn put_back<O: Object>(cells: &Cells<O>, seat: &mut RowSeat<O>, index: usize
     ensures same { seat.new.table_id ≡ seat.old.table_id }
     ensures full { seat.new.me ≡ (seat.old.me.0, (index, Some object) ∷ []) }
 {
-    drop(cells.exchange(seat, index, Some(object)));
+    seat.slot_mut(cells, index).put(object);
 }
 
 /// Takes the lock of a value whose word was found to be `stamp`, if it still is.

@@ -5,10 +5,12 @@ ghost use Rattle.atomic_table.specs.Table.{step, rest};
 ghost use Rattle.pass_names.specs.Names.{AnswersFor};
 ghost use Rattle.pass_names.specs.Passes.{Adds, GoesOn, entries};
 ghost use Rattle.counted_row.specs.Plays.{Looked, Hit, Freed, MayTake, Ready, joined_view};
+ghost use Rattle.counted_row.specs.Places.{row_word_at};
 ghost use Rattle.counted_row.specs.Rules.{taken_mark};
 ghost use Rattle.counted_row.specs.declared.view.Locked.{Locked};
 ghost use Rattle.counted_row.specs.Views.{Knows, having_seen, committed, released};
 
+use crate::cell::ValueCell;
 use crate::object::Object;
 use crate::plays::{Asked, Check, Child, Enter, Free, Look, Note, RowRule, Take};
 use crate::view::View;
@@ -20,9 +22,9 @@ pub const TAKEN: u64 = 1 << 63;
 
 pub type Known<O> = View<O, <O as Object>::Call, <O as Object>::Reply>;
 
-pub type Cells<O> = Shared<Option<O>, Known<O>, Snapshot<Vec<O>>, RowRule>;
+pub type Cells<O> = Shared<ValueCell<O>, Known<O>, Snapshot<Vec<O>>, RowRule>;
 
-pub type RowSeat<O> = Seat<Option<O>, Known<O>>;
+pub type RowSeat<O> = Seat<ValueCell<O>, Known<O>>;
 
 /// Loads a word. The seat has then seen all histories so far.
 pub fn look<O: Object>(cells: &Cells<O>, seat: &mut RowSeat<O>, word: usize) -> u64
@@ -76,7 +78,7 @@ pub fn enter<O: Object, K: Asked>(
     call: &O::Call,
 )
     requires same { seat.old.table_id ≡ cells.now.table_id }
-    requires word { (word ≡ index + 1) × (word < cells.now.table_id.words) }
+    requires word { (word ≡ row_word_at index) × (word < cells.now.table_id.words) }
     requires short { stamp < 2 ^ 48 }
     requires asked { K.code ≡ O.Call.row.coded.code call.now }
     requires known { (seat.old.me.0.pass.id.live ≡ true) × (seat.old.me.0.heard ≡ []) }
@@ -100,7 +102,7 @@ pub fn free<O: Object>(
     stamp: u64,
 )
     requires same { seat.old.table_id ≡ cells.now.table_id }
-    requires word { (word ≡ index + 1) × (word < cells.now.table_id.words) }
+    requires word { (word ≡ row_word_at index) × (word < cells.now.table_id.words) }
     requires known { (seat.old.me.0.pass.id.live ≡ true) × (seat.old.me.0.heard ≡ []) }
     requires held { (x : O) × (seat.old.me.0.held ≡ Some (record { index = index; stamp = stamp; state = x })) × (seat.old.me.1 ≡ (index, Some x) ∷ []) }
     ensures same { seat.new.table_id ≡ seat.old.table_id }

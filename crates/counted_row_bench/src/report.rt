@@ -13,7 +13,7 @@ use std::time::{Clock, Instant};
 /// How many values the row has: as many as the greatest row that is promised.
 pub const VALUES: usize = 4096;
 
-/// A value far from the first: their words lie 248 bytes apart.
+/// A value far from the first: other values lie between them.
 const FAR: usize = 31;
 
 /// Locks a thread and a round.

@@ -1,60 +1,38 @@
 -- Calls that a pass has made, added up.
-use Rattle.std.proofs.Common.{◌≡◌, ℕ, ◌+◌, ◌<◌, ◌≢◌, false, eqb, ◌&&◌, List, [], ◌∷◌, None, length, refl, ap, sym, ◌∙◌, subst, ⊎_elim, length-append, arith}
+use Rattle.std.proofs.Common.{◌≡◌, ℕ, ◌+◌, ◌<◌, ◌≢◌, eqb, ◌&&◌, List, [], ◌∷◌, length, refl, ap, sym, ◌∙◌, subst, ⊎_elim, length-append, arith}
 use Rattle.std.proofs.lemmas.Bool.{ne_eqb, cases_lt}
 use Rattle.std.proofs.lemmas.Bool.Decides.{nat_tests}
 use Rattle.pass_names.specs.declared.Pass.{Pass}
 use Rattle.pass_names.specs.Counts.{one_if, count}
 use Rattle.pass_names.specs.Names.{IsLast}
-use Rattle.pass_names.specs.Passes.{Adds, is_place, within, entries}
-use Rattle.pass_names.proofs.Passes.{goes_refl, goes_trans, count_place, places_of_one}
+use Rattle.pass_names.specs.Passes.{is_place, within, entries}
+use Rattle.pass_names.proofs.Passes.{count_place, places_of_one}
 use Rattle.counted_row.specs.declared.view.Entry.{Entry}
-use Rattle.counted_row.specs.declared.view.Locked.{Locked}
 use Rattle.counted_row.specs.declared.view.View.{View}
-use Rattle.counted_row.specs.Views.{PassOfRow, Locks, Knows, first_view, committed}
+use Rattle.counted_row.specs.Calls.{Commits}
+use Rattle.counted_row.specs.Views.{PassOfRow, Knows, first_view}
 use Rattle.counted_row_uses.specs.declared.counter.Counter.{Counter}
 use Rattle.counted_row_uses.specs.Counters.{adding, Made}
 
--- a pass that holds nothing has made no call yet
-pub made_none : (index : ℕ) (p : PassOfRow Counter ℕ ℕ) → p.knows.held ≡ None → Made index 0 p p
-made_none index p idle = record {
-  id = refl;
-  seen = goes_refl p.knows.pass.seen;
-  mine = omega arith;
-  elsewhere = λ i k apart. refl;
-  claims = refl;
-  held = idle;
-}
-
-pub made_more : (index m n : ℕ) (p q r : PassOfRow Counter ℕ ℕ) → Made index m p q → Made index n q r → Made index (m + n) p r
-made_more index m n p q r a b = record {
-  id = b.id ∙ a.id;
-  seen = goes_trans a.seen b.seen;
-  mine = omega (arith, a.mine, b.mine);
-  elsewhere = λ i k apart. b.elsewhere i k apart ∙ a.elsewhere i k apart;
-  claims = b.claims ∙ a.claims;
-  held = b.held;
-}
-
--- a call was made under the lock
-pub made_one : (index call : ℕ) (p q r : PassOfRow Counter ℕ ℕ) (h : Locked Counter) (e : Entry ℕ ℕ) → Locks adding p q index h
-    → Adds q.knows.pass r.knows.pass h.index (e ∷ [])
-    → r.knows ≡ committed adding h call q.knows → Made index 1 p r
-made_one index call p q r h e locks adds is = record {
-  id = adds.id ∙ locks.pass.id;
-  seen = goes_trans locks.pass.seen adds.seen;
-  mine = omega (arith, ap length adds.mine, length-append q.knows.pass.mine ((h.index, length adds.before + 1) ∷ []), ap length locks.pass.mine);
-  elsewhere = λ i k apart.
-      let none : eqb h.index i ≡ false = ne_eqb h.index i (λ t. apart (sym t ∙ locks.index)) in
-      omega (
-        arith,
-        ap (count (is_place i k)) adds.mine,
-        count_place h.index i k (length adds.before + 1) q.knows.pass.mine,
-        ap (λ b. one_if (b && eqb (length adds.before + 1) k)) none,
-        ap (count (is_place i k)) locks.pass.mine,
-      );
-  claims = ap (λ v. v.claims) is ∙ locks.claims;
-  held = ap (λ v. v.held) is;
-}
+-- a turn with a call
+pub made_one : {index call : ℕ} {p q : PassOfRow Counter ℕ ℕ} → Commits adding p q index call → Made index 1 p q
+made_one {index} {call} {p} {q} turn =
+    let adds = turn.adds in
+    let number = length adds.before + 1 in
+    record {
+      id = adds.id;
+      seen = adds.seen;
+      mine = omega (arith, ap length adds.mine, length-append p.knows.pass.mine ((index, number) ∷ []));
+      elsewhere = λ i k apart.
+          omega (
+            arith,
+            ap (count (is_place i k)) adds.mine,
+            count_place index i k number p.knows.pass.mine,
+            ap (λ b. one_if (b && eqb number k)) (ne_eqb index i (λ t. apart (sym t))),
+          );
+      claims = turn.claims;
+      held = turn.idle;
+    }
 
 in_range : (n : ℕ) → 0 < n → one_if (within n n) ≡ 1
 in_range n h = grind (arith, nat_tests)

@@ -1,8 +1,7 @@
 //! A gate as a value of a row: who enters gets a claim, which only its pass can end.
-ghost use Rattle.std.specs.Prelude.{◌≡◌, ℕ, ◌+◌, ◌<◌, [], ◌∷◌, None, length, IfSome, MatchOption, MatchBool};
-ghost use Rattle.counted_row.specs.Views.{IsPassOfRow, MayLock, HasClaim, is_claim};
+ghost use Rattle.std.specs.Prelude.{◌≡◌, ℕ, ◌+◌, [], ◌∷◌, IfSome, MatchOption, MatchBool};
+ghost use Rattle.counted_row.specs.Views.{IsPassOfRow, MayLock, Sees, HasClaim};
 ghost use Rattle.counted_row.specs.Calls.{Commits, Reads};
-ghost use Rattle.pass_names.specs.Counts.{without_first};
 ghost use Rattle.counted_row_uses.specs.Gates.{gating};
 ghost use Rattle.counted_row_uses.specs.declared.gate.Turn.TheVariants.{Enter, Leave};
 
@@ -73,6 +72,28 @@ pub fn enter<R: Wait>(
     }
 }
 
+/// Enters once the gate is found open, in so many looks.
+pub fn enter_soon<R: Wait>(
+    rt: &R,
+    row: &Row<Gate>,
+    pass: &mut RowPass<Gate>,
+    index: usize,
+    looks: u64,
+) -> Option<u64>
+    requires lock { MayLock row.now pass.old index }
+    ensures row { IsPassOfRow row.now pass.new }
+    ensures turn { MatchOption result
+        (Sees pass.old pass.new)
+        (λ n. (enters : Commits gating pass.old pass.new index Enter) × (n ≡ enters.state.entries + 1)) }
+{
+    for _ in 0..looks {
+        if let Some(number) = enter(rt, row, pass, index) {
+            return Some(number);
+        }
+    }
+    None
+}
+
 /// Leaves, unless the history is full. The claim is that of the pass's own entry.
 pub fn leave<R: Wait>(
     rt: &R,
@@ -84,11 +105,9 @@ pub fn leave<R: Wait>(
     requires lock { MayLock row.now pass.old index }
     requires claim { HasClaim index (number ∷ []) pass.old.knows.claims }
     ensures row { IsPassOfRow row.now pass.new }
-    ensures id { pass.new.knows.pass.id ≡ pass.old.knows.pass.id }
-    ensures idle { pass.new.knows.held ≡ None }
-    ensures claim { MatchBool result
-        (pass.new.knows.claims ≡ without_first (is_claim index (number ∷ [])) pass.old.knows.claims)
-        (pass.new.knows.claims ≡ pass.old.knows.claims) }
+    ensures turn { MatchBool result
+        ((leaves : Commits gating pass.old pass.new index Leave) × (number ≡ leaves.state.entries))
+        (Reads gating pass.old pass.new index) }
 {
     let held = row.lock(rt, pass, index);
     if held.stamp() > LAST_STAMP {

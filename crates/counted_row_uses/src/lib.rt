@@ -9,6 +9,6 @@ mod tests;
 mod threads;
 
 pub use counter::{Counter, add_one, count};
-pub use gate::{Gate, Turn, enter, leave};
+pub use gate::{Gate, Turn, enter, enter_soon, leave};
 pub use lanes::{Lane, count_in_lanes, lanes_of, retire_all};
 pub use threads::{Totals, count_anew, count_by_two};

@@ -1,6 +1,8 @@
 -- A timer at the moments of a call, and after the entries that the call made.
-use Rattle.std.proofs.Common.{◌≡◌, ℕ, ◌+◌, List, [], ◌∷◌, ◌++◌, length, refl, ap, sym, ◌∙◌}
+use Rattle.std.proofs.Common.{◌≡◌, ℕ, ◌+◌, ◌≤◌, List, [], ◌∷◌, ◌++◌, length, refl, ap, sym, ◌∙◌, arith, length-append}
+use Rattle.pass_names.specs.Passes.{Begins}
 use Rattle.seq_timer.specs.declared.event.Event.{Event}
+use Rattle.seq_timer.specs.declared.event.Event.TheVariants as events
 use Rattle.seq_timer.specs.declared.system.TimerEntry.{TimerEntry}
 use Rattle.seq_timer.specs.Histories as seq
 use Rattle.seq_timer.specs.Steps.{Timer, after}
@@ -11,6 +13,7 @@ use Rattle.seq_timer.proofs.Systems.{after_entries-entries_of}
 use Rattle.timer_core.specs.Kept.{step_all}
 use Rattle.timer_core.specs.Runs.{entries_along}
 use Rattle.base_row.specs.declared.view.Opening.{Opening}
+use Rattle.base_row.proofs.Begun.{entries_of-begins}
 use Rattle.hr_timers.specs.Known.{KnownOfTimers, MadeAt, timer_then}
 
 after_all-append : (t : Timer) (xs ys : List seq.Entry) → seq.after_all t (xs ++ ys) ≡ seq.after_all (seq.after_all t xs) ys
@@ -35,3 +38,29 @@ along t (e ∷ es) = along (after t e) es
 pub stamp_made : (o : Opening) (v w : KnownOfTimers) (t : ℕ) (x : List TimerEntry) (es : List seq.Entry) → MadeAt v w t x es
     → (timer_then o w.seen t).stamp ≡ (timer_then o x t).stamp + length es
 stamp_made o v w t x es made = ap (λ (s : Timer). s.stamp) (timer_after o v w t x es made) ∙ stamp-after_all (timer_then o x t) es
+
+-- it is the number of the timer's entries, behind that which it began with
+stamp_then : (o : Opening) (x : List TimerEntry) (t : ℕ) → (timer_then o x t).stamp ≡ (timer_at o.timers t).stamp + length (entries_of t x)
+stamp_then o x t = ap (λ (s : Timer). s.stamp) (timer_own o x t) ∙ stamp-after_all (timer_at o.timers t) (entries_of t x)
+
+-- so it never falls
+pub stamp_rises : (o : Opening) (x y : List TimerEntry) (t : ℕ) → Begins x y → (timer_then o x t).stamp ≤ (timer_then o y t).stamp
+stamp_rises o x y t begins =
+    let own = entries_of-begins t x y begins in
+    omega (arith, stamp_then o x t, stamp_then o y t, ap length own.whole, length-append (entries_of t x) own.rest)
+
+-- a timer keeps the clock that it was declared on
+declared-after : (t : Timer) (e : Event) → (after t e).declared ≡ t.declared
+declared-after t (events.Out base) = refl
+declared-after t (events.Start mode ns reading asked) = refl
+declared-after t events.Cancel = refl
+declared-after t (events.Claim base reading) = refl
+declared-after t (events.Forward reading interval) = refl
+declared-after t (events.Finish restart) = refl
+
+declared-after_all : (t : Timer) (es : List seq.Entry) → (seq.after_all t es).declared ≡ t.declared
+declared-after_all t [] = refl
+declared-after_all t (e ∷ es) = declared-after_all (after t e.event) es ∙ declared-after t e.event
+
+pub declared_kept : (o : Opening) (x : List TimerEntry) (t : ℕ) → (timer_then o x t).declared ≡ (timer_at o.timers t).declared
+declared_kept o x t = ap (λ (s : Timer). s.declared) (timer_own o x t) ∙ declared-after_all (timer_at o.timers t) (entries_of t x)

@@ -1,5 +1,5 @@
 -- What calls on an object do to its timer.
-use Rattle.std.proofs.Common.{arith, refl, sym, ap, subst, ◌≡◌, ◌∙◌, ℕ, zero, suc, ◌+◌, ◌-◌, ◌^◌, ◌≤◌, ◌<◌, Bool, true, false, not, nat_eq, List, [], ◌∷◌, ◌++◌, length}
+use Rattle.std.proofs.Common.{arith, refl, sym, ap, subst, ◌≡◌, ◌∙◌, ℕ, zero, suc, ◌+◌, ◌-◌, ◌^◌, ◌≤◌, ◌<◌, Bool, true, false, not, nat_eq, List, [], ◌∷◌, ◌++◌, length, append_assoc}
 use Rattle.std.proofs.lemmas.Bool.Decides.{nat_tests}
 use Rattle.std.proofs.lemmas.Nat.{pow_pos}
 use Rattle.std.specs.Prelude.{is_some, Some, None, if◌then◌else◌}
@@ -7,6 +7,12 @@ use Rattle.ktime.specs.declared.clock_id.ClockId.{ClockId}
 use Rattle.ktime.specs.declared.mode.Mode.{Mode}
 use Rattle.ktime.specs.Times.{effective_clock}
 use Rattle.ktime.specs.Readings.{ClockReading}
+use Rattle.pass_names.specs.Passes.{places}
+use Rattle.pass_names.proofs.Passes.{begins_trans}
+use Rattle.seq_timer.specs.Systems.{entries_of}
+use Rattle.std.proofs.lemmas.List.{append-nil}
+use Rattle.timer_setting.specs.declared.arming.Arm.TheVariants as arms
+use Rattle.timer_setting.specs.declared.arming.Wanted.{Wanted}
 use Rattle.pass_names.specs.SharedHistory.{LooksOn}
 use Rattle.pass_names.proofs.SharedHistory.{looks_refl}
 use Rattle.seq_timer.specs.declared.event.Event.{Event}
@@ -19,16 +25,17 @@ use Rattle.timer_core.specs.Answers.{moves_first, start_events}
 use Rattle.timer_core.specs.Kept.{step_all}
 use Rattle.timer_core.specs.Runs.{entries_along}
 use Rattle.timer_core.specs.declared.answer.CancelAnswer.{CancelAnswer}
+use Rattle.timer_core.specs.declared.answer.CancelAnswer.TheVariants as cancels
 use Rattle.base_row.specs.declared.view.Opening.{Opening}
 use Rattle.hr_timers.specs.declared.answer.StartAnswer.{StartAnswer}
 use Rattle.hr_timers.specs.declared.answer.StartAnswer.TheVariants as starts
 use Rattle.hr_timers.specs.Known.{KnownOfTimers, MadeAt, timer_then}
-use Rattle.hr_timers.specs.Calls.{Cancels, Peeks, StartsTimer, start_answer}
-use Rattle.hr_timers.proofs.Moments.{stamp_made}
+use Rattle.hr_timers.specs.Calls.{Cancels, Peeks, StartsTimer, cancel_entries, start_answer}
+use Rattle.hr_timers.proofs.Moments.{stamp_made, stamp_rises}
 use Rattle.expire_pass.proofs.Turning.{looks_then}
 use Rattle.expire_pass.specs.declared.log.Noted.TheVariants as noteds
 use Rattle.expire_pass.specs.declared.log.Receipt.{Receipt}
-use Rattle.timer_objects.specs.Arming.{SeesTimer, receipts_of, stamp_seen}
+use Rattle.timer_objects.specs.Arming.{Disarms, SeesTimer, Starts, arm_of, receipts_of}
 
 module _ (o : Opening) (v w : KnownOfTimers) (t : ℕ) (p : Peek) (peeks : Peeks o v w t p) where
   pub peek_looks : LooksOn v w
@@ -41,6 +48,50 @@ module _ (o : Opening) (v w : KnownOfTimers) (t : ℕ) (p : Peek) (peeks : Peeks
     behind = behind;
   }
 
+-- what was seen before a cancel goes on to it
+abbrev pub cancels_after : (o : Opening) (u v w : KnownOfTimers) (t : ℕ) (a : CancelAnswer) → LooksOn u v → Cancels o v w t a → Cancels o u w t a
+cancels_after o u v w t a looks c = record {
+  at = c.at;
+  made = record {
+    from = begins_trans looks.seen c.made.from;
+    seen = c.made.seen;
+    own = c.made.own;
+    mine = c.made.mine ∙ ap (λ l. l ++ places t (length (entries_of t c.at)) (cancel_entries a)) looks.mine;
+    id = c.made.id ∙ looks.id;
+  };
+  fits = c.fits;
+  claims = c.claims ∙ looks.claims;
+}
+
+module _ (o : Opening) (u v w : KnownOfTimers) (t last n : ℕ) (sees : SeesTimer o u v t last n) where
+  behind : (a : CancelAnswer) (c : Cancels o v w t a) → last ≤ (timer_then o c.at t).stamp
+  behind a c = omega (arith, sees.behind, sees.number, stamp_rises o v.seen c.at t c.made.from)
+
+  pub disarms_idle : (stamp : ℕ) (log : List Receipt) → Cancels o v w t (cancels.Idle stamp) → Disarms o u w t last (record { from = stamp; to = stamp }) log log
+  disarms_idle stamp log c = record {
+    answer = cancels.Idle stamp;
+    cancelled = cancels_after o u v w t (cancels.Idle stamp) sees.looks c;
+    ended = λ g k e. cc;
+    from = c.fits.1;
+    behind = omega (arith, behind (cancels.Idle stamp) c, c.fits.1);
+    to = omega arith;
+    receipts = sym (append-nil log);
+  }
+
+  pub disarms_armed : (g number : ℕ) (log : List Receipt) → Cancels o v w t (cancels.Cancelled g number)
+      → Disarms o u w t last (record { from = number - 1; to = number }) log
+          (log ++ record { timer = t; number = number; event = events.Cancel; reply = noteds.Entry (replies.Cancel g) } ∷ [])
+  disarms_armed g number log c = record {
+    answer = cancels.Cancelled g number;
+    cancelled = cancels_after o u v w t (cancels.Cancelled g number) sees.looks c;
+    ended = λ h k e. cc;
+    from = omega (arith, c.fits.3);
+    behind = omega (arith, behind (cancels.Cancelled g number) c, c.fits.3);
+    to = omega (arith, c.fits.3);
+    receipts = ap (λ k. log ++ record { timer = t; number = k; event = events.Cancel; reply = noteds.Entry (replies.Cancel g) } ∷ [])
+        {x = number} {y = number - 1 + 1} (omega (arith, c.fits.3));
+  }
+
 -- the receipts that a start notes, by its answer; two where it has moved the timer
 abbrev pub noted_by : ℕ → Mode → ℕ → ℕ → ClockReading → Bool → StartAnswer → List Receipt
 noted_by t mode ns asked reading true (starts.Started was_armed generation base outs clock expires) =
@@ -50,7 +101,7 @@ noted_by t mode ns asked reading false (starts.Started was_armed generation base
     record { timer = t; number = generation; event = events.Start mode ns reading asked; reply = noteds.Entry (replies.Start base clock expires was_armed) } ∷ []
 noted_by t mode ns asked reading moved (starts.Spent n) = []
 
-abbrev events_by : Mode → ℕ → ℕ → ClockReading → Bool → List Event
+abbrev pub events_by : Mode → ℕ → ℕ → ClockReading → Bool → List Event
 events_by mode ns asked reading moves = if moves then events.Out asked ∷ events.Start mode ns reading asked ∷ [] else events.Start mode ns reading asked ∷ []
 
 abbrev answer_by : Timer → ℕ → Bool → List Event → StartAnswer
@@ -93,3 +144,22 @@ module _ (t : ℕ) (u : Timer) (mode : Mode) (ns asked : ℕ) (reading : ClockRe
       flip false false e = refl
       flip true false e = sym e
       flip false true e = sym e
+
+-- a start that was answered so was made, with these receipts
+pub starts_of : (o : Opening) (v w : KnownOfTimers) (t base : ℕ) (wanted : Wanted) (reading : ClockReading) (log log' : List Receipt) (a : StartAnswer) (moves : Bool)
+    → nat_eq (outs_in a) 0 ≡ not moves → (g : ℕ) → arms.Armed g ≡ arm_of a → StartsTimer o v w t wanted.mode wanted.ns base reading a
+    → log' ≡ log ++ noted_by t wanted.mode wanted.ns base reading moves a → Starts o v w t wanted base reading (arms.Armed g) log log'
+starts_of o v w t base wanted reading log log' (starts.Started was g there outs clock expires) moves told k armed s noted = record {
+  answer = starts.Started was g there outs clock expires;
+  starts = s;
+  outcome = armed;
+  receipts = noted ∙ ap (λ l. log ++ l) (noted_start t (timer_then o s.at t) wanted.mode wanted.ns base reading _ moves s.fits.2 told);
+}
+starts_of o v w t base wanted reading log log' (starts.Spent n) moves told k armed s noted = absurd (armed_not k n armed)
+  where
+    armed_not : (g n : ℕ) → arms.Armed g ≡ arms.Unarmed n → ⊥
+    armed_not g n e = cc
+
+-- two receipts, one behind the other
+pub noted_both : (log mid all : List Receipt) (a b : Receipt) → mid ≡ log ++ a ∷ [] → all ≡ mid ++ b ∷ [] → all ≡ log ++ a ∷ b ∷ []
+noted_both log mid all a b first second = second ∙ (ap (λ l. l ++ b ∷ []) first ∙ append_assoc log (a ∷ []) (b ∷ []))

@@ -13,7 +13,7 @@ use Rattle.timer_setting.specs.declared.phase.Phase.{Phase}
 use Rattle.timer_setting.specs.declared.phase.Phase.TheVariants as phases
 use Rattle.timer_setting.specs.declared.settime_call.SettimeCall.{SettimeCall}
 use Rattle.timer_setting.specs.Arguments.{abstime, bits_beyond, is_bad, start_by, time_of}
-use Rattle.counted_row.specs.Views.{StateAfter}
+use Rattle.counted_row.specs.Views.{Sees}
 use Rattle.counted_row.specs.Calls.{Commits, Reads}
 use Rattle.posix_timer.specs.declared.answers.AcceptAnswer.{AcceptAnswer}
 use Rattle.posix_timer.specs.declared.answers.AcceptAnswer.TheVariants as acceptances
@@ -61,6 +61,13 @@ pub record Caller : Type 0 where
   pub object_log : List ObjectReceipt
 
 -- ---- what all calls share
+
+-- the caller has waited, and may have looked at timers and objects
+pub record Waits (old new : Caller) : Type 0 where
+  pub timers : LooksOn old.timers new.timers
+  pub objects : Sees old.objects new.objects
+  pub log : new.log ≡ old.log
+  pub object_log : new.object_log ≡ old.object_log
 
 -- The history of the object is full. Nothing was done but to look at it, and so many entries stand there.
 pub record FindsFull (x : ObjectsOf) (old new : Caller) (id n : ℕ) : Type 0 where

@@ -4,6 +4,7 @@ pub mod Logs
 pub mod Known
 pub mod Arming
 pub mod Calls
+pub mod Valid
 pub mod Callbacks
 pub mod Triggers
 pub mod Firings

@@ -17,6 +17,7 @@ mod firing;
 mod log;
 mod object;
 mod objects;
+mod settime;
 #[cfg(test)]
 mod tests;
 mod trigger;

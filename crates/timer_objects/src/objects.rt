@@ -1,5 +1,5 @@
 //! Objects that many threads share, and what each call does at their row.
-ghost use Rattle.std.specs.Prelude.{◌≡◌, ◌≤◌, ◌<◌, ◌+◌, [], ◌∷◌, ◌++◌, Some, length, IfOk};
+ghost use Rattle.std.specs.Prelude.{◌≡◌, ◌≤◌, ◌<◌, ◌+◌, [], ◌∷◌, ◌++◌, Some, length, IfOk, MatchBool};
 ghost use Rattle.pass_names.specs.Names.{AnswersFor, IsLast};
 ghost use Rattle.pass_names.specs.Passes.{HasEach, Meets, Retires};
 ghost use Rattle.timer_setting.specs.Settimes.{most_entries};
@@ -109,6 +109,13 @@ impl Objects {
         ensures holds { HoldsObject self.now result }
     {
         self.row.lock(rt, pass, id as usize)
+    }
+
+    /// Whether the history of a held object is full.
+    pub(crate) fn is_full(&self, held: &Held<ObjectCell>) -> bool
+        ensures { MatchBool result (self.now.limit ≤ held.now.stamp) (held.now.stamp < self.now.limit) }
+    {
+        held.stamp() >= self.limit
     }
 
     /// Makes a call on a held object, notes the receipt, and lets the object's lock go.

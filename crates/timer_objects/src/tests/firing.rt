@@ -1,5 +1,8 @@
 //! The handler of objects' timers, run on one timer: each callback, and each kind of object.
-ghost use Rattle.std.specs.Prelude.{◌≡◌, ◌≤◌, ◌<◌, [], ◌∷◌, length};
+ghost use Rattle.std.specs.Prelude.{◌≡◌, ℕ, ◌≤◌, ◌<◌, [], ◌∷◌, length, IfSome};
+ghost use Rattle.timer_objects.specs.declared.object.Decl.{Decl};
+ghost use Rattle.timer_objects.specs.declared.object.Object.{Object};
+ghost use Rattle.timer_objects.specs.Steps.{IsObjectOf, ObjectAllows};
 ghost use Rattle.hr_timers.specs.Known.{IsPassOf};
 ghost use Rattle.expire_pass.specs.Handlers.{KeepsPass};
 ghost use Rattle.timer_setting.specs.Settimes.{most_entries};
@@ -70,20 +73,10 @@ fn ending(noting: &Noting) -> Option<Event> {
     Some(finish.event)
 }
 
-/// Makes the entry in an object's history of the settime for which its timer was started, as generation 1.
-fn arm<R: Wait>(
-    rt: &R,
-    alloc: Global,
-    objects: &Objects,
-    pass: &mut RowPass<ObjectCell>,
-) -> Result<(), AllocError>
-    requires pass { IsObjectsPass objects.now pass.old }
-    requires some { 0 < length objects.now.decls }
-    ensures pass { IsObjectsPass objects.now pass.new }
-    ensures id { pass.new.knows.pass.id ≡ pass.old.knows.pass.id }
+/// The settime for which a timer was started as generation 1, as a call on the object over it.
+fn settime_of(kind: Kind) -> Option<ObjectCall>
+    ensures { IfSome result (λ call. (x : Object) (limit n : ℕ) (decl : Decl) → decl.kind ≡ kind → IsObjectOf decl limit n x → n < limit → ObjectAllows x call) }
 {
-    let mut log = ObjectLog::make(alloc);
-    log.reserve(1)?;
     let set = SettimeCall {
         flags: 1,
         value: 100,
@@ -91,18 +84,35 @@ fn arm<R: Wait>(
         reading: Reading::at(5),
         arm: Arm::Armed(1),
     };
-    let call = match objects.kind(0) {
-        Kind::Raw => return Ok(()),
-        Kind::Posix => ObjectCall::Posix(posix_timer::Call::Settime(set)),
-        Kind::Fd => ObjectCall::Fd(timer_fd::Call::Settime(set)),
-    };
+    match kind {
+        Kind::Raw => None,
+        Kind::Posix => Some(ObjectCall::Posix(posix_timer::Call::Settime(set))),
+        Kind::Fd => Some(ObjectCall::Fd(timer_fd::Call::Settime(set))),
+    }
+}
+
+/// Makes the entry of the settime for which its timer was started.
+fn arm<R: Wait>(
+    rt: &R,
+    objects: &Objects,
+    pass: &mut RowPass<ObjectCell>,
+    log: &mut ObjectLog,
+    call: ObjectCall,
+)
+    requires pass { IsObjectsPass objects.now pass.old }
+    requires some { 0 < length objects.now.decls }
+    requires room { 0 < log.old.spare }
+    requires allowed { (x : Object) (n : ℕ) → IsObjectOf (decl_at objects.now 0) objects.now.limit n x → n < objects.now.limit → ObjectAllows x call }
+    ensures pass { IsObjectsPass objects.now pass.new }
+    ensures id { pass.new.knows.pass.id ≡ pass.old.knows.pass.id }
+{
     let held = objects.lock(rt, pass, 0);
     if held.stamp() < objects.limit() && held.state().last == 0 {
-        let _ = objects.enter(pass, held, &mut log, 0, call, Span { from: 0, to: 1 });
+        let span = Span { from: 0, to: 1 };
+        let _ = objects.enter(pass, held, log, 0, call, span);
     } else {
         objects.release(pass, held);
     }
-    Ok(())
 }
 
 /// The function of one timer runs, which was armed for 100, and has an object of this kind with this limit over it.
@@ -122,6 +132,8 @@ fn fired<R: Wait>(
         clock,
         base: 0,
     };
+    let mut arming = ObjectLog::make(alloc);
+    arming.reserve(1)?;
     let (timers, mut pass) = Timers::make(alloc, 1, &[clock], 100)?;
     let (objects, mut lent) = match Objects::make(alloc, &[decl], limit) {
         Ok(made) => made,
@@ -131,7 +143,9 @@ fn fired<R: Wait>(
         }
     };
     timers.start(rt, &mut pass, 0, Mode::Abs, 100, 0, Reading::at(5));
-    let armed = arm(rt, alloc, &objects, &mut lent);
+    if let Some(call) = settime_of(kind) {
+        arm(rt, &objects, &mut lent, &mut arming, call);
+    }
     let noting = expire_lent(
         rt,
         alloc,
@@ -143,7 +157,6 @@ fn fired<R: Wait>(
     );
     objects.close(lent);
     timers.close(pass);
-    armed?;
     noting
 }
 

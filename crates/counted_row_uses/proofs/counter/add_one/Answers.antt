@@ -1,7 +1,9 @@
+use Rattle.counted_row.proofs.Calls.{commits_of}
 use Rattle.counted_row_uses.proofs.Counting.{made_one}
 use Rattle.counted_row_uses.proofs.counter.add_one.Goals as goal
 
 pub returns-then-state-lt18446744073709551615-clause-made : goal.returns-then-state-lt18446744073709551615-clause-made
 returns-then-state-lt18446744073709551615-clause-made g c =
-    made_one c.args.index 1 c.args.pass.now c.lock-held.new.pass c.commit.new.pass c.lock-held.result _
-    c.lock-held.ensures.locks c.commit.ensures.adds c.commit.ensures.knows
+    let locked = c.lock-held.ensures in
+    let made = c.commit.ensures in
+    made_one (commits_of locked.locks locked.row made.row made.adds made.knows made.known)

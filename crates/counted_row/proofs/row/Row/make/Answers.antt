@@ -1,4 +1,5 @@
-use Rattle.std.proofs.Common.{◌≡◌, ◌+◌, ◌∙◌, length, replicate, ap, sym, subst, arith}
+use Rattle.std.proofs.Common.{◌≡◌, ◌∙◌, length, replicate, ap, sym, subst, arith}
+use Rattle.counted_row.specs.Places.{row_word_at}
 use Rattle.counted_row.specs.Views.{Knows, first_view}
 use Rattle.counted_row.proofs.Opening.{opens, knows_first}
 use Rattle.counted_row.proofs.row.Row.make.Goals as goal
@@ -10,7 +11,7 @@ new-requires g c =
     let count : c.len.result ≡ length values.items = omega (arith, c.len.ensures, values.ok.0) in
     rw told
     (opens g.O.Object.meaning values.items _ _ c.requires.unclaimed
-    (c.as_slice.ensures.value ∙ (c.in_ok-words.ensures ∙ ap (λ n. replicate (n + 1) 0) count))
+    (c.as_slice.ensures.value ∙ (c.in_ok-words.ensures ∙ ap (λ n. replicate (row_word_at n) 0) count))
     c.in_ok-slots.ensures)
 
 pub returns-in-Ok-clause-known : goal.returns-in-Ok-clause-known

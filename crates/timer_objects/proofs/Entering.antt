@@ -1,0 +1,42 @@
+-- A call that was entered in an object's history.
+use Rattle.std.proofs.Common.{arith, refl, sym, ap, subst, ◌≡◌, ◌∙◌, ℕ, ◌+◌, ◌<◌, List, [], ◌∷◌, ◌++◌, length, length-append}
+use Rattle.pass_names.specs.declared.Pass.{Pass}
+use Rattle.pass_names.specs.Passes.{Adds, entries}
+use Rattle.counted_row.specs.declared.view.Locked.{Locked}
+use Rattle.counted_row.specs.Views.{IsPassOfRow, Locks}
+use Rattle.counted_row.specs.Calls.{Commits}
+use Rattle.counted_row.proofs.Calls.{commits_of}
+use Rattle.timer_objects.specs.declared.cell.ObjectCell.{ObjectCell}
+use Rattle.timer_objects.specs.declared.cell.SpannedCall.{SpannedCall}
+use Rattle.timer_objects.specs.declared.log.ObjectReceipt.{ObjectReceipt}
+use Rattle.timer_objects.specs.declared.object.ObjectReply.{ObjectReply}
+use Rattle.timer_objects.specs.Steps.{object_answer}
+use Rattle.timer_objects.specs.Cells.{cell_meaning}
+use Rattle.timer_objects.specs.Known.{Enters, IsObjectsPass, ObjectsOf, ObjectsPass, receipt_of, row_of, seen_of}
+use Rattle.timer_objects.specs.Calls.{Caller, EntersCall}
+
+-- behind what was there before stands one entry
+one_behind : {E : Type 0} (a b : Pass E) (i : ℕ) (e : E) (adds : Adds a b i (e ∷ [])) → length (entries i b.seen) ≡ length adds.before + 1
+one_behind a b i e adds = omega (arith, ap length adds.last, length-append adds.before (e ∷ []))
+
+module _ (x : ObjectsOf) (p m q : ObjectsPass) (id : ℕ) (h : Locked ObjectCell) (call : SpannedCall) (answer : ObjectReply)
+    (locks : Locks cell_meaning p m id h) (row : IsPassOfRow (row_of x) m) (is : IsObjectsPass x q) (enters : Enters m q h call answer) where
+  abbrev pub commits : Commits cell_meaning p q id call
+  commits = commits_of {r = row_of x} locks row is.row
+      (subst (λ r. Adds m.knows.pass q.knows.pass h.index (record { call = call; reply = r } ∷ [])) enters.reply enters.adds) enters.knows is.knows
+
+  pub stamp_before : length commits.adds.before ≡ h.stamp
+  stamp_before = omega (arith, one_behind _ _ _ _ commits.adds, ap (λ i. length (seen_of q i)) (sym locks.index), enters.count)
+
+  -- the call stands last, and its receipt too
+  abbrev pub enters_call : (old new : Caller) → old.objects ≡ p → new.objects ≡ q → h.stamp < x.limit
+      → new.object_log ≡ old.object_log ++ receipt_of h call ∷ [] → EntersCall x (record old { objects = p }) (record new { objects = q }) id call answer
+  enters_call old new e f room noted = record {
+    commits = commits;
+    reply = enters.reply;
+    room = omega (arith, stamp_before, room);
+    object_log = noted ∙ ap (λ r. old.object_log ++ r ∷ [])
+        (ap (λ i. record { object = i; number = h.stamp + 1; call = call; reply = object_answer h.state.object call.call }) locks.index
+        ∙ (ap (λ n. record { object = id; number = n + 1; call = call; reply = object_answer h.state.object call.call }) (sym stamp_before)
+        ∙ ap (λ r. record { object = id; number = length commits.adds.before + 1; call = call; reply = r }) (sym enters.reply)));
+  }

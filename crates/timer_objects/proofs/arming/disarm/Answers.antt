@@ -1,0 +1,9 @@
+use Rattle.timer_objects.proofs.Starting.{disarms_armed, disarms_idle}
+use Rattle.timer_objects.proofs.arming.disarm.Goals as goal
+
+pub returns-in-Idle-clause-disarms : goal.returns-in-Idle-clause-disarms
+returns-in-Idle-clause-disarms g c = disarms_idle _ _ _ _ _ _ _ c.in_ok-look.ensures.sees _ _ c.in-Idle.ensures.cancels
+
+pub returns-in-Cancelled-clause-disarms : goal.returns-in-Cancelled-clause-disarms
+returns-in-Cancelled-clause-disarms g c =
+    rw (c.note.ensures.receipts) (disarms_armed _ _ _ _ _ _ _ c.in_ok-look.ensures.sees _ _ _ c.in-Cancelled.ensures.cancels)

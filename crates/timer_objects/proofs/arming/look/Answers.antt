@@ -1,0 +1,5 @@
+use Rattle.timer_objects.proofs.Starting.{peek_sees}
+use Rattle.timer_objects.proofs.arming.look.Goals as goal
+
+pub returns-clause-sees : goal.returns-clause-sees
+returns-clause-sees c = peek_sees _ _ _ _ _ c.peek-seen.ensures.peeks c.args.last c.if-seen-last.false
