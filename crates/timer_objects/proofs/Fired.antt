@@ -1,5 +1,5 @@
 -- What the handler of objects' timers leaves of the pass that it has borrowed.
-use Rattle.std.proofs.Common.{◌≡◌, ℕ, ◌×◌, zero, suc, List, refl, sym, ◌∙◌, subst, inl, inr}
+use Rattle.std.proofs.Common.{◌≡◌, ℕ, zero, suc, List, refl, sym, ◌∙◌, subst, inl, inr}
 use Rattle.std.specs.Prelude.{Option, Some, None}
 use Rattle.ktime.specs.Readings.{ClockReading}
 use Rattle.pass_names.specs.Passes.{Begins}
@@ -85,5 +85,5 @@ module _ (o : Opening) (reading : ClockReading) where
       → IsObjectsPass h.objects.now h.objects_pass.now → Expires firing o base reading budget k h log k' h' log' a
       → IsSameLoan h h' × KeepsObjects h.objects.now h.objects_pass.now h'.objects_pass.now
   expires_keep base budget k k' h h' log log' (expiries.More fired) is told = turns_keep base fired k k' h h' log log' is told.1
-  expires_keep base budget k k' h h' log log' (expiries.Done fired) is told = turns_keep base fired k told.1 h h' log log' is told.2
-  expires_keep base budget k k' h h' log log' (expiries.BaseBusy fired t g) is told = turns_keep base fired k told.1 h h' log log' is told.2
+  expires_keep base budget k k' h h' log log' (expiries.Done fired) is told = turns_keep base fired k told.1.0 h h' log log' is told.1.1
+  expires_keep base budget k k' h h' log log' (expiries.BaseBusy fired t g) is told = turns_keep base fired k told.1.0 h h' log log' is told.1.1

@@ -168,7 +168,7 @@ SettimeMade x o old new id flags value interval reading settings.BadTime = ⊥
 abbrev pub Settimes : ObjectsOf → Opening → Caller → Caller → ℕ → ℕ → TimeSpec → TimeSpec → ClockReading → SettimeAnswer → Type 0
 Settimes x o old new id flags value interval reading a =
     MatchOption (argument_refusal (decl_at x id).kind flags value interval)
-        (SettimeMade x o old new id flags (time_of value) (time_of interval) reading a) (λ refusal. (a ≡ refusal) × (new ≡ old))
+    (SettimeMade x o old new id flags (time_of value) (time_of interval) reading a) (λ refusal. (a ≡ refusal) × (new ≡ old))
 
 -- ---- accept, read, and gettime of a descriptor
 

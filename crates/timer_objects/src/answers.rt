@@ -11,7 +11,9 @@ pub enum Gettime {
         stamp: u64,
     },
     /// The object has as many entries as its limit allows.
-    Spent { stamp: u64 },
+    Spent {
+        stamp: u64,
+    },
 }
 
 /// Whether a descriptor is ready to be read, after so many entries.

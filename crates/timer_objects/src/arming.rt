@@ -127,7 +127,9 @@ fn start<R: Wait>(
                 asked: base,
             };
             if outs == 0 {
-                note_start(log, timer, generation, event, there, clock, expires, was_armed);
+                note_start(
+                    log, timer, generation, event, there, clock, expires, was_armed,
+                );
             } else {
                 log.note(
                     timer,

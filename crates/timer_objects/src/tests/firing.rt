@@ -4,7 +4,8 @@ ghost use Rattle.timer_objects.specs.declared.object.Decl.{Decl};
 ghost use Rattle.timer_objects.specs.declared.object.Object.{Object};
 ghost use Rattle.timer_objects.specs.Steps.{IsObjectOf, ObjectAllows};
 ghost use Rattle.hr_timers.specs.Known.{IsPassOf};
-ghost use Rattle.expire_pass.specs.Handlers.{KeepsPass};
+ghost use Rattle.expire_pass.specs.Handlers.{CanServe, KeepsPass};
+ghost use Rattle.timer_objects.specs.Firings.{IsSameLoan, firing};
 ghost use Rattle.timer_setting.specs.Settimes.{most_entries};
 ghost use Rattle.timer_objects.specs.Callbacks.{bases_for, bases_of};
 ghost use Rattle.timer_objects.specs.Known.{IsObjectsPass, decl_at};
@@ -53,18 +54,37 @@ fn expire_lent<R: Wait>(
     let mut run = Log::make(alloc);
     run.reserve(2)?;
     let mut function = Firing::make(alloc, objects, objects_pass, callbacks);
-    let room = function.reserve(1);
-    if room.is_ok() {
-        let now = Reading::at(130);
-        expire(rt, timers, pass, 0, now, 1, &mut function, &mut run);
-    }
+    let expired = expire_by(rt, timers, pass, &mut function, &mut run);
     let (log, object_log) = function.into_logs();
-    room?;
+    expired?;
     Ok(Noting {
         run,
         log,
         object_log,
     })
+}
+
+/// Expires base 0 once with a handler, which still holds what it has borrowed.
+fn expire_by<R: Wait>(
+    rt: &R,
+    timers: &Timers,
+    pass: &mut Pass,
+    function: &mut Firing<'_>,
+    run: &mut Log,
+) -> Result<(), AllocError>
+    requires pass { IsPassOf timers.now pass.old }
+    requires objects { IsObjectsPass function.old.objects.now function.old.objects_pass.now }
+    requires suits { CanServe firing timers.now.about function.old }
+    requires base { 0 < timers.now.about.bases }
+    requires room { 2 ≤ run.old.spare }
+    ensures pass { IsPassOf timers.now pass.new }
+    ensures keeps { KeepsPass pass.old.known pass.new.known }
+    ensures loan { IsSameLoan function.old function.new }
+    ensures objects { KeepsObjects function.old.objects.now function.old.objects_pass.now function.new.objects_pass.now }
+{
+    function.reserve(1)?;
+    expire(rt, timers, pass, 0, Reading::at(130), 1, function, run);
+    Ok(())
 }
 
 /// How the run's one function has ended.
