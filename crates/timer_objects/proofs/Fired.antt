@@ -1,5 +1,5 @@
 -- What the handler of objects' timers leaves of the pass that it has borrowed.
-use Rattle.std.proofs.Common.{◌≡◌, ℕ, zero, suc, List, refl, sym, ◌∙◌, subst, inl, inr}
+use Rattle.std.proofs.Common.{ℕ, zero, suc, List, refl, sym, ◌∙◌, subst, inl, inr}
 use Rattle.std.specs.Prelude.{Option, Some, None}
 use Rattle.ktime.specs.Readings.{ClockReading}
 use Rattle.pass_names.specs.Passes.{Begins}
