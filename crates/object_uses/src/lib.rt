@@ -14,5 +14,3 @@ mod expiring;
 mod setting;
 mod sharing;
 mod signals;
-#[cfg(test)]
-mod tests;

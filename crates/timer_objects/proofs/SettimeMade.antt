@@ -110,37 +110,37 @@ module _ (x : ObjectsOf) (o : Opening) (v d w : KnownOfTimers) (p m : ObjectsPas
       → IsSettimeReply reply
   replies_to q reply e = let enters = entered q reply e in subst IsSettimeReply (sym enters.reply)
       (settime_replies (decl_at x id) x.limit h.stamp h.state.object
-          (record { flags = valid.flags; value = valid.value; interval = valid.interval; reading = valid.reading; arm = arm }) holds_it raw)
+      (record { flags = valid.flags; value = valid.value; interval = valid.interval; reading = valid.reading; arm = arm }) holds_it raw)
 
   pub turn_made : (q : ObjectsPass) (olog olog' : List ObjectReceipt) (reply : ObjectReply) (a : SettimeAnswer) → IsObjectsPass x q
       → Enters m q h (spanned (settime_call kind call) (record { from = so_far.from; to = to })) reply
       → olog' ≡ olog ++ receipt_of h (spanned (settime_call kind call) (record { from = so_far.from; to = to })) ∷ []
       → SettimeTells reply a
       → SettimeMade x o (record { timers = v; objects = p; log = log; object_log = olog }) (record { timers = w; objects = q; log = log'; object_log = olog' })
-          id valid.flags valid.value valid.interval valid.reading a
+      id valid.flags valid.value valid.interval valid.reading a
   turn_made q olog olog' reply a isq entering noting tells =
       let enters = entered q reply entering in
       let noted = noting ∙ ap (λ c. olog ++ receipt_of h c ∷ []) named in
       let c : SettimeCall = record { flags = valid.flags; value = valid.value; interval = valid.interval; reading = valid.reading; arm = arm } in
       made_by x o _ _ id _ _ _ _ a
-          (settime_grants (decl_at x id) x.limit h.stamp h.state.object c a holds_it raw (subst (λ r. SettimeTells r a) enters.reply tells))
-          (record {
-            arm = arm;
-            span = span;
-            reply = reply;
-            enters = enters_call x p m q id h (spanned (settime_by x id valid.flags valid.value valid.interval valid.reading arm) span) reply locks row isq enters
-                (record { timers = v; objects = p; log = log; object_log = olog }) (record { timers = w; objects = q; log = log'; object_log = olog' }) refl refl room noted;
-            disarmed = d;
-            cancel_log = mid;
-            so_far = so_far;
-            disarms = disarms;
-            arms = arms;
-            from = refl;
-            to = end_is;
-            bears = subst (λ f. BearsStart o w id arm f) (sym (set_phase (decl_at x id) x.limit h.stamp h.state.object c holds_it raw))
-                (arms_bears o d w id (decl_at x id) valid.flags valid.value (decl_at x id).base valid.reading mid log' (suits.clocks id within) good.value arm arms);
-            answer = tells;
-          })
+      (settime_grants (decl_at x id) x.limit h.stamp h.state.object c a holds_it raw (subst (λ r. SettimeTells r a) enters.reply tells))
+      (record {
+        arm = arm;
+        span = span;
+        reply = reply;
+        enters = enters_call x p m q id h (spanned (settime_by x id valid.flags valid.value valid.interval valid.reading arm) span) reply locks row isq enters
+            (record { timers = v; objects = p; log = log; object_log = olog }) (record { timers = w; objects = q; log = log'; object_log = olog' }) refl refl room noted;
+        disarmed = d;
+        cancel_log = mid;
+        so_far = so_far;
+        disarms = disarms;
+        arms = arms;
+        from = refl;
+        to = end_is;
+        bears = subst (λ f. BearsStart o w id arm f) (sym (set_phase (decl_at x id) x.limit h.stamp h.state.object c holds_it raw))
+            (arms_bears o d w id (decl_at x id) valid.flags valid.value (decl_at x id).base valid.reading mid log' (suits.clocks id within) good.value arm arms);
+        answer = tells;
+      })
 
 -- ---- tries
 

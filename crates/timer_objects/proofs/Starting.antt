@@ -80,7 +80,7 @@ module _ (o : Opening) (u v w : KnownOfTimers) (t last n : ℕ) (sees : SeesTime
 
   pub disarms_armed : (g number : ℕ) (log : List Receipt) → Cancels o v w t (cancels.Cancelled g number)
       → Disarms o u w t last (record { from = number - 1; to = number }) log
-          (log ++ record { timer = t; number = number; event = events.Cancel; reply = noteds.Entry (replies.Cancel g) } ∷ [])
+      (log ++ record { timer = t; number = number; event = events.Cancel; reply = noteds.Entry (replies.Cancel g) } ∷ [])
   disarms_armed g number log c = record {
     answer = cancels.Cancelled g number;
     cancelled = cancels_after o u v w t (cancels.Cancelled g number) sees.looks c;

@@ -1,1 +1,0 @@
-//! The callers, run; and the calls of objects by one thread and by two.
