@@ -2,7 +2,6 @@
 use Rattle.std.proofs.Common.{◌≡◌, ℕ, List, sym, subst, refl, ◌∙◌}
 use Rattle.std.specs.Prelude.{Option, Some, None, MatchOption}
 use Rattle.ktime.specs.Readings.{ClockReading}
-use Rattle.ktime.specs.declared.timespec.TimeSpec.{TimeSpec}
 use Rattle.pass_names.specs.Passes.{Adds, Begins, Looks}
 use Rattle.pass_names.specs.SharedHistory.{LooksOn}
 use Rattle.pass_names.proofs.Passes.{begins_refl, begins_trans, goes_refl, goes_trans}
@@ -75,7 +74,7 @@ module _ (x : ObjectsOf) (o : Opening) (old new : Caller) (id flags value interv
   keeps_set a sets =
       let off = sets.disarms.cancelled in (
         keeps_trans old.timers sets.disarmed new.timers (keeps_made old.timers sets.disarmed id off.at _ off.made off.claims)
-          (keeps_armed o sets.disarmed new.timers id _ _ reading sets.arm sets.cancel_log new.log sets.arms),
+            (keeps_armed o sets.disarmed new.timers id _ _ reading sets.arm sets.cancel_log new.log sets.arms),
         keeps_added old.objects new.objects id _ sets.enters.commits.adds,
       )
 
@@ -121,10 +120,11 @@ module _ (x : ObjectsOf) (o : Opening) (old new : Caller) (id flags value interv
   keeps_read_fd len reads.Again made = keeps_call _ _ made.1
 
   keeps_look : (object : Object) (n : ℕ) → LooksAtObject old new id object n → KeepsBoth old new
-  keeps_look object n look =
-      (subst (λ (k : KnownOfTimers). KeepsPass old.timers k) (sym look.timers)
+  keeps_look object n look = (
+    subst (λ (k : KnownOfTimers). KeepsPass old.timers k) (sym look.timers)
         (record { id = refl; claims = refl; seen = begins_refl old.timers.seen; mine = begins_refl old.timers.mine }),
-      keeps_read old.objects new.objects look.reads.pass)
+    keeps_read old.objects new.objects look.reads.pass,
+  )
 
   pub keeps_gettime : (kind : Kind) (a : Gettime) → Gettimes x o old new id reading kind a → KeepsBoth old new
   keeps_gettime kinds.Raw a got = absurd got

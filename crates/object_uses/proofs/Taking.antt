@@ -1,6 +1,6 @@
 -- What an acceptance and a read take.
 use Rattle.std.proofs.Common.{◌≡◌, ℕ, ◌+◌, length, length-append, ap, sym, ◌∙◌, refl}
-use Rattle.std.specs.Prelude.{Bool, true, false, Option, Some, None, nat_eq, unwrap_or, if◌then◌else◌, IfSome}
+use Rattle.std.specs.Prelude.{Bool, true, false, Option, Some, None, nat_eq, unwrap_or, if◌then◌else◌}
 use Rattle.std.proofs.lemmas.Option.{none-some}
 use Rattle.ktime.specs.Readings.{ClockReading}
 use Rattle.timer_setting.specs.declared.arming.Arm.{Arm}
@@ -51,7 +51,7 @@ module _ (reading : ClockReading) (arm : Arm) (n : ℕ) where
 
   count_by : (t : Descriptor) (off none nil : Bool) (a b c : Descriptor) → c.count ≡ 0
       → Some n ≡ number_in (replies.Fd (fd_replies.Read (if off then reads.Canceled else (if none then reads.Again else (if nil then reads.Again
-        else reads.Count (total_in t reading))))))
+      else reads.Count (total_in t reading))))))
       → (n ≡ total_in t reading) × ((if off then a else (if none then b else c)).count ≡ 0)
   count_by t true none nil a b c z e = absurd (none-some n (sym e))
   count_by t false true nil a b c z e = absurd (none-some n (sym e))

@@ -40,14 +40,5 @@ pub fn accept_signal<R: Wait>(
     ensures accepts { AcceptFits objects_pass.old objects_pass.new id reading result }
     ensures room { (log.old.spare ≤ log.new.spare + 4) × (object_log.old.spare ≤ object_log.new.spare + 1) }
 {
-    objects.accept(
-        rt,
-        timers,
-        pass,
-        objects_pass,
-        log,
-        object_log,
-        id,
-        reading,
-    )
+    objects.accept(rt, timers, pass, objects_pass, log, object_log, id, reading)
 }
