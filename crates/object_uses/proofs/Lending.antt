@@ -2,7 +2,6 @@
 use Rattle.std.proofs.Common.{◌≡◌, ℕ, zero, suc, List, refl, sym, subst, inl, inr, ◌∙◌}
 use Rattle.std.specs.Prelude.{Option, Some, None}
 use Rattle.ktime.specs.Readings.{ClockReading}
-use Rattle.pass_names.proofs.Passes.{begins_refl, begins_trans, goes_refl, goes_trans}
 use Rattle.base_row.specs.declared.view.Opening.{Opening}
 use Rattle.hr_timers.specs.declared.numbers.ClaimNumbers.{ClaimNumbers}
 use Rattle.hr_timers.specs.Known.{KnownOfTimers}
@@ -14,7 +13,7 @@ use Rattle.expire_pass.specs.Expiring.{Expires, Turns}
 use Rattle.counted_row.specs.Views.{IsPassOfRow, Knows}
 use Rattle.timer_objects.specs.declared.object.ObjectCall.{ObjectCall}
 use Rattle.timer_objects.specs.Cells.{cell_meaning}
-use Rattle.timer_objects.specs.Firings.{Fires, FiresBy, Firing, IsSameLoan, firing}
+use Rattle.timer_objects.specs.Firings.{FiresBy, Firing, IsSameLoan, firing}
 use Rattle.timer_objects.specs.Known.{IsObjectsPass, ObjectsOf, ObjectsPass, row_of}
 use Rattle.object_uses.specs.Callers.{KeepsObjects}
 use Rattle.object_uses.proofs.Keeping.{keeps_added, keeps_both, keeps_read, keeps_same}

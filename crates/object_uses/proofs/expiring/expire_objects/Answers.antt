@@ -1,7 +1,6 @@
-use Rattle.std.proofs.Common.{rules, ◌≡◌, ◌∙◌, ap, sym, subst}
+use Rattle.std.proofs.Common.{rules, ◌≡◌, ◌∙◌, sym, subst}
 use Rattle.counted_row.specs.Views.{Knows}
 use Rattle.timer_objects.specs.Cells.{cell_meaning}
-use Rattle.timer_objects.specs.Firings.{Firing}
 use Rattle.timer_objects.specs.Known.{IsObjectsPass, ObjectsPass}
 use Rattle.object_uses.specs.Callers.{KeepsObjects}
 use Rattle.object_uses.proofs.Lending.{leaves_pass, pass_after}

@@ -1,4 +1,0 @@
-//! The callers, run; and the calls of objects by one thread and by two.
-mod answers;
-mod passes;
-mod stand;

@@ -1,1 +1,0 @@
-//! What the calls of one thread answer, and the receipts of their entries.

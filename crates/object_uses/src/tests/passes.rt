@@ -1,1 +1,0 @@
-//! What a pass that was split off tells the first one.
