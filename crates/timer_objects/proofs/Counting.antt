@@ -61,7 +61,8 @@ one_more d limit n (objects.Fd t) (calls.Posix c) is allows = absurd allows
 one_more d limit n (objects.Fd t) (calls.Fd c) is allows =
     (is.0, fd_step-clock t c ∙ is.1, fd_step-base t c ∙ is.2, fd_step-limit t c ∙ is.3, fd_step-stamp t c ∙ ap (λ k. k + 1) is.4)
 
-after_log : (d : Decl) (limit n : ℕ) (x y : ObjectCell) (log : List (Entry SpannedCall ObjectReply)) → IsObjectOf d limit n x.object → Leads cell_meaning x log y → IsObjectOf d limit (n + length log) y.object
+after_log : (d : Decl) (limit n : ℕ) (x y : ObjectCell) (log : List (Entry SpannedCall ObjectReply)) → IsObjectOf d limit n x.object
+    → Leads cell_meaning x log y → IsObjectOf d limit (n + length log) y.object
 after_log d limit n x y [] is leads = subst (λ z. IsObjectOf d limit (n + 0) z.object) (sym leads) (subst (λ k. IsObjectOf d limit k x.object) (omega arith) is)
 after_log d limit n x y (e ∷ es) is leads =
     subst (λ k. IsObjectOf d limit k y.object) (omega arith)
@@ -72,7 +73,8 @@ opened_is d limit kinds.Raw e = (e, refl)
 opened_is d limit kinds.Posix e = (e, refl, refl, refl, refl)
 opened_is d limit kinds.Fd e = (e, refl, refl, refl, refl)
 
-opened_at : (limit : ℕ) (ds : List Decl) (i : ℕ) (x : ObjectCell) (d : Decl) → get_elem? (map (opened_cell limit) ds) i ≡ some x → x ≡ opened_cell limit (get_or ds i d)
+opened_at : (limit : ℕ) (ds : List Decl) (i : ℕ) (x : ObjectCell) (d : Decl) → get_elem? (map (opened_cell limit) ds) i ≡ some x
+    → x ≡ opened_cell limit (get_or ds i d)
 opened_at limit [] i x d e = absurd (some-ne-none x (sym e))
 opened_at limit (y ∷ ys) zero x d e = some-injective x (opened_cell limit y) (sym e)
 opened_at limit (y ∷ ys) (suc i) x d e = opened_at limit ys i x d e

@@ -1,5 +1,5 @@
 -- A call that was entered in an object's history.
-use Rattle.std.proofs.Common.{arith, refl, sym, ap, subst, ◌≡◌, ◌∙◌, ℕ, ◌+◌, ◌<◌, List, [], ◌∷◌, ◌++◌, length, length-append}
+use Rattle.std.proofs.Common.{arith, sym, ap, subst, ◌≡◌, ◌∙◌, ℕ, ◌+◌, ◌<◌, [], ◌∷◌, ◌++◌, length, length-append}
 use Rattle.pass_names.specs.declared.Pass.{Pass}
 use Rattle.pass_names.specs.Passes.{Adds, entries}
 use Rattle.counted_row.specs.declared.view.Locked.{Locked}
@@ -8,7 +8,6 @@ use Rattle.counted_row.specs.Calls.{Commits}
 use Rattle.counted_row.proofs.Calls.{commits_of}
 use Rattle.timer_objects.specs.declared.cell.ObjectCell.{ObjectCell}
 use Rattle.timer_objects.specs.declared.cell.SpannedCall.{SpannedCall}
-use Rattle.timer_objects.specs.declared.log.ObjectReceipt.{ObjectReceipt}
 use Rattle.timer_objects.specs.declared.object.ObjectReply.{ObjectReply}
 use Rattle.timer_objects.specs.Steps.{object_answer}
 use Rattle.timer_objects.specs.Cells.{cell_meaning}
@@ -34,6 +33,7 @@ module _ (x : ObjectsOf) (p m q : ObjectsPass) (id : ℕ) (h : Locked ObjectCell
   enters_call old new e f room noted = record {
     commits = commits;
     reply = enters.reply;
+    may = enters.may;
     room = omega (arith, stamp_before, room);
     object_log = noted ∙ ap (λ r. old.object_log ++ r ∷ [])
         (ap (λ i. record { object = i; number = h.stamp + 1; call = call; reply = object_answer h.state.object call.call }) locks.index

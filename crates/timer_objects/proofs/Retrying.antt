@@ -28,6 +28,7 @@ module _ {a b c : Caller} where
   enters_after {x} {id} {call} {answer} waits e = record {
     commits = commits_after waits.objects e.commits;
     reply = e.reply;
+    may = e.may;
     room = e.room;
     object_log = e.object_log ∙ ap (λ l. l ++ record { object = id; number = length e.commits.adds.before + 1; call = call; reply = answer } ∷ []) waits.object_log;
   }
@@ -35,7 +36,9 @@ module _ {a b c : Caller} where
 module _ (o : Opening) (u v w : KnownOfTimers) (t last base : ℕ) (reading : ClockReading) (arm : Arm) (span : Span) (log log' log'' : List Receipt) where
   rearms_after : (wanted : Option Wanted) → LooksOn u v → log' ≡ log → RearmsFor o v w t last wanted base reading arm span log' log''
       → RearmsFor o u w t last wanted base reading arm span log log''
-  rearms_after None looks same rearms = (rearms.0, looks_trans u v w looks rearms.1, rearms.2, rearms.3 ∙ same)
+  rearms_after None looks same rearms =
+      let q = rearms.1 in
+      (rearms.0, record { looks = looks_trans u v w looks q.looks; empty = q.empty; behind = q.behind; seen = q.seen }, rearms.2 ∙ same)
   rearms_after (Some wanted) looks same rearms = record {
     begin = rearms.begin;
     looks = looks_trans u v rearms.begin looks rearms.looks;

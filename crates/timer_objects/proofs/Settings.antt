@@ -1,6 +1,6 @@
 -- A settime: what its steps leave.
-use Rattle.std.proofs.Common.{arith, refl, sym, ap, subst, ◌≡◌, ◌≢◌, ◌∙◌, ℕ, ◌+◌, ◌-◌, ◌^◌, ◌≤◌, ◌<◌, Bool, true, false, nat_eq, List, [], ◌∷◌, ◌++◌, length, min}
-use Rattle.std.specs.Prelude.{Option, Some, None, if◌then◌else◌, IsNone, ◌↔◌}
+use Rattle.std.proofs.Common.{arith, refl, sym, ap, subst, ◌≡◌, ◌≢◌, ◌∙◌, ℕ, ◌+◌, ◌≤◌, ◌<◌, Bool, true, false, nat_eq, List, []}
+use Rattle.std.specs.Prelude.{Option, Some, None, if◌then◌else◌}
 use Rattle.ktime.specs.declared.clock_id.ClockId.{ClockId}
 use Rattle.ktime.specs.declared.clock_id.ClockId.TheVariants as clocks
 use Rattle.ktime.specs.declared.mode.Mode.TheVariants as modes
@@ -12,13 +12,12 @@ use Rattle.seq_timer.specs.Steps.{Timer, expiry_from}
 use Rattle.seq_timer.specs.Tables.{timer_at}
 use Rattle.timer_core.specs.Answers.{moves_first, start_events}
 use Rattle.timer_core.specs.Kept.{step_all}
-use Rattle.timer_core.specs.declared.answer.CancelAnswer.{CancelAnswer}
 use Rattle.base_row.specs.declared.view.Opening.{Opening}
 use Rattle.hr_timers.specs.declared.answer.StartAnswer.{StartAnswer}
 use Rattle.hr_timers.specs.declared.answer.StartAnswer.TheVariants as starts
 use Rattle.hr_timers.specs.Known.{KnownOfTimers, timer_then}
 use Rattle.hr_timers.specs.Calls.{StartsTimer, cancel_entries, start_answer}
-use Rattle.hr_timers.proofs.Moments.{along, declared_kept, stamp_made, stamp_rises, timer_after}
+use Rattle.hr_timers.proofs.Moments.{along, declared_kept, stamp_made, timer_after}
 use Rattle.expire_pass.specs.declared.log.Receipt.{Receipt}
 use Rattle.timer_setting.specs.declared.arming.Arm.{Arm}
 use Rattle.timer_setting.specs.declared.arming.Arm.TheVariants as arms
@@ -33,12 +32,11 @@ use Rattle.timer_fd.specs.declared.answers.SettimeAnswer.TheVariants as settings
 use Rattle.timer_fd.specs.Steps.{answers_canceled}
 use Rattle.timer_objects.specs.declared.cell.Span.{Span}
 use Rattle.timer_objects.specs.declared.object.Decl.{Decl}
-use Rattle.timer_objects.specs.declared.object.Kind.{Kind}
 use Rattle.timer_objects.specs.declared.object.Kind.TheVariants as kinds
 use Rattle.timer_objects.specs.declared.object.Object.{Object}
 use Rattle.timer_objects.specs.declared.object.Object.TheVariants as objects
 use Rattle.timer_objects.specs.Steps.{IsObjectOf, ObjectAllows, object_answer, object_step}
-use Rattle.timer_objects.specs.Arming.{Arms, Disarms, Starts, arm_of, stamp_seen}
+use Rattle.timer_objects.specs.Arming.{Arms, Disarms, arm_of, stamp_seen}
 use Rattle.timer_objects.proofs.Starting.{events_by}
 use Rattle.timer_objects.specs.Calls.{BearsStart, SettimeTells, flags_of, phase_of, settime_call}
 use Rattle.timer_objects.specs.Valid.{IsSettimeReply, end_by}
@@ -194,6 +192,7 @@ module _ (o : Opening) (v w : KnownOfTimers) (t : ℕ) (d : Decl) (flags value b
   pub arms_bears : (arm : Arm) → Arms o v w t (start_by flags value) base reading arm log log' → BearsStart o w t arm (set_armed arm)
   arms_bears arm a = at (nat_eq value 0) a
     where
-      at : (b : Bool) → Arms o v w t (if b then None else Some (record { mode = mode_by flags; ns = value })) base reading arm log log' → BearsStart o w t arm (set_armed arm)
+      at : (b : Bool) → Arms o v w t (if b then None else Some (record { mode = mode_by flags; ns = value })) base reading arm log log'
+          → BearsStart o w t arm (set_armed arm)
       at true a = subst (λ x. BearsStart o w t x (set_armed x)) (sym a.0) refl
       at false a = start_bears arm a.answer a.outcome a.starts

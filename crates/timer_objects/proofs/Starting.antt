@@ -1,9 +1,8 @@
 -- What calls on an object do to its timer.
-use Rattle.std.proofs.Common.{arith, refl, sym, ap, subst, ◌≡◌, ◌∙◌, ℕ, zero, suc, ◌+◌, ◌-◌, ◌^◌, ◌≤◌, ◌<◌, Bool, true, false, not, nat_eq, List, [], ◌∷◌, ◌++◌, length, append_assoc}
+use Rattle.std.proofs.Common.{arith, refl, sym, ap, ◌≡◌, ◌∙◌, ℕ, ◌+◌, ◌-◌, ◌^◌, ◌≤◌, Bool, true, false, not, nat_eq, List, [], ◌∷◌, ◌++◌, length, max, append_assoc}
 use Rattle.std.proofs.lemmas.Bool.Decides.{nat_tests}
 use Rattle.std.proofs.lemmas.Nat.{pow_pos}
-use Rattle.std.specs.Prelude.{is_some, Some, None, if◌then◌else◌}
-use Rattle.ktime.specs.declared.clock_id.ClockId.{ClockId}
+use Rattle.std.specs.Prelude.{Option, None, Some, is_some, if◌then◌else◌}
 use Rattle.ktime.specs.declared.mode.Mode.{Mode}
 use Rattle.ktime.specs.Times.{effective_clock}
 use Rattle.ktime.specs.Readings.{ClockReading}
@@ -19,7 +18,6 @@ use Rattle.seq_timer.specs.declared.event.Event.{Event}
 use Rattle.seq_timer.specs.declared.event.Event.TheVariants as events
 use Rattle.seq_timer.specs.declared.event.Reply.TheVariants as replies
 use Rattle.seq_timer.specs.declared.observation.Peek.{Peek}
-use Rattle.seq_timer.specs.Histories as seq
 use Rattle.seq_timer.specs.Steps.{Timer, expiry_from}
 use Rattle.timer_core.specs.Answers.{moves_first, start_events}
 use Rattle.timer_core.specs.Kept.{step_all}
@@ -29,13 +27,13 @@ use Rattle.timer_core.specs.declared.answer.CancelAnswer.TheVariants as cancels
 use Rattle.base_row.specs.declared.view.Opening.{Opening}
 use Rattle.hr_timers.specs.declared.answer.StartAnswer.{StartAnswer}
 use Rattle.hr_timers.specs.declared.answer.StartAnswer.TheVariants as starts
-use Rattle.hr_timers.specs.Known.{KnownOfTimers, MadeAt, timer_then}
+use Rattle.hr_timers.specs.Known.{KnownOfTimers, timer_then}
 use Rattle.hr_timers.specs.Calls.{Cancels, Peeks, StartsTimer, cancel_entries, start_answer}
-use Rattle.hr_timers.proofs.Moments.{stamp_made, stamp_rises}
+use Rattle.hr_timers.proofs.Moments.{stamp_made, stamp_rises, timer_after}
 use Rattle.expire_pass.proofs.Turning.{looks_then}
 use Rattle.expire_pass.specs.declared.log.Noted.TheVariants as noteds
 use Rattle.expire_pass.specs.declared.log.Receipt.{Receipt}
-use Rattle.timer_objects.specs.Arming.{Disarms, SeesTimer, Starts, arm_of, receipts_of}
+use Rattle.timer_objects.specs.Arming.{Disarms, SeesQuietly, SeesTimer, Starts, arm_of, receipts_of}
 
 module _ (o : Opening) (v w : KnownOfTimers) (t : ℕ) (p : Peek) (peeks : Peeks o v w t p) where
   pub peek_looks : LooksOn v w
@@ -46,6 +44,31 @@ module _ (o : Opening) (v w : KnownOfTimers) (t : ℕ) (p : Peek) (peeks : Peeks
     looks = peek_looks;
     number = ap (λ (q : Peek). q.stamp) peeks.fits ∙ sym (stamp_made o v w t peeks.at [] peeks.made ∙ omega arith);
     behind = behind;
+  }
+
+module _ (o : Opening) (v w : KnownOfTimers) (t last : ℕ) (p : Peek) (peeks : Peeks o v w t p) where
+  then_seen : timer_then o w.seen t ≡ timer_then o peeks.at t
+  then_seen = timer_after o v w t peeks.at [] peeks.made
+
+  pub quiet_running : p.running ≡ true → SeesQuietly o v w t last (record { from = last; to = last })
+  quiet_running runs = record {
+    looks = peek_looks o v w t p peeks;
+    empty = refl;
+    behind = omega arith;
+    seen = λ none. absurd (no_run (timer_then o peeks.at t).running (sym (ap (λ (u : Timer). u.running) then_seen) ∙ none)
+        (sym (ap (λ (q : Peek). q.running) peeks.fits) ∙ runs));
+  }
+    where
+      no_run : (r : Option ℕ) → r ≡ None → is_some r ≡ true → ⊥
+      no_run None e is = cc
+      no_run (Some g) e is = cc
+
+  pub quiet_at : (n : ℕ) → n ≡ max last p.stamp → SeesQuietly o v w t last (record { from = n; to = n })
+  quiet_at n e = record {
+    looks = peek_looks o v w t p peeks;
+    empty = refl;
+    behind = omega (arith, e);
+    seen = λ none. omega (arith, e, ap (λ (q : Peek). q.stamp) peeks.fits, ap (λ (u : Timer). u.stamp) then_seen);
   }
 
 -- what was seen before a cancel goes on to it
@@ -67,7 +90,8 @@ module _ (o : Opening) (u v w : KnownOfTimers) (t last n : ℕ) (sees : SeesTime
   behind : (a : CancelAnswer) (c : Cancels o v w t a) → last ≤ (timer_then o c.at t).stamp
   behind a c = omega (arith, sees.behind, sees.number, stamp_rises o v.seen c.at t c.made.from)
 
-  pub disarms_idle : (stamp : ℕ) (log : List Receipt) → Cancels o v w t (cancels.Idle stamp) → Disarms o u w t last (record { from = stamp; to = stamp }) log log
+  pub disarms_idle : (stamp : ℕ) (log : List Receipt) → Cancels o v w t (cancels.Idle stamp)
+      → Disarms o u w t last (record { from = stamp; to = stamp }) log log
   disarms_idle stamp log c = record {
     answer = cancels.Idle stamp;
     cancelled = cancels_after o u v w t (cancels.Idle stamp) sees.looks c;
@@ -98,7 +122,8 @@ noted_by t mode ns asked reading true (starts.Started was_armed generation base 
     record { timer = t; number = generation - 1; event = events.Out asked; reply = noteds.Entry (replies.Out was_armed) }
     ∷ record { timer = t; number = generation; event = events.Start mode ns reading asked; reply = noteds.Entry (replies.Start base clock expires false) } ∷ []
 noted_by t mode ns asked reading false (starts.Started was_armed generation base outs clock expires) =
-    record { timer = t; number = generation; event = events.Start mode ns reading asked; reply = noteds.Entry (replies.Start base clock expires was_armed) } ∷ []
+    record { timer = t; number = generation; event = events.Start mode ns reading asked; reply = noteds.Entry (replies.Start base clock expires was_armed)
+        } ∷ []
 noted_by t mode ns asked reading moved (starts.Spent n) = []
 
 abbrev pub events_by : Mode → ℕ → ℕ → ClockReading → Bool → List Event
@@ -132,7 +157,8 @@ module _ (t : ℕ) (u : Timer) (mode : Mode) (ns asked : ℕ) (reading : ClockRe
   moved true a e = ap (λ b. nat_eq (outs_in b) 0) e ∙ grind (arith, nat_tests, pow_pos asked)
   moved false a e = ap (λ b. nat_eq (outs_in b) 0) e
 
-  pub noted_start : (a : StartAnswer) (moves : Bool) → a ≡ start_answer u (step_all u (start_events u mode ns asked reading)) asked → nat_eq (outs_in a) 0 ≡ not moves
+  pub noted_start : (a : StartAnswer) (moves : Bool) → a ≡ start_answer u (step_all u (start_events u mode ns asked reading)) asked
+      → nat_eq (outs_in a) 0 ≡ not moves
       → noted_by t mode ns asked reading moves a ≡ receipts_of t u.stamp (entries_along u (start_events u mode ns asked reading))
   noted_start a moves e told =
       let b = moves_first u asked in
@@ -146,7 +172,8 @@ module _ (t : ℕ) (u : Timer) (mode : Mode) (ns asked : ℕ) (reading : ClockRe
       flip false true e = sym e
 
 -- a start that was answered so was made, with these receipts
-pub starts_of : (o : Opening) (v w : KnownOfTimers) (t base : ℕ) (wanted : Wanted) (reading : ClockReading) (log log' : List Receipt) (a : StartAnswer) (moves : Bool)
+pub starts_of : (o : Opening) (v w : KnownOfTimers) (t base : ℕ) (wanted : Wanted) (reading : ClockReading) (log log' : List Receipt) (a : StartAnswer)
+    (moves : Bool)
     → nat_eq (outs_in a) 0 ≡ not moves → (g : ℕ) → arms.Armed g ≡ arm_of a → StartsTimer o v w t wanted.mode wanted.ns base reading a
     → log' ≡ log ++ noted_by t wanted.mode wanted.ns base reading moves a → Starts o v w t wanted base reading (arms.Armed g) log log'
 starts_of o v w t base wanted reading log log' (starts.Started was g there outs clock expires) moves told k armed s noted = record {

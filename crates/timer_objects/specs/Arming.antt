@@ -3,7 +3,6 @@ use Rattle.std.specs.Prelude.{ℕ, ◌≡◌, ◌+◌, ◌≤◌, List, [], ◌�
 use Rattle.ktime.specs.Readings.{ClockReading}
 use Rattle.pass_names.specs.SharedHistory.{LooksOn}
 use Rattle.seq_timer.specs.Histories as seq
-use Rattle.seq_timer.specs.Steps.{Timer}
 use Rattle.timer_core.specs.declared.answer.CancelAnswer.{CancelAnswer}
 use Rattle.timer_core.specs.declared.answer.CancelAnswer.TheVariants as cancels
 use Rattle.base_row.specs.declared.view.Opening.{Opening}
@@ -38,7 +37,8 @@ pub record Starts (o : Opening) (v w : KnownOfTimers) (t : ℕ) (wanted : Wanted
   pub answer : StartAnswer
   pub starts : StartsTimer o v w t wanted.mode wanted.ns base reading answer
   pub outcome : arm ≡ arm_of answer
-  pub receipts : log' ≡ log ++ receipts_of t (timer_then o starts.at t).stamp (start_entries (timer_then o starts.at t) wanted.mode wanted.ns base reading answer)
+  pub receipts : log' ≡ log ++ receipts_of t (timer_then o starts.at t).stamp (start_entries (timer_then o starts.at t) wanted.mode wanted.ns base reading
+      answer)
 
 -- the start that a step wants was made, or none was wanted and nothing is other than before
 abbrev pub Arms : Opening → KnownOfTimers → KnownOfTimers → ℕ → Option Wanted → ℕ → ClockReading → Arm → List Receipt → List Receipt → Type 0
@@ -61,3 +61,11 @@ pub record SeesTimer (o : Opening) (v w : KnownOfTimers) (t last n : ℕ) : Type
   pub looks : LooksOn v w
   pub number : n ≡ stamp_seen o w t
   pub behind : last ≤ n
+
+-- A timer was looked at by a call that wants no start of it. The call's span is empty, and not before the end of the last one; nor before what
+-- was seen, unless the timer's function was running then, which may trigger the object yet.
+pub record SeesQuietly (o : Opening) (v w : KnownOfTimers) (t last : ℕ) (span : Span) : Type 0 where
+  pub looks : LooksOn v w
+  pub empty : span.from ≡ span.to
+  pub behind : last ≤ span.from
+  pub seen : (timer_then o w.seen t).running ≡ None → stamp_seen o w t ≤ span.from

@@ -18,7 +18,7 @@ use Rattle.timer_objects.specs.declared.object.ObjectCall.TheVariants as calls
 use Rattle.timer_objects.specs.declared.object.ObjectReply.{ObjectReply}
 use Rattle.timer_objects.specs.declared.object.ObjectReply.TheVariants as replies
 use Rattle.timer_objects.specs.Steps.{object_answer}
-use Rattle.timer_objects.specs.Cells.{cell_meaning, spanned}
+use Rattle.timer_objects.specs.Cells.{MaySpan, cell_meaning, spanned}
 use Rattle.timer_objects.specs.Known.{ObjectsOf, ObjectsPass, seen_of}
 
 -- the trigger of an object of this kind by a claim of its timer, at this reading; a timer by itself has none
@@ -40,6 +40,7 @@ module _ (x : ObjectsOf) (p q : ObjectsPass) (log log' : List ObjectReceipt) whe
   -- The trigger stands last in the object's history, which had room for it, and a receipt of it was noted.
   pub record EntersTrigger (id : ℕ) (call : SpannedCall) : Type 0 where
     pub commits : Commits cell_meaning p q id call
+    pub may : MaySpan commits.state call
     pub room : length commits.adds.before < x.limit
     pub receipt : log'
         ≡ log ++ record { object = id; number = length commits.adds.before + 1; call = call; reply = object_answer commits.state.object call.call } ∷ []

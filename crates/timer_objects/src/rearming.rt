@@ -12,7 +12,7 @@ ghost use Rattle.timer_objects.specs.Calls.{Accepts, Gettimes, ReadsFd, RearmsFo
 ghost use Rattle.timer_objects.specs.Rearming.{Ends, KeepsNames, caller_of, kind_of};
 
 use crate::answers::Gettime;
-use crate::arming::{arm, look};
+use crate::arming::{arm, look, quiet_span};
 use crate::cell::{ObjectCell, Span};
 use crate::log::ObjectLog;
 use crate::object::{ObjectCall, ObjectReply};
@@ -331,11 +331,7 @@ fn start_again<R: Wait>(
     ensures room { log.old.spare ≤ log.new.spare + 2 }
 {
     let Some(start) = wanted else {
-        let span = Span {
-            from: last,
-            to: last,
-        };
-        return Some((Arm::NotAsked, span));
+        return Some((Arm::NotAsked, quiet_span(timers, pass, timer, last)));
     };
     let from = look(timers, pass, timer, last)?;
     let outcome = arm(rt, timers, pass, log, timer, Some(start), base, reading);

@@ -33,7 +33,7 @@ pub struct ValidSettime {
 
 impl Objects {
     /// Arms an object's timer anew, or disarms it by the value 0 (`timer_settime`, `timerfd_settime`). It waits while the timer's function is
-    /// running. `log` gets the receipts of the timer's entries, `object_log` that of the object's.
+    /// running, so that function can't call it. `log` gets the receipts of the timer's entries, `object_log` that of the object's.
     pub fn settime<R: Wait>(
         &self,
         rt: &R,

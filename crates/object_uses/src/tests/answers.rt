@@ -1,0 +1,1 @@
+//! What the calls of one thread answer, and the receipts of their entries.

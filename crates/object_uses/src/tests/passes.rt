@@ -1,0 +1,1 @@
+//! What a pass that was split off tells the first one.
