@@ -34,8 +34,17 @@ use Rattle.timer_objects.specs.Steps.{IsObjectOf}
 use Rattle.timer_objects.proofs.Starting.{cancels_after}
 use Rattle.pass_names.proofs.SharedHistory.{looks_trans}
 use Rattle.timer_objects.proofs.Entering.{enters_call}
-use Rattle.timer_objects.proofs.Settings.{IsGranted, armed_end, arms_bears, arms_goes_on, disarmed_end, set_phase, settime_allowed, settime_grants,
-    settime_replies}
+use Rattle.timer_objects.proofs.Settings.{
+  IsGranted,
+  armed_end,
+  arms_bears,
+  arms_goes_on,
+  disarmed_end,
+  set_phase,
+  settime_allowed,
+  settime_grants,
+  settime_replies,
+}
 
 made_by : (x : ObjectsOf) (o : Opening) (old new : Caller) (id flags value interval : ℕ) (reading : ClockReading) (a : SettimeAnswer) → IsGranted a
     → SetsTimer x o old new id flags value interval reading a → SettimeMade x o old new id flags value interval reading a
@@ -77,8 +86,13 @@ module _ (x : ObjectsOf) (o : Opening) (v d w : KnownOfTimers) (p m : ObjectsPas
   end_is = armed_end o d w id _ _ _ arm mid log' so_far.to arms (disarmed_end o v d id _ so_far log mid disarms)
 
   forwards : span.from ≤ span.to
-  forwards = omega (arith, end_is, disarms.from, stamp_rises o disarms.cancelled.at w.seen id (begins_trans disarms.cancelled.made.seen (arms_goes_on o d w
-      id _ _ _ arm mid log' arms)))
+  forwards = omega (
+    arith,
+    end_is,
+    disarms.from,
+    stamp_rises o disarms.cancelled.at w.seen id (begins_trans disarms.cancelled.made.seen (arms_goes_on o d w
+        id _ _ _ arm mid log' arms)),
+  )
 
   here : decl_at x h.index ≡ decl_at x id
   here = ap (decl_at x) locks.index
@@ -111,40 +125,40 @@ module _ (x : ObjectsOf) (o : Opening) (v d w : KnownOfTimers) (p m : ObjectsPas
       → IsSettimeReply reply
   replies_to q reply e = let enters = entered q reply e in subst IsSettimeReply (sym enters.reply)
       (settime_replies (decl_at x id) x.limit h.stamp h.state.object
-          (record { flags = valid.flags; value = valid.value; interval = valid.interval; reading = valid.reading; arm = arm }) holds_it raw)
+      (record { flags = valid.flags; value = valid.value; interval = valid.interval; reading = valid.reading; arm = arm }) holds_it raw)
 
   pub turn_made : (q : ObjectsPass) (olog olog' : List ObjectReceipt) (reply : ObjectReply) (a : SettimeAnswer) → IsObjectsPass x q
       → Enters m q h (spanned (settime_call kind call) (record { from = so_far.from; to = to })) reply
       → olog' ≡ olog ++ receipt_of h (spanned (settime_call kind call) (record { from = so_far.from; to = to })) ∷ []
       → SettimeTells reply a
       → SettimeMade x o (record { timers = v; objects = p; log = log; object_log = olog }) (record { timers = w; objects = q; log = log'; object_log = olog' })
-          id valid.flags valid.value valid.interval valid.reading a
+      id valid.flags valid.value valid.interval valid.reading a
   turn_made q olog olog' reply a isq entering noting tells =
       let enters = entered q reply entering in
       let noted = noting ∙ ap (λ c. olog ++ receipt_of h c ∷ []) named in
       let c : SettimeCall = record { flags = valid.flags; value = valid.value; interval = valid.interval; reading = valid.reading; arm = arm } in
       made_by x o _ _ id _ _ _ _ a
-          (settime_grants (decl_at x id) x.limit h.stamp h.state.object c a holds_it raw (subst (λ r. SettimeTells r a) enters.reply tells))
-          (record {
-            arm = arm;
-            span = span;
-            reply = reply;
-            enters = enters_call x p m q id h (spanned (settime_by x id valid.flags valid.value valid.interval valid.reading arm) span) reply locks row isq
-                enters
-                (record { timers = v; objects = p; log = log; object_log = olog }) (record { timers = w; objects = q; log = log'; object_log = olog' })
-                    refl refl room noted;
-            disarmed = d;
-            cancel_log = mid;
-            so_far = so_far;
-            disarms = disarms;
-            arms = arms;
-            from = refl;
-            to = end_is;
-            bears = subst (λ f. BearsStart o w id arm f) (sym (set_phase (decl_at x id) x.limit h.stamp h.state.object c holds_it raw))
-                (arms_bears o d w id (decl_at x id) valid.flags valid.value (decl_at x id).base valid.reading mid log' (suits.clocks id within) good.value
-                    arm arms);
-            answer = tells;
-          })
+      (settime_grants (decl_at x id) x.limit h.stamp h.state.object c a holds_it raw (subst (λ r. SettimeTells r a) enters.reply tells))
+      (record {
+        arm = arm;
+        span = span;
+        reply = reply;
+        enters = enters_call x p m q id h (spanned (settime_by x id valid.flags valid.value valid.interval valid.reading arm) span) reply locks row isq
+            enters
+            (record { timers = v; objects = p; log = log; object_log = olog }) (record { timers = w; objects = q; log = log'; object_log = olog' })
+            refl refl room noted;
+        disarmed = d;
+        cancel_log = mid;
+        so_far = so_far;
+        disarms = disarms;
+        arms = arms;
+        from = refl;
+        to = end_is;
+        bears = subst (λ f. BearsStart o w id arm f) (sym (set_phase (decl_at x id) x.limit h.stamp h.state.object c holds_it raw))
+            (arms_bears o d w id (decl_at x id) valid.flags valid.value (decl_at x id).base valid.reading mid log' (suits.clocks id within) good.value
+            arm arms);
+        answer = tells;
+      })
 
 -- ---- tries
 
@@ -163,8 +177,13 @@ made_after x o first old new id flags value interval reading a waits made = at a
         reply = s.enters.reply;
         may = s.enters.may;
         room = s.enters.room;
-        object_log = s.enters.object_log ∙ ap (λ l. l ++ record { object = id; number = length s.enters.commits.adds.before + 1; call = spanned (settime_by
-            x id flags value interval reading s.arm) s.span; reply = s.reply } ∷ []) waits.object_log;
+        object_log = s.enters.object_log ∙ ap (λ l. l ++ record {
+          object = id;
+          number = length s.enters.commits.adds.before + 1;
+          call = spanned (settime_by
+              x id flags value interval reading s.arm) s.span;
+          reply = s.reply;
+        } ∷ []) waits.object_log;
       };
       disarmed = s.disarmed;
       cancel_log = s.cancel_log;

@@ -122,8 +122,12 @@ noted_by t mode ns asked reading true (starts.Started was_armed generation base 
     record { timer = t; number = generation - 1; event = events.Out asked; reply = noteds.Entry (replies.Out was_armed) }
     ∷ record { timer = t; number = generation; event = events.Start mode ns reading asked; reply = noteds.Entry (replies.Start base clock expires false) } ∷ []
 noted_by t mode ns asked reading false (starts.Started was_armed generation base outs clock expires) =
-    record { timer = t; number = generation; event = events.Start mode ns reading asked; reply = noteds.Entry (replies.Start base clock expires was_armed)
-        } ∷ []
+    record {
+      timer = t;
+      number = generation;
+      event = events.Start mode ns reading asked;
+      reply = noteds.Entry (replies.Start base clock expires was_armed);
+    } ∷ []
 noted_by t mode ns asked reading moved (starts.Spent n) = []
 
 abbrev pub events_by : Mode → ℕ → ℕ → ClockReading → Bool → List Event

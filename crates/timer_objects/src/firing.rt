@@ -67,8 +67,7 @@ impl<'a> FiringWith<'a, Log, ObjectLog> {
         ensures logs { (self.new.log.receipts ≡ self.old.log.receipts) × (self.new.object_log.receipts ≡ self.old.object_log.receipts) }
     {
         self.log.reserve(count.max(self.log.spare()))?;
-        self.object_log
-            .reserve(count.max(self.object_log.spare()))?;
+        self.object_log.reserve(count.max(self.object_log.spare()))?;
         Ok(())
     }
 

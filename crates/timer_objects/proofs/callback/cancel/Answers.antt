@@ -30,5 +30,5 @@ returns-clause-runs g c =
       cancels = subst (λ h. Cancels o v w mine.timer (cancels.Running h n)) own told;
       receipt = c.note_look.ensures.receipts
           ∙ (λ i. c.args.log.now.receipts ++ record (look_receipt mine n events.Cancel (observations.Running (own i))) { timer = c.timer-timer.ensures i }
-              ∷ []);
+          ∷ []);
     }

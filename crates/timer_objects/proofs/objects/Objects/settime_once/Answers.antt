@@ -7,30 +7,30 @@ use Rattle.timer_objects.proofs.objects.Objects.settime_once.Goals as goal
 pub enter_settime-reply-requires-clause-may : goal.enter_settime-reply-requires-clause-may
 enter_settime-reply-requires-clause-may g c =
     may_enter c.args.self.now c.args.timers.now.about _ _ _ c.args.objects_pass.now c.lock-held.new.pass c.args.id c.args.valid.now c.lock-held.result
-        c.arm-arm.result c.in-Some.so_far
-        _ _ _ _ _ _ _ _ _ (ap (λ (s : ObjectCell). s.last) c.state.ensures) (ap (λ (d : Decl). d.base) c.decl-kind.ensures) c.end_of.ensures
-            c.wanted_by-wanted.ensures
-        (ap (λ (d : Decl). d.kind) c.decl-kind.ensures) c.with.ensures c.requires.suits c.requires.within c.requires.kind c.requires.valid c.requires.objects
-        c.lock-held.ensures.locks c.lock-held.ensures.row c.lock-held.ensures.holds c.if-is_full.ensures c.in-Some.ensures.disarms c.arm-arm.ensures.arms
-        c.arm-arm.ensures.outcome
+    c.arm-arm.result c.in-Some.so_far
+    _ _ _ _ _ _ _ _ _ (ap (λ (s : ObjectCell). s.last) c.state.ensures) (ap (λ (d : Decl). d.base) c.decl-kind.ensures) c.end_of.ensures
+    c.wanted_by-wanted.ensures
+    (ap (λ (d : Decl). d.kind) c.decl-kind.ensures) c.with.ensures c.requires.suits c.requires.within c.requires.kind c.requires.valid c.requires.objects
+    c.lock-held.ensures.locks c.lock-held.ensures.row c.lock-held.ensures.holds c.if-is_full.ensures c.in-Some.ensures.disarms c.arm-arm.ensures.arms
+    c.arm-arm.ensures.outcome
 
 pub settime_answer-requires : goal.settime_answer-requires
 settime_answer-requires g c = record {
   made = replies_to c.args.self.now c.args.timers.now.about _ _ _ c.args.objects_pass.now c.lock-held.new.pass c.args.id c.args.valid.now
       c.lock-held.result c.arm-arm.result c.in-Some.so_far
-        _ _ _ _ _ _ _ _ _ (ap (λ (s : ObjectCell). s.last) c.state.ensures) (ap (λ (d : Decl). d.base) c.decl-kind.ensures) c.end_of.ensures
-            c.wanted_by-wanted.ensures
-        (ap (λ (d : Decl). d.kind) c.decl-kind.ensures) c.with.ensures c.requires.suits c.requires.within c.requires.kind c.requires.valid c.requires.objects
-        c.lock-held.ensures.locks c.lock-held.ensures.row c.lock-held.ensures.holds c.if-is_full.ensures c.in-Some.ensures.disarms c.arm-arm.ensures.arms
-        _ _ c.enter_settime-reply.ensures.enters;
+      _ _ _ _ _ _ _ _ _ (ap (λ (s : ObjectCell). s.last) c.state.ensures) (ap (λ (d : Decl). d.base) c.decl-kind.ensures) c.end_of.ensures
+      c.wanted_by-wanted.ensures
+      (ap (λ (d : Decl). d.kind) c.decl-kind.ensures) c.with.ensures c.requires.suits c.requires.within c.requires.kind c.requires.valid c.requires.objects
+      c.lock-held.ensures.locks c.lock-held.ensures.row c.lock-held.ensures.holds c.if-is_full.ensures c.in-Some.ensures.disarms c.arm-arm.ensures.arms
+      _ _ c.enter_settime-reply.ensures.enters;
 }
 
 pub returns-clause-turn : goal.returns-clause-turn
 returns-clause-turn g c =
     turn_made c.args.self.now c.args.timers.now.about _ _ _ c.args.objects_pass.now c.lock-held.new.pass c.args.id c.args.valid.now c.lock-held.result
-        c.arm-arm.result c.in-Some.so_far
-        _ _ _ _ _ _ _ _ _ (ap (λ (s : ObjectCell). s.last) c.state.ensures) (ap (λ (d : Decl). d.base) c.decl-kind.ensures) c.end_of.ensures
-            c.wanted_by-wanted.ensures
-        (ap (λ (d : Decl). d.kind) c.decl-kind.ensures) c.with.ensures c.requires.suits c.requires.within c.requires.kind c.requires.valid c.requires.objects
-        c.lock-held.ensures.locks c.lock-held.ensures.row c.lock-held.ensures.holds c.if-is_full.ensures c.in-Some.ensures.disarms c.arm-arm.ensures.arms
-        _ _ _ _ _ c.enter_settime-reply.ensures.pass c.enter_settime-reply.ensures.enters c.enter_settime-reply.ensures.receipt c.settime_answer.ensures
+    c.arm-arm.result c.in-Some.so_far
+    _ _ _ _ _ _ _ _ _ (ap (λ (s : ObjectCell). s.last) c.state.ensures) (ap (λ (d : Decl). d.base) c.decl-kind.ensures) c.end_of.ensures
+    c.wanted_by-wanted.ensures
+    (ap (λ (d : Decl). d.kind) c.decl-kind.ensures) c.with.ensures c.requires.suits c.requires.within c.requires.kind c.requires.valid c.requires.objects
+    c.lock-held.ensures.locks c.lock-held.ensures.row c.lock-held.ensures.holds c.if-is_full.ensures c.in-Some.ensures.disarms c.arm-arm.ensures.arms
+    _ _ _ _ _ c.enter_settime-reply.ensures.pass c.enter_settime-reply.ensures.enters c.enter_settime-reply.ensures.receipt c.settime_answer.ensures
