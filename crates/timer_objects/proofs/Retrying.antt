@@ -75,7 +75,7 @@ ends_after x o a b c id r reading (ends.Made n reply) waits made =
 
 rearms_names : (o : Opening) (v w : KnownOfTimers) (t last base : ℕ) (reading : ClockReading) (arm : Arm) (span : Span) (log log' : List Receipt)
     (wanted : Option Wanted) → RearmsFor o v w t last wanted base reading arm span log log' → (w.id ≡ v.id) × (w.claims ≡ v.claims)
-rearms_names o v w t last base reading arm span log log' None rearms = (rearms.1.id, rearms.1.claims)
+rearms_names o v w t last base reading arm span log log' None rearms = (rearms.1.looks.id, rearms.1.looks.claims)
 rearms_names o v w t last base reading arm span log log' (Some wanted) rearms =
     let s = rearms.starts.starts in (s.made.id ∙ rearms.looks.id, s.claims ∙ rearms.looks.claims)
 
