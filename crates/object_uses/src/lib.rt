@@ -14,3 +14,5 @@ mod expiring;
 mod setting;
 mod sharing;
 mod signals;
+#[cfg(test)]
+mod tests;

@@ -1,0 +1,3 @@
+//! The callers, run; and the calls of objects by one thread and by two.
+mod answers;
+mod stand;

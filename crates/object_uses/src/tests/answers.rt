@@ -1,0 +1,508 @@
+//! What the calls of one thread answer, and the receipts of their entries.
+ghost use Rattle.std.specs.Prelude.{◌≤◌};
+ghost use Rattle.object_uses.specs.Stands.{IsStand};
+
+use super::stand::{FD, POSIX, Stand, Step, Told};
+use expire_pass::{ExpireAnswer, Noted, Receipt};
+use ktime::{ClockId, Mode, Reading};
+use posix_timer::AcceptAnswer;
+use seq_timer::{Event, Rearmed, Reply};
+use std::sync::Wait;
+use std::test::Fail;
+use timer_fd::{ReadAnswer, SettimeAnswer};
+use timer_objects::{
+    Gettime, ObjectCall, ObjectReceipt, ObjectReply, Overrun, Readable, SpannedCall,
+};
+use timer_setting::{Arm, SettimeCall, TriggerAnswer};
+
+/// The reading of a clock whose real time alone was set, so often.
+fn set_at(real: u64, changes: u64) -> Reading
+    requires { real ≤ 10000 }
+{
+    Reading {
+        stamp: changes,
+        mono: 0,
+        real,
+        boot: 0,
+        changes,
+    }
+}
+
+/// The first step after which the caller was told something else, and what that was.
+fn first_other<R: Wait>(
+    rt: &R,
+    stand: &mut Stand,
+    cases: &[(Step, Reading, Told)],
+) -> Option<(Step, Told)>
+    requires stand { IsStand stand.old.timers stand.old.pass stand.old.objects stand.old.objects_pass }
+    ensures stand { IsStand stand.new.timers stand.new.pass stand.new.objects stand.new.objects_pass }
+{
+    for case in cases {
+        let (step, reading, told) = *case;
+        let answer = stand.take(rt, step, reading);
+        if answer != told {
+            return Some((step, answer));
+        }
+    }
+    None
+}
+
+/// An entry of a timer.
+fn entry(timer: u32, number: u64, event: Event, reply: Reply) -> Receipt {
+    Receipt {
+        timer,
+        number,
+        event,
+        reply: Noted::Entry(reply),
+    }
+}
+
+/// The entry of a start of a timer that wasn't armed.
+fn start(
+    timer: u32,
+    number: u64,
+    mode: Mode,
+    ns: u64,
+    at: Reading,
+    clock: ClockId,
+    expires: u64,
+) -> Receipt {
+    let event = Event::Start {
+        mode,
+        ns,
+        reading: at,
+        asked: 0,
+    };
+    let reply = Reply::Start {
+        base: 0,
+        clock,
+        expires,
+        was_armed: false,
+    };
+    entry(timer, number, event, reply)
+}
+
+/// The entry of a claim of generation 1, and that of its finish.
+fn ran(timer: u32, at: Reading) -> [Receipt; 2] {
+    let claim = Event::Claim {
+        base: 0,
+        reading: at,
+    };
+    let finish = Reply::Finish {
+        generation: 1,
+        rearmed: Rearmed::No,
+    };
+    [
+        entry(timer, 2, claim, Reply::Claim { generation: 1 }),
+        entry(timer, 3, Event::Finish { restart: false }, finish),
+    ]
+}
+
+/// The entry of a cancel of this generation.
+fn cancel(timer: u32, number: u64, generation: u64) -> Receipt {
+    entry(timer, number, Event::Cancel, Reply::Cancel { generation })
+}
+
+/// The entry of a call of the POSIX timer, over these entries of its timer.
+fn posix(
+    number: u64,
+    call: posix_timer::Call,
+    from: u64,
+    to: u64,
+    reply: posix_timer::Reply,
+) -> ObjectReceipt {
+    ObjectReceipt {
+        object: POSIX,
+        number,
+        call: SpannedCall {
+            call: ObjectCall::Posix(call),
+            from,
+            to,
+        },
+        reply: ObjectReply::Posix(reply),
+    }
+}
+
+/// The entry of a call of the descriptor.
+fn fd(
+    number: u64,
+    call: timer_fd::Call,
+    from: u64,
+    to: u64,
+    reply: timer_fd::Reply,
+) -> ObjectReceipt {
+    ObjectReceipt {
+        object: FD,
+        number,
+        call: SpannedCall {
+            call: ObjectCall::Fd(call),
+            from,
+            to,
+        },
+        reply: ObjectReply::Fd(reply),
+    }
+}
+
+/// A settime with these arguments.
+fn settime(flags: u64, value: u64, interval: u64, reading: Reading, arm: Arm) -> SettimeCall {
+    SettimeCall {
+        flags,
+        value,
+        interval,
+        reading,
+        arm,
+    }
+}
+
+/// An acceptance.
+fn taken(reading: Reading, arm: Arm) -> posix_timer::Call {
+    posix_timer::Call::Accept { reading, arm }
+}
+
+/// The entry of a settime of the POSIX timer to 100, with no interval.
+fn posix_set(
+    number: u64,
+    at: Reading,
+    arm: Arm,
+    from: u64,
+    to: u64,
+    answer: posix_timer::SettimeAnswer,
+) -> ObjectReceipt {
+    let call = posix_timer::Call::Settime(settime(1, 100, 0, at, arm));
+    posix(number, call, from, to, posix_timer::Reply::Settime(answer))
+}
+
+/// The entry of a settime of the descriptor.
+fn fd_set(
+    number: u64,
+    call: SettimeCall,
+    from: u64,
+    to: u64,
+    answer: SettimeAnswer,
+) -> ObjectReceipt {
+    let call = timer_fd::Call::Settime(call);
+    fd(number, call, from, to, timer_fd::Reply::Settime(answer))
+}
+
+/// The entry of a read.
+fn fd_read(
+    number: u64,
+    reading: Reading,
+    arm: Arm,
+    from: u64,
+    to: u64,
+    answer: ReadAnswer,
+) -> ObjectReceipt {
+    let call = timer_fd::Call::Read { reading, arm };
+    fd(number, call, from, to, timer_fd::Reply::Read(answer))
+}
+
+/// What a settime tells that replaces this setting.
+fn old(left: u64, interval: u64) -> Told {
+    Told::Settime(SettimeAnswer::Old { left, interval })
+}
+
+#[test]
+fn a_periodic_timer_tells_its_overrun(rt: HostRuntime) -> Result<(), Fail> {
+    let mut stand = Stand::make(rt.alloc(), ClockId::Monotonic, 100)?;
+    let (zero, due, late) = (Reading::at(0), Reading::at(100), Reading::at(135));
+    let overrun = Overrun {
+        overrun: 3,
+        stamp: 4,
+    };
+    let cases = [
+        (Step::Settime(POSIX, 1, 100, 10), zero, old(0, 0)),
+        (
+            Step::Expire,
+            due,
+            Told::Expire(ExpireAnswer::Done { fired: 1 }),
+        ),
+        (
+            Step::Accept,
+            late,
+            Told::Accept(AcceptAnswer::Accepted { overrun: 3 }),
+        ),
+        (Step::Accept, late, Told::Accept(AcceptAnswer::NoSignal)),
+        (Step::Overrun, late, Told::Overrun(overrun)),
+    ];
+    assert_eq!(rt; first_other(&rt, &mut stand, &cases), None);
+    let [claim, finish] = ran(POSIX, due);
+    let entries = [
+        start(POSIX, 1, Mode::Abs, 100, zero, ClockId::Monotonic, 100),
+        claim,
+        finish,
+        start(POSIX, 4, Mode::Keep, 140, late, ClockId::Monotonic, 140),
+    ];
+    assert_eq!(rt; stand.log.receipts(), entries.as_slice());
+    let set = posix_timer::Call::Settime(settime(1, 100, 10, zero, Arm::Armed(1)));
+    let was = posix_timer::Reply::Settime(posix_timer::SettimeAnswer::Old {
+        left: 0,
+        interval: 0,
+    });
+    let calls = [
+        posix(1, set, 0, 1, was),
+        posix(
+            3,
+            taken(late, Arm::Armed(4)),
+            3,
+            4,
+            posix_timer::Reply::Accept(AcceptAnswer::Accepted { overrun: 3 }),
+        ),
+        posix(
+            4,
+            taken(late, Arm::NotAsked),
+            4,
+            4,
+            posix_timer::Reply::Accept(AcceptAnswer::NoSignal),
+        ),
+    ];
+    assert_eq!(rt; stand.calls.receipts(), calls.as_slice());
+    let trigger = posix_timer::Call::Trigger {
+        generation: 1,
+        reading: due,
+    };
+    let triggers = [posix(
+        2,
+        trigger,
+        1,
+        2,
+        posix_timer::Reply::Trigger(TriggerAnswer::Counted),
+    )];
+    assert_eq!(rt; stand.triggers.receipts(), triggers.as_slice());
+    stand.close();
+    Ok(())
+}
+
+#[test]
+fn a_descriptor_counts_its_expiries(rt: HostRuntime) -> Result<(), Fail> {
+    let mut stand = Stand::make(rt.alloc(), ClockId::Monotonic, 100)?;
+    let (zero, due, late) = (Reading::at(0), Reading::at(100), Reading::at(135));
+    let count = ReadAnswer::Count { total: 4 };
+    let cases = [
+        (Step::Settime(FD, 1, 100, 10), zero, old(0, 0)),
+        (
+            Step::Expire,
+            due,
+            Told::Expire(ExpireAnswer::Done { fired: 1 }),
+        ),
+        (Step::Read(8), late, Told::Read(count)),
+        (Step::Read(8), late, Told::Read(ReadAnswer::Again)),
+        (Step::Read(7), late, Told::Read(ReadAnswer::ShortBuffer)),
+    ];
+    assert_eq!(rt; first_other(&rt, &mut stand, &cases), None);
+    assert_eq!(rt; count.bytes(), Some([4, 0, 0, 0, 0, 0, 0, 0]));
+    let set = settime(1, 100, 10, zero, Arm::Armed(1));
+    let calls = [
+        fd_set(
+            1,
+            set,
+            0,
+            1,
+            SettimeAnswer::Old {
+                left: 0,
+                interval: 0,
+            },
+        ),
+        fd_read(3, late, Arm::Armed(4), 3, 4, count),
+        fd_read(4, late, Arm::NotAsked, 4, 4, ReadAnswer::Again),
+    ];
+    assert_eq!(rt; stand.calls.receipts(), calls.as_slice());
+    stand.close();
+    Ok(())
+}
+
+#[test]
+fn a_gettime_tells_what_is_left(rt: HostRuntime) -> Result<(), Fail> {
+    let mut stand = Stand::make(rt.alloc(), ClockId::Monotonic, 100)?;
+    let (zero, late) = (Reading::at(0), Reading::at(130));
+    let armed = Gettime::Left {
+        left: 1,
+        interval: 10,
+        stamp: 1,
+    };
+    let expired = Gettime::Left {
+        left: 0,
+        interval: 10,
+        stamp: 2,
+    };
+    let ready = Readable {
+        ready: false,
+        stamp: 2,
+    };
+    let cases = [
+        (Step::Settime(POSIX, 1, 100, 10), zero, old(0, 0)),
+        (Step::Settime(FD, 1, 100, 10), zero, old(0, 0)),
+        (Step::Gettime(POSIX), late, Told::Gettime(armed)),
+        (Step::Gettime(FD), late, Told::Gettime(expired)),
+        (
+            Step::Settime(POSIX, 1, 1_000_000_000, 0),
+            late,
+            Told::Settime(SettimeAnswer::BadTime),
+        ),
+        (Step::Readable, late, Told::Readable(ready)),
+    ];
+    assert_eq!(rt; first_other(&rt, &mut stand, &cases), None);
+    stand.close();
+    Ok(())
+}
+
+#[test]
+fn a_set_clock_cancels_a_setting(rt: HostRuntime) -> Result<(), Fail> {
+    let mut stand = Stand::make(rt.alloc(), ClockId::Realtime, 100)?;
+    let (zero, fifty) = (Reading::at(0), set_at(50, 1));
+    let (sixty, seventy) = (set_at(60, 2), set_at(70, 3));
+    let cases = [
+        (Step::Settime(FD, 3, 100, 0), zero, old(0, 0)),
+        (Step::Read(8), fifty, Told::Read(ReadAnswer::Canceled)),
+        (Step::Read(8), fifty, Told::Read(ReadAnswer::Again)),
+        (
+            Step::Settime(FD, 3, 200, 0),
+            sixty,
+            Told::Settime(SettimeAnswer::Canceled),
+        ),
+        (Step::Settime(FD, 2, 10, 0), sixty, old(140, 0)),
+        (Step::Read(8), seventy, Told::Read(ReadAnswer::Again)),
+    ];
+    assert_eq!(rt; first_other(&rt, &mut stand, &cases), None);
+    let entries = [
+        start(FD, 1, Mode::Abs, 100, zero, ClockId::Realtime, 100),
+        cancel(FD, 2, 1),
+        start(FD, 3, Mode::Abs, 200, sixty, ClockId::Realtime, 200),
+        cancel(FD, 4, 3),
+        start(FD, 5, Mode::Rel, 10, sixty, ClockId::Monotonic, 10),
+    ];
+    assert_eq!(rt; stand.log.receipts(), entries.as_slice());
+    let first = settime(3, 100, 0, zero, Arm::Armed(1));
+    let second = settime(3, 200, 0, sixty, Arm::Armed(3));
+    let third = settime(2, 10, 0, sixty, Arm::Armed(5));
+    let calls = [
+        fd_set(
+            1,
+            first,
+            0,
+            1,
+            SettimeAnswer::Old {
+                left: 0,
+                interval: 0,
+            },
+        ),
+        fd_read(2, fifty, Arm::NotAsked, 1, 1, ReadAnswer::Canceled),
+        fd_read(3, fifty, Arm::NotAsked, 1, 1, ReadAnswer::Again),
+        fd_set(4, second, 1, 3, SettimeAnswer::Canceled),
+        fd_set(
+            5,
+            third,
+            3,
+            5,
+            SettimeAnswer::Old {
+                left: 140,
+                interval: 0,
+            },
+        ),
+        fd_read(6, seventy, Arm::NotAsked, 5, 5, ReadAnswer::Again),
+    ];
+    assert_eq!(rt; stand.calls.receipts(), calls.as_slice());
+    stand.close();
+    Ok(())
+}
+
+#[test]
+fn a_clock_set_back_before_the_expiry_leaves_none_to_read(rt: HostRuntime) -> Result<(), Fail> {
+    let mut stand = Stand::make(rt.alloc(), ClockId::Realtime, 100)?;
+    let (due, back) = (set_at(1000, 1), set_at(500, 2));
+    let cases = [
+        (Step::Settime(FD, 1, 1000, 100), due, old(0, 0)),
+        (
+            Step::Expire,
+            due,
+            Told::Expire(ExpireAnswer::Done { fired: 1 }),
+        ),
+        (Step::Read(8), back, Told::Read(ReadAnswer::Again)),
+    ];
+    assert_eq!(rt; first_other(&rt, &mut stand, &cases), None);
+    let [claim, finish] = ran(FD, due);
+    let entries = [
+        start(FD, 1, Mode::Abs, 1000, due, ClockId::Realtime, 1000),
+        claim,
+        finish,
+        start(FD, 4, Mode::Keep, 1000, back, ClockId::Realtime, 1000),
+    ];
+    assert_eq!(rt; stand.log.receipts(), entries.as_slice());
+    let set = settime(1, 1000, 100, due, Arm::Armed(1));
+    let calls = [
+        fd_set(
+            1,
+            set,
+            0,
+            1,
+            SettimeAnswer::Old {
+                left: 0,
+                interval: 0,
+            },
+        ),
+        fd_read(3, back, Arm::Armed(4), 3, 4, ReadAnswer::Again),
+    ];
+    assert_eq!(rt; stand.calls.receipts(), calls.as_slice());
+    stand.close();
+    Ok(())
+}
+
+#[test]
+fn a_full_history_refuses_a_settime(rt: HostRuntime) -> Result<(), Fail> {
+    let mut stand = Stand::make(rt.alloc(), ClockId::Monotonic, 3)?;
+    let zero = Reading::at(0);
+    let step = Step::Settime(POSIX, 1, 100, 0);
+    let cases = [
+        (step, zero, old(0, 0)),
+        (step, zero, old(100, 0)),
+        (
+            step,
+            zero,
+            Told::Settime(SettimeAnswer::Unarmed { stamp: 4 }),
+        ),
+        (step, zero, Told::Settime(SettimeAnswer::Spent { stamp: 3 })),
+    ];
+    assert_eq!(rt; first_other(&rt, &mut stand, &cases), None);
+    let entries = [
+        start(POSIX, 1, Mode::Abs, 100, zero, ClockId::Monotonic, 100),
+        cancel(POSIX, 2, 1),
+        start(POSIX, 3, Mode::Abs, 100, zero, ClockId::Monotonic, 100),
+        cancel(POSIX, 4, 3),
+    ];
+    assert_eq!(rt; stand.log.receipts(), entries.as_slice());
+    let calls = [
+        posix_set(
+            1,
+            zero,
+            Arm::Armed(1),
+            0,
+            1,
+            posix_timer::SettimeAnswer::Old {
+                left: 0,
+                interval: 0,
+            },
+        ),
+        posix_set(
+            2,
+            zero,
+            Arm::Armed(3),
+            1,
+            3,
+            posix_timer::SettimeAnswer::Old {
+                left: 100,
+                interval: 0,
+            },
+        ),
+        posix_set(
+            3,
+            zero,
+            Arm::Unarmed(4),
+            3,
+            4,
+            posix_timer::SettimeAnswer::Unarmed { stamp: 4 },
+        ),
+    ];
+    assert_eq!(rt; stand.calls.receipts(), calls.as_slice());
+    stand.close();
+    Ok(())
+}

@@ -1,0 +1,301 @@
+//! A POSIX timer and a descriptor on one base, with the passes and the logs of one thread.
+ghost use Rattle.std.specs.Prelude.{◌≡◌, ◌≤◌, ◌<◌, IfOk};
+ghost use Rattle.object_uses.specs.Stands.{IsStand};
+
+use crate::{accept_signal, expire_objects, read_count, set_timer};
+use counted_row::RowPass;
+use expire_pass::{ExpireAnswer, Log};
+use hr_timers::{Pass, Timers};
+use ktime::{ClockId, Reading};
+use posix_timer::AcceptAnswer;
+use std::alloc::{AllocError, Global};
+use std::sync::Wait;
+use timer_fd::{ReadAnswer, SettimeAnswer};
+use timer_objects::{
+    Callback, Decl, Gettime, Kind, ObjectCell, ObjectLog, Objects, Overrun, Readable,
+};
+
+/// The number of the POSIX timer.
+pub const POSIX: u32 = 0;
+
+/// The number of the descriptor.
+pub const FD: u32 = 1;
+
+/// What a caller does.
+#[derive(Clone, Copy, Debug, PartialEq, Eq)]
+pub enum Step {
+    /// A settime of this object, with these flags, value and interval in nanoseconds.
+    Settime(u32, u64, u64, u64),
+    /// A run of at most four functions.
+    Expire,
+    Accept,
+    /// A read into a buffer of so many bytes.
+    Read(u64),
+    Gettime(u32),
+    Readable,
+    Overrun,
+}
+
+/// What it is told.
+#[derive(Clone, Copy, Debug, PartialEq, Eq)]
+pub enum Told {
+    Settime(SettimeAnswer),
+    Expire(ExpireAnswer),
+    Accept(AcceptAnswer),
+    Read(ReadAnswer),
+    Gettime(Gettime),
+    Readable(Readable),
+    Overrun(Overrun),
+    NoMemory,
+}
+
+/// A POSIX timer, which is object 0, and a descriptor, which is object 1, on base 0, and a pass of each kind.
+pub struct Stand {
+    pub timers: Timers,
+    pub pass: Pass,
+    pub objects: Objects,
+    pub objects_pass: RowPass<ObjectCell>,
+    /// The receipts of timers' entries.
+    pub log: Log,
+    /// The receipts of calls on objects.
+    pub calls: ObjectLog,
+    /// The receipts of the triggers of the last run.
+    pub triggers: ObjectLog,
+    alloc: Global,
+}
+
+/// An object of this kind over a timer on this clock.
+fn decl_of(kind: Kind, clock: ClockId) -> Decl
+    ensures { result ≡ record { kind = kind; clock = clock; base = 0 } }
+{
+    Decl {
+        kind,
+        clock,
+        base: 0,
+    }
+}
+
+impl Stand {
+    /// Both objects over timers on this clock, with a limit on the entries of each.
+    pub fn make(alloc: Global, clock: ClockId, limit: u64) -> Result<Stand, AllocError>
+        requires limit { (0 < limit) × (limit ≤ 1000) }
+        ensures stand { IfOk result (λ s. IsStand s.timers s.pass s.objects s.objects_pass) }
+    {
+        let decls = [decl_of(Kind::Posix, clock), decl_of(Kind::Fd, clock)];
+        let (timers, pass) = Timers::make(alloc, 1, &[clock, clock], limit)?;
+        let Ok((objects, objects_pass)) = Objects::make(alloc, &decls, limit) else {
+            timers.close(pass);
+            return Err(AllocError);
+        };
+        Ok(Stand {
+            timers,
+            pass,
+            objects,
+            objects_pass,
+            log: Log::make(alloc),
+            calls: ObjectLog::make(alloc),
+            triggers: ObjectLog::make(alloc),
+            alloc,
+        })
+    }
+
+    /// Makes a call at a reading, and answers what the caller is told.
+    pub fn take<R: Wait>(&mut self, rt: &R, step: Step, reading: Reading) -> Told
+        requires stand { IsStand self.old.timers self.old.pass self.old.objects self.old.objects_pass }
+        ensures stand { IsStand self.new.timers self.new.pass self.new.objects self.new.objects_pass }
+    {
+        if self.log.reserve(8).is_err() || self.calls.reserve(1).is_err() {
+            return Told::NoMemory;
+        }
+        match step {
+            Step::Settime(id, flags, value, interval) => {
+                let id = if id == POSIX { POSIX } else { FD };
+                Told::Settime(self.settime(rt, id, flags, value, interval, reading))
+            }
+            Step::Expire => self.expire(rt, reading),
+            Step::Accept => Told::Accept(self.accept(rt, reading)),
+            Step::Read(len) => Told::Read(self.read(rt, len, reading)),
+            Step::Gettime(id) => {
+                let id = if id == POSIX { POSIX } else { FD };
+                Told::Gettime(self.gettime(rt, id, reading))
+            }
+            Step::Readable => Told::Readable(self.readable(rt, reading)),
+            Step::Overrun => Told::Overrun(self.overrun(rt)),
+        }
+    }
+
+    fn settime<R: Wait>(
+        &mut self,
+        rt: &R,
+        id: u32,
+        flags: u64,
+        value: u64,
+        interval: u64,
+        reading: Reading,
+    ) -> SettimeAnswer
+        requires stand { IsStand self.old.timers self.old.pass self.old.objects self.old.objects_pass }
+        requires within { id < 2 }
+        requires room { (4 ≤ self.old.log.spare) × (0 < self.old.calls.spare) }
+        ensures stand { IsStand self.new.timers self.new.pass self.new.objects self.new.objects_pass }
+    {
+        let timers = &self.timers;
+        let objects = &self.objects;
+        set_timer(
+            rt,
+            timers,
+            &mut self.pass,
+            objects,
+            &mut self.objects_pass,
+            &mut self.log,
+            &mut self.calls,
+            id,
+            flags,
+            value,
+            interval,
+            reading,
+        )
+    }
+
+    fn expire<R: Wait>(&mut self, rt: &R, reading: Reading) -> Told
+        requires stand { IsStand self.old.timers self.old.pass self.old.objects self.old.objects_pass }
+        requires room { 8 ≤ self.old.log.spare }
+        ensures stand { IsStand self.new.timers self.new.pass self.new.objects self.new.objects_pass }
+    {
+        let timers = &self.timers;
+        let objects = &self.objects;
+        let ran = expire_objects(
+            rt,
+            self.alloc,
+            timers,
+            &mut self.pass,
+            objects,
+            &mut self.objects_pass,
+            &[Callback::Once, Callback::Once],
+            0,
+            reading,
+            4,
+            &mut self.log,
+        );
+        match ran {
+            Ok(expired) => {
+                self.triggers = expired.object_log;
+                Told::Expire(expired.answer)
+            }
+            Err(_) => Told::NoMemory,
+        }
+    }
+
+    fn accept<R: Wait>(&mut self, rt: &R, reading: Reading) -> AcceptAnswer
+        requires stand { IsStand self.old.timers self.old.pass self.old.objects self.old.objects_pass }
+        requires room { (4 ≤ self.old.log.spare) × (0 < self.old.calls.spare) }
+        ensures stand { IsStand self.new.timers self.new.pass self.new.objects self.new.objects_pass }
+    {
+        let timers = &self.timers;
+        let objects = &self.objects;
+        accept_signal(
+            rt,
+            timers,
+            &mut self.pass,
+            objects,
+            &mut self.objects_pass,
+            &mut self.log,
+            &mut self.calls,
+            POSIX,
+            reading,
+        )
+    }
+
+    fn read<R: Wait>(&mut self, rt: &R, len: u64, reading: Reading) -> ReadAnswer
+        requires stand { IsStand self.old.timers self.old.pass self.old.objects self.old.objects_pass }
+        requires room { (4 ≤ self.old.log.spare) × (0 < self.old.calls.spare) }
+        ensures stand { IsStand self.new.timers self.new.pass self.new.objects self.new.objects_pass }
+    {
+        let timers = &self.timers;
+        let objects = &self.objects;
+        read_count(
+            rt,
+            timers,
+            &mut self.pass,
+            objects,
+            &mut self.objects_pass,
+            &mut self.log,
+            &mut self.calls,
+            FD,
+            len,
+            reading,
+        )
+    }
+
+    fn gettime<R: Wait>(&mut self, rt: &R, id: u32, reading: Reading) -> Gettime
+        requires stand { IsStand self.old.timers self.old.pass self.old.objects self.old.objects_pass }
+        requires within { id < 2 }
+        requires room { (4 ≤ self.old.log.spare) × (0 < self.old.calls.spare) }
+        ensures stand { IsStand self.new.timers self.new.pass self.new.objects self.new.objects_pass }
+    {
+        let timers = &self.timers;
+        let objects = &self.objects;
+        objects.gettime(
+            rt,
+            timers,
+            &mut self.pass,
+            &mut self.objects_pass,
+            &mut self.log,
+            &mut self.calls,
+            id,
+            reading,
+        )
+    }
+
+    fn readable<R: Wait>(&mut self, rt: &R, reading: Reading) -> Readable
+        requires stand { IsStand self.old.timers self.old.pass self.old.objects self.old.objects_pass }
+        ensures stand { IsStand self.new.timers self.new.pass self.new.objects self.new.objects_pass }
+    {
+        let timers = &self.timers;
+        let objects = &self.objects;
+        objects.readable(
+            rt,
+            timers,
+            &mut self.pass,
+            &mut self.objects_pass,
+            &mut self.log,
+            &mut self.calls,
+            FD,
+            reading,
+        )
+    }
+
+    fn overrun<R: Wait>(&mut self, rt: &R) -> Overrun
+        requires stand { IsStand self.old.timers self.old.pass self.old.objects self.old.objects_pass }
+        ensures stand { IsStand self.new.timers self.new.pass self.new.objects self.new.objects_pass }
+    {
+        let timers = &self.timers;
+        let objects = &self.objects;
+        objects.getoverrun(
+            rt,
+            timers,
+            &mut self.pass,
+            &mut self.objects_pass,
+            &mut self.log,
+            &mut self.calls,
+            POSIX,
+        )
+    }
+
+    /// Ends the timers and the objects.
+    pub fn close(self)
+        requires stand { IsStand self.timers self.pass self.objects self.objects_pass }
+    {
+        let Stand {
+            timers,
+            pass,
+            objects,
+            objects_pass,
+            log: _,
+            calls: _,
+            triggers: _,
+            alloc: _,
+        } = self;
+        timers.close(pass);
+        objects.close(objects_pass);
+    }
+}
