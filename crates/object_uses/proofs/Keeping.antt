@@ -20,18 +20,11 @@ use Rattle.posix_timer.specs.declared.answers.AcceptAnswer.{AcceptAnswer}
 use Rattle.posix_timer.specs.declared.answers.AcceptAnswer.TheVariants as acceptances
 use Rattle.timer_fd.specs.declared.answers.ReadAnswer.{ReadAnswer}
 use Rattle.timer_fd.specs.declared.answers.ReadAnswer.TheVariants as reads
-use Rattle.timer_objects.specs.declared.answers.Gettime.{Gettime}
-use Rattle.timer_objects.specs.declared.answers.Gettime.TheVariants as gettimes
-use Rattle.timer_objects.specs.declared.answers.Overrun.{Overrun}
-use Rattle.timer_objects.specs.declared.answers.Readable.{Readable}
 use Rattle.timer_objects.specs.declared.cell.Span.{Span}
-use Rattle.timer_objects.specs.declared.object.Kind.{Kind}
-use Rattle.timer_objects.specs.declared.object.Kind.TheVariants as kinds
-use Rattle.timer_objects.specs.declared.object.Object.{Object}
 use Rattle.timer_objects.specs.declared.object.ObjectReply.{ObjectReply}
 use Rattle.timer_objects.specs.declared.wanting.Rearming.{Rearming}
 use Rattle.timer_objects.specs.Arming.{Arms}
-use Rattle.timer_objects.specs.Calls.{Accepts, Caller, FindsFull, Gettimes, LooksAtObject, LooksOverrun, LooksReadable, MakesRearming, ReadsFd, RearmsFor, SetsTimer, SettimeMade}
+use Rattle.timer_objects.specs.Calls.{Accepts, Caller, FindsFull, MakesRearming, ReadsFd, RearmsFor, SetsTimer, SettimeMade}
 use Rattle.timer_objects.specs.Known.{ObjectsOf, ObjectsPass}
 use Rattle.object_uses.specs.Callers.{KeepsBoth, KeepsObjects}
 
@@ -118,23 +111,3 @@ module _ (x : ObjectsOf) (o : Opening) (old new : Caller) (id flags value interv
   keeps_read_fd len (reads.Count total) made = keeps_call _ _ made.1
   keeps_read_fd len reads.Canceled made = keeps_call _ _ made.1
   keeps_read_fd len reads.Again made = keeps_call _ _ made.1
-
-  keeps_look : (object : Object) (n : ℕ) → LooksAtObject old new id object n → KeepsBoth old new
-  keeps_look object n look = (
-    subst (λ (k : KnownOfTimers). KeepsPass old.timers k) (sym look.timers)
-        (record { id = refl; claims = refl; seen = begins_refl old.timers.seen; mine = begins_refl old.timers.mine }),
-    keeps_read old.objects new.objects look.reads.pass,
-  )
-
-  pub keeps_gettime : (kind : Kind) (a : Gettime) → Gettimes x o old new id reading kind a → KeepsBoth old new
-  keeps_gettime kinds.Raw a got = absurd got
-  keeps_gettime kinds.Posix (gettimes.Left left interval stamp) got = keeps_look _ _ got.1
-  keeps_gettime kinds.Posix (gettimes.Spent n) got = absurd got
-  keeps_gettime kinds.Fd (gettimes.Left left interval stamp) got = keeps_call _ _ got.0
-  keeps_gettime kinds.Fd (gettimes.Spent n) full = keeps_full n full
-
-  pub keeps_readable : (a : Readable) → LooksReadable old new id reading a → KeepsBoth old new
-  keeps_readable a looks = keeps_look _ _ looks.1
-
-  pub keeps_overrun : (a : Overrun) → LooksOverrun old new id a → KeepsBoth old new
-  keeps_overrun a looks = keeps_look _ _ looks.1
