@@ -10,7 +10,7 @@ use Rattle.counted_row.specs.declared.view.Entry.{Entry}
 use Rattle.counted_row.specs.declared.view.Locked.{Locked}
 use Rattle.counted_row.specs.Meaning.{CallMeaning}
 use Rattle.counted_row.specs.Views.{RowOf, PassOfRow, IsPassOfRow, StateAfter, Knows, Sees, Locks, claims_after, committed, released}
-use Rattle.counted_row.specs.Calls.{Commits, Reads}
+use Rattle.counted_row.specs.Calls.{Commits, ReadsValue}
 
 pub in_list : {A : Type 0} (xs : List A) (i : ℕ) (x : A) → get_elem? xs i ≡ some x → i < length xs
 in_list xs i x e = omega (arith, ap length (drop_at xs i x e), length-drop i xs)
@@ -57,7 +57,7 @@ module _ {S C R : Type 0} {m : CallMeaning S C R} where
 
   -- a lock, and the release that ended it
   abbrev pub reads_of : {r : RowOf S} {old mid new : PassOfRow S C R} {i : ℕ} {h : Locked S} → Locks m old mid i h
-      → IsPassOfRow r mid → IsPassOfRow r new → old.knows.held ≡ None → new.knows ≡ released mid.knows → Knows m new.knows → Reads m old new i
+      → IsPassOfRow r mid → IsPassOfRow r new → old.knows.held ≡ None → new.knows ≡ released mid.knows → Knows m new.knows → ReadsValue m old new i
   reads_of {r} {old} {mid} {new} {i} {h} locks here after idle is knows = record {
     row = after.row ∙ sym here.row ∙ locks.row;
     opening = ap (λ v. v.opening) is ∙ locks.opening;
@@ -72,7 +72,7 @@ module _ {S C R : Type 0} {m : CallMeaning S C R} where
   }
 
   -- a look alone
-  abbrev pub reads_seen : {old new : PassOfRow S C R} {i : ℕ} → Sees old new → Knows m new.knows → i < length old.knows.opening → Reads m old new i
+  abbrev pub reads_seen : {old new : PassOfRow S C R} {i : ℕ} → Sees old new → Knows m new.knows → i < length old.knows.opening → ReadsValue m old new i
   reads_seen {old} {new} {i} sees knows within =
       let now = knows.legal i (omega (arith, ap length sees.opening)) in
       record {
@@ -86,7 +86,7 @@ module _ {S C R : Type 0} {m : CallMeaning S C R} where
         knows = knows;
       }
 
-  pub reads_sees : {old new : PassOfRow S C R} {i : ℕ} → Reads m old new i → Sees old new
+  pub reads_sees : {old new : PassOfRow S C R} {i : ℕ} → ReadsValue m old new i → Sees old new
   reads_sees reads = record { row = reads.row; pass = reads.pass; opening = reads.opening; claims = reads.claims; held = reads.held }
 
   -- what is done after a look
@@ -102,7 +102,7 @@ module _ {S C R : Type 0} {m : CallMeaning S C R} where
     knows = b.knows;
   }
 
-  abbrev pub reads_after : {p q r : PassOfRow S C R} {i : ℕ} → Sees p q → Reads m q r i → Reads m p r i
+  abbrev pub reads_after : {p q r : PassOfRow S C R} {i : ℕ} → Sees p q → ReadsValue m q r i → ReadsValue m p r i
   reads_after {p} {q} {r} {i} a b = record {
     row = b.row ∙ a.row;
     opening = b.opening ∙ a.opening;

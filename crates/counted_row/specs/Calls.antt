@@ -17,7 +17,7 @@ module _ {S C R : Type 0} where
     pub knows : Knows m new.knows
 
   -- value i was looked at and no call was made, and its state is that after all that was then seen of it
-  pub record Reads (m : CallMeaning S C R) (old new : PassOfRow S C R) (i : ℕ) : Type 0 where
+  pub record ReadsValue (m : CallMeaning S C R) (old new : PassOfRow S C R) (i : ℕ) : Type 0 where
     pub row : new.row ≡ old.row
     pub opening : new.knows.opening ≡ old.knows.opening
     pub pass : Looks old.knows.pass new.knows.pass

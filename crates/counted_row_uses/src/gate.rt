@@ -1,7 +1,7 @@
 //! A gate as a value of a row: who enters gets a claim, which only its pass can end.
 ghost use Rattle.std.specs.Prelude.{◌≡◌, ℕ, ◌+◌, [], ◌∷◌, IfSome, MatchOption, MatchBool};
 ghost use Rattle.counted_row.specs.Views.{IsPassOfRow, MayLock, Sees, HasClaim};
-ghost use Rattle.counted_row.specs.Calls.{Commits, Reads};
+ghost use Rattle.counted_row.specs.Calls.{Commits, ReadsValue};
 ghost use Rattle.counted_row_uses.specs.Gates.{gating};
 ghost use Rattle.counted_row_uses.specs.declared.gate.Turn.TheVariants.{Enter, Leave};
 
@@ -57,7 +57,7 @@ pub fn enter<R: Wait>(
     requires lock { MayLock row.now pass.old index }
     ensures row { IsPassOfRow row.now pass.new }
     ensures turn { MatchOption result
-        (Reads gating pass.old pass.new index)
+        (ReadsValue gating pass.old pass.new index)
         (λ n. (enters : Commits gating pass.old pass.new index Enter) × (n ≡ enters.state.entries + 1)) }
     ensures claim { IfSome result (λ n. HasClaim index (n ∷ []) pass.new.knows.claims) }
 {
@@ -107,7 +107,7 @@ pub fn leave<R: Wait>(
     ensures row { IsPassOfRow row.now pass.new }
     ensures turn { MatchBool result
         ((leaves : Commits gating pass.old pass.new index Leave) × (number ≡ leaves.state.entries))
-        (Reads gating pass.old pass.new index) }
+        (ReadsValue gating pass.old pass.new index) }
 {
     let held = row.lock(rt, pass, index);
     if held.stamp() > LAST_STAMP {

@@ -23,10 +23,10 @@ use Rattle.timer_fd.specs.declared.answers.ReadAnswer.TheVariants as reads
 use Rattle.timer_objects.specs.declared.cell.Span.{Span}
 use Rattle.timer_objects.specs.declared.object.ObjectReply.{ObjectReply}
 use Rattle.timer_objects.specs.declared.wanting.Rearming.{Rearming}
-use Rattle.timer_objects.specs.Arming.{Arms}
+use Rattle.timer_objects.specs.Arming.{ArmsFor}
 use Rattle.timer_objects.specs.Calls.{Accepts, Caller, FindsFull, MakesRearming, ReadsFd, RearmsFor, SetsTimer, SettimeMade}
 use Rattle.timer_objects.specs.Known.{ObjectsOf, ObjectsPass}
-use Rattle.object_uses.specs.Callers.{KeepsBoth, KeepsObjects}
+use Rattle.object_uses.specs.Callers.{KeepsBoth, KeepsObjectsPass}
 
 keeps_looks : (v w : KnownOfTimers) → LooksOn v w → KeepsPass v w
 keeps_looks v w looks = record {
@@ -40,21 +40,21 @@ keeps_made : (v w : KnownOfTimers) (t : ℕ) (x : List TimerEntry) (es : List se
 keeps_made v w t x es made claims =
     record { id = made.id; claims = claims; seen = begins_trans made.from made.seen; mine = record { rest = _; whole = made.mine } }
 
-pub keeps_same : (p : ObjectsPass) → KeepsObjects p p
+pub keeps_same : (p : ObjectsPass) → KeepsObjectsPass p p
 keeps_same p = record { id = refl; seen = goes_refl p.knows.pass.seen; mine = begins_refl p.knows.pass.mine }
 
-pub keeps_both : (p q r : ObjectsPass) → KeepsObjects p q → KeepsObjects q r → KeepsObjects p r
+pub keeps_both : (p q r : ObjectsPass) → KeepsObjectsPass p q → KeepsObjectsPass q r → KeepsObjectsPass p r
 keeps_both p q r a b = record { id = b.id ∙ a.id; seen = goes_trans a.seen b.seen; mine = begins_trans a.mine b.mine }
 
-pub keeps_read : (p q : ObjectsPass) → Looks p.knows.pass q.knows.pass → KeepsObjects p q
+pub keeps_read : (p q : ObjectsPass) → Looks p.knows.pass q.knows.pass → KeepsObjectsPass p q
 keeps_read p q looks =
     record { id = looks.id; seen = looks.seen; mine = subst (λ m. Begins p.knows.pass.mine m) (sym looks.mine) (begins_refl p.knows.pass.mine) }
 
-pub keeps_added : (p q : ObjectsPass) (i : ℕ) (es : List _) → Adds p.knows.pass q.knows.pass i es → KeepsObjects p q
+pub keeps_added : (p q : ObjectsPass) (i : ℕ) (es : List _) → Adds p.knows.pass q.knows.pass i es → KeepsObjectsPass p q
 keeps_added p q i es adds = record { id = adds.id; seen = adds.seen; mine = record { rest = _; whole = adds.mine } }
 
 keeps_armed : (o : Opening) (v w : KnownOfTimers) (t : ℕ) (wanted : Option Wanted) (base : ℕ) (reading : ClockReading) (arm : Arm) (log log' : List Receipt)
-    → Arms o v w t wanted base reading arm log log' → KeepsPass v w
+    → ArmsFor o v w t wanted base reading arm log log' → KeepsPass v w
 keeps_armed o v w t None base reading arm log log' arms =
     subst (λ (k : KnownOfTimers). KeepsPass v k) (sym arms.1) (record { id = refl; claims = refl; seen = begins_refl v.seen; mine = begins_refl v.mine })
 keeps_armed o v w t (Some wanted) base reading arm log log' starts = keeps_made v w t starts.starts.at _ starts.starts.made starts.starts.claims

@@ -15,13 +15,13 @@ use Rattle.timer_objects.specs.declared.object.ObjectCall.{ObjectCall}
 use Rattle.timer_objects.specs.Cells.{cell_meaning}
 use Rattle.timer_objects.specs.Firings.{FiresBy, Firing, IsSameLoan, firing}
 use Rattle.timer_objects.specs.Known.{IsObjectsPass, ObjectsOf, ObjectsPass, row_of}
-use Rattle.object_uses.specs.Callers.{KeepsObjects}
+use Rattle.object_uses.specs.Callers.{KeepsObjectsPass}
 use Rattle.object_uses.proofs.Keeping.{keeps_added, keeps_both, keeps_read, keeps_same}
 
 -- the loan is the same, what the pass has seen and made goes on, and what it knows stays true
 pub record LeavesPass (h h' : Firing) : Type 0 where
   pub loan : IsSameLoan h h'
-  pub keeps : KeepsObjects h.objects_pass.now h'.objects_pass.now
+  pub keeps : KeepsObjectsPass h.objects_pass.now h'.objects_pass.now
   pub knows : Knows cell_meaning h.objects_pass.now.knows → Knows cell_meaning h'.objects_pass.now.knows
 
 leaves_same : (h : Firing) → LeavesPass h h
@@ -43,7 +43,7 @@ module _ (o : Opening) (reading : ClockReading) where
       → FiresBy o h h' v w c reading restart call → LeavesPass h h'
   by_call h h' v w c restart None loan by = record {
     loan = loan;
-    keeps = subst (λ (p : ObjectsPass). KeepsObjects h.objects_pass.now p) (sym by.1) (keeps_same h.objects_pass.now);
+    keeps = subst (λ (p : ObjectsPass). KeepsObjectsPass h.objects_pass.now p) (sym by.1) (keeps_same h.objects_pass.now);
     knows = subst (λ (p : ObjectsPass). Knows cell_meaning h.objects_pass.now.knows → Knows cell_meaning p.knows) (sym by.1) (λ k. k);
   }
   by_call h h' v w c restart (Some call) loan (inl enters, same, log, stops) = record {

@@ -28,7 +28,7 @@ use Rattle.timer_objects.specs.Calls.{Caller}
 use Rattle.timer_objects.specs.Known.{ObjectsPass, seen_of}
 
 -- the pass's name is as it was, and what it has seen and made goes on
-pub record KeepsObjects (p q : ObjectsPass) : Type 0 where
+pub record KeepsObjectsPass (p q : ObjectsPass) : Type 0 where
   pub id : q.knows.pass.id ≡ p.knows.pass.id
   pub seen : GoesOn p.knows.pass.seen q.knows.pass.seen
   pub mine : Begins p.knows.pass.mine q.knows.pass.mine
@@ -42,7 +42,7 @@ pub record HasHeard {E : Type 0} (first second new : Pass E) : Type 0 where
 
 -- a call has left both passes as they were, but for what they have seen and made since
 abbrev pub KeepsBoth : Caller → Caller → Type 0
-KeepsBoth old new = KeepsPass old.timers new.timers × KeepsObjects old.objects new.objects
+KeepsBoth old new = KeepsPass old.timers new.timers × KeepsObjectsPass old.objects new.objects
 
 -- a signal was accepted at this reading: it was pending, and the overrun is by the periods that had passed
 pub record TakesSignal (p q : ObjectsPass) (id : ℕ) (reading : ClockReading) (n : ℕ) : Type 0 where

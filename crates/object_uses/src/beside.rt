@@ -6,7 +6,7 @@ ghost use Rattle.expire_pass.specs.Handlers.{KeepsPass};
 ghost use Rattle.timer_objects.specs.declared.object.Kind.TheVariants as kinds;
 ghost use Rattle.timer_objects.specs.Callbacks.{bases_of};
 ghost use Rattle.timer_objects.specs.Known.{IsObjectsPass, Suits, decl_at};
-ghost use Rattle.object_uses.specs.Callers.{KeepsObjects, ReadBeside, ReadFits};
+ghost use Rattle.object_uses.specs.Callers.{KeepsObjectsPass, ReadBeside, ReadFits};
 
 use crate::counts::read_count;
 use crate::expiring::{Expired, expire_objects};
@@ -50,7 +50,7 @@ fn expire_and_read<R: Threads + Wait + Sync>(
     ensures timers { IsPassOf timers.now runner.new × IsPassOf timers.now reader.new }
     ensures keeps { KeepsPass runner.old.known runner.new.known × KeepsPass reader.old.known reader.new.known }
     ensures objects { IsObjectsPass objects.now objects_runner.new × IsObjectsPass objects.now objects_reader.new }
-    ensures goes_on { KeepsObjects objects_runner.old objects_runner.new × KeepsObjects objects_reader.old objects_reader.new }
+    ensures goes_on { KeepsObjectsPass objects_runner.old objects_runner.new × KeepsObjectsPass objects_reader.old objects_reader.new }
     ensures reads { ReadFits objects_reader.old objects_reader.new id reading result.1 }
 {
     join_mut(

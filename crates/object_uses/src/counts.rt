@@ -6,7 +6,7 @@ ghost use Rattle.expire_pass.specs.Handlers.{KeepsPass};
 ghost use Rattle.timer_objects.specs.declared.object.Kind.TheVariants as kinds;
 ghost use Rattle.timer_objects.specs.Callbacks.{bases_of};
 ghost use Rattle.timer_objects.specs.Known.{IsObjectsPass, Suits, decl_at};
-ghost use Rattle.object_uses.specs.Callers.{KeepsObjects, ReadFits};
+ghost use Rattle.object_uses.specs.Callers.{KeepsObjectsPass, ReadFits};
 
 use crate::expiring::{Expired, expire_objects};
 use counted_row::RowPass;
@@ -41,7 +41,7 @@ pub fn read_count<R: Wait>(
     ensures timers { IsPassOf timers.now pass.new }
     ensures keeps { KeepsPass pass.old.known pass.new.known }
     ensures objects { IsObjectsPass objects.now objects_pass.new }
-    ensures goes_on { KeepsObjects objects_pass.old objects_pass.new }
+    ensures goes_on { KeepsObjectsPass objects_pass.old objects_pass.new }
     ensures reads { ReadFits objects_pass.old objects_pass.new id reading result }
     ensures room { (log.old.spare ≤ log.new.spare + 4) × (object_log.old.spare ≤ object_log.new.spare + 1) }
 {

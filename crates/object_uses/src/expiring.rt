@@ -4,7 +4,7 @@ ghost use Rattle.hr_timers.specs.Known.{IsPassOf};
 ghost use Rattle.expire_pass.specs.Handlers.{KeepsPass};
 ghost use Rattle.timer_objects.specs.Callbacks.{bases_of};
 ghost use Rattle.timer_objects.specs.Known.{IsObjectsPass};
-ghost use Rattle.object_uses.specs.Callers.{KeepsObjects};
+ghost use Rattle.object_uses.specs.Callers.{KeepsObjectsPass};
 
 use counted_row::RowPass;
 use expire_pass::{ExpireAnswer, Log, expire};
@@ -46,7 +46,7 @@ pub fn expire_objects<R: Wait>(
     ensures timers { IsPassOf timers.now pass.new }
     ensures keeps { KeepsPass pass.old.known pass.new.known }
     ensures objects { IsObjectsPass objects.now objects_pass.new }
-    ensures goes_on { KeepsObjects objects_pass.old objects_pass.new }
+    ensures goes_on { KeepsObjectsPass objects_pass.old objects_pass.new }
     ensures room { log.old.spare ≤ log.new.spare + 2 * budget }
     ensures err { OnErr result ((pass.new ≡ pass.old) × (objects_pass.new ≡ objects_pass.old) × (log.new ≡ log.old)) }
 {

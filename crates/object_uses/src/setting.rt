@@ -6,7 +6,7 @@ ghost use Rattle.timer_objects.specs.declared.object.Kind.TheVariants as kinds;
 ghost use Rattle.timer_objects.specs.Known.{IsObjectsPass, Suits, decl_at};
 ghost use Rattle.timer_objects.specs.Calls.{Settimes};
 ghost use Rattle.timer_objects.specs.Rearming.{caller_of};
-ghost use Rattle.object_uses.specs.Callers.{KeepsObjects};
+ghost use Rattle.object_uses.specs.Callers.{KeepsObjectsPass};
 
 use counted_row::RowPass;
 use expire_pass::Log;
@@ -40,7 +40,7 @@ pub fn set_timer<R: Wait>(
     ensures timers { IsPassOf timers.now pass.new }
     ensures keeps { KeepsPass pass.old.known pass.new.known }
     ensures objects { IsObjectsPass objects.now objects_pass.new }
-    ensures goes_on { KeepsObjects objects_pass.old objects_pass.new }
+    ensures goes_on { KeepsObjectsPass objects_pass.old objects_pass.new }
     ensures settimes { Settimes objects.now timers.now.about (caller_of pass.old objects_pass.old log.old object_log.old) (caller_of pass.new objects_pass.new log.new object_log.new) id flags (record { sec = 0; nsec = ns }) (record { sec = 0; nsec = interval }) reading result }
     ensures room { (log.old.spare ≤ log.new.spare + 4) × (object_log.old.spare ≤ object_log.new.spare + 1) }
 {

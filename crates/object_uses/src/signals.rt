@@ -4,7 +4,7 @@ ghost use Rattle.hr_timers.specs.Known.{IsPassOf};
 ghost use Rattle.expire_pass.specs.Handlers.{KeepsPass};
 ghost use Rattle.timer_objects.specs.declared.object.Kind.TheVariants as kinds;
 ghost use Rattle.timer_objects.specs.Known.{IsObjectsPass, Suits, decl_at};
-ghost use Rattle.object_uses.specs.Callers.{AcceptFits, KeepsObjects};
+ghost use Rattle.object_uses.specs.Callers.{AcceptFits, KeepsObjectsPass};
 
 use counted_row::RowPass;
 use expire_pass::Log;
@@ -36,7 +36,7 @@ pub fn accept_signal<R: Wait>(
     ensures timers { IsPassOf timers.now pass.new }
     ensures keeps { KeepsPass pass.old.known pass.new.known }
     ensures objects { IsObjectsPass objects.now objects_pass.new }
-    ensures goes_on { KeepsObjects objects_pass.old objects_pass.new }
+    ensures goes_on { KeepsObjectsPass objects_pass.old objects_pass.new }
     ensures accepts { AcceptFits objects_pass.old objects_pass.new id reading result }
     ensures room { (log.old.spare ≤ log.new.spare + 4) × (object_log.old.spare ≤ object_log.new.spare + 1) }
 {

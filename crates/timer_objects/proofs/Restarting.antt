@@ -19,7 +19,7 @@ use Rattle.timer_setting.specs.declared.arming.Arm.{Arm}
 use Rattle.timer_setting.specs.declared.arming.Arm.TheVariants as arms
 use Rattle.timer_setting.specs.declared.arming.Wanted.{Wanted}
 use Rattle.timer_objects.specs.declared.cell.Span.{Span}
-use Rattle.timer_objects.specs.Arming.{Arms, SeesTimer, arm_of}
+use Rattle.timer_objects.specs.Arming.{ArmsFor, SeesTimer, arm_of}
 use Rattle.timer_objects.specs.Calls.{RearmsFor}
 use Rattle.timer_objects.specs.Valid.{end_by}
 use Rattle.timer_objects.proofs.Settings.{armed_end}
@@ -40,7 +40,7 @@ module _ (o : Opening) (v w : KnownOfTimers) (t ns asked : ℕ) (reading : Clock
 
 module _ (o : Opening) (v w : KnownOfTimers) (t last base : ℕ) (reading : ClockReading) (arm : Arm) (log log' : List Receipt) where
   pub rearms_by : (m : KnownOfTimers) (from n : ℕ) (wanted : Option Wanted) (start : Wanted) → wanted ≡ Some start → n ≡ end_by arm from
-      → SeesTimer o v m t last from → Arms o m w t (Some start) base reading arm log log'
+      → SeesTimer o v m t last from → ArmsFor o m w t (Some start) base reading arm log log'
       → RearmsFor o v w t last wanted base reading arm (record { from = from; to = n }) log log'
   rearms_by m from n wanted start e end sees made =
       subst (λ k. RearmsFor o v w t last k base reading arm (record { from = from; to = n }) log log') (sym e) (record {

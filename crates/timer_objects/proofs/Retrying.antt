@@ -18,12 +18,12 @@ use Rattle.timer_objects.specs.declared.wanting.Ended.{Ended}
 use Rattle.timer_objects.specs.declared.wanting.Ended.TheVariants as ends
 use Rattle.timer_objects.specs.Known.{ObjectsOf}
 use Rattle.timer_objects.specs.Arming.{Starts}
-use Rattle.timer_objects.specs.Calls.{Caller, EntersCall, RearmsFor, Waits}
+use Rattle.timer_objects.specs.Calls.{Caller, EntersCall, RearmsFor, HasWaited}
 use Rattle.timer_objects.specs.Rearming.{Ends, KeepsNames}
 
 module _ {a b c : Caller} where
   -- an entry of an object behind looks
-  abbrev pub enters_after : {x : ObjectsOf} {id : ℕ} {call : SpannedCall} {answer : ObjectReply} → Waits a b → EntersCall x b c id call answer
+  abbrev pub enters_after : {x : ObjectsOf} {id : ℕ} {call : SpannedCall} {answer : ObjectReply} → HasWaited a b → EntersCall x b c id call answer
       → EntersCall x a c id call answer
   enters_after {x} {id} {call} {answer} waits e = record {
     commits = commits_after waits.objects e.commits;
@@ -48,7 +48,7 @@ module _ (o : Opening) (u v w : KnownOfTimers) (t last base : ℕ) (reading : Cl
     to = rearms.to;
   }
 
-pub ends_after : (x : ObjectsOf) (o : Opening) (a b c : Caller) (id : ℕ) (r : Rearming) (reading : ClockReading) (e : Ended) → Waits a b
+pub ends_after : (x : ObjectsOf) (o : Opening) (a b c : Caller) (id : ℕ) (r : Rearming) (reading : ClockReading) (e : Ended) → HasWaited a b
     → Ends x o b c id r reading e → Ends x o a c id r reading e
 ends_after x o a b c id r reading (ends.Full n) waits found = record {
   looks = looks_trans a.timers b.timers c.timers waits.timers found.looks;

@@ -26,8 +26,8 @@ use Rattle.timer_objects.specs.declared.object.Kind.TheVariants as kinds
 use Rattle.timer_objects.specs.declared.object.ObjectReply.{ObjectReply}
 use Rattle.timer_objects.specs.Cells.{MaySpan, cell_meaning, spanned}
 use Rattle.timer_objects.specs.Known.{Enters, HoldsObject, IsObjectsPass, MayEnter, ObjectsOf, ObjectsPass, Suits, decl_at, receipt_of, row_of}
-use Rattle.timer_objects.specs.Arming.{Arms, Disarms, receipts_of, stamp_seen}
-use Rattle.timer_objects.specs.Calls.{BearsStart, Caller, FindsFull, SetsTimer, SettimeMade, SettimeTells, Waits, settime_by, settime_call}
+use Rattle.timer_objects.specs.Arming.{ArmsFor, Disarms, receipts_of, stamp_seen}
+use Rattle.timer_objects.specs.Calls.{BearsStart, Caller, FindsFull, SetsTimer, SettimeMade, SettimeTells, HasWaited, settime_by, settime_call}
 use Rattle.timer_objects.specs.Valid.{IsSettimeReply, IsValidSettime, end_by}
 use Rattle.timer_objects.specs.declared.settime.ValidSettime.{ValidSettime}
 use Rattle.timer_objects.specs.Steps.{IsObjectOf}
@@ -64,13 +64,13 @@ module _ (x : ObjectsOf) (o : Opening) (v d w : KnownOfTimers) (p m : ObjectsPas
     (suits : Suits x o) (within : id < length x.decls) (raw : (decl_at x id).kind ≢ kinds.Raw)
     (good : IsValidSettime (decl_at x id).kind valid) (is : IsObjectsPass x p) (locks : Locks cell_meaning p m id h) (row : IsPassOfRow (row_of x) m)
     (holds : HoldsObject x h) (room : h.stamp < x.limit) (disarms_then : Disarms o v d id last so_far log mid)
-    (arms_then : Arms o d w id wanted base valid.reading arm mid log') where
+    (arms_then : ArmsFor o d w id wanted base valid.reading arm mid log') where
   disarms : Disarms o v d id h.state.last so_far log mid
   disarms = subst (λ n. Disarms o v d id n so_far log mid) same_last disarms_then
 
-  arms : Arms o d w id (start_by valid.flags valid.value) (decl_at x id).base valid.reading arm mid log'
-  arms = subst (λ k. Arms o d w id k (decl_at x id).base valid.reading arm mid log') same_wanted
-      (subst (λ n. Arms o d w id wanted n valid.reading arm mid log') same_base arms_then)
+  arms : ArmsFor o d w id (start_by valid.flags valid.value) (decl_at x id).base valid.reading arm mid log'
+  arms = subst (λ k. ArmsFor o d w id k (decl_at x id).base valid.reading arm mid log') same_wanted
+      (subst (λ n. ArmsFor o d w id wanted n valid.reading arm mid log') same_base arms_then)
 
   -- the call that is entered, as its clause names it
   named : spanned (settime_call kind call) (record { from = so_far.from; to = to })
@@ -164,7 +164,7 @@ module _ (x : ObjectsOf) (o : Opening) (v d w : KnownOfTimers) (p m : ObjectsPas
 
 -- a settime that waited first
 pub made_after : (x : ObjectsOf) (o : Opening) (first old new : Caller) (id flags value interval : ℕ) (reading : ClockReading) (a : SettimeAnswer)
-    → Waits first old → SettimeMade x o old new id flags value interval reading a → SettimeMade x o first new id flags value interval reading a
+    → HasWaited first old → SettimeMade x o old new id flags value interval reading a → SettimeMade x o first new id flags value interval reading a
 made_after x o first old new id flags value interval reading a waits made = at a made
   where
     sets : (a : SettimeAnswer) → SetsTimer x o old new id flags value interval reading a → SetsTimer x o first new id flags value interval reading a

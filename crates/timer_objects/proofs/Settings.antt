@@ -36,7 +36,7 @@ use Rattle.timer_objects.specs.declared.object.Kind.TheVariants as kinds
 use Rattle.timer_objects.specs.declared.object.Object.{Object}
 use Rattle.timer_objects.specs.declared.object.Object.TheVariants as objects
 use Rattle.timer_objects.specs.Steps.{IsObjectOf, ObjectAllows, object_answer, object_step}
-use Rattle.timer_objects.specs.Arming.{Arms, Disarms, arm_of, stamp_seen}
+use Rattle.timer_objects.specs.Arming.{ArmsFor, Disarms, arm_of, stamp_seen}
 use Rattle.timer_objects.proofs.Starting.{events_by}
 use Rattle.timer_objects.specs.Calls.{BearsStart, SettimeTells, flags_of, phase_of, settime_call}
 use Rattle.timer_objects.specs.Valid.{IsSettimeReply, end_by}
@@ -63,14 +63,14 @@ module _ (o : Opening) (v w : KnownOfTimers) (t : ℕ) where
 
   -- and after the start that was wanted, if one was
   pub armed_end : (wanted : Option Wanted) (base : ℕ) (reading : ClockReading) (arm : Arm) (log log' : List Receipt) (before : ℕ)
-      → Arms o v w t wanted base reading arm log log' → before ≡ stamp_seen o v t → end_by arm before ≡ stamp_seen o w t
+      → ArmsFor o v w t wanted base reading arm log log' → before ≡ stamp_seen o v t → end_by arm before ≡ stamp_seen o w t
   armed_end None base reading arm log log' before a same =
       ap (λ x. end_by x before) a.0 ∙ (same ∙ ap (λ k. stamp_seen o k t) (sym a.1))
   armed_end (Some wanted) base reading arm log log' before a same = started_end wanted base reading before a.answer arm a.outcome a.starts
 
   -- what was seen goes on
   pub arms_goes_on : (wanted : Option Wanted) (base : ℕ) (reading : ClockReading) (arm : Arm) (log log' : List Receipt)
-      → Arms o v w t wanted base reading arm log log' → Begins v.seen w.seen
+      → ArmsFor o v w t wanted base reading arm log log' → Begins v.seen w.seen
   arms_goes_on None base reading arm log log' a = subst (λ (k : KnownOfTimers). Begins v.seen k.seen) (sym a.1) (begins_refl v.seen)
   arms_goes_on (Some wanted) base reading arm log log' a = begins_trans a.starts.made.from a.starts.made.seen
 
@@ -189,10 +189,10 @@ module _ (o : Opening) (v w : KnownOfTimers) (t : ℕ) (d : Decl) (flags value b
       (ap (λ c. phases.Armed g c (expiry_by d.clock flags value reading)) (sym (ap (λ (x : Timer). x.clock) now ∙ set.0))
       ∙ ap (λ k. phases.Armed g (timer_then o w.seen t).clock k) (sym (ap (λ (x : Timer). x.expires) now ∙ set.1)))
 
-  pub arms_bears : (arm : Arm) → Arms o v w t (start_by flags value) base reading arm log log' → BearsStart o w t arm (set_armed arm)
+  pub arms_bears : (arm : Arm) → ArmsFor o v w t (start_by flags value) base reading arm log log' → BearsStart o w t arm (set_armed arm)
   arms_bears arm a = at (nat_eq value 0) a
     where
-      at : (b : Bool) → Arms o v w t (if b then None else Some (record { mode = mode_by flags; ns = value })) base reading arm log log'
+      at : (b : Bool) → ArmsFor o v w t (if b then None else Some (record { mode = mode_by flags; ns = value })) base reading arm log log'
           → BearsStart o w t arm (set_armed arm)
       at true a = subst (λ x. BearsStart o w t x (set_armed x)) (sym a.0) refl
       at false a = start_bears arm a.answer a.outcome a.starts

@@ -41,9 +41,9 @@ pub record Starts (o : Opening) (v w : KnownOfTimers) (t : ℕ) (wanted : Wanted
       answer)
 
 -- the start that a step wants was made, or none was wanted and nothing is other than before
-abbrev pub Arms : Opening → KnownOfTimers → KnownOfTimers → ℕ → Option Wanted → ℕ → ClockReading → Arm → List Receipt → List Receipt → Type 0
-Arms o v w t None base reading arm log log' = (arm ≡ arms.NotAsked) × (w ≡ v) × (log' ≡ log)
-Arms o v w t (Some wanted) base reading arm log log' = Starts o v w t wanted base reading arm log log'
+abbrev pub ArmsFor : Opening → KnownOfTimers → KnownOfTimers → ℕ → Option Wanted → ℕ → ClockReading → Arm → List Receipt → List Receipt → Type 0
+ArmsFor o v w t None base reading arm log log' = (arm ≡ arms.NotAsked) × (w ≡ v) × (log' ≡ log)
+ArmsFor o v w t (Some wanted) base reading arm log log' = Starts o v w t wanted base reading arm log log'
 
 -- A timer whose function wasn't running was disarmed, or seen to be idle, after a number of entries that isn't below `last`. The span so far
 -- goes from that number to the call's own entry.

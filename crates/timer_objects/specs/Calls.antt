@@ -14,7 +14,7 @@ use Rattle.timer_setting.specs.declared.phase.Phase.TheVariants as phases
 use Rattle.timer_setting.specs.declared.settime_call.SettimeCall.{SettimeCall}
 use Rattle.timer_setting.specs.Arguments.{abstime, bits_beyond, is_bad, start_by, time_of}
 use Rattle.counted_row.specs.Views.{Sees}
-use Rattle.counted_row.specs.Calls.{Commits, Reads}
+use Rattle.counted_row.specs.Calls.{Commits, ReadsValue}
 use Rattle.posix_timer.specs.declared.answers.AcceptAnswer.{AcceptAnswer}
 use Rattle.posix_timer.specs.declared.answers.AcceptAnswer.TheVariants as acceptances
 use Rattle.posix_timer.specs.declared.answers.SettimeAnswer.TheVariants as posix_settings
@@ -52,7 +52,7 @@ use Rattle.timer_objects.specs.declared.wanting.Rearming.TheVariants as rearming
 use Rattle.timer_objects.specs.Steps.{object_answer, object_step}
 use Rattle.timer_objects.specs.Cells.{MaySpan, cell_meaning, spanned}
 use Rattle.timer_objects.specs.Known.{ObjectsOf, ObjectsPass, decl_at, seen_of}
-use Rattle.timer_objects.specs.Arming.{Arms, Disarms, SeesQuietly, Starts, stamp_seen}
+use Rattle.timer_objects.specs.Arming.{ArmsFor, Disarms, SeesQuietly, Starts, stamp_seen}
 
 -- what a caller's passes know, and what its logs have
 pub record Caller : Type 0 where
@@ -64,7 +64,7 @@ pub record Caller : Type 0 where
 -- ---- what all calls share
 
 -- the caller has waited, and may have looked at timers and objects
-pub record Waits (old new : Caller) : Type 0 where
+pub record HasWaited (old new : Caller) : Type 0 where
   pub timers : LooksOn old.timers new.timers
   pub objects : Sees old.objects new.objects
   pub log : new.log ≡ old.log
@@ -73,7 +73,7 @@ pub record Waits (old new : Caller) : Type 0 where
 -- The history of the object is full. Nothing was done but to look at it, and so many entries stand there.
 pub record FindsFull (x : ObjectsOf) (old new : Caller) (id n : ℕ) : Type 0 where
   pub looks : LooksOn old.timers new.timers
-  pub reads : Reads cell_meaning old.objects new.objects id
+  pub reads : ReadsValue cell_meaning old.objects new.objects id
   pub full : x.limit ≤ n
   pub stamp : n ≡ length (seen_of new.objects id)
   pub log : new.log ≡ old.log
@@ -152,7 +152,7 @@ pub record SetsTimer (x : ObjectsOf) (o : Opening) (old new : Caller) (id flags 
   pub cancel_log : List Receipt
   pub so_far : Span
   pub disarms : Disarms o old.timers disarmed id enters.commits.state.last so_far old.log cancel_log
-  pub arms : Arms o disarmed new.timers id (start_by flags value) (decl_at x id).base reading arm cancel_log new.log
+  pub arms : ArmsFor o disarmed new.timers id (start_by flags value) (decl_at x id).base reading arm cancel_log new.log
   pub from : span.from ≡ so_far.from
   pub to : span.to ≡ stamp_seen o new.timers id
   pub bears : BearsStart o new.timers id arm (phase_of (object_step enters.commits.state.object (settime_by x id flags value interval reading arm)))
@@ -244,7 +244,7 @@ ReadsFd x o old new id len reading reads.Again =
 
 -- an object was looked at, and nothing of timers or logs is other than before; its state, and so many entries
 pub record LooksAtObject (old new : Caller) (id : ℕ) (object : Object) (n : ℕ) : Type 0 where
-  pub reads : Reads cell_meaning old.objects new.objects id
+  pub reads : ReadsValue cell_meaning old.objects new.objects id
   pub state : object ≡ reads.state.object
   pub stamp : n ≡ length (seen_of new.objects id)
   pub timers : new.timers ≡ old.timers

@@ -24,7 +24,7 @@ use Rattle.timer_objects.specs.declared.wanting.Rearming.TheVariants as rearming
 use Rattle.timer_objects.specs.declared.wanting.Ended.{Ended}
 use Rattle.timer_objects.specs.declared.wanting.Ended.TheVariants as ends
 use Rattle.posix_timer.specs.States.{setting_of}
-use Rattle.counted_row.specs.Calls.{Reads}
+use Rattle.counted_row.specs.Calls.{ReadsValue}
 use Rattle.timer_objects.specs.Cells.{cell_meaning}
 use Rattle.timer_objects.specs.Logs.{ObjectLogOf}
 use Rattle.timer_objects.specs.Known.{ObjectsOf, ObjectsPass, seen_of}
@@ -69,7 +69,7 @@ Ends x o old new id r reading (ends.Made n reply) = MakesRearming x o old new id
 
 -- an object was looked at: its state, and so many entries
 pub record FindsObject (old new : ObjectsPass) (id : ℕ) (object : Object) (n : ℕ) : Type 0 where
-  pub reads : Reads cell_meaning old new id
+  pub reads : ReadsValue cell_meaning old new id
   pub state : object ≡ reads.state.object
   pub stamp : n ≡ length (seen_of new id)
 

@@ -4,7 +4,7 @@ use Rattle.ktime.specs.Readings.{ClockReading}
 use Rattle.hr_timers.specs.declared.numbers.ClaimNumbers.{ClaimNumbers}
 use Rattle.pass_names.specs.Passes.{Begins, GoesOn}
 use Rattle.timer_setting.specs.declared.trigger_answer.TriggerAnswer.TheVariants as triggers
-use Rattle.counted_row.specs.Calls.{Commits, Reads}
+use Rattle.counted_row.specs.Calls.{Commits, ReadsValue}
 use Rattle.posix_timer.specs.declared.calls.Call.TheVariants as posix_calls
 use Rattle.posix_timer.specs.declared.calls.Reply.TheVariants as posix_replies
 use Rattle.timer_fd.specs.declared.calls.Call.TheVariants as fd_calls
@@ -48,7 +48,7 @@ module _ (x : ObjectsOf) (p q : ObjectsPass) (log log' : List ObjectReceipt) whe
 
   -- The history of the object is full. Nothing was done but to look at it, and a receipt says that the trigger was refused, at so many entries.
   pub record SkipsTrigger (id : ℕ) (call : SpannedCall) : Type 0 where
-    pub reads : Reads cell_meaning p q id
+    pub reads : ReadsValue cell_meaning p q id
     pub full : x.limit ≤ length (seen_of q id)
     pub receipt : log'
         ≡ log ++ record { object = id; number = length (seen_of q id); call = call; reply = refused_at call.call (length (seen_of q id)) } ∷ []

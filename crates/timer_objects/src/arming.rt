@@ -5,7 +5,7 @@ ghost use Rattle.hr_timers.specs.Known.{IsPassOf};
 ghost use Rattle.timer_setting.specs.Phases.{IsOutcomeOf};
 ghost use Rattle.seq_timer.specs.declared.event.Reply.TheVariants as replies;
 ghost use Rattle.expire_pass.specs.declared.log.Noted.TheVariants as noteds;
-ghost use Rattle.timer_objects.specs.Arming.{Arms, Disarms, SeesQuietly, SeesTimer, Starts};
+ghost use Rattle.timer_objects.specs.Arming.{ArmsFor, Disarms, SeesQuietly, SeesTimer, Starts};
 
 use crate::cell::Span;
 use expire_pass::Log;
@@ -99,7 +99,7 @@ pub(crate) fn arm<R: Wait>(
     requires base { base < timers.now.about.bases }
     requires room { 2 ≤ log.old.spare }
     ensures pass { IsPassOf timers.now pass.new }
-    ensures arms { Arms timers.now.about pass.old.known pass.new.known timer wanted base reading result log.old.receipts log.new.receipts }
+    ensures arms { ArmsFor timers.now.about pass.old.known pass.new.known timer wanted base reading result log.old.receipts log.new.receipts }
     ensures outcome { IsOutcomeOf result wanted }
     ensures room { log.old.spare ≤ log.new.spare + 2 }
 {

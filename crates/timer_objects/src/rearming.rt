@@ -8,7 +8,7 @@ ghost use Rattle.timer_objects.specs.declared.object.Kind.TheVariants as kinds;
 ghost use Rattle.timer_objects.specs.declared.wanting.Rearming.TheVariants as rearmings;
 ghost use Rattle.timer_objects.specs.Cells.{spanned};
 ghost use Rattle.timer_objects.specs.Known.{HoldsObject, IsObjectsPass, MayEnter, Enters, Suits, decl_at, receipt_of};
-ghost use Rattle.timer_objects.specs.Calls.{Accepts, Gettimes, ReadsFd, RearmsFor, Waits, rearming_call};
+ghost use Rattle.timer_objects.specs.Calls.{Accepts, Gettimes, ReadsFd, RearmsFor, HasWaited, rearming_call};
 ghost use Rattle.timer_objects.specs.Rearming.{Ends, KeepsNames, caller_of, kind_of};
 
 use crate::answers::Gettime;
@@ -241,7 +241,7 @@ impl Objects {
         requires room { (2 ≤ log.old.spare) × (1 ≤ object_log.old.spare) }
         ensures pass { IsPassOf timers.now pass.new }
         ensures objects { IsObjectsPass self.now objects_pass.new }
-        ensures ends { MatchOption result (Waits (caller_of pass.old objects_pass.old log.old object_log.old) (caller_of pass.new objects_pass.new log.new object_log.new)) (λ e. Ends self.now timers.now.about (caller_of pass.old objects_pass.old log.old object_log.old) (caller_of pass.new objects_pass.new log.new object_log.new) id call reading e) }
+        ensures ends { MatchOption result (HasWaited (caller_of pass.old objects_pass.old log.old object_log.old) (caller_of pass.new objects_pass.new log.new object_log.new)) (λ e. Ends self.now timers.now.about (caller_of pass.old objects_pass.old log.old object_log.old) (caller_of pass.new objects_pass.new log.new object_log.new) id call reading e) }
         ensures room { (log.old.spare ≤ log.new.spare + 2) × (object_log.old.spare ≤ object_log.new.spare + 1) }
         ensures again { IfNone result ((log.new ≡ log.old) × (object_log.new ≡ object_log.old)) }
     {

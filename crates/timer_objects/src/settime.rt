@@ -5,7 +5,7 @@ ghost use Rattle.hr_timers.specs.Known.{IsPassOf};
 ghost use Rattle.timer_objects.specs.declared.object.Kind.TheVariants as kinds;
 ghost use Rattle.timer_objects.specs.Cells.{spanned};
 ghost use Rattle.timer_objects.specs.Known.{Enters, IsObjectsPass, MayEnter, Suits, decl_at, receipt_of};
-ghost use Rattle.timer_objects.specs.Calls.{SettimeMade, SettimeTells, Settimes, Waits, flags_of, settime_call};
+ghost use Rattle.timer_objects.specs.Calls.{SettimeMade, SettimeTells, Settimes, HasWaited, flags_of, settime_call};
 ghost use Rattle.timer_objects.specs.Valid.{IsSettimeReply, IsValidSettime, end_by};
 
 use crate::arming::{arm, disarm};
@@ -138,7 +138,7 @@ impl Objects {
         requires room { (4 ≤ log.old.spare) × (0 < object_log.old.spare) }
         ensures timers { IsPassOf timers.now pass.new }
         ensures objects { IsObjectsPass self.now objects_pass.new }
-        ensures turn { MatchOption result (Waits (record { timers = pass.old.known; objects = objects_pass.old; log = log.old.receipts; object_log = object_log.old.receipts }) (record { timers = pass.new.known; objects = objects_pass.new; log = log.new.receipts; object_log = object_log.new.receipts })) (λ a. SettimeMade self.now timers.now.about (record { timers = pass.old.known; objects = objects_pass.old; log = log.old.receipts; object_log = object_log.old.receipts }) (record { timers = pass.new.known; objects = objects_pass.new; log = log.new.receipts; object_log = object_log.new.receipts }) id valid.now.flags valid.now.value valid.now.interval valid.now.reading a) }
+        ensures turn { MatchOption result (HasWaited (record { timers = pass.old.known; objects = objects_pass.old; log = log.old.receipts; object_log = object_log.old.receipts }) (record { timers = pass.new.known; objects = objects_pass.new; log = log.new.receipts; object_log = object_log.new.receipts })) (λ a. SettimeMade self.now timers.now.about (record { timers = pass.old.known; objects = objects_pass.old; log = log.old.receipts; object_log = object_log.old.receipts }) (record { timers = pass.new.known; objects = objects_pass.new; log = log.new.receipts; object_log = object_log.new.receipts }) id valid.now.flags valid.now.value valid.now.interval valid.now.reading a) }
         ensures again { IfNone result ((log.new ≡ log.old) × (object_log.new ≡ object_log.old)) }
         ensures room { (log.old.spare ≤ log.new.spare + 4) × (object_log.old.spare ≤ object_log.new.spare + 1) }
     {

@@ -1,7 +1,7 @@
 use Rattle.std.specs.Prelude.{◌≡◌}
 use Rattle.hr_timers.specs.Known.{IsPassOf}
 use Rattle.timer_objects.specs.Known.{IsObjectsPass}
-use Rattle.timer_objects.specs.Calls.{Waits}
+use Rattle.timer_objects.specs.Calls.{HasWaited}
 use Rattle.timer_objects.proofs.objects.Objects.settime_valid.Given as goal
 
 abbrev pub invariant-loop : goal.invariant-loop
@@ -10,7 +10,7 @@ invariant-loop g l = record {
   ends : (goal.iterator-loop g).is_finite l.iterator';
   timers : IsPassOf l.fn.timers l.pass;
   objects : IsObjectsPass l.fn.self l.objects_pass;
-  waits : Waits (record { timers = l.fn.pass.known; objects = l.fn.objects_pass; log = l.fn.log.receipts; object_log = l.fn.object_log.receipts })
+  waits : HasWaited (record { timers = l.fn.pass.known; objects = l.fn.objects_pass; log = l.fn.log.receipts; object_log = l.fn.object_log.receipts })
       (record { timers = l.pass.known; objects = l.objects_pass; log = l.log.receipts; object_log = l.object_log.receipts });
   log : l.log ≡ l.fn.log;
   object_log : l.object_log ≡ l.fn.object_log;
