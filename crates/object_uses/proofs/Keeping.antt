@@ -90,7 +90,7 @@ module _ (x : ObjectsOf) (o : Opening) (old new : Caller) (id flags value interv
 
   keeps_rearmed : (t last : ℕ) (wanted : Option Wanted) (base : ℕ) (arm : Arm) (span : Span)
       → RearmsFor o old.timers new.timers t last wanted base reading arm span old.log new.log → KeepsPass old.timers new.timers
-  keeps_rearmed t last None base arm span rearms = keeps_looks old.timers new.timers rearms.1
+  keeps_rearmed t last None base arm span rearms = keeps_looks old.timers new.timers rearms.1.looks
   keeps_rearmed t last (Some wanted) base arm span rearms =
       let s = rearms.starts.starts in
       keeps_trans old.timers rearms.begin new.timers (keeps_looks old.timers rearms.begin rearms.looks)

@@ -10,7 +10,7 @@ use Rattle.timer_setting.specs.declared.arming.Arm.{Arm}
 use Rattle.timer_setting.specs.declared.arming.Wanted.{Wanted}
 use Rattle.timer_setting.specs.declared.settime_call.SettimeCall.{SettimeCall}
 use Rattle.hr_timers.specs.Calls.{cancel_entries}
-use Rattle.std.specs.Prelude.{Option}
+use Rattle.std.specs.Prelude.{Option, Some, None}
 use Rattle.timer_setting.specs.Arguments.{start_by}
 use Rattle.timer_setting.specs.Phases.{IsOutcomeOf}
 use Rattle.timer_fd.specs.declared.answers.SettimeAnswer.{SettimeAnswer}
@@ -28,6 +28,7 @@ use Rattle.timer_objects.specs.Cells.{MaySpan, cell_meaning, spanned}
 use Rattle.timer_objects.specs.Known.{Enters, HoldsObject, IsObjectsPass, MayEnter, ObjectsOf, ObjectsPass, Suits, decl_at, receipt_of, row_of}
 use Rattle.timer_objects.specs.Arming.{ArmsFor, Disarms, receipts_of, stamp_seen}
 use Rattle.timer_objects.specs.Calls.{BearsStart, Caller, FindsFull, SetsTimer, SettimeMade, SettimeTells, HasWaited, settime_by, settime_call}
+use Rattle.timer_objects.specs.Rearming.{KeepsNames}
 use Rattle.timer_objects.specs.Valid.{IsSettimeReply, IsValidSettime, end_by}
 use Rattle.timer_objects.specs.declared.settime.ValidSettime.{ValidSettime}
 use Rattle.timer_objects.specs.Steps.{IsObjectOf}
@@ -221,3 +222,27 @@ made_after x o first old new id flags value interval reading a waits made = at a
     at (settings.Spent n) s = full n s
     at settings.BadFlags s = s
     at settings.BadTime s = s
+
+-- ---- names
+
+arms_names : (o : Opening) (v w : KnownOfTimers) (t base : ℕ) (reading : ClockReading) (arm : Arm) (log log' : List Receipt) (wanted : Option Wanted)
+    → ArmsFor o v w t wanted base reading arm log log' → (w.id ≡ v.id) × (w.claims ≡ v.claims)
+arms_names o v w t base reading arm log log' None a = (ap (λ (k : KnownOfTimers). k.id) a.1, ap (λ (k : KnownOfTimers). k.claims) a.1)
+arms_names o v w t base reading arm log log' (Some wanted) a = (a.starts.made.id, a.starts.claims)
+
+sets_names : (x : ObjectsOf) (o : Opening) (old new : Caller) (id flags value interval : ℕ) (reading : ClockReading) (a : SettimeAnswer)
+    → SetsTimer x o old new id flags value interval reading a → KeepsNames old new
+sets_names x o old new id flags value interval reading a s =
+    let names = arms_names o s.disarmed new.timers id _ reading s.arm s.cancel_log new.log _ s.arms in
+    let cancelled = s.disarms.cancelled in
+    record { timers = names.0 ∙ cancelled.made.id; claims = names.1 ∙ cancelled.claims; objects = s.enters.commits.adds.id }
+
+pub made_names : (x : ObjectsOf) (o : Opening) (old new : Caller) (id flags value interval : ℕ) (reading : ClockReading) (a : SettimeAnswer)
+    → SettimeMade x o old new id flags value interval reading a → KeepsNames old new
+made_names x o old new id flags value interval reading (settings.Old left was) s = sets_names x o old new id flags value interval reading _ s
+made_names x o old new id flags value interval reading (settings.Unarmed n) s = sets_names x o old new id flags value interval reading _ s
+made_names x o old new id flags value interval reading settings.Canceled s = sets_names x o old new id flags value interval reading _ s
+made_names x o old new id flags value interval reading (settings.Spent n) f =
+    record { timers = f.looks.id; claims = f.looks.claims; objects = f.reads.pass.id }
+made_names x o old new id flags value interval reading settings.BadFlags s = absurd s
+made_names x o old new id flags value interval reading settings.BadTime s = absurd s

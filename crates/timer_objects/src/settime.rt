@@ -6,6 +6,7 @@ ghost use Rattle.timer_objects.specs.declared.object.Kind.TheVariants as kinds;
 ghost use Rattle.timer_objects.specs.Cells.{spanned};
 ghost use Rattle.timer_objects.specs.Known.{Enters, IsObjectsPass, MayEnter, Suits, decl_at, receipt_of};
 ghost use Rattle.timer_objects.specs.Calls.{SettimeMade, SettimeTells, Settimes, HasWaited, flags_of, settime_call};
+ghost use Rattle.timer_objects.specs.Rearming.{KeepsNames, caller_of};
 ghost use Rattle.timer_objects.specs.Valid.{IsSettimeReply, IsValidSettime, end_by};
 
 use crate::arming::{arm, disarm};
@@ -56,7 +57,8 @@ impl Objects {
         requires room { (4 ≤ log.old.spare) × (0 < object_log.old.spare) }
         ensures timers { IsPassOf timers.now pass.new }
         ensures objects { IsObjectsPass self.now objects_pass.new }
-        ensures settimes { Settimes self.now timers.now.about (record { timers = pass.old.known; objects = objects_pass.old; log = log.old.receipts; object_log = object_log.old.receipts }) (record { timers = pass.new.known; objects = objects_pass.new; log = log.new.receipts; object_log = object_log.new.receipts }) id flags value interval reading result }
+        ensures settimes { Settimes self.now timers.now.about (caller_of pass.old objects_pass.old log.old object_log.old) (caller_of pass.new objects_pass.new log.new object_log.new) id flags value interval reading result }
+        ensures names { KeepsNames (caller_of pass.old objects_pass.old log.old object_log.old) (caller_of pass.new objects_pass.new log.new object_log.new) }
         ensures room { (log.old.spare ≤ log.new.spare + 4) × (object_log.old.spare ≤ object_log.new.spare + 1) }
     {
         let (value, interval) = match times_by(self.kind(id), flags, value, interval) {
@@ -94,7 +96,8 @@ impl Objects {
         requires room { (4 ≤ log.old.spare) × (0 < object_log.old.spare) }
         ensures timers { IsPassOf timers.now pass.new }
         ensures objects { IsObjectsPass self.now objects_pass.new }
-        ensures made { SettimeMade self.now timers.now.about (record { timers = pass.old.known; objects = objects_pass.old; log = log.old.receipts; object_log = object_log.old.receipts }) (record { timers = pass.new.known; objects = objects_pass.new; log = log.new.receipts; object_log = object_log.new.receipts }) id valid.now.flags valid.now.value valid.now.interval valid.now.reading result }
+        ensures made { SettimeMade self.now timers.now.about (caller_of pass.old objects_pass.old log.old object_log.old) (caller_of pass.new objects_pass.new log.new object_log.new) id valid.now.flags valid.now.value valid.now.interval valid.now.reading result }
+        ensures names { KeepsNames (caller_of pass.old objects_pass.old log.old object_log.old) (caller_of pass.new objects_pass.new log.new object_log.new) }
         ensures room { (log.old.spare ≤ log.new.spare + 4) × (object_log.old.spare ≤ object_log.new.spare + 1) }
     {
         let backoff = Backoff::new();
@@ -138,7 +141,7 @@ impl Objects {
         requires room { (4 ≤ log.old.spare) × (0 < object_log.old.spare) }
         ensures timers { IsPassOf timers.now pass.new }
         ensures objects { IsObjectsPass self.now objects_pass.new }
-        ensures turn { MatchOption result (HasWaited (record { timers = pass.old.known; objects = objects_pass.old; log = log.old.receipts; object_log = object_log.old.receipts }) (record { timers = pass.new.known; objects = objects_pass.new; log = log.new.receipts; object_log = object_log.new.receipts })) (λ a. SettimeMade self.now timers.now.about (record { timers = pass.old.known; objects = objects_pass.old; log = log.old.receipts; object_log = object_log.old.receipts }) (record { timers = pass.new.known; objects = objects_pass.new; log = log.new.receipts; object_log = object_log.new.receipts }) id valid.now.flags valid.now.value valid.now.interval valid.now.reading a) }
+        ensures turn { MatchOption result (HasWaited (caller_of pass.old objects_pass.old log.old object_log.old) (caller_of pass.new objects_pass.new log.new object_log.new)) (λ a. SettimeMade self.now timers.now.about (caller_of pass.old objects_pass.old log.old object_log.old) (caller_of pass.new objects_pass.new log.new object_log.new) id valid.now.flags valid.now.value valid.now.interval valid.now.reading a) }
         ensures again { IfNone result ((log.new ≡ log.old) × (object_log.new ≡ object_log.old)) }
         ensures room { (log.old.spare ≤ log.new.spare + 4) × (object_log.old.spare ≤ object_log.new.spare + 1) }
     {
