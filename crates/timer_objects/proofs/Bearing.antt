@@ -1,8 +1,8 @@
 -- A call that arms its object's timer again: it may be made, its reply, and the phase that it leaves.
-use Rattle.std.proofs.Common.{arith, refl, sym, ap, subst, ◌≡◌, ◌∙◌, ℕ, ◌+◌, ◌≤◌, ◌<◌, Bool, true, false, nat_eq, nat_lt, ◌&&◌, ◌||◌, List, [], ◌∷◌}
-use Rattle.std.specs.Prelude.{Option, Some, None, if◌then◌else◌}
+use Rattle.std.proofs.Common.{arith, refl, sym, subst, ◌≡◌, ◌∙◌, ℕ, ◌<◌, Bool, true, false, nat_eq, nat_lt, ◌&&◌, ◌||◌, List}
+use Rattle.std.specs.Prelude.{Option, None, if◌then◌else◌}
 use Rattle.ktime.specs.Readings.{ClockReading, value_of}
-use Rattle.ktime.specs.Times.{next_after, sat}
+use Rattle.ktime.specs.Times.{next_after}
 use Rattle.base_row.specs.declared.view.Opening.{Opening}
 use Rattle.hr_timers.specs.Known.{KnownOfTimers}
 use Rattle.expire_pass.specs.declared.log.Receipt.{Receipt}
@@ -15,10 +15,8 @@ use Rattle.timer_setting.specs.Phases.{IsOutcomeOf, next_start, periods_in, rear
 use Rattle.posix_timer.specs.declared.answers.AcceptAnswer.TheVariants as acceptances
 use Rattle.posix_timer.specs.States.{PosixTimer}
 use Rattle.posix_timer.specs.Steps.{overrun_of}
-use Rattle.timer_fd.specs.declared.answers.ReadAnswer.{ReadAnswer}
-use Rattle.timer_fd.specs.declared.answers.ReadAnswer.TheVariants as reads
 use Rattle.timer_fd.specs.States.{Descriptor, is_canceled}
-use Rattle.timer_fd.specs.Steps.{counted, fd_read_answer, left_by, total_in}
+use Rattle.timer_fd.specs.Steps.{fd_read_answer, left_by}
 use Rattle.timer_objects.specs.declared.cell.ObjectCell.{ObjectCell}
 use Rattle.timer_objects.specs.declared.cell.Span.{Span}
 use Rattle.timer_objects.specs.declared.object.Decl.{Decl}

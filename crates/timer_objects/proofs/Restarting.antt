@@ -1,5 +1,5 @@
 -- A start behind a look, and the expiry that a start leaves which keeps its timer's clock.
-use Rattle.std.proofs.Common.{arith, refl, sym, ap, subst, ◌≡◌, ◌∙◌, ℕ, ◌≤◌, Bool, true, false, List, [], ◌∷◌}
+use Rattle.std.proofs.Common.{arith, refl, sym, ap, subst, ◌≡◌, ◌∙◌, ℕ, ◌≤◌, Bool, true, false, List}
 use Rattle.std.specs.Prelude.{Option, Some, None}
 use Rattle.ktime.specs.declared.mode.Mode.TheVariants as modes
 use Rattle.ktime.specs.Readings.{ClockReading}

@@ -1,4 +1,4 @@
-use Rattle.std.proofs.Common.{refl, subst, ◌≡◌, ℕ}
+use Rattle.std.proofs.Common.{refl, subst, ℕ}
 use Rattle.ktime.specs.Readings.{ClockReading}
 use Rattle.base_row.specs.declared.view.Opening.{Opening}
 use Rattle.timer_objects.specs.declared.answers.Gettime.{Gettime}

@@ -1,4 +1,4 @@
-use Rattle.std.proofs.Common.{ℕ, ap, subst, ◌≡◌, length}
+use Rattle.std.proofs.Common.{ap, subst, ◌≡◌, length}
 use Rattle.counted_row.proofs.Calls.{reads_of}
 use Rattle.timer_objects.specs.declared.cell.ObjectCell.{ObjectCell}
 use Rattle.timer_objects.specs.Known.{seen_of}
