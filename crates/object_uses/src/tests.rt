@@ -1,3 +1,4 @@
 //! The callers, run; and the calls of objects by one thread and by two.
 mod answers;
+mod passes;
 mod stand;
