@@ -1,4 +1,5 @@
 //! The callers, run; and the calls of objects by one thread and by two.
 mod answers;
 mod expected;
+mod passes;
 mod stand;
