@@ -47,6 +47,8 @@ use Rattle.timer_objects.specs.declared.object.ObjectCall.{ObjectCall}
 use Rattle.timer_objects.specs.declared.object.ObjectCall.TheVariants as calls
 use Rattle.timer_objects.specs.declared.object.ObjectReply.{ObjectReply}
 use Rattle.timer_objects.specs.declared.object.ObjectReply.TheVariants as replies
+use Rattle.timer_objects.specs.declared.wanting.Rearming.{Rearming}
+use Rattle.timer_objects.specs.declared.wanting.Rearming.TheVariants as rearmings
 use Rattle.timer_objects.specs.Steps.{object_answer, object_step}
 use Rattle.timer_objects.specs.Cells.{cell_meaning, spanned}
 use Rattle.timer_objects.specs.Known.{ObjectsOf, ObjectsPass, decl_at, seen_of}
@@ -196,21 +198,17 @@ BearsRestart o k t (arms.Armed generation) (phases.Expired clock expires) = ⊥
 BearsRestart o k t (arms.Unarmed stamp) phase = phase ≡ phases.Idle
 
 -- the start that a call of this kind wants of an object whose history has room
-pub data Rearming : Type 0 where
-  Accepting : Rearming
-  Reading : Rearming
-  Getting : Rearming
-
 abbrev pub wanted_by : Rearming → Object → ClockReading → Option Wanted
-wanted_by Accepting (objects.Posix t) reading = accept_wanted t reading
-wanted_by Reading (objects.Fd t) reading = next_to_read t reading
-wanted_by Getting (objects.Fd t) reading = next_start t.phase t.interval reading
+wanted_by rearmings.Accepting (objects.Posix t) reading = accept_wanted t reading
+wanted_by rearmings.Reading (objects.Fd t) reading = next_to_read t reading
+wanted_by rearmings.Getting (objects.Fd t) reading = next_start t.phase t.interval reading
 wanted_by r object reading = None
 
+-- the call, with the outcome of that start
 abbrev pub rearming_call : Rearming → ClockReading → Arm → ObjectCall
-rearming_call Accepting reading arm = calls.Posix (posix_calls.Accept reading arm)
-rearming_call Reading reading arm = calls.Fd (fd_calls.Read reading arm)
-rearming_call Getting reading arm = calls.Fd (fd_calls.Gettime reading arm)
+rearming_call rearmings.Accepting reading arm = calls.Posix (posix_calls.Accept reading arm)
+rearming_call rearmings.Reading reading arm = calls.Fd (fd_calls.Read reading arm)
+rearming_call rearmings.Getting reading arm = calls.Fd (fd_calls.Gettime reading arm)
 
 -- Such a call was made: while the object was locked its timer was started in the mode that keeps its clock, where the call wants that; then the
 -- object's entry was made.
@@ -226,20 +224,20 @@ pub record MakesRearming (x : ObjectsOf) (o : Opening) (old new : Caller) (id : 
 abbrev pub Accepts : ObjectsOf → Opening → Caller → Caller → ℕ → ClockReading → AcceptAnswer → Type 0
 Accepts x o old new id reading (acceptances.Spent n) = FindsFull x old new id n
 Accepts x o old new id reading (acceptances.Accepted overrun) =
-    MakesRearming x o old new id Accepting reading (replies.Posix (posix_replies.Accept (acceptances.Accepted overrun)))
+    MakesRearming x o old new id rearmings.Accepting reading (replies.Posix (posix_replies.Accept (acceptances.Accepted overrun)))
 Accepts x o old new id reading acceptances.NoSignal =
-    MakesRearming x o old new id Accepting reading (replies.Posix (posix_replies.Accept acceptances.NoSignal))
+    MakesRearming x o old new id rearmings.Accepting reading (replies.Posix (posix_replies.Accept acceptances.NoSignal))
 
 -- a read: a buffer that is too short is refused first, and nothing is other than before
 abbrev pub ReadsFd : ObjectsOf → Opening → Caller → Caller → ℕ → ℕ → ClockReading → ReadAnswer → Type 0
 ReadsFd x o old new id len reading reads.ShortBuffer = (len < count_length) × (new ≡ old)
 ReadsFd x o old new id len reading (reads.Spent n) = (count_length ≤ len) × FindsFull x old new id n
 ReadsFd x o old new id len reading (reads.Count total) =
-    (count_length ≤ len) × MakesRearming x o old new id Reading reading (replies.Fd (fd_replies.Read (reads.Count total)))
+    (count_length ≤ len) × MakesRearming x o old new id rearmings.Reading reading (replies.Fd (fd_replies.Read (reads.Count total)))
 ReadsFd x o old new id len reading reads.Canceled =
-    (count_length ≤ len) × MakesRearming x o old new id Reading reading (replies.Fd (fd_replies.Read reads.Canceled))
+    (count_length ≤ len) × MakesRearming x o old new id rearmings.Reading reading (replies.Fd (fd_replies.Read reads.Canceled))
 ReadsFd x o old new id len reading reads.Again =
-    (count_length ≤ len) × MakesRearming x o old new id Reading reading (replies.Fd (fd_replies.Read reads.Again))
+    (count_length ≤ len) × MakesRearming x o old new id rearmings.Reading reading (replies.Fd (fd_replies.Read reads.Again))
 
 -- ---- looks
 
@@ -258,7 +256,7 @@ Gettimes x o old new id reading kinds.Posix (gettimes.Left left interval stamp) 
     (t : _) × LooksAtObject old new id (objects.Posix t) stamp × (record { left = left; interval = interval } ≡ setting_of t reading)
 Gettimes x o old new id reading kinds.Posix (gettimes.Spent stamp) = ⊥
 Gettimes x o old new id reading kinds.Fd (gettimes.Left left interval stamp) =
-    MakesRearming x o old new id Getting reading (replies.Fd (fd_replies.Gettime (lefts.Left left interval))) × (stamp ≡ length (seen_of new.objects id))
+    MakesRearming x o old new id rearmings.Getting reading (replies.Fd (fd_replies.Gettime (lefts.Left left interval))) × (stamp ≡ length (seen_of new.objects id))
 Gettimes x o old new id reading kinds.Fd (gettimes.Spent n) = FindsFull x old new id n
 Gettimes x o old new id reading kinds.Raw a = ⊥
 

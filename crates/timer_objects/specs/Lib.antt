@@ -5,6 +5,7 @@ pub mod Known
 pub mod Arming
 pub mod Calls
 pub mod Valid
+pub mod Rearming
 pub mod Callbacks
 pub mod Triggers
 pub mod Firings

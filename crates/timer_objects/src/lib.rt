@@ -15,7 +15,12 @@ mod callback;
 mod cell;
 mod firing;
 mod log;
+mod looking;
 mod object;
 mod objects;
+mod rearming;
 mod settime;
+#[cfg(test)]
+mod tests;
 mod trigger;
+mod wanting;

@@ -229,7 +229,7 @@ fn wanted_by(flags: u64, ns: u64) -> Option<Wanted>
 }
 
 /// The number of the call's last entry of its timer, where the one before its start was so.
-fn end_of(arm: Arm, before: u64) -> u64
+pub(crate) fn end_of(arm: Arm, before: u64) -> u64
     ensures { result ≡ end_by arm before }
 {
     match arm {

@@ -1,0 +1,118 @@
+-- A call that arms its object's timer again: it may be made, its reply, and the phase that it leaves.
+use Rattle.std.proofs.Common.{arith, refl, sym, ap, subst, ◌≡◌, ◌∙◌, ℕ, ◌+◌, ◌≤◌, ◌<◌, Bool, true, false, nat_eq, nat_lt, ◌&&◌, ◌||◌, List, [], ◌∷◌}
+use Rattle.std.specs.Prelude.{Option, Some, None, if◌then◌else◌}
+use Rattle.ktime.specs.Readings.{ClockReading, value_of}
+use Rattle.ktime.specs.Times.{next_after, sat}
+use Rattle.base_row.specs.declared.view.Opening.{Opening}
+use Rattle.hr_timers.specs.Known.{KnownOfTimers}
+use Rattle.expire_pass.specs.declared.log.Receipt.{Receipt}
+use Rattle.timer_setting.specs.declared.arming.Arm.{Arm}
+use Rattle.timer_setting.specs.declared.arming.Arm.TheVariants as arms
+use Rattle.timer_setting.specs.declared.arming.Wanted.{Wanted}
+use Rattle.timer_setting.specs.declared.phase.Phase.{Phase}
+use Rattle.timer_setting.specs.declared.phase.Phase.TheVariants as phases
+use Rattle.timer_setting.specs.Phases.{IsOutcomeOf, next_start, periods_in, rearmed}
+use Rattle.posix_timer.specs.declared.answers.AcceptAnswer.TheVariants as acceptances
+use Rattle.posix_timer.specs.States.{PosixTimer}
+use Rattle.posix_timer.specs.Steps.{overrun_of}
+use Rattle.timer_fd.specs.declared.answers.ReadAnswer.{ReadAnswer}
+use Rattle.timer_fd.specs.declared.answers.ReadAnswer.TheVariants as reads
+use Rattle.timer_fd.specs.States.{Descriptor, is_canceled}
+use Rattle.timer_fd.specs.Steps.{counted, fd_read_answer, left_by, total_in}
+use Rattle.timer_objects.specs.declared.cell.ObjectCell.{ObjectCell}
+use Rattle.timer_objects.specs.declared.cell.Span.{Span}
+use Rattle.timer_objects.specs.declared.object.Decl.{Decl}
+use Rattle.timer_objects.specs.declared.object.Object.{Object}
+use Rattle.timer_objects.specs.declared.object.Object.TheVariants as objects
+use Rattle.timer_objects.specs.declared.object.ObjectReply.{ObjectReply}
+use Rattle.timer_objects.specs.declared.wanting.Rearming.{Rearming}
+use Rattle.timer_objects.specs.declared.wanting.Rearming.TheVariants as rearmings
+use Rattle.timer_objects.specs.Steps.{IsObjectOf, ObjectAllows, object_answer, object_step}
+use Rattle.timer_objects.specs.Calls.{BearsRestart, RearmsFor, phase_of, rearming_call, wanted_by}
+use Rattle.timer_objects.specs.Rearming.{RepliesTo, kind_of}
+use Rattle.timer_objects.proofs.Restarting.{expiry}
+
+module _ (d : Decl) (limit n : ℕ) (reading : ClockReading) (arm : Arm) where
+  pub allows : (r : Rearming) (x : Object) → IsObjectOf d limit n x → d.kind ≡ kind_of r → n < limit → IsOutcomeOf arm (wanted_by r x reading)
+      → ObjectAllows x (rearming_call r reading arm)
+  allows rearmings.Accepting objects.Raw is k few outcome = cc
+  allows rearmings.Accepting (objects.Posix t) is k few outcome = (omega (arith, is.3, is.4), outcome)
+  allows rearmings.Accepting (objects.Fd t) is k few outcome = cc
+  allows rearmings.Reading objects.Raw is k few outcome = cc
+  allows rearmings.Reading (objects.Posix t) is k few outcome = cc
+  allows rearmings.Reading (objects.Fd t) is k few outcome = (omega (arith, is.3, is.4), outcome)
+  allows rearmings.Getting objects.Raw is k few outcome = cc
+  allows rearmings.Getting (objects.Posix t) is k few outcome = cc
+  allows rearmings.Getting (objects.Fd t) is k few outcome = (omega (arith, is.3, is.4), outcome)
+
+  pub replies_to : (r : Rearming) (x : Object) (reply : ObjectReply) → IsObjectOf d limit n x → d.kind ≡ kind_of r
+      → reply ≡ object_answer x (rearming_call r reading arm) → RepliesTo r reply
+  replies_to rearmings.Accepting objects.Raw reply is k e = cc
+  replies_to rearmings.Accepting (objects.Posix t) reply is k e = (_, e, λ n. unspent n t.pending (overrun_of (periods_in t.phase t.interval reading)))
+    where
+      unspent : (n : ℕ) (b : Bool) (overrun : ℕ) → (if b then acceptances.Accepted overrun else acceptances.NoSignal) ≡ acceptances.Spent n → ⊥
+      unspent n true overrun e = cc
+      unspent n false overrun e = cc
+  replies_to rearmings.Accepting (objects.Fd t) reply is k e = cc
+  replies_to rearmings.Reading objects.Raw reply is k e = cc
+  replies_to rearmings.Reading (objects.Posix t) reply is k e = cc
+  replies_to rearmings.Reading (objects.Fd t) reply is k e =
+      (fd_read_answer t reading, e, λ n f. grind (arith, f), λ f. grind (arith, f))
+  replies_to rearmings.Getting objects.Raw reply is k e = cc
+  replies_to rearmings.Getting (objects.Posix t) reply is k e = cc
+  replies_to rearmings.Getting (objects.Fd t) reply is k e = (left_by arm t reading, t.interval, e)
+
+module _ (o : Opening) (v w : KnownOfTimers) (id last base : ℕ) (reading : ClockReading) (arm : Arm) (span : Span) (log log' : List Receipt) where
+  bears_none : (phase : Phase) → arm ≡ arms.NotAsked → BearsRestart o w id arm phase
+  bears_none phase e = subst (λ a. BearsRestart o w id a phase) (sym e) tt
+
+  -- a timer that has expired and was started again has the generation and the expiry of that start
+  bears_expired : (a : Arm) (phase : Phase) (interval : ℕ) → RearmsFor o v w id last (next_start phase interval reading) base reading a span log log'
+      → a ≡ arm → BearsRestart o w id arm (rearmed phase interval reading arm)
+  bears_expired a phases.Idle interval rearms e = bears_none phases.Idle (sym e ∙ rearms.0)
+  bears_expired a (phases.Armed generation clock expires) interval rearms e = bears_none (phases.Armed generation clock expires) (sym e ∙ rearms.0)
+  bears_expired arms.NotAsked (phases.Expired clock expires) interval rearms e =
+      bears_none (rearmed (phases.Expired clock expires) interval reading arm) (sym e)
+  bears_expired (arms.Armed g) (phases.Expired clock expires) interval rearms e =
+      let next = next_after expires (value_of clock reading) interval in
+      let start = rearms.starts in
+      subst (λ a. BearsRestart o w id a (rearmed (phases.Expired clock expires) interval reading a)) e
+          (refl, omega (arith, expiry o rearms.begin w id next base reading start.answer g start.starts start.outcome))
+  bears_expired (arms.Unarmed n) (phases.Expired clock expires) interval rearms e =
+      subst (λ a. BearsRestart o w id a (rearmed (phases.Expired clock expires) interval reading a)) e refl
+
+  module _ (phase : Phase) (interval : ℕ) where
+    bears_accept : (b c : Bool) (p q : PosixTimer) → p.phase ≡ rearmed phase interval reading arm
+        → RearmsFor o v w id last (if b && c then next_start phase interval reading else None) base reading arm span log log'
+        → BearsRestart o w id arm (if b then p else q).phase
+    bears_accept true true p q e rearms = subst (BearsRestart o w id arm) (sym e) (bears_expired arm phase interval rearms refl)
+    bears_accept true false p q e rearms = bears_none p.phase rearms.0
+    bears_accept false c p q e rearms = bears_none q.phase rearms.0
+
+    bears_read : (b c : Bool) (p q s : Descriptor) → s.phase ≡ rearmed phase interval reading arm
+        → RearmsFor o v w id last (if b || c then None else next_start phase interval reading) base reading arm span log log'
+        → BearsRestart o w id arm (if b then p else (if c then q else s)).phase
+    bears_read true c p q s e rearms = bears_none p.phase rearms.0
+    bears_read false true p q s e rearms = bears_none q.phase rearms.0
+    bears_read false false p q s e rearms = subst (BearsRestart o w id arm) (sym e) (bears_expired arm phase interval rearms refl)
+
+  pub bears : (r : Rearming) (x : Object) → RearmsFor o v w id last (wanted_by r x reading) base reading arm span log log'
+      → BearsRestart o w id arm (phase_of (object_step x (rearming_call r reading arm)))
+  bears rearmings.Accepting objects.Raw rearms = bears_none phases.Idle rearms.0
+  bears rearmings.Accepting (objects.Posix t) rearms = bears_accept t.phase t.interval t.pending (nat_lt t.stamp t.limit) _ _ refl rearms
+  bears rearmings.Accepting (objects.Fd t) rearms = bears_none t.phase rearms.0
+  bears rearmings.Reading objects.Raw rearms = bears_none phases.Idle rearms.0
+  bears rearmings.Reading (objects.Posix t) rearms = bears_none t.phase rearms.0
+  bears rearmings.Reading (objects.Fd t) rearms = bears_read t.phase t.interval (is_canceled t reading) (nat_eq t.count 0) _ _ _ refl rearms
+  bears rearmings.Getting objects.Raw rearms = bears_none phases.Idle rearms.0
+  bears rearmings.Getting (objects.Posix t) rearms = bears_none t.phase rearms.0
+  bears rearmings.Getting (objects.Fd t) rearms = bears_expired arm t.phase t.interval rearms refl
+
+pub rearms_as : (o : Opening) (v w : KnownOfTimers) (id : ℕ) (reading : ClockReading) (arm : Arm) (span : Span) (log log' : List Receipt) (r : Rearming)
+    (cell cell' : ObjectCell) (wanted : Option Wanted) (decl decl' : Decl) → cell ≡ cell' → wanted ≡ wanted_by r cell.object reading → decl ≡ decl'
+    → RearmsFor o v w id cell.last wanted decl.base reading arm span log log'
+    → RearmsFor o v w id cell'.last (wanted_by r cell'.object reading) decl'.base reading arm span log log'
+rearms_as o v w id reading arm span log log' r cell cell' wanted decl decl' same is there rearms =
+    subst (λ (d : Decl). RearmsFor o v w id cell'.last (wanted_by r cell'.object reading) d.base reading arm span log log') there
+    (subst (λ (x : ObjectCell). RearmsFor o v w id x.last (wanted_by r x.object reading) decl.base reading arm span log log') same
+    (subst (λ x. RearmsFor o v w id cell.last x decl.base reading arm span log log') is rearms))

@@ -1,0 +1,61 @@
+-- A start behind a look, and the expiry that a start leaves which keeps its timer's clock.
+use Rattle.std.proofs.Common.{arith, refl, sym, ap, subst, ◌≡◌, ◌∙◌, ℕ, ◌≤◌, Bool, true, false, List, [], ◌∷◌}
+use Rattle.std.specs.Prelude.{Option, Some, None}
+use Rattle.ktime.specs.declared.mode.Mode.TheVariants as modes
+use Rattle.ktime.specs.Readings.{ClockReading}
+use Rattle.ktime.specs.Times.{sat}
+use Rattle.pass_names.proofs.Passes.{begins_trans}
+use Rattle.base_row.specs.declared.view.Opening.{Opening}
+use Rattle.seq_timer.specs.Steps.{Timer}
+use Rattle.timer_core.specs.Answers.{moves_first, start_events}
+use Rattle.timer_core.specs.Kept.{step_all}
+use Rattle.hr_timers.specs.declared.answer.StartAnswer.{StartAnswer}
+use Rattle.hr_timers.specs.declared.answer.StartAnswer.TheVariants as starts
+use Rattle.hr_timers.specs.Known.{KnownOfTimers, timer_then}
+use Rattle.hr_timers.specs.Calls.{StartsTimer}
+use Rattle.hr_timers.proofs.Moments.{along, stamp_rises, timer_after}
+use Rattle.expire_pass.specs.declared.log.Receipt.{Receipt}
+use Rattle.timer_setting.specs.declared.arming.Arm.{Arm}
+use Rattle.timer_setting.specs.declared.arming.Arm.TheVariants as arms
+use Rattle.timer_setting.specs.declared.arming.Wanted.{Wanted}
+use Rattle.timer_objects.specs.declared.cell.Span.{Span}
+use Rattle.timer_objects.specs.Arming.{Arms, SeesTimer, arm_of}
+use Rattle.timer_objects.specs.Calls.{RearmsFor}
+use Rattle.timer_objects.specs.Valid.{end_by}
+use Rattle.timer_objects.proofs.Settings.{armed_end}
+use Rattle.timer_objects.proofs.Starting.{events_by}
+
+module _ (o : Opening) (v w : KnownOfTimers) (t ns asked : ℕ) (reading : ClockReading) where
+  kept_expiry : (u : Timer) (moves : Bool) → (step_all u (events_by modes.Keep ns asked reading moves)).expires ≡ sat ns
+  kept_expiry u true = refl
+  kept_expiry u false = refl
+
+  pub expiry : (a : StartAnswer) (g : ℕ) → StartsTimer o v w t modes.Keep ns asked reading a → arms.Armed g ≡ arm_of a
+      → (timer_then o w.seen t).expires ≡ sat ns
+  expiry (starts.Started was_armed generation base outs clock expires) g s e =
+      let u = timer_then o s.at t in
+      ap (λ (x : Timer). x.expires) (timer_after o v w t s.at _ s.made ∙ along u (start_events u modes.Keep ns asked reading))
+      ∙ kept_expiry u (moves_first u asked)
+  expiry (starts.Spent n) g s e = cc
+
+module _ (o : Opening) (v w : KnownOfTimers) (t last base : ℕ) (reading : ClockReading) (arm : Arm) (log log' : List Receipt) where
+  pub rearms_by : (m : KnownOfTimers) (from n : ℕ) (wanted : Option Wanted) (start : Wanted) → wanted ≡ Some start → n ≡ end_by arm from
+      → SeesTimer o v m t last from → Arms o m w t (Some start) base reading arm log log'
+      → RearmsFor o v w t last wanted base reading arm (record { from = from; to = n }) log log'
+  rearms_by m from n wanted start e end sees made =
+      subst (λ k. RearmsFor o v w t last k base reading arm (record { from = from; to = n }) log log') (sym e) (record {
+        begin = m;
+        looks = sees.looks;
+        from = sees.number;
+        behind = sees.behind;
+        starts = made;
+        to = end ∙ armed_end o m w t (Some start) base reading arm log log' from made sees.number;
+      })
+
+  -- its span begins where the last one ended, or later, and doesn't end before its beginning
+  pub spans : (wanted : Option Wanted) (span : Span) → RearmsFor o v w t last wanted base reading arm span log log'
+      → (last ≤ span.from) × (span.from ≤ span.to)
+  spans None span rearms = (omega (arith, ap (λ (s : Span). s.from) rearms.2), omega (arith, ap (λ (s : Span). s.from) rearms.2, ap (λ (s : Span). s.to) rearms.2))
+  spans (Some wanted) span rearms =
+      let made = rearms.starts.starts.made in
+      (rearms.behind, omega (arith, rearms.from, rearms.to, stamp_rises o rearms.begin.seen w.seen t (begins_trans made.from made.seen)))

@@ -1,0 +1,66 @@
+-- A call that arms its object's timer again, after turns that only looked.
+use Rattle.std.proofs.Common.{ap, subst, ◌≡◌, ◌∙◌, ◌+◌, ℕ, List, [], ◌∷◌, ◌++◌, length}
+use Rattle.std.specs.Prelude.{Option, Some, None}
+use Rattle.ktime.specs.Readings.{ClockReading}
+use Rattle.pass_names.specs.SharedHistory.{LooksOn}
+use Rattle.pass_names.proofs.SharedHistory.{looks_trans}
+use Rattle.base_row.specs.declared.view.Opening.{Opening}
+use Rattle.hr_timers.specs.Known.{KnownOfTimers}
+use Rattle.expire_pass.specs.declared.log.Receipt.{Receipt}
+use Rattle.counted_row.proofs.Calls.{commits_after, reads_after}
+use Rattle.timer_setting.specs.declared.arming.Arm.{Arm}
+use Rattle.timer_setting.specs.declared.arming.Wanted.{Wanted}
+use Rattle.timer_objects.specs.declared.cell.Span.{Span}
+use Rattle.timer_objects.specs.declared.cell.SpannedCall.{SpannedCall}
+use Rattle.timer_objects.specs.declared.object.ObjectReply.{ObjectReply}
+use Rattle.timer_objects.specs.declared.wanting.Rearming.{Rearming}
+use Rattle.timer_objects.specs.declared.wanting.Ended.{Ended}
+use Rattle.timer_objects.specs.declared.wanting.Ended.TheVariants as ends
+use Rattle.timer_objects.specs.Known.{ObjectsOf}
+use Rattle.timer_objects.specs.Arming.{Starts}
+use Rattle.timer_objects.specs.Calls.{Caller, EntersCall, RearmsFor, Waits}
+use Rattle.timer_objects.specs.Rearming.{Ends}
+
+module _ {a b c : Caller} where
+  -- an entry of an object behind looks
+  abbrev pub enters_after : {x : ObjectsOf} {id : ℕ} {call : SpannedCall} {answer : ObjectReply} → Waits a b → EntersCall x b c id call answer
+      → EntersCall x a c id call answer
+  enters_after {x} {id} {call} {answer} waits e = record {
+    commits = commits_after waits.objects e.commits;
+    reply = e.reply;
+    room = e.room;
+    object_log = e.object_log ∙ ap (λ l. l ++ record { object = id; number = length e.commits.adds.before + 1; call = call; reply = answer } ∷ []) waits.object_log;
+  }
+
+module _ (o : Opening) (u v w : KnownOfTimers) (t last base : ℕ) (reading : ClockReading) (arm : Arm) (span : Span) (log log' log'' : List Receipt) where
+  rearms_after : (wanted : Option Wanted) → LooksOn u v → log' ≡ log → RearmsFor o v w t last wanted base reading arm span log' log''
+      → RearmsFor o u w t last wanted base reading arm span log log''
+  rearms_after None looks same rearms = (rearms.0, looks_trans u v w looks rearms.1, rearms.2, rearms.3 ∙ same)
+  rearms_after (Some wanted) looks same rearms = record {
+    begin = rearms.begin;
+    looks = looks_trans u v rearms.begin looks rearms.looks;
+    from = rearms.from;
+    behind = rearms.behind;
+    starts = subst (λ l. Starts o rearms.begin w t wanted base reading arm l log'') same rearms.starts;
+    to = rearms.to;
+  }
+
+pub ends_after : (x : ObjectsOf) (o : Opening) (a b c : Caller) (id : ℕ) (r : Rearming) (reading : ClockReading) (e : Ended) → Waits a b
+    → Ends x o b c id r reading e → Ends x o a c id r reading e
+ends_after x o a b c id r reading (ends.Full n) waits found = record {
+  looks = looks_trans a.timers b.timers c.timers waits.timers found.looks;
+  reads = reads_after waits.objects found.reads;
+  full = found.full;
+  stamp = found.stamp;
+  log = found.log ∙ waits.log;
+  object_log = found.object_log ∙ waits.object_log;
+}
+ends_after x o a b c id r reading (ends.Made n reply) waits made =
+    let m = made.0 in
+    (record {
+      arm = m.arm;
+      span = m.span;
+      enters = enters_after waits m.enters;
+      rearms = rearms_after o a.timers b.timers c.timers id _ _ reading m.arm m.span a.log b.log c.log _ waits.timers waits.log m.rearms;
+      bears = m.bears;
+    }, made.1, made.2)

@@ -1,0 +1,158 @@
+//! Looks at objects, and gettime, which is one of a POSIX timer.
+ghost use Rattle.std.specs.Prelude.{◌≡◌, ◌≤◌, ◌<◌, ◌+◌, length};
+ghost use Rattle.hr_timers.specs.Known.{IsPassOf};
+ghost use Rattle.timer_objects.specs.declared.object.Kind.TheVariants as kinds;
+ghost use Rattle.timer_objects.specs.Known.{IsObjectsPass, Suits, decl_at};
+ghost use Rattle.timer_objects.specs.Steps.{IsObjectOf};
+ghost use Rattle.timer_objects.specs.Calls.{Gettimes, LooksOverrun, LooksReadable};
+ghost use Rattle.timer_objects.specs.Rearming.{FindsObject, FindsSetting, caller_of};
+
+use crate::answers::{Gettime, Overrun, Readable};
+use crate::cell::ObjectCell;
+use crate::log::ObjectLog;
+use crate::object::{Kind, Object};
+use crate::objects::Objects;
+use counted_row::RowPass;
+use expire_pass::Log;
+use hr_timers::{Pass, Timers};
+use ktime::Reading;
+use std::sync::Wait;
+
+impl Objects {
+    /// How long until the next expiry, and the interval (`timer_gettime`, `timerfd_gettime`). A descriptor that is periodic and has expired is
+    /// armed again, and its call makes an entry.
+    pub fn gettime<R: Wait>(
+        &self,
+        rt: &R,
+        timers: &Timers,
+        pass: &mut Pass,
+        objects_pass: &mut RowPass<ObjectCell>,
+        log: &mut Log,
+        object_log: &mut ObjectLog,
+        id: u32,
+        reading: Reading,
+    ) -> Gettime
+        requires pass { IsPassOf timers.now pass.old }
+        requires objects { IsObjectsPass self.now objects_pass.old }
+        requires suits { Suits self.now timers.now.about }
+        requires within { id < length self.now.decls }
+        requires kind { (decl_at self.now id).kind ≡ kinds.Raw → ⊥ }
+        requires room { (4 ≤ log.old.spare) × (1 ≤ object_log.old.spare) }
+        ensures pass { IsPassOf timers.now pass.new }
+        ensures objects { IsObjectsPass self.now objects_pass.new }
+        ensures gets { Gettimes self.now timers.now.about (caller_of pass.old objects_pass.old log.old object_log.old) (caller_of pass.new objects_pass.new log.new object_log.new) id reading (decl_at self.now id).kind result }
+        ensures room { (log.old.spare ≤ log.new.spare + 4) × (object_log.old.spare ≤ object_log.new.spare + 1) }
+    {
+        match self.kind(id) {
+            Kind::Raw => unreachable!(),
+            Kind::Posix => self.gettime_posix(rt, objects_pass, id, reading),
+            Kind::Fd => self.gettime_fd(
+                rt,
+                timers,
+                pass,
+                objects_pass,
+                log,
+                object_log,
+                id,
+                reading,
+            ),
+        }
+    }
+
+    /// The gettime of a POSIX timer.
+    fn gettime_posix<R: Wait>(
+        &self,
+        rt: &R,
+        objects_pass: &mut RowPass<ObjectCell>,
+        id: u32,
+        reading: Reading,
+    ) -> Gettime
+        requires objects { IsObjectsPass self.now objects_pass.old }
+        requires within { id < length self.now.decls }
+        requires kind { (decl_at self.now id).kind ≡ kinds.Posix }
+        ensures objects { IsObjectsPass self.now objects_pass.new }
+        ensures finds { FindsSetting objects_pass.old objects_pass.new id reading result }
+    {
+        let (object, stamp) = self.look_at(rt, objects_pass, id);
+        let Object::Posix(timer) = object else {
+            unreachable!()
+        };
+        let setting = timer.gettime(reading);
+        Gettime::Left {
+            left: setting.left,
+            interval: setting.interval,
+            stamp,
+        }
+    }
+
+    /// Whether a descriptor is ready to be read (`poll(2)`). It touches no timer.
+    pub fn readable<R: Wait>(
+        &self,
+        rt: &R,
+        _timers: &Timers,
+        _pass: &mut Pass,
+        objects_pass: &mut RowPass<ObjectCell>,
+        _log: &mut Log,
+        _object_log: &mut ObjectLog,
+        id: u32,
+        reading: Reading,
+    ) -> Readable
+        requires objects { IsObjectsPass self.now objects_pass.old }
+        requires within { id < length self.now.decls }
+        requires kind { (decl_at self.now id).kind ≡ kinds.Fd }
+        ensures objects { IsObjectsPass self.now objects_pass.new }
+        ensures looks { LooksReadable (caller_of _pass.old objects_pass.old _log.old _object_log.old) (caller_of _pass.new objects_pass.new _log.new _object_log.new) id reading result }
+        ensures untouched { (_pass.new ≡ _pass.old) × (_log.new ≡ _log.old) × (_object_log.new ≡ _object_log.old) }
+    {
+        let (object, stamp) = self.look_at(rt, objects_pass, id);
+        let Object::Fd(timer) = object else {
+            unreachable!()
+        };
+        Readable {
+            ready: timer.readable(reading),
+            stamp,
+        }
+    }
+
+    /// How many further periods had passed when the last signal of a POSIX timer was accepted (`timer_getoverrun`). It touches no timer.
+    pub fn getoverrun<R: Wait>(
+        &self,
+        rt: &R,
+        _timers: &Timers,
+        _pass: &mut Pass,
+        objects_pass: &mut RowPass<ObjectCell>,
+        _log: &mut Log,
+        _object_log: &mut ObjectLog,
+        id: u32,
+    ) -> Overrun
+        requires objects { IsObjectsPass self.now objects_pass.old }
+        requires within { id < length self.now.decls }
+        requires kind { (decl_at self.now id).kind ≡ kinds.Posix }
+        ensures objects { IsObjectsPass self.now objects_pass.new }
+        ensures looks { LooksOverrun (caller_of _pass.old objects_pass.old _log.old _object_log.old) (caller_of _pass.new objects_pass.new _log.new _object_log.new) id result }
+        ensures untouched { (_pass.new ≡ _pass.old) × (_log.new ≡ _log.old) × (_object_log.new ≡ _object_log.old) }
+    {
+        let (object, stamp) = self.look_at(rt, objects_pass, id);
+        let Object::Posix(timer) = object else {
+            unreachable!()
+        };
+        Overrun {
+            overrun: timer.getoverrun(),
+            stamp,
+        }
+    }
+
+    /// An object as it is, and how many entries its history has.
+    fn look_at<R: Wait>(&self, rt: &R, pass: &mut RowPass<ObjectCell>, id: u32) -> (Object, u64)
+        requires pass { IsObjectsPass self.now pass.old }
+        requires within { id < length self.now.decls }
+        ensures pass { IsObjectsPass self.now pass.new }
+        ensures finds { FindsObject pass.old pass.new id result.0 result.1 }
+        ensures kind { IsObjectOf (decl_at self.now id) self.now.limit result.1 result.0 }
+    {
+        let held = self.lock(rt, pass, id);
+        let object = held.state().object;
+        let stamp = self.release(pass, held);
+        (object, stamp)
+    }
+}

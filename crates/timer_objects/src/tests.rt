@@ -1,0 +1,1 @@
+//! Calls on objects by one thread.
