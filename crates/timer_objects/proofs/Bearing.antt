@@ -77,7 +77,7 @@ module _ (o : Opening) (v w : KnownOfTimers) (id last base : ℕ) (reading : Clo
       let next = next_after expires (value_of clock reading) interval in
       let start = rearms.starts in
       subst (λ a. BearsRestart o w id a (rearmed (phases.Expired clock expires) interval reading a)) e
-          (refl, omega (arith, expiry o rearms.begin w id next base reading start.answer g start.starts start.outcome))
+      (refl, omega (arith, expiry o rearms.begin w id next base reading start.answer g start.starts start.outcome))
   bears_expired (arms.Unarmed n) (phases.Expired clock expires) interval rearms e =
       subst (λ a. BearsRestart o w id a (rearmed (phases.Expired clock expires) interval reading a)) e refl
 

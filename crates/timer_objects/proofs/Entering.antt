@@ -33,6 +33,7 @@ module _ (x : ObjectsOf) (p m q : ObjectsPass) (id : ℕ) (h : Locked ObjectCell
   enters_call old new e f room noted = record {
     commits = commits;
     reply = enters.reply;
+    may = enters.may;
     room = omega (arith, stamp_before, room);
     object_log = noted ∙ ap (λ r. old.object_log ++ r ∷ [])
         (ap (λ i. record { object = i; number = h.stamp + 1; call = call; reply = object_answer h.state.object call.call }) locks.index

@@ -55,7 +55,7 @@ module _ (o : Opening) (v w : KnownOfTimers) (t last base : ℕ) (reading : Cloc
   -- its span begins where the last one ended, or later, and doesn't end before its beginning
   pub spans : (wanted : Option Wanted) (span : Span) → RearmsFor o v w t last wanted base reading arm span log log'
       → (last ≤ span.from) × (span.from ≤ span.to)
-  spans None span rearms = (omega (arith, ap (λ (s : Span). s.from) rearms.2), omega (arith, ap (λ (s : Span). s.from) rearms.2, ap (λ (s : Span). s.to) rearms.2))
+  spans None span rearms = (rearms.1.behind, omega (arith, rearms.1.empty))
   spans (Some wanted) span rearms =
       let made = rearms.starts.starts.made in
       (rearms.behind, omega (arith, rearms.from, rearms.to, stamp_rises o rearms.begin.seen w.seen t (begins_trans made.from made.seen)))

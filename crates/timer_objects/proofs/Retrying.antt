@@ -19,7 +19,7 @@ use Rattle.timer_objects.specs.declared.wanting.Ended.TheVariants as ends
 use Rattle.timer_objects.specs.Known.{ObjectsOf}
 use Rattle.timer_objects.specs.Arming.{Starts}
 use Rattle.timer_objects.specs.Calls.{Caller, EntersCall, RearmsFor, Waits}
-use Rattle.timer_objects.specs.Rearming.{Ends}
+use Rattle.timer_objects.specs.Rearming.{Ends, KeepsNames}
 
 module _ {a b c : Caller} where
   -- an entry of an object behind looks
@@ -28,6 +28,7 @@ module _ {a b c : Caller} where
   enters_after {x} {id} {call} {answer} waits e = record {
     commits = commits_after waits.objects e.commits;
     reply = e.reply;
+    may = e.may;
     room = e.room;
     object_log = e.object_log ∙ ap (λ l. l ++ record { object = id; number = length e.commits.adds.before + 1; call = call; reply = answer } ∷ []) waits.object_log;
   }
@@ -35,7 +36,9 @@ module _ {a b c : Caller} where
 module _ (o : Opening) (u v w : KnownOfTimers) (t last base : ℕ) (reading : ClockReading) (arm : Arm) (span : Span) (log log' log'' : List Receipt) where
   rearms_after : (wanted : Option Wanted) → LooksOn u v → log' ≡ log → RearmsFor o v w t last wanted base reading arm span log' log''
       → RearmsFor o u w t last wanted base reading arm span log log''
-  rearms_after None looks same rearms = (rearms.0, looks_trans u v w looks rearms.1, rearms.2, rearms.3 ∙ same)
+  rearms_after None looks same rearms =
+      let q = rearms.1 in
+      (rearms.0, record { looks = looks_trans u v w looks q.looks; empty = q.empty; behind = q.behind; seen = q.seen }, rearms.2 ∙ same)
   rearms_after (Some wanted) looks same rearms = record {
     begin = rearms.begin;
     looks = looks_trans u v rearms.begin looks rearms.looks;
@@ -56,11 +59,29 @@ ends_after x o a b c id r reading (ends.Full n) waits found = record {
   object_log = found.object_log ∙ waits.object_log;
 }
 ends_after x o a b c id r reading (ends.Made n reply) waits made =
-    let m = made.0 in
-    (record {
-      arm = m.arm;
-      span = m.span;
-      enters = enters_after waits m.enters;
-      rearms = rearms_after o a.timers b.timers c.timers id _ _ reading m.arm m.span a.log b.log c.log _ waits.timers waits.log m.rearms;
-      bears = m.bears;
-    }, made.1, made.2)
+    let m = made.0 in (
+      record {
+        arm = m.arm;
+        span = m.span;
+        enters = enters_after waits m.enters;
+        rearms = rearms_after o a.timers b.timers c.timers id _ _ reading m.arm m.span a.log b.log c.log _ waits.timers waits.log m.rearms;
+        bears = m.bears;
+      },
+      made.1,
+      made.2,
+    )
+
+-- ---- names
+
+rearms_names : (o : Opening) (v w : KnownOfTimers) (t last base : ℕ) (reading : ClockReading) (arm : Arm) (span : Span) (log log' : List Receipt)
+    (wanted : Option Wanted) → RearmsFor o v w t last wanted base reading arm span log log' → (w.id ≡ v.id) × (w.claims ≡ v.claims)
+rearms_names o v w t last base reading arm span log log' None rearms = (rearms.1.id, rearms.1.claims)
+rearms_names o v w t last base reading arm span log log' (Some wanted) rearms =
+    let s = rearms.starts.starts in (s.made.id ∙ rearms.looks.id, s.claims ∙ rearms.looks.claims)
+
+pub ends_names : (x : ObjectsOf) (o : Opening) (old new : Caller) (id : ℕ) (r : Rearming) (reading : ClockReading) (e : Ended)
+    → Ends x o old new id r reading e → KeepsNames old new
+ends_names x o old new id r reading (ends.Full n) found = record { timers = found.looks.id; claims = found.looks.claims; objects = found.reads.pass.id }
+ends_names x o old new id r reading (ends.Made n reply) made =
+    let names = rearms_names o old.timers new.timers id _ _ reading made.0.arm made.0.span _ _ _ made.0.rearms in
+    record { timers = names.0; claims = names.1; objects = made.0.enters.commits.adds.id }

@@ -161,6 +161,7 @@ made_after x o first old new id flags value interval reading a waits made = at a
       enters = record {
         commits = commits_after waits.objects s.enters.commits;
         reply = s.enters.reply;
+        may = s.enters.may;
         room = s.enters.room;
         object_log = s.enters.object_log ∙ ap (λ l. l ++ record { object = id; number = length s.enters.commits.adds.before + 1; call = spanned (settime_by
             x id flags value interval reading s.arm) s.span; reply = s.reply } ∷ []) waits.object_log;

@@ -83,10 +83,10 @@ pub settime_allowed : (d : Decl) (limit n : ℕ) (x : Object) (c : SettimeCall) 
 settime_allowed d limit n objects.Raw c is raw room flags value interval outcome = absurd (raw is.0)
 settime_allowed d limit n (objects.Posix t) c is raw room flags value interval outcome =
     subst (λ k. ObjectAllows (objects.Posix t) (settime_call k c)) (sym is.0)
-        (omega (arith, is.3, is.4), subst (λ k. bits_beyond (flags_of k) c.flags ≡ 0) is.0 flags, value, interval, outcome)
+    (omega (arith, is.3, is.4), subst (λ k. bits_beyond (flags_of k) c.flags ≡ 0) is.0 flags, value, interval, outcome)
 settime_allowed d limit n (objects.Fd t) c is raw room flags value interval outcome =
     subst (λ k. ObjectAllows (objects.Fd t) (settime_call k c)) (sym is.0)
-        (omega (arith, is.3, is.4), subst (λ k. bits_beyond (flags_of k) c.flags ≡ 0) is.0 flags, value, interval, outcome)
+    (omega (arith, is.3, is.4), subst (λ k. bits_beyond (flags_of k) c.flags ≡ 0) is.0 flags, value, interval, outcome)
 
 -- an answer that isn't a refusal
 abbrev pub IsGranted : SettimeAnswer → Type 0
@@ -186,8 +186,8 @@ module _ (o : Opening) (v w : KnownOfTimers) (t : ℕ) (d : Decl) (flags value b
       let now = timer_after o v w t s.at _ s.made ∙ along u (start_events u (mode_by flags) value base reading) in
       let set = started_as u (declared_kept o s.at t ∙ same) (moves_first u base) in
       subst (λ x. BearsStart o w t x (set_armed x)) (sym e)
-          (ap (λ c. phases.Armed g c (expiry_by d.clock flags value reading)) (sym (ap (λ (x : Timer). x.clock) now ∙ set.0))
-          ∙ ap (λ k. phases.Armed g (timer_then o w.seen t).clock k) (sym (ap (λ (x : Timer). x.expires) now ∙ set.1)))
+      (ap (λ c. phases.Armed g c (expiry_by d.clock flags value reading)) (sym (ap (λ (x : Timer). x.clock) now ∙ set.0))
+      ∙ ap (λ k. phases.Armed g (timer_then o w.seen t).clock k) (sym (ap (λ (x : Timer). x.expires) now ∙ set.1)))
 
   pub arms_bears : (arm : Arm) → Arms o v w t (start_by flags value) base reading arm log log' → BearsStart o w t arm (set_armed arm)
   arms_bears arm a = at (nat_eq value 0) a

@@ -1,8 +1,8 @@
 -- What calls on an object do to its timer.
-use Rattle.std.proofs.Common.{arith, refl, sym, ap, ◌≡◌, ◌∙◌, ℕ, ◌+◌, ◌-◌, ◌^◌, ◌≤◌, Bool, true, false, not, nat_eq, List, [], ◌∷◌, ◌++◌, length, append_assoc}
+use Rattle.std.proofs.Common.{arith, refl, sym, ap, ◌≡◌, ◌∙◌, ℕ, ◌+◌, ◌-◌, ◌^◌, ◌≤◌, Bool, true, false, not, nat_eq, List, [], ◌∷◌, ◌++◌, length, max, append_assoc}
 use Rattle.std.proofs.lemmas.Bool.Decides.{nat_tests}
 use Rattle.std.proofs.lemmas.Nat.{pow_pos}
-use Rattle.std.specs.Prelude.{is_some, if◌then◌else◌}
+use Rattle.std.specs.Prelude.{Option, None, Some, is_some, if◌then◌else◌}
 use Rattle.ktime.specs.declared.mode.Mode.{Mode}
 use Rattle.ktime.specs.Times.{effective_clock}
 use Rattle.ktime.specs.Readings.{ClockReading}
@@ -29,11 +29,11 @@ use Rattle.hr_timers.specs.declared.answer.StartAnswer.{StartAnswer}
 use Rattle.hr_timers.specs.declared.answer.StartAnswer.TheVariants as starts
 use Rattle.hr_timers.specs.Known.{KnownOfTimers, timer_then}
 use Rattle.hr_timers.specs.Calls.{Cancels, Peeks, StartsTimer, cancel_entries, start_answer}
-use Rattle.hr_timers.proofs.Moments.{stamp_made, stamp_rises}
+use Rattle.hr_timers.proofs.Moments.{stamp_made, stamp_rises, timer_after}
 use Rattle.expire_pass.proofs.Turning.{looks_then}
 use Rattle.expire_pass.specs.declared.log.Noted.TheVariants as noteds
 use Rattle.expire_pass.specs.declared.log.Receipt.{Receipt}
-use Rattle.timer_objects.specs.Arming.{Disarms, SeesTimer, Starts, arm_of, receipts_of}
+use Rattle.timer_objects.specs.Arming.{Disarms, SeesQuietly, SeesTimer, Starts, arm_of, receipts_of}
 
 module _ (o : Opening) (v w : KnownOfTimers) (t : ℕ) (p : Peek) (peeks : Peeks o v w t p) where
   pub peek_looks : LooksOn v w
@@ -44,6 +44,31 @@ module _ (o : Opening) (v w : KnownOfTimers) (t : ℕ) (p : Peek) (peeks : Peeks
     looks = peek_looks;
     number = ap (λ (q : Peek). q.stamp) peeks.fits ∙ sym (stamp_made o v w t peeks.at [] peeks.made ∙ omega arith);
     behind = behind;
+  }
+
+module _ (o : Opening) (v w : KnownOfTimers) (t last : ℕ) (p : Peek) (peeks : Peeks o v w t p) where
+  then_seen : timer_then o w.seen t ≡ timer_then o peeks.at t
+  then_seen = timer_after o v w t peeks.at [] peeks.made
+
+  pub quiet_running : p.running ≡ true → SeesQuietly o v w t last (record { from = last; to = last })
+  quiet_running runs = record {
+    looks = peek_looks o v w t p peeks;
+    empty = refl;
+    behind = omega arith;
+    seen = λ none. absurd (no_run (timer_then o peeks.at t).running (sym (ap (λ (u : Timer). u.running) then_seen) ∙ none)
+        (sym (ap (λ (q : Peek). q.running) peeks.fits) ∙ runs));
+  }
+    where
+      no_run : (r : Option ℕ) → r ≡ None → is_some r ≡ true → ⊥
+      no_run None e is = cc
+      no_run (Some g) e is = cc
+
+  pub quiet_at : (n : ℕ) → n ≡ max last p.stamp → SeesQuietly o v w t last (record { from = n; to = n })
+  quiet_at n e = record {
+    looks = peek_looks o v w t p peeks;
+    empty = refl;
+    behind = omega (arith, e);
+    seen = λ none. omega (arith, e, ap (λ (q : Peek). q.stamp) peeks.fits, ap (λ (u : Timer). u.stamp) then_seen);
   }
 
 -- what was seen before a cancel goes on to it
@@ -79,7 +104,7 @@ module _ (o : Opening) (u v w : KnownOfTimers) (t last n : ℕ) (sees : SeesTime
 
   pub disarms_armed : (g number : ℕ) (log : List Receipt) → Cancels o v w t (cancels.Cancelled g number)
       → Disarms o u w t last (record { from = number - 1; to = number }) log
-          (log ++ record { timer = t; number = number; event = events.Cancel; reply = noteds.Entry (replies.Cancel g) } ∷ [])
+      (log ++ record { timer = t; number = number; event = events.Cancel; reply = noteds.Entry (replies.Cancel g) } ∷ [])
   disarms_armed g number log c = record {
     answer = cancels.Cancelled g number;
     cancelled = cancels_after o u v w t (cancels.Cancelled g number) sees.looks c;

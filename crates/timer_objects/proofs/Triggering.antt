@@ -25,6 +25,7 @@ module _ (x : ObjectsOf) (p m q : ObjectsPass) (id : ℕ) (h : Locked ObjectCell
       let told = subst (λ r. Adds m.knows.pass q.knows.pass h.index (record { call = call; reply = r } ∷ [])) enters.reply enters.adds in
       record {
         commits = commits_of locks here after.row told enters.knows after.knows;
+        may = enters.may;
         room = subst (λ n. n < x.limit) counted room;
         receipt = noted ∙ (λ i. log ++ record {
           object = locks.index i;

@@ -61,3 +61,11 @@ pub record SeesTimer (o : Opening) (v w : KnownOfTimers) (t last n : ℕ) : Type
   pub looks : LooksOn v w
   pub number : n ≡ stamp_seen o w t
   pub behind : last ≤ n
+
+-- A timer was looked at by a call that wants no start of it. The call's span is empty, and not before the end of the last one; nor before what
+-- was seen, unless the timer's function was running then, which may trigger the object yet.
+pub record SeesQuietly (o : Opening) (v w : KnownOfTimers) (t last : ℕ) (span : Span) : Type 0 where
+  pub looks : LooksOn v w
+  pub empty : span.from ≡ span.to
+  pub behind : last ≤ span.from
+  pub seen : (timer_then o w.seen t).running ≡ None → stamp_seen o w t ≤ span.from

@@ -68,6 +68,7 @@ pub record Enters (p q : ObjectsPass) (h : Locked ObjectCell) (call : SpannedCal
   pub adds : Adds p.knows.pass q.knows.pass h.index (record { call = call; reply = answer } ∷ [])
   pub reply : answer ≡ object_answer h.state.object call.call
   pub count : length (seen_of q h.index) ≡ h.stamp + 1
+  pub may : MaySpan h.state call
 
 -- the receipt of a call on a held object
 abbrev pub receipt_of : Locked ObjectCell → SpannedCall → ObjectReceipt

@@ -34,6 +34,12 @@ use Rattle.timer_objects.specs.Calls.{Caller, FindsFull, MakesRearming}
 abbrev pub caller_of : PassOf → ObjectsPass → LogOf → ObjectLogOf → Caller
 caller_of pass objects log object_log = record { timers = pass.known; objects = objects; log = log.receipts; object_log = object_log.receipts }
 
+-- the passes keep their names, and that of the timers its claims
+pub record KeepsNames (old new : Caller) : Type 0 where
+  pub timers : new.timers.id ≡ old.timers.id
+  pub claims : new.timers.claims ≡ old.timers.claims
+  pub objects : new.objects.knows.pass.id ≡ old.objects.knows.pass.id
+
 -- the kind of object that has such a call
 abbrev pub kind_of : Rearming → Kind
 kind_of rearmings.Accepting = kinds.Posix

@@ -5,7 +5,7 @@ ghost use Rattle.hr_timers.specs.Known.{IsPassOf};
 ghost use Rattle.timer_setting.specs.Phases.{IsOutcomeOf};
 ghost use Rattle.seq_timer.specs.declared.event.Reply.TheVariants as replies;
 ghost use Rattle.expire_pass.specs.declared.log.Noted.TheVariants as noteds;
-ghost use Rattle.timer_objects.specs.Arming.{Arms, Disarms, SeesTimer, Starts};
+ghost use Rattle.timer_objects.specs.Arming.{Arms, Disarms, SeesQuietly, SeesTimer, Starts};
 
 use crate::cell::Span;
 use expire_pass::Log;
@@ -28,6 +28,25 @@ pub(crate) fn look(timers: &Timers, pass: &mut Pass, timer: u32, last: u64) -> O
         return None;
     }
     Some(seen.stamp)
+}
+
+/// Looks at a timer that isn't to be started. It answers the span of the call, which is empty. Where the timer's function is running it may
+/// trigger the object yet, so the span stays where the last one ended.
+pub(crate) fn quiet_span(timers: &Timers, pass: &mut Pass, timer: u32, last: u64) -> Span
+    requires pass { IsPassOf timers.now pass.old }
+    requires timer { timer < length timers.now.about.timers }
+    ensures pass { IsPassOf timers.now pass.new }
+    ensures sees { SeesQuietly timers.now.about pass.old.known pass.new.known timer last result }
+{
+    let seen = timers.peek(pass, timer);
+    if seen.running {
+        return Span {
+            from: last,
+            to: last,
+        };
+    }
+    let at = last.max(seen.stamp);
+    Span { from: at, to: at }
 }
 
 /// Tries to disarm a timer, which is to have had at least `last` entries. It answers the span so far, or nothing where the timer's function

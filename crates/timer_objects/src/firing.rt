@@ -61,12 +61,14 @@ impl<'a> FiringWith<'a, Log, ObjectLog> {
     /// Makes room in its logs for so many functions more.
     pub fn reserve(&mut self, count: usize) -> Result<(), AllocError>
         ensures ok { OnOk result (count ≤ ready_of self.new) }
+        ensures kept { ready_of self.old ≤ ready_of self.new }
         ensures loan { IsSameLoan self.old self.new }
         ensures pass { self.new.objects_pass.now ≡ self.old.objects_pass.now }
         ensures logs { (self.new.log.receipts ≡ self.old.log.receipts) × (self.new.object_log.receipts ≡ self.old.object_log.receipts) }
     {
-        self.log.reserve(count)?;
-        self.object_log.reserve(count)?;
+        self.log.reserve(count.max(self.log.spare()))?;
+        self.object_log
+            .reserve(count.max(self.object_log.spare()))?;
         Ok(())
     }
 

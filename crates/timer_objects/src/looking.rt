@@ -5,7 +5,7 @@ ghost use Rattle.timer_objects.specs.declared.object.Kind.TheVariants as kinds;
 ghost use Rattle.timer_objects.specs.Known.{IsObjectsPass, Suits, decl_at};
 ghost use Rattle.timer_objects.specs.Steps.{IsObjectOf};
 ghost use Rattle.timer_objects.specs.Calls.{Gettimes, LooksOverrun, LooksReadable};
-ghost use Rattle.timer_objects.specs.Rearming.{FindsObject, FindsSetting, caller_of};
+ghost use Rattle.timer_objects.specs.Rearming.{FindsObject, FindsSetting, KeepsNames, caller_of};
 
 use crate::answers::{Gettime, Overrun, Readable};
 use crate::cell::ObjectCell;
@@ -41,6 +41,7 @@ impl Objects {
         ensures pass { IsPassOf timers.now pass.new }
         ensures objects { IsObjectsPass self.now objects_pass.new }
         ensures gets { Gettimes self.now timers.now.about (caller_of pass.old objects_pass.old log.old object_log.old) (caller_of pass.new objects_pass.new log.new object_log.new) id reading (decl_at self.now id).kind result }
+        ensures names { KeepsNames (caller_of pass.old objects_pass.old log.old object_log.old) (caller_of pass.new objects_pass.new log.new object_log.new) }
         ensures room { (log.old.spare ≤ log.new.spare + 4) × (object_log.old.spare ≤ object_log.new.spare + 1) }
     {
         match self.kind(id) {
@@ -72,6 +73,7 @@ impl Objects {
         requires kind { (decl_at self.now id).kind ≡ kinds.Posix }
         ensures objects { IsObjectsPass self.now objects_pass.new }
         ensures finds { FindsSetting objects_pass.old objects_pass.new id reading result }
+        ensures name { objects_pass.new.knows.pass.id ≡ objects_pass.old.knows.pass.id }
     {
         let (object, stamp) = self.look_at(rt, objects_pass, id);
         let Object::Posix(timer) = object else {
@@ -102,6 +104,7 @@ impl Objects {
         requires kind { (decl_at self.now id).kind ≡ kinds.Fd }
         ensures objects { IsObjectsPass self.now objects_pass.new }
         ensures looks { LooksReadable (caller_of _pass.old objects_pass.old _log.old _object_log.old) (caller_of _pass.new objects_pass.new _log.new _object_log.new) id reading result }
+        ensures name { objects_pass.new.knows.pass.id ≡ objects_pass.old.knows.pass.id }
         ensures untouched { (_pass.new ≡ _pass.old) × (_log.new ≡ _log.old) × (_object_log.new ≡ _object_log.old) }
     {
         let (object, stamp) = self.look_at(rt, objects_pass, id);
@@ -130,6 +133,7 @@ impl Objects {
         requires kind { (decl_at self.now id).kind ≡ kinds.Posix }
         ensures objects { IsObjectsPass self.now objects_pass.new }
         ensures looks { LooksOverrun (caller_of _pass.old objects_pass.old _log.old _object_log.old) (caller_of _pass.new objects_pass.new _log.new _object_log.new) id result }
+        ensures name { objects_pass.new.knows.pass.id ≡ objects_pass.old.knows.pass.id }
         ensures untouched { (_pass.new ≡ _pass.old) × (_log.new ≡ _log.old) × (_object_log.new ≡ _object_log.old) }
     {
         let (object, stamp) = self.look_at(rt, objects_pass, id);
@@ -148,6 +152,7 @@ impl Objects {
         requires within { id < length self.now.decls }
         ensures pass { IsObjectsPass self.now pass.new }
         ensures finds { FindsObject pass.old pass.new id result.0 result.1 }
+        ensures name { pass.new.knows.pass.id ≡ pass.old.knows.pass.id }
         ensures kind { IsObjectOf (decl_at self.now id) self.now.limit result.1 result.0 }
     {
         let held = self.lock(rt, pass, id);

@@ -39,8 +39,8 @@ impl Model for Objects {
 }
 
 impl Objects {
-    /// Objects of these declarations, and the first pass. At `max_events` entries an object's history is full. No other call but `split` and
-    /// `meet` takes memory.
+    /// Objects of these declarations, and the first pass. At `max_events` entries an object's history is full. It alone takes memory, for all
+    /// calls.
     pub fn make(
         alloc: Global,
         decls: &[Decl],

@@ -9,10 +9,10 @@ ghost use Rattle.timer_objects.specs.declared.wanting.Rearming.TheVariants as re
 ghost use Rattle.timer_objects.specs.Cells.{spanned};
 ghost use Rattle.timer_objects.specs.Known.{HoldsObject, IsObjectsPass, MayEnter, Enters, Suits, decl_at, receipt_of};
 ghost use Rattle.timer_objects.specs.Calls.{Accepts, Gettimes, ReadsFd, RearmsFor, Waits, rearming_call};
-ghost use Rattle.timer_objects.specs.Rearming.{Ends, caller_of, kind_of};
+ghost use Rattle.timer_objects.specs.Rearming.{Ends, KeepsNames, caller_of, kind_of};
 
 use crate::answers::Gettime;
-use crate::arming::{arm, look};
+use crate::arming::{arm, look, quiet_span};
 use crate::cell::{ObjectCell, Span};
 use crate::log::ObjectLog;
 use crate::object::{ObjectCall, ObjectReply};
@@ -51,10 +51,21 @@ impl Objects {
         ensures pass { IsPassOf timers.now pass.new }
         ensures objects { IsObjectsPass self.now objects_pass.new }
         ensures accepts { Accepts self.now timers.now.about (caller_of pass.old objects_pass.old log.old object_log.old) (caller_of pass.new objects_pass.new log.new object_log.new) id reading result }
+        ensures names { KeepsNames (caller_of pass.old objects_pass.old log.old object_log.old) (caller_of pass.new objects_pass.new log.new object_log.new) }
         ensures room { (log.old.spare ≤ log.new.spare + 4) × (object_log.old.spare ≤ object_log.new.spare + 1) }
     {
         let call = Rearming::Accepting;
-        match self.rearm(rt, timers, pass, objects_pass, log, object_log, id, call, reading) {
+        match self.rearm(
+            rt,
+            timers,
+            pass,
+            objects_pass,
+            log,
+            object_log,
+            id,
+            call,
+            reading,
+        ) {
             Ended::Full { stamp } => AcceptAnswer::Spent { stamp },
             Ended::Made {
                 stamp: _,
@@ -86,13 +97,24 @@ impl Objects {
         ensures pass { IsPassOf timers.now pass.new }
         ensures objects { IsObjectsPass self.now objects_pass.new }
         ensures reads { ReadsFd self.now timers.now.about (caller_of pass.old objects_pass.old log.old object_log.old) (caller_of pass.new objects_pass.new log.new object_log.new) id len reading result }
+        ensures names { KeepsNames (caller_of pass.old objects_pass.old log.old object_log.old) (caller_of pass.new objects_pass.new log.new object_log.new) }
         ensures room { (log.old.spare ≤ log.new.spare + 4) × (object_log.old.spare ≤ object_log.new.spare + 1) }
     {
         if len < COUNT_LENGTH {
             return ReadAnswer::ShortBuffer;
         }
         let call = Rearming::Reading;
-        match self.rearm(rt, timers, pass, objects_pass, log, object_log, id, call, reading) {
+        match self.rearm(
+            rt,
+            timers,
+            pass,
+            objects_pass,
+            log,
+            object_log,
+            id,
+            call,
+            reading,
+        ) {
             Ended::Full { stamp } => ReadAnswer::Spent { stamp },
             Ended::Made {
                 stamp: _,
@@ -123,15 +145,32 @@ impl Objects {
         ensures pass { IsPassOf timers.now pass.new }
         ensures objects { IsObjectsPass self.now objects_pass.new }
         ensures gets { Gettimes self.now timers.now.about (caller_of pass.old objects_pass.old log.old object_log.old) (caller_of pass.new objects_pass.new log.new object_log.new) id reading kinds.Fd result }
+        ensures names { KeepsNames (caller_of pass.old objects_pass.old log.old object_log.old) (caller_of pass.new objects_pass.new log.new object_log.new) }
         ensures room { (log.old.spare ≤ log.new.spare + 4) × (object_log.old.spare ≤ object_log.new.spare + 1) }
     {
         let call = Rearming::Getting;
-        match self.rearm(rt, timers, pass, objects_pass, log, object_log, id, call, reading) {
+        match self.rearm(
+            rt,
+            timers,
+            pass,
+            objects_pass,
+            log,
+            object_log,
+            id,
+            call,
+            reading,
+        ) {
             Ended::Full { stamp } => Gettime::Spent { stamp },
             Ended::Made {
                 stamp,
-                reply: ObjectReply::Fd(timer_fd::Reply::Gettime(GettimeAnswer::Left { left, interval })),
-            } => Gettime::Left { left, interval, stamp },
+                reply: ObjectReply::Fd(
+                    timer_fd::Reply::Gettime(GettimeAnswer::Left { left, interval }),
+                ),
+            } => Gettime::Left {
+                left,
+                interval,
+                stamp,
+            },
             Ended::Made { .. } => unreachable!(),
         }
     }
@@ -158,6 +197,7 @@ impl Objects {
         ensures pass { IsPassOf timers.now pass.new }
         ensures objects { IsObjectsPass self.now objects_pass.new }
         ensures ends { Ends self.now timers.now.about (caller_of pass.old objects_pass.old log.old object_log.old) (caller_of pass.new objects_pass.new log.new object_log.new) id call reading result }
+        ensures names { KeepsNames (caller_of pass.old objects_pass.old log.old object_log.old) (caller_of pass.new objects_pass.new log.new object_log.new) }
         ensures room { (log.old.spare ≤ log.new.spare + 2) × (object_log.old.spare ≤ object_log.new.spare + 1) }
     {
         let backoff = Backoff::new();
@@ -219,7 +259,16 @@ impl Objects {
             return None;
         };
         let stamp = held.stamp() + 1;
-        let reply = self.enter_rearming(objects_pass, held, object_log, id, call, reading, arm, span);
+        let reply = self.enter_rearming(
+            objects_pass,
+            held,
+            object_log,
+            id,
+            call,
+            reading,
+            arm,
+            span,
+        );
         Some(Ended::Made { stamp, reply })
     }
 
@@ -282,11 +331,7 @@ fn start_again<R: Wait>(
     ensures room { log.old.spare ≤ log.new.spare + 2 }
 {
     let Some(start) = wanted else {
-        let span = Span {
-            from: last,
-            to: last,
-        };
-        return Some((Arm::NotAsked, span));
+        return Some((Arm::NotAsked, quiet_span(timers, pass, timer, last)));
     };
     let from = look(timers, pass, timer, last)?;
     let outcome = arm(rt, timers, pass, log, timer, Some(start), base, reading);

@@ -33,7 +33,7 @@ pub struct ValidSettime {
 
 impl Objects {
     /// Arms an object's timer anew, or disarms it by the value 0 (`timer_settime`, `timerfd_settime`). It waits while the timer's function is
-    /// running. `log` gets the receipts of the timer's entries, `object_log` that of the object's.
+    /// running, so that function can't call it. `log` gets the receipts of the timer's entries, `object_log` that of the object's.
     pub fn settime<R: Wait>(
         &self,
         rt: &R,
@@ -99,8 +99,16 @@ impl Objects {
     {
         let backoff = Backoff::new();
         for _ in rt.forever() {
-            let tried =
-                self.settime_once(rt, timers, pass, objects_pass, log, object_log, id, valid);
+            let tried = self.settime_once(
+                rt,
+                timers,
+                pass,
+                objects_pass,
+                log,
+                object_log,
+                id,
+                valid,
+            );
             if let Some(answer) = tried {
                 return answer;
             }
@@ -151,7 +159,15 @@ impl Objects {
             from: so_far.from,
             to: end_of(arm, so_far.to),
         };
-        let reply = self.enter_settime(objects_pass, held, object_log, id, kind, valid.with(arm), span);
+        let reply = self.enter_settime(
+            objects_pass,
+            held,
+            object_log,
+            id,
+            kind,
+            valid.with(arm),
+            span,
+        );
         Some(settime_answer(reply))
     }
 
@@ -245,12 +261,12 @@ fn settime_answer(reply: ObjectReply) -> SettimeAnswer
     ensures { SettimeTells reply result }
 {
     match reply {
-        ObjectReply::Posix(posix_timer::Reply::Settime(posix_timer::SettimeAnswer::Old { left, interval })) => {
-            SettimeAnswer::Old { left, interval }
-        }
-        ObjectReply::Posix(posix_timer::Reply::Settime(posix_timer::SettimeAnswer::Unarmed { stamp })) => {
-            SettimeAnswer::Unarmed { stamp }
-        }
+        ObjectReply::Posix(
+            posix_timer::Reply::Settime(posix_timer::SettimeAnswer::Old { left, interval }),
+        ) => { SettimeAnswer::Old { left, interval } }
+        ObjectReply::Posix(
+            posix_timer::Reply::Settime(posix_timer::SettimeAnswer::Unarmed { stamp }),
+        ) => { SettimeAnswer::Unarmed { stamp } }
         ObjectReply::Fd(timer_fd::Reply::Settime(answer)) => answer,
         _ => unreachable!(),
     }

@@ -1,1 +1,2 @@
-//! Calls on objects by one thread.
+//! Objects as callers use them.
+mod firing;

@@ -1,4 +1,4 @@
-pub mod Lifts
+pub mod Climbs
 pub mod Adding
 pub mod Counts
 pub mod Crosses
@@ -10,3 +10,5 @@ pub mod Taking
 pub mod Told
 pub mod Trees
 pub mod Rotations
+pub mod Rebalances
+pub mod Stepping

@@ -1,5 +1,6 @@
 -- What is known of the block of a queue.
-use Rattle.std.proofs.Common.{◌≡◌, ℕ, true, false, ◌<◌, ◌≤◌, List, [], ◌∷◌, ◌++◌, Option, Some, None, not, length, map, nat_eq, if◌then◌else◌, arith, refl, ap, ◌∙◌, sym, subst, zero, suc, inl, inr, replicate}
+use Rattle.std.proofs.Common.{◌≡◌, ℕ, true, false, ◌<◌, ◌≤◌, List, [], ◌∷◌, ◌++◌, Option, Some, None, not, length, map, nat_eq, if◌then◌else◌, arith, refl,
+    ap, ◌∙◌, sym, subst, zero, suc, inl, inr, replicate}
 use Rattle.std.specs.List.{AllByRecursion, IsDistinct}
 use Rattle.std.proofs.lemmas.Bool.{cases_eq, cases_lt, ne_eqb, false≢true}
 use Rattle.std.proofs.lemmas.Bool.Decides.{nat_tests}
@@ -8,10 +9,10 @@ use Rattle.timer_queue.specs.Pairs.{has_id, first_of}
 use Rattle.timer_queue.proofs.Pairs.{All-from_ids, apart_from_absent, IsQueue-empty}
 use Rattle.std.proofs.lemmas.List.{get_or_past, get_or-replicate, length-replicate}
 use Rattle.timer_tree.specs.declared.node.Side.TheVariants as sides
-use Rattle.timer_tree.specs.Nodes.{none, blank, node_at}
-use Rattle.timer_tree.specs.Trees.{Tree, Leaf, Fork, top, tall, pairs, IsAt, IsEven, IsTree, IsStored, one, times, first_id, pairs_below, queue_at}
+use Rattle.timer_tree.specs.Nodes.{none, blank, node_at, IsLink}
+use Rattle.timer_tree.specs.Trees.{Tree, Leaf, Fork, top, tall, pairs, IsAt, IsBalanced, IsTree, IsStored, one, times, first_id, pairs_below, queue_at}
 use Rattle.timer_tree.specs.Places.{IsSearched}
-use Rattle.timer_tree.proofs.Trees.{height_at, apart_one, times-fork, tall-le}
+use Rattle.timer_tree.proofs.Trees.{rank_at, inside_at, apart_one, times-fork, tall-le}
 use Rattle.timer_tree.specs.declared.node.Node.{Node}
 
 times-apart : (k : ℕ) (ps : List (ℕ × ℕ)) → AllByRecursion (λ p. nat_eq k p.1 ≡ false) ps → times k ps ≡ 0
@@ -34,13 +35,13 @@ times-le k (p ∷ ps) once =
 
 -- ---- the pairs are read from the block
 
-pairs_below-is : (k : ℕ) (xs : List Node) (p : ℕ) (t : Tree) → length xs ≤ none → tall t ≤ k → IsEven t → IsAt xs p t → pairs_below k xs (top t) ≡ pairs t
-pairs_below-is zero xs p Leaf small low even at = refl
-pairs_below-is zero xs p (Fork l n e h r) small low even at = let never : ⊥ = omega (arith, low, even.0) in absurd never
-pairs_below-is (suc k) xs p Leaf small low even at = refl
-pairs_below-is (suc k) xs p (Fork l n e h r) small low even at =
-    let left = pairs_below-is k xs n l small (omega (arith, low, even.0)) even.3 at.1 in
-    let right = pairs_below-is k xs n r small (omega (arith, low, even.0)) even.4 at.2 in
+pairs_below-is : (k : ℕ) (xs : List Node) (p : ℕ) (t : Tree) → length xs ≤ none → tall t ≤ k → IsBalanced t → IsAt xs p t → pairs_below k xs (top t) ≡ pairs t
+pairs_below-is zero xs p Leaf small low balanced at = refl
+pairs_below-is zero xs p (Fork l n e h r) small low balanced at = let never : ⊥ = omega (arith, low, balanced.0.below_a) in absurd never
+pairs_below-is (suc k) xs p Leaf small low balanced at = refl
+pairs_below-is (suc k) xs p (Fork l n e h r) small low balanced at =
+    let left = pairs_below-is k xs n l small (omega (arith, low, balanced.0.below_a)) balanced.1 at.1 in
+    let right = pairs_below-is k xs n r small (omega (arith, low, balanced.0.below_b)) balanced.2 at.2 in
     let some : nat_eq n none ≡ false = ne_eqb n none (λ same. omega (arith, same, at.0.inside, small)) in
     ap (λ b. if b then [] else pairs_below k xs (node_at xs n).left ++ ((node_at xs n).expires, n) ∷ pairs_below k xs (node_at xs n).right) some
     ∙ ap (λ (x : Node). pairs_below k xs x.left ++ (x.expires, n) ∷ pairs_below k xs x.right) at.0.is
@@ -50,8 +51,8 @@ pairs_below-is (suc k) xs p (Fork l n e h r) small low even at =
 pub queue_at-is : (xs : List Node) (root : ℕ) (ps : List (ℕ × ℕ)) → length xs ≤ none → IsTree xs root ps → queue_at xs root ≡ ps
 queue_at-is xs root ps small tree =
     subst (λ n. queue_at xs n ≡ ps) (sym tree.root_is)
-    (ap (λ k. pairs_below k xs (top tree.tree)) (height_at xs none tree.tree small tree.at)
-    ∙ pairs_below-is (tall tree.tree) xs none tree.tree small (omega arith) tree.even tree.at
+    (ap (λ k. pairs_below k xs (top tree.tree)) (rank_at xs none tree.tree small tree.at)
+    ∙ pairs_below-is (tall tree.tree) xs none tree.tree small (omega arith) tree.balanced tree.at
     ∙ tree.pairs_are)
 
 pub queue_again : (xs : List Node) (root first : ℕ) (ps : List (ℕ × ℕ)) → IsStored xs root first ps → IsStored xs root first (queue_at xs root)
@@ -63,38 +64,43 @@ searched xs root first ps stored = record { tree = stored.is_tree; small = store
 -- ---- the first pair, and whether a timer is in the tree
 
 abbrev first_at : List Node → ℕ → Option (ℕ × ℕ)
-first_at xs n = if nat_eq (node_at xs n).height 0 then None else Some ((node_at xs n).expires, n)
-
-first_here : (xs : List Node) (n e h : ℕ) (node : Node) → node_at xs n ≡ node → node.height ≡ h → node.expires ≡ e → 0 < h → Some (e, n) ≡ first_at xs n
-first_here xs n e h node is is_h is_e some =
-    let tall_n : nat_eq (node_at xs n).height 0 ≡ false = ne_eqb (node_at xs n).height 0 (λ zero_h. omega (arith, zero_h, is_h, some, ap (λ (x : Node). x.height) is)) in
-    sym (ap (λ b. if b then None else Some ((node_at xs n).expires, n)) tall_n ∙ ap (λ k. Some (k, n)) (ap (λ (x : Node). x.expires) is ∙ is_e))
+first_at xs n = if nat_eq n none then None else Some ((node_at xs n).expires, n)
 
 first_of-behind : (ps qs : List (ℕ × ℕ)) → 0 < length ps → (first_of (ps ++ qs) ≡ first_of ps) × (first_id (ps ++ qs) ≡ first_id ps)
 first_of-behind [] qs some = let never : ⊥ = omega (arith, some) in absurd never
 first_of-behind (p ∷ ps) qs some = (refl, refl)
 
-pub first_node : (xs : List Node) (p : ℕ) (t : Tree) → length xs ≤ none → IsEven t → IsAt xs p t → first_of (pairs t) ≡ first_at xs (first_id (pairs t))
-first_node xs p Leaf small even at = sym (ap (λ (x : Node). if nat_eq x.height 0 then None else Some (x.expires, none)) (get_or_past xs none blank small))
-first_node xs p (Fork Leaf n e h r) small even at = first_here xs n e h _ at.0.is refl refl (omega (arith, even.0))
-first_node xs p (Fork (Fork a m f g b) n e h r) small even at =
+-- the first pair is read at its number, which is none or one in the block
+first_node : (xs : List Node) (p : ℕ) (t : Tree) → length xs ≤ none → IsBalanced t → IsAt xs p t
+    → (first_of (pairs t) ≡ first_at xs (first_id (pairs t))) × IsLink (length xs) (first_id (pairs t))
+first_node xs p Leaf small balanced at = (refl, λ some. absurd (some refl))
+first_node xs p (Fork Leaf n e h r) small balanced at = (
+  sym (ap (λ b. if b then None else Some ((node_at xs n).expires, n)) (ne_eqb n none (λ same. omega (arith, same, at.0.inside, small)))
+      ∙ ap (λ (x : Node). Some (x.expires, n)) at.0.is),
+  λ some. at.0.inside,
+)
+first_node xs p (Fork (Fork a m f g b) n e h r) small balanced at =
     let l = Fork a m f g b in
-    let more = first_of-behind (pairs l) ((e, n) ∷ pairs r) (omega (arith, tall-le l even.3, even.3.0)) in
-    more.0 ∙ first_node xs n (Fork a m f g b) small even.3 at.1 ∙ ap (λ k. first_at xs k) (sym more.1)
+    let more = first_of-behind (pairs l) ((e, n) ∷ pairs r) (omega (arith, tall-le l balanced.1, balanced.1.0.below_a)) in
+    let rest = first_node xs n (Fork a m f g b) small balanced.1 at.1 in
+    (more.0 ∙ rest.0 ∙ ap (λ k. first_at xs k) (sym more.1), subst (λ k. IsLink (length xs) k) (sym more.1) rest.1)
 
-pub first_stored : (xs : List Node) (root first : ℕ) (ps : List (ℕ × ℕ)) → IsStored xs root first ps → first_of ps ≡ first_at xs first
+pub first_stored : (xs : List Node) (root first : ℕ) (ps : List (ℕ × ℕ)) → IsStored xs root first ps
+    → (first_of ps ≡ first_at xs first) × IsLink (length xs) first
 first_stored xs root first ps stored =
     let tree = stored.is_tree in
-    ap first_of (sym tree.pairs_are) ∙ first_node xs none tree.tree stored.small tree.even tree.at ∙ ap (λ k. first_at xs k) (ap first_id tree.pairs_are ∙ sym stored.first_is)
+    let done = first_node xs none tree.tree stored.small tree.balanced tree.at in
+    let same : first_id (pairs tree.tree) ≡ first = ap first_id tree.pairs_are ∙ sym stored.first_is in
+    (ap first_of (sym tree.pairs_are) ∙ done.0 ∙ ap (λ k. first_at xs k) same, subst (λ k. IsLink (length xs) k) same done.1)
 
-pub linked_height : (xs : List Node) (p : ℕ) (t : Tree) (k : ℕ) → IsEven t → IsAt xs p t → 0 < times k (pairs t) → 0 < (node_at xs k).height
-linked_height xs p Leaf k even at some = omega (arith, some)
-linked_height xs p (Fork l n e h r) k even at some =
+pub linked_rank : (xs : List Node) (p : ℕ) (t : Tree) (k : ℕ) → IsBalanced t → IsAt xs p t → 0 < times k (pairs t) → 0 < (node_at xs k).rank
+linked_rank xs p Leaf k balanced at some = omega (arith, some)
+linked_rank xs p (Fork l n e h r) k balanced at some =
     elim (cases_eq k n) [
-      | inl same ↦ subst (λ j. 0 < (node_at xs j).height) (sym same) (omega (arith, ap (λ (x : Node). x.height) at.0.is, even.0))
+      | inl same ↦ subst (λ j. 0 < (node_at xs j).rank) (sym same) (omega (arith, ap (λ (x : Node). x.rank) at.0.is, balanced.0.below_a))
       | inr apart ↦ elim (cases_eq (times k (pairs l)) 0) [
-        | inl gone ↦ linked_height xs n r k even.4 at.2 (omega (arith, times-fork k sides.Left l r n e h, apart_one k n apart, some, gone))
-        | inr here ↦ linked_height xs n l k even.3 at.1 (omega (arith, here))
+        | inl gone ↦ linked_rank xs n r k balanced.2 at.2 (omega (arith, times-fork k sides.Left l r n e h, apart_one k n apart, some, gone))
+        | inr here ↦ linked_rank xs n l k balanced.1 at.1 (omega (arith, here))
       ]
     ]
 
@@ -106,12 +112,13 @@ present_times k (p ∷ ps) present =
       | inr apart ↦ let rest : has_id k ps ≡ true = grind (arith, nat_tests) in omega (arith, present_times k ps rest)
     ]
 
-pub has_stored : (xs : List Node) (root first : ℕ) (ps : List (ℕ × ℕ)) (k : ℕ) → IsStored xs root first ps → not (nat_eq (node_at xs k).height 0) ≡ has_id k ps
+pub has_stored : (xs : List Node) (root first : ℕ) (ps : List (ℕ × ℕ)) (k : ℕ) → IsStored xs root first ps → not (nat_eq (node_at xs k).rank 0) ≡ has_id k ps
 has_stored xs root first ps k stored =
-    elim (has_id k ps) as (λ b. has_id k ps ≡ b → not (nat_eq (node_at xs k).height 0) ≡ b) [
+    elim (has_id k ps) as (λ b. has_id k ps ≡ b → not (nat_eq (node_at xs k).rank 0) ≡ b) [
       | true ↦ λ present.
-          let some = linked_height xs none stored.is_tree.tree k stored.is_tree.even stored.is_tree.at (subst (λ qs. 0 < times k qs) (sym stored.is_tree.pairs_are) (present_times k ps present)) in
-          ap not (ne_eqb (node_at xs k).height 0 (λ zero_h. omega (arith, zero_h, some)))
+          let some = linked_rank xs none stored.is_tree.tree k stored.is_tree.balanced stored.is_tree.at (subst (λ qs. 0 < times k qs) (sym
+              stored.is_tree.pairs_are) (present_times k ps present)) in
+          ap not (ne_eqb (node_at xs k).rank 0 (λ zero_h. omega (arith, zero_h, some)))
       | false ↦ λ absent. ap (λ h. not (nat_eq h 0)) (stored.free k (times-absent k ps absent))
     ] refl
 
@@ -124,14 +131,19 @@ empty_stored xs room small is =
       | inl inside ↦ get_or-replicate room k blank blank inside
       | inr past ↦ get_or_past (replicate room blank) k blank (omega (arith, past, length-replicate room blank))
     ] in
-    let tree : IsTree xs none [] = record { tree = Leaf; at = tt; root_is = refl; even = tt; pairs_are = refl } in
+    let tree : IsTree xs none [] = record { tree = Leaf; at = tt; root_is = refl; balanced = tt; pairs_are = refl } in
     let stored : IsStored xs none none [] = record {
       is_tree = tree;
       first_is = refl;
-      free = λ k gone. ap (λ (x : Node). x.height) (blank_at k);
+      free = λ k gone. ap (λ (x : Node). x.rank) (blank_at k);
       queue = IsQueue-empty (length xs);
       small = omega (arith, size, small);
     } in (queue_again xs none none [] stored, queue_at-is xs none [] stored.small tree)
 
-pub first_read : (xs : List Node) (root first : ℕ) (ps : List (ℕ × ℕ)) (node : Node) → IsStored xs root first ps → node ≡ node_at xs first → first_of ps ≡ (if nat_eq node.height 0 then None else Some (node.expires, first))
-first_read xs root first ps node stored is = first_stored xs root first ps stored ∙ ap (λ (x : Node). if nat_eq x.height 0 then None else Some (x.expires, first)) (sym is)
+-- a timer's number is below the room
+pub has_inside : (xs : List Node) (root first : ℕ) (ps : List (ℕ × ℕ)) (k : ℕ) → IsStored xs root first ps → has_id k ps ≡ true → k < length xs
+has_inside xs root first ps k stored present = inside_at xs none stored.is_tree.tree k stored.is_tree.at (subst (λ qs. 0 < times k qs) (sym
+    stored.is_tree.pairs_are) (present_times k ps present))
+
+pub has_past : (xs : List Node) (root first : ℕ) (ps : List (ℕ × ℕ)) (k : ℕ) → IsStored xs root first ps → length xs ≤ k → false ≡ has_id k ps
+has_past xs root first ps k stored past = ap (λ (x : Node). not (nat_eq x.rank 0)) (sym (get_or_past xs k blank past)) ∙ has_stored xs root first ps k stored

@@ -1,12 +1,13 @@
 -- What a write leaves of a tree that stands in the block.
-use Rattle.std.proofs.Common.{◌≡◌, ℕ, ◌+◌, ◌<◌, ◌≤◌, false, List, [], ◌∷◌, ◌++◌, length, nat_eq, if◌then◌else◌, arith, refl, ap, ◌∙◌, sym, subst, length-set, get_or-set_same, get_or-set_other, slice_set, max, append_assoc, append-nil, length-append, inl, inr}
+use Rattle.std.proofs.Common.{◌≡◌, ℕ, ◌+◌, ◌<◌, ◌≤◌, false, List, [], ◌∷◌, ◌++◌, length, nat_eq, if◌then◌else◌, arith, refl, ap, ◌∙◌, sym, subst,
+    length-set, get_or-set_same, get_or-set_other, slice_set, append_assoc, append-nil, length-append, inl, inr}
 use Rattle.std.proofs.lemmas.Bool.{cases_eq, eq-eqb, ne_eqb}
 use Rattle.std.proofs.lemmas.Bool.Decides.{nat_tests}
 use Rattle.std.proofs.lemmas.List.{get_or_past, set_past}
-use Rattle.timer_tree.specs.Nodes.{none, blank, node_at, knot}
+use Rattle.timer_tree.specs.Nodes.{none, blank, node_at, with_links}
 use Rattle.timer_tree.specs.Links.{adopted, replaced, relinked}
-use Rattle.timer_tree.specs.Trees.{Tree, Leaf, Fork, top, tall, pairs, Stands, IsAt, IsEven, one, times}
-use Rattle.timer_tree.specs.Contexts.{Frame, fork, filled, plug, above, root_of, IsAround, around, before, after, ahead, behind, Fits}
+use Rattle.timer_tree.specs.Trees.{Tree, Leaf, Fork, top, tall, pairs, Stands, IsAt, HasRank, IsBalanced, one, times}
+use Rattle.timer_tree.specs.Contexts.{Frame, fork, filled, plug, parent_of, root_of, IsAround, around, before, after, ahead, behind, Fits}
 use Rattle.timer_tree.specs.declared.node.Node.{Node}
 use Rattle.timer_tree.specs.declared.node.Side.{Side}
 use Rattle.timer_tree.specs.declared.node.Side.TheVariants as sides
@@ -23,7 +24,8 @@ pub Stands-set_same : (xs : List Node) (n : ℕ) (node : Node) → n < length xs
 Stands-set_same xs n node inside = record { inside = omega (arith, length-set xs n node); is = node_at-set_same xs n node inside }
 
 pub Stands-set_other : (xs : List Node) (n k : ℕ) (node other : Node) → (k ≡ n → ⊥) → Stands xs k node → Stands (slice_set xs n other) k node
-Stands-set_other xs n k node other apart stands = record { inside = omega (arith, length-set xs n other, stands.inside); is = node_at-set_other xs n k other apart ∙ stands.is }
+Stands-set_other xs n k node other apart stands = record { inside = omega (arith, length-set xs n other, stands.inside); is = node_at-set_other xs n k
+    other apart ∙ stands.is }
 
 -- ---- how often a timer stands in a list
 
@@ -50,7 +52,8 @@ apart_one k n apart = grind (arith, nat_tests)
 
 -- ---- a tree is kept where its nodes are
 
-pub IsAt-agree : (xs ys : List Node) (p : ℕ) (t : Tree) → length ys ≡ length xs → ((k : ℕ) → 0 < times k (pairs t) → node_at ys k ≡ node_at xs k) → IsAt xs p t → IsAt ys p t
+pub IsAt-agree : (xs ys : List Node) (p : ℕ) (t : Tree) → length ys ≡ length xs → ((k : ℕ) → 0 < times k (pairs t) → node_at ys k ≡ node_at xs k)
+    → IsAt xs p t → IsAt ys p t
 IsAt-agree xs ys p Leaf size agree at = tt
 IsAt-agree xs ys p (Fork l n e h r) size agree at =
     let here : 0 < times n (pairs (Fork l n e h r)) = omega (arith, times-fork n sides.Left l r n e h, one_same n) in (
@@ -59,7 +62,8 @@ IsAt-agree xs ys p (Fork l n e h r) size agree at =
       IsAt-agree xs ys n r size (λ k some. agree k (omega (arith, times-fork k sides.Left l r n e h, some))) at.2,
     )
 
-pub IsAround-agree : (xs ys : List Node) (hole : ℕ) (c : List Frame) → length ys ≡ length xs → ((k : ℕ) → 0 < times k (around c) → node_at ys k ≡ node_at xs k) → IsAround xs hole c → IsAround ys hole c
+pub IsAround-agree : (xs ys : List Node) (hole : ℕ) (c : List Frame) → length ys ≡ length xs → ((k : ℕ) → 0 < times k (around c)
+    → node_at ys k ≡ node_at xs k) → IsAround xs hole c → IsAround ys hole c
 IsAround-agree xs ys hole [] size agree at = tt
 IsAround-agree xs ys hole (f ∷ c) size agree at =
     let here : 0 < times f.n (around (f ∷ c)) = omega (arith, one_same f.n) in (
@@ -70,7 +74,8 @@ IsAround-agree xs ys hole (f ∷ c) size agree at =
 
 pub IsAt-set : (xs : List Node) (n : ℕ) (node : Node) (p : ℕ) (t : Tree) → times n (pairs t) ≡ 0 → IsAt xs p t → IsAt (slice_set xs n node) p t
 IsAt-set xs n node p t gone at =
-    IsAt-agree xs (slice_set xs n node) p t (length-set xs n node) (λ k some. node_at-set_other xs n k node (λ same. omega (arith, subst (λ j. 0 < times j (pairs t)) same some, gone))) at
+    IsAt-agree xs (slice_set xs n node) p t (length-set xs n node) (λ k some. node_at-set_other xs n k node (λ same. omega (arith, subst (λ j. 0 < times j
+        (pairs t)) same some, gone))) at
 
 -- a tree that stands has no node past the block
 pub inside_at : (xs : List Node) (p : ℕ) (t : Tree) (k : ℕ) → IsAt xs p t → 0 < times k (pairs t) → k < length xs
@@ -84,12 +89,12 @@ inside_at xs p (Fork l n e h r) k at some =
       ]
     ]
 
--- the height of a part is that of its top node; the blank node past the block has the height 0
-pub height_at : (xs : List Node) (p : ℕ) (t : Tree) → length xs ≤ none → IsAt xs p t → (node_at xs (top t)).height ≡ tall t
-height_at xs p Leaf small at = ap (λ (x : Node). x.height) (get_or_past xs none blank small)
-height_at xs p (Fork l n e h r) small at = ap (λ (x : Node). x.height) at.0.is
+-- the rank of a subtree is that of its top node; the blank node past the block has the rank 0
+pub rank_at : (xs : List Node) (p : ℕ) (t : Tree) → length xs ≤ none → IsAt xs p t → (node_at xs (top t)).rank ≡ tall t
+rank_at xs p Leaf small at = ap (λ (x : Node). x.rank) (get_or_past xs none blank small)
+rank_at xs p (Fork l n e h r) small at = ap (λ (x : Node). x.rank) at.0.is
 
--- ---- a part gets another parent
+-- ---- a subtree gets another parent
 
 pub length-adopted : (xs : List Node) (n parent : ℕ) → length (adopted xs n parent) ≡ length xs
 length-adopted xs n parent = length-set xs n (record (node_at xs n) { parent = parent })
@@ -99,15 +104,17 @@ IsAt-adopted xs p q Leaf once at = tt
 IsAt-adopted xs p q (Fork l n e h r) once at =
     let sum = times-fork n sides.Left l r n e h in
     let new = record (node_at xs n) { parent = q } in (
-      record { inside = omega (arith, length-set xs n new, at.0.inside); is = node_at-set_same xs n new at.0.inside ∙ ap (λ (x : Node). record x { parent = q }) at.0.is },
+      record { inside = omega (arith, length-set xs n new, at.0.inside); is = node_at-set_same xs n new at.0.inside
+          ∙ ap (λ (x : Node). record x { parent = q }) at.0.is },
       IsAt-set xs n new n l (omega (arith, sum, one_same n, once n)) at.1,
       IsAt-set xs n new n r (omega (arith, sum, one_same n, once n)) at.2,
     )
 
--- that changes no node outside the part
+-- that changes no node outside the subtree
 pub adopted_other : (xs : List Node) (p q : ℕ) (t : Tree) (k : ℕ) → length xs ≤ none → times k (pairs t) ≡ 0 → node_at (adopted xs (top t) q) k ≡ node_at xs k
 adopted_other xs p q Leaf k small gone = ap (λ ys. node_at ys k) (set_past xs none (record (node_at xs none) { parent = q }) small)
-adopted_other xs p q (Fork l n e h r) k small gone = node_at-set_other xs n k (record (node_at xs n) { parent = q }) (one_apart k n (omega (arith, times-fork k sides.Left l r n e h, gone)))
+adopted_other xs p q (Fork l n e h r) k small gone = node_at-set_other xs n k (record (node_at xs n) { parent = q }) (one_apart k n (omega (arith,
+    times-fork k sides.Left l r n e h, gone)))
 
 -- ---- a node by its sides
 
@@ -123,50 +130,54 @@ pub length-fork : (s : Side) (a b : Tree) (n e h : ℕ) → length (pairs (fork 
 length-fork sides.Left a b n e h = omega (arith, length-append (pairs a) ((e, n) ∷ pairs b))
 length-fork sides.Right a b n e h = omega (arith, length-append (pairs b) ((e, n) ∷ pairs a))
 
-pub IsAt-fork : (xs : List Node) (p : ℕ) (s : Side) (a b : Tree) (n e h : ℕ) → IsAt xs p (fork s a n e h b) → Stands xs n (knot s e (top a) (top b) p h) × IsAt xs n a × IsAt xs n b
+pub IsAt-fork : (xs : List Node) (p : ℕ) (s : Side) (a b : Tree) (n e h : ℕ) → IsAt xs p (fork s a n e h b)
+    → Stands xs n (with_links s e (top a) (top b) p h) × IsAt xs n a × IsAt xs n b
 IsAt-fork xs p sides.Left a b n e h at = at
 IsAt-fork xs p sides.Right a b n e h at = (at.0, at.2, at.1)
 
-pub fork-IsAt : (xs : List Node) (p : ℕ) (s : Side) (a b : Tree) (n e h : ℕ) → Stands xs n (knot s e (top a) (top b) p h) → IsAt xs n a → IsAt xs n b → IsAt xs p (fork s a n e h b)
+pub fork-IsAt : (xs : List Node) (p : ℕ) (s : Side) (a b : Tree) (n e h : ℕ) → Stands xs n (with_links s e (top a) (top b) p h) → IsAt xs n a
+    → IsAt xs n b → IsAt xs p (fork s a n e h b)
 fork-IsAt xs p sides.Left a b n e h stands at_a at_b = (stands, at_a, at_b)
 fork-IsAt xs p sides.Right a b n e h stands at_a at_b = (stands, at_b, at_a)
 
--- the two parts of an even node, by their sides
-pub record Evens (a b : Tree) (h : ℕ) : Type 0 where
-  pub height : h ≡ max (tall a) (tall b) + 1
-  pub near : tall a ≤ tall b + 1
-  pub far : tall b ≤ tall a + 1
-  pub even_a : IsEven a
-  pub even_b : IsEven b
+pub turn_ranks : (a b h : ℕ) → HasRank a b h → HasRank b a h
+turn_ranks a b h has = record { below_a = has.below_b; below_b = has.below_a; near_a = has.near_b; near_b = has.near_a; near_both = omega (arith,
+    has.near_both) }
 
-pub IsEven-fork : (s : Side) (a b : Tree) (n e h : ℕ) → IsEven (fork s a n e h b) → Evens a b h
-IsEven-fork sides.Left a b n e h even = record { height = even.0; near = even.1; far = even.2; even_a = even.3; even_b = even.4 }
-IsEven-fork sides.Right a b n e h even = record { height = omega (arith, even.0); near = even.2; far = even.1; even_a = even.4; even_b = even.3 }
+-- the two subtrees of a balanced node, by their sides
+abbrev pub Balances : Tree → Tree → ℕ → Type 0
+Balances a b h = HasRank (tall a) (tall b) h × IsBalanced a × IsBalanced b
 
-pub fork-IsEven : (s : Side) (a b : Tree) (n e h : ℕ) → Evens a b h → IsEven (fork s a n e h b)
-fork-IsEven sides.Left a b n e h even = (even.height, even.near, even.far, even.even_a, even.even_b)
-fork-IsEven sides.Right a b n e h even = (omega (arith, even.height), even.far, even.near, even.even_b, even.even_a)
+pub IsBalanced-fork : (s : Side) (a b : Tree) (n e h : ℕ) → IsBalanced (fork s a n e h b) → Balances a b h
+IsBalanced-fork sides.Left a b n e h balanced = balanced
+IsBalanced-fork sides.Right a b n e h balanced = (turn_ranks (tall b) (tall a) h balanced.0, balanced.2, balanced.1)
+
+pub fork-IsBalanced : (s : Side) (a b : Tree) (n e h : ℕ) → Balances a b h → IsBalanced (fork s a n e h b)
+fork-IsBalanced sides.Left a b n e h balanced = balanced
+fork-IsBalanced sides.Right a b n e h balanced = (turn_ranks (tall a) (tall b) h balanced.0, balanced.2, balanced.1)
 
 -- a tree has at least as many nodes as it is high
-pub tall-le : (t : Tree) → IsEven t → tall t ≤ length (pairs t)
-tall-le Leaf even = omega arith
-tall-le (Fork l n e h r) even = omega (arith, even.0, tall-le l even.3, tall-le r even.4, length-fork sides.Left l r n e h)
+pub tall-le : (t : Tree) → IsBalanced t → tall t ≤ length (pairs t)
+tall-le Leaf balanced = omega arith
+tall-le (Fork l n e h r) balanced = omega (arith, balanced.0.near_both, tall-le l balanced.1, tall-le r balanced.2, length-fork sides.Left l r n e h)
 
 -- ---- another number in a hole
 
-pub knot-parent : (s : Side) (e a b p h : ℕ) → (knot s e a b p h).parent ≡ p
-knot-parent sides.Left e a b p h = refl
-knot-parent sides.Right e a b p h = refl
+pub with_links-parent : (s : Side) (e a b p h : ℕ) → (with_links s e a b p h).parent ≡ p
+with_links-parent sides.Left e a b p h = refl
+with_links-parent sides.Right e a b p h = refl
 
-pub knot-height : (s : Side) (e a b p h : ℕ) → (knot s e a b p h).height ≡ h
-knot-height sides.Left e a b p h = refl
-knot-height sides.Right e a b p h = refl
+pub with_links-rank : (s : Side) (e a b p h : ℕ) → (with_links s e a b p h).rank ≡ h
+with_links-rank sides.Left e a b p h = refl
+with_links-rank sides.Right e a b p h = refl
 
-replaced_knot : (s : Side) (e a b p h to : ℕ) → (b ≡ a → ⊥) → replaced (knot s e a b p h) a to ≡ knot s e to b p h
-replaced_knot sides.Left e a b p h to apart = ap (λ x. if x then record { expires = e; left = to; right = b; parent = p; height = h } else record { expires = e; left = a; right = to; parent = p; height = h }) (eq-eqb a a refl)
-replaced_knot sides.Right e a b p h to apart = ap (λ x. if x then record { expires = e; left = to; right = a; parent = p; height = h } else record { expires = e; left = b; right = to; parent = p; height = h }) (ne_eqb b a apart)
+replaced_with_links : (s : Side) (e a b p h to : ℕ) → (b ≡ a → ⊥) → replaced (with_links s e a b p h) a to ≡ with_links s e to b p h
+replaced_with_links sides.Left e a b p h to apart = ap (λ x. if x then record { expires = e; left = to; right = b; parent = p; rank = h } else record {
+    expires = e; left = a; right = to; parent = p; rank = h }) (eq-eqb a a refl)
+replaced_with_links sides.Right e a b p h to apart = ap (λ x. if x then record { expires = e; left = to; right = a; parent = p; rank = h } else record {
+    expires = e; left = b; right = to; parent = p; rank = h }) (ne_eqb b a apart)
 
--- a part that doesn't have a node doesn't have it at the top
+-- a subtree that doesn't have a node doesn't have it at the top
 pub top_apart : (n : ℕ) (t : Tree) → n < none → times n (pairs t) ≡ 0 → top t ≡ n → ⊥
 top_apart n Leaf low gone same = omega (arith, low, same)
 top_apart n (Fork l m e h r) low gone same = omega (arith, times-fork n sides.Left l r m e h, one_same n, ap (λ k. one n k) same, gone)
@@ -178,20 +189,24 @@ pub record Linked (xs : List Node) (hole : ℕ) (c : List Frame) (new : List Nod
   pub rest : (k : ℕ) → times k (around c) ≡ 0 → node_at new.0 k ≡ node_at xs k
   pub size : length new.0 ≡ length xs
 
-pub relinked_linked : (xs : List Node) (root hole to : ℕ) (c : List Frame) → length xs ≤ none → ((k : ℕ) → times k (around c) ≤ 1) → hole < none → times hole (around c) ≡ 0 → IsAround xs hole c → root ≡ root_of hole c → Linked xs to c (relinked xs root (above c) hole to)
+pub relinked_linked : (xs : List Node) (root hole to : ℕ) (c : List Frame) → length xs ≤ none → ((k : ℕ) → times k (around c) ≤ 1) → hole < none
+    → times hole (around c) ≡ 0 → IsAround xs hole c → root ≡ root_of hole c → Linked xs to c (relinked xs root (parent_of c) hole to)
 relinked_linked xs root hole to [] small once low gone at root_is = record { at = tt; root_is = refl; rest = λ k out. refl; size = refl }
 relinked_linked xs root hole to (f ∷ c) small once low gone at root_is =
     let new = replaced (node_at xs f.n) hole to in
     let ys = slice_set xs f.n new in
-    let sum : (k : ℕ) → times k (around (f ∷ c)) ≡ one k f.n + times k (pairs f.other) + times k (around c) = λ k. omega (arith, times-append k (pairs f.other) (around c)) in
+    let sum : (k : ℕ) → times k (around (f ∷ c)) ≡ one k f.n + times k (pairs f.other) + times k (around c) = λ k. omega (arith, times-append k (pairs
+        f.other) (around c)) in
     let apart = top_apart hole f.other low (omega (arith, sum hole, gone)) in
-    let is : new ≡ knot f.side f.e to (top f.other) (above c) f.h = ap (λ x. replaced x hole to) at.0.is ∙ replaced_knot f.side f.e hole (top f.other) (above c) f.h to apart in
+    let is : new ≡ with_links f.side f.e to (top f.other) (parent_of c) f.h = ap (λ x. replaced x hole to) at.0.is
+        ∙ replaced_with_links f.side f.e hole (top f.other) (parent_of c) f.h to apart in
     let some : nat_eq f.n none ≡ false = ne_eqb f.n none (λ same. omega (arith, same, at.0.inside, small)) in
     subst (λ x. Linked xs to (f ∷ c) (if x then (xs, to) else (ys, root))) (sym some) (record {
       at = (
         record { inside = omega (arith, length-set xs f.n new, at.0.inside); is = node_at-set_same xs f.n new at.0.inside ∙ is },
         IsAt-set xs f.n new f.n f.other (omega (arith, sum f.n, once f.n, one_same f.n)) at.1,
-        IsAround-agree xs ys f.n c (length-set xs f.n new) (λ k some. node_at-set_other xs f.n k new (one_apart k f.n (omega (arith, sum k, once k, some)))) at.2,
+        IsAround-agree xs ys f.n c (length-set xs f.n new) (λ k some. node_at-set_other xs f.n k new (one_apart k f.n (omega (arith, sum k, once k,
+            some)))) at.2,
       );
       root_is = root_is;
       rest = λ k out. node_at-set_other xs f.n k new (one_apart k f.n (omega (arith, sum k, out)));
@@ -218,17 +233,18 @@ pairs-plug (f ∷ c) t =
     ∙ ap (λ ps. before c ++ (ps ++ after c)) (ahead-behind f t)
     ∙ simp append_assoc refl
 
--- an even context with an even part of the height that it was made for
-pub plug-even : (c : List Frame) (t : Tree) → Fits c (tall t) → IsEven t → IsEven (plug c t)
-plug-even [] t fits even = even
-plug-even (f ∷ c) t fits even =
-    plug-even c (filled f t) (subst (λ h. Fits c h) (sym (tall-fork f.side t f.other f.n f.e f.h)) fits.4)
-    (fork-IsEven f.side t f.other f.n f.e f.h (record { height = fits.0; near = fits.1; far = fits.2; even_a = even; even_b = fits.3 }))
+-- a balanced context with a balanced subtree of the rank that it was made for
+pub plug-balanced : (c : List Frame) (t : Tree) → Fits c (tall t) → IsBalanced t → IsBalanced (plug c t)
+plug-balanced [] t fits balanced = balanced
+plug-balanced (f ∷ c) t fits balanced =
+    plug-balanced c (filled f t) (subst (λ h. Fits c h) (sym (tall-fork f.side t f.other f.n f.e f.h)) fits.2) (fork-IsBalanced f.side t f.other f.n f.e
+        f.h (fits.0, balanced, fits.1))
 
-pub IsAt-plug : (xs : List Node) (c : List Frame) (t : Tree) → IsAround xs (top t) c → IsAt xs (above c) t → IsAt xs none (plug c t)
+pub IsAt-plug : (xs : List Node) (c : List Frame) (t : Tree) → IsAround xs (top t) c → IsAt xs (parent_of c) t → IsAt xs none (plug c t)
 IsAt-plug xs [] t at under = under
 IsAt-plug xs (f ∷ c) t at under =
-    IsAt-plug xs c (filled f t) (subst (λ k. IsAround xs k c) (sym (top-fork f.side t f.other f.n f.e f.h)) at.2) (fork-IsAt xs (above c) f.side t f.other f.n f.e f.h at.0 under at.1)
+    IsAt-plug xs c (filled f t) (subst (λ k. IsAround xs k c) (sym (top-fork f.side t f.other f.n f.e f.h)) at.2) (fork-IsAt xs (parent_of c) f.side t
+        f.other f.n f.e f.h at.0 under at.1)
 
 pub top-plug : (c : List Frame) (t : Tree) → top (plug c t) ≡ root_of (top t) c
 top-plug [] t = refl
@@ -238,30 +254,33 @@ top-plug (f ∷ c) t = top-plug c (filled f t) ∙ ap (λ k. root_of k c) (top-f
 pub plug_pairs : (c : List Frame) (t u : Tree) → pairs t ≡ pairs u → pairs (plug c t) ≡ pairs (plug c u)
 plug_pairs c t u same = pairs-plug c t ∙ ap (λ ps. before c ++ (ps ++ after c)) same ∙ sym (pairs-plug c u)
 
--- ---- a tree that is cut at a part
+-- ---- a tree that is cut at a subtree
 
 pub plug-append : (d c : List Frame) (t : Tree) → plug (d ++ c) t ≡ plug c (plug d t)
 plug-append [] c t = refl
 plug-append (f ∷ d) c t = plug-append d c (filled f t)
 
-pub IsAt-cut : (xs : List Node) (d c : List Frame) (t : Tree) → IsAround xs (top (plug d t)) c → IsAt xs (above c) (plug d t) → IsAround xs (top t) (d ++ c) × IsAt xs (above (d ++ c)) t
+pub IsAt-cut : (xs : List Node) (d c : List Frame) (t : Tree) → IsAround xs (top (plug d t)) c → IsAt xs (parent_of c) (plug d t)
+    → IsAround xs (top t) (d ++ c) × IsAt xs (parent_of (d ++ c)) t
 IsAt-cut xs [] c t at under = (at, under)
 IsAt-cut xs (f ∷ d) c t at under =
     let rest = IsAt-cut xs d c (filled f t) at under in
-    let parts = IsAt-fork xs (above (d ++ c)) f.side t f.other f.n f.e f.h rest.1 in
+    let parts = IsAt-fork xs (parent_of (d ++ c)) f.side t f.other f.n f.e f.h rest.1 in
     ((parts.0, parts.2, subst (λ k. IsAround xs k (d ++ c)) (top-fork f.side t f.other f.n f.e f.h) rest.0), parts.1)
 
-pub IsAt-join : (xs : List Node) (d c : List Frame) (t : Tree) → IsAround xs (top t) (d ++ c) → IsAt xs (above (d ++ c)) t → IsAround xs (top (plug d t)) c × IsAt xs (above c) (plug d t)
+pub IsAt-join : (xs : List Node) (d c : List Frame) (t : Tree) → IsAround xs (top t) (d ++ c) → IsAt xs (parent_of (d ++ c)) t
+    → IsAround xs (top (plug d t)) c × IsAt xs (parent_of c) (plug d t)
 IsAt-join xs [] c t at under = (at, under)
 IsAt-join xs (f ∷ d) c t at under =
-    IsAt-join xs d c (filled f t) (subst (λ k. IsAround xs k (d ++ c)) (sym (top-fork f.side t f.other f.n f.e f.h)) at.2) (fork-IsAt xs (above (d ++ c)) f.side t f.other f.n f.e f.h at.0 under at.1)
+    IsAt-join xs d c (filled f t) (subst (λ k. IsAround xs k (d ++ c)) (sym (top-fork f.side t f.other f.n f.e f.h)) at.2) (fork-IsAt xs (parent_of (d ++
+        c)) f.side t f.other f.n f.e f.h at.0 under at.1)
 
-pub even-cut : (c : List Frame) (t : Tree) → IsEven (plug c t) → Fits c (tall t) × IsEven t
-even-cut [] t even = (tt, even)
-even-cut (f ∷ c) t even =
-    let rest = even-cut c (filled f t) even in
-    let here = IsEven-fork f.side t f.other f.n f.e f.h rest.1 in
-    ((here.height, here.near, here.far, here.even_b, subst (λ h. Fits c h) (tall-fork f.side t f.other f.n f.e f.h) rest.0), here.even_a)
+pub balanced-cut : (c : List Frame) (t : Tree) → IsBalanced (plug c t) → Fits c (tall t) × IsBalanced t
+balanced-cut [] t balanced = (tt, balanced)
+balanced-cut (f ∷ c) t balanced =
+    let rest = balanced-cut c (filled f t) balanced in
+    let here = IsBalanced-fork f.side t f.other f.n f.e f.h rest.1 in
+    ((here.0, here.2, subst (λ h. Fits c h) (tall-fork f.side t f.other f.n f.e f.h) rest.0), here.1)
 
 -- a node that stands in a tree, with what is above it
 pub record Located (t : Tree) (k : ℕ) : Type 0 where
@@ -278,7 +297,8 @@ locate_in c (Fork l n e h r) k some =
     elim (cases_eq k n) [
       | inl same ↦ record { context = c; l = l; e = e; h = h; r = r; is = ap (λ j. plug c (Fork l j e h r)) same }
       | inr apart ↦ elim (cases_eq (times k (pairs l)) 0) [
-        | inl gone ↦ locate_in (record { side = sides.Right; n = n; e = e; h = h; other = l } ∷ c) r k (omega (arith, times-fork k sides.Left l r n e h, apart_one k n apart, some, gone))
+        | inl gone ↦ locate_in (record { side = sides.Right; n = n; e = e; h = h; other = l } ∷ c) r k (omega (arith, times-fork k sides.Left l r n e h,
+            apart_one k n apart, some, gone))
         | inr here ↦ locate_in (record { side = sides.Left; n = n; e = e; h = h; other = r } ∷ c) l k (omega (arith, here))
       ]
     ]
@@ -290,9 +310,9 @@ pub times-frames : (k : ℕ) (d c : List Frame) → times k (around (d ++ c)) �
 times-frames k [] c = omega arith
 times-frames k (f ∷ d) c = omega (arith, times-frames k d c, times-append k (pairs f.other) (around (d ++ c)), times-append k (pairs f.other) (around d))
 
--- the whole tree cut at a part
-pub cut : (xs : List Node) (c : List Frame) (t : Tree) → IsAt xs none (plug c t) → IsAround xs (top t) c × IsAt xs (above c) t
-cut xs c t at = subst (λ x. IsAround xs (top t) x × IsAt xs (above x) t) (append-nil c) (IsAt-cut xs c [] t tt at)
+-- the whole tree cut at a subtree
+pub cut : (xs : List Node) (c : List Frame) (t : Tree) → IsAt xs none (plug c t) → IsAround xs (top t) c × IsAt xs (parent_of c) t
+cut xs c t at = subst (λ x. IsAround xs (top t) x × IsAt xs (parent_of x) t) (append-nil c) (IsAt-cut xs c [] t tt at)
 
 pub root_of-frames : (hole : ℕ) (d : List Frame) (f : Frame) (c : List Frame) → root_of hole (d ++ f ∷ c) ≡ root_of f.n c
 root_of-frames hole [] f c = refl
@@ -301,5 +321,6 @@ root_of-frames hole (g ∷ d) f c = root_of-frames g.n d f c
 -- whether a context fits doesn't hang on the numbers of its nodes
 pub Fits-renamed : (d : List Frame) (f g : Frame) (c : List Frame) (h : ℕ) → g.h ≡ f.h → g.other ≡ f.other → Fits (d ++ f ∷ c) h → Fits (d ++ g ∷ c) h
 Fits-renamed [] f g c h same_h same_t fits =
-    subst (λ t. (g.h ≡ max h (tall t) + 1) × (h ≤ tall t + 1) × (tall t ≤ h + 1) × IsEven t × Fits c g.h) (sym same_t) (same_h ∙ fits.0, fits.1, fits.2, fits.3, subst (λ k. Fits c k) (sym same_h) fits.4)
-Fits-renamed (e ∷ d) f g c h same_h same_t fits = (fits.0, fits.1, fits.2, fits.3, Fits-renamed d f g c e.h same_h same_t fits.4)
+    subst (λ t. HasRank h (tall t) g.h × IsBalanced t × Fits c g.h) (sym same_t) (subst (λ k. HasRank h (tall f.other) k × IsBalanced f.other × Fits c k)
+        (sym same_h) fits)
+Fits-renamed (e ∷ d) f g c h same_h same_t fits = (fits.0, fits.1, Fits-renamed d f g c e.h same_h same_t fits.2)

@@ -5,4 +5,4 @@ pub mod Nodes
 pub mod Takes
 pub mod Trees
 pub mod Places
-pub mod Turns
+pub mod Rotate

@@ -1,40 +1,41 @@
--- A place in the tree where a timer is to be hung.
-use Rattle.std.specs.Prelude.{ℕ, ◌+◌, ◌≤◌, ◌≡◌, Bool, true, false, List, [], ◌∷◌, ◌++◌, length}
+-- A place in the tree where a timer is to be inserted.
+use Rattle.std.specs.Prelude.{ℕ, ◌+◌, ◌≤◌, ◌≡◌, nat_eq, nat_lt, if◌then◌else◌, List, [], ◌∷◌, ◌++◌, length}
 use Rattle.timer_queue.specs.Pairs.{put, IsByExpiry}
 use Rattle.timer_tree.specs.Nodes.{none}
-use Rattle.timer_tree.specs.Trees.{Tree, Leaf, top, tall, pairs, IsAt, IsEven, IsTree}
-use Rattle.timer_tree.specs.Contexts.{Frame, plug, above, root_of, IsAround, before, after, Fits}
+use Rattle.timer_tree.specs.Trees.{Tree, Leaf, top, tall, pairs, IsAt, IsBalanced, IsTree}
+use Rattle.timer_tree.specs.Contexts.{Frame, plug, parent_of, root_of, IsAround, before, after, Fits}
 use Rattle.timer_tree.specs.declared.node.Node.{Node}
+use Rattle.timer_tree.specs.declared.node.Side.{Side}
+use Rattle.timer_tree.specs.declared.node.Side.TheVariants as sides
 use Rattle.timer_tree.specs.declared.add.Place.{Place}
 
--- a list without pairs
-abbrev pub is_empty : List (ℕ × ℕ) → Bool
-is_empty [] = true
-is_empty (p ∷ ps) = false
+-- the side of a node of this expiry where a timer belongs
+abbrev pub side_of : (expires node : ℕ) → Side
+side_of expires node = if nat_lt expires node then sides.Left else sides.Right
 
--- the place is the hole of this context: its side below the nearest node, and whether nothing stands before it
+-- the place is on the hole's side of its parent, and on the left where it has none
 abbrev pub HasSide : Place → List Frame → Type 0
-HasSide place [] = Unit
+HasSide place [] = place.side ≡ sides.Left
 HasSide place (f ∷ c) = place.side ≡ f.side
 
+-- the place is the hole of this context, with its parent
 pub record IsHole (place : Place) (c : List Frame) : Type 0 where
-  pub parent : place.parent ≡ above c
+  pub parent : place.parent ≡ parent_of c
   pub side : HasSide place c
-  pub is_first : place.is_first ≡ is_empty (before c)
 
 -- on the way down to the place for this expiry, with one step for each node that was passed
 pub record IsFinding (xs : List Node) (root : ℕ) (place : Place) (at expires : ℕ) (ps : List (ℕ × ℕ)) (old_steps steps : ℕ) : Type 0 where
   pub context : List Frame
-  pub part : Tree
-  pub linked : IsAround xs (top part) context
-  pub under : IsAt xs (above context) part
-  pub at_is : at ≡ top part
-  pub root_is : root ≡ root_of (top part) context
+  pub subtree : Tree
+  pub linked : IsAround xs (top subtree) context
+  pub under : IsAt xs (parent_of context) subtree
+  pub at_is : at ≡ top subtree
+  pub root_is : root ≡ root_of (top subtree) context
   pub hole : IsHole place context
-  pub even : IsEven part
-  pub fits : Fits context (tall part)
-  pub pairs_are : pairs (plug context part) ≡ ps
-  pub puts : (id : ℕ) → put expires id ps ≡ before context ++ (put expires id (pairs part) ++ after context)
+  pub balanced : IsBalanced subtree
+  pub fits : Fits context (tall subtree)
+  pub pairs_are : pairs (plug context subtree) ≡ ps
+  pub puts : (id : ℕ) → put expires id ps ≡ before context ++ (put expires id (pairs subtree) ++ after context)
   pub count : steps ≡ old_steps + length context
 
 -- the place where a pair of this expiry belongs
@@ -53,3 +54,12 @@ pub record IsSearched (xs : List Node) (root : ℕ) (ps : List (ℕ × ℕ)) : T
   pub tree : IsTree xs root ps
   pub small : length xs ≤ none
   pub by_expiry : IsByExpiry ps
+
+-- the number of the first timer once this one has got its place on a side of this parent
+abbrev pub first_on : Side → (parent first id : ℕ) → ℕ
+first_on sides.Left parent first id = if nat_eq parent first then id else first
+first_on sides.Right parent first id = first
+
+-- the number of the first timer once this one has got this place
+abbrev pub first_with : Place → (first id : ℕ) → ℕ
+first_with place first id = first_on place.side place.parent first id

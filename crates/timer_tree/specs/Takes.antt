@@ -2,21 +2,21 @@
 use Rattle.std.specs.Prelude.{ℕ, ◌+◌, ◌*◌, ◌^◌, ◌<◌, ◌≤◌, ◌≡◌, List, [], length}
 use Rattle.timer_queue.specs.Pairs.{without}
 use Rattle.timer_tree.specs.Nodes.{none, node_at}
-use Rattle.timer_tree.specs.Trees.{Tree, Leaf, Fork, top, IsAt, IsEven, IsTree, times}
-use Rattle.timer_tree.specs.Contexts.{Frame, plug, before, IsUneven}
+use Rattle.timer_tree.specs.Trees.{Tree, Leaf, Fork, top, IsAt, IsBalanced, IsTree, times}
+use Rattle.timer_tree.specs.Contexts.{Frame, plug, before, IsUnbalanced}
 use Rattle.timer_tree.specs.declared.node.Node.{Node}
-use Rattle.timer_tree.specs.declared.turns.Numbered.{Numbered}
-use Rattle.timer_tree.specs.declared.repair.Uneven.{Uneven}
+use Rattle.timer_tree.specs.declared.rotate.Numbered.{Numbered}
+use Rattle.timer_tree.specs.declared.repair.Unbalanced.{Unbalanced}
 
--- an even part of the tree that has a node with this number at its top
-pub record IsPart (xs : List Node) (from p : ℕ) (t : Tree) : Type 0 where
+-- a balanced subtree of the tree that has a node with this number at its top
+pub record IsSubtree (xs : List Node) (from p : ℕ) (t : Tree) : Type 0 where
   pub at : IsAt xs p t
   pub from_is : from ≡ top t
   pub some : from ≡ none → ⊥
-  pub even : IsEven t
+  pub balanced : IsBalanced t
   pub small : length xs ≤ none
 
--- on the way to the first node of a part, with one step for each node
+-- on the way to the first node of a subtree, with one step for each node
 pub record IsLowering (xs : List Node) (t : Tree) (n : ℕ) (node : Node) (old_steps steps : ℕ) : Type 0 where
   pub context : List Frame
   pub l : Tree
@@ -27,11 +27,11 @@ pub record IsLowering (xs : List Node) (t : Tree) (n : ℕ) (node : Node) (old_s
   pub is : plug context (Fork l n e h r) ≡ t
   pub first : before context ≡ []
   pub at : IsAt xs p (Fork l n e h r)
-  pub even : IsEven (Fork l n e h r)
+  pub balanced : IsBalanced (Fork l n e h r)
   pub node_is : node ≡ node_at xs n
   pub count : steps ≡ old_steps + length context + 1
 
--- the first node of a part
+-- the first node of a subtree
 pub record IsLeftmost (xs : List Node) (t : Tree) (low : Numbered) (old_steps steps : ℕ) : Type 0 where
   pub context : List Frame
   pub e : ℕ
@@ -49,11 +49,11 @@ pub record IsTaking (xs : List Node) (root id : ℕ) (ps : List (ℕ × ℕ)) : 
   pub once : (k : ℕ) → times k ps ≤ 1
   pub small : length xs ≤ none
 
--- the tree without it, which is even but for some heights; other timers' nodes have not changed
-pub record IsTaken (xs : List Node) (id : ℕ) (ps : List (ℕ × ℕ)) (ys : List Node) (r : Uneven) (old_steps steps : ℕ) : Type 0 where
+-- the tree without it, which is balanced but for some ranks; other timers' nodes have not changed
+pub record IsTaken (xs : List Node) (id : ℕ) (ps : List (ℕ × ℕ)) (ys : List Node) (r : Unbalanced) (old_steps steps : ℕ) : Type 0 where
   pub levels : ℕ
-  pub uneven : IsUneven ys r (without id ps) levels
+  pub unbalanced : IsUnbalanced ys r (without id ps) levels
   pub size : length ys ≡ length xs
   pub rest : (k : ℕ) → times k ps ≡ 0 → node_at ys k ≡ node_at xs k
   pub low : (d : ℕ) → length ps + 1 < 2 ^ d → levels + 1 ≤ 2 * d
-  pub count : steps ≤ old_steps + levels + 13
+  pub count : steps ≤ old_steps + levels + 10

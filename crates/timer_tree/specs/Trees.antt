@@ -1,10 +1,10 @@
 -- The tree that the nodes make, and what a queue of it holds.
-use Rattle.std.specs.Prelude.{ℕ, ◌+◌, ◌≤◌, ◌<◌, ◌≡◌, List, [], ◌∷◌, ◌++◌, length, max, zero, suc, nat_eq, if◌then◌else◌}
+use Rattle.std.specs.Prelude.{ℕ, ◌+◌, ◌≤◌, ◌<◌, ◌≡◌, List, [], ◌∷◌, ◌++◌, length, zero, suc, nat_eq, if◌then◌else◌}
 use Rattle.timer_queue.specs.Pairs.{IsQueue}
 use Rattle.timer_tree.specs.Nodes.{none, node_at}
 use Rattle.timer_tree.specs.declared.node.Node.{Node}
 
--- the pairs of the part of the tree below a node, the first due at the front; the first number is at least its height
+-- the pairs of the subtree of the tree below a node, the first due at the front; the first number is at least its rank
 abbrev pub pairs_below : ℕ → List Node → ℕ → List (ℕ × ℕ)
 pairs_below zero xs n = []
 pairs_below (suc k) xs n =
@@ -12,9 +12,9 @@ pairs_below (suc k) xs n =
 
 -- the pairs of the whole tree
 abbrev pub queue_at : List Node → ℕ → List (ℕ × ℕ)
-queue_at xs root = pairs_below (node_at xs root).height xs root
+queue_at xs root = pairs_below (node_at xs root).rank xs root
 
--- a part of a tree: nothing, or a node with its number, expiry and height between two parts
+-- a subtree of a tree: nothing, or a node with its number, expiry and rank between two parts
 pub data Tree : Type 0 where
   Leaf : Tree
   Fork : (l : Tree) (n e h : ℕ) (r : Tree) → Tree
@@ -24,7 +24,7 @@ abbrev pub top : Tree → ℕ
 top Leaf = none
 top (Fork l n e h r) = n
 
--- the height
+-- the rank of its root
 abbrev pub tall : Tree → ℕ
 tall Leaf = 0
 tall (Fork l n e h r) = h
@@ -39,20 +39,29 @@ pub record Stands (xs : List Node) (n : ℕ) (node : Node) : Type 0 where
   pub inside : n < length xs
   pub is : node_at xs n ≡ node
 
--- the nodes are linked as this part of a tree below a parent
+-- the nodes are linked as this subtree of a tree below a parent
 abbrev pub IsAt : List Node → ℕ → Tree → Type 0
 IsAt xs p Leaf = Unit
-IsAt xs p (Fork l n e h r) = Stands xs n (record { expires = e; left = top l; right = top r; parent = p; height = h }) × IsAt xs n l × IsAt xs n r
+IsAt xs p (Fork l n e h r) = Stands xs n (record { expires = e; left = top l; right = top r; parent = p; rank = h }) × IsAt xs n l × IsAt xs n r
 
--- the heights are right, and those of two sides differ by at most one
-abbrev pub IsEven : Tree → Type 0
-IsEven Leaf = Unit
-IsEven (Fork l n e h r) = (h ≡ max (tall l) (tall r) + 1) × (tall l ≤ tall r + 1) × (tall r ≤ tall l + 1) × IsEven l × IsEven r
+-- a node's rank is one or two more than those of both subtrees, and 1 at a leaf
+pub record HasRank (a b h : ℕ) : Type 0 where
+  pub below_a : a < h
+  pub below_b : b < h
+  pub near_a : h ≤ a + 2
+  pub near_b : h ≤ b + 2
+  pub near_both : h ≤ a + b + 1
 
--- how often a timer stands in a list of pairs
+-- all ranks are right
+abbrev pub IsBalanced : Tree → Type 0
+IsBalanced Leaf = Unit
+IsBalanced (Fork l n e h r) = HasRank (tall l) (tall r) h × IsBalanced l × IsBalanced r
+
+-- 1 where two numbers are equal, else 0
 abbrev pub one : ℕ → ℕ → ℕ
 one k n = if nat_eq k n then 1 else 0
 
+-- how often a timer stands in a list of pairs
 abbrev pub times : ℕ → List (ℕ × ℕ) → ℕ
 times k [] = 0
 times k (p ∷ ps) = one k p.1 + times k ps
@@ -67,13 +76,13 @@ pub record IsTree (xs : List Node) (root : ℕ) (ps : List (ℕ × ℕ)) : Type 
   pub tree : Tree
   pub at : IsAt xs none tree
   pub root_is : root ≡ top tree
-  pub even : IsEven tree
+  pub balanced : IsBalanced tree
   pub pairs_are : pairs tree ≡ ps
 
--- the block and the numbers of the root and of the first node are those of this queue, and each timer that isn't in it has the height 0
+-- the block and the numbers of the root and of the first node are those of this queue, and each timer that isn't in it has the rank 0
 pub record IsStored (xs : List Node) (root first : ℕ) (ps : List (ℕ × ℕ)) : Type 0 where
   pub is_tree : IsTree xs root ps
   pub first_is : first ≡ first_id ps
-  pub free : (k : ℕ) → times k ps ≡ 0 → (node_at xs k).height ≡ 0
+  pub free : (k : ℕ) → times k ps ≡ 0 → (node_at xs k).rank ≡ 0
   pub queue : IsQueue (length xs) ps
   pub small : length xs ≤ none

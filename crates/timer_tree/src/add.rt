@@ -1,20 +1,19 @@
-ghost use Rattle.std.specs.Prelude.{◌≡◌, ℕ, ◌+◌, ◌≤◌, List};
-ghost use Rattle.timer_tree.specs.Moves.{hung};
-ghost use Rattle.timer_tree.specs.Places.{IsSearched, IsPlace};
+//! How a timer is added: the way down to its place, and its link there.
+ghost use Rattle.std.specs.Prelude.{◌≡◌, ℕ, ◌+◌, ◌≤◌, ◌<◌, List, length, nat_lt, if◌then◌else◌};
+ghost use Rattle.timer_tree.specs.Nodes.{IsLink};
+ghost use Rattle.timer_tree.specs.Moves.{inserted};
+ghost use Rattle.timer_tree.specs.Places.{IsSearched, IsPlace, side_of};
 
 use crate::block::Block;
-use crate::links::{read, write};
 use crate::node::{NONE, Node, Side};
-use crate::repair::{Uneven, repair};
 use crate::steps::Steps;
 use std::sync::ledger::Ledger;
 
-/// A place in the tree where nothing is linked: the node above it, the side, and whether it comes before all nodes.
+/// A place in the tree where nothing is linked: its parent, and the side.
 #[derive(Clone, Copy)]
 pub(crate) struct Place {
     pub(crate) parent: u32,
     pub(crate) side: Side,
-    pub(crate) is_first: bool,
 }
 
 /// Finds the place behind all timers that expire as early or earlier.
@@ -25,33 +24,31 @@ pub(crate) fn find<L: Ledger>(block: &Block, root: u32, expires: u64, steps: &mu
     let mut place = Place {
         parent: NONE,
         side: Side::Left,
-        is_first: true,
     };
     let mut at = root;
     while at != NONE {
-        let node = read(block, at, steps);
-        if expires < node.expires {
-            place = Place {
-                parent: at,
-                side: Side::Left,
-                is_first: place.is_first,
-            };
-            at = node.left;
-        } else {
-            place = Place {
-                parent: at,
-                side: Side::Right,
-                is_first: false,
-            };
-            at = node.right;
-        }
+        let node = block.read(at, steps);
+        let side = side_of(expires, node.expires);
+        place = Place { parent: at, side };
+        at = node.near(side);
     }
     place
 }
 
-/// Hangs a timer into its place, and gives the root.
-#[tactic(auto, unfolding(crate::specs::Moves::hung))]
-pub(crate) fn hang<L: Ledger>(
+/// The side of a node where a timer belongs that expires at this time.
+fn side_of(expires: u64, node: u64) -> Side
+    ensures { result ≡ side_of expires node }
+{
+    if expires < node {
+        Side::Left
+    } else {
+        Side::Right
+    }
+}
+
+/// Links a timer into its place, and gives the root.
+#[tactic(auto, unfolding(crate::specs::Moves::inserted))]
+pub(crate) fn insert<L: Ledger>(
     block: &mut Block,
     root: u32,
     place: Place,
@@ -59,25 +56,27 @@ pub(crate) fn hang<L: Ledger>(
     id: u32,
     steps: &mut Steps<L>,
 ) -> u32
-    ensures block { (block.new, result) ≡ hung block.old root place expires id }
+    requires inside { id < length block.old }
+    requires parent { IsLink (length block.old) place.parent }
+    ensures block { (block.new, result) ≡ inserted block.old root place expires id }
     ensures steps { steps.new ≤ steps.old + 3 }
 {
-    let Place { parent, side, .. } = place;
+    let Place { parent, side } = place;
     let node = Node {
         expires,
         left: NONE,
         right: NONE,
         parent,
-        height: 1,
+        rank: 1,
     };
-    write(block, id, node, steps);
+    block.write(id, node, steps);
     if parent == NONE {
         return id;
     }
-    let above = read(block, parent, steps);
+    let node = block.read(parent, steps);
     match side {
-        Side::Left => write(block, parent, Node { left: id, ..above }, steps),
-        Side::Right => write(block, parent, Node { right: id, ..above }, steps),
+        Side::Left => block.write(parent, Node { left: id, ..node }, steps),
+        Side::Right => block.write(parent, Node { right: id, ..node }, steps),
     }
     root
 }

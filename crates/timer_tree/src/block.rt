@@ -1,13 +1,16 @@
-ghost use Rattle.std.specs.Prelude.{◌≡◌, ◌+◌, ◌<◌, ◌≤◌, List, IfOk, length, replicate, slice_set};
+//! The block of nodes: each touch of a node is counted here.
+ghost use Rattle.std.specs.Prelude.{◌≡◌, ◌+◌, ◌<◌, ◌≤◌, List, IfOk, length, replicate, slice_set, nat_lt};
 ghost use Rattle.core.specs.Mem.Slots.{slots_items, slots_ptr, slots_len, IsFull, lease_ptr, lease_len, lease_heap};
-ghost use Rattle.timer_tree.specs.Nodes.{node_at, blank};
+ghost use Rattle.timer_tree.specs.Nodes.{node_at, blank, IsLink, HasLinks, AreLinked};
 ghost use Rattle.timer_tree.specs.declared.node.Node.{Node};
 
 use crate::held::{Held, Parts};
 use crate::node::Node;
+use crate::steps::Steps;
 use core::slots::{Slots, release, reserve};
 use std::alloc::{AllocError, Global};
 use std::marker::Model;
+use std::sync::ledger::Ledger;
 
 /// The block of nodes, one for each number below the room. Its memory is given back when it is dropped.
 pub(crate) struct Block {
@@ -20,7 +23,7 @@ impl Model for Block {
 
     ghost view = { λ b. slots_items b.held.slots };
 
-    ghost invariant = { λ b. IsFull b.held.slots × (lease_ptr b.held.lease ≡ slots_ptr b.held.slots) × (lease_len b.held.lease ≡ slots_len b.held.slots) × (lease_heap b.held.lease ≡ b.alloc) };
+    ghost invariant = { λ b. IsFull b.held.slots × (lease_ptr b.held.lease ≡ slots_ptr b.held.slots) × (lease_len b.held.lease ≡ slots_len b.held.slots) × (lease_heap b.held.lease ≡ b.alloc) × AreLinked (slots_items b.held.slots) };
 }
 
 impl Block {
@@ -34,6 +37,7 @@ impl Block {
 
     /// Takes a block for these nodes.
     fn of(alloc: Global, like: &[Node]) -> Result<Block, AllocError>
+        requires { AreLinked like.now }
         ensures { IfOk result (λ b. b ≡ like.now) }
     {
         let (mut slots, lease) = unsafe { reserve(&alloc, like)? };
@@ -44,26 +48,63 @@ impl Block {
         Ok(Block { held, alloc })
     }
 
-    /// Reads a node. Past the room it is a blank one.
-    pub(crate) fn get(&self, n: u32) -> Node
-        ensures { result ≡ node_at self.now n }
+    /// Whether there is a node with this number. That touches none.
+    pub(crate) fn holds(&self, n: u32) -> bool
+        ensures { result ≡ nat_lt n (length self.now) }
     {
         let held = &self.held;
-        if (n as usize) < held.parts.slots.len() {
-            *held.parts.slots.get(n as usize)
-        } else {
-            Node::blank()
-        }
+        (n as usize) < held.parts.slots.len()
     }
 
-    /// Writes a node. Past the room nothing is written.
-    pub(crate) fn set(&mut self, n: u32, node: Node)
-        ensures { self.new ≡ slice_set self.old n node }
+    /// Reads a node, and counts it.
+    pub(crate) fn read<L: Ledger>(&self, n: u32, steps: &mut Steps<L>) -> Node
+        requires inside { n < length self.now }
+        ensures node { result ≡ node_at self.now n }
+        ensures links { HasLinks (length self.now) result }
+        ensures steps { steps.new ≡ steps.old + 1 }
     {
+        steps.tick();
+        let held = &self.held;
+        *held.parts.slots.get(n as usize)
+    }
+
+    /// Writes a node, and counts it.
+    pub(crate) fn write<L: Ledger>(&mut self, n: u32, node: Node, steps: &mut Steps<L>)
+        requires inside { n < length self.old }
+        requires links { HasLinks (length self.old) node }
+        ensures block { self.new ≡ slice_set self.old n node }
+        ensures room { length self.new ≡ length self.old }
+        ensures steps { steps.new ≡ steps.old + 1 }
+    {
+        steps.tick();
         let held = &mut self.held;
-        if (n as usize) < held.parts.slots.len() {
-            held.parts.slots.put(n as usize, node);
-        }
+        held.parts.slots.put(n as usize, node);
+    }
+
+    /// Gives a node another parent, and counts it.
+    pub(crate) fn set_parent<L: Ledger>(&mut self, n: u32, parent: u32, steps: &mut Steps<L>)
+        requires inside { n < length self.old }
+        requires link { IsLink (length self.old) parent }
+        ensures block { self.new ≡ slice_set self.old n (record (node_at self.old n) { parent = parent }) }
+        ensures room { length self.new ≡ length self.old }
+        ensures steps { steps.new ≡ steps.old + 1 }
+    {
+        steps.tick();
+        let held = &mut self.held;
+        held.parts.slots.get_mut(n as usize).parent = parent;
+    }
+
+    /// Gives a node another rank, and counts it.
+    pub(crate) fn set_rank<L: Ledger>(&mut self, n: u32, rank: u32, steps: &mut Steps<L>)
+        requires inside { n < length self.old }
+        ensures block { self.new ≡ slice_set self.old n (record (node_at self.old n) { rank = rank }) }
+        ensures room { length self.new ≡ length self.old }
+        ensures steps { steps.new ≡ steps.old + 1 }
+    {
+        steps.tick();
+        let held = &mut self.held;
+        let node = *held.parts.slots.get(n as usize);
+        held.parts.slots.put(n as usize, Node { rank, ..node });
     }
 }
 

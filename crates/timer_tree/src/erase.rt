@@ -1,43 +1,59 @@
-ghost use Rattle.std.specs.Prelude.{◌≡◌, ℕ, ◌+◌, ◌≤◌, List, nat_eq, if◌then◌else◌};
-ghost use Rattle.timer_tree.specs.Nodes.{node_at};
+//! How a timer is taken out of the tree.
+ghost use Rattle.std.specs.Prelude.{◌≡◌, ℕ, ◌+◌, ◌≤◌, ◌<◌, List, length, nat_eq, if◌then◌else◌};
+ghost use Rattle.timer_tree.specs.Nodes.{node_at, none, IsLink, HasLinks};
 ghost use Rattle.timer_tree.specs.Trees.{Tree};
-ghost use Rattle.timer_tree.specs.Takes.{IsPart, IsLeftmost, IsTaking, IsTaken};
-ghost use Rattle.timer_tree.specs.Moves.{spliced, substituted};
+ghost use Rattle.timer_tree.specs.Takes.{IsSubtree, IsLeftmost, IsTaking, IsTaken};
+ghost use Rattle.timer_tree.specs.Moves.{only_child, spliced, substituted};
 
 use crate::block::Block;
-use crate::links::{adopt, read, relink, write};
+use crate::links::{adopt, relink};
 use crate::node::{NONE, Node};
-use crate::repair::Uneven;
+use crate::repair::Unbalanced;
+use crate::rotate::{Numbered, Top};
 use crate::steps::Steps;
-use crate::turns::Numbered;
 use std::sync::ledger::Ledger;
 
-/// Takes a timer out of the tree. The heights may be wrong then from a node upwards.
+/// Takes a timer out of the tree. The ranks may be wrong then from a node upwards.
 pub(crate) fn take_out<L: Ledger>(
     block: &mut Block,
     root: u32,
     id: u32,
     node: Node,
     steps: &mut Steps<L>,
-) -> Uneven
+) -> Unbalanced
     requires node { node ≡ node_at block.old id }
+    requires inside { id < length block.old }
+    requires links { HasLinks (length block.old) node }
+    requires small { length block.old ≤ none }
     requires taking { (ps : List (ℕ × ℕ)) × IsTaking block.old root id ps }
     ensures { (ps : List (ℕ × ℕ)) → IsTaking block.old root id ps → IsTaken block.old id ps block.new result steps.old steps.new }
 {
     if node.left != NONE && node.right != NONE {
         let heir = leftmost(block, node.right, steps);
+        let child = only_child(heir.node);
         let root = splice(block, root, heir, steps);
         let root = substitute(block, root, id, heir, steps);
-        let at = above_heir(heir, id);
-        return Uneven { root, at };
+        let at = parent_of_gap(heir, id);
+        return Unbalanced {
+            root,
+            at,
+            child: child.root,
+            rank: child.rank,
+        };
     }
     let at = node.parent;
+    let child = only_child(node);
     let root = splice(block, root, Numbered { n: id, node }, steps);
-    Uneven { root, at }
+    Unbalanced {
+        root,
+        at,
+        child: child.root,
+        rank: child.rank,
+    }
 }
 
-/// The node above the place that a node was taken from, once it has the place of this timer.
-fn above_heir(heir: Numbered, id: u32) -> u32
+/// The parent of the place that a node was taken from, once it has the place of this timer.
+fn parent_of_gap(heir: Numbered, id: u32) -> u32
     ensures { result ≡ (if nat_eq heir.node.parent id then heir.n else heir.node.parent) }
 {
     if heir.node.parent == id {
@@ -47,20 +63,34 @@ fn above_heir(heir: Numbered, id: u32) -> u32
     }
 }
 
-/// Takes out a node with at most one part below it, which gets its place. Gives the root.
-#[tactic(auto, unfolding(crate::specs::Moves::spliced))]
-fn splice<L: Ledger>(block: &mut Block, root: u32, gone: Numbered, steps: &mut Steps<L>) -> u32
-    ensures block { (block.new, result) ≡ spliced block.old root gone }
-    ensures steps { steps.new ≤ steps.old + 4 }
+/// The subtree of a node with at most one, and its rank.
+fn only_child(node: Node) -> Top
+    ensures { result ≡ only_child node }
 {
-    let Numbered { n, node } = gone;
-    let part = if node.left == NONE {
+    let root = if node.left == NONE {
         node.right
     } else {
         node.left
     };
-    adopt(block, part, node.parent, steps);
-    relink(block, root, node.parent, n, part, steps)
+    Top {
+        root,
+        rank: node.rank.saturating_sub(1),
+    }
+}
+
+/// Takes out a node with at most one subtree, which gets its place. Gives the root.
+#[tactic(auto, unfolding(crate::specs::Moves::spliced))]
+fn splice<L: Ledger>(block: &mut Block, root: u32, gone: Numbered, steps: &mut Steps<L>) -> u32
+    requires links { HasLinks (length block.old) gone.node }
+    requires small { length block.old ≤ none }
+    ensures block { (block.new, result) ≡ spliced block.old root gone }
+    ensures room { length block.new ≡ length block.old }
+    ensures steps { steps.new ≤ steps.old + 3 }
+{
+    let Numbered { n, node } = gone;
+    let child = only_child(node).root;
+    adopt(block, child, node.parent, steps);
+    relink(block, root, node.parent, n, child, steps)
 }
 
 /// Gives a node that was taken out another's place and links. Gives the root.
@@ -72,27 +102,33 @@ fn substitute<L: Ledger>(
     heir: Numbered,
     steps: &mut Steps<L>,
 ) -> u32
+    requires inside { id < length block.old }
+    requires heir { heir.n < length block.old }
+    requires small { length block.old ≤ none }
     ensures block { (block.new, result) ≡ substituted block.old root id heir }
-    ensures steps { steps.new ≤ steps.old + 8 }
+    ensures room { length block.new ≡ length block.old }
+    ensures steps { steps.new ≤ steps.old + 6 }
 {
-    let node = read(block, id, steps);
+    let node = block.read(id, steps);
     adopt(block, node.left, heir.n, steps);
     adopt(block, node.right, heir.n, steps);
     let expires = heir.node.expires;
-    write(block, heir.n, Node { expires, ..node }, steps);
+    block.write(heir.n, Node { expires, ..node }, steps);
     relink(block, root, node.parent, id, heir.n, steps)
 }
 
-/// The node that is due first in a part of the tree.
+/// The node that is due first in a subtree.
 fn leftmost<L: Ledger>(block: &Block, from: u32, steps: &mut Steps<L>) -> Numbered
-    requires { (p : ℕ) × (t : Tree) × IsPart block.now from p t }
-    ensures { (p : ℕ) (t : Tree) → IsPart block.now from p t → IsLeftmost block.now t result steps.old steps.new }
+    requires { (p : ℕ) × (t : Tree) × IsSubtree block.now from p t }
+    ensures lowest { (p : ℕ) (t : Tree) → IsSubtree block.now from p t → IsLeftmost block.now t result steps.old steps.new }
+    ensures inside { result.n < length block.now }
+    ensures links { HasLinks (length block.now) result.node }
 {
     let mut n = from;
-    let mut node = read(block, n, steps);
+    let mut node = block.read(n, steps);
     while node.left != NONE {
         n = node.left;
-        node = read(block, n, steps);
+        node = block.read(n, steps);
     }
     Numbered { n, node }
 }

@@ -1,3 +1,4 @@
+//! A block of memory that may go to another thread.
 ghost use Rattle.std.specs.Prelude.{◌≡◌};
 
 use core::slots::{Lease, Slots};

@@ -11,8 +11,8 @@ mod held;
 mod links;
 mod node;
 mod repair;
+mod rotate;
 mod steps;
 #[cfg(test)]
 mod tests;
 mod tree;
-mod turns;

@@ -1,5 +1,6 @@
-ghost use Rattle.std.specs.Prelude.{◌≡◌, ◌+◌, ◌≤◌, slice_set};
-ghost use Rattle.timer_tree.specs.Nodes.{node_at};
+//! How links between nodes are read and written.
+ghost use Rattle.std.specs.Prelude.{◌≡◌, ◌+◌, ◌≤◌, ◌<◌, length};
+ghost use Rattle.timer_tree.specs.Nodes.{node_at, none, IsLink};
 ghost use Rattle.timer_tree.specs.Links.{adopted, relinked};
 
 use crate::block::Block;
@@ -7,43 +8,35 @@ use crate::node::{NONE, Node};
 use crate::steps::Steps;
 use std::sync::ledger::Ledger;
 
-/// Reads a link.
-pub(crate) fn read<L: Ledger>(block: &Block, n: u32, steps: &mut Steps<L>) -> Node
-    ensures node { result ≡ node_at block.now n }
-    ensures steps { steps.new ≡ steps.old + 1 }
+/// The rank of the subtree below a link.
+pub(crate) fn rank<L: Ledger>(block: &Block, n: u32, steps: &mut Steps<L>) -> u32
+    requires link { IsLink (length block.now) n }
+    requires small { length block.now ≤ none }
+    ensures rank { result ≡ (node_at block.now n).rank }
+    ensures steps { steps.new ≤ steps.old + 1 }
 {
-    steps.tick();
-    block.get(n)
+    if n == NONE {
+        0
+    } else {
+        block.read(n, steps).rank
+    }
 }
 
-/// Reads a link for its height alone.
-pub(crate) fn height<L: Ledger>(block: &Block, n: u32, steps: &mut Steps<L>) -> u32
-    ensures height { result ≡ (node_at block.now n).height }
-    ensures steps { steps.new ≡ steps.old + 1 }
-{
-    steps.tick();
-    block.get(n).height
-}
-
-/// Writes a link.
-pub(crate) fn write<L: Ledger>(block: &mut Block, n: u32, node: Node, steps: &mut Steps<L>)
-    ensures block { block.new ≡ slice_set block.old n node }
-    ensures steps { steps.new ≡ steps.old + 1 }
-{
-    steps.tick();
-    block.set(n, node);
-}
-
-/// Gives a node another parent.
+/// Gives a subtree another parent.
 pub(crate) fn adopt<L: Ledger>(block: &mut Block, n: u32, parent: u32, steps: &mut Steps<L>)
+    requires link { IsLink (length block.old) n }
+    requires parent { IsLink (length block.old) parent }
+    requires small { length block.old ≤ none }
     ensures block { block.new ≡ adopted block.old n parent }
-    ensures steps { steps.new ≡ steps.old + 2 }
+    ensures room { length block.new ≡ length block.old }
+    ensures steps { steps.new ≤ steps.old + 1 }
 {
-    let node = read(block, n, steps);
-    write(block, n, Node { parent, ..node }, steps);
+    if n != NONE {
+        block.set_parent(n, parent, steps);
+    }
 }
 
-/// Puts a node in another's place below their parent, or at the root, and gives the root.
+/// Puts a subtree in another's place below their parent, or at the root, and gives the root.
 pub(crate) fn relink<L: Ledger>(
     block: &mut Block,
     root: u32,
@@ -52,17 +45,20 @@ pub(crate) fn relink<L: Ledger>(
     to: u32,
     steps: &mut Steps<L>,
 ) -> u32
+    requires parent { IsLink (length block.old) parent }
+    requires link { IsLink (length block.old) to }
     ensures block { (block.new, result) ≡ relinked block.old root parent from to }
+    ensures room { length block.new ≡ length block.old }
     ensures steps { steps.new ≤ steps.old + 2 }
 {
     if parent == NONE {
         return to;
     }
-    let node = read(block, parent, steps);
+    let node = block.read(parent, steps);
     if node.left == from {
-        write(block, parent, Node { left: to, ..node }, steps);
+        block.write(parent, Node { left: to, ..node }, steps);
     } else {
-        write(block, parent, Node { right: to, ..node }, steps);
+        block.write(parent, Node { right: to, ..node }, steps);
     }
     root
 }

@@ -1,5 +1,6 @@
+//! The links of one timer.
 ghost use Rattle.std.specs.Prelude.{◌≡◌};
-ghost use Rattle.timer_tree.specs.Nodes.{near, far, knot, blank, next};
+ghost use Rattle.timer_tree.specs.Nodes.{near, far, with_links, blank, other_side, child_side, is_high_leaf};
 
 /// The number of no node: no room reaches so far.
 pub(crate) const NONE: u32 = u32::MAX;
@@ -11,17 +12,48 @@ pub(crate) enum Side {
     Right,
 }
 
-/// A timer's own link in the tree. Timers on the left are due earlier. The height is 0 where the timer isn't in the tree.
+/// A timer's own link in the tree. Timers on the left are due earlier. A rank is one or two more than those of both subtrees, and 1 at a
+/// leaf; it is 0 where the timer isn't in the tree.
 #[derive(Clone, Copy)]
 pub(crate) struct Node {
     pub(crate) expires: u64,
     pub(crate) left: u32,
     pub(crate) right: u32,
     pub(crate) parent: u32,
-    pub(crate) height: u32,
+    pub(crate) rank: u32,
+}
+
+impl Side {
+    /// The other side.
+    pub(crate) fn other(self) -> Side
+        ensures { result ≡ other_side self }
+    {
+        match self {
+            Side::Left => Side::Right,
+            Side::Right => Side::Left,
+        }
+    }
 }
 
 impl Node {
+    /// The side of one of its subtrees.
+    pub(crate) fn side_of(self, child: u32) -> Side
+        ensures { result ≡ child_side self child }
+    {
+        if self.left == child {
+            Side::Left
+        } else {
+            Side::Right
+        }
+    }
+
+    /// Whether it is a leaf whose rank is too high.
+    pub(crate) fn is_high_leaf(self) -> bool
+        ensures { result ≡ is_high_leaf self }
+    {
+        self.rank == 2 && self.left == NONE && self.right == NONE
+    }
+
     /// The link of a timer that isn't in the tree.
     pub(crate) fn blank() -> Node
         ensures { result ≡ blank }
@@ -31,7 +63,7 @@ impl Node {
             left: NONE,
             right: NONE,
             parent: NONE,
-            height: 0,
+            rank: 0,
         }
     }
 
@@ -56,8 +88,8 @@ impl Node {
     }
 
     /// The node with the nodes `near` below it on this side, `far` on the other.
-    pub(crate) fn knot(self, side: Side, near: u32, far: u32, parent: u32, height: u32) -> Node
-        ensures { result ≡ knot side self.expires near far parent height }
+    pub(crate) fn with_links(self, side: Side, near: u32, far: u32, parent: u32, rank: u32) -> Node
+        ensures { result ≡ with_links side self.expires near far parent rank }
     {
         let expires = self.expires;
         match side {
@@ -66,14 +98,14 @@ impl Node {
                 left: near,
                 right: far,
                 parent,
-                height,
+                rank,
             },
             Side::Right => Node {
                 expires,
                 left: far,
                 right: near,
                 parent,
-                height,
+                rank,
             },
         }
     }

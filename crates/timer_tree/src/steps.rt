@@ -1,9 +1,10 @@
+//! The count of nodes that are touched.
 ghost use Rattle.std.specs.Prelude.{◌≡◌, ℕ, ◌+◌, ◌<◌};
 
 use std::marker::Model;
 use std::sync::ledger::{Blank, Book, Ledger, Share};
 
-/// How many links were read or written. It takes no bytes, and is raised by one at each link that is touched.
+/// How many nodes were read or written. It takes no bytes, and is raised by one at each touch.
 #[derive(Drop)]
 pub struct Steps<L: Ledger> {
     book: Book<L>,
@@ -30,7 +31,7 @@ impl<L: Ledger> Steps<L> {
         Steps { book, share }
     }
 
-    /// Counts one link.
+    /// Counts one touch.
     pub(crate) fn tick(&mut self)
         ensures { self.new ≡ self.old + 1 }
     {

@@ -1,3 +1,4 @@
+//! The tree beside the plain list, and the bounds on its count.
 ghost use Rattle.std.specs.Prelude.{◌≡◌, ◌+◌, ◌<◌, ◌≤◌, false, IsTrue, length, IfOk, OnOk};
 ghost use Rattle.timer_queue.specs.Pairs.{has_id};
 

@@ -1,21 +1,22 @@
+//! A queue of timers as a tree, and the calls that count what they touch.
 ghost use Rattle.std.specs.Prelude.{◌≡◌, ℕ, ◌+◌, ◌*◌, ◌^◌, ◌<◌, ◌≤◌, false, List, length, IsTrue, nat_eq, if◌then◌else◌};
 ghost use Rattle.timer_tree.specs.Nodes.{none};
+ghost use Rattle.timer_tree.specs.Places.{first_with};
 ghost use Rattle.timer_queue.specs.Pairs.{put, without, first_of, has_id, IsQueue};
 ghost use Rattle.timer_tree.specs.Trees.{queue_at, IsStored};
 
-use crate::add::{Place, find, hang};
+use crate::add::{Place, find, insert};
 use crate::block::Block;
 use crate::erase::take_out;
-use crate::links::{read, write};
-use crate::node::{NONE, Node};
-use crate::repair::{Uneven, repair};
+use crate::node::{NONE, Node, Side};
+use crate::repair::{Unbalanced, repair};
 use crate::steps::Steps;
 use std::alloc::{AllocError, Global};
 use std::marker::{Brand, Model};
 use std::sync::ledger::{Blank, Ledger};
 use timer_queue::Queue;
 
-/// A queue of timers as a balanced (AVL) tree. Its nodes lie in one block that is taken by `make` and given back when the queue is
+/// A queue of timers as a balanced tree. Its nodes lie in one block that is taken by `make` and given back when the queue is
 /// dropped: adding and erasing take and give nothing. Node n is the link of timer n, and the first node's number is kept.
 #[derive(Drop)]
 pub struct TimerTree {
@@ -44,11 +45,13 @@ impl TimerTree {
         ensures steps { (d : ℕ) → length self.old.0 + 1 < 2 ^ d → steps.new ≤ steps.old + 32 * (d + 1) }
     {
         let place = find(&self.block, self.root, expires, steps);
-        let root = hang(&mut self.block, self.root, place, expires, id, steps);
+        let root = insert(&mut self.block, self.root, place, expires, id, steps);
         self.first = first_with(place, self.first, id);
-        let broken = Uneven {
+        let broken = Unbalanced {
             root,
             at: place.parent,
+            child: id,
+            rank: 1,
         };
         self.root = repair(&mut self.block, broken, steps);
     }
@@ -62,10 +65,10 @@ impl TimerTree {
         // Where d binary digits hold the number of timers before the call and one more.
         ensures steps { (d : ℕ) → length self.old.0 + 1 < 2 ^ d → steps.new ≤ steps.old + 32 * (d + 1) }
     {
-        let node = read(&self.block, id, steps);
+        let node = self.block.read(id, steps);
         self.first = first_without(node, self.first, id);
         let broken = take_out(&mut self.block, self.root, id, node, steps);
-        write(&mut self.block, id, Node::blank(), steps);
+        self.block.set_rank(id, 0, steps);
         self.root = repair(&mut self.block, broken, steps);
     }
 
@@ -75,15 +78,16 @@ impl TimerTree {
         ensures kept { IsQueue self.now.1 self.now.0 }
         ensures steps { steps.new ≡ steps.old + 1 }
     {
-        let node = read(&self.block, self.first, steps);
-        if node.height == 0 {
+        if self.first == NONE {
+            steps.tick();
             return None;
         }
+        let node = self.block.read(self.first, steps);
         Some((node.expires, self.first))
     }
 
     /// Adds under a ledger of its own, whose count is let go.
-    fn add_by<L: Ledger>(&mut self, expires: u64, id: u32, blank: Blank)
+    fn add_uncounted<L: Ledger>(&mut self, expires: u64, id: u32, blank: Blank)
         requires name { blank.name ≡ L.name }
         requires parts { blank.parts ≡ L.parts }
         requires some { 0 < L.parts }
@@ -98,7 +102,7 @@ impl TimerTree {
     }
 
     /// Erases under a ledger of its own, whose count is let go.
-    fn erase_by<L: Ledger>(&mut self, id: u32, blank: Blank)
+    fn erase_uncounted<L: Ledger>(&mut self, id: u32, blank: Blank)
         requires name { blank.name ≡ L.name }
         requires parts { blank.parts ≡ L.parts }
         requires some { 0 < L.parts }
@@ -112,7 +116,7 @@ impl TimerTree {
     }
 
     /// The first under a ledger of its own, whose count is let go.
-    fn first_by<L: Ledger>(&self, blank: Blank) -> Option<(u64, u32)>
+    fn first_uncounted<L: Ledger>(&self, blank: Blank) -> Option<(u64, u32)>
         requires name { blank.name ≡ L.name }
         requires parts { blank.parts ≡ L.parts }
         requires some { 0 < L.parts }
@@ -121,6 +125,22 @@ impl TimerTree {
     {
         let mut steps = Steps::<L>::new(blank);
         self.first_counted(&mut steps)
+    }
+
+    /// Looks a timer up under a ledger of its own, whose count is let go.
+    fn has_uncounted<L: Ledger>(&self, id: u32, blank: Blank) -> bool
+        requires name { blank.name ≡ L.name }
+        requires parts { blank.parts ≡ L.parts }
+        requires some { 0 < L.parts }
+        ensures has { result ≡ has_id id self.now.0 }
+        ensures kept { IsQueue self.now.1 self.now.0 }
+    {
+        let mut steps = Steps::<L>::new(blank);
+        if !self.block.holds(id) {
+            return false;
+        }
+        let node = self.block.read(id, &mut steps);
+        node.rank != 0
     }
 }
 
@@ -142,27 +162,30 @@ impl Queue for TimerTree {
     }
 
     fn add(&mut self, expires: u64, id: u32) {
-        self.add_by::<Brand>(expires, id, Blank::new(1));
+        self.add_uncounted::<Brand>(expires, id, Blank::new(1));
     }
 
     fn erase(&mut self, id: u32) {
-        self.erase_by::<Brand>(id, Blank::new(1));
+        self.erase_uncounted::<Brand>(id, Blank::new(1));
     }
 
     fn first(&self) -> Option<(u64, u32)> {
-        self.first_by::<Brand>(Blank::new(1))
+        self.first_uncounted::<Brand>(Blank::new(1))
     }
 
     fn has(&self, id: u32) -> bool {
-        self.block.get(id).height != 0
+        self.has_uncounted::<Brand>(id, Blank::new(1))
     }
 }
 
 /// The first timer once this one is hung into its place.
 fn first_with(place: Place, first: u32, id: u32) -> u32
-    ensures { result ≡ (if place.is_first then id else first) }
+    ensures { result ≡ first_with place first id }
 {
-    if place.is_first { id } else { first }
+    match place.side {
+        Side::Left if place.parent == first => id,
+        _ => first,
+    }
 }
 
 /// The first timer once this one, with this node, is taken out. The first node has at most one node on its right.

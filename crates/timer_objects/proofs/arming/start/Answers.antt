@@ -10,4 +10,4 @@ returns-then-outs-eq0-clause-starts g c =
 pub returns-else-outs-eq0-clause-starts : goal.returns-else-outs-eq0-clause-starts
 returns-else-outs-eq0-clause-starts g c =
     starts_of _ _ _ _ _ _ _ _ _ _ true (grind (arith, nat_tests, c.if-outs-eq0.false)) _ refl c.in-Started.ensures.starts
-        (noted_both _ _ _ _ _ c.note.ensures.receipts c.note_start-else-outs-eq0.ensures.receipt)
+    (noted_both _ _ _ _ _ c.note.ensures.receipts c.note_start-else-outs-eq0.ensures.receipt)

@@ -3,9 +3,9 @@ use Rattle.timer_tree.specs.Nodes.{node_at}
 use Rattle.timer_tree.specs.Places.{IsFinding, IsSearched}
 use Rattle.timer_tree.proofs.add.find.Given as goal
 
--- the place is found in the part that is left
+-- the place is found in the subtree that is left
 abbrev pub invariant-loop-at : goal.invariant-loop-at
 invariant-loop-at g l = (ps : List (ℕ × ℕ)) → IsSearched l.fn.block l.fn.root ps → IsFinding l.fn.block l.fn.root l.place l.at l.expires ps l.fn.steps l.steps
 
 abbrev pub decreases-loop-at : goal.decreases-loop-at
-decreases-loop-at g l = (node_at l.block l.at).height
+decreases-loop-at g l = (node_at l.block l.at).rank

@@ -1,4 +1,5 @@
-use Rattle.std.proofs.Common.{◌≡◌, ◌⊎◌, arith, inl, inr}
+use Rattle.std.proofs.Common.{◌≡◌, ◌⊎◌, arith, inl, inr, subst, sym}
+use Rattle.timer_tree.specs.Takes.{IsTaken}
 use Rattle.timer_tree.proofs.Taking.{place_of, right_part, taken_one, taken_two}
 use Rattle.timer_tree.proofs.erase.take_out.Goals.{else-node-ne-NONE-via-then-node-ne-NONE+else-node-ne-NONE-2, else-node-ne-NONE-via-else-node-ne-NONE}
 use Rattle.timer_tree.proofs.erase.take_out.Goals as goal
@@ -7,13 +8,19 @@ pub leftmost-heir-requires : goal.leftmost-heir-requires
 leftmost-heir-requires g c =
     let ps = c.requires.taking.0 in
     let taking = c.requires.taking.1 in
-    (c.args.id, (place_of c.args.block.now c.args.root c.args.id ps taking).r, right_part c.args.block.now c.args.root c.args.id c.args.node ps taking c.requires.node c.if-node-ne-NONE-2.true)
+    (c.args.id, (place_of c.args.block.now c.args.root c.args.id ps taking).r, right_part c.args.block.now c.args.root c.args.id c.args.node ps taking
+        c.requires.node c.if-node-ne-NONE-2.true)
 
 pub returns-then-node-ne-NONE-2 : goal.returns-then-node-ne-NONE-2
 returns-then-node-ne-NONE-2 g c = λ ps taking.
-    let part = right_part c.args.block.now c.args.root c.args.id c.args.node ps taking c.requires.node c.if-node-ne-NONE-2.true in
-    let lowest = c.leftmost-heir.ensures c.args.id (place_of c.args.block.now c.args.root c.args.id ps taking).r part in
-    taken_two c.args.block.now c.args.root c.args.id ps c.leftmost-heir.result (c.splice-root.new.block, c.splice-root.result) (c.substitute-root.new.block, c.substitute-root.result) c.above_heir-at.result c.args.steps.now c.substitute-root.new.steps c.leftmost-heir.new.steps taking lowest c.splice-root.ensures.block c.substitute-root.ensures.block c.above_heir-at.ensures (omega (arith, c.splice-root.ensures.steps, c.substitute-root.ensures.steps))
+    let subtree = right_part c.args.block.now c.args.root c.args.id c.args.node ps taking c.requires.node c.if-node-ne-NONE-2.true in
+    let lowest = c.leftmost-heir.ensures.lowest c.args.id (place_of c.args.block.now c.args.root c.args.id ps taking).r subtree in
+    subst (λ child. IsTaken c.args.block.now c.args.id ps c.substitute-root.new.block (record { root = c.substitute-root.result; at =
+        c.parent_of_gap-at.result; child = child.root; rank = child.rank }) c.args.steps.now c.substitute-root.new.steps) (sym c.only_child-child.ensures)
+    (taken_two c.args.block.now c.args.root c.args.id ps c.leftmost-heir.result (c.splice-root.new.block, c.splice-root.result)
+        (c.substitute-root.new.block, c.substitute-root.result) c.parent_of_gap-at.result c.args.steps.now c.substitute-root.new.steps
+        c.leftmost-heir.new.steps taking lowest c.splice-root.ensures.block c.substitute-root.ensures.block c.parent_of_gap-at.ensures (omega (arith,
+        c.splice-root.ensures.steps, c.substitute-root.ensures.steps)))
 
 pub returns : goal.returns
 returns g c = λ ps taking.
@@ -21,4 +28,7 @@ returns g c = λ ps taking.
       | else-node-ne-NONE-via-then-node-ne-NONE+else-node-ne-NONE-2 w ↦ inr w.if-node-ne-NONE-2.false
       | else-node-ne-NONE-via-else-node-ne-NONE w ↦ inl w.if-node-ne-NONE.false
     ] in
-    taken_one c.args.block.now c.args.root c.args.id c.args.node ps (c.splice-root-2.new.block, c.splice-root-2.result) c.args.steps.now c.splice-root-2.new.steps taking c.requires.node part_free c.splice-root-2.ensures.block c.splice-root-2.ensures.steps
+    subst (λ child. IsTaken c.args.block.now c.args.id ps c.splice-root-2.new.block (record { root = c.splice-root-2.result; at = c.args.node.parent; child
+        = child.root; rank = child.rank }) c.args.steps.now c.splice-root-2.new.steps) (sym c.only_child-child-2.ensures)
+    (taken_one c.args.block.now c.args.root c.args.id c.args.node ps (c.splice-root-2.new.block, c.splice-root-2.result) c.args.steps.now
+        c.splice-root-2.new.steps taking c.requires.node part_free c.splice-root-2.ensures.block c.splice-root-2.ensures.steps)

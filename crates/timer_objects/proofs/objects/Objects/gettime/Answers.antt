@@ -21,4 +21,4 @@ returns-in-Posix-clause-gets g c =
     let old = caller_of c.args.pass.now c.args.objects_pass.now c.args.log.now c.args.object_log.now in
     let q = c.gettime_posix.new.objects_pass in
     subst (λ kind. Gettimes c.args.self.now c.args.timers.now.about old (record old { objects = q }) c.args.id c.args.reading kind c.gettime_posix.result)
-        c.in-Posix.ensures (looks_posix c.args.self.now c.args.timers.now.about old q c.args.id c.args.reading c.gettime_posix.result c.gettime_posix.ensures.finds)
+    c.in-Posix.ensures (looks_posix c.args.self.now c.args.timers.now.about old q c.args.id c.args.reading c.gettime_posix.result c.gettime_posix.ensures.finds)

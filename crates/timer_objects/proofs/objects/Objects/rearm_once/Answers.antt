@@ -45,12 +45,14 @@ returns-clause-ends g c =
     let old = caller_of c.args.pass.now c.args.objects_pass.now c.args.log.now c.args.object_log.now in
     let new = caller_of c.start_again.new.pass c.enter_rearming-reply.new.pass c.start_again.new.log c.enter_rearming-reply.new.log in
     let call = spanned (rearming_call r c.args.reading c.in-Some.arm) c.in-Some.span in
-    let rearms = rearms_as _ _ _ _ _ _ _ _ _ r _ _ _ _ _ c.state.ensures c.wanted-wants.ensures c.decl-base.ensures c.in-Some.ensures.rearms in
-    (record {
-      arm = c.in-Some.arm;
-      span = c.in-Some.span;
-      enters = enters_call x _ _ _ c.args.id h call _ locks c.lock-held.ensures.row entry.pass entry.enters old new refl refl c.if-is_full.ensures entry.receipt;
-      rearms = rearms;
-      bears = bears _ _ _ _ _ _ _ _ _ _ _ r h.state.object rearms;
-    }, replies_to _ _ _ c.args.reading _ r h.state.object _ c.lock-held.ensures.holds kind entry.enters.reply,
-    ap (λ n. n + 1) c.stamp-stamp.ensures ∙ (sym entry.enters.count ∙ ap (λ i. length (seen_of c.enter_rearming-reply.new.pass i)) locks.index))
+    let rearms = rearms_as _ _ _ _ _ _ _ _ _ r _ _ _ _ _ c.state.ensures c.wanted-wants.ensures c.decl-base.ensures c.in-Some.ensures.rearms in (
+      record {
+        arm = c.in-Some.arm;
+        span = c.in-Some.span;
+        enters = enters_call x _ _ _ c.args.id h call _ locks c.lock-held.ensures.row entry.pass entry.enters old new refl refl c.if-is_full.ensures entry.receipt;
+        rearms = rearms;
+        bears = bears _ _ _ _ _ _ _ _ _ _ _ r h.state.object rearms;
+      },
+      replies_to _ _ _ c.args.reading _ r h.state.object _ c.lock-held.ensures.holds kind entry.enters.reply,
+      ap (λ n. n + 1) c.stamp-stamp.ensures ∙ (sym entry.enters.count ∙ ap (λ i. length (seen_of c.enter_rearming-reply.new.pass i)) locks.index),
+    )

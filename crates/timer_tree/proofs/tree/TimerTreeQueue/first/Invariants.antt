@@ -1,5 +1,5 @@
 use Rattle.timer_tree.proofs.tree.TimerTreeQueue.first.Given as goal
 
 -- the ledger of the count that is let go
-abbrev pub ghosts-first_by : goal.ghosts-first_by
-ghosts-first_by a = record { name = a.blank.name; parts = a.blank.parts }
+abbrev pub ghosts-first_uncounted : goal.ghosts-first_uncounted
+ghosts-first_uncounted a = record { name = a.blank.name; parts = a.blank.parts }

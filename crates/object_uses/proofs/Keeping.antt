@@ -1,0 +1,140 @@
+-- What calls leave of the passes by which they are made.
+use Rattle.std.proofs.Common.{◌≡◌, ℕ, List, sym, subst, refl, ◌∙◌}
+use Rattle.std.specs.Prelude.{Option, Some, None, MatchOption}
+use Rattle.ktime.specs.Readings.{ClockReading}
+use Rattle.pass_names.specs.Passes.{Adds, Begins, Looks}
+use Rattle.pass_names.specs.SharedHistory.{LooksOn}
+use Rattle.pass_names.proofs.Passes.{begins_refl, begins_trans, goes_refl, goes_trans}
+use Rattle.seq_timer.specs.Histories as seq
+use Rattle.seq_timer.specs.declared.system.TimerEntry.{TimerEntry}
+use Rattle.base_row.specs.declared.view.Opening.{Opening}
+use Rattle.hr_timers.specs.Known.{KnownOfTimers, MadeAt}
+use Rattle.expire_pass.specs.Handlers.{KeepsPass}
+use Rattle.expire_pass.specs.declared.log.Receipt.{Receipt}
+use Rattle.expire_pass.proofs.Turning.{keeps_trans}
+use Rattle.timer_setting.specs.declared.arming.Arm.{Arm}
+use Rattle.timer_setting.specs.declared.arming.Wanted.{Wanted}
+use Rattle.timer_fd.specs.declared.answers.SettimeAnswer.{SettimeAnswer}
+use Rattle.timer_fd.specs.declared.answers.SettimeAnswer.TheVariants as settings
+use Rattle.posix_timer.specs.declared.answers.AcceptAnswer.{AcceptAnswer}
+use Rattle.posix_timer.specs.declared.answers.AcceptAnswer.TheVariants as acceptances
+use Rattle.timer_fd.specs.declared.answers.ReadAnswer.{ReadAnswer}
+use Rattle.timer_fd.specs.declared.answers.ReadAnswer.TheVariants as reads
+use Rattle.timer_objects.specs.declared.answers.Gettime.{Gettime}
+use Rattle.timer_objects.specs.declared.answers.Gettime.TheVariants as gettimes
+use Rattle.timer_objects.specs.declared.answers.Overrun.{Overrun}
+use Rattle.timer_objects.specs.declared.answers.Readable.{Readable}
+use Rattle.timer_objects.specs.declared.cell.Span.{Span}
+use Rattle.timer_objects.specs.declared.object.Kind.{Kind}
+use Rattle.timer_objects.specs.declared.object.Kind.TheVariants as kinds
+use Rattle.timer_objects.specs.declared.object.Object.{Object}
+use Rattle.timer_objects.specs.declared.object.ObjectReply.{ObjectReply}
+use Rattle.timer_objects.specs.declared.wanting.Rearming.{Rearming}
+use Rattle.timer_objects.specs.Arming.{Arms}
+use Rattle.timer_objects.specs.Calls.{Accepts, Caller, FindsFull, Gettimes, LooksAtObject, LooksOverrun, LooksReadable, MakesRearming, ReadsFd, RearmsFor, SetsTimer, SettimeMade}
+use Rattle.timer_objects.specs.Known.{ObjectsOf, ObjectsPass}
+use Rattle.object_uses.specs.Callers.{KeepsBoth, KeepsObjects}
+
+keeps_looks : (v w : KnownOfTimers) → LooksOn v w → KeepsPass v w
+keeps_looks v w looks = record {
+  id = looks.id;
+  claims = looks.claims;
+  seen = looks.seen;
+  mine = subst (λ m. Begins v.mine m) (sym looks.mine) (begins_refl v.mine);
+}
+
+keeps_made : (v w : KnownOfTimers) (t : ℕ) (x : List TimerEntry) (es : List seq.Entry) → MadeAt v w t x es → w.claims ≡ v.claims → KeepsPass v w
+keeps_made v w t x es made claims =
+    record { id = made.id; claims = claims; seen = begins_trans made.from made.seen; mine = record { rest = _; whole = made.mine } }
+
+pub keeps_same : (p : ObjectsPass) → KeepsObjects p p
+keeps_same p = record { id = refl; seen = goes_refl p.knows.pass.seen; mine = begins_refl p.knows.pass.mine }
+
+pub keeps_both : (p q r : ObjectsPass) → KeepsObjects p q → KeepsObjects q r → KeepsObjects p r
+keeps_both p q r a b = record { id = b.id ∙ a.id; seen = goes_trans a.seen b.seen; mine = begins_trans a.mine b.mine }
+
+pub keeps_read : (p q : ObjectsPass) → Looks p.knows.pass q.knows.pass → KeepsObjects p q
+keeps_read p q looks =
+    record { id = looks.id; seen = looks.seen; mine = subst (λ m. Begins p.knows.pass.mine m) (sym looks.mine) (begins_refl p.knows.pass.mine) }
+
+pub keeps_added : (p q : ObjectsPass) (i : ℕ) (es : List _) → Adds p.knows.pass q.knows.pass i es → KeepsObjects p q
+keeps_added p q i es adds = record { id = adds.id; seen = adds.seen; mine = record { rest = _; whole = adds.mine } }
+
+keeps_armed : (o : Opening) (v w : KnownOfTimers) (t : ℕ) (wanted : Option Wanted) (base : ℕ) (reading : ClockReading) (arm : Arm) (log log' : List Receipt)
+    → Arms o v w t wanted base reading arm log log' → KeepsPass v w
+keeps_armed o v w t None base reading arm log log' arms =
+    subst (λ (k : KnownOfTimers). KeepsPass v k) (sym arms.1) (record { id = refl; claims = refl; seen = begins_refl v.seen; mine = begins_refl v.mine })
+keeps_armed o v w t (Some wanted) base reading arm log log' starts = keeps_made v w t starts.starts.at _ starts.starts.made starts.starts.claims
+
+module _ (x : ObjectsOf) (o : Opening) (old new : Caller) (id flags value interval : ℕ) (reading : ClockReading) where
+  keeps_full : (n : ℕ) → FindsFull x old new id n → KeepsBoth old new
+  keeps_full n full = (keeps_looks old.timers new.timers full.looks, keeps_read old.objects new.objects full.reads.pass)
+
+  keeps_set : (a : SettimeAnswer) → SetsTimer x o old new id flags value interval reading a → KeepsBoth old new
+  keeps_set a sets =
+      let off = sets.disarms.cancelled in (
+        keeps_trans old.timers sets.disarmed new.timers (keeps_made old.timers sets.disarmed id off.at _ off.made off.claims)
+            (keeps_armed o sets.disarmed new.timers id _ _ reading sets.arm sets.cancel_log new.log sets.arms),
+        keeps_added old.objects new.objects id _ sets.enters.commits.adds,
+      )
+
+  pub keeps_settime : (a : SettimeAnswer) → SettimeMade x o old new id flags value interval reading a → KeepsBoth old new
+  keeps_settime (settings.Spent n) made = keeps_full n made
+  keeps_settime (settings.Old left was) made = keeps_set (settings.Old left was) made
+  keeps_settime (settings.Unarmed n) made = keeps_set (settings.Unarmed n) made
+  keeps_settime settings.Canceled made = keeps_set settings.Canceled made
+  keeps_settime settings.BadFlags made = absurd made
+  keeps_settime settings.BadTime made = absurd made
+
+  keeps_none : new ≡ old → KeepsBoth old new
+  keeps_none same = subst (λ (c : Caller). KeepsBoth old c) (sym same)
+      (record { id = refl; claims = refl; seen = begins_refl old.timers.seen; mine = begins_refl old.timers.mine }, keeps_same old.objects)
+
+  pub keeps_unless : (refusal : Option SettimeAnswer) (a : SettimeAnswer)
+      → MatchOption refusal (SettimeMade x o old new id flags value interval reading a) (λ r. (a ≡ r) × (new ≡ old)) → KeepsBoth old new
+  keeps_unless None a made = keeps_settime a made
+  keeps_unless (Some r) a refused = keeps_none refused.1
+
+  keeps_rearmed : (t last : ℕ) (wanted : Option Wanted) (base : ℕ) (arm : Arm) (span : Span)
+      → RearmsFor o old.timers new.timers t last wanted base reading arm span old.log new.log → KeepsPass old.timers new.timers
+  keeps_rearmed t last None base arm span rearms = keeps_looks old.timers new.timers rearms.1
+  keeps_rearmed t last (Some wanted) base arm span rearms =
+      let s = rearms.starts.starts in
+      keeps_trans old.timers rearms.begin new.timers (keeps_looks old.timers rearms.begin rearms.looks)
+      (keeps_made rearms.begin new.timers t s.at _ s.made s.claims)
+
+  keeps_call : (r : Rearming) (reply : ObjectReply) → MakesRearming x o old new id r reading reply → KeepsBoth old new
+  keeps_call r reply made =
+      (keeps_rearmed id _ _ _ made.arm made.span made.rearms, keeps_added old.objects new.objects id _ made.enters.commits.adds)
+
+  pub keeps_accept : (a : AcceptAnswer) → Accepts x o old new id reading a → KeepsBoth old new
+  keeps_accept (acceptances.Spent n) full = keeps_full n full
+  keeps_accept (acceptances.Accepted overrun) made = keeps_call _ _ made
+  keeps_accept acceptances.NoSignal made = keeps_call _ _ made
+
+  pub keeps_read_fd : (len : ℕ) (a : ReadAnswer) → ReadsFd x o old new id len reading a → KeepsBoth old new
+  keeps_read_fd len reads.ShortBuffer short = keeps_none short.1
+  keeps_read_fd len (reads.Spent n) full = keeps_full n full.1
+  keeps_read_fd len (reads.Count total) made = keeps_call _ _ made.1
+  keeps_read_fd len reads.Canceled made = keeps_call _ _ made.1
+  keeps_read_fd len reads.Again made = keeps_call _ _ made.1
+
+  keeps_look : (object : Object) (n : ℕ) → LooksAtObject old new id object n → KeepsBoth old new
+  keeps_look object n look = (
+    subst (λ (k : KnownOfTimers). KeepsPass old.timers k) (sym look.timers)
+        (record { id = refl; claims = refl; seen = begins_refl old.timers.seen; mine = begins_refl old.timers.mine }),
+    keeps_read old.objects new.objects look.reads.pass,
+  )
+
+  pub keeps_gettime : (kind : Kind) (a : Gettime) → Gettimes x o old new id reading kind a → KeepsBoth old new
+  keeps_gettime kinds.Raw a got = absurd got
+  keeps_gettime kinds.Posix (gettimes.Left left interval stamp) got = keeps_look _ _ got.1
+  keeps_gettime kinds.Posix (gettimes.Spent n) got = absurd got
+  keeps_gettime kinds.Fd (gettimes.Left left interval stamp) got = keeps_call _ _ got.0
+  keeps_gettime kinds.Fd (gettimes.Spent n) full = keeps_full n full
+
+  pub keeps_readable : (a : Readable) → LooksReadable old new id reading a → KeepsBoth old new
+  keeps_readable a looks = keeps_look _ _ looks.1
+
+  pub keeps_overrun : (a : Overrun) → LooksOverrun old new id a → KeepsBoth old new
+  keeps_overrun a looks = keeps_look _ _ looks.1

@@ -1,0 +1,122 @@
+-- What an acceptance and a read take.
+use Rattle.std.proofs.Common.{◌≡◌, ℕ, ◌+◌, length, length-append, ap, sym, ◌∙◌, refl}
+use Rattle.std.specs.Prelude.{Bool, true, false, Option, Some, None, nat_eq, unwrap_or, if◌then◌else◌}
+use Rattle.std.proofs.lemmas.Option.{none-some}
+use Rattle.ktime.specs.Readings.{ClockReading}
+use Rattle.timer_setting.specs.declared.arming.Arm.{Arm}
+use Rattle.timer_setting.specs.Phases.{periods_in}
+use Rattle.posix_timer.specs.declared.answers.AcceptAnswer.{AcceptAnswer}
+use Rattle.posix_timer.specs.declared.answers.AcceptAnswer.TheVariants as acceptances
+use Rattle.posix_timer.specs.declared.calls.Call.TheVariants as posix_calls
+use Rattle.posix_timer.specs.declared.calls.Reply.TheVariants as posix_replies
+use Rattle.posix_timer.specs.States.{PosixTimer}
+use Rattle.posix_timer.specs.Steps.{overrun_of}
+use Rattle.timer_fd.specs.declared.answers.ReadAnswer.{ReadAnswer}
+use Rattle.timer_fd.specs.declared.answers.ReadAnswer.TheVariants as reads
+use Rattle.timer_fd.specs.declared.calls.Call.TheVariants as fd_calls
+use Rattle.timer_fd.specs.declared.calls.Reply.TheVariants as fd_replies
+use Rattle.timer_fd.specs.States.{Descriptor, is_canceled}
+use Rattle.timer_fd.specs.Steps.{fd_read, total_in}
+use Rattle.base_row.specs.declared.view.Opening.{Opening}
+use Rattle.timer_objects.specs.declared.object.Object.{Object}
+use Rattle.timer_objects.specs.declared.object.Object.TheVariants as objects
+use Rattle.timer_objects.specs.declared.object.ObjectCall.TheVariants as calls
+use Rattle.timer_objects.specs.declared.object.ObjectReply.{ObjectReply}
+use Rattle.timer_objects.specs.declared.object.ObjectReply.TheVariants as replies
+use Rattle.timer_objects.specs.declared.wanting.Rearming.{Rearming}
+use Rattle.timer_objects.specs.declared.wanting.Rearming.TheVariants as rearmings
+use Rattle.timer_objects.specs.Calls.{Accepts, Caller, MakesRearming, ReadsFd}
+use Rattle.timer_objects.specs.Known.{ObjectsOf}
+use Rattle.timer_objects.specs.Steps.{object_answer}
+use Rattle.object_uses.specs.Callers.{AcceptFits, ReadFits, TakesCount, TakesSignal}
+
+-- the number that a reply has
+abbrev number_in : ObjectReply → Option ℕ
+number_in (replies.Posix (posix_replies.Accept (acceptances.Accepted overrun))) = Some overrun
+number_in (replies.Fd (fd_replies.Read (reads.Count total))) = Some total
+number_in reply = None
+
+module _ (reading : ClockReading) (arm : Arm) (n : ℕ) where
+  signal_by : (t : PosixTimer) (b : Bool) → t.pending ≡ b
+      → Some n ≡ number_in (replies.Posix (posix_replies.Accept (if b then acceptances.Accepted (overrun_of (periods_in t.phase t.interval reading)) else acceptances.NoSignal)))
+      → (t.pending ≡ true) × (n ≡ overrun_of (periods_in t.phase t.interval reading))
+  signal_by t true is e = (is, ap (λ m. unwrap_or m 0) e)
+  signal_by t false is e = absurd (none-some n (sym e))
+
+  signal_of : (object : Object) → Some n ≡ number_in (object_answer object (calls.Posix (posix_calls.Accept reading arm)))
+      → (t : PosixTimer) × (object ≡ objects.Posix t) × (t.pending ≡ true) × (n ≡ overrun_of (periods_in t.phase t.interval reading))
+  signal_of objects.Raw e = absurd (none-some n (sym e))
+  signal_of (objects.Posix t) e = let by = signal_by t t.pending refl e in (t, refl, by.0, by.1)
+  signal_of (objects.Fd t) e = absurd (none-some n (sym e))
+
+  count_by : (t : Descriptor) (off none nil : Bool) (a b c : Descriptor) → c.count ≡ 0
+      → Some n ≡ number_in (replies.Fd (fd_replies.Read (if off then reads.Canceled else (if none then reads.Again else (if nil then reads.Again
+      else reads.Count (total_in t reading))))))
+      → (n ≡ total_in t reading) × ((if off then a else (if none then b else c)).count ≡ 0)
+  count_by t true none nil a b c z e = absurd (none-some n (sym e))
+  count_by t false true nil a b c z e = absurd (none-some n (sym e))
+  count_by t false false true a b c z e = absurd (none-some n (sym e))
+  count_by t false false false a b c z e = (ap (λ m. unwrap_or m 0) e, z)
+
+  count_of : (object : Object) → Some n ≡ number_in (object_answer object (calls.Fd (fd_calls.Read reading arm)))
+      → (t : Descriptor) × (object ≡ objects.Fd t) × (n ≡ total_in t reading) × ((fd_read t reading arm).count ≡ 0)
+  count_of objects.Raw e = absurd (none-some n (sym e))
+  count_of (objects.Posix t) e = absurd (none-some n (sym e))
+  count_of (objects.Fd t) e =
+      let by = count_by t (is_canceled t reading) (nat_eq t.count 0) (nat_eq (total_in t reading) 0) _ _ _ refl e in (t, refl, by.0, by.1)
+
+module _ (x : ObjectsOf) (o : Opening) (old new : Caller) (id : ℕ) (reading : ClockReading) (n : ℕ) where
+  takes_signal : MakesRearming x o old new id rearmings.Accepting reading (replies.Posix (posix_replies.Accept (acceptances.Accepted n)))
+      → TakesSignal old.objects new.objects id reading n
+  takes_signal made =
+      let commits = made.enters.commits in
+      let taken = signal_of reading made.arm n commits.state.object (ap number_in made.enters.reply) in
+      record {
+        before = commits.adds.before;
+        seen = commits.adds.begins;
+        state = commits.state;
+        at = commits.at;
+        call = _;
+        last = commits.adds.last;
+        timer = taken.0;
+        is = taken.1;
+        pending = taken.2;
+        overrun = taken.3;
+      }
+
+  takes_count : MakesRearming x o old new id rearmings.Reading reading (replies.Fd (fd_replies.Read (reads.Count n)))
+      → TakesCount old.objects new.objects id reading n
+  takes_count made =
+      let commits = made.enters.commits in
+      let taken = count_of reading made.arm n commits.state.object (ap number_in made.enters.reply) in
+      record {
+        before = commits.adds.before;
+        seen = commits.adds.begins;
+        state = commits.state;
+        at = commits.at;
+        arm = made.arm;
+        call = _;
+        is_read = refl;
+        last = commits.adds.last;
+        descriptor = taken.0;
+        is = taken.1;
+        total = taken.2;
+        left = taken.3;
+      }
+
+  adds_one : (r : Rearming) (reply : ObjectReply) → MakesRearming x o old new id r reading reply
+      → length new.objects.knows.pass.mine ≡ length old.objects.knows.pass.mine + 1
+  adds_one r reply made = ap length made.enters.commits.adds.mine ∙ length-append old.objects.knows.pass.mine _
+
+module _ (x : ObjectsOf) (o : Opening) (old new : Caller) (id : ℕ) (reading : ClockReading) where
+  pub accept_fits : (a : AcceptAnswer) → Accepts x o old new id reading a → AcceptFits old.objects new.objects id reading a
+  accept_fits (acceptances.Accepted n) made = takes_signal x o old new id reading n made
+  accept_fits acceptances.NoSignal made = adds_one x o old new id reading 0 _ _ made
+  accept_fits (acceptances.Spent n) full = (full.stamp, full.reads.pass.mine)
+
+  pub read_fits : (len : ℕ) (a : ReadAnswer) → ReadsFd x o old new id len reading a → ReadFits old.objects new.objects id reading a
+  read_fits len (reads.Count n) made = takes_count x o old new id reading n made.1
+  read_fits len reads.ShortBuffer short = ap (λ (c : Caller). c.objects) short.1
+  read_fits len (reads.Spent n) full = (full.1.stamp, full.1.reads.pass.mine)
+  read_fits len reads.Canceled made = adds_one x o old new id reading 0 _ _ made.1
+  read_fits len reads.Again made = adds_one x o old new id reading 0 _ _ made.1

@@ -1,0 +1,26 @@
+use Rattle.std.proofs.Common.{rules, ◌≡◌, ◌∙◌, sym, subst}
+use Rattle.counted_row.specs.Views.{Knows}
+use Rattle.timer_objects.specs.Cells.{cell_meaning}
+use Rattle.timer_objects.specs.Known.{IsObjectsPass, ObjectsPass}
+use Rattle.object_uses.specs.Callers.{KeepsObjects}
+use Rattle.object_uses.proofs.Lending.{leaves_pass, pass_after}
+use Rattle.object_uses.proofs.expiring.expire_objects.Goals as goal
+
+pub returns-clause-objects : goal.returns-clause-objects
+returns-clause-objects g c =
+    let ran = c.expire-answer in
+    let ready = c.reserve.new.self in
+    let was : ready.objects_pass.now ≡ c.args.objects_pass.now = c.reserve.ensures.pass ∙ c.make-firing.ensures.pass in
+    let left = leaves_pass c.args.timers.now.about c.args.reading c.args.base _ c.args.pass.now.known ready c.args.log.now.receipts ran.new.pass.known ran.new.handler ran.new.log.receipts ran.result ran.ensures.expires in
+    let knows = subst (λ (p : ObjectsPass). Knows cell_meaning p.knows) (sym was) c.requires.objects.knows in
+    subst (λ (p : ObjectsPass). IsObjectsPass c.args.objects.now p) (search rules)
+    (pass_after c.args.objects.now ready ran.new.handler (c.reserve.ensures.loan.objects ∙ c.make-firing.ensures.objects) left knows)
+
+pub returns-clause-goes_on : goal.returns-clause-goes_on
+returns-clause-goes_on g c =
+    let ran = c.expire-answer in
+    let ready = c.reserve.new.self in
+    let was : ready.objects_pass.now ≡ c.args.objects_pass.now = c.reserve.ensures.pass ∙ c.make-firing.ensures.pass in
+    let left = leaves_pass c.args.timers.now.about c.args.reading c.args.base _ c.args.pass.now.known ready c.args.log.now.receipts ran.new.pass.known ran.new.handler ran.new.log.receipts ran.result ran.ensures.expires in
+    subst (λ (p : ObjectsPass). KeepsObjects c.args.objects_pass.now p) (search rules)
+    (subst (λ (p : ObjectsPass). KeepsObjects p ran.new.handler.objects_pass.now) was left.keeps)

@@ -1,0 +1,95 @@
+-- What callers are told of objects, by all that their passes have seen.
+use Rattle.std.specs.Prelude.{ℕ, ◌≡◌, ◌+◌, List, [], ◌∷◌, ◌++◌, length, true}
+use Rattle.ktime.specs.Readings.{ClockReading}
+use Rattle.pass_names.specs.declared.Pass.{Pass}
+use Rattle.pass_names.specs.Names.{after_retire}
+use Rattle.pass_names.specs.Passes.{Begins, GoesOn}
+use Rattle.expire_pass.specs.Handlers.{KeepsPass}
+use Rattle.timer_setting.specs.declared.arming.Arm.{Arm}
+use Rattle.timer_setting.specs.Phases.{periods_in}
+use Rattle.posix_timer.specs.States.{PosixTimer}
+use Rattle.posix_timer.specs.Steps.{overrun_of}
+use Rattle.posix_timer.specs.declared.answers.AcceptAnswer.{AcceptAnswer}
+use Rattle.posix_timer.specs.declared.answers.AcceptAnswer.TheVariants as acceptances
+use Rattle.timer_fd.specs.declared.answers.ReadAnswer.{ReadAnswer}
+use Rattle.timer_fd.specs.declared.answers.ReadAnswer.TheVariants as reads
+use Rattle.timer_fd.specs.declared.calls.Call.TheVariants as fd_calls
+use Rattle.timer_fd.specs.States.{Descriptor}
+use Rattle.timer_fd.specs.Steps.{fd_read, total_in}
+use Rattle.counted_row.specs.declared.view.Entry.{Entry}
+use Rattle.counted_row.specs.Views.{StateAfter}
+use Rattle.timer_objects.specs.declared.cell.ObjectCell.{ObjectCell}
+use Rattle.timer_objects.specs.declared.cell.SpannedCall.{SpannedCall}
+use Rattle.timer_objects.specs.declared.object.Object.TheVariants as objects
+use Rattle.timer_objects.specs.declared.object.ObjectCall.TheVariants as calls
+use Rattle.timer_objects.specs.declared.object.ObjectReply.{ObjectReply}
+use Rattle.timer_objects.specs.Cells.{cell_meaning}
+use Rattle.timer_objects.specs.Calls.{Caller}
+use Rattle.timer_objects.specs.Known.{ObjectsPass, seen_of}
+
+-- the pass's name is as it was, and what it has seen and made goes on
+pub record KeepsObjects (p q : ObjectsPass) : Type 0 where
+  pub id : q.knows.pass.id ≡ p.knows.pass.id
+  pub seen : GoesOn p.knows.pass.seen q.knows.pass.seen
+  pub mine : Begins p.knows.pass.mine q.knows.pass.mine
+
+-- a pass has taken in another: it has seen all that either had seen, and has as its own what either had made
+pub record HasHeard {E : Type 0} (first second new : Pass E) : Type 0 where
+  pub own : GoesOn first.seen new.seen
+  pub other : GoesOn second.seen new.seen
+  pub mine : new.mine ≡ first.mine ++ second.mine
+  pub id : new.id ≡ after_retire first.id second.id
+
+-- a call has left both passes as they were, but for what they have seen and made since
+abbrev pub KeepsBoth : Caller → Caller → Type 0
+KeepsBoth old new = KeepsPass old.timers new.timers × KeepsObjects old.objects new.objects
+
+-- a signal was accepted at this reading: it was pending, and the overrun is by the periods that had passed
+pub record TakesSignal (p q : ObjectsPass) (id : ℕ) (reading : ClockReading) (n : ℕ) : Type 0 where
+  pub before : List (Entry SpannedCall ObjectReply)
+  pub seen : Begins (seen_of p id) before
+  pub state : ObjectCell
+  pub at : StateAfter cell_meaning p.knows.opening id before state
+  pub call : Entry SpannedCall ObjectReply
+  pub last : seen_of q id ≡ before ++ call ∷ []
+  pub timer : PosixTimer
+  pub is : state.object ≡ objects.Posix timer
+  pub pending : timer.pending ≡ true
+  pub overrun : n ≡ overrun_of (periods_in timer.phase timer.interval reading)
+
+-- A count was read at this reading: it is all that the descriptor had counted, and the periods that had passed. None is left in the state after it.
+pub record TakesCount (p q : ObjectsPass) (id : ℕ) (reading : ClockReading) (n : ℕ) : Type 0 where
+  pub before : List (Entry SpannedCall ObjectReply)
+  pub seen : Begins (seen_of p id) before
+  pub state : ObjectCell
+  pub at : StateAfter cell_meaning p.knows.opening id before state
+  pub arm : Arm
+  pub call : Entry SpannedCall ObjectReply
+  pub is_read : call.call.call ≡ calls.Fd (fd_calls.Read reading arm)
+  pub last : seen_of q id ≡ before ++ call ∷ []
+  pub descriptor : Descriptor
+  pub is : state.object ≡ objects.Fd descriptor
+  pub total : n ≡ total_in descriptor reading
+  pub left : (fd_read descriptor reading arm).count ≡ 0
+
+-- what an acceptance answers
+abbrev pub AcceptFits : ObjectsPass → ObjectsPass → ℕ → ClockReading → AcceptAnswer → Type 0
+AcceptFits p q id reading (acceptances.Accepted overrun) = TakesSignal p q id reading overrun
+AcceptFits p q id reading acceptances.NoSignal = length q.knows.pass.mine ≡ length p.knows.pass.mine + 1
+AcceptFits p q id reading (acceptances.Spent n) = (n ≡ length (seen_of q id)) × (q.knows.pass.mine ≡ p.knows.pass.mine)
+
+-- what a read answers
+abbrev pub ReadFits : ObjectsPass → ObjectsPass → ℕ → ClockReading → ReadAnswer → Type 0
+ReadFits p q id reading (reads.Count total) = TakesCount p q id reading total
+ReadFits p q id reading reads.ShortBuffer = q ≡ p
+ReadFits p q id reading (reads.Spent n) = (n ≡ length (seen_of q id)) × (q.knows.pass.mine ≡ p.knows.pass.mine)
+ReadFits p q id reading reads.Canceled = length q.knows.pass.mine ≡ length p.knows.pass.mine + 1
+ReadFits p q id reading reads.Again = length q.knows.pass.mine ≡ length p.knows.pass.mine + 1
+
+-- a reader that began with all that a pass had seen was told this, and the pass has then seen all that the reader had
+pub record ReadBeside (p q : ObjectsPass) (id : ℕ) (reading : ClockReading) (a : ReadAnswer) : Type 0 where
+  pub began : ObjectsPass
+  pub ended : ObjectsPass
+  pub from : began.knows.pass.seen ≡ p.knows.pass.seen
+  pub fits : ReadFits began ended id reading a
+  pub heard : GoesOn ended.knows.pass.seen q.knows.pass.seen

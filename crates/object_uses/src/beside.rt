@@ -1,0 +1,146 @@
+//! A thread that reads a descriptor, beside another that runs the functions of timers.
+ghost use Rattle.std.specs.Prelude.{◌≡◌, ◌≤◌, ◌<◌, ◌+◌, ◌*◌, [], length};
+ghost use Rattle.pass_names.specs.Names.{IsLast};
+ghost use Rattle.hr_timers.specs.Known.{IsPassOf};
+ghost use Rattle.expire_pass.specs.Handlers.{KeepsPass};
+ghost use Rattle.timer_objects.specs.declared.object.Kind.TheVariants as kinds;
+ghost use Rattle.timer_objects.specs.Callbacks.{bases_of};
+ghost use Rattle.timer_objects.specs.Known.{IsObjectsPass, Suits, decl_at};
+ghost use Rattle.object_uses.specs.Callers.{KeepsObjects, ReadBeside, ReadFits};
+
+use crate::counts::read_count;
+use crate::expiring::{Expired, expire_objects};
+use counted_row::RowPass;
+use expire_pass::Log;
+use hr_timers::{Pass, Timers};
+use ktime::Reading;
+use std::alloc::{AllocError, Global};
+use std::sync::Wait;
+use std::thread::{Threads, join_mut};
+use timer_fd::ReadAnswer;
+use timer_objects::{Callback, ObjectCell, ObjectLog, Objects};
+
+/// One thread runs the functions of at most so many timers on a base, the other reads a descriptor.
+fn expire_and_read<R: Threads + Wait + Sync>(
+    rt: &R,
+    alloc: Global,
+    timers: &Timers,
+    runner: &mut Pass,
+    reader: &mut Pass,
+    objects: &Objects,
+    objects_runner: &mut RowPass<ObjectCell>,
+    objects_reader: &mut RowPass<ObjectCell>,
+    callbacks: &[Callback],
+    base: u32,
+    budget: u32,
+    id: u32,
+    reading: Reading,
+    runner_log: &mut Log,
+    log: &mut Log,
+    object_log: &mut ObjectLog,
+) -> (Result<Expired, AllocError>, ReadAnswer)
+    requires timers { IsPassOf timers.now runner.old × IsPassOf timers.now reader.old }
+    requires objects { IsObjectsPass objects.now objects_runner.old × IsObjectsPass objects.now objects_reader.old }
+    requires suits { Suits objects.now timers.now.about }
+    requires within { id < length objects.now.decls }
+    requires kind { (decl_at objects.now id).kind ≡ kinds.Fd }
+    requires callbacks { (length callbacks.now ≡ length objects.now.decls) × (bases_of callbacks.now ≤ timers.now.about.bases) }
+    requires base { base < timers.now.about.bases }
+    requires room { (2 * budget ≤ runner_log.old.spare) × (4 ≤ log.old.spare) × (0 < object_log.old.spare) }
+    ensures timers { IsPassOf timers.now runner.new × IsPassOf timers.now reader.new }
+    ensures keeps { KeepsPass runner.old.known runner.new.known × KeepsPass reader.old.known reader.new.known }
+    ensures objects { IsObjectsPass objects.now objects_runner.new × IsObjectsPass objects.now objects_reader.new }
+    ensures goes_on { KeepsObjects objects_runner.old objects_runner.new × KeepsObjects objects_reader.old objects_reader.new }
+    ensures reads { ReadFits objects_reader.old objects_reader.new id reading result.1 }
+{
+    join_mut(
+        rt,
+        &mut || {
+            expire_objects(
+                rt,
+                alloc,
+                timers,
+                runner,
+                objects,
+                objects_runner,
+                callbacks,
+                base,
+                reading,
+                budget,
+                runner_log,
+            )
+        },
+        &mut || {
+            read_count(
+                rt,
+                timers,
+                reader,
+                objects,
+                objects_reader,
+                log,
+                object_log,
+                id,
+                8,
+                reading,
+            )
+        },
+    )
+}
+
+/// The same with passes that are split off for the reader, and taken in again. What was read is a count that the first pass then has seen.
+pub fn read_beside<R: Threads + Wait + Sync>(
+    rt: &R,
+    alloc: Global,
+    timers: &Timers,
+    main: &mut Pass,
+    objects: &Objects,
+    objects_main: &mut RowPass<ObjectCell>,
+    callbacks: &[Callback],
+    base: u32,
+    budget: u32,
+    id: u32,
+    reading: Reading,
+    main_log: &mut Log,
+    log: &mut Log,
+    object_log: &mut ObjectLog,
+) -> (Result<Expired, AllocError>, ReadAnswer)
+    requires timers { IsPassOf timers.now main.old }
+    requires unclaimed { main.old.known.claims ≡ [] }
+    requires objects { IsObjectsPass objects.now objects_main.old }
+    requires suits { Suits objects.now timers.now.about }
+    requires within { id < length objects.now.decls }
+    requires kind { (decl_at objects.now id).kind ≡ kinds.Fd }
+    requires callbacks { (length callbacks.now ≡ length objects.now.decls) × (bases_of callbacks.now ≤ timers.now.about.bases) }
+    requires base { base < timers.now.about.bases }
+    requires room { (2 * budget ≤ main_log.old.spare) × (4 ≤ log.old.spare) × (0 < object_log.old.spare) }
+    ensures timers { IsPassOf timers.now main.new }
+    ensures unclaimed { main.new.known.claims ≡ [] }
+    ensures objects { IsObjectsPass objects.now objects_main.new }
+    ensures reads { ReadBeside objects_main.old objects_main.new id reading result.1 }
+    ensures last { IsLast main.old.known.id → IsLast main.new.known.id }
+    ensures last_of_objects { IsLast objects_main.old.knows.pass.id → IsLast objects_main.new.knows.pass.id }
+{
+    let mut other = timers.split(main);
+    let mut objects_other = objects.split(objects_main);
+    let told = expire_and_read(
+        rt,
+        alloc,
+        timers,
+        main,
+        &mut other,
+        objects,
+        objects_main,
+        &mut objects_other,
+        callbacks,
+        base,
+        budget,
+        id,
+        reading,
+        main_log,
+        log,
+        object_log,
+    );
+    timers.retire(main, other);
+    objects.join(objects_main, objects_other);
+    told
+}

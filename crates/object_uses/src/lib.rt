@@ -1,0 +1,16 @@
+//! Callers of `timer_objects`: POSIX timers and timer descriptors that threads share, each thread with two passes of its own.
+#![tactic(auto)]
+
+pub use beside::read_beside;
+pub use counts::read_count;
+pub use expiring::{Expired, expire_objects};
+pub use setting::set_timer;
+pub use sharing::hear_all;
+pub use signals::accept_signal;
+
+mod beside;
+mod counts;
+mod expiring;
+mod setting;
+mod sharing;
+mod signals;
