@@ -1,7 +1,9 @@
 -- Timers with an object over each, and what a thread has of its own.
 use Rattle.std.specs.Prelude.{ℕ, ◌≡◌, ◌≢◌, ◌*◌, ◌<◌, [], length}
+use Rattle.ktime.specs.declared.clock_id.ClockId.TheVariants as clocks
 use Rattle.pass_names.specs.Names.{after_split, child_of, first_pass_id}
 use Rattle.hr_timers.specs.Known.{IsPassOf}
+use Rattle.timer_objects.specs.declared.object.Decl.{Decl}
 use Rattle.timer_objects.specs.declared.object.Kind.{Kind}
 use Rattle.timer_objects.specs.declared.object.Kind.TheVariants as kinds
 use Rattle.timer_objects.specs.Callbacks.{bases_of}
@@ -39,6 +41,12 @@ pub record KeepsHand (d : Desk) (h h' : Hand) : Type 0 where
   pub hand : IsHand d h'
   pub timers : h'.timers.known.id ≡ h.timers.known.id
   pub objects : h'.objects.knows.pass.id ≡ h.objects.knows.pass.id
+
+-- a declaration of this kind, on the monotonic clock and one of two bases
+pub record IsDeclOf (kind : Kind) (d : Decl) : Type 0 where
+  pub kind : d.kind ≡ kind
+  pub clock : d.clock ≡ clocks.Monotonic
+  pub base : d.base < 2
 
 -- so many objects of this kind on each base, and the first passes
 pub record IsOpened (d : Desk) (h : Hand) (kind : Kind) (count : ℕ) : Type 0 where

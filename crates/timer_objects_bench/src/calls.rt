@@ -5,20 +5,20 @@ ghost use Rattle.timer_objects.specs.Known.{decl_at};
 ghost use Rattle.timer_objects_bench.specs.Desks.{IsDesk, IsHand, KeepsHand};
 
 use crate::desk::{Desk, Hand};
-use expire_pass::{ExpireAnswer, expire};
-use ktime::{Reading, TimeSpec};
+use expire_pass::ExpireAnswer;
+use ktime::Reading;
+use object_uses::{accept_signal, expire_objects, read_count, set_timer};
 use posix_timer::AcceptAnswer;
 use std::alloc::{AllocError, Global};
 use std::sync::Wait;
 use timer_fd::{ReadAnswer, SettimeAnswer};
-use timer_objects::Firing;
 use timer_setting::ABSTIME;
 
 /// The time of all calls.
 pub const NOW: u64 = 1000;
 
 /// Arms an object's timer for this time, or disarms it by the value 0.
-pub fn set<R: Wait>(rt: &R, desk: &Desk, hand: &mut Hand, id: u32, nsec: u64) -> bool
+pub fn set<R: Wait>(rt: &R, desk: &Desk, hand: &mut Hand, id: u32, ns: u64) -> bool
     requires desk { IsDesk desk.now }
     requires hand { IsHand desk.now hand.old }
     requires within { id < length desk.now.objects.decls }
@@ -26,17 +26,18 @@ pub fn set<R: Wait>(rt: &R, desk: &Desk, hand: &mut Hand, id: u32, nsec: u64) ->
     requires room { (4 ≤ hand.old.log.spare) × (0 < hand.old.object_log.spare) }
     ensures keeps { KeepsHand desk.now hand.old hand.new }
 {
-    let answer = desk.objects.settime(
+    let answer = set_timer(
         rt,
         &desk.timers,
         &mut hand.timers,
+        &desk.objects,
         &mut hand.objects,
         &mut hand.log,
         &mut hand.object_log,
         id,
         ABSTIME,
-        TimeSpec { sec: 0, nsec },
-        TimeSpec { sec: 0, nsec: 0 },
+        ns,
+        0,
         Reading::at(NOW),
     );
     matches!(answer, SettimeAnswer::Old { .. })
@@ -58,23 +59,20 @@ pub fn run_base<R: Wait>(
     requires room { 2 * count ≤ hand.old.log.spare }
     ensures keeps { KeepsHand desk.now hand.old hand.new }
 {
-    let mut firing = Firing::make(alloc, &desk.objects, &mut hand.objects, &desk.callbacks);
-    if let Err(refused) = firing.reserve(count as usize) {
-        firing.into_logs();
-        return Err(refused);
-    }
-    let fired = expire(
+    let run = expire_objects(
         rt,
+        alloc,
         &desk.timers,
         &mut hand.timers,
+        &desk.objects,
+        &mut hand.objects,
+        &desk.callbacks,
         base,
         Reading::at(NOW),
-        u64::from(count),
-        &mut firing,
+        count,
         &mut hand.log,
-    );
-    firing.into_logs();
-    Ok(matches!(fired, ExpireAnswer::More { .. }))
+    )?;
+    Ok(matches!(run.answer, ExpireAnswer::More { .. }))
 }
 
 /// Accepts a POSIX timer's signal.
@@ -86,10 +84,11 @@ pub fn accept<R: Wait>(rt: &R, desk: &Desk, hand: &mut Hand, id: u32) -> bool
     requires room { (4 ≤ hand.old.log.spare) × (0 < hand.old.object_log.spare) }
     ensures keeps { KeepsHand desk.now hand.old hand.new }
 {
-    let answer = desk.objects.accept(
+    let answer = accept_signal(
         rt,
         &desk.timers,
         &mut hand.timers,
+        &desk.objects,
         &mut hand.objects,
         &mut hand.log,
         &mut hand.object_log,
@@ -108,10 +107,11 @@ pub fn read<R: Wait>(rt: &R, desk: &Desk, hand: &mut Hand, id: u32) -> bool
     requires room { (4 ≤ hand.old.log.spare) × (0 < hand.old.object_log.spare) }
     ensures keeps { KeepsHand desk.now hand.old hand.new }
 {
-    let answer = desk.objects.read(
+    let answer = read_count(
         rt,
         &desk.timers,
         &mut hand.timers,
+        &desk.objects,
         &mut hand.objects,
         &mut hand.log,
         &mut hand.object_log,

@@ -1,7 +1,7 @@
 //! Timers with an object over each, and what a thread has of its own.
-ghost use Rattle.std.specs.Prelude.{◌≡◌, ◌*◌, ◌<◌, ◌≤◌, length, IfOk, OnOk};
+ghost use Rattle.std.specs.Prelude.{◌≡◌, ◌*◌, ◌<◌, ◌≤◌, length, All, IfOk, OnOk};
 ghost use Rattle.pass_names.specs.Names.{first_pass_id};
-ghost use Rattle.timer_objects_bench.specs.Desks.{AreTwoHands, IsDesk, IsHand, IsOpened};
+ghost use Rattle.timer_objects_bench.specs.Desks.{AreTwoHands, IsDeclOf, IsHand, IsOpened};
 
 use counted_row::RowPass;
 use expire_pass::Log;
@@ -122,7 +122,10 @@ impl Desk {
 }
 
 /// So many declarations of a kind, in turn on two bases.
-fn decls(alloc: Global, kind: Kind, many: usize) -> Result<Vec<Decl>, AllocError> {
+fn decls(alloc: Global, kind: Kind, many: usize) -> Result<Vec<Decl>, AllocError>
+    ensures many { IfOk result (λ v. length v.items ≡ many) }
+    ensures decls { IfOk result (λ v. All (λ d. IsDeclOf kind d) v.items) }
+{
     let clock = ClockId::Monotonic;
     let mut decls = Vec::new(alloc);
     for i in 0..many {

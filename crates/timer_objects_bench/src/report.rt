@@ -79,7 +79,11 @@ pub fn print_lines<R: Threads + Wait + Sync + Clock + Print>(
 ) -> io::Result<()> {
     for case in [
         ("POSIX timer\tsettime, settime 0", Kind::Posix, End::Clear),
-        ("POSIX timer\tsettime, expiry, accept", Kind::Posix, End::Accept),
+        (
+            "POSIX timer\tsettime, expiry, accept",
+            Kind::Posix,
+            End::Accept,
+        ),
         ("descriptor\tsettime, settime 0", Kind::Fd, End::Clear),
         ("descriptor\tsettime, expiry, read", Kind::Fd, End::Read),
     ] {
