@@ -21,14 +21,14 @@ pub record IsDesk (d : Desk) : Type 0 where
   pub still : bases_of d.callbacks.items ≡ 0
 
 -- an object of this kind can be ended so
-abbrev pub has_end : End → Kind → Type 0
-has_end ends.Clear kind = kind ≢ kinds.Raw
-has_end ends.Accept kind = kind ≡ kinds.Posix
-has_end ends.Read kind = kind ≡ kinds.Fd
+pub record HasEnd (end : End) (kind : Kind) : Type 0 where
+  pub settable : kind ≢ kinds.Raw
+  pub acceptable : end ≡ ends.Accept → kind ≡ kinds.Posix
+  pub readable : end ≡ ends.Read → kind ≡ kinds.Fd
 
 -- so can all objects
 abbrev pub AllHaveEnd : Desk → End → Type 0
-AllHaveEnd d e = (i : ℕ) → i < length d.objects.decls → has_end e (decl_at d.objects i).kind
+AllHaveEnd d end = (i : ℕ) → i < length d.objects.decls → HasEnd end (decl_at d.objects i).kind
 
 -- a thread's passes are those of the timers and of the objects, and have no claims
 pub record IsHand (d : Desk) (h : Hand) : Type 0 where

@@ -1,6 +1,5 @@
 //! Which cases there are, and the line that is printed for each.
 ghost use Rattle.std.specs.Prelude.{◌≤◌};
-ghost use Rattle.timer_objects_bench.specs.Desks.{has_end};
 
 use crate::desk::Desk;
 use crate::turns::{End, Work, turns_of_all};
@@ -10,7 +9,6 @@ use std::io;
 use std::sync::Wait;
 use std::thread::Threads;
 use std::time::{Clock, Instant};
-use timer_objects::Kind;
 
 /// How many objects a thread arms and ends in a round.
 const TIMES: u64 = 51_200;
@@ -19,15 +17,14 @@ const TIMES: u64 = 51_200;
 fn run<R: Threads + Wait + Sync + Clock>(
     rt: &R,
     alloc: Global,
-    kind: Kind,
+    descriptor: bool,
     workers: Workers,
     work: Work,
     rounds: u64,
 ) -> io::Result<(bool, Least)>
     requires few { work.count ≤ 256 }
-    requires end { has_end work.end kind }
 {
-    let (desk, mut first) = Desk::open(alloc, kind, work.count)?;
+    let (desk, mut first) = Desk::open(alloc, work.end.kind(descriptor), work.count)?;
     let mut second = desk.split(alloc, &mut first);
     let (mut good, mut least) = (true, Least::new());
     for _ in 0..rounds {
@@ -47,20 +44,19 @@ fn line<R: Threads + Wait + Sync + Clock + Print>(
     rt: &R,
     alloc: Global,
     task: Task,
-    case: (&str, Kind, End),
+    case: (&str, bool, End),
     workers: Workers,
     count: u32,
 ) -> io::Result<()>
     requires few { count ≤ 256 }
-    requires end { has_end case.2 case.1 }
 {
-    let (name, kind, end) = case;
+    let (name, descriptor, end) = case;
     let (rounds, times) = match task {
         Task::Check => (2, 3),
         Task::Measure => (7, TIMES / u64::from(count.max(1))),
     };
     let work = Work { end, count, times };
-    let (good, least) = run(rt, alloc, kind, workers, work, rounds)?;
+    let (good, least) = run(rt, alloc, descriptor, workers, work, rounds)?;
     let threads = workers.name();
     match task {
         Task::Check => println!(rt; "{name}\t{threads}\t{count}\t{good}"),
@@ -78,14 +74,10 @@ pub fn print_lines<R: Threads + Wait + Sync + Clock + Print>(
     task: Task,
 ) -> io::Result<()> {
     for case in [
-        ("POSIX timer\tsettime, settime 0", Kind::Posix, End::Clear),
-        (
-            "POSIX timer\tsettime, expiry, accept",
-            Kind::Posix,
-            End::Accept,
-        ),
-        ("descriptor\tsettime, settime 0", Kind::Fd, End::Clear),
-        ("descriptor\tsettime, expiry, read", Kind::Fd, End::Read),
+        ("POSIX timer\tsettime, settime 0", false, End::Clear),
+        ("POSIX timer\tsettime, expiry, accept", false, End::Accept),
+        ("descriptor\tsettime, settime 0", true, End::Clear),
+        ("descriptor\tsettime, expiry, read", true, End::Read),
     ] {
         for count in [1, 256] {
             for workers in [Workers::One, Workers::OnTwoBases] {

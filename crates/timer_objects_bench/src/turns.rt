@@ -1,6 +1,6 @@
 //! What the threads do: one operation on each of their objects, so many times.
 ghost use Rattle.std.specs.Prelude.{◌≡◌, ◌*◌, ◌<◌, ◌≤◌, length};
-ghost use Rattle.timer_objects_bench.specs.Desks.{AllHaveEnd, AreTwoHands, IsDesk, IsHand, KeepsHand};
+ghost use Rattle.timer_objects_bench.specs.Desks.{AllHaveEnd, AreTwoHands, HasEnd, IsDesk, IsHand, KeepsHand};
 
 use crate::calls::{NOW, accept, read, run_base, set};
 use crate::desk::{Desk, Hand};
@@ -8,6 +8,7 @@ use bench_cases::{Random, Workers};
 use std::alloc::{AllocError, Global};
 use std::sync::Wait;
 use std::thread::{Threads, join_mut};
+use timer_objects::Kind;
 
 /// How an object that was armed is ended: by a settime to 0, or by the expiry of its timer, and then an accept or a read.
 #[derive(Clone, Copy, Debug, PartialEq, Eq)]
@@ -15,6 +16,19 @@ pub enum End {
     Clear,
     Accept,
     Read,
+}
+
+impl End {
+    /// The kind of the objects that are ended so.
+    pub fn kind(self, descriptor: bool) -> Kind
+        ensures { HasEnd self result }
+    {
+        match self {
+            End::Read => Kind::Fd,
+            End::Clear if descriptor => Kind::Fd,
+            End::Clear | End::Accept => Kind::Posix,
+        }
+    }
 }
 
 /// What a thread does: so many turns, in each of which so many objects of its base are all armed, and then ended.
