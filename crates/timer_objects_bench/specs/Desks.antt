@@ -43,8 +43,8 @@ pub record KeepsHand (d : Desk) (h h' : Hand) : Type 0 where
   pub objects : h'.objects.knows.pass.id ≡ h.objects.knows.pass.id
 
 -- a declaration of this kind, on the monotonic clock and one of two bases
-pub record IsDeclOf (kind : Kind) (d : Decl) : Type 0 where
-  pub kind : d.kind ≡ kind
+pub record IsDeclOf (asked : Kind) (d : Decl) : Type 0 where
+  pub kind : d.kind ≡ asked
   pub clock : d.clock ≡ clocks.Monotonic
   pub base : d.base < 2
 
