@@ -1,1 +1,1 @@
-pub mod Desks
+pub mod Stands

@@ -1,10 +1,8 @@
-//! Times the calls of `timer_objects`, by one thread and by two. With the word `check` it makes a few, and prints whether all answered as they
-//! should.
+//! Times the calls of `timer_objects` by one thread. With the word `check` it makes a few, and prints whether all answered as they should.
 #![tactic(auto)]
 
-mod calls;
-mod desk;
 mod report;
+mod stand;
 mod turns;
 
 use bench_cases::Task;

@@ -1,88 +1,92 @@
 //! Which cases there are, and the line that is printed for each.
 ghost use Rattle.std.specs.Prelude.{◌≤◌};
+ghost use Rattle.timer_objects_bench.specs.Stands.{IsStand, KeepsStand};
 
-use crate::desk::Desk;
-use crate::turns::{End, Work, turns_of_all};
-use bench_cases::{Figure, Least, Task, Workers};
+use crate::stand::Stand;
+use crate::turns::turns;
+use bench_cases::{Figure, Least, Task};
 use std::alloc::Global;
 use std::io;
 use std::sync::Wait;
-use std::thread::Threads;
 use std::time::{Clock, Instant};
+use timer_objects::Kind;
 
-/// How many objects a thread arms and ends in a round.
+/// How often an operation is done in a round.
 const TIMES: u64 = 51_200;
 
-/// Makes objects of a kind, and so many rounds of work. It answers whether all calls answered as they should, and the least time of a round.
-fn run<R: Threads + Wait + Sync + Clock>(
+/// So many turns, and their time. It answers whether all calls answered as they should.
+fn round<R: Wait + Clock>(
+    rt: &R,
+    stand: &mut Stand,
+    expires: bool,
+    times: u64,
+    least: &mut Least,
+) -> bool
+    requires stand { IsStand stand.old }
+    ensures keeps { KeepsStand stand.old stand.new }
+{
+    let start = Instant::now(rt);
+    let done = turns(rt, stand, expires, times);
+    if let (Ok(start), Ok(end)) = (start, Instant::now(rt)) {
+        least.take(end.saturating_duration_since(start));
+    }
+    matches!(done, Ok(true))
+}
+
+/// Makes objects, and so many rounds. It answers whether all calls answered as they should, and the least time of a round.
+fn run<R: Wait + Clock>(
     rt: &R,
     alloc: Global,
-    descriptor: bool,
-    workers: Workers,
-    work: Work,
-    rounds: u64,
+    kind: Kind,
+    expires: bool,
+    count: u32,
+    load: (u64, u64),
 ) -> io::Result<(bool, Least)>
-    requires few { work.count ≤ 256 }
+    requires few { count ≤ 256 }
 {
-    let (desk, mut first) = Desk::open(alloc, work.end.kind(descriptor), work.count)?;
-    let mut second = desk.split(alloc, &mut first);
+    let mut stand = Stand::open(alloc, kind, count)?;
     let (mut good, mut least) = (true, Least::new());
-    for _ in 0..rounds {
-        let start = Instant::now(rt);
-        let done = turns_of_all(rt, alloc, &desk, &mut first, &mut second, workers, work);
-        let end = Instant::now(rt);
-        good &= matches!(done, Ok(true));
-        if let (Ok(start), Ok(end)) = (start, end) {
-            least.take(end.saturating_duration_since(start));
-        }
+    for _ in 0..load.0 {
+        good &= round(rt, &mut stand, expires, load.1, &mut least);
     }
-    desk.close(first, second);
+    stand.close();
     Ok((good, least))
 }
 
-fn line<R: Threads + Wait + Sync + Clock + Print>(
+fn line<R: Wait + Clock + Print>(
     rt: &R,
     alloc: Global,
     task: Task,
-    case: (&str, bool, End),
-    workers: Workers,
+    case: (&str, Kind, bool),
     count: u32,
 ) -> io::Result<()>
     requires few { count ≤ 256 }
 {
-    let (name, descriptor, end) = case;
-    let (rounds, times) = match task {
-        Task::Check => (2, 3),
-        Task::Measure => (7, TIMES / u64::from(count.max(1))),
-    };
-    let work = Work { end, count, times };
-    let (good, least) = run(rt, alloc, descriptor, workers, work, rounds)?;
-    let threads = workers.name();
+    let (name, kind, expires) = case;
     match task {
-        Task::Check => println!(rt; "{name}\t{threads}\t{count}\t{good}"),
+        Task::Check => {
+            let (good, _) = run(rt, alloc, kind, expires, count, (2, 3))?;
+            println!(rt; "{name}\t{count}\t{good}")
+        }
         Task::Measure => {
+            let load = (7, TIMES / u64::from(count.max(1)));
+            let (_, least) = run(rt, alloc, kind, expires, count, load)?;
             let Figure { whole, tenths } = least.of(TIMES);
-            println!(rt; "timer_objects\t{name}\t{threads}\t{count}\t{whole}.{tenths}")
+            println!(rt; "timer_objects\t{name}\t{count}\t{whole}.{tenths}")
         }
     }
 }
 
 /// Prints a line for each case.
-pub fn print_lines<R: Threads + Wait + Sync + Clock + Print>(
-    rt: &R,
-    alloc: Global,
-    task: Task,
-) -> io::Result<()> {
+pub fn print_lines<R: Wait + Clock + Print>(rt: &R, alloc: Global, task: Task) -> io::Result<()> {
     for case in [
-        ("POSIX timer\tsettime, settime 0", false, End::Clear),
-        ("POSIX timer\tsettime, expiry, accept", false, End::Accept),
-        ("descriptor\tsettime, settime 0", true, End::Clear),
-        ("descriptor\tsettime, expiry, read", true, End::Read),
+        ("POSIX timer\tsettime, settime 0", Kind::Posix, false),
+        ("POSIX timer\tsettime, expiry, accept", Kind::Posix, true),
+        ("descriptor\tsettime, settime 0", Kind::Fd, false),
+        ("descriptor\tsettime, expiry, read", Kind::Fd, true),
     ] {
         for count in [1, 256] {
-            for workers in [Workers::One, Workers::OnTwoBases] {
-                line(rt, alloc, task, case, workers, count)?;
-            }
+            line(rt, alloc, task, case, count)?;
         }
     }
     Ok(())

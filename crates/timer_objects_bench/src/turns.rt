@@ -1,132 +1,88 @@
-//! What the threads do: one operation on each of their objects, so many times.
-ghost use Rattle.std.specs.Prelude.{◌≡◌, ◌*◌, ◌<◌, ◌≤◌, length};
-ghost use Rattle.timer_objects_bench.specs.Desks.{AllHaveEnd, AreTwoHands, HasEnd, IsDesk, IsHand, KeepsHand};
+//! What a thread does in a turn: one operation on each object.
+ghost use Rattle.std.specs.Prelude.{◌≡◌, ◌<◌, ◌^◌};
+ghost use Rattle.timer_objects_bench.specs.Stands.{IsStand, KeepsStand};
 
-use crate::calls::{NOW, accept, read, run_base, set};
-use crate::desk::{Desk, Hand};
-use bench_cases::{Random, Workers};
-use std::alloc::{AllocError, Global};
+use crate::stand::{NOW, Stand};
+use bench_cases::Random;
+use std::alloc::AllocError;
 use std::sync::Wait;
-use std::thread::{Threads, join_mut};
-use timer_objects::Kind;
 
-/// How an object that was armed is ended: by a settime to 0, or by the expiry of its timer, and then an accept or a read.
+/// A call on each object.
 #[derive(Clone, Copy, Debug, PartialEq, Eq)]
-pub enum End {
+enum Call {
+    /// A settime to a time ahead.
+    Ahead,
+    /// A settime to a time that is past.
+    Due,
+    /// A settime to 0.
     Clear,
-    Accept,
-    Read,
+    /// The accept of a signal, or a read.
+    Take,
 }
 
-impl End {
-    /// The kind of the objects that are ended so.
-    pub fn kind(self, descriptor: bool) -> Kind
-        ensures { HasEnd self result }
-    {
-        match self {
-            End::Read => Kind::Fd,
-            End::Clear if descriptor => Kind::Fd,
-            End::Clear | End::Accept => Kind::Posix,
-        }
-    }
-}
-
-/// What a thread does: so many turns, in each of which so many objects of its base are all armed, and then ended.
-#[derive(Clone, Copy, Debug, PartialEq, Eq)]
-pub struct Work {
-    pub end: End,
-    pub count: u32,
-    pub times: u64,
-}
-
-/// A turn. It answers whether all calls answered as they should.
-fn turn<R: Wait>(
+/// Makes a call on an object.
+fn one<R: Wait>(
     rt: &R,
-    alloc: Global,
-    desk: &Desk,
-    hand: &mut Hand,
-    base: u32,
-    work: Work,
-    random: &mut Random,
+    stand: &mut Stand,
+    id: u32,
+    call: Call,
+    expiry: u64,
 ) -> Result<bool, AllocError>
-    requires desk { IsDesk desk.now }
-    requires hand { IsHand desk.now hand.old }
-    requires base { base < 2 }
-    requires many { (length desk.now.objects.decls ≡ 2 * work.count) × (work.count ≤ 256) }
-    requires ends { AllHaveEnd desk.now work.end }
-    ensures keeps { KeepsHand desk.now hand.old hand.new }
+    requires stand { IsStand stand.old }
+    requires within { id < stand.old.count }
+    requires small { expiry < 2 ^ 20 }
+    ensures keeps { KeepsStand stand.old stand.new }
 {
+    match call {
+        Call::Ahead => stand.set(rt, id, NOW + expiry + 1),
+        Call::Due => stand.set(rt, id, expiry + 1),
+        Call::Clear => stand.set(rt, id, 0),
+        Call::Take => stand.take(rt, id),
+    }
+}
+
+/// Makes a call on each object. It answers whether all answered as they should.
+fn each<R: Wait>(rt: &R, stand: &mut Stand, call: Call) -> Result<bool, AllocError>
+    requires stand { IsStand stand.old }
+    ensures keeps { KeepsStand stand.old stand.new }
+{
+    let mut random = Random::new();
     let mut good = true;
-    for id in 0..work.count {
-        hand.make_room(alloc, 4)?;
-        let ns = match work.end {
-            End::Clear => 2 * NOW + random.expiry(),
-            End::Accept | End::Read => NOW / 2,
-        };
-        good &= set(rt, desk, hand, 2 * id + base, ns);
-    }
-    if work.end != End::Clear {
-        hand.make_room(alloc, 2 * work.count as usize)?;
-        good &= run_base(rt, alloc, desk, hand, base, work.count)?;
-    }
-    for ended in 0..work.count {
-        hand.make_room(alloc, 4)?;
-        good &= match work.end {
-            End::Clear => set(rt, desk, hand, 2 * ended + base, 0),
-            End::Accept => accept(rt, desk, hand, 2 * ended + base),
-            End::Read => read(rt, desk, hand, 2 * ended + base),
-        };
+    for id in 0..stand.count {
+        good &= one(rt, stand, id, call, random.expiry())?;
     }
     Ok(good)
 }
 
-/// A thread's turns.
-fn turns<R: Wait>(
-    rt: &R,
-    alloc: Global,
-    desk: &Desk,
-    hand: &mut Hand,
-    base: u32,
-    work: Work,
-) -> Result<bool, AllocError>
-    requires desk { IsDesk desk.now }
-    requires hand { IsHand desk.now hand.old }
-    requires base { base < 2 }
-    requires many { (length desk.now.objects.decls ≡ 2 * work.count) × (work.count ≤ 256) }
-    requires ends { AllHaveEnd desk.now work.end }
-    ensures keeps { KeepsHand desk.now hand.old hand.new }
+/// A turn: all objects are armed, and then cleared, or their timers expire and they are accepted or read.
+fn turn<R: Wait>(rt: &R, stand: &mut Stand, expires: bool) -> Result<bool, AllocError>
+    requires stand { IsStand stand.old }
+    ensures keeps { KeepsStand stand.old stand.new }
 {
-    let mut random = Random::of(u64::from(base));
-    let mut good = true;
-    for _ in 0..work.times {
-        good &= turn(rt, alloc, desk, hand, base, work, &mut random)?;
+    if !expires {
+        let armed = each(rt, stand, Call::Ahead)?;
+        let cleared = each(rt, stand, Call::Clear)?;
+        return Ok(armed & cleared);
     }
-    Ok(good)
+    let armed = each(rt, stand, Call::Due)?;
+    let ran = stand.expire(rt)?;
+    let taken = each(rt, stand, Call::Take)?;
+    Ok(armed & ran & taken)
 }
 
-/// A thread's turns on base 0, and where another base is named, those of a second thread there.
-pub fn turns_of_all<R: Threads + Wait + Sync>(
+/// So many turns.
+pub fn turns<R: Wait>(
     rt: &R,
-    alloc: Global,
-    desk: &Desk,
-    first: &mut Hand,
-    second: &mut Hand,
-    workers: Workers,
-    work: Work,
+    stand: &mut Stand,
+    expires: bool,
+    times: u64,
 ) -> Result<bool, AllocError>
-    requires desk { IsDesk desk.now }
-    requires both { AreTwoHands desk.now first.old second.old }
-    requires many { (length desk.now.objects.decls ≡ 2 * work.count) × (work.count ≤ 256) }
-    requires ends { AllHaveEnd desk.now work.end }
-    ensures both { AreTwoHands desk.now first.new second.new }
+    requires stand { IsStand stand.old }
+    ensures keeps { KeepsStand stand.old stand.new }
 {
-    let Some(base) = workers.second() else {
-        return turns(rt, alloc, desk, first, 0, work);
-    };
-    let (one, two) = join_mut(
-        rt,
-        &mut || turns(rt, alloc, desk, first, 0, work),
-        &mut || turns(rt, alloc, desk, second, base, work),
-    );
-    Ok(one? && two?)
+    let mut good = true;
+    for _ in 0..times {
+        good &= turn(rt, stand, expires)?;
+    }
+    Ok(good)
 }
