@@ -1,4 +1,4 @@
-use Rattle.std.proofs.Common.{rules, refl, sym, ap, subst, ◌∙◌, ◌≤◌, ◌≡◌, length}
+use Rattle.std.proofs.Common.{rules, refl, sym, ap, subst, ◌∙◌}
 use Rattle.base_row.specs.Calls.{opening_of}
 use Rattle.timer_objects.specs.Callbacks.{bases_of}
 use Rattle.timer_objects.specs.Known.{Suits}
