@@ -1,0 +1,27 @@
+use Rattle.std.proofs.Common.{rules, refl, sym, ap, subst, ◌∙◌}
+use Rattle.base_row.specs.Calls.{opening_of}
+use Rattle.timer_objects.specs.Callbacks.{bases_of}
+use Rattle.timer_objects.specs.Known.{Suits}
+use Rattle.timer_objects_bench.proofs.Opened.{still, suits}
+use Rattle.timer_objects_bench.proofs.stand.Stand.open.Goals as goal
+
+pub returns : goal.returns
+returns c =
+    let clocks = c.deref.ensures.value ∙ c.in_ok-clocks.ensures.items_if_clones_equal (λ y e. e) in
+    let decls = c.in-Ok.ensures.made.0 ∙ (c.deref-2.ensures.value ∙ c.in_ok-decls.ensures.items_if_clones_equal (λ y e. e)) in (
+      record {
+        timers = search rules;
+        last = search rules;
+        unclaimed = search rules;
+        objects = search rules;
+        objects_last = search rules;
+        suits = subst (λ o. Suits c.in-Ok.objects o) (sym (c.in_ok-timers.ensures.about ∙ ap (λ l. opening_of 1 l 1099511627776) clocks))
+            (suits c.in-Ok.objects c.args.kind c.args.count 1099511627776 decls);
+        bases = search rules;
+        many = search rules;
+        few = search rules;
+        callbacks = search rules;
+        still = ap (λ l. bases_of l) (c.in_ok-callbacks.ensures.items_if_clones_equal (λ y e. e)) ∙ still c.args.count;
+      },
+      refl,
+    )
