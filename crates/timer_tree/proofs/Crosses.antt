@@ -39,7 +39,8 @@ module _ (R : RattleType) (s : IsSend R) where
   pub Slots-send : IsSend (Slots.the_row R)
   Slots-send =
       let O = Slots.the_type R in let all : AllSend (fields O) = (search sendable, (search sendable, tt)) in
-      owning_send O all (λ d. (tt, inside d.ptr _ (slots-Keyless d.ptr d.items d.filled))) (λ k. quiet (to O) (exits_of k (fields O)) ((struct_send (shape O) all).leaving k))
+      owning_send O all (λ d. (tt, inside d.ptr _ (slots-Keyless d.ptr d.items d.filled)))
+      (λ k. quiet (to O) (exits_of k (fields O)) ((struct_send (shape O) all).leaving k))
 
 module _ (R A : RattleType) (g : Ghosts A.Denot) (s : IsSend R) (f : Frees g g.dealloc_token) where
   pub Lease-send : IsSend (Lease.the_row R A g)
@@ -48,7 +49,11 @@ module _ (R A : RattleType) (g : Ghosts A.Denot) (s : IsSend R) (f : Frees g g.d
       owning_send O all (λ d. f.frees d.alloc _ d.ptr) (λ k. quiet (to O) (exits_of k (fields O)) ((struct_send (shape O) all).leaving k))
 
   pub Parts-send : IsSend (Parts.the_row R A g)
-  Parts-send = record { owned = λ d vs vss. (tt, ((Slots-send R s).owned d.slots vss.0, (Lease-send.owned d.lease vss.1.0, tt))); leaving = λ k x w. (tt, (tt, tt)) }
+  Parts-send = record {
+    owned = λ d vs vss. (tt, ((Slots-send R s).owned d.slots vss.0, (Lease-send.owned d.lease vss.1.0, tt)));
+    leaving = λ k x w.
+        (tt, (tt, tt));
+  }
 
   pub Held-send : IsSend (Held.the_row R A g)
   Held-send = record { owned = λ d vs x. (((λ vss. (tt, (Parts-send.owned x.0.parts vss.0, tt))), tt), tt); leaving = λ k x w. tt }

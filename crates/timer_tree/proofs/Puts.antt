@@ -10,7 +10,8 @@ use Rattle.timer_tree.specs.Trees.{one, times}
 pub put_left : (e id : ℕ) (ps qs : List (ℕ × ℕ)) (q : ℕ × ℕ) → e < q.0 → put e id (ps ++ q ∷ qs) ≡ put e id ps ++ q ∷ qs
 put_left e id [] qs q less = ap (λ b. if b then (e, id) ∷ q ∷ qs else q ∷ put e id qs) (lt-ltb e q.0 less)
 put_left e id (p ∷ ps) qs q less =
-    elim (nat_lt e p.0) as (λ b. (if b then (e, id) ∷ p ∷ (ps ++ q ∷ qs) else p ∷ put e id (ps ++ q ∷ qs)) ≡ (if b then (e, id) ∷ p ∷ ps else p ∷ put e id ps) ++ q ∷ qs) [
+    elim (nat_lt e p.0) as (λ b. (if b then (e, id) ∷ p ∷ (ps ++ q ∷ qs) else p ∷ put e id (ps ++ q ∷ qs)) ≡
+    (if b then (e, id) ∷ p ∷ ps else p ∷ put e id ps) ++ q ∷ qs) [
       | true ↦ refl
       | false ↦ ap (λ rs. p ∷ rs) (put_left e id ps qs q less)
     ]
@@ -45,7 +46,8 @@ pub without_at : (id e : ℕ) (ps qs : List (ℕ × ℕ)) → times id ps ≡ 0 
 without_at id e [] qs gone_p gone_q = ap (λ b. if not b then (e, id) ∷ without id qs else without id qs) (eq-eqb id id refl) ∙ without_absent id qs gone_q
 without_at id e (p ∷ ps) qs gone_p gone_q =
     let other : nat_eq p.1 id ≡ false = grind (arith, nat_tests) in
-    ap (λ b. if not b then p ∷ without id (ps ++ (e, id) ∷ qs) else without id (ps ++ (e, id) ∷ qs)) other ∙ ap (λ rs. p ∷ rs) (without_at id e ps qs (omega (arith, gone_p)) gone_q)
+    ap (λ b. if not b then p ∷ without id (ps ++ (e, id) ∷ qs) else without id (ps ++ (e, id) ∷ qs)) other ∙ ap (λ rs. p ∷ rs)
+    (without_at id e ps qs (omega (arith, gone_p)) gone_q)
 
 pub times-put : (k e id : ℕ) (ps : List (ℕ × ℕ)) → times k (put e id ps) ≡ times k ps + one k id
 times-put k e id [] = omega arith

@@ -1,5 +1,6 @@
 -- What is known of the block of a queue.
-use Rattle.std.proofs.Common.{◌≡◌, ℕ, true, false, ◌<◌, ◌≤◌, List, [], ◌∷◌, ◌++◌, Option, Some, None, not, length, map, nat_eq, if◌then◌else◌, arith, refl, ap, ◌∙◌, sym, subst, zero, suc, inl, inr, replicate}
+use Rattle.std.proofs.Common.{◌≡◌, ℕ, true, false, ◌<◌, ◌≤◌, List, [], ◌∷◌, ◌++◌, Option, Some, None, not, length, map, nat_eq, if◌then◌else◌, arith, refl}
+use Rattle.std.proofs.Common.{ap, ◌∙◌, sym, subst, zero, suc, inl, inr, replicate}
 use Rattle.std.specs.List.{AllByRecursion, IsDistinct}
 use Rattle.std.proofs.lemmas.Bool.{cases_eq, cases_lt, ne_eqb, false≢true}
 use Rattle.std.proofs.lemmas.Bool.Decides.{nat_tests}
@@ -70,10 +71,12 @@ first_of-behind [] qs some = let never : ⊥ = omega (arith, some) in absurd nev
 first_of-behind (p ∷ ps) qs some = (refl, refl)
 
 -- the first pair is read at its number, which is none or one in the block
-first_node : (xs : List Node) (p : ℕ) (t : Tree) → length xs ≤ none → IsBalanced t → IsAt xs p t → (first_of (pairs t) ≡ first_at xs (first_id (pairs t))) × IsLink (length xs) (first_id (pairs t))
+first_node : (xs : List Node) (p : ℕ) (t : Tree) → length xs ≤ none → IsBalanced t → IsAt xs p t →
+    (first_of (pairs t) ≡ first_at xs (first_id (pairs t))) × IsLink (length xs) (first_id (pairs t))
 first_node xs p Leaf small balanced at = (refl, λ some. absurd (some refl))
 first_node xs p (Fork Leaf n e h r) small balanced at = (
-  sym (ap (λ b. if b then None else Some ((node_at xs n).expires, n)) (ne_eqb n none (λ same. omega (arith, same, at.0.inside, small))) ∙ ap (λ (x : Node). Some (x.expires, n)) at.0.is),
+  sym (ap (λ b. if b then None else Some ((node_at xs n).expires, n)) (ne_eqb n none (λ same. omega (arith, same, at.0.inside, small)))
+      ∙ ap (λ (x : Node). Some (x.expires, n)) at.0.is),
   λ some. at.0.inside,
 )
 first_node xs p (Fork (Fork a m f g b) n e h r) small balanced at =
@@ -82,7 +85,8 @@ first_node xs p (Fork (Fork a m f g b) n e h r) small balanced at =
     let rest = first_node xs n (Fork a m f g b) small balanced.1 at.1 in
     (more.0 ∙ rest.0 ∙ ap (λ k. first_at xs k) (sym more.1), subst (λ k. IsLink (length xs) k) (sym more.1) rest.1)
 
-pub first_stored : (xs : List Node) (root first : ℕ) (ps : List (ℕ × ℕ)) → IsStored xs root first ps → (first_of ps ≡ first_at xs first) × IsLink (length xs) first
+pub first_stored : (xs : List Node) (root first : ℕ) (ps : List (ℕ × ℕ)) → IsStored xs root first ps →
+    (first_of ps ≡ first_at xs first) × IsLink (length xs) first
 first_stored xs root first ps stored =
     let tree = stored.is_tree in
     let done = first_node xs none tree.tree stored.small tree.balanced tree.at in
@@ -112,7 +116,8 @@ pub has_stored : (xs : List Node) (root first : ℕ) (ps : List (ℕ × ℕ)) (k
 has_stored xs root first ps k stored =
     elim (has_id k ps) as (λ b. has_id k ps ≡ b → not (nat_eq (node_at xs k).rank 0) ≡ b) [
       | true ↦ λ present.
-          let some = linked_rank xs none stored.is_tree.tree k stored.is_tree.balanced stored.is_tree.at (subst (λ qs. 0 < times k qs) (sym stored.is_tree.pairs_are) (present_times k ps present)) in
+          let some = linked_rank xs none stored.is_tree.tree k stored.is_tree.balanced stored.is_tree.at
+          (subst (λ qs. 0 < times k qs) (sym stored.is_tree.pairs_are) (present_times k ps present)) in
           ap not (ne_eqb (node_at xs k).rank 0 (λ zero_h. omega (arith, zero_h, some)))
       | false ↦ λ absent. ap (λ h. not (nat_eq h 0)) (stored.free k (times-absent k ps absent))
     ] refl
@@ -137,7 +142,8 @@ empty_stored xs room small is =
 
 -- a timer's number is below the room
 pub has_inside : (xs : List Node) (root first : ℕ) (ps : List (ℕ × ℕ)) (k : ℕ) → IsStored xs root first ps → has_id k ps ≡ true → k < length xs
-has_inside xs root first ps k stored present = inside_at xs none stored.is_tree.tree k stored.is_tree.at (subst (λ qs. 0 < times k qs) (sym stored.is_tree.pairs_are) (present_times k ps present))
+has_inside xs root first ps k stored present = inside_at xs none stored.is_tree.tree k stored.is_tree.at
+    (subst (λ qs. 0 < times k qs) (sym stored.is_tree.pairs_are) (present_times k ps present))
 
 pub has_past : (xs : List Node) (root first : ℕ) (ps : List (ℕ × ℕ)) (k : ℕ) → IsStored xs root first ps → length xs ≤ k → false ≡ has_id k ps
 has_past xs root first ps k stored past = ap (λ (x : Node). not (nat_eq x.rank 0)) (sym (get_or_past xs k blank past)) ∙ has_stored xs root first ps k stored

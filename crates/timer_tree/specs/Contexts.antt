@@ -1,7 +1,7 @@
 -- A tree with a hole in it: what stands above a subtree, from the nearest node to the root.
-use Rattle.std.specs.Prelude.{ℕ, ◌+◌, ◌*◌, ◌≤◌, ◌≡◌, List, [], ◌∷◌, ◌++◌, length}
-use Rattle.timer_tree.specs.Nodes.{none, with_links, node_at}
-use Rattle.timer_tree.specs.Trees.{Tree, Fork, top, tall, pairs, IsAt, HasRank, IsBalanced, IsTree, Stands, times}
+use Rattle.std.specs.Prelude.{ℕ, Bool, true, false, ◌+◌, ◌*◌, ◌<◌, ◌≤◌, min, max, ◌≡◌, List, [], ◌∷◌, ◌++◌, length}
+use Rattle.timer_tree.specs.Nodes.{none, with_links, node_at, far, child_side}
+use Rattle.timer_tree.specs.Trees.{Tree, Leaf, Fork, top, tall, pairs, IsAt, HasRank, IsBalanced, IsTree, Stands, times}
 use Rattle.timer_tree.specs.declared.node.Node.{Node}
 use Rattle.timer_tree.specs.declared.repair.Unbalanced.{Unbalanced}
 use Rattle.timer_tree.specs.declared.node.Side.{Side}
@@ -74,21 +74,35 @@ abbrev pub Fits : List Frame → ℕ → Type 0
 Fits [] h = Unit
 Fits (f ∷ c) h = HasRank h (tall f.other) f.h × IsBalanced f.other × Fits c f.h
 
+-- a subtree has come no lower than it was, or no higher
+abbrev pub Rises : (old now : ℕ) → Type 0
+Rises old now = old ≤ now
+
+abbrev pub Sinks : (old now : ℕ) → Type 0
+Sinks old now = now ≤ old
+
+-- a node has a subtree one lower than it is, and one two lower than this rank
+abbrev pub IsTilted : Tree → ℕ → Type 0
+IsTilted Leaf h = Unit
+IsTilted (Fork l n e g r) h = (g ≤ max (tall l) (tall r) + 1) × (min (tall l) (tall r) + 2 ≤ h)
+
 -- the block holds a tree of these pairs that is balanced but for the ranks from one node upwards, with so many nodes from there to the root
-pub record IsUnbalanced (xs : List Node) (r : Unbalanced) (ps : List (ℕ × ℕ)) (levels : ℕ) : Type 0 where
+pub record IsUnbalanced (Way : ℕ → ℕ → Type 0) (xs : List Node) (root : ℕ) (r : Unbalanced) (ps : List (ℕ × ℕ)) (levels : ℕ) : Type 0 where
   pub context : List Frame
   pub subtree : Tree
   pub old_rank : ℕ
   pub linked : IsAround xs (top subtree) context
   pub under : IsAt xs (parent_of context) subtree
-  pub root_is : r.root ≡ root_of (top subtree) context
+  pub root_is : root ≡ root_of (top subtree) context
   pub at_is : r.at ≡ parent_of context
   pub child_is : (r.at ≡ none → ⊥) → r.child ≡ top subtree
   pub rank_is : (r.at ≡ none → ⊥) → r.rank ≡ tall subtree
+  pub way : (r.at ≡ none → ⊥) → Way old_rank (tall subtree)
   pub balanced : IsBalanced subtree
   pub fits : Fits context old_rank
   pub lower : old_rank ≤ tall subtree + 1
   pub higher : tall subtree ≤ old_rank + 1
+  pub tilted : old_rank < tall subtree → 1 < tall subtree → IsTilted subtree (tall subtree)
   pub pairs_are : pairs (plug context subtree) ≡ ps
   pub levels_are : length context ≡ levels
 
@@ -98,21 +112,26 @@ pub record KeepsOthers (xs ys : List Node) (ps : List (ℕ × ℕ)) : Type 0 whe
   pub rest : (k : ℕ) → times k ps ≡ 0 → node_at ys k ≡ node_at xs k
 
 -- a tree that a repair makes balanced: its pairs stand once and fit the block
-pub record CanRepair (xs : List Node) (r : Unbalanced) (ps : List (ℕ × ℕ)) (levels : ℕ) : Type 0 where
-  pub unbalanced : IsUnbalanced xs r ps levels
+pub record CanRepair (Way : ℕ → ℕ → Type 0) (xs : List Node) (root : ℕ) (r : Unbalanced) (ps : List (ℕ × ℕ)) (levels : ℕ) : Type 0 where
+  pub unbalanced : IsUnbalanced Way xs root r ps levels
   pub small : length xs ≤ none
   pub few : length ps ≤ none
   pub once : (k : ℕ) → times k ps ≤ 1
 
--- what a repair has done when so many nodes are left, at 14 steps a node
-pub record IsRepairing (xs ys : List Node) (r : Unbalanced) (ps : List (ℕ × ℕ)) (levels old_steps steps : ℕ) : Type 0 where
+-- what a repair has done when so many nodes are left, at 15 steps a node
+pub record IsRepairing (Way : ℕ → ℕ → Type 0) (xs ys : List Node) (root : ℕ) (r : Unbalanced) (ps : List (ℕ × ℕ)) (levels old_steps steps : ℕ) : Type 0 where
   pub left : ℕ
-  pub can : CanRepair ys r ps left
+  pub can : CanRepair Way ys root r ps left
   pub kept : KeepsOthers xs ys ps
-  pub count : steps + 14 * left ≤ old_steps + 14 * levels
+  pub count : steps + 15 * left ≤ old_steps + 15 * levels
 
 -- the block holds a balanced tree of the same pairs, after so many steps at most
 pub record IsRepaired (xs ys : List Node) (root : ℕ) (ps : List (ℕ × ℕ)) (levels old_steps steps : ℕ) : Type 0 where
   pub tree : IsTree ys root ps
   pub kept : KeepsOthers xs ys ps
-  pub count : steps ≤ old_steps + 14 * levels
+  pub count : steps ≤ old_steps + 15 * levels
+
+-- a node above a timer that was inserted: whether it was a leaf says what its rank is, and that it has no other subtree
+abbrev pub IsAbove : Node → (id : ℕ) → (leaf : Bool) → Type 0
+IsAbove node id true = (node.rank ≡ 1) × (far (child_side node id) node ≡ none)
+IsAbove node id false = 1 < node.rank

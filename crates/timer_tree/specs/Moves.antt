@@ -1,63 +1,70 @@
--- How a timer's link is inserted into the tree and taken out.
-use Rattle.std.specs.Prelude.{ℕ, ◌+◌, ◌-◌, List, nat_eq, nat_le, nat_lt, if◌then◌else◌, slice_set}
+-- How the tree is rebalanced above a subtree that has changed, and how a timer's link is inserted and taken out.
+use Rattle.std.specs.Prelude.{ℕ, ◌+◌, ◌-◌, List, nat_eq, nat_lt, if◌then◌else◌, ◌||◌, Bool, slice_set}
 use Rattle.timer_tree.specs.Nodes.{none, node_at, far, next, other_side, child_side, is_high_leaf}
-use Rattle.timer_tree.specs.Links.{adopted, relinked}
-use Rattle.timer_tree.specs.Rotate.{ranked, rotated}
+use Rattle.timer_tree.specs.Links.{with_child, adopted, relinked}
+use Rattle.timer_tree.specs.Places.{side_of}
+use Rattle.timer_tree.specs.Rotate.{ranked, rotated_up}
 use Rattle.timer_tree.specs.declared.node.Node.{Node}
 use Rattle.timer_tree.specs.declared.node.Side.{Side}
 use Rattle.timer_tree.specs.declared.node.Side.TheVariants as sides
 use Rattle.timer_tree.specs.declared.rotate.Numbered.{Numbered}
 use Rattle.timer_tree.specs.declared.rotate.Top.{Top}
 use Rattle.timer_tree.specs.declared.repair.Unbalanced.{Unbalanced}
-use Rattle.timer_tree.specs.declared.add.Place.{Place}
+
+-- the nodes, the number of the root, and where a repair goes on
+abbrev pub Repairing : Type 0
+Repairing = List Node × ℕ × Unbalanced
 
 -- a node has got another rank, and the repair goes on at its parent
-abbrev pub gone_on : List Node → Unbalanced → Node → ℕ → List Node × Unbalanced
-gone_on xs r node rank = (xs, record { root = r.root; at = node.parent; child = r.at; rank = rank })
+abbrev pub gone_on : Unbalanced → (parent rank : ℕ) → Unbalanced
+gone_on r parent rank = record { at = parent; child = r.at; rank = rank }
 
--- a rotated subtree is linked to its parent, and the repair goes on there where the rank has changed
-abbrev pub moved_up : List Node × Top → Unbalanced → Node → List Node × Unbalanced
-moved_up done r node =
-    let linked = if nat_eq done.1.root r.at then (done.0, r.root) else relinked done.0 r.root node.parent r.at done.1.root in
-    (linked.0, record { root = linked.1; at = if nat_eq done.1.rank node.rank then none else node.parent; child = done.1.root; rank = done.1.rank })
-
--- the tree is rotated at a node
-unfoldable pub rotated_up : List Node → Side → Unbalanced → Node → ℕ → List Node × Unbalanced
-rotated_up xs side r node high = moved_up (rotated xs side (record { n = r.at; node = node }) (record { n = high; node = node_at xs high })) r node
+-- the repair goes on nowhere
+abbrev pub ended : Unbalanced
+ended = record { at = none; child = none; rank = 0 }
 
 -- a node that its subtree on a side has come up to
-unfoldable pub raised : List Node → Side → Unbalanced → Node → List Node × Unbalanced
-raised xs side r node =
-    if nat_eq ((node_at xs (far side node)).rank + 1) node.rank then gone_on (ranked xs r.at (next node.rank)) r node (next node.rank)
-    else rotated_up xs side r node r.child
+unfoldable pub raised : List Node → (root : ℕ) → Side → Unbalanced → (sibling parent rank : ℕ) → Repairing
+raised xs root side r sibling parent rank =
+    let rotated = rotated_up xs root side r.at r.child in
+    if nat_eq (next (node_at xs sibling).rank) rank then (ranked xs r.at (next rank), root, gone_on r parent (next rank))
+    else (rotated.0, rotated.1, ended)
+
+-- a node whose subtree has risen
+unfoldable pub risen_at : List Node → (root : ℕ) → Unbalanced → Repairing
+risen_at xs root r =
+    let node = node_at xs r.at in
+    let side = child_side node r.child in
+    if nat_lt r.rank node.rank then (xs, root, ended) else raised xs root side r (far side node) node.parent node.rank
+
+-- whether one of a node's subtrees is higher
+abbrev pub has_higher : List Node → Node → ℕ → Bool
+has_higher xs node rank = nat_lt rank (node_at xs node.left).rank || nat_lt rank (node_at xs node.right).rank
 
 -- a node that has its subtree on a side three lower
-unfoldable pub sunk : List Node → Side → Unbalanced → Node → List Node × Unbalanced
-sunk xs side r node =
-    if nat_eq ((node_at xs (far side node)).rank + 1) node.rank then rotated_up xs (other_side side) r node (far side node)
-    else gone_on (ranked xs r.at (node.rank - 1)) r node (node.rank - 1)
+unfoldable pub sunk : List Node → (root : ℕ) → Side → Unbalanced → Node → Repairing
+sunk xs root side r node =
+    let n = far side node in
+    let rotated = rotated_up xs root (other_side side) r.at n in
+    if nat_eq (node_at xs n).rank (node.rank - 1) then (
+    if has_higher xs (node_at xs n) r.rank then (rotated.0, rotated.1, ended)
+    else (ranked (ranked xs n (node.rank - 2)) r.at (node.rank - 1), root, gone_on r node.parent (node.rank - 1))
+    ) else (ranked xs r.at (node.rank - 1), root, gone_on r node.parent (node.rank - 1))
 
--- a node whose subtree on a side has risen or sunk by one
-unfoldable pub stepped : List Node → Side → Unbalanced → Node → List Node × Unbalanced
-stepped xs side r node =
-    if nat_le node.rank r.rank then raised xs side r node
-    else (if nat_lt 2 (node.rank - r.rank) then sunk xs side r node
-    else (if is_high_leaf node then gone_on (ranked xs r.at 1) r node 1 else (xs, record { root = r.root; at = none; child = r.child; rank = r.rank })))
-
--- one step of a repair
-unfoldable pub rebalanced_at : List Node → Unbalanced → List Node × Unbalanced
-rebalanced_at xs r = stepped xs (child_side (node_at xs r.at) r.child) r (node_at xs r.at)
-
--- a node with one more below it, on a side
-abbrev pub with_child : Node → Side → ℕ → Node
-with_child node sides.Left n = record node { left = n }
-with_child node sides.Right n = record node { right = n }
+-- a node whose subtree has sunk
+unfoldable pub sunk_at : List Node → (root : ℕ) → Unbalanced → Repairing
+sunk_at xs root r =
+    let node = node_at xs r.at in
+    if nat_lt (r.rank + 2) node.rank then sunk xs root (child_side node r.child) r node
+    else (if is_high_leaf node then (ranked xs r.at 1, root, gone_on r node.parent 1) else (xs, root, ended))
 
 -- a timer inserted into its place
-unfoldable pub inserted : List Node → (root : ℕ) → Place → (expires id : ℕ) → List Node × ℕ
-inserted xs root place expires id =
-    let linked = slice_set xs id (record { expires = expires; left = none; right = none; parent = place.parent; rank = 1 }) in
-    if nat_eq place.parent none then (linked, id) else (slice_set linked place.parent (with_child (node_at linked place.parent) place.side id), root)
+unfoldable pub inserted : List Node → (root parent expires id : ℕ) → List Node × ℕ × Side
+inserted xs root parent expires id =
+    let linked = slice_set xs id (record { expires = expires; left = none; right = none; parent = parent; rank = 1 }) in
+    let node = node_at linked parent in
+    let side = side_of expires node.expires in
+    if nat_eq parent none then (linked, id, sides.Left) else (slice_set linked parent (with_child node side id), root, side)
 
 -- the subtree of a node with at most one, and its rank
 abbrev pub only_child : Node → Top

@@ -35,6 +35,10 @@ other_side sides.Right = sides.Left
 abbrev pub child_side : Node → ℕ → Side
 child_side node child = if nat_eq node.left child then sides.Left else sides.Right
 
+-- a node with no subtree
+abbrev pub is_leaf : Node → Bool
+is_leaf node = nat_eq node.left none && nat_eq node.right none
+
 -- a leaf whose rank is too high
 abbrev pub is_high_leaf : Node → Bool
 is_high_leaf node = nat_eq node.rank 2 && nat_eq node.left none && nat_eq node.right none

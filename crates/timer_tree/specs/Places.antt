@@ -7,31 +7,26 @@ use Rattle.timer_tree.specs.Contexts.{Frame, plug, parent_of, root_of, IsAround,
 use Rattle.timer_tree.specs.declared.node.Node.{Node}
 use Rattle.timer_tree.specs.declared.node.Side.{Side}
 use Rattle.timer_tree.specs.declared.node.Side.TheVariants as sides
-use Rattle.timer_tree.specs.declared.add.Place.{Place}
 
 -- the side of a node of this expiry where a timer belongs
 abbrev pub side_of : (expires node : ℕ) → Side
 side_of expires node = if nat_lt expires node then sides.Left else sides.Right
 
--- the place is on the hole's side of its parent, and on the left where it has none
-abbrev pub HasSide : Place → List Frame → Type 0
-HasSide place [] = place.side ≡ sides.Left
-HasSide place (f ∷ c) = place.side ≡ f.side
-
--- the place is the hole of this context, with its parent
-pub record IsHole (place : Place) (c : List Frame) : Type 0 where
-  pub parent : place.parent ≡ parent_of c
-  pub side : HasSide place c
+-- a timer of this expiry belongs on the hole's side of its parent
+abbrev pub IsOnSide : (expires : ℕ) → List Frame → Type 0
+IsOnSide expires [] = Unit
+IsOnSide expires (f ∷ c) = side_of expires f.e ≡ f.side
 
 -- on the way down to the place for this expiry, with one step for each node that was passed
-pub record IsFinding (xs : List Node) (root : ℕ) (place : Place) (at expires : ℕ) (ps : List (ℕ × ℕ)) (old_steps steps : ℕ) : Type 0 where
+pub record IsFinding (xs : List Node) (root parent at expires : ℕ) (ps : List (ℕ × ℕ)) (old_steps steps : ℕ) : Type 0 where
   pub context : List Frame
   pub subtree : Tree
   pub linked : IsAround xs (top subtree) context
   pub under : IsAt xs (parent_of context) subtree
   pub at_is : at ≡ top subtree
   pub root_is : root ≡ root_of (top subtree) context
-  pub hole : IsHole place context
+  pub parent_is : parent ≡ parent_of context
+  pub side : IsOnSide expires context
   pub balanced : IsBalanced subtree
   pub fits : Fits context (tall subtree)
   pub pairs_are : pairs (plug context subtree) ≡ ps
@@ -39,11 +34,12 @@ pub record IsFinding (xs : List Node) (root : ℕ) (place : Place) (at expires :
   pub count : steps ≡ old_steps + length context
 
 -- the place where a pair of this expiry belongs
-pub record IsPlace (xs : List Node) (root : ℕ) (place : Place) (expires : ℕ) (ps : List (ℕ × ℕ)) (old_steps steps : ℕ) : Type 0 where
+pub record IsPlace (xs : List Node) (root parent expires : ℕ) (ps : List (ℕ × ℕ)) (old_steps steps : ℕ) : Type 0 where
   pub context : List Frame
   pub linked : IsAround xs none context
   pub root_is : root ≡ root_of none context
-  pub hole : IsHole place context
+  pub parent_is : parent ≡ parent_of context
+  pub side : IsOnSide expires context
   pub fits : Fits context 0
   pub pairs_are : pairs (plug context Leaf) ≡ ps
   pub puts : (id : ℕ) → put expires id ps ≡ before context ++ ((expires, id) ∷ after context)
@@ -55,11 +51,11 @@ pub record IsSearched (xs : List Node) (root : ℕ) (ps : List (ℕ × ℕ)) : T
   pub small : length xs ≤ none
   pub by_expiry : IsByExpiry ps
 
--- the number of the first timer once this one has got its place on a side of this parent
+-- the number of the first timer once this one is inserted on a side of this parent
 abbrev pub first_on : Side → (parent first id : ℕ) → ℕ
 first_on sides.Left parent first id = if nat_eq parent first then id else first
 first_on sides.Right parent first id = first
 
--- the number of the first timer once this one has got this place
-abbrev pub first_with : Place → (first id : ℕ) → ℕ
-first_with place first id = first_on place.side place.parent first id
+-- the number of the first timer once this one, with this node, is taken out
+abbrev pub first_off : Node → (first id : ℕ) → ℕ
+first_off node first id = if nat_eq first id then (if nat_eq node.right none then node.parent else node.right) else first

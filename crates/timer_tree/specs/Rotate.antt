@@ -1,44 +1,44 @@
 -- How a subtree is rotated where one of its sides is too high.
-use Rattle.std.specs.Prelude.{ℕ, ◌-◌, List, max, nat_lt, nat_le, if◌then◌else◌, slice_set}
-use Rattle.timer_tree.specs.Nodes.{node_at, near, far, with_links, next}
-use Rattle.timer_tree.specs.Links.{adopted}
+use Rattle.std.specs.Prelude.{ℕ, List, nat_eq, ◌||◌, if◌then◌else◌, slice_set}
+use Rattle.timer_tree.specs.Nodes.{none, node_at, near, far, other_side, with_links, next}
+use Rattle.timer_tree.specs.Links.{linked, adopted, relinked}
 use Rattle.timer_tree.specs.declared.node.Node.{Node}
 use Rattle.timer_tree.specs.declared.node.Side.{Side}
-use Rattle.timer_tree.specs.declared.rotate.Top.{Top}
-use Rattle.timer_tree.specs.declared.rotate.Numbered.{Numbered}
+
+-- one node of the block gets other links
+abbrev pub set_linked : List Node → (n : ℕ) → Side → (child parent rank : ℕ) → List Node
+set_linked xs n side child parent rank = slice_set xs n (linked side (node_at xs n) child parent rank)
 
 -- the high node is set above the low one
-unfoldable pub rotated_once : List Node → Side → (low high : Numbered) → (inner : Top) → List Node × Top
-rotated_once xs side low high inner =
-    let below = next inner.rank in
-    let kept = adopted xs inner.root low.n in
-    let lowered = slice_set kept low.n (with_links side low.node.expires inner.root (far side low.node) high.n below) in
-    let rank = max (next below) low.node.rank in
-    (slice_set lowered high.n (with_links side high.node.expires (near side high.node) low.n low.node.parent rank), record { root = high.n; rank = rank })
+unfoldable pub rotated_once : List Node → Side → (n : ℕ) → (low : Node) → (m : ℕ) → (high : Node) → List Node
+rotated_once xs side n low m high =
+    let k = far side high in
+    set_linked (set_linked (adopted xs k n) n side k m (next (node_at xs k).rank)) m (other_side side) n low.parent low.rank
 
 -- the inner node is set above both
-unfoldable pub rotated_twice : List Node → Side → (low high inner : Numbered) → List Node × Top
-rotated_twice xs side low high inner =
-    let below = inner.node.rank in
-    let kept = adopted (adopted xs (near side inner.node) high.n) (far side inner.node) low.n in
-    let lowered = slice_set kept low.n (with_links side low.node.expires (far side inner.node) (far side low.node) inner.n below) in
-    let raised = slice_set lowered high.n (with_links side high.node.expires (near side high.node) (near side inner.node) inner.n below) in
-    (slice_set raised inner.n (with_links side inner.node.expires high.n low.n low.node.parent low.node.rank), record { root = inner.n; rank = low.node.rank })
+unfoldable pub rotated_twice : List Node → Side → (n : ℕ) → (low : Node) → (m : ℕ) → (high : Node) → List Node
+rotated_twice xs side n low m high =
+    let k = far side high in
+    let inner = node_at xs k in
+    let kept = adopted (adopted xs (near side inner) m) (far side inner) n in
+    let lowered = set_linked (set_linked kept n side (far side inner) k inner.rank) m (other_side side) (near side inner) k inner.rank in
+    slice_set lowered k (with_links side inner.expires m n low.parent low.rank)
+
+-- a subtree that is too high on a side, and its root
+unfoldable pub rotated : List Node → Side → (n : ℕ) → (low : Node) → (m : ℕ) → List Node × ℕ
+rotated xs side n low m =
+    let high = node_at xs m in
+    let k = far side high in
+    if nat_eq (next (node_at xs (near side high)).rank) high.rank || nat_eq k none then (rotated_once xs side n low m high, m)
+    else (rotated_twice xs side n low m high, k)
+
+-- the tree is rotated at a node
+unfoldable pub rotated_up : List Node → (root : ℕ) → Side → (at high : ℕ) → List Node × ℕ
+rotated_up xs root side at high =
+    let low = node_at xs at in
+    let done = rotated xs side at low high in
+    relinked done.0 root low.parent at done.1
 
 -- a node with another rank
 abbrev pub ranked : List Node → (n rank : ℕ) → List Node
 ranked xs n rank = slice_set xs n (record (node_at xs n) { rank = rank })
-
--- a node and the higher one below it get lower ranks
-unfoldable pub lowered : List Node → (low : Numbered) → (high : ℕ) → List Node × Top
-lowered xs low high = (ranked (ranked xs high (low.node.rank - 2)) low.n (low.node.rank - 1), record { root = low.n; rank = low.node.rank - 1 })
-
--- a subtree that is too high on a side
-unfoldable pub rotated : List Node → Side → (low high : Numbered) → List Node × Top
-rotated xs side low high =
-    let n = far side high.node in
-    let inner = node_at xs n in
-    let outer = (node_at xs (near side high.node)).rank in
-    if nat_lt (max outer inner.rank) (low.node.rank - 2) then lowered xs low high.n
-    else (if nat_le inner.rank outer then rotated_once xs side low high (record { root = n; rank = inner.rank })
-    else rotated_twice xs side low high (record { n = n; node = inner }))

@@ -3,7 +3,7 @@ use Rattle.std.specs.Prelude.{ℕ, ◌+◌, ◌*◌, ◌^◌, ◌<◌, ◌≤◌
 use Rattle.timer_queue.specs.Pairs.{without}
 use Rattle.timer_tree.specs.Nodes.{none, node_at}
 use Rattle.timer_tree.specs.Trees.{Tree, Leaf, Fork, top, IsAt, IsBalanced, IsTree, times}
-use Rattle.timer_tree.specs.Contexts.{Frame, plug, before, IsUnbalanced}
+use Rattle.timer_tree.specs.Contexts.{Frame, plug, before, IsUnbalanced, Sinks}
 use Rattle.timer_tree.specs.declared.node.Node.{Node}
 use Rattle.timer_tree.specs.declared.rotate.Numbered.{Numbered}
 use Rattle.timer_tree.specs.declared.repair.Unbalanced.{Unbalanced}
@@ -50,9 +50,9 @@ pub record IsTaking (xs : List Node) (root id : ℕ) (ps : List (ℕ × ℕ)) : 
   pub small : length xs ≤ none
 
 -- the tree without it, which is balanced but for some ranks; other timers' nodes have not changed
-pub record IsTaken (xs : List Node) (id : ℕ) (ps : List (ℕ × ℕ)) (ys : List Node) (r : Unbalanced) (old_steps steps : ℕ) : Type 0 where
+pub record IsTaken (xs : List Node) (id : ℕ) (ps : List (ℕ × ℕ)) (ys : List Node) (new_root : ℕ) (r : Unbalanced) (old_steps steps : ℕ) : Type 0 where
   pub levels : ℕ
-  pub unbalanced : IsUnbalanced ys r (without id ps) levels
+  pub unbalanced : IsUnbalanced Sinks ys new_root r (without id ps) levels
   pub size : length ys ≡ length xs
   pub rest : (k : ℕ) → times k ps ≡ 0 → node_at ys k ≡ node_at xs k
   pub low : (d : ℕ) → length ps + 1 < 2 ^ d → levels + 1 ≤ 2 * d

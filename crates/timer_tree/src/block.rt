@@ -2,10 +2,11 @@
 ghost use Rattle.std.specs.Prelude.{◌≡◌, ◌+◌, ◌<◌, ◌≤◌, List, IfOk, length, replicate, slice_set, nat_lt};
 ghost use Rattle.core.specs.Mem.Slots.{slots_items, slots_ptr, slots_len, IsFull, lease_ptr, lease_len, lease_heap};
 ghost use Rattle.timer_tree.specs.Nodes.{node_at, blank, IsLink, HasLinks, AreLinked};
+ghost use Rattle.timer_tree.specs.Links.{replaced, linked};
 ghost use Rattle.timer_tree.specs.declared.node.Node.{Node};
 
 use crate::held::{Held, Parts};
-use crate::node::Node;
+use crate::node::{Node, Side};
 use crate::steps::Steps;
 use core::slots::{Slots, release, reserve};
 use std::alloc::{AllocError, Global};
@@ -23,7 +24,8 @@ impl Model for Block {
 
     ghost view = { λ b. slots_items b.held.slots };
 
-    ghost invariant = { λ b. IsFull b.held.slots × (lease_ptr b.held.lease ≡ slots_ptr b.held.slots) × (lease_len b.held.lease ≡ slots_len b.held.slots) × (lease_heap b.held.lease ≡ b.alloc) × AreLinked (slots_items b.held.slots) };
+    ghost invariant = { λ b. IsFull b.held.slots × (lease_ptr b.held.lease ≡ slots_ptr b.held.slots) × (lease_len b.held.lease ≡ slots_len b.held.slots) ×
+        (lease_heap b.held.lease ≡ b.alloc) × AreLinked (slots_items b.held.slots) };
 }
 
 impl Block {
@@ -92,6 +94,52 @@ impl Block {
         steps.tick();
         let held = &mut self.held;
         held.parts.slots.get_mut(n as usize).parent = parent;
+    }
+
+    /// Gives a node another node in place of one below it, and counts it.
+    pub(crate) fn set_child<L: Ledger>(&mut self, n: u32, from: u32, to: u32, steps: &mut Steps<L>)
+        requires inside { n < length self.old }
+        requires link { IsLink (length self.old) to }
+        ensures block { self.new ≡ slice_set self.old n (replaced (node_at self.old n) from to) }
+        ensures room { length self.new ≡ length self.old }
+        ensures steps { steps.new ≡ steps.old + 1 }
+    {
+        steps.tick();
+        let held = &mut self.held;
+        let node = held.parts.slots.get_mut(n as usize);
+        if node.left == from {
+            node.left = to;
+        } else {
+            node.right = to;
+        }
+    }
+
+    /// Gives a node another subtree on a side, another parent and another rank, and counts it.
+    pub(crate) fn set_links<L: Ledger>(
+        &mut self,
+        n: u32,
+        side: Side,
+        child: u32,
+        parent: u32,
+        rank: u32,
+        steps: &mut Steps<L>,
+    )
+        requires inside { n < length self.old }
+        requires child { IsLink (length self.old) child }
+        requires parent { IsLink (length self.old) parent }
+        ensures block { self.new ≡ slice_set self.old n (linked side (node_at self.old n) child parent rank) }
+        ensures room { length self.new ≡ length self.old }
+        ensures steps { steps.new ≡ steps.old + 1 }
+    {
+        steps.tick();
+        let held = &mut self.held;
+        let node = held.parts.slots.get_mut(n as usize);
+        match side {
+            Side::Left => node.left = child,
+            Side::Right => node.right = child,
+        }
+        node.parent = parent;
+        node.rank = rank;
     }
 
     /// Gives a node another rank, and counts it.

@@ -16,7 +16,7 @@ use std::sync::ledger::Ledger;
 /// Takes a timer out of the tree. The ranks may be wrong then from a node upwards.
 pub(crate) fn take_out<L: Ledger>(
     block: &mut Block,
-    root: u32,
+    root: &mut u32,
     id: u32,
     node: Node,
     steps: &mut Steps<L>,
@@ -25,17 +25,16 @@ pub(crate) fn take_out<L: Ledger>(
     requires inside { id < length block.old }
     requires links { HasLinks (length block.old) node }
     requires small { length block.old ≤ none }
-    requires taking { (ps : List (ℕ × ℕ)) × IsTaking block.old root id ps }
-    ensures { (ps : List (ℕ × ℕ)) → IsTaking block.old root id ps → IsTaken block.old id ps block.new result steps.old steps.new }
+    requires taking { (ps : List (ℕ × ℕ)) × IsTaking block.old root.old id ps }
+    ensures { (ps : List (ℕ × ℕ)) → IsTaking block.old root.old id ps → IsTaken block.old id ps block.new root.new result steps.old steps.new }
 {
     if node.left != NONE && node.right != NONE {
         let heir = leftmost(block, node.right, steps);
         let child = only_child(heir.node);
-        let root = splice(block, root, heir, steps);
-        let root = substitute(block, root, id, heir, steps);
+        splice(block, root, heir, steps);
+        substitute(block, root, id, heir, steps);
         let at = parent_of_gap(heir, id);
         return Unbalanced {
-            root,
             at,
             child: child.root,
             rank: child.rank,
@@ -43,9 +42,8 @@ pub(crate) fn take_out<L: Ledger>(
     }
     let at = node.parent;
     let child = only_child(node);
-    let root = splice(block, root, Numbered { n: id, node }, steps);
+    splice(block, root, Numbered { n: id, node }, steps);
     Unbalanced {
-        root,
         at,
         child: child.root,
         rank: child.rank,
@@ -65,6 +63,7 @@ fn parent_of_gap(heir: Numbered, id: u32) -> u32
 
 /// The subtree of a node with at most one, and its rank.
 fn only_child(node: Node) -> Top
+    requires { 0 < node.rank }
     ensures { result ≡ only_child node }
 {
     let root = if node.left == NONE {
@@ -74,47 +73,48 @@ fn only_child(node: Node) -> Top
     };
     Top {
         root,
-        rank: node.rank.saturating_sub(1),
+        rank: node.rank - 1,
     }
 }
 
-/// Takes out a node with at most one subtree, which gets its place. Gives the root.
+/// Takes out a node with at most one subtree, which gets its place.
 #[tactic(auto, unfolding(crate::specs::Moves::spliced))]
-fn splice<L: Ledger>(block: &mut Block, root: u32, gone: Numbered, steps: &mut Steps<L>) -> u32
+fn splice<L: Ledger>(block: &mut Block, root: &mut u32, gone: Numbered, steps: &mut Steps<L>)
     requires links { HasLinks (length block.old) gone.node }
+    requires high { 0 < gone.node.rank }
     requires small { length block.old ≤ none }
-    ensures block { (block.new, result) ≡ spliced block.old root gone }
+    ensures block { (block.new, root.new) ≡ spliced block.old root.old gone }
     ensures room { length block.new ≡ length block.old }
-    ensures steps { steps.new ≤ steps.old + 3 }
+    ensures steps { steps.new ≤ steps.old + 2 }
 {
     let Numbered { n, node } = gone;
     let child = only_child(node).root;
     adopt(block, child, node.parent, steps);
-    relink(block, root, node.parent, n, child, steps)
+    relink(block, root, node.parent, n, child, steps);
 }
 
-/// Gives a node that was taken out another's place and links. Gives the root.
+/// Gives a node that was taken out another's place and links.
 #[tactic(auto, unfolding(crate::specs::Moves::substituted))]
 fn substitute<L: Ledger>(
     block: &mut Block,
-    root: u32,
+    root: &mut u32,
     id: u32,
     heir: Numbered,
     steps: &mut Steps<L>,
-) -> u32
+)
     requires inside { id < length block.old }
     requires heir { heir.n < length block.old }
     requires small { length block.old ≤ none }
-    ensures block { (block.new, result) ≡ substituted block.old root id heir }
+    ensures block { (block.new, root.new) ≡ substituted block.old root.old id heir }
     ensures room { length block.new ≡ length block.old }
-    ensures steps { steps.new ≤ steps.old + 6 }
+    ensures steps { steps.new ≤ steps.old + 5 }
 {
     let node = block.read(id, steps);
     adopt(block, node.left, heir.n, steps);
     adopt(block, node.right, heir.n, steps);
     let expires = heir.node.expires;
     block.write(heir.n, Node { expires, ..node }, steps);
-    relink(block, root, node.parent, id, heir.n, steps)
+    relink(block, root, node.parent, id, heir.n, steps);
 }
 
 /// The node that is due first in a subtree.
@@ -123,6 +123,7 @@ fn leftmost<L: Ledger>(block: &Block, from: u32, steps: &mut Steps<L>) -> Number
     ensures lowest { (p : ℕ) (t : Tree) → IsSubtree block.now from p t → IsLeftmost block.now t result steps.old steps.new }
     ensures inside { result.n < length block.now }
     ensures links { HasLinks (length block.now) result.node }
+    ensures high { 0 < result.node.rank }
 {
     let mut n = from;
     let mut node = block.read(n, steps);

@@ -4,12 +4,12 @@ ghost use Rattle.timer_tree.specs.Nodes.{node_at, none, IsLink};
 ghost use Rattle.timer_tree.specs.Links.{adopted, relinked};
 
 use crate::block::Block;
-use crate::node::{NONE, Node};
+use crate::node::NONE;
 use crate::steps::Steps;
 use std::sync::ledger::Ledger;
 
 /// The rank of the subtree below a link.
-pub(crate) fn rank<L: Ledger>(block: &Block, n: u32, steps: &mut Steps<L>) -> u32
+pub(crate) fn rank_of<L: Ledger>(block: &Block, n: u32, steps: &mut Steps<L>) -> u32
     requires link { IsLink (length block.now) n }
     requires small { length block.now ≤ none }
     ensures rank { result ≡ (node_at block.now n).rank }
@@ -36,29 +36,24 @@ pub(crate) fn adopt<L: Ledger>(block: &mut Block, n: u32, parent: u32, steps: &m
     }
 }
 
-/// Puts a subtree in another's place below their parent, or at the root, and gives the root.
+/// Puts a subtree in another's place below their parent, or at the root.
 pub(crate) fn relink<L: Ledger>(
     block: &mut Block,
-    root: u32,
+    root: &mut u32,
     parent: u32,
     from: u32,
     to: u32,
     steps: &mut Steps<L>,
-) -> u32
+)
     requires parent { IsLink (length block.old) parent }
     requires link { IsLink (length block.old) to }
-    ensures block { (block.new, result) ≡ relinked block.old root parent from to }
+    ensures block { (block.new, root.new) ≡ relinked block.old root.old parent from to }
     ensures room { length block.new ≡ length block.old }
-    ensures steps { steps.new ≤ steps.old + 2 }
+    ensures steps { steps.new ≤ steps.old + 1 }
 {
     if parent == NONE {
-        return to;
+        *root = to;
+        return;
     }
-    let node = block.read(parent, steps);
-    if node.left == from {
-        block.write(parent, Node { left: to, ..node }, steps);
-    } else {
-        block.write(parent, Node { right: to, ..node }, steps);
-    }
-    root
+    block.set_child(parent, from, to, steps);
 }

@@ -1,151 +1,221 @@
 //! How ranks are put right from one node upwards.
 ghost use Rattle.std.specs.Prelude.{◌≡◌, ℕ, ◌+◌, ◌≤◌, ◌<◌, List, length};
-ghost use Rattle.timer_tree.specs.Nodes.{node_at, none, HasLinks};
-ghost use Rattle.timer_tree.specs.Contexts.{CanRepair, IsRepaired};
-ghost use Rattle.timer_tree.specs.Moves.{gone_on, rotated_up, raised, sunk, stepped, rebalanced_at};
+ghost use Rattle.timer_tree.specs.Nodes.{node_at, none, HasLinks, IsLink};
+ghost use Rattle.timer_tree.specs.Contexts.{CanRepair, IsRepaired, IsAbove, Rises, Sinks};
+ghost use Rattle.timer_tree.specs.Moves.{ended, raised, risen_at, sunk, sunk_at};
 ghost use Rattle.timer_tree.specs.Rotate.{ranked};
 
+use crate::add::Place;
 use crate::block::Block;
-use crate::links::{rank, relink};
+use crate::links::rank_of;
 use crate::node::{NONE, Node, Side};
-use crate::rotate::{Numbered, Top, rotate};
+use crate::rotate::rotate_at;
 use crate::steps::Steps;
 use std::sync::ledger::Ledger;
 
-/// A tree whose ranks may be wrong from one node upwards, with the subtree below it that has changed, and its rank.
+/// The node where a repair goes on, with the subtree below it that has changed, and its rank.
 #[derive(Clone, Copy)]
 pub(crate) struct Unbalanced {
-    pub(crate) root: u32,
     pub(crate) at: u32,
     pub(crate) child: u32,
     pub(crate) rank: u32,
 }
 
-/// Rebalances the tree from a node upwards, as far as ranks change, and gives the root.
+/// Rebalances the tree above a timer that was inserted. Where its parent wasn't a leaf, all ranks are right.
 #[inline(always)]
-pub(crate) fn repair<L: Ledger>(block: &mut Block, broken: Unbalanced, steps: &mut Steps<L>) -> u32
-    requires { (ps : List (ℕ × ℕ)) × (levels : ℕ) × CanRepair block.old broken ps levels }
-    ensures { (ps : List (ℕ × ℕ)) (levels : ℕ) → CanRepair block.old broken ps levels → IsRepaired block.old block.new result ps levels steps.old steps.new }
+pub(crate) fn settle<L: Ledger>(
+    block: &mut Block,
+    root: &mut u32,
+    place: Place,
+    id: u32,
+    steps: &mut Steps<L>,
+)
+    requires can { (ps : List (ℕ × ℕ)) × (levels : ℕ) × CanRepair Rises block.old root.old (record { at = place.parent; child = id; rank = 1 }) ps levels }
+    requires above { (place.parent ≡ none → ⊥) → IsAbove (node_at block.old place.parent) id place.leaf }
+    ensures { (ps : List (ℕ × ℕ)) (levels : ℕ) → CanRepair Rises block.old root.old (record { at = place.parent; child = id; rank = 1 }) ps levels →
+        IsRepaired block.old block.new root.new ps levels steps.old steps.new }
+{
+    let Place { parent, leaf } = place;
+    if parent == NONE {
+        return;
+    }
+    if !leaf {
+        return;
+    }
+    let rest = raise_leaf(block, parent, steps);
+    rise(block, root, rest, steps);
+}
+
+/// Gives a leaf that has got a subtree the rank 2. The repair goes on at its parent.
+#[inline(always)]
+fn raise_leaf<L: Ledger>(block: &mut Block, n: u32, steps: &mut Steps<L>) -> Unbalanced
+    requires inside { n < length block.old }
+    ensures block { block.new ≡ ranked block.old n 2 }
+    ensures rest { result ≡ record { at = (node_at block.old n).parent; child = n; rank = 2 } }
+    ensures steps { steps.new ≡ steps.old + 2 }
+{
+    let parent = block.read(n, steps).parent;
+    go_on(block, n, parent, 2, steps)
+}
+
+/// Rebalances the tree above a subtree that has risen, as far as ranks change.
+#[inline(always)]
+fn rise<L: Ledger>(block: &mut Block, root: &mut u32, broken: Unbalanced, steps: &mut Steps<L>)
+    requires { (ps : List (ℕ × ℕ)) × (levels : ℕ) × CanRepair Rises block.old root.old broken ps levels }
+    ensures { (ps : List (ℕ × ℕ)) (levels : ℕ) → CanRepair Rises block.old root.old broken ps levels →
+        IsRepaired block.old block.new root.new ps levels steps.old steps.new }
 {
     let Unbalanced {
-        root,
-        at,
-        child,
-        rank,
+        mut at,
+        mut child,
+        mut rank,
     } = broken;
-    climb(block, root, at, child, rank, steps)
-}
-
-/// The repair, with what it begins with as plain numbers.
-fn climb<L: Ledger>(
-    block: &mut Block,
-    root: u32,
-    at: u32,
-    child: u32,
-    rank: u32,
-    steps: &mut Steps<L>,
-) -> u32
-    requires { (ps : List (ℕ × ℕ)) × (levels : ℕ) × CanRepair block.old (record { root = root; at = at; child = child; rank = rank }) ps levels }
-    ensures { (ps : List (ℕ × ℕ)) (levels : ℕ) → CanRepair block.old (record { root = root; at = at; child = child; rank = rank }) ps levels → IsRepaired block.old block.new result ps levels steps.old steps.new }
-{
-    let mut rest = Unbalanced {
-        root,
-        at,
-        child,
-        rank,
-    };
-    while rest.at != NONE {
-        rest = rebalance(block, rest, steps);
-    }
-    rest.root
-}
-
-/// Rebalances one node. The repair goes on at its parent, or ends where the rank is as before.
-#[tactic(auto, unfolding(crate::specs::Moves::rebalanced_at))]
-fn rebalance<L: Ledger>(block: &mut Block, rest: Unbalanced, steps: &mut Steps<L>) -> Unbalanced
-    requires inside { rest.at < length block.old }
-    requires small { length block.old ≤ none }
-    requires child { (node_at block.old rest.at).rank ≤ rest.rank → rest.child < length block.old }
-    requires some { 0 < (node_at block.old rest.at).rank }
-    ensures block { (block.new, result) ≡ rebalanced_at block.old rest }
-    ensures steps { steps.new ≤ steps.old + 14 }
-{
-    let node = block.read(rest.at, steps);
-    if node.left == rest.child {
-        step(block, Side::Left, rest, node, steps)
-    } else {
-        step(block, Side::Right, rest, node, steps)
+    while at != NONE {
+        let next = rise_at(block, root, Unbalanced { at, child, rank }, steps);
+        at = next.at;
+        child = next.child;
+        rank = next.rank;
     }
 }
 
-/// Gives a node another rank where its subtree on this side has risen or sunk by one. Where that isn't enough, the tree is rotated.
+/// Gives the node above a subtree that has risen one rank more where it needs that and its other subtree allows it. Where that doesn't,
+/// the tree is rotated there.
 #[inline(always)]
-#[tactic(auto, unfolding(crate::specs::Moves::stepped))]
-fn step<L: Ledger>(
+#[tactic(auto, unfolding(crate::specs::Moves::risen_at, crate::specs::Nodes::next))]
+fn rise_at<L: Ledger>(
     block: &mut Block,
-    side: Side,
+    root: &mut u32,
     rest: Unbalanced,
-    node: Node,
     steps: &mut Steps<L>,
 ) -> Unbalanced
     requires inside { rest.at < length block.old }
     requires small { length block.old ≤ none }
-    requires node { node ≡ node_at block.old rest.at }
-    requires links { HasLinks (length block.old) node }
-    requires child { node.rank ≤ rest.rank → rest.child < length block.old }
-    requires some { 0 < node.rank }
-    ensures block { (block.new, result) ≡ stepped block.old side rest node }
-    ensures steps { steps.new ≤ steps.old + 13 }
+    requires child { (node_at block.old rest.at).rank ≤ rest.rank → rest.child < length block.old }
+    ensures block { (block.new, root.new, result) ≡ risen_at block.old root.old rest }
+    ensures steps { steps.new ≤ steps.old + 15 }
 {
-    if node.rank <= rest.rank {
-        raise(block, side, rest, node, steps)
-    } else if node.rank - rest.rank > 2 {
-        sink(block, side, rest, node, steps)
-    } else if node.is_high_leaf() {
-        go_on(block, rest, node, 1, steps)
+    let node = block.read(rest.at, steps);
+    if node.rank > rest.rank {
+        return end();
+    }
+    if node.left == rest.child {
+        raise(
+            block,
+            root,
+            Side::Left,
+            rest,
+            node.right,
+            node.parent,
+            node.rank,
+            steps,
+        )
     } else {
-        Unbalanced {
-            root: rest.root,
-            at: NONE,
-            child: rest.child,
-            rank: rest.rank,
-        }
+        raise(
+            block,
+            root,
+            Side::Right,
+            rest,
+            node.left,
+            node.parent,
+            node.rank,
+            steps,
+        )
     }
 }
 
-/// Gives a node one rank more, or rotates the tree there, where a subtree has come as high as it is.
+/// Gives a node one rank more where its other subtree allows that. Else the tree is rotated there.
 #[inline(always)]
 #[tactic(auto, unfolding(crate::specs::Moves::raised, crate::specs::Nodes::next))]
 fn raise<L: Ledger>(
     block: &mut Block,
+    root: &mut u32,
     side: Side,
     rest: Unbalanced,
-    node: Node,
+    sibling: u32,
+    parent: u32,
+    rank: u32,
     steps: &mut Steps<L>,
 ) -> Unbalanced
     requires inside { rest.at < length block.old }
     requires small { length block.old ≤ none }
-    requires node { node ≡ node_at block.old rest.at }
-    requires links { HasLinks (length block.old) node }
     requires child { rest.child < length block.old }
-    requires some { 0 < node.rank }
-    ensures block { (block.new, result) ≡ raised block.old side rest node }
-    ensures steps { steps.new ≤ steps.old + 13 }
+    requires sibling { IsLink (length block.old) sibling }
+    ensures block { (block.new, root.new, result) ≡ raised block.old root.old side rest sibling parent rank }
+    ensures steps { steps.new ≤ steps.old + 14 }
 {
-    let sibling = rank(block, node.far(side), steps);
-    if sibling == node.rank - 1 {
-        let rank = node.rank.wrapping_add(1);
-        go_on(block, rest, node, rank, steps)
-    } else {
-        rotate_up(block, side, rest, rest.child, steps)
+    if rank_of(block, sibling, steps).wrapping_add(1) == rank {
+        return go_on(block, rest.at, parent, rank.wrapping_add(1), steps);
+    }
+    rotate_at(block, root, side, rest.at, rest.child, steps);
+    end()
+}
+
+/// Rebalances the tree above a subtree that has sunk, as far as ranks change.
+#[inline(always)]
+pub(crate) fn sink<L: Ledger>(
+    block: &mut Block,
+    root: &mut u32,
+    broken: Unbalanced,
+    steps: &mut Steps<L>,
+)
+    requires { (ps : List (ℕ × ℕ)) × (levels : ℕ) × CanRepair Sinks block.old root.old broken ps levels }
+    ensures { (ps : List (ℕ × ℕ)) (levels : ℕ) → CanRepair Sinks block.old root.old broken ps levels →
+        IsRepaired block.old block.new root.new ps levels steps.old steps.new }
+{
+    let Unbalanced {
+        mut at,
+        mut child,
+        mut rank,
+    } = broken;
+    while at != NONE {
+        let next = sink_at(block, root, Unbalanced { at, child, rank }, steps);
+        at = next.at;
+        child = next.child;
+        rank = next.rank;
     }
 }
 
-/// Gives a node one rank less, or rotates the tree there, where a subtree has come three lower than it is.
+/// Gives the node above a subtree that has sunk the rank that it needs. The repair ends where that is the one that it has.
+#[inline(always)]
+#[tactic(auto, unfolding(crate::specs::Moves::sunk_at))]
+fn sink_at<L: Ledger>(
+    block: &mut Block,
+    root: &mut u32,
+    rest: Unbalanced,
+    steps: &mut Steps<L>,
+) -> Unbalanced
+    requires inside { rest.at < length block.old }
+    requires small { length block.old ≤ none }
+    requires low { rest.rank ≤ 65 }
+    ensures block { (block.new, root.new, result) ≡ sunk_at block.old root.old rest }
+    ensures steps { steps.new ≤ steps.old + 15 }
+{
+    let rank = block.read(rest.at, steps).rank;
+    if rank > rest.rank + 2 {
+        let node = block.read(rest.at, steps);
+        return if node.left == rest.child {
+            lower(block, root, Side::Left, rest, node, steps)
+        } else {
+            lower(block, root, Side::Right, rest, node, steps)
+        };
+    }
+    if rank != 2 {
+        return end();
+    }
+    let node = block.read(rest.at, steps);
+    if node.is_high_leaf() {
+        go_on(block, rest.at, node.parent, 1, steps)
+    } else {
+        end()
+    }
+}
+
+/// Gives a node one rank less where its other subtree allows that. Else the tree is rotated there.
 #[inline(always)]
 #[tactic(auto, unfolding(crate::specs::Moves::sunk))]
-fn sink<L: Ledger>(
+fn lower<L: Ledger>(
     block: &mut Block,
+    root: &mut u32,
     side: Side,
     rest: Unbalanced,
     node: Node,
@@ -153,73 +223,58 @@ fn sink<L: Ledger>(
 ) -> Unbalanced
     requires inside { rest.at < length block.old }
     requires small { length block.old ≤ none }
-    requires node { node ≡ node_at block.old rest.at }
     requires links { HasLinks (length block.old) node }
     requires high { 2 < node.rank }
-    ensures block { (block.new, result) ≡ sunk block.old side rest node }
+    ensures block { (block.new, root.new, result) ≡ sunk block.old root.old side rest node }
     ensures steps { steps.new ≤ steps.old + 13 }
 {
     let n = node.far(side);
-    let sibling = rank(block, n, steps);
-    if sibling == node.rank - 1 {
-        rotate_up(block, side.other(), rest, n, steps)
-    } else {
-        go_on(block, rest, node, node.rank - 1, steps)
+    if n == NONE {
+        return go_on(block, rest.at, node.parent, node.rank - 1, steps);
     }
+    let high = block.read(n, steps);
+    if high.rank == node.rank - 1 {
+        if rank_of(block, high.left, steps) > rest.rank
+            || rank_of(block, high.right, steps) > rest.rank
+        {
+            rotate_at(block, root, side.other(), rest.at, n, steps);
+            return end();
+        }
+        block.set_rank(n, node.rank - 2, steps);
+    }
+    go_on(block, rest.at, node.parent, node.rank - 1, steps)
 }
 
 /// Gives a node another rank. The repair goes on at its parent.
 #[inline(always)]
 fn go_on<L: Ledger>(
     block: &mut Block,
-    rest: Unbalanced,
-    node: Node,
+    n: u32,
+    parent: u32,
     rank: u32,
     steps: &mut Steps<L>,
 ) -> Unbalanced
-    requires inside { rest.at < length block.old }
-    ensures block { (block.new, result) ≡ gone_on (ranked block.old rest.at rank) rest node rank }
+    requires inside { n < length block.old }
+    ensures block { block.new ≡ ranked block.old n rank }
+    ensures rest { result ≡ record { at = parent; child = n; rank = rank } }
     ensures steps { steps.new ≡ steps.old + 1 }
 {
-    let Unbalanced { root, at, .. } = rest;
-    block.set_rank(at, rank, steps);
+    block.set_rank(n, rank, steps);
     Unbalanced {
-        root,
-        at: node.parent,
-        child: at,
+        at: parent,
+        child: n,
         rank,
     }
 }
 
-/// Rotates the tree at a node. The repair goes on at its parent, or ends where the rank is as before.
+/// The repair goes on nowhere.
 #[inline(always)]
-#[tactic(auto, unfolding(crate::specs::Moves::rotated_up))]
-fn rotate_up<L: Ledger>(
-    block: &mut Block,
-    side: Side,
-    rest: Unbalanced,
-    high: u32,
-    steps: &mut Steps<L>,
-) -> Unbalanced
-    requires inside { rest.at < length block.old }
-    requires small { length block.old ≤ none }
-    requires high { high < length block.old }
-    ensures block { (block.new, result) ≡ rotated_up block.old side rest (node_at block.old rest.at) high }
-    ensures steps { steps.new ≤ steps.old + 12 }
+fn end() -> Unbalanced
+    ensures { result ≡ ended }
 {
-    let Unbalanced { root, at, .. } = rest;
-    let node = block.read(at, steps);
-    let Top { root: child, rank } = rotate(block, side, Numbered { n: at, node }, high, steps);
-    let root = if child == at {
-        root
-    } else {
-        relink(block, root, node.parent, at, child, steps)
-    };
-    let at = if rank == node.rank { NONE } else { node.parent };
     Unbalanced {
-        root,
-        at,
-        child,
-        rank,
+        at: NONE,
+        child: NONE,
+        rank: 0,
     }
 }

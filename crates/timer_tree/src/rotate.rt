@@ -1,11 +1,12 @@
 //! How the tree is rotated at a node.
 ghost use Rattle.std.specs.Prelude.{◌≡◌, ◌+◌, ◌≤◌, ◌<◌, length};
-ghost use Rattle.timer_tree.specs.Nodes.{node_at, none, IsLink, HasLinks};
-ghost use Rattle.timer_tree.specs.Rotate.{rotated_once, rotated_twice, lowered, rotated};
+ghost use Rattle.timer_tree.specs.Nodes.{node_at, none, far, HasLinks};
+ghost use Rattle.timer_tree.specs.Rotate.{rotated_once, rotated_twice, rotated, rotated_up};
+ghost use Rattle.timer_tree.specs.declared.node.Side.TheVariants as sides;
 
 use crate::block::Block;
-use crate::links::{adopt, rank};
-use crate::node::{Node, Side};
+use crate::links::{adopt, rank_of, relink};
+use crate::node::{NONE, Node, Side};
 use crate::steps::Steps;
 use std::sync::ledger::Ledger;
 
@@ -23,61 +24,116 @@ pub(crate) struct Numbered {
     pub(crate) node: Node,
 }
 
-/// Rotates the tree at a node whose subtree on this side is too high. Where both subtrees of that one are low, ranks are lowered instead.
-#[tactic(auto, unfolding(crate::specs::Rotate::rotated))]
+/// Rotates the tree at a node whose subtree on this side is too high.
 #[inline(always)]
-pub(crate) fn rotate<L: Ledger>(
+pub(crate) fn rotate_at<L: Ledger>(
     block: &mut Block,
+    root: &mut u32,
     side: Side,
-    low: Numbered,
+    at: u32,
     high: u32,
     steps: &mut Steps<L>,
-) -> Top
-    requires low { low.n < length block.old }
-    requires links { HasLinks (length block.old) low.node }
+)
+    requires at { at < length block.old }
     requires high { high < length block.old }
     requires small { length block.old ≤ none }
-    ensures block { (block.new, result) ≡ rotated block.old side low (record { n = high; node = node_at block.old high }) }
-    ensures room { length block.new ≡ length block.old }
-    ensures top { result.root < length block.old }
-    ensures steps { steps.new ≤ steps.old + 9 }
+    ensures block { (block.new, root.new) ≡ rotated_up block.old root.old side at high }
+    ensures steps { steps.new ≤ steps.old + 10 }
 {
-    let high = Numbered {
-        n: high,
-        node: block.read(high, steps),
-    };
-    let outer = rank(block, high.node.near(side), steps);
-    let n = high.node.far(side);
-    let inner = rank(block, n, steps);
-    if outer.max(inner) < low.node.rank.saturating_sub(2) {
-        lower(block, low, high.n, steps)
-    } else if inner <= outer {
-        let inner = Top {
-            root: n,
-            rank: inner,
-        };
-        rotate_once(block, side, low, high, inner, steps)
-    } else {
-        let node = block.read(n, steps);
-        rotate_twice(block, side, low, high, Numbered { n, node }, steps)
+    match side {
+        Side::Left => rotate_left(block, root, at, high, steps),
+        Side::Right => rotate_right(block, root, at, high, steps),
     }
 }
 
-/// Lowers the ranks of a node and of the higher one below it.
-#[tactic(auto, unfolding(crate::specs::Rotate::lowered))]
-#[inline(always)]
-fn lower<L: Ledger>(block: &mut Block, low: Numbered, high: u32, steps: &mut Steps<L>) -> Top
-    requires low { low.n < length block.old }
+/// Rotates the tree where the left subtree is too high.
+#[inline(never)]
+fn rotate_left<L: Ledger>(
+    block: &mut Block,
+    root: &mut u32,
+    at: u32,
+    high: u32,
+    steps: &mut Steps<L>,
+)
+    requires at { at < length block.old }
     requires high { high < length block.old }
-    ensures block { (block.new, result) ≡ lowered block.old low high }
-    ensures room { length block.new ≡ length block.old }
-    ensures top { result.root < length block.old }
-    ensures steps { steps.new ≤ steps.old + 2 }
+    requires small { length block.old ≤ none }
+    ensures block { (block.new, root.new) ≡ rotated_up block.old root.old sides.Left at high }
+    ensures steps { steps.new ≤ steps.old + 10 }
 {
-    let rank = low.node.rank.saturating_sub(1);
-    block.set_rank(high, low.node.rank.saturating_sub(2), steps);
-    block.set_rank(low.n, rank, steps);
-    Top { root: low.n, rank }
+    rotate_up(block, root, Side::Left, at, high, steps);
+}
+
+/// Rotates the tree where the right subtree is too high.
+#[inline(never)]
+fn rotate_right<L: Ledger>(
+    block: &mut Block,
+    root: &mut u32,
+    at: u32,
+    high: u32,
+    steps: &mut Steps<L>,
+)
+    requires at { at < length block.old }
+    requires high { high < length block.old }
+    requires small { length block.old ≤ none }
+    ensures block { (block.new, root.new) ≡ rotated_up block.old root.old sides.Right at high }
+    ensures steps { steps.new ≤ steps.old + 10 }
+{
+    rotate_up(block, root, Side::Right, at, high, steps);
+}
+
+/// Rotates the tree at a node, and links the subtree to its parent.
+#[inline(always)]
+#[tactic(auto, unfolding(crate::specs::Rotate::rotated_up))]
+fn rotate_up<L: Ledger>(
+    block: &mut Block,
+    root: &mut u32,
+    side: Side,
+    at: u32,
+    high: u32,
+    steps: &mut Steps<L>,
+)
+    requires at { at < length block.old }
+    requires high { high < length block.old }
+    requires small { length block.old ≤ none }
+    ensures block { (block.new, root.new) ≡ rotated_up block.old root.old side at high }
+    ensures steps { steps.new ≤ steps.old + 10 }
+{
+    let low = block.read(at, steps);
+    let top = rotate(block, side, at, low, high, steps);
+    relink(block, root, low.parent, at, top, steps);
+}
+
+/// Rotates a subtree, and gives its root.
+#[inline(always)]
+#[tactic(auto, unfolding(crate::specs::Rotate::rotated, crate::specs::Nodes::next))]
+fn rotate<L: Ledger>(
+    block: &mut Block,
+    side: Side,
+    n: u32,
+    low: Node,
+    m: u32,
+    steps: &mut Steps<L>,
+) -> u32
+    requires low { n < length block.old }
+    requires low_links { HasLinks (length block.old) low }
+    requires high { m < length block.old }
+    requires small { length block.old ≤ none }
+    ensures block { (block.new, result) ≡ rotated block.old side n low m }
+    ensures room { length block.new ≡ length block.old }
+    ensures top { result < length block.old }
+    ensures steps { steps.new ≤ steps.old + 8 }
+{
+    let high = block.read(m, steps);
+    let outer = rank_of(block, high.near(side), steps);
+    let k = high.far(side);
+    if outer.wrapping_add(1) == high.rank || k == NONE {
+        rotate_once(block, side, n, low, m, high, steps);
+        m
+    } else {
+        rotate_twice(block, side, n, low, m, high, steps);
+        k
+    }
 }
 
 /// Sets the high node above the low one.
@@ -86,34 +142,26 @@ fn lower<L: Ledger>(block: &mut Block, low: Numbered, high: u32, steps: &mut Ste
 fn rotate_once<L: Ledger>(
     block: &mut Block,
     side: Side,
-    low: Numbered,
-    high: Numbered,
-    inner: Top,
+    n: u32,
+    low: Node,
+    m: u32,
+    high: Node,
     steps: &mut Steps<L>,
-) -> Top
-    requires low { low.n < length block.old }
-    requires low_links { HasLinks (length block.old) low.node }
-    requires high { high.n < length block.old }
-    requires high_links { HasLinks (length block.old) high.node }
-    requires inner { IsLink (length block.old) inner.root }
+)
+    requires low { n < length block.old }
+    requires low_links { HasLinks (length block.old) low }
+    requires high { m < length block.old }
+    requires high_links { HasLinks (length block.old) high }
     requires small { length block.old ≤ none }
-    ensures block { (block.new, result) ≡ rotated_once block.old side low high inner }
+    ensures block { block.new ≡ rotated_once block.old side n low m high }
     ensures room { length block.new ≡ length block.old }
-    ensures top { result.root < length block.old }
-    ensures steps { steps.new ≤ steps.old + 3 }
+    ensures steps { steps.new ≤ steps.old + 4 }
 {
-    let below = inner.rank.wrapping_add(1);
-    let rank = below.wrapping_add(1).max(low.node.rank);
-    adopt(block, inner.root, low.n, steps);
-    let lowered = low
-        .node
-        .with_links(side, inner.root, low.node.far(side), high.n, below);
-    block.write(low.n, lowered, steps);
-    let raised = high
-        .node
-        .with_links(side, high.node.near(side), low.n, low.node.parent, rank);
-    block.write(high.n, raised, steps);
-    Top { root: high.n, rank }
+    let k = high.far(side);
+    let below = rank_of(block, k, steps).wrapping_add(1);
+    adopt(block, k, n, steps);
+    block.set_links(n, side, k, m, below, steps);
+    block.set_links(m, side.other(), n, low.parent, low.rank, steps);
 }
 
 /// Sets the inner node above both.
@@ -122,42 +170,29 @@ fn rotate_once<L: Ledger>(
 fn rotate_twice<L: Ledger>(
     block: &mut Block,
     side: Side,
-    low: Numbered,
-    high: Numbered,
-    inner: Numbered,
+    n: u32,
+    low: Node,
+    m: u32,
+    high: Node,
     steps: &mut Steps<L>,
-) -> Top
-    requires low { low.n < length block.old }
-    requires low_links { HasLinks (length block.old) low.node }
-    requires high { high.n < length block.old }
-    requires high_links { HasLinks (length block.old) high.node }
-    requires inner { inner.n < length block.old }
-    requires inner_links { HasLinks (length block.old) inner.node }
+)
+    requires low { n < length block.old }
+    requires low_links { HasLinks (length block.old) low }
+    requires high { m < length block.old }
+    requires high_links { HasLinks (length block.old) high }
+    requires inner { far side high < length block.old }
     requires small { length block.old ≤ none }
-    ensures block { (block.new, result) ≡ rotated_twice block.old side low high inner }
+    ensures block { block.new ≡ rotated_twice block.old side n low m high }
     ensures room { length block.new ≡ length block.old }
-    ensures top { result.root < length block.old }
-    ensures steps { steps.new ≤ steps.old + 5 }
+    ensures steps { steps.new ≤ steps.old + 6 }
 {
-    let below = inner.node.rank;
-    let rank = low.node.rank;
-    let (near, far) = (inner.node.near(side), inner.node.far(side));
-    adopt(block, near, high.n, steps);
-    adopt(block, far, low.n, steps);
-    let lowered = low
-        .node
-        .with_links(side, far, low.node.far(side), inner.n, below);
-    block.write(low.n, lowered, steps);
-    let lowered = high
-        .node
-        .with_links(side, high.node.near(side), near, inner.n, below);
-    block.write(high.n, lowered, steps);
-    let raised = inner
-        .node
-        .with_links(side, high.n, low.n, low.node.parent, rank);
-    block.write(inner.n, raised, steps);
-    Top {
-        root: inner.n,
-        rank,
-    }
+    let k = high.far(side);
+    let inner = block.read(k, steps);
+    let (near, far) = (inner.near(side), inner.far(side));
+    adopt(block, near, m, steps);
+    adopt(block, far, n, steps);
+    block.set_links(n, side, far, k, inner.rank, steps);
+    block.set_links(m, side.other(), near, k, inner.rank, steps);
+    let top = inner.with_links(side, m, n, low.parent, low.rank);
+    block.write(k, top, steps);
 }

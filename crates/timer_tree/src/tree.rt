@@ -1,15 +1,15 @@
 //! A queue of timers as a tree, and the calls that count what they touch.
-ghost use Rattle.std.specs.Prelude.{◌≡◌, ℕ, ◌+◌, ◌*◌, ◌^◌, ◌<◌, ◌≤◌, false, List, length, IsTrue, nat_eq, if◌then◌else◌};
-ghost use Rattle.timer_tree.specs.Nodes.{none};
-ghost use Rattle.timer_tree.specs.Places.{first_with};
+ghost use Rattle.std.specs.Prelude.{◌≡◌, ℕ, ◌+◌, ◌*◌, ◌^◌, ◌<◌, ◌≤◌, false, List, length, IsTrue};
+ghost use Rattle.timer_tree.specs.Places.{first_on, first_off};
 ghost use Rattle.timer_queue.specs.Pairs.{put, without, first_of, has_id, IsQueue};
+ghost use Rattle.timer_tree.specs.Rotate.{ranked};
 ghost use Rattle.timer_tree.specs.Trees.{queue_at, IsStored};
 
 use crate::add::{Place, find, insert};
 use crate::block::Block;
 use crate::erase::take_out;
 use crate::node::{NONE, Node, Side};
-use crate::repair::{Unbalanced, repair};
+use crate::repair::{settle, sink};
 use crate::steps::Steps;
 use std::alloc::{AllocError, Global};
 use std::marker::{Brand, Model};
@@ -45,15 +45,10 @@ impl TimerTree {
         ensures steps { (d : ℕ) → length self.old.0 + 1 < 2 ^ d → steps.new ≤ steps.old + 32 * (d + 1) }
     {
         let place = find(&self.block, self.root, expires, steps);
-        let root = insert(&mut self.block, self.root, place, expires, id, steps);
-        self.first = first_with(place, self.first, id);
-        let broken = Unbalanced {
-            root,
-            at: place.parent,
-            child: id,
-            rank: 1,
-        };
-        self.root = repair(&mut self.block, broken, steps);
+        let Place { parent, .. } = place;
+        let side = insert(&mut self.block, &mut self.root, parent, expires, id, steps);
+        put_first(&mut self.first, side, parent, id);
+        settle(&mut self.block, &mut self.root, place, id, steps);
     }
 
     /// As `erase`, counting the links that are read or written.
@@ -66,10 +61,10 @@ impl TimerTree {
         ensures steps { (d : ℕ) → length self.old.0 + 1 < 2 ^ d → steps.new ≤ steps.old + 32 * (d + 1) }
     {
         let node = self.block.read(id, steps);
-        self.first = first_without(node, self.first, id);
-        let broken = take_out(&mut self.block, self.root, id, node, steps);
-        self.block.set_rank(id, 0, steps);
-        self.root = repair(&mut self.block, broken, steps);
+        drop_first(&mut self.first, node, id);
+        let broken = take_out(&mut self.block, &mut self.root, id, node, steps);
+        forget(&mut self.block, id, steps);
+        sink(&mut self.block, &mut self.root, broken, steps);
     }
 
     /// As `first`, counting the links that are read or written.
@@ -178,25 +173,36 @@ impl Queue for TimerTree {
     }
 }
 
-/// The first timer once this one is hung into its place.
-fn first_with(place: Place, first: u32, id: u32) -> u32
-    ensures { result ≡ first_with place first id }
+/// Marks a timer that was taken out as not in the tree.
+#[inline(always)]
+fn forget<L: Ledger>(block: &mut Block, id: u32, steps: &mut Steps<L>)
+    requires inside { id < length block.old }
+    ensures block { block.new ≡ ranked block.old id 0 }
+    ensures steps { steps.new ≡ steps.old + 1 }
 {
-    match place.side {
-        Side::Left if place.parent == first => id,
-        _ => first,
+    block.set_rank(id, 0, steps);
+}
+
+/// The first timer once this one is inserted on a side of this parent.
+fn put_first(first: &mut u32, side: Side, parent: u32, id: u32)
+    ensures { first.new ≡ first_on side parent first.old id }
+{
+    if let Side::Left = side
+        && parent == *first
+    {
+        *first = id;
     }
 }
 
 /// The first timer once this one, with this node, is taken out. The first node has at most one node on its right.
-fn first_without(node: Node, first: u32, id: u32) -> u32
-    ensures { result ≡ (if nat_eq first id then (if nat_eq node.right none then node.parent else node.right) else first) }
+fn drop_first(first: &mut u32, node: Node, id: u32)
+    ensures { first.new ≡ first_off node first.old id }
 {
-    if first != id {
-        first
-    } else if node.right == NONE {
-        node.parent
-    } else {
-        node.right
+    if *first == id {
+        *first = if node.right == NONE {
+            node.parent
+        } else {
+            node.right
+        };
     }
 }

@@ -1,11 +1,14 @@
-use Rattle.std.proofs.Common.{ℕ, List}
-use Rattle.timer_tree.specs.Nodes.{node_at}
+use Rattle.std.proofs.Common.{◌≡◌, ℕ, List}
+use Rattle.timer_tree.specs.Nodes.{none, node_at}
 use Rattle.timer_tree.specs.Places.{IsFinding, IsSearched}
 use Rattle.timer_tree.proofs.add.find.Given as goal
 
 -- the place is found in the subtree that is left
 abbrev pub invariant-loop-at : goal.invariant-loop-at
-invariant-loop-at g l = (ps : List (ℕ × ℕ)) → IsSearched l.fn.block l.fn.root ps → IsFinding l.fn.block l.fn.root l.place l.at l.expires ps l.fn.steps l.steps
+invariant-loop-at g l = record {
+  finding : (ps : List (ℕ × ℕ)) → IsSearched l.fn.block l.fn.root ps → IsFinding l.fn.block l.fn.root l.parent l.at l.expires ps l.fn.steps l.steps;
+  links : (l.parent ≡ none → ⊥) → (l.left ≡ (node_at l.block l.parent).left) × (l.right ≡ (node_at l.block l.parent).right);
+}
 
 abbrev pub decreases-loop-at : goal.decreases-loop-at
 decreases-loop-at g l = (node_at l.block l.at).rank

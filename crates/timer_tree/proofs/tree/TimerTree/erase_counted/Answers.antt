@@ -7,13 +7,19 @@ use Rattle.timer_tree.proofs.tree.TimerTree.erase_counted.Given.{Over}
 use Rattle.timer_tree.proofs.tree.TimerTree.erase_counted.Goals as goal
 
 pub read-node-requires : goal.read-node-requires
-read-node-requires g c = record { inside = has_inside c.self.inside.block c.self.inside.root c.self.inside.first (queue_at c.self.inside.block c.self.inside.root) c.args.id c.self.invariant (subst (λ v. has_id c.args.id v.0 ≡ true) (sym c.self.view_is) c.requires.present) }
+read-node-requires g c = record {
+  inside = has_inside c.self.inside.block c.self.inside.root c.self.inside.first
+      (queue_at c.self.inside.block c.self.inside.root) c.args.id c.self.invariant
+      (subst (λ v. has_id c.args.id v.0 ≡ true) (sym c.self.view_is) c.requires.present);
+}
 
 pub take_out-broken-requires-clause-inside : goal.take_out-broken-requires-clause-inside
-take_out-broken-requires-clause-inside g c = has_inside c.self.inside.block c.self.inside.root c.self.inside.first (queue_at c.self.inside.block c.self.inside.root) c.args.id c.self.invariant (subst (λ v. has_id c.args.id v.0 ≡ true) (sym c.self.view_is) c.requires.present)
+take_out-broken-requires-clause-inside g c = has_inside c.self.inside.block c.self.inside.root c.self.inside.first
+    (queue_at c.self.inside.block c.self.inside.root) c.args.id c.self.invariant
+    (subst (λ v. has_id c.args.id v.0 ≡ true) (sym c.self.view_is) c.requires.present)
 
-pub set_rank-requires : goal.set_rank-requires
-set_rank-requires g c =
+pub forget-requires : goal.forget-requires
+forget-requires g c =
     let xs = c.self.inside.block in
     let ps = queue_at xs c.self.inside.root in
     let present = subst (λ v. has_id c.args.id v.0 ≡ true) (sym c.self.view_is) c.requires.present in
@@ -22,24 +28,36 @@ set_rank-requires g c =
 
 pub take_out-broken-requires-clause-taking : goal.take_out-broken-requires-clause-taking
 take_out-broken-requires-clause-taking g c =
-    let ps = queue_at c.self.inside.block c.self.inside.root in
-    (ps, takes c.self.inside.block c.self.inside.root c.self.inside.first c.args.id ps c.self.invariant (subst (λ v. has_id c.args.id v.0 ≡ true) (sym c.self.view_is) c.requires.present))
+    let ps = queue_at c.self.inside.block c.self.inside.root in (
+      ps,
+      takes c.self.inside.block c.self.inside.root c.self.inside.first c.args.id ps c.self.invariant
+          (subst (λ v. has_id c.args.id v.0 ≡ true) (sym c.self.view_is) c.requires.present),
+    )
 
-pub repair-self-inside-requires : goal.repair-self-inside-requires
-repair-self-inside-requires g c =
+pub sink-requires : goal.sink-requires
+sink-requires g c =
     let xs = c.self.inside.block in
     let ps = queue_at xs c.self.inside.root in
     let present = subst (λ v. has_id c.args.id v.0 ≡ true) (sym c.self.view_is) c.requires.present in
-    let taken = c.take_out-broken.ensures ps (takes xs c.self.inside.root c.self.inside.first c.args.id ps c.self.invariant present) in
-    (without c.args.id ps, taken.levels, taken_can xs c.self.inside.root c.self.inside.first c.args.id ps c.take_out-broken.new.block c.take_out-broken.result c.read-node.new.steps c.take_out-broken.new.steps c.set_rank.new.self c.self.invariant taken c.set_rank.ensures.block)
+    let taken = c.take_out-broken.ensures ps (takes xs c.self.inside.root c.self.inside.first c.args.id ps c.self.invariant present) in (
+      without c.args.id ps,
+      taken.levels,
+      taken_can xs c.self.inside.root c.self.inside.first c.args.id ps c.take_out-broken.new.block
+          c.take_out-broken.new.root c.take_out-broken.result c.read-node.new.steps c.take_out-broken.new.steps c.forget.new.block c.self.invariant taken
+          c.forget.ensures.block,
+    )
 
-done : (g : Over) (c : goal.After-self-2-1 g) → Erased (queue_at c.self.inside.block c.self.inside.root) (length c.self.inside.block) c.args.id c.repair-self-inside.new.block c.repair-self-inside.result c.first_without-self-inside.result c.args.steps.now c.repair-self-inside.new.steps
+done : (g : Over) (c : goal.After-sink g) → Erased (queue_at c.self.inside.block c.self.inside.root) (length c.self.inside.block) c.args.id c.sink.new.block
+    c.sink.new.root c.drop_first.new.first c.args.steps.now c.sink.new.steps
 done g c =
     let xs = c.self.inside.block in
     let ps = queue_at xs c.self.inside.root in
     let present = subst (λ v. has_id c.args.id v.0 ≡ true) (sym c.self.view_is) c.requires.present in
     let taken = c.take_out-broken.ensures ps (takes xs c.self.inside.root c.self.inside.first c.args.id ps c.self.invariant present) in
-    erased xs c.self.inside.root c.self.inside.first c.args.id c.read-node.result ps c.take_out-broken.new.block c.take_out-broken.result c.args.steps.now c.read-node.new.steps c.take_out-broken.new.steps c.set_rank.new.self c.set_rank.new.steps c.repair-self-inside.new.block c.repair-self-inside.result c.first_without-self-inside.result c.repair-self-inside.new.steps c.self.invariant present c.read-node.ensures.node c.first_without-self-inside.ensures c.read-node.ensures.steps taken c.set_rank.ensures.block c.set_rank.ensures.steps c.repair-self-inside.ensures
+    erased xs c.self.inside.root c.self.inside.first c.args.id c.read-node.result ps c.take_out-broken.new.block c.take_out-broken.new.root
+    c.take_out-broken.result c.args.steps.now c.read-node.new.steps c.take_out-broken.new.steps c.forget.new.block c.forget.new.steps c.sink.new.block
+    c.sink.new.root c.drop_first.new.first c.sink.new.steps c.self.invariant present c.read-node.ensures.node c.drop_first.ensures
+    c.read-node.ensures.steps taken c.forget.ensures.block c.forget.ensures.steps c.sink.ensures
 
 pub invariant_of-self : goal.invariant_of-self
 invariant_of-self g c = (done g c).stored
@@ -54,4 +72,4 @@ pub returns-clause-kept : goal.returns-clause-kept
 returns-clause-kept g c = (done g c).stored.queue
 
 pub returns-clause-steps : goal.returns-clause-steps
-returns-clause-steps g c = subst (λ v. (d : ℕ) → length v.0 + 1 < 2 ^ d → c.repair-self-inside.new.steps ≤ c.args.steps.now + 32 * (d + 1)) c.self.view_is (done g c).count
+returns-clause-steps g c = subst (λ v. (d : ℕ) → length v.0 + 1 < 2 ^ d → c.sink.new.steps ≤ c.args.steps.now + 32 * (d + 1)) c.self.view_is (done g c).count

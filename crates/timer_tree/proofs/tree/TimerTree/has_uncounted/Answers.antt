@@ -8,7 +8,8 @@ use Rattle.timer_tree.proofs.tree.TimerTree.has_uncounted.Goals as goal
 
 pub returns-then-not-holds-clause-has : goal.returns-then-not-holds-clause-has
 returns-then-not-holds-clause-has g c =
-    has_past c.self.inside.block c.self.inside.root c.self.inside.first (queue_at c.self.inside.block c.self.inside.root) c.args.id c.self.invariant (ltb-false _ _ (sym c.holds.ensures ∙ c.if-not-holds.true))
+    has_past c.self.inside.block c.self.inside.root c.self.inside.first (queue_at c.self.inside.block c.self.inside.root) c.args.id c.self.invariant
+    (ltb-false _ _ (sym c.holds.ensures ∙ c.if-not-holds.true))
     ∙ ap (λ v. has_id c.args.id v.0) c.self.view_is
 
 pub returns-clause-has : goal.returns-clause-has
