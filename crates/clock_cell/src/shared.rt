@@ -193,6 +193,20 @@ impl SharedClock {
         absorb(&self.cell, &mut main.seat, other.into_seat());
     }
 
+    /// A pass takes in another, as by `join`, and looks: it has then seen all that both had seen.
+    pub fn take_in<R: Wait>(&self, rt: &R, main: &mut ClockPass, other: ClockPass) -> Reading
+        requires pass { IsPassOfClock self.now main.old × IsPassOfClock self.now other }
+        requires answers { AnswersFor main.old.knows.pass.id other.knows.pass.id }
+        ensures pass { IsPassOfClock self.now main.new }
+        ensures reading { result ≡ seen_reading main.new.knows }
+        ensures retires { Retires main.old.knows.pass other.knows.pass main.new.knows.pass }
+        ensures heard { main.new.knows.heard ≡ [] }
+        ensures known { KnowsClock main.new.knows }
+    {
+        self.join(main, other);
+        self.read(rt, main)
+    }
+
     /// Ends a clock with its last pass.
     pub fn close(self, pass: ClockPass)
         requires pass { IsPassOfClock self pass }
