@@ -19,7 +19,7 @@ use Rattle.timer_setting.specs.declared.arming.Arm.{Arm}
 use Rattle.timer_setting.specs.declared.arming.Arm.TheVariants as arms
 use Rattle.timer_setting.specs.declared.arming.Wanted.{Wanted}
 use Rattle.timer_objects.specs.declared.cell.Span.{Span}
-use Rattle.timer_objects.specs.Arming.{ArmsFor, SeesTimer, arm_of}
+use Rattle.timer_objects.specs.Arming.{ArmsFor, SeesTimer, arm_of, quiet_at, stamp_seen}
 use Rattle.timer_objects.specs.Calls.{RearmsFor}
 use Rattle.timer_objects.specs.Valid.{end_by}
 use Rattle.timer_objects.proofs.Settings.{armed_end}
@@ -38,6 +38,10 @@ module _ (o : Opening) (v w : KnownOfTimers) (t ns asked : ℕ) (reading : Clock
       ∙ kept_expiry u (moves_first u asked)
   expiry (starts.Spent n) g s e = cc
 
+quiet_behind : (last : ℕ) (running : Option ℕ) (stamp : ℕ) → last ≤ quiet_at last running stamp
+quiet_behind last None stamp = omega arith
+quiet_behind last (Some g) stamp = omega arith
+
 module _ (o : Opening) (v w : KnownOfTimers) (t last base : ℕ) (reading : ClockReading) (arm : Arm) (log log' : List Receipt) where
   pub rearms_by : (m : KnownOfTimers) (from n : ℕ) (wanted : Option Wanted) (start : Wanted) → wanted ≡ Some start → n ≡ end_by arm from
       → SeesTimer o v m t last from → ArmsFor o m w t (Some start) base reading arm log log'
@@ -55,7 +59,9 @@ module _ (o : Opening) (v w : KnownOfTimers) (t last base : ℕ) (reading : Cloc
   -- its span begins where the last one ended, or later, and doesn't end before its beginning
   pub spans : (wanted : Option Wanted) (span : Span) → RearmsFor o v w t last wanted base reading arm span log log'
       → (last ≤ span.from) × (span.from ≤ span.to)
-  spans None span rearms = (rearms.1.behind, omega (arith, rearms.1.empty))
+  spans None span rearms =
+      let quiet = rearms.1 in
+      (subst (λ n. last ≤ n) (sym quiet.from) (quiet_behind last (timer_then o w.seen t).running (stamp_seen o w t)), omega (arith, quiet.to))
   spans (Some wanted) span rearms =
       let made = rearms.starts.starts.made in
       (rearms.behind, omega (arith, rearms.from, rearms.to, stamp_rises o rearms.begin.seen w.seen t (begins_trans made.from made.seen)))

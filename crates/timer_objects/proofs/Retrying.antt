@@ -38,7 +38,7 @@ module _ (o : Opening) (u v w : KnownOfTimers) (t last base : ℕ) (reading : Cl
       → RearmsFor o u w t last wanted base reading arm span log log''
   rearms_after None looks same rearms =
       let q = rearms.1 in
-      (rearms.0, record { looks = looks_trans u v w looks q.looks; empty = q.empty; behind = q.behind; seen = q.seen }, rearms.2 ∙ same)
+      (rearms.0, record { looks = looks_trans u v w looks q.looks; from = q.from; to = q.to }, rearms.2 ∙ same)
   rearms_after (Some wanted) looks same rearms = record {
     begin = rearms.begin;
     looks = looks_trans u v rearms.begin looks rearms.looks;

@@ -33,7 +33,7 @@ use Rattle.hr_timers.proofs.Moments.{stamp_made, stamp_rises, timer_after}
 use Rattle.expire_pass.proofs.Turning.{looks_then}
 use Rattle.expire_pass.specs.declared.log.Noted.TheVariants as noteds
 use Rattle.expire_pass.specs.declared.log.Receipt.{Receipt}
-use Rattle.timer_objects.specs.Arming.{Disarms, SeesQuietly, SeesTimer, Starts, arm_of, receipts_of}
+use Rattle.timer_objects.specs.Arming.{Disarms, SeesQuietly, SeesTimer, Starts, arm_of, quiet_at, receipts_of, stamp_seen}
 
 module _ (o : Opening) (v w : KnownOfTimers) (t : ℕ) (p : Peek) (peeks : Peeks o v w t p) where
   pub peek_looks : LooksOn v w
@@ -50,26 +50,33 @@ module _ (o : Opening) (v w : KnownOfTimers) (t last : ℕ) (p : Peek) (peeks : 
   then_seen : timer_then o w.seen t ≡ timer_then o peeks.at t
   then_seen = timer_after o v w t peeks.at [] peeks.made
 
+  shown : is_some (timer_then o w.seen t).running ≡ p.running
+  shown = ap (λ (u : Timer). is_some u.running) then_seen ∙ sym (ap (λ (q : Peek). q.running) peeks.fits)
+
+  stamped : stamp_seen o w t ≡ p.stamp
+  stamped = ap (λ (u : Timer). u.stamp) then_seen ∙ sym (ap (λ (q : Peek). q.stamp) peeks.fits)
+
   pub quiet_running : p.running ≡ true → SeesQuietly o v w t last (record { from = last; to = last })
   quiet_running runs = record {
     looks = peek_looks o v w t p peeks;
-    empty = refl;
-    behind = omega arith;
-    seen = λ none. absurd (no_run (timer_then o peeks.at t).running (sym (ap (λ (u : Timer). u.running) then_seen) ∙ none)
-        (sym (ap (λ (q : Peek). q.running) peeks.fits) ∙ runs));
+    from = at_last (timer_then o w.seen t).running (shown ∙ runs);
+    to = refl;
   }
     where
-      no_run : (r : Option ℕ) → r ≡ None → is_some r ≡ true → ⊥
-      no_run None e is = cc
-      no_run (Some g) e is = cc
+      at_last : (r : Option ℕ) → is_some r ≡ true → last ≡ quiet_at last r (stamp_seen o w t)
+      at_last None e = cc
+      at_last (Some g) e = refl
 
-  pub quiet_at : (n : ℕ) → n ≡ max last p.stamp → SeesQuietly o v w t last (record { from = n; to = n })
-  quiet_at n e = record {
+  pub quiet_rests : (n : ℕ) → n ≡ max last p.stamp → p.running ≡ false → SeesQuietly o v w t last (record { from = n; to = n })
+  quiet_rests n e rests = record {
     looks = peek_looks o v w t p peeks;
-    empty = refl;
-    behind = omega (arith, e);
-    seen = λ none. omega (arith, e, ap (λ (q : Peek). q.stamp) peeks.fits, ap (λ (u : Timer). u.stamp) then_seen);
+    from = e ∙ (ap (λ s. max last s) (sym stamped) ∙ at_seen (timer_then o w.seen t).running (shown ∙ rests));
+    to = refl;
   }
+    where
+      at_seen : (r : Option ℕ) → is_some r ≡ false → max last (stamp_seen o w t) ≡ quiet_at last r (stamp_seen o w t)
+      at_seen None e = refl
+      at_seen (Some g) e = cc
 
 -- what was seen before a cancel goes on to it
 abbrev pub cancels_after : (o : Opening) (u v w : KnownOfTimers) (t : ℕ) (a : CancelAnswer) → LooksOn u v → Cancels o v w t a → Cancels o u w t a

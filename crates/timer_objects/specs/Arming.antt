@@ -1,5 +1,5 @@
 -- What a call on an object does to its timer: it disarms it or looks at it, starts it where it wants that, and notes a receipt of each entry.
-use Rattle.std.specs.Prelude.{ℕ, ◌≡◌, ◌+◌, ◌≤◌, List, [], ◌∷◌, ◌++◌, length, Option, Some, None}
+use Rattle.std.specs.Prelude.{ℕ, ◌≡◌, ◌+◌, ◌≤◌, max, List, [], ◌∷◌, ◌++◌, length, Option, Some, None}
 use Rattle.ktime.specs.Readings.{ClockReading}
 use Rattle.pass_names.specs.SharedHistory.{LooksOn}
 use Rattle.seq_timer.specs.Histories as seq
@@ -62,10 +62,14 @@ pub record SeesTimer (o : Opening) (v w : KnownOfTimers) (t last n : ℕ) : Type
   pub number : n ≡ stamp_seen o w t
   pub behind : last ≤ n
 
--- A timer was looked at by a call that wants no start of it. The call's span is empty, and not before the end of the last one; nor before what
--- was seen, unless the timer's function was running then, which may trigger the object yet.
+-- where the empty span of a call stands that does nothing to its timer: where it saw that, or where the last span ended, if that is later or the
+-- timer's function was running, which may trigger the object yet
+abbrev pub quiet_at : ℕ → Option ℕ → ℕ → ℕ
+quiet_at last None stamp = max last stamp
+quiet_at last (Some running) stamp = last
+
+-- a timer was looked at by a call that wants no start of it, and the call's span is empty
 pub record SeesQuietly (o : Opening) (v w : KnownOfTimers) (t last : ℕ) (span : Span) : Type 0 where
   pub looks : LooksOn v w
-  pub empty : span.from ≡ span.to
-  pub behind : last ≤ span.from
-  pub seen : (timer_then o w.seen t).running ≡ None → stamp_seen o w t ≤ span.from
+  pub from : span.from ≡ quiet_at last (timer_then o w.seen t).running (stamp_seen o w t)
+  pub to : span.to ≡ span.from

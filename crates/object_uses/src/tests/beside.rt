@@ -1,0 +1,97 @@
+//! A read of a descriptor beside the run that expires its timer, by two threads: whichever comes first, no expiry is lost and none counted twice.
+ghost use Rattle.std.specs.Prelude.{◌≤◌, ◌<◌};
+ghost use Rattle.object_uses.specs.Stands.{IsStand};
+
+use super::stand::{FD, Stand, Step, Told};
+use crate::{Expired, read_beside};
+use expire_pass::{ExpireAnswer, Log};
+use ktime::{ClockId, Reading};
+use std::alloc::{AllocError, Global};
+use std::sync::Wait;
+use std::test::Fail;
+use std::thread::Threads;
+use timer_fd::{ReadAnswer, SettimeAnswer};
+use timer_objects::{Callback, ObjectReceipt};
+
+impl Stand {
+    /// One thread runs the functions of due timers, the other reads the descriptor.
+    fn read_beside<R: Threads + Wait + Sync>(
+        &mut self,
+        rt: &R,
+        alloc: Global,
+        reading: Reading,
+        runs: &mut Log,
+    ) -> (Result<Expired, AllocError>, ReadAnswer)
+        requires stand { IsStand self.old.timers self.old.pass self.old.objects self.old.objects_pass }
+        requires room { (4 ≤ self.old.log.spare) × (0 < self.old.calls.spare) × (4 ≤ runs.old.spare) }
+        ensures stand { IsStand self.new.timers self.new.pass self.new.objects self.new.objects_pass }
+    {
+        let timers = &self.timers;
+        let objects = &self.objects;
+        let callbacks = [Callback::Once, Callback::Once];
+        read_beside(
+            rt,
+            alloc,
+            timers,
+            &mut self.pass,
+            objects,
+            &mut self.objects_pass,
+            &callbacks,
+            0,
+            2,
+            FD,
+            reading,
+            runs,
+            &mut self.log,
+            &mut self.calls,
+        )
+    }
+}
+
+/// The number of a receipt of the descriptor.
+fn number_at(receipts: &[ObjectReceipt], i: usize) -> Option<u64> {
+    let receipt = receipts.get(i)?;
+    (receipt.object == FD).then_some(receipt.number)
+}
+
+#[test]
+fn a_read_beside_a_run_loses_no_expiry(rt: HostRuntime) -> Result<(), Fail> {
+    let mut runs = Log::make(rt.alloc());
+    runs.reserve(4)?;
+    let mut stand = Stand::make(rt.alloc(), ClockId::Monotonic, 100)?;
+    let late = Reading::at(135);
+    let none = SettimeAnswer::Old {
+        left: 0,
+        interval: 0,
+    };
+    let step = Step::Settime(FD, 1, 100, 10);
+    assert_eq!(rt; stand.take(&rt, step, Reading::at(0)), Told::Settime(none));
+    assert!(rt; stand.log.reserve(8).is_ok() && stand.calls.reserve(2).is_ok());
+    let (ran, first) = stand.read_beside(&rt, rt.alloc(), late, &mut runs);
+    let Ok(
+        Expired {
+            answer,
+            callback_log: _,
+            object_log,
+        },
+    ) = ran
+    else {
+        stand.close();
+        return Err(AllocError.into());
+    };
+    assert_eq!(rt; answer, ExpireAnswer::Done { fired: 1 });
+    let count = ReadAnswer::Count { total: 4 };
+    let (told, rest, order) = if first == ReadAnswer::Again {
+        (ReadAnswer::Again, count, (Some(2), Some(3)))
+    } else {
+        (count, ReadAnswer::Again, (Some(3), Some(2)))
+    };
+    assert_eq!(rt; first, told);
+    assert_eq!(rt; stand.take(&rt, Step::Read(8), late), Told::Read(rest));
+    let read = number_at(stand.calls.receipts(), 1);
+    let trigger = number_at(object_log.receipts(), 0);
+    assert_eq!(rt; (read, trigger), order);
+    assert_eq!(rt; number_at(stand.calls.receipts(), 2), Some(4));
+    stand.close();
+    Ok(())
+}

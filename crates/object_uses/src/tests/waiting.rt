@@ -1,0 +1,345 @@
+//! A settime that meets the running function of its timer, by two threads: it waits, and its entry stands behind the trigger that the function
+//! makes.
+ghost use Rattle.std.specs.Prelude.{◌≡◌, ◌≢◌, ◌+◌, ◌≤◌, ◌<◌, length};
+ghost use Rattle.hr_timers.specs.Known.{IsPassOf};
+ghost use Rattle.expire_pass.specs.Handlers.{KeepsPass};
+ghost use Rattle.timer_objects.specs.declared.object.Kind.TheVariants as kinds;
+ghost use Rattle.timer_objects.specs.Known.{IsObjectsPass, Suits, decl_at};
+ghost use Rattle.object_uses.specs.Callers.{KeepsObjectsPass};
+ghost use Rattle.object_uses.specs.Stands.{IsStand};
+
+use super::expected::{fd, fd_set, ran, settime, start};
+use super::stand::{FD, POSIX, Stand, Step, Told};
+use crate::set_timer;
+use counted_row::RowPass;
+use expire_pass::{ExpireAnswer, Handler, Log, Restart, expire};
+use hr_timers::{Claim, Pass, Timers};
+use ktime::{ClockId, Mode, Reading};
+use std::alloc::{AllocError, Global};
+use std::sync::Wait;
+use std::test::Fail;
+use std::thread::{Threads, join_mut};
+use timer_fd::SettimeAnswer;
+use timer_objects::{Callback, Firing, ObjectCell, ObjectLog, Objects};
+use timer_setting::{Arm, TriggerAnswer};
+
+/// How often a thread looks for what the other one does.
+const TURNS: u32 = 50_000_000;
+
+/// How often a function looks on once the other thread is about to set its timer.
+const WAITS: u32 = 100_000;
+
+/// A function that waits until the POSIX timer is armed, or gives up, and then triggers the object over its own timer.
+struct Gated<'a, 'b> {
+    firing: &'a mut Firing<'b>,
+    met: bool,
+}
+
+impl Handler for Gated<'_, '_> {
+    ghost use Rattle.std.specs.Prelude.{◌≡◌, length};
+    ghost use Rattle.timer_objects.specs.Callbacks.{bases_of};
+    ghost use Rattle.timer_objects.specs.Firings.{ready_of};
+    ghost use Rattle.object_uses.specs.Waiting.{FiresLater};
+
+    ghost meaning = { record { did = λ o h h' v w c reading restart. (h'.firing.ghost_name ≡ h.firing.ghost_name) × FiresLater o h.firing.now h'.firing.now v w c reading restart; ready = λ h. ready_of h.firing.now; timers = λ h. length h.firing.now.objects.now.decls; bases = λ h. bases_of h.firing.now.callbacks.now } };
+
+    fn fire<R: Wait>(
+        &mut self,
+        rt: &R,
+        timers: &Timers,
+        pass: &mut Pass,
+        claim: &Claim,
+        reading: Reading,
+    ) -> Restart {
+        let timer = claim.timer();
+        self.met = meet(timers, pass, timer.saturating_sub(1));
+        look_on(timers, pass, timer);
+        self.firing.fire(rt, timers, pass, claim, reading)
+    }
+}
+
+/// Whether a timer is armed before it was looked at too often.
+fn meet(timers: &Timers, pass: &mut Pass, timer: u32) -> bool
+    requires pass { IsPassOf timers.now pass.old }
+    requires timer { timer < length timers.now.about.timers }
+    ensures pass { IsPassOf timers.now pass.new }
+    ensures keeps { KeepsPass pass.old.known pass.new.known }
+{
+    for _ in 0..TURNS {
+        if timers.peek(pass, timer).enqueued {
+            return true;
+        }
+    }
+    false
+}
+
+/// Looks at a timer for a while, in which the other thread tries to set it.
+fn look_on(timers: &Timers, pass: &mut Pass, timer: u32)
+    requires pass { IsPassOf timers.now pass.old }
+    requires timer { timer < length timers.now.about.timers }
+    ensures pass { IsPassOf timers.now pass.new }
+    ensures keeps { KeepsPass pass.old.known pass.new.known }
+{
+    for _ in 0..WAITS {
+        timers.peek(pass, timer);
+    }
+}
+
+/// What the thread that runs the function was told, and has noted.
+#[derive(Drop)]
+struct Ran {
+    answer: ExpireAnswer,
+    met: bool,
+    triggers: ObjectLog,
+}
+
+/// Runs the function of one due timer, at 100.
+fn run_one<R: Wait>(
+    rt: &R,
+    alloc: Global,
+    timers: &Timers,
+    pass: &mut Pass,
+    objects: &Objects,
+    objects_pass: &mut RowPass<ObjectCell>,
+    log: &mut Log,
+) -> Result<Ran, AllocError>
+    requires timers { IsPassOf timers.now pass.old }
+    requires objects { IsObjectsPass objects.now objects_pass.old }
+    requires suits { Suits objects.now timers.now.about }
+    requires two { length objects.now.decls ≡ 2 }
+    requires base { 0 < timers.now.about.bases }
+    requires room { 2 ≤ log.old.spare }
+    ensures timers { IsPassOf timers.now pass.new }
+    ensures keeps { KeepsPass pass.old.known pass.new.known }
+    ensures objects { IsObjectsPass objects.now objects_pass.new }
+    ensures goes_on { KeepsObjectsPass objects_pass.old objects_pass.new }
+{
+    let callbacks = [Callback::Once, Callback::Once];
+    let mut firing = Firing::make(alloc, objects, objects_pass, &callbacks);
+    if firing.reserve(1).is_err() {
+        let _ = firing.into_logs();
+        return Err(AllocError);
+    }
+    let mut gated = Gated {
+        firing: &mut firing,
+        met: false,
+    };
+    let answer = expire(rt, timers, pass, 0, Reading::at(100), 1, &mut gated, log);
+    let Gated { firing: _, met } = gated;
+    let (_, triggers) = firing.into_logs();
+    Ok(Ran {
+        answer,
+        met,
+        triggers,
+    })
+}
+
+/// Sets an object to 500, at 100.
+fn set_one<R: Wait>(
+    rt: &R,
+    timers: &Timers,
+    pass: &mut Pass,
+    objects: &Objects,
+    objects_pass: &mut RowPass<ObjectCell>,
+    log: &mut Log,
+    calls: &mut ObjectLog,
+    id: u32,
+) -> SettimeAnswer
+    requires timers { IsPassOf timers.now pass.old }
+    requires objects { IsObjectsPass objects.now objects_pass.old }
+    requires suits { Suits objects.now timers.now.about }
+    requires within { id < length objects.now.decls }
+    requires kind { (decl_at objects.now id).kind ≢ kinds.Raw }
+    requires room { (4 ≤ log.old.spare) × (0 < calls.old.spare) }
+    ensures timers { IsPassOf timers.now pass.new }
+    ensures keeps { KeepsPass pass.old.known pass.new.known }
+    ensures objects { IsObjectsPass objects.now objects_pass.new }
+    ensures goes_on { KeepsObjectsPass objects_pass.old objects_pass.new }
+    ensures room { (log.old.spare ≤ log.new.spare + 4) × (calls.old.spare ≤ calls.new.spare + 1) }
+{
+    let now = Reading::at(100);
+    set_timer(
+        rt,
+        timers,
+        pass,
+        objects,
+        objects_pass,
+        log,
+        calls,
+        id,
+        1,
+        500,
+        0,
+        now,
+    )
+}
+
+/// Once the function of the descriptor's timer runs, sets the POSIX timer, which lets it go on, and then the descriptor.
+fn set_running<R: Wait>(
+    rt: &R,
+    timers: &Timers,
+    pass: &mut Pass,
+    objects: &Objects,
+    objects_pass: &mut RowPass<ObjectCell>,
+    log: &mut Log,
+    calls: &mut ObjectLog,
+) -> Option<SettimeAnswer>
+    requires timers { IsPassOf timers.now pass.old }
+    requires objects { IsObjectsPass objects.now objects_pass.old }
+    requires suits { Suits objects.now timers.now.about }
+    requires two { length objects.now.decls ≡ 2 }
+    requires kinds { ((decl_at objects.now 0).kind ≡ kinds.Posix) × ((decl_at objects.now 1).kind ≡ kinds.Fd) }
+    requires room { (8 ≤ log.old.spare) × (2 ≤ calls.old.spare) }
+    ensures timers { IsPassOf timers.now pass.new }
+    ensures keeps { KeepsPass pass.old.known pass.new.known }
+    ensures objects { IsObjectsPass objects.now objects_pass.new }
+    ensures name { objects_pass.new.knows.pass.id ≡ objects_pass.old.knows.pass.id }
+{
+    if !is_running(timers, pass) {
+        return None;
+    }
+    set_one(rt, timers, pass, objects, objects_pass, log, calls, POSIX);
+    Some(set_one(rt, timers, pass, objects, objects_pass, log, calls, FD))
+}
+
+/// Whether the function of the descriptor's timer was seen to run before it was looked at too often.
+fn is_running(timers: &Timers, pass: &mut Pass) -> bool
+    requires pass { IsPassOf timers.now pass.old }
+    requires timer { 1 < length timers.now.about.timers }
+    ensures pass { IsPassOf timers.now pass.new }
+    ensures keeps { KeepsPass pass.old.known pass.new.known }
+{
+    for _ in 0..TURNS {
+        if timers.peek(pass, FD).running {
+            return true;
+        }
+    }
+    false
+}
+
+/// One thread runs the function, the other sets its timer.
+fn run_and_set<R: Threads + Wait + Sync>(
+    rt: &R,
+    alloc: Global,
+    timers: &Timers,
+    runner: &mut Pass,
+    setter: &mut Pass,
+    objects: &Objects,
+    objects_runner: &mut RowPass<ObjectCell>,
+    objects_setter: &mut RowPass<ObjectCell>,
+    runs: &mut Log,
+    log: &mut Log,
+    calls: &mut ObjectLog,
+) -> (Result<Ran, AllocError>, Option<SettimeAnswer>)
+    requires timers { IsPassOf timers.now runner.old × IsPassOf timers.now setter.old }
+    requires base { 0 < timers.now.about.bases }
+    requires objects { IsObjectsPass objects.now objects_runner.old × IsObjectsPass objects.now objects_setter.old }
+    requires suits { Suits objects.now timers.now.about }
+    requires two { length objects.now.decls ≡ 2 }
+    requires kinds { ((decl_at objects.now 0).kind ≡ kinds.Posix) × ((decl_at objects.now 1).kind ≡ kinds.Fd) }
+    requires room { (2 ≤ runs.old.spare) × (8 ≤ log.old.spare) × (2 ≤ calls.old.spare) }
+    ensures timers { IsPassOf timers.now runner.new × IsPassOf timers.now setter.new }
+    ensures keeps { KeepsPass runner.old.known runner.new.known × KeepsPass setter.old.known setter.new.known }
+    ensures objects { IsObjectsPass objects.now objects_runner.new × IsObjectsPass objects.now objects_setter.new }
+    ensures goes_on { KeepsObjectsPass objects_runner.old objects_runner.new }
+    ensures name { objects_setter.new.knows.pass.id ≡ objects_setter.old.knows.pass.id }
+{
+    join_mut(
+        rt,
+        &mut || run_one(rt, alloc, timers, runner, objects, objects_runner, runs),
+        &mut || { set_running(rt, timers, setter, objects, objects_setter, log, calls) },
+    )
+}
+
+impl Stand {
+    /// One thread runs the function of the descriptor's timer, the other sets that meanwhile.
+    fn set_beside<R: Threads + Wait + Sync>(
+        &mut self,
+        rt: &R,
+        alloc: Global,
+        runs: &mut Log,
+    ) -> (Result<Ran, AllocError>, Option<SettimeAnswer>)
+        requires stand { IsStand self.old.timers self.old.pass self.old.objects self.old.objects_pass }
+        requires room { (8 ≤ self.old.log.spare) × (2 ≤ self.old.calls.spare) × (2 ≤ runs.old.spare) }
+        ensures stand { IsStand self.new.timers self.new.pass self.new.objects self.new.objects_pass }
+    {
+        let timers = &self.timers;
+        let objects = &self.objects;
+        let mut other = timers.split(&mut self.pass);
+        let mut objects_other = objects.split(&mut self.objects_pass);
+        let told = run_and_set(
+            rt,
+            alloc,
+            timers,
+            &mut self.pass,
+            &mut other,
+            objects,
+            &mut self.objects_pass,
+            &mut objects_other,
+            runs,
+            &mut self.log,
+            &mut self.calls,
+        );
+        timers.retire(&mut self.pass, other);
+        objects.join(&mut self.objects_pass, objects_other);
+        told
+    }
+}
+
+#[test]
+fn settime_waits_for_the_trigger(rt: HostRuntime) -> Result<(), Fail> {
+    let mut runs = Log::make(rt.alloc());
+    runs.reserve(2)?;
+    let mut stand = Stand::make(rt.alloc(), ClockId::Monotonic, 100)?;
+    let (zero, due) = (Reading::at(0), Reading::at(100));
+    let none = SettimeAnswer::Old {
+        left: 0,
+        interval: 0,
+    };
+    let step = Step::Settime(FD, 1, 100, 0);
+    assert_eq!(rt; stand.take(&rt, step, zero), Told::Settime(none));
+    assert!(rt; stand.log.reserve(8).is_ok() && stand.calls.reserve(2).is_ok());
+    let (function, told) = stand.set_beside(&rt, rt.alloc(), &mut runs);
+    let Ok(
+        Ran {
+            answer,
+            met,
+            triggers,
+        },
+    ) = function
+    else {
+        stand.close();
+        return Err(AllocError.into());
+    };
+    assert!(rt; met);
+    assert_eq!(rt; answer, ExpireAnswer::More { fired: 1 });
+    assert_eq!(rt; told, Some(none));
+    assert_eq!(rt; runs.receipts(), ran(FD, due).as_slice());
+    let entries = [
+        start(FD, 1, Mode::Abs, 100, zero, ClockId::Monotonic, 100),
+        start(POSIX, 1, Mode::Abs, 500, due, ClockId::Monotonic, 500),
+        start(FD, 4, Mode::Abs, 500, due, ClockId::Monotonic, 500),
+    ];
+    assert_eq!(rt; stand.log.receipts(), entries.as_slice());
+    let trigger = timer_fd::Call::Trigger {
+        generation: 1,
+        reading: due,
+    };
+    let counted = timer_fd::Reply::Trigger(TriggerAnswer::Counted);
+    assert_eq!(rt;
+        triggers.receipts(),
+        [fd(2, trigger, 1, 2, counted)].as_slice()
+    );
+    let first = settime(1, 100, 0, zero, Arm::Armed(1));
+    let late = settime(1, 500, 0, due, Arm::Armed(4));
+    assert_eq!(rt;
+        stand.calls.receipts().get(0).copied(),
+        Some(fd_set(1, first, 0, 1, none))
+    );
+    assert_eq!(rt;
+        stand.calls.receipts().get(2).copied(),
+        Some(fd_set(3, late, 3, 4, none))
+    );
+    stand.close();
+    Ok(())
+}
