@@ -1,0 +1,370 @@
+-- Expiry runs, by what their pass had seen at each of its calls: before and after each claim, after each callback, after each finish.
+use Rattle.std.proofs.Common.{◌≡◌, ◌<◌, ◌≤◌, ℕ, List, [], ◌∷◌, ◌++◌, Some, length, map, arith, refl, sym, ap, ◌∙◌, subst}
+use Rattle.std.specs.List.{AllByRecursion}
+use Rattle.std.specs.Prelude.{flat_map}
+use Rattle.std.proofs.Math.Logic.{⊎_elim}
+use Rattle.std.proofs.lemmas.List.{append-nil, append_assoc, map-append}
+use Rattle.ktime.specs.declared.mode.Mode.TheVariants as modes
+use Rattle.seq_timer.specs.declared.system.TimerEntry.{TimerEntry}
+use Rattle.record_text.specs.declared.record.Answer.TheVariants as answers
+use Rattle.record_text.specs.declared.record.Answer.{Answer}
+use Rattle.record_text.specs.declared.record.CallbackReply.TheVariants as replies
+use Rattle.record_text.specs.declared.record.CallbackReply.{CallbackReply}
+use Rattle.record_text.specs.declared.record.Entry.TheVariants as entries
+use Rattle.record_text.specs.declared.record.Entry.{Entry}
+use Rattle.record_text.specs.declared.record.Label.{Label}
+use Rattle.record_text.specs.declared.record.ObjectEntry.TheVariants as object_entries
+use Rattle.script_text.specs.Actions.{Action, Entered, Looked, Made, Skipped}
+use Rattle.script_text.specs.Calls.{IsBelowLimit, observed}
+use Rattle.script_text.specs.Objects.{kind_of}
+use Rattle.script_text.specs.Starts.{arming_actions}
+use Rattle.script_text.specs.declared.script.Call.TheVariants as calls
+use Rattle.script_text.specs.declared.script.Callback.TheVariants as callbacks
+use Rattle.script_text.specs.declared.script.Callback.{Callback}
+use Rattle.script_text.specs.declared.script.Kind.TheVariants as kinds
+use Rattle.script_text.specs.declared.script.Kind.{Kind}
+use Rattle.run_history.specs.Calls.{Does, fires, IsBody, IsCallback, IsExpiryRun, IsTrigger}
+use Rattle.run_history.specs.Courses.{Course, Fired, timer_then, Trace}
+use Rattle.run_history.specs.Fits.{FitsCall, Seen}
+use Rattle.run_history.specs.Receipts.{Noted, receipt}
+use Rattle.run_history.specs.Rounds.{Spans}
+use Rattle.run_history.specs.Traces.{all_entered}
+use Rattle.run_history.specs.Truths.{AreTrue, IsClaimSpan, IsDone, IsMoment, IsSeen, Saw, SawFull}
+use Rattle.run_history.proofs.Actions.{all_entered-append}
+use Rattle.run_history.proofs.Kept.{call_made_whole, IsKept, moment_of, Stops}
+use Rattle.run_history.proofs.Known.{AreMade, made-append, made_wider, none_made, stops_between}
+use Rattle.run_history.proofs.OthersMade.{start_true}
+
+-- ---- truths in turn
+
+-- they may begin earlier
+true_earlier : (w : Course) (c : Label) (first from mid last : ℕ) (before es : List Action) → from ≤ mid → AreTrue w c first mid before es last
+    → AreTrue w c first from before es last
+true_earlier w c first from mid last before [] le all = omega (arith, le, all)
+true_earlier w c first from mid last before (d ∷ ds) le all = (all.0, omega (arith, le, all.1), all.2, all.3)
+
+true-append : (w : Course) (c : Label) (first from mid last : ℕ) (before ds es : List Action) → AreTrue w c first from before ds mid
+    → AreTrue w c first mid (before ++ ds) es last → AreTrue w c first from before (ds ++ es) last
+true-append w c first from mid last before [] es one two =
+    subst (λ b. AreTrue w c first from b es last) (append-nil before) (true_earlier w c first from mid last (before ++ []) es one two)
+true-append w c first from mid last before (d ∷ ds) es one two = (
+  one.0,
+  one.1,
+  one.2,
+  true-append w c first one.0 mid last (before ++ d ∷ []) ds es one.3
+      (subst (λ b. AreTrue w c first mid b es last) (sym (append_assoc before (d ∷ []) ds)) two),
+)
+
+-- ---- one callback
+
+-- the claim of a callback, and its finish
+abbrev pub claim_of : ℕ → ℕ → Fired → Entry
+claim_of base at f = entries.Claim base at f.generation
+
+abbrev pub finish_of : Fired → Entry
+finish_of f = entries.Finish f.restart f.generation f.rearmed
+
+-- what was done before a callback, and its claim
+abbrev pub with_claim : ℕ → ℕ → Fired → List Action → List Action
+with_claim base at f before = before ++ Entered f.timer f.claim (claim_of base at f) ∷ []
+
+-- what a callback was told holds: a look, of the timer as it was when the pass had seen so many entries; a refused expiry, of the object, whose history
+-- was full
+abbrev pub ReplyHolds : Course → Label → List Action → ℕ → List Action → Type 0
+ReplyHolds w c before acted (Looked timer number look ∷ []) = Saw w timer number (observed look) acted × IsBelowLimit w.script.limit number look
+ReplyHolds w c before acted (Skipped i number generation ∷ []) = SawFull w c before i number
+ReplyHolds w c before acted ds = Unit
+
+-- one callback of an expiry run, from one number of entries that its pass had seen to another
+pub record Ran (w : Course) (c : Label) (order : List TimerEntry) (base at : ℕ) (before : List Action) (f : Fired) (from to : ℕ) : Type 0 where
+  -- that number after the claim, and where the callback's look held or after the callback
+  pub claimed : ℕ
+  pub acted : ℕ
+  -- the claim's receipt, the callback's, the finish's
+  pub claim : Noted
+  pub body : List Noted
+  pub finish : Noted
+  pub rise : from ≤ claimed
+  pub goes_on : claimed ≤ acted
+  pub ends : acted ≤ to
+  pub claim_made : AreMade order from claimed (claim ∷ [])
+  pub claim_is : receipt claim ≡ (f.timer, (f.claim, claim_of base at f))
+  pub body_made : AreMade order claimed acted body
+  pub body_is : map receipt body ≡ all_entered f.body
+  pub finish_made : AreMade order acted to (finish ∷ [])
+  pub finish_is : receipt finish ≡ (f.timer, (f.finish, finish_of f))
+  -- the callback is as its timer declares it, what it was told holds, and an expiry's span is the claim
+  pub kind : IsBody (kind_of w.script f.timer) at f
+  pub holds : ReplyHolds w c (with_claim base at f before) acted f.body
+  pub span : IsClaimSpan w f f.body
+
+-- its receipts
+abbrev pub notes_of : {w : Course} {c : Label} {order : List TimerEntry} {base at : ℕ} {before : List Action} {f : Fired} {from to : ℕ}
+    → Ran w c order base at before f from to → List Noted
+notes_of ran = ran.claim ∷ ran.body ++ ran.finish ∷ []
+
+no_notes : (xs : List Noted) → map receipt xs ≡ [] → xs ≡ []
+no_notes [] is = refl
+no_notes (x ∷ xs) is = absurd (cc)
+
+module _ {w : Course} {c : Label} {order : List TimerEntry} {base at : ℕ} {before : List Action} {f : Fired} {from to : ℕ}
+    (ran : Ran w c order base at before f from to) where
+  forward : from ≤ to
+  forward = omega (arith, ran.rise, ran.goes_on, ran.ends)
+
+  made_of : AreMade order from to (notes_of ran)
+  made_of =
+      made-append order from ran.acted to (ran.claim ∷ ran.body) (ran.finish ∷ [])
+      (made-append order from ran.claimed ran.acted (ran.claim ∷ []) ran.body ran.claim_made ran.body_made ran.rise ran.goes_on) ran.finish_made
+      (omega (arith, ran.rise, ran.goes_on)) ran.ends
+
+  notes_are : map receipt (notes_of ran) ≡ all_entered (fires base at f)
+  notes_are =
+      ap (λ x. x ∷ map receipt (ran.body ++ ran.finish ∷ [])) ran.claim_is
+      ∙ ap (λ xs. (f.timer, (f.claim, claim_of base at f)) ∷ xs) (map-append receipt ran.body (ran.finish ∷ [])
+      ∙ ap (λ xs. xs ++ receipt ran.finish ∷ []) ran.body_is ∙ ap (λ x. all_entered f.body ++ x ∷ []) ran.finish_is)
+      ∙ sym (ap (λ es. (f.timer, (f.claim, claim_of base at f)) ∷ es) (all_entered-append f.body (Entered f.timer f.finish (finish_of f) ∷ [])))
+
+-- the call's moments are where it had made so much, between these numbers
+abbrev pub AreMoments : Course → Label → List Noted → ℕ → ℕ → Type 0
+AreMoments w c notes low high = (early : List Action) (n : ℕ) → low ≤ n → n ≤ high → Stops c notes early n → IsMoment w c early n
+
+-- a callback among a call's receipts, those before it and those behind
+module _ {w : Course} {c : Label} {order : List TimerEntry} {base at : ℕ} {before : List Action} {f : Fired} {from to : ℕ}
+    (ran : Ran w c order base at before f from to) (low high : ℕ) (all early late : List Noted) (split : all ≡ early ++ (notes_of ran ++ late))
+    (one : AreMade order low from early) (two : AreMade order to high late) (are : map receipt early ≡ all_entered before) (under : low ≤ from)
+    (over : to ≤ high) (moments : AreMoments w c all low high) where
+  forward_claimed : low ≤ ran.claimed
+  forward_claimed = omega (arith, under, ran.rise)
+
+  -- the moment before the claim
+  moment_before : IsMoment w c before from
+  moment_before =
+      let rest = made-append order from to high (notes_of ran) late (made_of ran) two (forward ran) over in
+      moments before from under (omega (arith, forward ran, over))
+      (subst (λ xs. Stops c xs before from) (sym split) (stops_between c order low from high early (notes_of ran ++ late) before one rest are))
+
+  -- a moment behind the claim, before the rest
+  moment_behind : (n : ℕ) (rest : List Noted) → ran.claimed ≤ n → n ≤ to → AreMade order n to rest → all ≡ early ++ (ran.claim ∷ rest ++ late)
+      → IsMoment w c (with_claim base at f before) n
+  moment_behind n rest le more made is =
+      let first = made_wider order low low ran.claimed n (early ++ ran.claim ∷ []) (omega arith) le
+      (made-append order low from ran.claimed early (ran.claim ∷ []) one ran.claim_made under ran.rise) in
+      let entered : map receipt (early ++ ran.claim ∷ []) ≡ all_entered (with_claim base at f before) =
+      map-append receipt early (ran.claim ∷ []) ∙ ap (λ xs. xs ++ receipt ran.claim ∷ []) are ∙ ap (λ x. all_entered before ++ x ∷ []) ran.claim_is
+      ∙ sym (all_entered-append before (Entered f.timer f.claim (claim_of base at f) ∷ [])) in
+      moments (with_claim base at f before) n (omega (arith, forward_claimed, le)) (omega (arith, more, over))
+      (subst (λ xs. Stops c xs (with_claim base at f before) n) (sym (is ∙ sym (append_assoc early (ran.claim ∷ []) (rest ++ late))))
+      (stops_between c order low n high (early ++ ran.claim ∷ []) (rest ++ late) (with_claim base at f before) first
+      (made-append order n to high rest late made two more over) entered))
+
+  moment_claimed : IsMoment w c (with_claim base at f before) ran.claimed
+  moment_claimed =
+      moment_behind ran.claimed (ran.body ++ ran.finish ∷ []) (omega arith) (omega (arith, ran.goes_on, ran.ends))
+      (made-append order ran.claimed ran.acted to ran.body (ran.finish ∷ []) ran.body_made ran.finish_made ran.goes_on ran.ends) split
+
+  -- a callback that made no entry left the call where the claim had put it
+  moment_acted : [] ≡ all_entered f.body → IsMoment w c (with_claim base at f before) ran.acted
+  moment_acted none =
+      moment_behind ran.acted (ran.finish ∷ []) ran.goes_on ran.ends ran.finish_made
+      (split ∙ ap (λ xs. early ++ (ran.claim ∷ (xs ++ ran.finish ∷ []) ++ late)) (no_notes ran.body (ran.body_is ∙ sym none)))
+
+  -- what the callback was told holds
+  body_true : (first : ℕ) → AreTrue w c first from (with_claim base at f before) f.body ran.acted
+  body_true first = by_kind (kind_of w.script f.timer) ran.kind
+    where
+      since : List Action
+      since = with_claim base at f before
+
+      onward : from ≤ ran.acted
+      onward = omega (arith, ran.rise, ran.goes_on)
+
+      by_body : (ds : List Action) → f.body ≡ ds → (ReplyHolds w c since ran.acted ds → AreTrue w c first from since ds ran.acted)
+          → AreTrue w c first from since f.body ran.acted
+      by_body ds is go = subst (λ xs. AreTrue w c first from since xs ran.acted) (sym is) (go (subst (ReplyHolds w c since ran.acted) is ran.holds))
+
+      looks : (timer number : ℕ) (look : CallbackReply) → f.body ≡ Looked timer number look ∷ [] → AreTrue w c first from since f.body ran.acted
+      looks timer number look is = by_body (Looked timer number look ∷ []) is
+          (λ holds. (ran.acted, onward, (moment_acted (ap all_entered (sym is)), holds.0, holds.1), omega arith))
+
+      by_callback : (callback : Callback) → IsCallback callback at f → AreTrue w c first from since f.body ran.acted
+      by_callback callbacks.Once is = by_body [] is.0 (λ holds. onward)
+      by_callback (callbacks.Every interval) is =
+          ⊎_elim
+          (λ forward. by_body (Entered f.timer forward.0 (entries.Forward at interval forward.1 forward.2) ∷ []) forward.3
+          (λ holds. (from, omega arith, tt, onward)))
+          (λ looked. ⊎_elim (λ armed. looks f.timer armed.0 (replies.Armed armed.1) armed.2) (λ spent. looks f.timer spent.0 replies.Spent spent.1) looked) is.0
+      by_callback callbacks.Cancels is = looks f.timer is.0.0 (replies.Running f.generation) is.0.1
+      by_callback (callbacks.Starts ns asked) is =
+          ⊎_elim
+          (λ a. by_body (arming_actions f.timer modes.Rel ns at asked a.0) a.1
+          (λ holds. start_true w c first from ran.acted f.timer ns at asked modes.Rel since a.0 onward))
+          (λ spent. looks f.timer spent.0 replies.Spent spent.1) is.0
+
+      by_trigger : IsTrigger at f → AreTrue w c first from since f.body ran.acted
+      by_trigger is =
+          ⊎_elim
+          (λ trigger. by_body (Made f.timer trigger.0 (object_entries.Trigger f.generation at trigger.1) ∷ []) trigger.2
+          (λ holds. (ran.claimed, ran.rise, (moment_claimed, tt, tt), ran.goes_on)))
+          (λ skipped. by_body (Skipped f.timer skipped.0 f.generation ∷ []) skipped.1 (λ holds. (from, omega arith, holds, onward))) is.0
+
+      by_kind : (kind : Kind) → IsBody kind at f → AreTrue w c first from since f.body ran.acted
+      by_kind (kinds.Raw callback) is = by_callback callback is
+      by_kind (kinds.Posix on) is = by_trigger is
+      by_kind (kinds.Fd on) is = by_trigger is
+
+  fire_true : (first : ℕ) → AreTrue w c first from before (fires base at f) to
+  fire_true first = (
+    from,
+    omega arith,
+    moment_before,
+    true-append w c first from ran.acted to (with_claim base at f before) f.body (Entered f.timer f.finish (finish_of f) ∷ []) (body_true first)
+        (ran.acted, omega arith, tt, ran.ends),
+  )
+
+-- ---- the callbacks of an expiry run
+
+-- they ran in turn, each between two numbers of entries that the pass had seen, and these are their receipts
+abbrev pub HaveRun : Course → Label → List TimerEntry → ℕ → ℕ → List Action → ℕ → List Fired → List Noted → ℕ → Type 0
+HaveRun w c order base at before from [] notes to = (notes ≡ []) × (from ≤ to)
+HaveRun w c order base at before from (f ∷ fs) notes to =
+    (ends : ℕ) × (ran : Ran w c order base at before f from ends) × (rest : List Noted) × (notes ≡ notes_of ran ++ rest)
+    × HaveRun w c order base at (before ++ fires base at f) ends fs rest to
+
+module _ (w : Course) (c : Label) (order : List TimerEntry) (base at : ℕ) where
+  run_forward : (before : List Action) (from : ℕ) (fs : List Fired) (notes : List Noted) (to : ℕ) → HaveRun w c order base at before from fs notes to
+      → from ≤ to
+  run_forward before from [] notes to run = run.1
+  run_forward before from (f ∷ fs) notes to run = omega (arith, forward run.1, run_forward (before ++ fires base at f) run.0 fs run.2 to run.4)
+
+  -- law: the receipts are made in turn, and are of what the callbacks did
+  pub run_made : (before : List Action) (from : ℕ) (fs : List Fired) (notes : List Noted) (to : ℕ) → HaveRun w c order base at before from fs notes to
+      → AreMade order from to notes × (map receipt notes ≡ all_entered (flat_map (fires base at) fs))
+  run_made before from [] notes to run = subst (λ xs. AreMade order from to xs × (map receipt xs ≡ [])) (sym run.0) (none_made order from to, refl)
+  run_made before from (f ∷ fs) notes to run =
+      let rest = run_made (before ++ fires base at f) run.0 fs run.2 to run.4 in
+      subst (λ xs. AreMade order from to xs × (map receipt xs ≡ all_entered (flat_map (fires base at) (f ∷ fs)))) (sym run.3) (
+        made-append order from run.0 to (notes_of run.1) run.2 (made_of run.1) rest.0 (forward run.1)
+            (run_forward (before ++ fires base at f) run.0 fs run.2 to run.4),
+        map-append receipt (notes_of run.1) run.2 ∙ ap (λ xs. xs ++ map receipt run.2) (notes_are run.1) ∙ ap (λ xs. all_entered (fires base at f) ++ xs) rest.1
+            ∙ sym (all_entered-append (fires base at f) (flat_map (fires base at) fs)),
+      )
+
+  -- a callback as one from an earlier number on, behind an equal list of what was done before it
+  ran_earlier : (before since : List Action) (f : Fired) (from mid to : ℕ) → since ≡ before → from ≤ mid → Ran w c order base at since f mid to
+      → Ran w c order base at before f from to
+  ran_earlier before since f from mid to same le ran = record {
+    claimed = ran.claimed;
+    acted = ran.acted;
+    claim = ran.claim;
+    body = ran.body;
+    finish = ran.finish;
+    rise = omega (arith, le, ran.rise);
+    goes_on = ran.goes_on;
+    ends = ran.ends;
+    claim_made = made_wider order from mid ran.claimed ran.claimed (ran.claim ∷ []) le (omega arith) ran.claim_made;
+    claim_is = ran.claim_is;
+    body_made = ran.body_made;
+    body_is = ran.body_is;
+    finish_made = ran.finish_made;
+    finish_is = ran.finish_is;
+    kind = ran.kind;
+    holds = subst (λ b. ReplyHolds w c (with_claim base at f b) ran.acted f.body) same ran.holds;
+    span = ran.span;
+  }
+
+  -- law: one more callback behind those that ran
+  pub run_push : (before since : List Action) (from : ℕ) (fs : List Fired) (notes : List Noted) (mid : ℕ) (f : Fired) (to : ℕ)
+      → HaveRun w c order base at before from fs notes mid → since ≡ before ++ flat_map (fires base at) fs → (ran : Ran w c order base at since f mid to)
+      → HaveRun w c order base at before from (fs ++ f ∷ []) (notes ++ notes_of ran) to
+  unfolding ran_earlier
+  run_push before since from [] notes mid f to run is ran = (
+    to,
+    ran_earlier before since f from mid to (is ∙ append-nil before) run.1 ran,
+    [],
+    ap (λ xs. xs ++ notes_of ran) run.0 ∙ sym (append-nil (notes_of ran)),
+    (refl, omega arith),
+  )
+  run_push before since from (g ∷ fs) notes mid f to run is ran = (
+    run.0,
+    run.1,
+    run.2 ++ notes_of ran,
+    ap (λ xs. xs ++ notes_of ran) run.3 ∙ append_assoc (notes_of run.1) run.2 (notes_of ran),
+    run_push (before ++ fires base at g) since run.0 fs run.2 mid f to run.4
+        (is ∙ sym (append_assoc before (fires base at g) (flat_map (fires base at) fs))) ran,
+  )
+
+  bodies_of : (before : List Action) (from : ℕ) (fs : List Fired) (notes : List Noted) (to : ℕ) → HaveRun w c order base at before from fs notes to
+      → AllByRecursion (λ f. IsBody (kind_of w.script f.timer) at f) fs
+  bodies_of before from [] notes to run = tt
+  bodies_of before from (f ∷ fs) notes to run = (run.1.kind, bodies_of (before ++ fires base at f) run.0 fs run.2 to run.4)
+
+  claims_of : (before : List Action) (from : ℕ) (fs : List Fired) (notes : List Noted) (to : ℕ) → HaveRun w c order base at before from fs notes to
+      → AllByRecursion (λ f. IsClaimSpan w f f.body) fs
+  claims_of before from [] notes to run = tt
+  claims_of before from (f ∷ fs) notes to run = (run.1.span, claims_of (before ++ fires base at f) run.0 fs run.2 to run.4)
+
+  run_true : (first low high : ℕ) (all : List Noted) → AreMoments w c all low high → (before : List Action) (from : ℕ) (fs : List Fired) (notes : List Noted)
+      (to : ℕ) (early : List Noted) → HaveRun w c order base at before from fs notes to → all ≡ early ++ notes → AreMade order low from early
+      → map receipt early ≡ all_entered before → low ≤ from → to ≤ high → AreTrue w c first from before (flat_map (fires base at) fs) to
+  run_true first low high all moments before from [] notes to early run is one are under over = run.1
+  run_true first low high all moments before from (f ∷ fs) notes to early run is one are under over =
+      let on = run_forward (before ++ fires base at f) run.0 fs run.2 to run.4 in
+      let rest = run_made (before ++ fires base at f) run.0 fs run.2 to run.4 in
+      let split : all ≡ early ++ (notes_of run.1 ++ run.2) = is ∙ ap (λ xs. early ++ xs) run.3 in
+      true-append w c first from run.0 to before (fires base at f) (flat_map (fires base at) fs)
+      (fire_true run.1 low high all early run.2 split one (made_wider order run.0 run.0 to high run.2 (omega arith) over rest.0) are under
+      (omega (arith, on, over)) moments first)
+      (run_true first low high all moments (before ++ fires base at f) run.0 fs run.2 to (early ++ notes_of run.1) run.4
+      (split ∙ sym (append_assoc early (notes_of run.1) run.2))
+      (made-append order low from run.0 early (notes_of run.1) one (made_of run.1) under (forward run.1))
+      (map-append receipt early (notes_of run.1) ∙ ap (λ xs. xs ++ map receipt (notes_of run.1)) are ∙ ap (λ xs. all_entered before ++ xs) (notes_are run.1)
+      ∙ sym (all_entered-append before (fires base at f)))
+      (omega (arith, under, forward run.1)) over)
+
+-- ---- whole runs
+
+-- what an expiry run did that ran these callbacks
+abbrev pub expiring : ℕ → ℕ → ℕ → ℕ → List Fired → Trace
+expiring base at first last fired = record { at = at; fired = fired; actions = flat_map (fires base at) fired; first = first; last = last }
+
+module _ {w : Course} {moves : Spans} {c : Label} {base budget at first last : ℕ} {notes : List Noted} {fired : List Fired} {answer : Answer}
+    {before after : Seen} (order : List TimerEntry)
+    (kept : IsKept w moves c (expiring base at first last fired) notes (calls.Expire base budget) answer before after) (starts : first ≡ moves.first c)
+    (run : HaveRun w c order base at [] first fired notes last) where
+  expired : (IsExpiryRun w.script at base fired at (map (λ f. f.timer) fired) (flat_map (fires base at) fired)
+      → Does w.script at (calls.Expire base budget) answer fired (flat_map (fires base at) fired))
+      → IsSeen w first last c at (flat_map (fires base at) fired) (calls.Expire base budget) answer
+      → FitsCall w c (calls.Expire base budget) answer before after
+  expired does seen =
+      call_made_whole kept starts
+      (does (record { one_reading = refl; claimed = refl; done = refl; bodies = bodies_of w c order base at [] first fired notes last run }))
+      (run_true w c order base at first (moves.first c) last notes (moment_of kept) [] first fired notes last [] run refl
+      (none_made order (moves.first c) first) refl (omega (arith, starts)) (omega arith))
+      (claims_of w c order base at [] first fired notes last run) seen
+
+-- a run that left nothing to do
+pub expire_done : {w : Course} {moves : Spans} {c : Label} {base budget at first last : ℕ} {notes : List Noted} {fired : List Fired} {before after : Seen}
+    (order : List TimerEntry)
+    → IsKept w moves c (expiring base at first last fired) notes (calls.Expire base budget) (answers.Done at (map (λ f. f.timer) fired)) before after
+    → first ≡ moves.first c → HaveRun w c order base at [] first fired notes last → length fired < budget → IsDone w at base last
+    → FitsCall w c (calls.Expire base budget) (answers.Done at (map (λ f. f.timer) fired)) before after
+expire_done order kept starts ran few done = expired order kept starts ran (λ run. (run, few)) done
+
+-- a run that ended with its budget
+pub expire_more : {w : Course} {moves : Spans} {c : Label} {base budget at first last : ℕ} {notes : List Noted} {fired : List Fired} {before after : Seen}
+    (order : List TimerEntry)
+    → IsKept w moves c (expiring base at first last fired) notes (calls.Expire base budget) (answers.More at (map (λ f. f.timer) fired)) before after
+    → first ≡ moves.first c → HaveRun w c order base at [] first fired notes last → length fired ≡ budget
+    → FitsCall w c (calls.Expire base budget) (answers.More at (map (λ f. f.timer) fired)) before after
+expire_more order kept starts ran all = expired order kept starts ran (λ run. (run, all)) tt
+
+-- a run that met a function that ran on its base
+pub expire_busy : {w : Course} {moves : Spans} {c : Label} {base budget at first last timer generation : ℕ} {notes : List Noted} {fired : List Fired}
+    {before after : Seen} (order : List TimerEntry)
+    → IsKept w moves c (expiring base at first last fired) notes (calls.Expire base budget) (answers.Busy at (map (λ f. f.timer) fired) timer generation)
+    before after
+    → first ≡ moves.first c → HaveRun w c order base at [] first fired notes last → length fired < budget
+    → (timer_then w last timer).running ≡ Some generation → (timer_then w last timer).base ≡ base
+    → FitsCall w c (calls.Expire base budget) (answers.Busy at (map (λ f. f.timer) fired) timer generation) before after
+expire_busy order kept starts ran few runs there = expired order kept starts ran (λ run. (run, few)) (runs, there)

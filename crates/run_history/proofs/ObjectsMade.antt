@@ -1,0 +1,307 @@
+-- Calls on objects that make an entry: from the moment at which the call found its timer, holding the object, to its own last entry of it.
+use Rattle.std.proofs.Common.{◌<◌, Bool, true, false, ◌≡◌, ◌≤◌, ℕ, List, [], ◌∷◌, ◌++◌, Option, Some, None, length, arith, refl, sym, ap, ◌∙◌, subst}
+use Rattle.std.specs.List.{AllByRecursion}
+use Rattle.std.proofs.lemmas.List.{append-nil, append_assoc}
+use Rattle.ktime.specs.Times.{last_time}
+use Rattle.ktime.specs.declared.mode.Mode.TheVariants as modes
+use Rattle.ktime.specs.declared.mode.Mode.{Mode}
+use Rattle.ktime.specs.declared.timespec.TimeSpec.{TimeSpec}
+use Rattle.seq_timer.specs.Histories.{Holds}
+use Rattle.seq_timer.specs.Steps.{Timer}
+use Rattle.seq_timer.specs.declared.observation.Observation.TheVariants as observations
+use Rattle.seq_timer.specs.declared.system.TimerEntry.{TimerEntry}
+use Rattle.timer_fd.specs.Steps.{count_length}
+use Rattle.record_text.specs.Replies.{answer_of_accept, answer_of_read, answer_of_settime}
+use Rattle.record_text.specs.declared.record.AcceptReply.TheVariants as acceptances
+use Rattle.record_text.specs.declared.record.AcceptReply.{AcceptReply}
+use Rattle.record_text.specs.declared.record.Answer.TheVariants as answers
+use Rattle.record_text.specs.declared.record.Answer.{Answer}
+use Rattle.record_text.specs.declared.record.Armed.TheVariants as armings
+use Rattle.record_text.specs.declared.record.Armed.{Armed}
+use Rattle.record_text.specs.declared.record.Entry.TheVariants as entries
+use Rattle.record_text.specs.declared.record.Entry.{Entry}
+use Rattle.record_text.specs.declared.record.Label.{Label}
+use Rattle.record_text.specs.declared.record.ObjectEntry.TheVariants as object_entries
+use Rattle.record_text.specs.declared.record.ObjectEntry.{ObjectEntry}
+use Rattle.record_text.specs.declared.record.ReadReply.TheVariants as reads
+use Rattle.record_text.specs.declared.record.ReadReply.{ReadReply}
+use Rattle.record_text.specs.declared.record.SettimeReply.TheVariants as settings
+use Rattle.record_text.specs.declared.record.SettimeReply.{SettimeReply}
+use Rattle.script_text.specs.Actions.{Action, Entered, Looked, Made, Skipped, Wrote}
+use Rattle.script_text.specs.Calls.{IsArmedLike}
+use Rattle.script_text.specs.ObjectCalls.{AreValidFor, Arms, base_of, cancels, DoesGettime, MakesRearming, MakesSettime, nanoseconds_of, start_mode}
+use Rattle.script_text.specs.Objects.{ArmedAs, kind_of, object_armed_after}
+use Rattle.script_text.specs.Starts.{Arming, arming_actions}
+use Rattle.script_text.specs.declared.script.Call.TheVariants as calls
+use Rattle.script_text.specs.declared.script.Call.{Call}
+use Rattle.script_text.specs.declared.script.Kind.TheVariants as kinds
+use Rattle.run_history.specs.Calls.{Does}
+use Rattle.run_history.specs.Courses.{Course, entries_in, timer_then}
+use Rattle.run_history.specs.Fits.{FitsCall, Seen}
+use Rattle.run_history.specs.Receipts.{Noted}
+use Rattle.run_history.specs.Rounds.{Spans}
+use Rattle.run_history.specs.Traces.{all_entered}
+use Rattle.run_history.specs.Truths.{AreTrue, DisarmedFirst, HasSpan, IsEmptySpan, IsSeen, IsSpan, IsSpanBy, IsTrue, IsTrueEntry, IsTrueStart, SawRefusal}
+use Rattle.run_history.proofs.Actions.{all_entered-append}
+use Rattle.run_history.proofs.Kept.{call_made, inside_behind, inside_below, IsKept, made_all, moment_of}
+use Rattle.run_history.proofs.OthersMade.{plain}
+use Rattle.run_history.proofs.PassState.{state_seen, timer_seen}
+
+-- ---- what its pass had seen when it ended its part of the timer
+
+module _ (w : Course) (seen later : List TimerEntry) (is : entries_in w ≡ seen ++ later) (i : ℕ) where
+  -- a start that was refused
+  pub refusal_seen : (stamp : ℕ) → (state_seen w.script seen i).stamp ≡ stamp → Holds (state_seen w.script seen i) observations.Spent
+      → (state_seen w.script seen i).moving ≡ false → SawRefusal w i stamp (length seen)
+  refusal_seen stamp number full still =
+      let same = sym (timer_seen w seen later is i) in (
+        record { stamp = subst (λ (u : Timer). u.stamp ≡ stamp) same number; holds = subst (λ u. Holds u observations.Spent) same full },
+        subst (λ (u : Timer). u.moving ≡ false) same still,
+      )
+
+  -- what the object's entry tells of it
+  pub refused_seen : (number : ℕ) (on_clock : Bool) → Holds (state_seen w.script seen i) observations.Spent → (state_seen w.script seen i).moving ≡ false
+      → IsTrueStart w i number on_clock armings.Unarmed (length seen)
+  refused_seen number on_clock full still =
+      refusal_seen (timer_then w (length seen) i).stamp (sym (ap (λ (u : Timer). u.stamp) (timer_seen w seen later is i))) full still
+
+  -- what it tells of a start that was made: the object after it has armed the timer as the timer was started
+  pub started_seen : (number : ℕ) (on_clock : Bool) (generation : ℕ) (armed : ArmedAs) → (state_seen w.script seen i).stamp ≡ generation
+      → object_armed_after w.script w.run i number (kind_of w.script i) ≡ Some armed → armed.generation ≡ generation
+      → armed.expires ≡ (state_seen w.script seen i).expires
+      → (on_clock ≡ true → armed.clock ≡ (state_seen w.script seen i).clock) → IsTrueStart w i number on_clock (armings.Generation generation) (length seen)
+  started_seen number on_clock generation armed stamp phase same expires clock =
+      let then = sym (timer_seen w seen later is i) in (
+        subst (λ (u : Timer). u.stamp ≡ generation) then stamp,
+        subst (λ u. IsArmedLike on_clock (object_armed_after w.script w.run i number (kind_of w.script i)) generation u) then
+            (subst (λ o. IsArmedLike on_clock o generation (state_seen w.script seen i)) (sym phase) (same, expires, clock)),
+      )
+
+  -- the empty span of a call that started nothing
+  pub empty_seen : (number : ℕ) → (w.spans i number).0 ≡ (w.spans i number).1
+      → ((state_seen w.script seen i).running ≡ None → (state_seen w.script seen i).stamp ≤ (w.spans i number).0) → IsEmptySpan w i number (length seen)
+  empty_seen number empty quiet = record {
+    empty = empty;
+    seen = subst (λ (u : Timer). u.running ≡ None → u.stamp ≤ (w.spans i number).0) (sym (timer_seen w seen later is i)) quiet;
+  }
+
+  -- the span from what the pass had seen before
+  pub span_seen : (early rest : List TimerEntry) → entries_in w ≡ early ++ rest → (number : ℕ)
+      → w.spans i number ≡ ((state_seen w.script early i).stamp, (state_seen w.script seen i).stamp) → IsSpan w (length early) i number (length seen)
+  span_seen early rest was number span =
+      span ∙ ap (λ (u : Timer). (u.stamp, (state_seen w.script seen i).stamp)) (sym (timer_seen w early rest was i))
+      ∙ ap (λ (u : Timer). ((timer_then w (length early) i).stamp, u.stamp)) (sym (timer_seen w seen later is i))
+
+-- ---- entries of its timer, and then the object's
+
+-- an entry of a timer that isn't a claim tells nothing that must be looked up
+abbrev pub IsPlain : Action → Type 0
+IsPlain (Entered timer number (entries.Claim base reading generation)) = ⊥
+IsPlain (Entered timer number entry) = Unit
+IsPlain action = ⊥
+
+plain_then : (w : Course) (c : Label) (first from n last : ℕ) (before ds : List Action) (d : Action) → AllByRecursion IsPlain ds → from ≤ n → n ≤ last
+    → IsTrue w c first (before ++ ds) d n → AreTrue w c first from before (ds ++ d ∷ []) last
+plain_then w c first from n last before [] d plain le high is = (n, le, subst (λ b. IsTrue w c first b d n) (append-nil before) is, high)
+plain_then w c first from n last before (Entered timer number entry ∷ ds) d plain le high is = (
+  from,
+  omega arith,
+  nothing entry plain.0,
+  plain_then w c first from n last (before ++ Entered timer number entry ∷ []) ds d plain.1 le high
+      (subst (λ b. IsTrue w c first b d n) (sym (append_assoc before (Entered timer number entry ∷ []) ds)) is),
+)
+  where
+    nothing : (entry : Entry) → IsPlain (Entered timer number entry) → IsTrue w c first before (Entered timer number entry) from
+    nothing (entries.Out base was) plain = tt
+    nothing (entries.Start mode ns reading asked base clock expires was) plain = tt
+    nothing (entries.Cancel generation) plain = tt
+    nothing (entries.Claim base reading generation) plain = absurd plain
+    nothing (entries.Forward reading interval count expires) plain = tt
+    nothing (entries.Finish restart generation rearmed) plain = tt
+plain_then w c first from n last before (Wrote number write ∷ ds) d plain le high is = absurd plain.0
+plain_then w c first from n last before (Looked timer number reply ∷ ds) d plain le high is = absurd plain.0
+plain_then w c first from n last before (Made i number entry ∷ ds) d plain le high is = absurd plain.0
+plain_then w c first from n last before (Skipped i number generation ∷ ds) d plain le high is = absurd plain.0
+
+plain_arms : (timer ns reading base : ℕ) (mode : Mode) (a : Arming) → AllByRecursion IsPlain (arming_actions timer mode ns reading base a)
+plain_arms timer ns reading base mode a = go a.out
+  where
+    go : (out : Option (ℕ × Bool)) → AllByRecursion IsPlain (arming_actions timer mode ns reading base (record a { out = out }))
+    go None = (tt, tt)
+    go (Some out) = (tt, (tt, tt))
+
+plain_start : (timer ns reading base : ℕ) (mode : Mode) (arm : Armed) (start : List Action) → Arms timer mode ns reading base arm start
+    → AllByRecursion IsPlain start
+plain_start timer ns reading base mode armings.None start is = subst (AllByRecursion IsPlain) (sym is) tt
+plain_start timer ns reading base mode (armings.Generation generation) start is =
+    subst (AllByRecursion IsPlain) (sym is.1) (plain_arms timer ns reading base mode is.0)
+plain_start timer ns reading base mode armings.Unarmed start is = subst (AllByRecursion IsPlain) (sym is) tt
+
+plain_both : (timer : ℕ) (cancel : Option (ℕ × ℕ)) (start : List Action) → AllByRecursion IsPlain start → AllByRecursion IsPlain (cancels timer cancel ++ start)
+plain_both timer None start plain = plain
+plain_both timer (Some c) start plain = (tt, plain)
+
+-- the object's entry is none of a timer
+but_made : (ds : List Action) (i number : ℕ) (entry : ObjectEntry) → all_entered (ds ++ Made i number entry ∷ []) ≡ all_entered ds
+but_made ds i number entry = all_entered-append ds (Made i number entry ∷ []) ∙ append-nil (all_entered ds)
+
+-- ---- a settime
+
+-- how a settime found its timer disarmed: it cancelled it, or it was idle when the call looked at it, holding the object
+abbrev pub FoundIdle : Course → ℕ → Option (ℕ × ℕ) → ℕ → Type 0
+FoundIdle w timer None begin = Holds (timer_then w begin timer) observations.Idle
+FoundIdle w timer (Some cancel) begin = Unit
+
+-- what a settime of a reading that makes an entry knows at its end, between its first moment and its last
+pub record IsSet (w : Course) (c : Label) (notes : List Noted) (at begin last timer flags : ℕ) (value interval : TimeSpec) (cancel : Option (ℕ × ℕ))
+    (arm : Armed) (start : List Action) (number : ℕ) : Type 0 where
+  pub taken : AreValidFor (kind_of w.script timer) flags value interval
+  pub arms : Arms timer (start_mode (kind_of w.script timer) flags) (nanoseconds_of value) at (base_of (kind_of w.script timer)) arm start
+  -- where it ended its part of the timer, which it had found disarmed, or cancelled first
+  pub ends : ℕ
+  pub between : begin ≤ ends
+  pub high : ends ≤ last
+  pub part : AllByRecursion (λ x. (begin ≤ x.place) × (x.place < ends)) notes
+  pub idle : FoundIdle w timer cancel begin
+  -- what the object's entry tells of the start holds there, and the span is the whole part
+  pub holds : IsTrueStart w timer number true arm ends
+  pub span : IsSpan w begin timer number ends
+
+-- the object's entry of a settime
+abbrev pub settime_entry : ℕ → ℕ → TimeSpec → TimeSpec → SettimeReply → Armed → ObjectEntry
+settime_entry at flags value interval reply arm = object_entries.Settime flags (nanoseconds_of value) (nanoseconds_of interval) at arm reply
+
+-- what a settime did
+abbrev pub settime_actions : ℕ → Option (ℕ × ℕ) → List Action → ℕ → ObjectEntry → List Action
+settime_actions timer cancel start number entry = cancels timer cancel ++ start ++ Made timer number entry ∷ []
+
+disarmed : (w : Course) (timer ns at base begin : ℕ) (mode : Mode) (cancel : Option (ℕ × ℕ)) (arm : Armed) (start : List Action) (number : ℕ)
+    (entry : ObjectEntry) → Arms timer mode ns at base arm start → FoundIdle w timer cancel begin
+    → DisarmedFirst w timer (settime_actions timer cancel start number entry) begin
+disarmed w timer ns at base begin mode (Some cancel) arm start number entry arms idle = tt
+disarmed w timer ns at base begin mode None armings.None start number entry is idle =
+    subst (λ ds. DisarmedFirst w timer (ds ++ Made timer number entry ∷ []) begin) (sym is) idle
+disarmed w timer ns at base begin mode None armings.Unarmed start number entry is idle =
+    subst (λ ds. DisarmedFirst w timer (ds ++ Made timer number entry ∷ []) begin) (sym is) idle
+disarmed w timer ns at base begin mode None (armings.Generation generation) start number entry is idle =
+    subst (λ ds. DisarmedFirst w timer (ds ++ Made timer number entry ∷ []) begin) (sym is.1) (go is.0.out)
+  where
+    go : (out : Option (ℕ × Bool))
+        → DisarmedFirst w timer (arming_actions timer mode ns at base (record is.0 { out = out }) ++ Made timer number entry ∷ []) begin
+    go None = idle
+    go (Some out) = idle
+
+-- where its start was refused, the timer's history was full at the call's last moment
+abbrev pub RefusedBy : Course → ℕ → SettimeReply → ℕ → Type 0
+RefusedBy w timer (settings.Old left old) last = Unit
+RefusedBy w timer settings.Canceled last = Unit
+RefusedBy w timer (settings.Unarmed stamp) last = SawRefusal w timer stamp last
+
+module _ (reply : SettimeReply) {w : Course} {moves : Spans} {c : Label} {at begin last timer flags : ℕ} {value interval : TimeSpec}
+    {cancel : Option (ℕ × ℕ)} {arm : Armed} {start : List Action} {number : ℕ} {notes : List Noted} {before after : Seen}
+    (kept : IsKept w moves c (plain at begin last (settime_actions timer cancel start number (settime_entry at flags value interval reply arm))) notes
+    (calls.Settime timer flags value interval) (answer_of_settime reply) before after)
+    (low : moves.first c ≤ begin) (set : IsSet w c notes at begin last timer flags value interval cancel arm start number)
+    (refused : RefusedBy w timer reply last) where
+  -- law: a settime that makes an entry fits
+  pub settime_made : FitsCall w c (calls.Settime timer flags value interval) (answer_of_settime reply) before after
+  settime_made =
+      let kind = kind_of w.script timer in
+      let entry = settime_entry at flags value interval reply arm in
+      let actions = settime_actions timer cancel start number entry in
+      let stops = made_all kept set.ends (cancels timer cancel ++ start) (but_made (cancels timer cancel ++ start) timer number entry)
+      (inside_below begin set.ends notes set.part) in
+      let plain = plain_both timer cancel start (plain_start timer (nanoseconds_of value) at (base_of kind) (start_mode kind flags) arm start set.arms) in
+      let idle = disarmed w timer (nanoseconds_of value) at (base_of kind) begin (start_mode kind flags) cancel arm start number entry set.arms set.idle in
+      call_made kept low (omega (arith, set.between, set.high)) (inside_behind begin set.ends notes set.part)
+      (does reply actions (record { taken = set.taken; cancel = cancel; arm = arm; start = start; number = number; arms = set.arms; done = refl }))
+      (plain_then w c begin begin set.ends last [] (cancels timer cancel ++ start) (Made timer number entry) plain set.between set.high
+      (moment_of kept (cancels timer cancel ++ start) set.ends (omega (arith, low, set.between)) set.high stops, set.holds, set.span))
+      tt (seen reply actions refused idle)
+    where
+      does : (reply : SettimeReply) (ds : List Action) → MakesSettime (kind_of w.script timer) timer flags value interval at reply ds
+          → Does w.script at (calls.Settime timer flags value interval) (answer_of_settime reply) [] ds
+      does (settings.Old left old) ds makes = makes
+      does settings.Canceled ds makes = makes
+      does (settings.Unarmed stamp) ds makes = makes
+
+      seen : (reply : SettimeReply) (ds : List Action) → RefusedBy w timer reply last → DisarmedFirst w timer ds begin
+          → IsSeen w begin last c at ds (calls.Settime timer flags value interval) (answer_of_settime reply)
+      seen (settings.Old left old) ds refused first = first
+      seen settings.Canceled ds refused first = first
+      seen (settings.Unarmed stamp) ds refused first = (first, refused)
+
+-- ---- an acceptance, a read, a descriptor's gettime
+
+-- What such a call of a reading knows at its end, between its first moment and its last. There are three cases: it wanted no start, its start was made, or
+-- its start was refused.
+pub record IsRearmed (w : Course) (c : Label) (notes : List Noted) (at begin last timer : ℕ) (arm : Armed) (start : List Action) (number : ℕ) : Type 0 where
+  pub ns : ℕ
+  pub timely : ns ≤ last_time
+  pub arms : Arms timer modes.Keep ns at (base_of (kind_of w.script timer)) arm start
+  pub ends : ℕ
+  pub between : begin ≤ ends
+  pub high : ends ≤ last
+  pub part : AllByRecursion (λ x. (begin ≤ x.place) × (x.place < ends)) notes
+  pub holds : IsTrueStart w timer number false arm ends
+  pub span : IsSpanBy w begin timer number arm ends
+
+-- what such a call did
+abbrev pub rearming_actions : ℕ → List Action → ℕ → ObjectEntry → List Action
+rearming_actions timer start number entry = start ++ Made timer number entry ∷ []
+
+module _ {w : Course} {moves : Spans} {c : Label} {at begin last timer : ℕ} {arm : Armed} {start : List Action} {number : ℕ} {notes : List Noted} {call : Call}
+    {answer : Answer} {before after : Seen} (entry : Armed → ObjectEntry)
+    (kept : IsKept w moves c (plain at begin last (rearming_actions timer start number (entry arm))) notes call answer before after)
+    (low : moves.first c ≤ begin) (rearmed : IsRearmed w c notes at begin last timer arm start number) where
+  rearming_made : (IsTrueStart w timer number false arm rearmed.ends → IsTrueEntry w timer number (entry arm) rearmed.ends)
+      → (IsSpanBy w begin timer number arm rearmed.ends → HasSpan w begin timer number (entry arm) rearmed.ends)
+      → (MakesRearming (kind_of w.script timer) timer at entry (rearming_actions timer start number (entry arm))
+      → Does w.script at call answer [] (rearming_actions timer start number (entry arm)))
+      → IsSeen w begin last c at (rearming_actions timer start number (entry arm)) call answer → FitsCall w c call answer before after
+  rearming_made holds span does seen =
+      let stops = made_all kept rearmed.ends start (but_made start timer number (entry arm)) (inside_below begin rearmed.ends notes rearmed.part) in
+      call_made kept low (omega (arith, rearmed.between, rearmed.high)) (inside_behind begin rearmed.ends notes rearmed.part)
+      (does (record { arm = arm; ns = rearmed.ns; start = start; number = number; timely = rearmed.timely; arms = rearmed.arms; done = refl }))
+      (plain_then w c begin begin rearmed.ends last [] start (Made timer number (entry arm))
+      (plain_start timer rearmed.ns at (base_of (kind_of w.script timer)) modes.Keep arm start rearmed.arms) rearmed.between rearmed.high
+      (moment_of kept start rearmed.ends (omega (arith, low, rearmed.between)) rearmed.high stops, holds rearmed.holds, span rearmed.span))
+      tt seen
+
+module _ {w : Course} {moves : Spans} {c : Label} {at begin last timer : ℕ} {arm : Armed} {start : List Action} {number : ℕ} {notes : List Noted}
+    {before after : Seen} where
+  -- law: an acceptance that makes an entry fits
+  pub accept_made : (reply : AcceptReply)
+      → IsKept w moves c (plain at begin last (rearming_actions timer start number (object_entries.Accept at arm reply))) notes (calls.Accept timer)
+      (answer_of_accept reply) before after
+      → moves.first c ≤ begin → IsRearmed w c notes at begin last timer arm start number
+      → FitsCall w c (calls.Accept timer) (answer_of_accept reply) before after
+  accept_made (acceptances.Accepted overrun) kept low rearmed =
+      rearming_made (λ arm. object_entries.Accept at arm (acceptances.Accepted overrun)) kept low rearmed (λ is. is) (λ is. is) (λ makes. makes) tt
+  accept_made acceptances.NoSignal kept low rearmed =
+      rearming_made (λ arm. object_entries.Accept at arm acceptances.NoSignal) kept low rearmed (λ is. is) (λ is. is) (λ makes. makes) tt
+
+  -- law: a read that makes an entry fits
+  pub read_made : (len : ℕ) (reply : ReadReply)
+      → IsKept w moves c (plain at begin last (rearming_actions timer start number (object_entries.Read at arm reply))) notes (calls.Read timer len)
+      (answer_of_read reply) before after
+      → moves.first c ≤ begin → IsRearmed w c notes at begin last timer arm start number → count_length ≤ len
+      → FitsCall w c (calls.Read timer len) (answer_of_read reply) before after
+  read_made len (reads.Count total) kept low rearmed room =
+      rearming_made (λ arm. object_entries.Read at arm (reads.Count total)) kept low rearmed (λ is. is) (λ is. is) (λ makes. (room, makes)) tt
+  read_made len reads.Again kept low rearmed room =
+      rearming_made (λ arm. object_entries.Read at arm reads.Again) kept low rearmed (λ is. is) (λ is. is) (λ makes. (room, makes)) tt
+  read_made len reads.Canceled kept low rearmed room =
+      rearming_made (λ arm. object_entries.Read at arm reads.Canceled) kept low rearmed (λ is. is) (λ is. is) (λ makes. (room, makes)) tt
+
+  -- law: a gettime of a descriptor that makes an entry fits
+  pub gettime_made : (base left interval : ℕ)
+      → IsKept w moves c (plain at begin last (rearming_actions timer start number (object_entries.Gettime at arm left interval))) notes
+      (calls.Gettime timer) (answers.Left left interval) before after
+      → moves.first c ≤ begin → IsRearmed w c notes at begin last timer arm start number → kind_of w.script timer ≡ kinds.Fd base
+      → FitsCall w c (calls.Gettime timer) (answers.Left left interval) before after
+  gettime_made base left interval kept low rearmed kind =
+      let actions = rearming_actions timer start number (object_entries.Gettime at arm left interval) in
+      rearming_made (λ arm. object_entries.Gettime at arm left interval) kept low rearmed (λ is. is) (λ is. is)
+      (λ makes. subst (λ k. DoesGettime k timer at (answers.Left left interval) actions) (sym kind)
+      (subst (λ k. MakesRearming k timer at (λ arm. object_entries.Gettime at arm left interval) actions) kind makes)) tt

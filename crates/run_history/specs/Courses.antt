@@ -1,0 +1,90 @@
+-- One order of all timers' entries of a record, and all timers after each number of them.
+use Rattle.std.specs.Prelude.{ℕ, ◌≡◌, ◌+◌, nat_eq, Bool, List, [], ◌∷◌, map, take}
+use Rattle.ktime.specs.declared.clock_id.ClockId.{ClockId}
+use Rattle.record_text.specs.declared.record.ClockLine.{ClockLine}
+use Rattle.record_text.specs.declared.record.Label.{Label}
+use Rattle.record_text.specs.declared.record.Restart.{Restart}
+use Rattle.record_text.specs.declared.record.RunRecord.{RunRecord}
+use Rattle.record_text.specs.declared.record.TimerLine.{TimerLine}
+use Rattle.script_text.specs.Actions.{Action, also}
+use Rattle.script_text.specs.Histories.{entry_shown, lines_of_timer}
+use Rattle.script_text.specs.declared.script.Script.{Script}
+use Rattle.seq_timer.specs.Steps.{Timer}
+use Rattle.seq_timer.specs.Systems.{system_of}
+use Rattle.seq_timer.specs.Turns.{IsInTurn}
+use Rattle.seq_timer.specs.declared.system.TimerEntry.{TimerEntry}
+
+-- one callback of an expiry run: the timer, and the number and the generation of its claim; what the callback did; the number of the
+-- finish, whether a restart was asked for, and what came of it
+pub record Fired : Type 0 where
+  pub timer : ℕ
+  pub claim : ℕ
+  pub generation : ℕ
+  pub body : List Action
+  pub finish : ℕ
+  pub restart : Bool
+  pub rearmed : Restart
+
+-- what one call did: the stamp of its one reading; the callbacks that it ran; its actions in their order; and two numbers of the order, at the
+-- first of which it had made no entry yet, and at the last of which it had made them all
+pub record Trace : Type 0 where
+  pub at : ℕ
+  pub fired : List Fired
+  pub actions : List Action
+  pub first : ℕ
+  pub last : ℕ
+
+-- a line of a timer, and how many of the timer's lines stand before it
+pub record Move : Type 0 where
+  pub timer : ℕ
+  pub before : ℕ
+  pub line : TimerLine
+
+-- a script, a record of it, and what the record doesn't print: an order of all timers' entries; what each call did; and for each entry of an
+-- object, by the object and the entry's number, how many entries the object's timer had at the start and at the end of the entry's span
+pub record Course : Type 0 where
+  pub script : Script
+  pub run : RunRecord
+  pub moves : List Move
+  pub traces : Label → Trace
+  pub spans : ℕ → ℕ → ℕ × ℕ
+
+-- the moves of one timer
+abbrev pub moves_on : ℕ → List Move → List Move
+moves_on t [] = []
+moves_on t (m ∷ ms) = also (nat_eq m.timer t) m (moves_on t ms)
+
+-- a timer's lines as moves, where so many stand before them
+abbrev pub moves_from : ℕ → ℕ → List TimerLine → List Move
+moves_from t before [] = []
+moves_from t before (line ∷ lines) = record { timer = t; before = before; line = line } ∷ moves_from t (before + 1) lines
+
+-- the entry that a move shows
+abbrev pub entry_of_move : List ClockLine → Move → TimerEntry
+entry_of_move clock m = record {
+  timer = m.timer;
+  event = (entry_shown clock m.before m.line.entry).event;
+  reply = (entry_shown clock m.before m.line.entry).reply;
+}
+
+-- the labels along the order
+abbrev pub labels : Course → List Label
+labels w = map (λ m. m.line.label) w.moves
+
+-- the entries in the order
+abbrev pub entries_in : Course → List TimerEntry
+entries_in w = map (entry_of_move w.run.clock) w.moves
+
+-- the clocks that a script's timers are declared on
+abbrev pub clocks_of : Script → List ClockId
+clocks_of s = map (λ d. d.clock) s.timers
+
+-- a timer after so many entries of all timers
+abbrev pub timer_then : Course → ℕ → ℕ → Timer
+timer_then w n t = (system_of (clocks_of w.script) w.script.limit (take n (entries_in w))).timers t
+
+-- the order is one of all entries, and all together are one history that a library on one thread gives: each is a step of its timer, is sent
+-- only to a base that is there, and each claim takes the timer whose turn it is
+pub record IsOneHistory (w : Course) : Type 0 where
+  pub all : (t : ℕ) → moves_on t w.moves ≡ moves_from t 0 (lines_of_timer w.run t)
+  pub history : IsInTurn w.script.bases (clocks_of w.script) w.script.limit (entries_in w)

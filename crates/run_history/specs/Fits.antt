@@ -1,0 +1,87 @@
+-- What it means that a record fits a script: each call is there once, in the order of its lane, all timers' entries are one
+-- history, and each object's are one history.
+use Rattle.std.specs.Prelude.{ℕ, ◌≡◌, ◌≤◌, ◌+◌, List, [], ◌∷◌, length, map}
+use Rattle.std.specs.List.{AllByRecursion}
+use Rattle.clock_model.specs.Clocks.{at_stamp}
+use Rattle.script_text.specs.declared.script.Call.{Call}
+use Rattle.script_text.specs.declared.script.Script.{Script}
+use Rattle.record_text.specs.declared.record.Label.{Label}
+use Rattle.record_text.specs.declared.record.Answer.{Answer}
+use Rattle.record_text.specs.declared.record.ObjectLine.{ObjectLine}
+use Rattle.record_text.specs.declared.record.RunRecord.{RunRecord}
+use Rattle.script_text.specs.Order.{CallInRound, calls_of, IsLabel, IsPoint, IsInOrder, NeverFall}
+use Rattle.script_text.specs.Histories.{AreWrites, clock_labels, lines_of_timer}
+use Rattle.script_text.specs.Objects.{IsLegalObject, kind_of, object_labels, lines_of_object}
+use Rattle.script_text.specs.Actions.{wrote}
+use Rattle.script_text.specs.Fits.{AreUnder, answers_of, object_steps_on}
+use Rattle.run_history.specs.Courses.{Course, IsOneHistory, labels}
+use Rattle.run_history.specs.Traces.{HasTraced}
+use Rattle.run_history.specs.Calls.{Does}
+use Rattle.run_history.specs.Truths.{AreTrue, IsClaimSpan, IsMoment, IsSeen}
+
+-- how many of the clock's writes, of all timers' entries, and of each object's entries, a lane has seen
+pub record Seen : Type 0 where
+  pub clock : ℕ
+  pub moves : ℕ
+  pub objects : ℕ → ℕ
+
+-- nothing is seen yet
+abbrev pub unseen : Seen
+unseen = record { clock = 0; moves = 0; objects = λ i. 0 }
+
+-- One call with its answer: what it did is what the record shows, and makes the answer right; it saw no less than its lane had seen before, and
+-- no more than its lane has seen after it.
+pub record FitsCall (w : Course) (c : Label) (call : Call) (answer : Answer) (before after : Seen) : Type 0 where
+  pub traced : HasTraced w c (w.traces c).actions
+  pub does : Does w.script (w.traces c).at call answer (w.traces c).fired (w.traces c).actions
+  pub reading : IsPoint w.script c 0 (w.traces c).at (clock_labels w.run)
+  -- its first moment, at which it had made no entry, and its last, at which it had made them all
+  pub begins : IsMoment w c [] (w.traces c).first
+  pub ends : IsMoment w c (w.traces c).actions (w.traces c).last
+  pub truth : AreTrue w c (w.traces c).first (w.traces c).first [] (w.traces c).actions (w.traces c).last
+  pub expiries : AllByRecursion (λ f. IsClaimSpan w f f.body) (w.traces c).fired
+  pub seen : IsSeen w (w.traces c).first (w.traces c).last c (w.traces c).at (w.traces c).actions call answer
+  pub clock_steps : NeverFall before.clock ((w.traces c).at ∷ map (λ x. x.0) (wrote (w.traces c).actions)) after.clock
+  pub move_steps : (before.moves ≤ (w.traces c).first) × ((w.traces c).last ≤ after.moves)
+  pub object_steps : (i : ℕ) → NeverFall (before.objects i) (object_steps_on i call answer (w.traces c).actions) (after.objects i)
+
+-- the calls of a lane from one of them on, each with its answer
+abbrev pub FitsLane : Course → ℕ → ℕ → Seen → List CallInRound → List Answer → Type 0
+FitsLane w lane index before [] [] = Unit
+FitsLane w lane index before (p ∷ ps) (a ∷ more) =
+    (after : Seen) × FitsCall w (record { lane = lane; call = index }) p.call a before after × FitsLane w lane (index + 1) after ps more
+FitsLane w lane index before [] (a ∷ more) = ⊥
+FitsLane w lane index before (p ∷ ps) [] = ⊥
+
+-- the spans of an object's entries, from a number of entry on, follow one another
+abbrev pub AreBehind : (ℕ → ℕ × ℕ) → ℕ → ℕ → List ObjectLine → Type 0
+AreBehind spans number from [] = Unit
+AreBehind spans number from (line ∷ lines) = (from ≤ (spans number).0) × ((spans number).0 ≤ (spans number).1) × AreBehind spans (number + 1) (spans number).1 lines
+
+-- the record fits the script, in this order of all timers' entries
+pub record FitsIn (w : Course) : Type 0 where
+  -- a history for each timer, one for the object of the same number, and the answers of each lane
+  pub timers : length w.run.timers ≡ length w.script.timers
+  pub objects : length w.run.objects ≡ length w.script.timers
+  pub lanes : length w.run.answers ≡ w.script.lanes
+  -- no line bears another label than that of a call
+  pub clock_calls : AllByRecursion (IsLabel w.script) (clock_labels w.run)
+  pub timer_calls : AllByRecursion (IsLabel w.script) (labels w)
+  pub looks : (t : ℕ) → AllByRecursion (λ line. AreUnder w.script (map (λ look. look.label) line.looks)) (lines_of_timer w.run t)
+  pub object_calls : (i : ℕ) → AllByRecursion (IsLabel w.script) (object_labels w.run i)
+  pub skips : (i : ℕ) → AllByRecursion (λ line. AreUnder w.script (map (λ skip. skip.label) line.skips)) (lines_of_object w.run i)
+  -- the clock's lines are writes that it took, all timers' entries are one history, and each object's one that such an object gives
+  pub writes : AreWrites (at_stamp 0) w.run.clock
+  pub history : IsOneHistory w
+  pub object_histories : (i : ℕ) → IsLegalObject w.script w.run i (kind_of w.script i)
+  -- along each list, rounds follow one another, and a lane's calls keep their order
+  pub clock_order : IsInOrder w.script (clock_labels w.run)
+  pub order : IsInOrder w.script (labels w)
+  pub object_order : (i : ℕ) → IsInOrder w.script (object_labels w.run i)
+  pub object_spans : (i : ℕ) → AreBehind (w.spans i) 1 0 (lines_of_object w.run i)
+  -- each call of each lane has its answer, and the answer is right
+  pub calls : (lane : ℕ) → FitsLane w lane 0 unseen (calls_of w.script lane) (answers_of w.run lane)
+
+-- the record fits the script: there is an order of all timers' entries, with what each call did and the spans of objects' entries, in which it does
+abbrev pub Fits : Script → RunRecord → Type 0
+Fits s r = (w : Course) × (w.script ≡ s) × (w.run ≡ r) × FitsIn w

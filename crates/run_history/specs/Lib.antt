@@ -1,0 +1,9 @@
+pub mod Courses
+pub mod Traces
+pub mod Calls
+pub mod Truths
+pub mod Fits
+pub mod Receipts
+pub mod Rounds
+pub mod Runs
+pub mod Promises

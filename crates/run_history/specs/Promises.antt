@@ -1,0 +1,69 @@
+-- What a lane promises while it runs: each of its calls fits in every run that it can still end in.
+use Rattle.std.specs.List.{AllByRecursion}
+use Rattle.std.specs.Prelude.{ℕ, ◌≡◌, ◌≤◌, ◌<◌, ◌+◌, List, [], ◌∷◌, ◌++◌, map}
+use Rattle.clock_model.specs.declared.write.Write.{Write}
+use Rattle.seq_timer.specs.declared.system.TimerEntry.{TimerEntry}
+use Rattle.record_text.specs.declared.record.Answer.{Answer}
+use Rattle.record_text.specs.declared.record.Label.{Label}
+use Rattle.script_text.specs.Actions.{looked, made, own, own_looks, own_skips, skipped, wrote}
+use Rattle.script_text.specs.Fits.{object_steps_on}
+use Rattle.script_text.specs.Histories.{lines_of_timer}
+use Rattle.script_text.specs.Objects.{lines_of_object}
+use Rattle.script_text.specs.Order.{CallInRound, calls_of, NeverFall}
+use Rattle.script_text.specs.declared.script.Call.{Call}
+use Rattle.script_text.specs.declared.script.Script.{Script}
+use Rattle.run_history.specs.Courses.{Course}
+use Rattle.run_history.specs.Fits.{FitsCall, FitsLane, Seen, unseen}
+use Rattle.run_history.specs.Receipts.{receipt}
+use Rattle.run_history.specs.Rounds.{label_at}
+use Rattle.run_history.specs.Runs.{CallLog, course_of, Ending, IsJoined}
+use Rattle.run_history.specs.Traces.{all_entered}
+
+-- What a lane kept of a call is right in itself: the call made its entries in its span, up to its last moment; the receipts are of them; its reading is
+-- one of those that it had seen, before its own writes; and the numbers that it saw never fall.
+pub record IsLogged (log : CallLog) (call : Call) (answer : Answer) (before after : Seen) : Type 0 where
+  pub forward : log.moves.0 ≤ log.trace.last
+  pub last : log.trace.last ≤ log.moves.1
+  pub inside : AllByRecursion (λ x. (log.moves.0 ≤ x.place) × (x.place < log.trace.last)) log.notes
+  pub entered : map receipt log.notes ≡ all_entered log.trace.actions
+  pub reading : (log.clock.0 ≤ log.trace.at) × (log.trace.at ≤ log.clock.1)
+  pub writes : AllByRecursion (λ x. log.trace.at < x.0) (wrote log.trace.actions)
+  pub clock_steps : NeverFall before.clock (log.trace.at ∷ map (λ x. x.0) (wrote log.trace.actions)) after.clock
+  pub move_steps : (before.moves ≤ log.moves.0) × (log.moves.1 ≤ after.moves)
+  pub object_steps : (i : ℕ) → NeverFall (before.objects i) (object_steps_on i call answer log.trace.actions) (after.objects i)
+
+-- the run has of a call what its lane kept of it; the record has under its label what the call did, but for timers' entries
+pub record HasLog (e : Ending) (c : Label) (log : CallLog) : Type 0 where
+  pub kept : e.logs c ≡ log
+  pub clock : own (λ line. line.label) (λ line. line.write) c 1 e.run.clock ≡ wrote log.trace.actions
+  pub looks : (t : ℕ) → own_looks c 1 (lines_of_timer e.run t) ≡ looked t log.trace.actions
+  pub objects : (i : ℕ) → own (λ line. line.label) (λ line. line.entry) c 1 (lines_of_object e.run i) ≡ made i log.trace.actions
+  pub skips : (i : ℕ) → own_skips c 1 (lines_of_object e.run i) ≡ skipped i log.trace.actions
+
+-- the same of the calls of a lane, from one of them on
+abbrev pub HasLogs : Ending → ℕ → ℕ → List CallLog → Type 0
+HasLogs e lane index [] = Unit
+HasLogs e lane index (log ∷ logs) = HasLog e (label_at lane index) log × HasLogs e lane (index + 1) logs
+
+-- the run goes on from what a pass of the timers' table has seen
+abbrev pub GoesOn : List TimerEntry → Ending → Type 0
+GoesOn seen e = (later : List TimerEntry) × (e.order ≡ seen ++ later)
+
+-- the run goes on from the writes that a pass of the clock's table has seen
+abbrev pub GoesOnClock : List Write → Ending → Type 0
+GoesOnClock writes e = (later : List Write) × (map (λ line. line.write) e.run.clock ≡ writes ++ later)
+
+-- A call fits in every run that the lane can still end in, and that has what the lane kept of the call. Which runs these are is what the lane has seen of
+-- each table: that the run goes on from it.
+abbrev pub IsPromised : Script → ℕ → ℕ → CallLog → (Ending → Type 0) → Call → Answer → Seen → Seen → Type 0
+IsPromised s lane index log Follows call answer before after =
+    (e : Ending) → Follows e → HasLog e (label_at lane index) log → IsJoined s e → FitsCall (course_of s e) (label_at lane index) call answer before after
+
+-- a fit of the calls that are left makes a fit of all
+abbrev pub IsSoFar : Course → ℕ → ℕ → Seen → List CallInRound → List CallInRound → List Answer → Type 0
+IsSoFar w lane index now all rest given = (more : List Answer) → FitsLane w lane index now rest more → FitsLane w lane 0 unseen all (given ++ more)
+
+-- the same of all calls so far, in every run that the lane can still end in, and that has what it kept of its calls
+abbrev pub IsPromisedSoFar : Script → ℕ → ℕ → List CallLog → (Ending → Type 0) → Seen → List CallInRound → List Answer → Type 0
+IsPromisedSoFar s lane index logs Follows now rest given =
+    (e : Ending) → Follows e → HasLogs e lane 0 logs → IsJoined s e → IsSoFar (course_of s e) lane index now (calls_of s lane) rest given

@@ -1,0 +1,105 @@
+-- What many lanes leave together at the end of a run, and what it takes for that to be a run.
+use Rattle.std.specs.List.{AllByRecursion}
+use Rattle.std.specs.Prelude.{ℕ, ◌≡◌, ◌≤◌, ◌<◌, List, [], length, map}
+use Rattle.clock_model.specs.Clocks.{at_stamp}
+use Rattle.seq_timer.specs.Systems.{IsSystemHistory}
+use Rattle.seq_timer.specs.declared.system.TimerEntry.{TimerEntry}
+use Rattle.record_text.specs.declared.record.Label.{Label}
+use Rattle.record_text.specs.declared.record.RunRecord.{RunRecord}
+use Rattle.script_text.specs.Fits.{answers_of, AreUnder}
+use Rattle.script_text.specs.Histories.{AreWrites, clock_labels, lines_of_timer}
+use Rattle.script_text.specs.Objects.{IsLegalObject, kind_of, lines_of_object, object_labels}
+use Rattle.script_text.specs.Order.{calls_of, IsLabel}
+use Rattle.script_text.specs.declared.script.Script.{Script}
+use Rattle.run_history.specs.Courses.{clocks_of, Course, entries_in, IsOneHistory, labels, Trace}
+use Rattle.run_history.specs.Fits.{AreBehind, FitsLane, unseen}
+use Rattle.run_history.specs.Receipts.{AreAll, AreFiled, Filed, Noted, ShowsEntry, weave}
+use Rattle.run_history.specs.Rounds.{IsLaid, IsLedger, Spans}
+
+-- What a lane keeps of one call: its receipts with their places; what it did; and how many entries of all timers, writes of the clock and entries of
+-- each object its passes had seen when it began and when it ended.
+pub record CallLog : Type 0 where
+  pub notes : List Noted
+  pub trace : Trace
+  pub moves : ℕ × ℕ
+  pub clock : ℕ × ℕ
+  pub objects : ℕ → ℕ × ℕ
+
+-- of each list how long it was when each round began: of all timers' entries, of the clock's writes, of each object's entries
+pub record Starts : Type 0 where
+  pub moves : ℕ → ℕ
+  pub clock : ℕ → ℕ
+  pub objects : ℕ → ℕ → ℕ
+
+-- The record; the order of all timers' entries, which is what the last pass of the timers' table has seen; what the lanes kept of each call; the span of
+-- each entry of an object; and where rounds began.
+pub record Ending : Type 0 where
+  pub run : RunRecord
+  pub order : List TimerEntry
+  pub logs : Label → CallLog
+  pub spans : ℕ → ℕ → ℕ × ℕ
+  pub starts : Starts
+
+-- the receipts of a call
+abbrev pub notes_in : Ending → Label → List Noted
+notes_in e c = (e.logs c).notes
+
+-- the spans of the calls on the list of all timers' entries, on that of the clock's writes, and on an object's
+abbrev pub moves_spans : Ending → Spans
+moves_spans e = record { first = λ c. (e.logs c).moves.0; last = λ c. (e.logs c).moves.1; starts = e.starts.moves }
+
+abbrev pub clock_spans : Ending → Spans
+clock_spans e = record { first = λ c. (e.logs c).clock.0; last = λ c. (e.logs c).clock.1; starts = e.starts.clock }
+
+abbrev pub object_spans : Ending → ℕ → Spans
+object_spans e i = record { first = λ c. ((e.logs c).objects i).0; last = λ c. ((e.logs c).objects i).1; starts = e.starts.objects i }
+
+-- the record's lines along the order
+abbrev pub course_of : Script → Ending → Course
+course_of s e = record { script = s; run = e.run; moves = weave e.run [] e.order; traces = λ c. (e.logs c).trace; spans = e.spans }
+
+-- what holds of the whole run, for each lane to use
+pub record IsJoined (s : Script) (e : Ending) : Type 0 where
+  -- the entries along the record's lines are the order's, a history of all timers and bases
+  pub entries : entries_in (course_of s e) ≡ e.order
+  pub history : IsSystemHistory s.bases (clocks_of s) s.limit e.order
+  pub one : IsOneHistory (course_of s e)
+  -- each call's receipts are its moves
+  pub all : (c : Label) → AreAll c (course_of s e).moves (notes_in e c)
+  -- calls stand along each list by rounds
+  pub moves_laid : IsLaid s (labels (course_of s e)) (moves_spans e)
+  pub clock_laid : IsLaid s (clock_labels e.run) (clock_spans e)
+  pub objects_laid : (i : ℕ) → IsLaid s (object_labels e.run i) (object_spans e i)
+
+-- the parts that make a run, each of which is what one table or one lane gives
+pub record IsEnding (s : Script) (e : Ending) : Type 0 where
+  -- the timers' table
+  pub history : IsSystemHistory s.bases (clocks_of s) s.limit e.order
+  -- the record's lines are the receipts of all calls, sorted, and each shows its entry
+  pub sorted : List Filed
+  pub filed : AreFiled e.run e.order (notes_in e) sorted
+  pub entries : (c : Label) → AllByRecursion (ShowsEntry e.run e.order) (notes_in e c)
+  -- the receipts stand in their calls' spans
+  pub ledger : IsLedger s (moves_spans e)
+  pub whole : (c : Label) → IsLabel s c → (e.logs c).moves.1 ≤ length e.order
+  pub inside : (c : Label)
+      → AllByRecursion (λ x. IsLabel s c × ((e.logs c).moves.0 ≤ x.place) × (x.place < (e.logs c).moves.1)) (notes_in e c)
+  -- the clock's list
+  pub clock_laid : IsLaid s (clock_labels e.run) (clock_spans e)
+  pub writes : AreWrites (at_stamp 0) e.run.clock
+  -- the objects' lists
+  pub objects_laid : (i : ℕ) → IsLaid s (object_labels e.run i) (object_spans e i)
+  pub object_histories : (i : ℕ) → IsLegalObject s e.run i (kind_of s i)
+  pub spans : (i : ℕ) → AreBehind (e.spans i) 1 0 (lines_of_object e.run i)
+  -- looks and skips under their lines, and one list for each timer and lane
+  pub looks : (t : ℕ) → AllByRecursion (λ line. AreUnder s (map (λ look. look.label) line.looks)) (lines_of_timer e.run t)
+  pub skips : (i : ℕ) → AllByRecursion (λ line. AreUnder s (map (λ skip. skip.label) line.skips)) (lines_of_object e.run i)
+  pub timers : length e.run.timers ≡ length s.timers
+  pub objects : length e.run.objects ≡ length s.timers
+  pub lanes : length e.run.answers ≡ s.lanes
+  -- each lane's promise
+  pub calls : (lane : ℕ) → IsJoined s e → FitsLane (course_of s e) lane 0 unseen (calls_of s lane) (answers_of e.run lane)
+
+-- a run of lanes may leave this record
+abbrev pub IsRun : Script → RunRecord → Type 0
+IsRun s r = (e : Ending) × (e.run ≡ r) × IsEnding s e

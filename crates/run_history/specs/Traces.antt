@@ -1,0 +1,31 @@
+-- What one call did is what the record has under its label.
+use Rattle.std.specs.Prelude.{ℕ, ◌≡◌, ◌+◌, List, [], ◌∷◌}
+use Rattle.record_text.specs.declared.record.Entry.{Entry}
+use Rattle.record_text.specs.declared.record.Label.{Label}
+use Rattle.run_history.specs.Courses.{Course, Move}
+use Rattle.script_text.specs.Actions.{Action, Entered, Looked, Made, Skipped, Wrote, also, looked, made, own, own_looks, own_skips, skipped, wrote}
+use Rattle.script_text.specs.Histories.{lines_of_timer}
+use Rattle.script_text.specs.Objects.{lines_of_object}
+use Rattle.script_text.specs.Order.{is_label}
+
+-- the entries of timers among these, each with its timer and number
+abbrev pub all_entered : List Action → List (ℕ × (ℕ × Entry))
+all_entered [] = []
+all_entered (Wrote number write ∷ ds) = all_entered ds
+all_entered (Entered timer number entry ∷ ds) = (timer, (number, entry)) ∷ all_entered ds
+all_entered (Looked timer number reply ∷ ds) = all_entered ds
+all_entered (Made i number entry ∷ ds) = all_entered ds
+all_entered (Skipped i number generation ∷ ds) = all_entered ds
+
+-- the moves of a label
+abbrev pub own_moves : Label → List Move → List (ℕ × (ℕ × Entry))
+own_moves c [] = []
+own_moves c (m ∷ ms) = also (is_label c m.line.label) (m.timer, (m.before + 1, m.line.entry)) (own_moves c ms)
+
+-- the record has these things under the label, and no others; the timers' entries in this very order
+pub record HasTraced (w : Course) (c : Label) (actions : List Action) : Type 0 where
+  pub clock : own (λ line. line.label) (λ line. line.write) c 1 w.run.clock ≡ wrote actions
+  pub timers : own_moves c w.moves ≡ all_entered actions
+  pub looks : (t : ℕ) → own_looks c 1 (lines_of_timer w.run t) ≡ looked t actions
+  pub objects : (i : ℕ) → own (λ line. line.label) (λ line. line.entry) c 1 (lines_of_object w.run i) ≡ made i actions
+  pub skips : (i : ℕ) → own_skips c 1 (lines_of_object w.run i) ≡ skipped i actions

@@ -1,0 +1,144 @@
+-- What a call told held at one moment of the order of all timers' entries, a moment at which it had done just so much.
+use Rattle.std.specs.Prelude.{ℕ, ◌≡◌, ◌≤◌, ◌+◌, None, Bool, true, false, Some, List, [], ◌∷◌, ◌++◌, length}
+use Rattle.clock_model.specs.Clocks.{after_write, greatest}
+use Rattle.seq_timer.specs.declared.observation.Observation.{Observation}
+use Rattle.seq_timer.specs.declared.observation.Observation.TheVariants as observations
+use Rattle.seq_timer.specs.Histories.{Holds}
+use Rattle.script_text.specs.declared.script.Call.{Call}
+use Rattle.script_text.specs.declared.script.Call.TheVariants as calls
+use Rattle.record_text.specs.declared.record.Label.{Label}
+use Rattle.record_text.specs.declared.record.Entry.TheVariants as entries
+use Rattle.record_text.specs.declared.record.Answer.{Answer}
+use Rattle.record_text.specs.declared.record.Answer.TheVariants as answers
+use Rattle.record_text.specs.declared.record.Armed.{Armed}
+use Rattle.record_text.specs.declared.record.Armed.TheVariants as armings
+use Rattle.record_text.specs.declared.record.ObjectEntry.{ObjectEntry}
+use Rattle.record_text.specs.declared.record.ObjectEntry.TheVariants as object_entries
+use Rattle.posix_timer.specs.States.{setting_of}
+use Rattle.timer_fd.specs.States.{is_readable}
+use Rattle.script_text.specs.ObjectCalls.{base_of}
+use Rattle.script_text.specs.Order.{IsPoint}
+use Rattle.script_text.specs.Histories.{reading_at}
+use Rattle.script_text.specs.Objects.{object_armed_after, fd_after, kind_of, object_labels, posix_after}
+use Rattle.script_text.specs.Actions.{Action, Entered, Looked, Made, Skipped, made}
+use Rattle.script_text.specs.Calls.{IsBelowLimit, IsOutOfRange, IsArmedLike, observed}
+use Rattle.seq_timer.specs.Tables.{is_due_on, runs_on}
+use Rattle.run_history.specs.Traces.{all_entered}
+use Rattle.run_history.specs.Courses.{Course, labels, timer_then}
+use Rattle.run_history.specs.Courses.{Fired}
+
+-- a number of entries of all timers is one at which the call has done so much, and that it may have seen
+abbrev pub IsMoment : Course → Label → List Action → ℕ → Type 0
+IsMoment w c before n = IsPoint w.script c (length (all_entered before)) n (labels w)
+
+-- at this moment the timer had so many entries, and the observation of it held
+pub record Saw (w : Course) (timer number : ℕ) (observation : Observation) (n : ℕ) : Type 0 where
+  pub stamp : (timer_then w n timer).stamp ≡ number
+  pub holds : Holds (timer_then w n timer) observation
+
+-- a start was refused: the timer's history was full, and the timer was not on the move between bases
+abbrev pub SawRefusal : Course → ℕ → ℕ → ℕ → Type 0
+SawRefusal w timer stamp n = Saw w timer stamp observations.Spent n × ((timer_then w n timer).moving ≡ false)
+
+-- a number of entries of an object is one that the call, having done so much, may have seen
+abbrev pub IsObjectPoint : Course → Label → List Action → ℕ → ℕ → Type 0
+IsObjectPoint w c before i n = IsPoint w.script c (length (made i before)) n (object_labels w.run i)
+
+-- an object's history is full, after so many of its entries, which the call, having done so much, may have seen
+abbrev pub SawFull : Course → Label → List Action → ℕ → ℕ → Type 0
+SawFull w c before i stamp = IsObjectPoint w c before i stamp × (w.script.limit ≤ stamp)
+
+-- a settime disarmed its timer first: it cancelled it, or it was idle at the call's first moment, before which the call had made no entry
+abbrev pub DisarmedFirst : Course → ℕ → List Action → ℕ → Type 0
+DisarmedFirst w timer (Entered t number (entries.Cancel generation) ∷ actions) first = Unit
+DisarmedFirst w timer actions first = Holds (timer_then w first timer) observations.Idle
+
+-- what an entry of an object tells of its timer's start is true
+abbrev pub IsTrueStart : Course → ℕ → ℕ → Bool → Armed → ℕ → Type 0
+IsTrueStart w i number on_clock armings.None n = Unit
+IsTrueStart w i number on_clock (armings.Generation generation) n =
+    ((timer_then w n i).stamp ≡ generation)
+    × IsArmedLike on_clock (object_armed_after w.script w.run i number (kind_of w.script i)) generation (timer_then w n i)
+IsTrueStart w i number on_clock armings.Unarmed n = SawRefusal w i (timer_then w n i).stamp n
+
+-- the same, of each entry of an object
+abbrev pub IsTrueEntry : Course → ℕ → ℕ → ObjectEntry → ℕ → Type 0
+IsTrueEntry w i number (object_entries.Settime flags value interval reading arm reply) n = IsTrueStart w i number true arm n
+IsTrueEntry w i number (object_entries.Trigger generation reading counted) n = Unit
+IsTrueEntry w i number (object_entries.Accept reading arm reply) n = IsTrueStart w i number false arm n
+IsTrueEntry w i number (object_entries.Read reading arm reply) n = IsTrueStart w i number false arm n
+IsTrueEntry w i number (object_entries.Gettime reading arm left interval) n = IsTrueStart w i number false arm n
+
+-- An entry of an object has a span: how many entries the object's timer had where the call found it, and at a moment after the call's own entries
+-- of it. That of an expiry is said at IsClaimSpan.
+abbrev pub IsSpan : Course → ℕ → ℕ → ℕ → ℕ → Type 0
+IsSpan w first i number n = w.spans i number ≡ ((timer_then w first i).stamp, (timer_then w n i).stamp)
+
+-- The span of a call that started nothing is empty. The call had seen no entry of the timer behind it, unless the timer's function ran then.
+pub record IsEmptySpan (w : Course) (i number n : ℕ) : Type 0 where
+  pub empty : (w.spans i number).0 ≡ (w.spans i number).1
+  pub seen : (timer_then w n i).running ≡ None → (timer_then w n i).stamp ≤ (w.spans i number).0
+
+-- the span of a call that starts the timer only where it has expired
+abbrev pub IsSpanBy : Course → ℕ → ℕ → ℕ → Armed → ℕ → Type 0
+IsSpanBy w first i number armings.None n = IsEmptySpan w i number n
+IsSpanBy w first i number (armings.Generation generation) n = IsSpan w first i number n
+IsSpanBy w first i number armings.Unarmed n = IsSpan w first i number n
+
+-- the same, of each entry of an object
+abbrev pub HasSpan : Course → ℕ → ℕ → ℕ → ObjectEntry → ℕ → Type 0
+HasSpan w first i number (object_entries.Settime flags value interval reading arm reply) n = IsSpan w first i number n
+HasSpan w first i number (object_entries.Trigger generation reading counted) n = Unit
+HasSpan w first i number (object_entries.Accept reading arm reply) n = IsSpanBy w first i number arm n
+HasSpan w first i number (object_entries.Read reading arm reply) n = IsSpanBy w first i number arm n
+HasSpan w first i number (object_entries.Gettime reading arm left interval) n = IsSpanBy w first i number arm n
+
+-- the span of an expiry that an object's entry tells: just the claim of its timer
+abbrev pub IsClaimSpan : Course → Fired → List Action → Type 0
+IsClaimSpan w f (Made i number entry ∷ []) = (before : ℕ) × (before + 1 ≡ f.claim) × (w.spans i number ≡ (before, f.claim))
+IsClaimSpan w f body = Unit
+
+-- what a thing that a call did tells of a timer or an object is true, at a moment after what the call did before it
+abbrev pub IsTrue : Course → Label → ℕ → List Action → Action → ℕ → Type 0
+IsTrue w c first before (Entered timer number (entries.Claim base reading generation)) n = IsMoment w c before n
+IsTrue w c first before (Looked timer number look) n = IsMoment w c before n × Saw w timer number (observed look) n × IsBelowLimit w.script.limit number look
+IsTrue w c first before (Made i number entry) n = IsMoment w c before n × IsTrueEntry w i number entry n × HasSpan w first i number entry n
+IsTrue w c first before (Skipped i number generation) n = SawFull w c before i number
+IsTrue w c first before did n = Unit
+
+-- each thing that a call did tells the truth, at moments that never go back, from one moment to another
+abbrev pub AreTrue : Course → Label → ℕ → ℕ → List Action → List Action → ℕ → Type 0
+AreTrue w c first from before [] last = from ≤ last
+AreTrue w c first from before (d ∷ ds) last = (n : ℕ) × (from ≤ n) × IsTrue w c first before d n × AreTrue w c first n (before ++ d ∷ []) ds last
+
+-- no function ran on the base, and no timer was due there
+pub record IsDone (w : Course) (reading base n : ℕ) : Type 0 where
+  pub free : (t : ℕ) → runs_on base (timer_then w n t) ≡ false
+  pub none_due : (t : ℕ) → is_due_on base (reading_at w.run.clock reading) (timer_then w n t) ≡ false
+
+-- An answer that tells of a state tells of one that the call may have seen: of timers and bases at its last moment, and, for a settime that cancelled
+-- nothing, of an idle timer at its first; of an object after so many of its entries. A write is refused only while the clock may take more of them,
+-- and where one of its times would be past the latest, and the answer is the greatest of these.
+abbrev pub IsSeen : Course → ℕ → ℕ → Label → ℕ → List Action → Call → Answer → Type 0
+IsSeen w first last c reading actions (calls.Start timer mode ns base) (answers.Spent stamp) = SawRefusal w timer stamp last
+IsSeen w first last c reading actions (calls.Cancel timer) (answers.Running generation stamp) = Saw w timer stamp (observations.Running generation) last
+IsSeen w first last c reading actions (calls.Cancel timer) (answers.Idle stamp) = Saw w timer stamp observations.Idle last
+IsSeen w first last c reading actions (calls.Peek timer) (answers.Peek stamp base enqueued running moving) =
+    Saw w timer stamp (observations.Peek (record { stamp = stamp; base = base; enqueued = enqueued; running = running; moving = moving })) last
+IsSeen w first last c reading actions (calls.Expire base budget) (answers.Done shown timers) = IsDone w reading base last
+IsSeen w first last c reading actions (calls.Expire base budget) (answers.Busy shown timers timer generation) = ((timer_then w last timer).running ≡ Some generation) × ((timer_then w last timer).base ≡ base)
+IsSeen w first last c reading actions (calls.Clock write) (answers.Range would_be) = IsOutOfRange reading would_be (greatest (after_write (reading_at w.run.clock reading) write))
+IsSeen w first last c reading actions (calls.Settime timer flags value interval) (answers.Spent stamp) = SawFull w c actions timer stamp
+IsSeen w first last c reading actions (calls.Settime timer flags value interval) (answers.Old left old) = DisarmedFirst w timer actions first
+IsSeen w first last c reading actions (calls.Settime timer flags value interval) answers.Canceled = DisarmedFirst w timer actions first
+IsSeen w first last c reading actions (calls.Settime timer flags value interval) (answers.Unarmed stamp) = DisarmedFirst w timer actions first × SawRefusal w timer stamp last
+IsSeen w first last c reading actions (calls.Gettime timer) (answers.Spent stamp) = SawFull w c actions timer stamp
+IsSeen w first last c reading actions (calls.Gettime timer) (answers.LeftAt left interval shown stamp) =
+    IsObjectPoint w c actions timer stamp × (setting_of (posix_after w.script w.run timer (base_of (kind_of w.script timer)) stamp) (reading_at w.run.clock reading) ≡ record { left = left; interval = interval })
+IsSeen w first last c reading actions (calls.Accept timer) (answers.Spent stamp) = SawFull w c actions timer stamp
+IsSeen w first last c reading actions (calls.Overrun timer) (answers.Overrun overrun stamp) =
+    IsObjectPoint w c actions timer stamp × ((posix_after w.script w.run timer (base_of (kind_of w.script timer)) stamp).overrun ≡ overrun)
+IsSeen w first last c reading actions (calls.Read timer len) (answers.Spent stamp) = SawFull w c actions timer stamp
+IsSeen w first last c reading actions (calls.Readable timer) (answers.Readable ready shown stamp) =
+    IsObjectPoint w c actions timer stamp × (is_readable (fd_after w.script w.run timer (base_of (kind_of w.script timer)) stamp) (reading_at w.run.clock reading) ≡ ready)
+IsSeen w first last c reading actions call answer = Unit
