@@ -1,0 +1,9 @@
+pub mod Notes
+pub mod Entries
+pub mod Arms
+pub mod PosixNotes
+pub mod FdNotes
+pub mod Objects
+pub mod Sorted
+pub mod Records
+pub mod Shown

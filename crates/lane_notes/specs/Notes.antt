@@ -1,0 +1,34 @@
+-- What lanes have noted.
+use Rattle.std.specs.Prelude.{ℕ, List, [], ◌∷◌, ◌++◌}
+use Rattle.record_text.specs.declared.record.ClockLine.{ClockLine}
+use Rattle.lane_notes.specs.declared.notes.EntryNote.{EntryNote}
+use Rattle.lane_notes.specs.declared.notes.LookNote.{LookNote}
+use Rattle.lane_notes.specs.declared.notes.ObjectNote.{ObjectNote}
+use Rattle.lane_notes.specs.declared.notes.SkipNote.{SkipNote}
+use Rattle.lane_notes.specs.declared.notes.WriteNote.{WriteNote}
+
+-- notes of each kind
+pub record NotesOf : Type 0 where
+  pub entries : List EntryNote
+  pub looks : List LookNote
+  pub objects : List ObjectNote
+  pub skips : List SkipNote
+  pub writes : List WriteNote
+
+-- nothing is noted yet
+abbrev pub no_notes : NotesOf
+no_notes = record { entries = []; looks = []; objects = []; skips = []; writes = [] }
+
+-- the notes of one, and behind them those of the other
+abbrev pub both_noted : NotesOf → NotesOf → NotesOf
+both_noted a b = record {
+  entries = a.entries ++ b.entries;
+  looks = a.looks ++ b.looks;
+  objects = a.objects ++ b.objects;
+  skips = a.skips ++ b.skips;
+  writes = a.writes ++ b.writes;
+}
+
+-- one more write of the clock
+abbrev pub with_write_note : NotesOf → ℕ → ClockLine → NotesOf
+with_write_note notes stamp line = record notes { writes = notes.writes ++ record { stamp = stamp; line = line } ∷ [] }

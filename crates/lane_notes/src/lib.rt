@@ -1,0 +1,19 @@
+//! What lanes note of their calls, and the record that is made of all notes.
+#![tactic(auto)]
+
+pub use entries::note_receipts;
+pub use notes::{EntryNote, LookNote, Notes, ObjectNote, SkipNote, WriteNote};
+pub use objects::note_object_receipts;
+pub use record::record_of;
+
+mod arm;
+mod entries;
+mod fd;
+mod filing;
+mod notes;
+mod objects;
+mod placed;
+mod posix;
+mod record;
+#[cfg(test)]
+mod tests;

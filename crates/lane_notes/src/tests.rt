@@ -1,0 +1,294 @@
+//! Tests of notes and of the record that is made of them.
+use crate::{Notes, note_object_receipts, note_receipts, record_of};
+use clock_model::Write;
+use expire_pass::{Noted, Receipt};
+use ktime::{ClockId, Mode, Reading};
+use posix_timer::{AcceptAnswer, Arm, SettimeAnswer, SettimeCall, TriggerAnswer};
+use record_text::{ClockLine, Label, text};
+use seq_timer::{Event, Observation, Rearmed, Reply};
+use std::alloc::{AllocError, Global};
+use std::process::Abort;
+use timer_fd::{GettimeAnswer, ReadAnswer};
+use timer_objects::{ObjectCall, ObjectReceipt, ObjectReply, SpannedCall};
+
+fn label(lane: u32, call: u32) -> Label {
+    Label { lane, call }
+}
+
+fn start(timer: u32, number: u64, was_armed: bool) -> Receipt {
+    Receipt {
+        timer,
+        number,
+        event: Event::Start {
+            mode: Mode::Abs,
+            ns: 100,
+            reading: Reading::at(7),
+            asked: 2,
+        },
+        reply: Noted::Entry(Reply::Start {
+            base: 2,
+            clock: ClockId::Monotonic,
+            expires: 100,
+            was_armed,
+        }),
+    }
+}
+
+fn finish(number: u64, generation: u64, rearmed: Rearmed) -> Receipt {
+    Receipt {
+        timer: 0,
+        number,
+        event: Event::Finish { restart: true },
+        reply: Noted::Entry(Reply::Finish {
+            generation,
+            rearmed,
+        }),
+    }
+}
+
+fn entry(timer: u32, number: u64, event: Event, reply: Reply) -> Receipt {
+    Receipt {
+        timer,
+        number,
+        event,
+        reply: Noted::Entry(reply),
+    }
+}
+
+fn claim(number: u64) -> Receipt {
+    let event = Event::Claim {
+        base: 2,
+        reading: Reading::at(100),
+    };
+    entry(0, number, event, Reply::Claim { generation: 1 })
+}
+
+fn forward(number: u64) -> Receipt {
+    let event = Event::Forward {
+        reading: Reading::at(101),
+        interval: 50,
+    };
+    let reply = Reply::Forward {
+        count: 1,
+        expires: 150,
+    };
+    entry(0, number, event, reply)
+}
+
+fn look(timer: u32, number: u64, observation: Observation) -> Receipt {
+    Receipt {
+        timer,
+        number,
+        event: Event::Cancel,
+        reply: Noted::Look(observation),
+    }
+}
+
+fn posix(number: u64, call: posix_timer::Call, reply: posix_timer::Reply) -> ObjectReceipt {
+    ObjectReceipt {
+        object: 1,
+        number,
+        call: SpannedCall {
+            call: ObjectCall::Posix(call),
+            from: 0,
+            to: 0,
+        },
+        reply: ObjectReply::Posix(reply),
+    }
+}
+
+fn fd(number: u64, call: timer_fd::Call, reply: timer_fd::Reply) -> ObjectReceipt {
+    ObjectReceipt {
+        object: 0,
+        number,
+        call: SpannedCall {
+            call: ObjectCall::Fd(call),
+            from: 0,
+            to: 0,
+        },
+        reply: ObjectReply::Fd(reply),
+    }
+}
+
+fn write(time: u64, lane: u32) -> ClockLine {
+    ClockLine {
+        label: label(lane, 0),
+        write: Write::Advance { by: 5 },
+        mono: time,
+        real: time,
+        boot: time,
+        changes: 0,
+    }
+}
+
+fn settime(arm: Arm) -> SettimeCall {
+    SettimeCall {
+        flags: 1,
+        value: 100,
+        interval: 10,
+        reading: Reading::at(0),
+        arm,
+    }
+}
+
+/// A descriptor's receipts, the last one first.
+fn fd_receipts() -> [ObjectReceipt; 3] {
+    let reading = Reading::at(40);
+    [
+        fd(
+            3,
+            timer_fd::Call::Gettime {
+                reading,
+                arm: Arm::Armed(5),
+            },
+            timer_fd::Reply::Gettime(GettimeAnswer::Left {
+                left: 60,
+                interval: 10,
+            }),
+        ),
+        fd(
+            1,
+            timer_fd::Call::Settime(settime(Arm::Unarmed(9))),
+            timer_fd::Reply::Settime(timer_fd::SettimeAnswer::Unarmed { stamp: 9 }),
+        ),
+        fd(
+            2,
+            timer_fd::Call::Read {
+                reading,
+                arm: Arm::NotAsked,
+            },
+            timer_fd::Reply::Read(ReadAnswer::Again),
+        ),
+    ]
+}
+
+/// A POSIX timer's receipts, the last one first; the first of them is an expiry that was refused.
+fn posix_receipts() -> [ObjectReceipt; 4] {
+    let reading = Reading::at(100);
+    let refused = TriggerAnswer::Spent { stamp: 3 };
+    let old = SettimeAnswer::Old {
+        left: 0,
+        interval: 0,
+    };
+    [
+        trigger(3, 5, refused),
+        posix(
+            3,
+            posix_timer::Call::Accept {
+                reading,
+                arm: Arm::Armed(5),
+            },
+            posix_timer::Reply::Accept(AcceptAnswer::Accepted { overrun: 2 }),
+        ),
+        trigger(2, 3, TriggerAnswer::Counted),
+        posix(
+            1,
+            posix_timer::Call::Settime(settime(Arm::Armed(3))),
+            posix_timer::Reply::Settime(old),
+        ),
+    ]
+}
+
+/// An expiry of a POSIX timer.
+fn trigger(number: u64, generation: u64, answer: TriggerAnswer) -> ObjectReceipt {
+    let reading = Reading::at(100);
+    posix(
+        number,
+        posix_timer::Call::Trigger {
+            generation,
+            reading,
+        },
+        posix_timer::Reply::Trigger(answer),
+    )
+}
+
+/// Compares the text of the record that notes make.
+fn shows(
+    rt: &impl Abort,
+    alloc: Global,
+    notes: Notes,
+    timers: usize,
+    want: &str,
+) -> Result<(), AllocError> {
+    let record = record_of(alloc, notes, timers, Vec::new(alloc))?;
+    let bytes = text(alloc, &record)?;
+    assert_eq!(rt; bytes.as_slice(), want.as_bytes());
+    Ok(())
+}
+
+/// The notes of one lane's call, which wrote the clock second.
+fn first_lane(alloc: Global) -> Result<Notes, AllocError> {
+    let mut notes = Notes::new(alloc);
+    notes.note_write(2, write(10, 0))?;
+    let receipts = [
+        finish(4, 1, Rearmed::Again { generation: 4 }),
+        look(0, 2, Observation::Running { generation: 1 }),
+        look(0, 2, Observation::Idle),
+        claim(2),
+    ];
+    note_receipts(&mut notes, label(1, 0), &receipts)?;
+    Ok(notes)
+}
+
+/// The notes of another lane's call, which wrote the clock first.
+fn second_lane(alloc: Global) -> Result<Notes, AllocError> {
+    let mut notes = Notes::new(alloc);
+    notes.note_write(1, write(5, 3))?;
+    let receipts = [
+        look(0, 2, Observation::Spent),
+        start(0, 1, false),
+        forward(3),
+        start(1, 1, true),
+        start(7, 1, true),
+    ];
+    note_receipts(&mut notes, label(0, 5), &receipts)?;
+    Ok(notes)
+}
+
+#[test]
+fn notes_out_of_order_make_the_record(rt: HostRuntime) -> Result<(), AllocError> {
+    let mut notes = Notes::new(rt.alloc());
+    notes.append(first_lane(rt.alloc())?)?;
+    notes.append(second_lane(rt.alloc())?)?;
+    let want = concat!(
+        "record 1\n",
+        "clock 1 3 0 advance 5 5 5 5 0\n",
+        "clock 2 0 0 advance 5 10 10 10 0\n",
+        "timer 0 1 0 5 start abs 100 0 2 2 monotonic 100 0\n",
+        "timer 0 2 1 0 claim 2 0 1\n",
+        "look 0 2 0 5 spent\n",
+        "look 0 2 1 0 running 1\n",
+        "timer 0 3 0 5 forward 0 50 1 150\n",
+        "timer 0 4 1 0 finish again 1 4\n",
+        "timer 1 1 0 5 start abs 100 0 2 2 monotonic 100 1\n",
+        "end\n",
+    );
+    shows(&rt, rt.alloc(), notes, 2, want)
+}
+
+#[test]
+fn receipts_of_objects_make_lines_and_skips(rt: HostRuntime) -> Result<(), AllocError> {
+    let mut notes = Notes::new(rt.alloc());
+    note_object_receipts(&mut notes, label(2, 1), &fd_receipts())?;
+    note_object_receipts(&mut notes, label(1, 4), &posix_receipts())?;
+    let want = concat!(
+        "record 1\n",
+        "object 0 1 2 1 settime 1 100 10 0 unarmed unarmed 9\n",
+        "object 0 2 2 1 read 0 none again\n",
+        "object 0 3 2 1 gettime 0 5 60 10\n",
+        "object 1 1 1 4 settime 1 100 10 0 3 old 0 0\n",
+        "object 1 2 1 4 trigger 3 0 counted\n",
+        "object 1 3 1 4 accept 0 5 accepted 2\n",
+        "skip 1 3 1 4 5\n",
+        "end\n",
+    );
+    shows(&rt, rt.alloc(), notes, 2, want)
+}
+
+#[test]
+fn what_does_not_belong_together_is_not_noted(rt: HostRuntime) -> Result<(), AllocError> {
+    let mut notes = Notes::new(rt.alloc());
+    let receipts = [entry(0, 1, Event::Cancel, Reply::Out { was_armed: true })];
+    note_receipts(&mut notes, label(0, 0), &receipts)?;
+    shows(&rt, rt.alloc(), notes, 1, "record 1\nend\n")
+}
