@@ -1,0 +1,235 @@
+-- What a lane keeps of a call, by its passes before and after it: the parts that are the same for each kind of call.
+use Rattle.std.proofs.Common.{◌≡◌, ◌≤◌, ◌<◌, ℕ, ◌+◌, Bool, take, Option, Some, None, option_map, List, [], ◌∷◌, ◌++◌, length, map, arith, refl, sym, ap, ◌∙◌, subst}
+use Rattle.std.specs.List.{AllByRecursion, fold}
+use Rattle.std.specs.List.Sorted.{IsPermutation}
+use Rattle.std.proofs.lemmas.List.{append-nil}
+use Rattle.std.proofs.lemmas.List.Sorted.{IsPermutation-map, IsPermutation-refl, sum_by-IsPermutation}
+use Rattle.std.proofs.lemmas.Option.{slice_get_within}
+use Rattle.ktime.specs.Readings.{ClockReading}
+use Rattle.clock_model.specs.Clocks.{at_stamp, clock_after}
+use Rattle.clock_cell.specs.Views.{writes}
+use Rattle.pass_names.specs.Counts.{count, one_if, total}
+use Rattle.pass_names.specs.Passes.{Begins, GoesOn, is_place}
+use Rattle.pass_names.proofs.Counts.{total-append}
+use Rattle.expire_pass.specs.declared.log.Receipt.{Receipt}
+use Rattle.timer_objects.specs.Known.{seen_of}
+use Rattle.timer_objects.specs.declared.log.ObjectReceipt.{ObjectReceipt}
+use Rattle.record_text.specs.declared.record.Answer.{Answer}
+use Rattle.record_text.specs.declared.record.ClockLine.{ClockLine}
+use Rattle.record_text.specs.declared.record.Entry.{Entry}
+use Rattle.record_text.specs.declared.record.Label.{Label}
+use Rattle.script_text.specs.Actions.{made, wrote}
+use Rattle.script_text.specs.Fits.{object_steps_on}
+use Rattle.script_text.specs.Histories.{reading_at}
+use Rattle.script_text.specs.Objects.{present}
+use Rattle.script_text.specs.Order.{calls_of, IsLabel, NeverFall}
+use Rattle.script_text.specs.declared.script.Call.{Call}
+use Rattle.script_text.specs.declared.script.Script.{Script}
+use Rattle.lane_notes.specs.Entries.{entry_notes, look_notes, receipt_entry, receipt_look}
+use Rattle.lane_notes.specs.Notes.{both_noted, no_notes, NotesOf}
+use Rattle.lane_notes.specs.Objects.{object_entry_noted, object_notes, skip_generation, skip_notes}
+use Rattle.lane_notes.specs.declared.notes.EntryNote.{EntryNote}
+use Rattle.run_history.specs.Courses.{Trace}
+use Rattle.run_history.specs.Fits.{FitsCall}
+use Rattle.run_history.specs.Promises.{GoesOnClock, HasLog, IsLogged, IsPromised}
+use Rattle.run_history.specs.Receipts.{Noted, receipt, Rises}
+use Rattle.run_history.specs.Runs.{CallLog, course_of, Ending, IsJoined, moves_spans}
+use Rattle.run_history.specs.Traces.{all_entered}
+use Rattle.run_history.proofs.Kept.{IsKept}
+use Rattle.run_history.proofs.Known.{AreMade}
+use Rattle.run_history.proofs.Promise.{kept_from, reading_seen}
+use Rattle.lane_run.specs.Called.{LaneOf, LeavesClock, Reads, with_done}
+use Rattle.lane_run.specs.Kept.{BearLabel, entry_in_note, Follows, IsNextCall, log_of, seen_by, SeesOn, StandIn}
+use Rattle.lane_run.specs.Worlds.{WorldOf}
+use Rattle.lane_run.specs.declared.world.WorldPass.{WorldPass}
+use Rattle.lane_run.proofs.Entering.{begins_length, begins_same, EntersNotes, place_of}
+
+-- ---- notes
+
+-- the notes that a call's receipts give
+abbrev pub notes_of : Label → List Receipt → List ObjectReceipt → NotesOf
+notes_of label log object_log = record {
+  entries = entry_notes label log;
+  looks = look_notes label log;
+  objects = object_notes label object_log;
+  skips = skip_notes label object_log;
+  writes = [];
+}
+
+-- law: a lane adds them behind its own
+pub with_done-joins : (notes : NotesOf) (label : Label) (log : List Receipt) (object_log : List ObjectReceipt)
+    → with_done notes label log object_log ≡ both_noted notes (notes_of label log object_log)
+with_done-joins notes label log object_log =
+    ap (λ ws. record {
+      entries = notes.entries ++ entry_notes label log;
+      looks = notes.looks ++ look_notes label log;
+      objects = notes.objects ++ object_notes label object_log;
+      skips = notes.skips ++ skip_notes label object_log;
+      writes = ws;
+    }) (sym (append-nil notes.writes))
+
+-- law: no receipts, no notes
+pub no_notes-joins : (notes : NotesOf) → notes ≡ both_noted notes no_notes
+no_notes-joins notes =
+    ap (λ es. record notes { entries = es }) (sym (append-nil notes.entries))
+    ∙ ap (λ ls. record notes { entries = notes.entries ++ []; looks = ls }) (sym (append-nil notes.looks))
+    ∙ ap (λ os. record notes { entries = notes.entries ++ []; looks = notes.looks ++ []; objects = os }) (sym (append-nil notes.objects))
+    ∙ ap (λ ks. record notes { entries = notes.entries ++ []; looks = notes.looks ++ []; objects = notes.objects ++ []; skips = ks })
+    (sym (append-nil notes.skips))
+    ∙ ap (λ ws. record { entries = notes.entries ++ []; looks = notes.looks ++ []; objects = notes.objects ++ []; skips = notes.skips ++ []; writes = ws })
+    (sym (append-nil notes.writes))
+
+-- what is made of items that are there has what each that is made has
+present_all : {X Y Z : Type 0} (P : Z → Type 0) (make : X → Y → Z) (found : X → Option Y) (xs : List X) → ((x : X) (y : Y) → P (make x y))
+    → AllByRecursion P (present (map (λ x. option_map (make x) (found x)) xs))
+present_all P make found [] each = tt
+present_all {Y = Y} P make found (x ∷ xs) each = go (present_all P make found xs each) (found x)
+  where
+    go : AllByRecursion P (present (map (λ z. option_map (make z) (found z)) xs)) → (o : Option Y)
+        → AllByRecursion P (present (option_map (make x) o ∷ map (λ z. option_map (make z) (found z)) xs))
+    go rest None = rest
+    go rest (Some y) = (each x y, rest)
+
+-- law: a call's notes bear its label
+pub notes_of-bear : (label : Label) (log : List Receipt) (object_log : List ObjectReceipt) → BearLabel label (notes_of label log object_log)
+notes_of-bear label log object_log = record {
+  entries = present_all (λ n. n.label ≡ label) (λ (r : Receipt) entry. record { label = label; timer = r.timer; number = r.number; entry = entry })
+      (λ r. receipt_entry r.event r.reply) log (λ r y. refl);
+  looks = present_all (λ n. n.label ≡ label) (λ (r : Receipt) reply. record { label = label; timer = r.timer; number = r.number; reply = reply })
+      (λ r. receipt_look r.reply) log (λ r y. refl);
+  objects = present_all (λ n. n.label ≡ label) (λ (r : ObjectReceipt) entry. record { label = label; object = r.object; number = r.number; entry = entry })
+      (λ r. object_entry_noted r.call.call r.reply) object_log (λ r y. refl);
+  skips = present_all (λ n. n.label ≡ label)
+      (λ (r : ObjectReceipt) generation. record { label = label; object = r.object; number = r.number; generation = generation })
+      (λ r. skip_generation r.call.call r.reply) object_log (λ r y. refl);
+  writes = tt;
+}
+
+-- ---- places
+
+fold_total : {A : Type 0} (f : A → ℕ) (k : ℕ) (xs : List A) → fold (λ a x. a + f x) k xs ≡ k + total f xs
+fold_total f k [] = omega arith
+fold_total f k (x ∷ xs) = omega (arith, fold_total f (k + f x) xs)
+
+count_permuted : {A : Type 0} (p : A → Bool) (xs ys : List A) → IsPermutation xs ys → count p ys ≡ count p xs
+count_permuted p xs ys is =
+    omega (arith, fold_total (λ x. one_if (p x)) 0 xs, fold_total (λ x. one_if (p x)) 0 ys, sum_by-IsPermutation (λ x. one_if (p x)) xs ys is)
+
+-- the place of a receipt
+abbrev pub receipt_place : ℕ × (ℕ × Entry) → ℕ × ℕ
+receipt_place r = (r.0, r.1.0)
+
+-- the place of a note
+abbrev pub note_place : EntryNote → ℕ × ℕ
+note_place e = (e.timer, e.number)
+
+receipt_places : (notes : List Noted) → map receipt_place (map receipt notes) ≡ map place_of notes
+receipt_places [] = refl
+receipt_places (x ∷ notes) = ap (λ ps. place_of x ∷ ps) (receipt_places notes)
+
+note_places : (es : List EntryNote) → map receipt_place (map entry_in_note es) ≡ map note_place es
+note_places [] = refl
+note_places (e ∷ es) = ap (λ ps. note_place e ∷ ps) (note_places es)
+
+-- law: the places of a call's receipts are those of its notes, in another order
+pub places_added : (mine new : List (ℕ × ℕ)) (notes : List Noted) (es : List EntryNote) → new ≡ mine ++ map place_of notes
+    → IsPermutation (map receipt notes) (map entry_in_note es) → (t n : ℕ)
+    → count (is_place t n) new ≡ count (is_place t n) mine + count (is_place t n) (map note_place es)
+places_added mine new notes es is same t n =
+    let others : count (is_place t n) (map receipt_place (map entry_in_note es)) ≡ count (is_place t n) (map receipt_place (map receipt notes)) =
+    count_permuted (is_place t n) (map receipt_place (map receipt notes)) (map receipt_place (map entry_in_note es))
+    (IsPermutation-map receipt_place (map receipt notes) (map entry_in_note es) same) in
+    ap (count (is_place t n)) is ∙ total-append (λ q. one_if (is_place t n q)) mine (map place_of notes)
+    ∙ ap (λ k. count (is_place t n) mine + k)
+    (ap (count (is_place t n)) (sym (receipt_places notes)) ∙ sym others ∙ ap (count (is_place t n)) (note_places es))
+
+-- where none were added
+pub no_places : {A : Type 0} (p : A → Bool) (mine new : List A) → new ≡ mine → count p new ≡ count p mine + 0
+no_places p mine new is = let same = ap (count p) is in omega (arith, same)
+
+-- a permutation that is none
+pub same_order : {A : Type 0} (xs ys : List A) → xs ≡ ys → IsPermutation xs ys
+same_order xs ys is = subst (IsPermutation xs) is (IsPermutation-refl xs)
+
+-- ---- what the passes saw
+
+-- the clock was left alone
+pub leaves_begins : (p q : WorldPass) → LeavesClock p q → Begins (writes p.clock.knows) (writes q.clock.knows)
+leaves_begins p q leaves = begins_same (writes p.clock.knows) (writes q.clock.knows) (ap (λ c. writes c.knows) leaves)
+
+-- the clock was read
+pub reads_begins : (p q : WorldPass) → GoesOn p.clock.knows.pass.seen q.clock.knows.pass.seen → Begins (writes p.clock.knows) (writes q.clock.knows)
+reads_begins p q goes_on = goes_on.each 0
+
+-- the objects were left alone
+pub same_objects : (p q : WorldPass) → q.objects ≡ p.objects → GoesOn p.objects.knows.pass.seen q.objects.knows.pass.seen
+same_objects p q is = record { each = λ i. begins_same (seen_of p.objects i) (seen_of q.objects i) (ap (λ o. seen_of o i) is) }
+
+-- all of a list
+pub take_whole : {A : Type 0} (xs : List A) → take (length xs) xs ≡ xs
+take_whole [] = refl
+take_whole (x ∷ xs) = ap (λ ys. x ∷ ys) (take_whole xs)
+
+-- law: in every run that goes on from the writes that were seen the record has the reading
+pub reading_goes_on : (p q : WorldPass) (r : ClockReading) → Reads p q r → (e : Ending) → GoesOnClock (writes q.clock.knows) e
+    → reading_at e.run.clock r.stamp ≡ r
+reading_goes_on p q r reads e goes =
+    let many = length (writes q.clock.knows) in
+    ap (reading_at e.run.clock) reads.count ∙ reading_seen e (writes q.clock.knows) many goes (omega arith)
+    ∙ ap (clock_after (at_stamp 0)) (take_whole (writes q.clock.knows)) ∙ sym reads.shows
+
+-- law: in every run that goes on from there the record has the reading
+pub reading_followed : (p q : WorldPass) (r : ClockReading) → Reads p q r → (e : Ending) → Follows q e → reading_at e.run.clock r.stamp ≡ r
+reading_followed p q r reads e follows = reading_goes_on p q r reads e follows.clock
+
+-- law: the receipts stand in what was seen
+pub stand_from : (IsSo : List ClockLine → Type 0) (p q : WorldPass) (notes : List Noted) → EntersNotes IsSo p.timers.known q.timers.known notes
+    → ((e : Ending) → Follows q e → IsSo e.run.clock) → StandIn p q notes
+stand_from IsSo p q notes enters so = record {
+  rise = enters.made.rise;
+  below = enters.made.below;
+  made = enters.made.made;
+  shows = λ e follows. enters.shows e.run e.order follows.timers.0 follows.timers.1 (so e follows);
+}
+
+-- ---- the log
+
+inside_of : (low k high : ℕ) (notes : List Noted) → low ≤ k → Rises k (map (λ x. x.place) notes) → AllByRecursion (λ x. x.place < high) notes
+    → AllByRecursion (λ x. (low ≤ x.place) × (x.place < high)) notes
+inside_of low k high [] le rise below = tt
+inside_of low k high (x ∷ notes) le rise below =
+    ((omega (arith, le, rise.0), below.0), inside_of low (x.place + 1) high notes (omega (arith, le, rise.0)) rise.1 below.1)
+
+-- law: what a lane keeps of a call that wrote nothing is right in itself
+pub logged_from : (p q : WorldPass) (notes : List Noted) (t : Trace) (call : Call) (a : Answer) → SeesOn p q → t.last ≡ length q.timers.known.seen
+    → AreMade q.timers.known.seen (length p.timers.known.seen) (length q.timers.known.seen) notes → map receipt notes ≡ all_entered t.actions
+    → t.at ≡ length (writes q.clock.knows) → wrote t.actions ≡ []
+    → ((i : ℕ) → NeverFall (length (seen_of p.objects i)) (object_steps_on i call a t.actions) (length (seen_of q.objects i)))
+    → IsLogged (log_of p q notes t) call a (seen_by p) (seen_by q)
+logged_from p q notes t call a sees last made are at none objects =
+    let forward = begins_length p.timers.known.seen q.timers.known.seen sees.timers in
+    let clock = begins_length (writes p.clock.knows) (writes q.clock.knows) sees.clock in
+    record {
+      forward = omega (arith, forward, last);
+      last = omega (arith, last);
+      inside = subst (λ n. AllByRecursion (λ x. (length p.timers.known.seen ≤ x.place) × (x.place < n)) notes) (sym last)
+          (inside_of (length p.timers.known.seen) (length p.timers.known.seen) (length q.timers.known.seen) notes (omega arith) made.rise made.below);
+      entered = are;
+      reading = (omega (arith, at, clock), omega (arith, at));
+      writes = subst (λ ws. AllByRecursion (λ x. t.at < x.0) ws) (sym none) tt;
+      clock_steps = subst (λ ws. NeverFall (length (writes p.clock.knows)) (t.at ∷ map (λ x. x.0) ws) (length (writes q.clock.knows))) (sym none)
+          (omega (arith, at, clock), omega (arith, at));
+      move_steps = (omega arith, omega arith);
+      object_steps = objects;
+    }
+
+-- law: a call keeps its promise that fits, in every run that goes on from there, by what its lane kept of it
+pub promised_from : {s : Script} {x : WorldOf} {l : LaneOf} {call : Call} (next : IsNextCall s x l call) (q : WorldPass) (notes : List Noted) (t : Trace)
+    (a : Answer) → IsLogged (log_of l.pass q notes t) call a (seen_by l.pass) (seen_by q)
+    → ((e : Ending) → Follows q e → IsJoined s e → HasLog e l.label (log_of l.pass q notes t)
+    → IsKept (course_of s e) (moves_spans e) l.label t notes call a (seen_by l.pass) (seen_by q)
+    → length l.pass.timers.known.seen ≡ (moves_spans e).first l.label → FitsCall (course_of s e) l.label call a (seen_by l.pass) (seen_by q))
+    → IsPromised s l.label.lane l.label.call (log_of l.pass q notes t) (Follows q) call a (seen_by l.pass) (seen_by q)
+promised_from {s = s} {l = l} next q notes t a logged fits e follows has joined =
+    let is : IsLabel s l.label = slice_get_within (calls_of s l.label.lane) l.label.call next.at next.there in
+    fits e follows joined has (kept_from joined is has logged) (sym (ap (λ (g : CallLog). g.moves.0) has.kept))

@@ -1,0 +1,201 @@
+-- Entries that a call makes of a timer, as receipts: where they stand in what its pass has seen, and the record's entries that show them.
+use Rattle.std.proofs.Common.{◌≡◌, ◌≤◌, ℕ, ◌+◌, suc, is_some, unwrap_or, Bool, true, false, ◌&&◌, not, nat_lt, if◌then◌else◌, List, [], ◌∷◌, ◌++◌, length, map, arith, refl, sym, ap, ◌∙◌, subst, length-append}
+use Rattle.std.specs.List.{AllByRecursion}
+use Rattle.std.proofs.lemmas.List.{append_assoc, append-nil, map-append}
+use Rattle.ktime.specs.Times.{next_after, passed}
+use Rattle.ktime.specs.declared.clock_id.ClockId.{ClockId}
+use Rattle.pass_names.specs.Passes.{Begins, places}
+use Rattle.seq_timer.specs.declared.event.Event.TheVariants as events
+use Rattle.seq_timer.specs.declared.event.Event.{Event}
+use Rattle.seq_timer.specs.declared.event.Rearmed.TheVariants as rearmings
+use Rattle.seq_timer.specs.declared.event.Reply.TheVariants as replies
+use Rattle.seq_timer.specs.declared.system.TimerEntry.{TimerEntry}
+use Rattle.seq_timer.specs.Histories as histories
+use Rattle.seq_timer.specs.Steps.{Timer, after, now_of, rearmed_by, reply_to, started}
+use Rattle.seq_timer.specs.Systems.{entries_of, openings}
+use Rattle.seq_timer.specs.Tables.{timer_at}
+use Rattle.seq_timer.proofs.Agreement.{first_stamp}
+use Rattle.timer_core.specs.Runs.{entries_along}
+use Rattle.base_row.specs.declared.view.Opening.{Opening}
+use Rattle.hr_timers.specs.Known.{KnownOfTimers, MadeAt, timer_then}
+use Rattle.hr_timers.proofs.Moments.{timer_own}
+use Rattle.seq_timer.proofs.Limits.{stamp-after, stamp-after_all}
+use Rattle.record_text.specs.declared.record.ClockLine.{ClockLine}
+use Rattle.record_text.specs.declared.record.Entry.TheVariants as entries
+use Rattle.record_text.specs.declared.record.Entry.{Entry}
+use Rattle.record_text.specs.declared.record.RunRecord.{RunRecord}
+use Rattle.script_text.specs.Histories.{entry_shown, reading_at, rearmed_as}
+use Rattle.lane_notes.specs.Entries.{restart_noted}
+use Rattle.run_history.specs.Receipts.{count, Noted, receipt, ShowsEntry}
+use Rattle.run_history.proofs.Known.{adds_made, AreEntries, AreMade, AreShown, made-append, made_goes_on, made_wider, none_made, numbered, shows_made}
+
+-- ---- the record's entries of events
+
+-- the record's entry of an event of a timer
+abbrev pub line_entry : Timer → Event → Entry
+line_entry t (events.Out base) = entries.Out base (is_some t.armed)
+line_entry t (events.Start mode ns reading asked) =
+    entries.Start mode ns reading.stamp asked (started t mode ns reading).base (started t mode ns reading).clock (started t mode ns reading).expires
+    (is_some t.armed)
+line_entry t events.Cancel = entries.Cancel (unwrap_or t.armed 0)
+line_entry t (events.Claim base reading) = entries.Claim base reading.stamp (unwrap_or t.armed 0)
+line_entry t (events.Forward reading interval) =
+    entries.Forward reading.stamp interval (passed t.expires (now_of t reading) interval) (next_after t.expires (now_of t reading) interval)
+line_entry t (events.Finish restart) = entries.Finish restart (unwrap_or t.running 0) (restart_noted (rearmed_by t restart))
+
+-- the same of events in turn
+abbrev pub lines_along : Timer → List Event → List Entry
+lines_along t [] = []
+lines_along t (e ∷ es) = line_entry t e ∷ lines_along (after t e) es
+
+-- a record's clock has the reading of an event at its stamp
+abbrev pub HasReading : List ClockLine → Event → Type 0
+HasReading clock (events.Start mode ns reading asked) = reading_at clock reading.stamp ≡ reading
+HasReading clock (events.Claim base reading) = reading_at clock reading.stamp ≡ reading
+HasReading clock (events.Forward reading interval) = reading_at clock reading.stamp ≡ reading
+HasReading clock event = Unit
+
+rearmed_shown : (t : Timer) (restart : Bool) → rearmed_by t restart ≡ rearmed_as t.stamp (restart_noted (rearmed_by t restart))
+rearmed_shown t restart = at_tests (restart && not (is_some t.armed)) (nat_lt t.stamp t.limit)
+  where
+    at_tests : (wanted room : Bool)
+        → (if wanted then (if room then rearmings.Again (t.stamp + 1) else rearmings.Spent t.stamp) else rearmings.No)
+        ≡ rearmed_as t.stamp (restart_noted (if wanted then (if room then rearmings.Again (t.stamp + 1) else rearmings.Spent t.stamp) else rearmings.No))
+    at_tests true true = refl
+    at_tests true false = refl
+    at_tests false room = refl
+
+-- law: it shows the event and its reply, where the record's clock has the reading
+pub line_entry-shown : (clock : List ClockLine) (t : Timer) (event : Event) → HasReading clock event
+    → record { event = event; reply = reply_to t event } ≡ entry_shown clock t.stamp (line_entry t event)
+line_entry-shown clock t (events.Out base) has = refl
+line_entry-shown clock t (events.Start mode ns reading asked) has =
+    ap (λ r. record { event = events.Start mode ns r asked; reply = reply_to t (events.Start mode ns reading asked) }) (sym has)
+line_entry-shown clock t events.Cancel has = refl
+line_entry-shown clock t (events.Claim base reading) has =
+    ap (λ r. record { event = events.Claim base r; reply = reply_to t (events.Claim base reading) }) (sym has)
+line_entry-shown clock t (events.Forward reading interval) has =
+    ap (λ r. record { event = events.Forward r interval; reply = reply_to t (events.Forward reading interval) }) (sym has)
+line_entry-shown clock t (events.Finish restart) has =
+    ap (λ r. record { event = events.Finish restart; reply = replies.Finish (unwrap_or t.running 0) r }) (rearmed_shown t restart)
+
+-- the entries of events in turn are shown
+pub along_shown : (clock : List ClockLine) (t : Timer) (es : List Event) → AllByRecursion (HasReading clock) es
+    → AreShown clock t.stamp (entries_along t es) (lines_along t es)
+along_shown clock t [] has = tt
+along_shown clock t (e ∷ es) has = (
+  line_entry-shown clock t e has.0,
+  subst (λ n. AreShown clock n (entries_along (after t e) es) (lines_along (after t e) es)) (stamp-after t e).0 (along_shown clock (after t e) es has.1),
+)
+
+lines_as_many : (t : Timer) (es : List Event) → length (lines_along t es) ≡ length (entries_along t es)
+lines_as_many t [] = refl
+lines_as_many t (e ∷ es) = ap suc (lines_as_many (after t e) es)
+
+-- ---- receipts between two moments of a pass
+
+-- the place of a receipt among a pass's own
+abbrev pub place_of : Noted → ℕ × ℕ
+place_of x = (x.timer, x.number)
+
+-- Between two moments a pass made the entries of these receipts, and no others, and seen has gone on. A record shows them whose clock is so.
+pub record EntersNotes (IsSo : List ClockLine → Type 0) (v w : KnownOfTimers) (notes : List Noted) : Type 0 where
+  pub seen : Begins v.seen w.seen
+  pub made : AreMade w.seen (length v.seen) (length w.seen) notes
+  pub mine : w.mine ≡ v.mine ++ map place_of notes
+  pub shows : (r : RunRecord) (order later : List TimerEntry) → order ≡ w.seen ++ later → IsSo r.clock → AllByRecursion (ShowsEntry r order) notes
+
+-- a list that goes on twice goes on
+pub begins_trans : {A : Type 0} (xs ys zs : List A) → Begins xs ys → Begins ys zs → Begins xs zs
+begins_trans xs ys zs one two = record {
+  rest = one.rest ++ two.rest;
+  whole = two.whole ∙ ap (λ us. us ++ two.rest) one.whole ∙ append_assoc xs one.rest two.rest;
+}
+
+-- an equal list begins with it
+pub begins_same : {A : Type 0} (xs ys : List A) → ys ≡ xs → Begins xs ys
+begins_same xs ys same = record { rest = []; whole = same ∙ sym (append-nil xs) }
+
+-- what begins a list is no longer than the list
+pub begins_length : {A : Type 0} (xs ys : List A) → Begins xs ys → length xs ≤ length ys
+begins_length xs ys begins = omega (arith, ap length begins.whole, length-append xs begins.rest)
+
+all_append : {A : Type 0} (P : A → Type 0) (xs ys : List A) → AllByRecursion P xs → AllByRecursion P ys → AllByRecursion P (xs ++ ys)
+all_append P [] ys one two = two
+all_append P (x ∷ xs) ys one two = (one.0, all_append P xs ys one.1 two)
+
+-- law: receipts of two parts of a call are those of both
+pub enters-append : (IsSo : List ClockLine → Type 0) (u v w : KnownOfTimers) (xs ys : List Noted) → EntersNotes IsSo u v xs → EntersNotes IsSo v w ys
+    → EntersNotes IsSo u w (xs ++ ys)
+enters-append IsSo u v w xs ys one two = record {
+  seen = begins_trans u.seen v.seen w.seen one.seen two.seen;
+  made = made-append w.seen (length u.seen) (length v.seen) (length w.seen) xs ys
+      (made_goes_on w.seen v.seen two.seen.rest (length u.seen) (length v.seen) xs two.seen.whole one.made) two.made
+      (begins_length u.seen v.seen one.seen) (begins_length v.seen w.seen two.seen);
+  mine = two.mine ∙ ap (λ ps. ps ++ map place_of ys) one.mine ∙ append_assoc u.mine (map place_of xs) (map place_of ys)
+      ∙ ap (λ ps. u.mine ++ ps) (sym (map-append place_of xs ys));
+  shows = λ r order later is so. all_append (ShowsEntry r order) xs ys
+      (one.shows r order (two.seen.rest ++ later) (is ∙ ap (λ zs. zs ++ later) two.seen.whole ∙ append_assoc v.seen two.seen.rest later) so)
+      (two.shows r order later is so);
+}
+
+-- a pass that only looked
+pub enters_none : (IsSo : List ClockLine → Type 0) (v w : KnownOfTimers) → Begins v.seen w.seen → w.mine ≡ v.mine → EntersNotes IsSo v w []
+enters_none IsSo v w seen mine = record {
+  seen = seen;
+  made = none_made w.seen (length v.seen) (length w.seen);
+  mine = mine ∙ sym (append-nil v.mine);
+  shows = λ r order later is so. tt;
+}
+
+numbered_places : (t k : ℕ) (notes : List Noted) (es : List histories.Entry) (shown : List Entry) → map receipt notes ≡ numbered t k shown
+    → length shown ≡ length es → places t k es ≡ map place_of notes
+numbered_places t k [] [] [] are same = refl
+numbered_places t k [] [] (s ∷ shown) are same = absurd (cc)
+numbered_places t k [] (e ∷ es) [] are same = absurd (omega (arith, same))
+numbered_places t k [] (e ∷ es) (s ∷ shown) are same = absurd (cc)
+numbered_places t k (x ∷ notes) es [] are same = absurd (cc)
+numbered_places t k (x ∷ notes) [] (s ∷ shown) are same = absurd (omega (arith, same))
+numbered_places t k (x ∷ notes) (e ∷ es) (s ∷ shown) are same =
+    let here : receipt x ≡ (t, (k + 1, s)) = cc in
+    let rest : map receipt notes ≡ numbered t (k + 1) shown = cc in
+    ap (λ (q : ℕ × (ℕ × Entry)). (q.0, q.1.0) ∷ places t (k + 1) es) (sym here)
+    ∙ ap (λ ps. place_of x ∷ ps) (numbered_places t (k + 1) notes es shown rest (omega (arith, same)))
+
+-- the receipts of a timer's events that a call made
+pub record EntersAlong (IsSo : List ClockLine → Type 0) (v w : KnownOfTimers) (t : ℕ) (s : Timer) (es : List Event) : Type 0 where
+  pub notes : List Noted
+  pub enters : EntersNotes IsSo v w notes
+  pub are : map receipt notes ≡ numbered t s.stamp (lines_along s es)
+
+-- a timer's stamp is the number of its entries
+pub stamp_counts : (o : Opening) (clocks : List ClockId) (limit : ℕ) (x : List TimerEntry) (t : ℕ) → o.timers ≡ openings clocks limit
+    → (timer_then o x t).stamp ≡ count t x
+stamp_counts o clocks limit x t is =
+    let first : (timer_at o.timers t).stamp ≡ 0 = ap (λ ts. (timer_at ts t).stamp) is ∙ first_stamp clocks limit t in
+    let its : (timer_then o x t).stamp ≡ (timer_at o.timers t).stamp + length (entries_of t x) =
+    ap (λ (s : Timer). s.stamp) (timer_own o x t) ∙ stamp-after_all (timer_at o.timers t) (entries_of t x) in omega (arith, its, first)
+
+-- law: the entries that a call made of a timer at a moment are receipts that stand in what its pass has seen, behind what it had seen before
+pub enters_along : (IsSo : List ClockLine → Type 0) (o : Opening) (clocks : List ClockId) (limit : ℕ) (v w : KnownOfTimers) (t : ℕ) (x : List TimerEntry)
+    (es : List Event) → o.timers ≡ openings clocks limit → MadeAt v w t x (entries_along (timer_then o x t) es)
+    → ((clock : List ClockLine) → IsSo clock → AllByRecursion (HasReading clock) es) → EntersAlong IsSo v w t (timer_then o x t) es
+enters_along IsSo o clocks limit v w t x es is made reads =
+    let s = timer_then o x t in
+    let more = made.seen.rest in
+    let stamp : count t x ≡ s.stamp = sym (stamp_counts o clocks limit x t is) in
+    let adds = adds_made x more t (entries_along s es) (lines_along s es) (ap (entries_of t) (sym made.seen.whole) ∙ made.own) (lines_as_many s es) in
+    let there : AreMade w.seen (length x) (length w.seen) adds.0 =
+    subst (λ xs. AreMade xs (length x) (length xs) adds.0) (sym made.seen.whole) adds.1 in
+    let are : map receipt adds.0 ≡ numbered t s.stamp (lines_along s es) = adds.2 ∙ ap (λ n. numbered t n (lines_along s es)) stamp in
+    record {
+      notes = adds.0;
+      enters = record {
+        seen = begins_trans v.seen x w.seen made.from made.seen;
+        made = made_wider w.seen (length v.seen) (length x) (length w.seen) (length w.seen) adds.0 (begins_length v.seen x made.from) (omega arith) there;
+        mine = made.mine ∙ ap (λ ps. v.mine ++ ps) (numbered_places t (count t x) adds.0 (entries_along s es) (lines_along s es) adds.2 (lines_as_many s es));
+        shows = λ r order later whole so. shows_made r order w.seen later t s.stamp adds.0 (entries_along s es) (lines_along s es) whole
+            (subst (λ xs. AreEntries xs adds.0 (entries_along s es)) (sym made.seen.whole) adds.3) are (along_shown r.clock s es (reads r.clock so));
+      };
+      are = are;
+    }

@@ -1,0 +1,221 @@
+-- Looks at an object, as their lanes keep them: the overrun of a POSIX timer, and whether a descriptor is ready.
+use Rattle.std.proofs.Common.{◌≡◌, ◌≤◌, ℕ, Bool, true, false, nat_eq, if◌then◌else◌, Some, List, [], ◌∷◌, length, get_or, arith, refl, sym, ap, ◌∙◌, subst}
+use Rattle.std.proofs.lemmas.Bool.{eqb-true}
+use Rattle.std.proofs.lemmas.Option.{slice_get_within}
+use Rattle.clock_cell.specs.Views.{writes}
+use Rattle.ktime.specs.declared.clock_id.ClockId.TheVariants as clocks
+use Rattle.counted_row.specs.Views.{StateAfter}
+use Rattle.pass_names.specs.Passes.{Begins}
+use Rattle.posix_timer.specs.States.{PosixTimer, setting_of}
+use Rattle.timer_fd.specs.States.{is_readable}
+use Rattle.timer_objects.specs.Calls.{Gettimes, LooksAtObject}
+use Rattle.timer_objects.specs.declared.answers.Gettime.{Gettime}
+use Rattle.timer_objects.specs.declared.answers.Gettime.TheVariants as gettimes
+use Rattle.timer_objects.specs.declared.log.ObjectReceipt.{ObjectReceipt}
+use Rattle.expire_pass.specs.declared.log.Receipt.{Receipt}
+use Rattle.timer_objects.specs.Cells.{cell_meaning, opened_cells}
+use Rattle.timer_objects.specs.Known.{decl_at, seen_of}
+use Rattle.timer_objects.specs.Steps.{IsObjectOf}
+use Rattle.timer_objects.specs.declared.object.Decl.{Decl}
+use Rattle.timer_objects.specs.declared.object.Kind.TheVariants as over
+use Rattle.timer_objects.specs.declared.object.Object.TheVariants as objects
+use Rattle.timer_objects.specs.declared.object.Object.{Object}
+use Rattle.timer_objects.proofs.Counting.{state_is}
+use Rattle.record_text.specs.declared.record.Answer.TheVariants as answers
+use Rattle.record_text.specs.declared.record.Answer.{Answer}
+use Rattle.script_text.specs.Fits.{object_called, object_stamp_in, object_steps_on, stamps_on}
+use Rattle.script_text.specs.Histories.{reading_at}
+use Rattle.script_text.specs.ObjectCalls.{base_of, DoesGettime}
+use Rattle.script_text.specs.Objects.{fd_after, kind_of, posix_after}
+use Rattle.script_text.specs.Order.{calls_of, IsLabel, NeverFall}
+use Rattle.script_text.specs.declared.script.Call.TheVariants as calls
+use Rattle.script_text.specs.declared.script.Call.{Call}
+use Rattle.script_text.specs.declared.script.Kind.TheVariants as kinds
+use Rattle.script_text.specs.declared.script.Kind.{Kind}
+use Rattle.script_text.specs.declared.script.Script.{Script}
+use Rattle.run_history.specs.Calls.{Does}
+use Rattle.run_history.specs.Runs.{course_of, Ending, IsJoined}
+use Rattle.run_history.specs.Truths.{IsObjectPoint, IsSeen}
+use Rattle.run_history.proofs.OthersMade.{plain, quiet_made}
+use Rattle.run_history.proofs.Promise.{object_point_from}
+use Rattle.lane_run.specs.Called.{Called, caller_of, CallsOverrun, gettime_told, LaneOf, with_done}
+use Rattle.lane_run.specs.Kept.{Follows, IsNextCall, KeepsCall}
+use Rattle.lane_run.specs.Worlds.{IsWorldOf, WorldOf}
+use Rattle.lane_run.proofs.Entering.{begins_length, begins_same}
+use Rattle.lane_run.proofs.FiredOnce.{declared_as, over_of}
+use Rattle.lane_run.proofs.CallKept.{leaves_begins, logged_from, no_notes-joins, reads_begins, with_done-joins}
+use Rattle.lane_run.proofs.ObjectSeen.{fd_seen, posix_seen}
+use Rattle.lane_run.proofs.PartKept.{keeps_part, sees_part}
+use Rattle.lane_run.proofs.SmallParts.{part_seen}
+use Rattle.lane_run.proofs.Writing.{reading_of_seen}
+
+-- ---- what stands over a timer
+
+-- law: the kind of object that is declared over a timer
+pub declared_over : (s : Script) (x : WorldOf) (i : ℕ) → IsWorldOf s x → (decl_at x.objects i).kind ≡ over_of (kind_of s i)
+declared_over s x i is =
+    let none : Decl = record { kind = over.Raw; clock = clocks.Monotonic; base = 0 } in
+    ap (λ (ds : List Decl). (get_or ds i none).kind) is.decls ∙ (declared_as s.timers i none refl).0
+
+-- law: a POSIX timer is declared where one was seen
+pub posix_declared : (s : Script) (i : ℕ) → over_of (kind_of s i) ≡ over.Posix → (base : ℕ) × (kind_of s i ≡ kinds.Posix base)
+posix_declared s i is = go (kind_of s i) is
+  where
+    go : (k : Kind) → over_of k ≡ over.Posix → (base : ℕ) × (k ≡ kinds.Posix base)
+    go (kinds.Raw callback) is = absurd (cc)
+    go (kinds.Posix base) is = (base, refl)
+    go (kinds.Fd base) is = absurd (cc)
+
+-- ---- the call
+
+-- law: a lane keeps a call that looked at an object, where its answer holds of the object as it was seen
+pub keeps_look : {s : Script} {x : WorldOf} {l m : LaneOf} {call : Call} (next : IsNextCall s x l call) (a : Answer) (i : ℕ) (object : Object) (stamp : ℕ)
+    → LooksAtObject (caller_of l.pass [] []) (caller_of m.pass [] []) i object stamp → Begins (writes l.pass.clock.knows) (writes m.pass.clock.knows)
+    → m.pass.clock.knows.pass.mine ≡ l.pass.clock.knows.pass.mine → m.notes ≡ l.notes → object_called call ≡ Some i → object_stamp_in a ≡ stamp ∷ []
+    → Does s (length (writes m.pass.clock.knows)) call a [] []
+    → ((e : Ending) → Follows m.pass e → IsJoined s e → IsObjectPoint (course_of s e) l.label [] i stamp
+    → IsSeen (course_of s e) (length m.pass.timers.known.seen) (length m.pass.timers.known.seen) l.label (length (writes m.pass.clock.knows)) [] call a)
+    → KeepsCall s l call a m
+keeps_look {s = s} {l = l} {m = m} {call = call} next a i object stamp looks clock clock_mine notes on stamps does seen =
+    let p = l.pass in
+    let q = m.pass in
+    let last = length q.timers.known.seen in
+    let at = length (writes q.clock.knows) in
+    let t = plain at last last [] in
+    let part = part_seen (λ c. Unit) l.label p.timers.known p.objects q.timers.known q.objects
+    (begins_same p.timers.known.seen q.timers.known.seen (ap (λ k. k.seen) looks.timers)) (ap (λ k. k.mine) looks.timers) looks.reads.pass.seen
+    looks.reads.pass.mine looks.reads.opening in
+    let grows : (j : ℕ) → length (seen_of p.objects j) ≤ length (seen_of q.objects j) =
+    λ j. begins_length (seen_of p.objects j) (seen_of q.objects j) (looks.reads.pass.seen.each j) in
+    let steps : (j : ℕ) → NeverFall (length (seen_of p.objects j)) (object_steps_on j call a []) (length (seen_of q.objects j)) =
+    λ j. subst (λ ns. NeverFall (length (seen_of p.objects j)) ns (length (seen_of q.objects j)))
+    (sym (ap (λ o. stamps_on j o (object_stamp_in a)) on ∙ ap (λ ns. if nat_eq i j then ns else []) stamps))
+    (stamp_falls stamp (length (seen_of p.objects j)) (length (seen_of q.objects j)) (nat_eq i j)
+    (λ is. let here = eqb-true i j is in
+    let many : length (seen_of q.objects j) ≡ stamp = subst (λ k. length (seen_of q.objects k) ≡ stamp) here (sym looks.stamp) in
+    let le = grows j in
+    (omega (arith, le, many), omega (arith, many))) (grows j)) in
+    let logged = logged_from p q [] t call a (sees_part p q part clock) refl part.enters.made refl refl refl steps in
+    keeps_part next m a (λ c. Unit) [] [] [] t part (λ e goes. tt) clock clock_mine
+    (notes ∙ no_notes-joins l.notes ∙ sym (with_done-joins l.notes l.label [] [])) logged
+    (λ e follows joined has kept low.
+    let is : IsLabel s l.label = slice_get_within (calls_of s l.label.lane) l.label.call next.at next.there in
+    quiet_made kept does (seen e follows joined
+    (object_point_from joined is has i stamp [] [] refl (let le = grows i in omega (arith, le, looks.stamp)) (omega (arith, looks.stamp)) tt tt)))
+  where
+    stamp_falls : (number low high : ℕ) (b : Bool) → (b ≡ true → (low ≤ number) × (number ≤ high)) → low ≤ high
+        → NeverFall low (if b then number ∷ [] else []) high
+    stamp_falls number low high true bounds le = bounds refl
+    stamp_falls number low high false bounds le = le
+
+-- law: a lane keeps a look at an overrun
+pub keeps_overrun : {s : Script} {x : WorldOf} {l m : LaneOf} {a : Answer} {timer : ℕ} → IsNextCall s x l (calls.Overrun timer) → CallsOverrun x l m a timer
+    → KeepsCall s l (calls.Overrun timer) a m
+keeps_overrun {s = s} {x = x} {l = l} {m = m} {timer = timer} next c =
+    let t = c.looks.0 in
+    let looks = c.looks.1 in
+    let seen = seen_of m.pass.objects timer in
+    let after : StateAfter cell_meaning (opened_cells x.objects.decls x.objects.limit) timer seen looks.reads.state =
+    subst (λ made. StateAfter cell_meaning made timer seen looks.reads.state) next.objects looks.reads.at in
+    let is = state_is x.objects timer seen looks.reads.state after in
+    let its : IsObjectOf (decl_at x.objects timer) x.objects.limit (length seen) (objects.Posix t) =
+    subst (IsObjectOf (decl_at x.objects timer) x.objects.limit (length seen)) (sym looks.state) is in
+    let kind = posix_declared s timer (sym (declared_over s x timer next.world) ∙ its.0) in
+    subst (λ a. KeepsCall s l (calls.Overrun timer) a m) (sym c.told)
+    (keeps_look next (answers.Overrun c.found.overrun c.found.stamp) timer (objects.Posix t) c.found.stamp looks (leaves_begins l.pass m.pass c.clock)
+    (ap (λ o. o.knows.pass.mine) c.clock) c.notes refl refl refl
+    (λ e follows joined point. (
+      point,
+      let same : objects.Posix t ≡ objects.Posix (posix_after s e.run timer kind.0 (length seen)) =
+          looks.state ∙ posix_seen s x next.world timer seen looks.reads.state after e (follows.objects timer) kind.0 kind.1 in
+          let timers : t ≡ posix_after s e.run timer kind.0 (length seen) = cc in
+          ap (λ k. (posix_after s e.run timer (base_of k) c.found.stamp).overrun) kind.1
+          ∙ ap (λ n. (posix_after s e.run timer kind.0 n).overrun) looks.stamp ∙ ap (λ (u : PosixTimer). u.overrun) (sym timers) ∙ sym c.looks.2,
+    )))
+
+-- law: a descriptor is declared where one was seen
+pub fd_declared : (s : Script) (i : ℕ) → over_of (kind_of s i) ≡ over.Fd → (base : ℕ) × (kind_of s i ≡ kinds.Fd base)
+fd_declared s i is = go (kind_of s i) is
+  where
+    go : (k : Kind) → over_of k ≡ over.Fd → (base : ℕ) × (k ≡ kinds.Fd base)
+    go (kinds.Raw callback) is = absurd (cc)
+    go (kinds.Posix base) is = absurd (cc)
+    go (kinds.Fd base) is = (base, refl)
+
+-- law: a look leaves no receipts
+pub look_alone : (l m : LaneOf) (log : List Receipt) (object_log : List ObjectReceipt) (i : ℕ) (object : Object) (stamp : ℕ)
+    → LooksAtObject (caller_of l.pass [] []) (caller_of m.pass log object_log) i object stamp → m.notes ≡ with_done l.notes l.label log object_log
+    → LooksAtObject (caller_of l.pass [] []) (caller_of m.pass [] []) i object stamp × (m.notes ≡ l.notes)
+look_alone l m log object_log i object stamp looks notes = (
+  record { reads = looks.reads; state = looks.state; stamp = looks.stamp; timers = looks.timers; log = refl; object_log = refl },
+  notes ∙ ap (λ rs. with_done l.notes l.label rs object_log) looks.log ∙ ap (λ rs. with_done l.notes l.label [] rs) looks.object_log
+      ∙ with_done-joins l.notes l.label [] [] ∙ sym (no_notes-joins l.notes),
+)
+
+-- law: a lane keeps a look at whether a descriptor is ready
+pub keeps_readable : {s : Script} {x : WorldOf} {l m : LaneOf} {a : Answer} {timer : ℕ} → IsNextCall s x l (calls.Readable timer)
+    → Called x l (calls.Readable timer) a m → KeepsCall s l (calls.Readable timer) a m
+keeps_readable {s = s} {x = x} {l = l} {m = m} {timer = timer} next called =
+    let found = called.0 in
+    let c = called.1 in
+    let t = c.does.0.0 in
+    let alone = look_alone l m c.log c.object_log timer (objects.Fd t) found.stamp c.does.0.1 c.notes in
+    let looks = alone.0 in
+    let ws = writes m.pass.clock.knows in
+    let seen = seen_of m.pass.objects timer in
+    let after : StateAfter cell_meaning (opened_cells x.objects.decls x.objects.limit) timer seen looks.reads.state =
+    subst (λ made. StateAfter cell_meaning made timer seen looks.reads.state) next.objects looks.reads.at in
+    let is = state_is x.objects timer seen looks.reads.state after in
+    let its : IsObjectOf (decl_at x.objects timer) x.objects.limit (length seen) (objects.Fd t) =
+    subst (IsObjectOf (decl_at x.objects timer) x.objects.limit (length seen)) (sym looks.state) is in
+    let kind = fd_declared s timer (sym (declared_over s x timer next.world) ∙ its.0) in
+    subst (λ a. KeepsCall s l (calls.Readable timer) a m) (sym c.does.1)
+    (keeps_look next (answers.Readable found.ready c.reading.stamp found.stamp) timer (objects.Fd t) found.stamp looks
+    (reads_begins l.pass m.pass c.reads.looks.seen) c.reads.looks.mine alone.1 refl refl (refl, c.reads.count)
+    (λ e follows joined point. (
+      point,
+      let same : objects.Fd t ≡ objects.Fd (fd_after s e.run timer kind.0 (length seen)) =
+          looks.state ∙ fd_seen s x next.world timer seen looks.reads.state after e (follows.objects timer) kind.0 kind.1 in
+          let fds : t ≡ fd_after s e.run timer kind.0 (length seen) = cc in
+          ap (λ k. is_readable (fd_after s e.run timer (base_of k) found.stamp) (reading_at e.run.clock (length ws))) kind.1
+          ∙ ap (λ n. is_readable (fd_after s e.run timer kind.0 n) (reading_at e.run.clock (length ws))) looks.stamp
+          ∙ ap (λ u. is_readable u (reading_at e.run.clock (length ws))) (sym fds)
+          ∙ ap (is_readable t) (reading_of_seen e ws follows.clock ∙ sym c.reads.shows) ∙ sym c.does.0.2,
+    )))
+
+-- law: a lane keeps a gettime of a POSIX timer
+pub keeps_gettime-posix : {s : Script} {x : WorldOf} {l m : LaneOf} {a : Answer} {timer : ℕ} → IsNextCall s x l (calls.Gettime timer)
+    → (decl_at x.objects timer).kind ≡ over.Posix → Called x l (calls.Gettime timer) a m → KeepsCall s l (calls.Gettime timer) a m
+keeps_gettime-posix {s = s} {x = x} {l = l} {m = m} {a = a} {timer = timer} next posix called =
+    by_answer called.0 called.1.does.1 (subst (λ k. Gettimes x.objects x.timers.about (caller_of l.pass [] [])
+    (caller_of m.pass called.1.log called.1.object_log) timer called.1.reading k called.0) posix called.1.does.0)
+  where
+    by_answer : (g : Gettime) → a ≡ gettime_told (decl_at x.objects timer).kind called.1.reading.stamp g
+        → Gettimes x.objects x.timers.about (caller_of l.pass [] []) (caller_of m.pass called.1.log called.1.object_log) timer called.1.reading over.Posix g
+        → KeepsCall s l (calls.Gettime timer) a m
+    by_answer (gettimes.Spent stamp) told does = absurd does
+    by_answer (gettimes.Left left interval stamp) told does =
+        let c = called.1 in
+        let t = does.0 in
+        let alone = look_alone l m c.log c.object_log timer (objects.Posix t) stamp does.1 c.notes in
+        let looks = alone.0 in
+        let ws = writes m.pass.clock.knows in
+        let seen = seen_of m.pass.objects timer in
+        let after : StateAfter cell_meaning (opened_cells x.objects.decls x.objects.limit) timer seen looks.reads.state =
+        subst (λ made. StateAfter cell_meaning made timer seen looks.reads.state) next.objects looks.reads.at in
+        let kind = posix_declared s timer (sym (declared_over s x timer next.world) ∙ posix) in
+        subst (λ b. KeepsCall s l (calls.Gettime timer) b m)
+        (sym (told ∙ ap (λ k. gettime_told k c.reading.stamp (gettimes.Left left interval stamp)) posix))
+        (keeps_look next (answers.LeftAt left interval c.reading.stamp stamp) timer (objects.Posix t) stamp looks
+        (reads_begins l.pass m.pass c.reads.looks.seen) c.reads.looks.mine alone.1 refl refl
+        (subst (λ k. DoesGettime k timer (length ws) (answers.LeftAt left interval c.reading.stamp stamp) []) (sym kind.1) (refl, c.reads.count))
+        (λ e follows joined point. (
+          point,
+          let same : objects.Posix t ≡ objects.Posix (posix_after s e.run timer kind.0 (length seen)) =
+              looks.state ∙ posix_seen s x next.world timer seen looks.reads.state after e (follows.objects timer) kind.0 kind.1 in
+              let timers : t ≡ posix_after s e.run timer kind.0 (length seen) = cc in
+              ap (λ k. setting_of (posix_after s e.run timer (base_of k) stamp) (reading_at e.run.clock (length ws))) kind.1
+              ∙ ap (λ n. setting_of (posix_after s e.run timer kind.0 n) (reading_at e.run.clock (length ws))) looks.stamp
+              ∙ ap (λ u. setting_of u (reading_at e.run.clock (length ws))) (sym timers)
+              ∙ ap (setting_of t) (reading_of_seen e ws follows.clock ∙ sym c.reads.shows) ∙ sym does.2,
+        )))

@@ -1,0 +1,170 @@
+-- Writes of the clock, as their lanes keep them.
+use Rattle.std.proofs.Common.{◌≡◌, ℕ, ◌+◌, ◌≤◌, List, [], ◌∷◌, ◌++◌, length, length-append, take, Ok, Err, Result, Some, arith, refl, sym, ap, ◌∙◌, subst}
+use Rattle.std.specs.List.{slice_get}
+use Rattle.std.proofs.lemmas.List.{append-nil, length-map}
+use Rattle.ktime.specs.Readings.{ClockReading}
+use Rattle.clock_model.specs.Clocks.{after_write, at_stamp, clock_after, greatest, last_stamp}
+use Rattle.clock_model.specs.declared.write.ClockFault.{ClockFault}
+use Rattle.clock_model.specs.declared.write.ClockFault.TheVariants as faults
+use Rattle.clock_model.specs.declared.write.Write.{Write}
+use Rattle.clock_model.proofs.Writes.{stamp_after}
+use Rattle.clock_cell.specs.Views.{AnswersWrite, reading_after, seen_reading, writes}
+use Rattle.record_text.specs.declared.record.Answer.TheVariants as answers
+use Rattle.record_text.specs.declared.record.Answer.{Answer}
+use Rattle.record_text.specs.declared.record.ClockLine.{ClockLine}
+use Rattle.script_text.specs.Actions.{Wrote}
+use Rattle.script_text.specs.Histories.{reading_at, ShowsReading}
+use Rattle.script_text.specs.declared.script.Call.TheVariants as calls
+use Rattle.script_text.specs.declared.script.Script.{Script}
+use Rattle.lane_notes.specs.Notes.{both_noted, NotesOf, with_write_note}
+use Rattle.pass_names.specs.Counts.{count, one_if}
+use Rattle.pass_names.specs.Passes.{is_place, Looks}
+use Rattle.pass_names.proofs.Counts.{total-append}
+use Rattle.run_history.specs.Promises.{GoesOnClock, IsLogged}
+use Rattle.run_history.specs.Runs.{Ending}
+use Rattle.run_history.proofs.Lists.{at_seam}
+use Rattle.run_history.proofs.OthersMade.{plain, wrote_made}
+use Rattle.run_history.proofs.Promise.{reading_seen}
+use Rattle.timer_objects.specs.Known.{seen_of}
+use Rattle.lane_run.specs.Called.{CallsWrite, LaneOf, line_of_write, with_write_told, write_told}
+use Rattle.lane_run.specs.Kept.{IsNextCall, KeepsCall, log_of, seen_by, SeesOn}
+use Rattle.lane_run.specs.Worlds.{WorldOf}
+use Rattle.lane_run.proofs.Entering.{begins_length, begins_same, enters_none}
+use Rattle.lane_run.proofs.CallKept.{no_places, promised_from, reads_begins, same_objects, same_order, stand_from, take_whole}
+use Rattle.lane_run.proofs.Quiet.{IsQuiet, keeps_none, keeps_quiet}
+
+-- the notes of a write alone
+abbrev pub write_notes : ℕ → ClockLine → NotesOf
+write_notes stamp line = record { entries = []; looks = []; objects = []; skips = []; writes = record { stamp = stamp; line = line } ∷ [] }
+
+write_joins : (notes : NotesOf) (stamp : ℕ) (line : ClockLine) → with_write_note notes stamp line ≡ both_noted notes (write_notes stamp line)
+write_joins notes stamp line =
+    let all = notes.writes ++ record { stamp = stamp; line = line } ∷ [] in
+    ap (λ es. record { entries = es; looks = notes.looks; objects = notes.objects; skips = notes.skips; writes = all }) (sym (append-nil notes.entries))
+    ∙ ap (λ ls. record { entries = notes.entries ++ []; looks = ls; objects = notes.objects; skips = notes.skips; writes = all })
+    (sym (append-nil notes.looks))
+    ∙ ap (λ os. record { entries = notes.entries ++ []; looks = notes.looks ++ []; objects = os; skips = notes.skips; writes = all })
+    (sym (append-nil notes.objects))
+    ∙ ap (λ ks. record { entries = notes.entries ++ []; looks = notes.looks ++ []; objects = notes.objects ++ []; skips = ks; writes = all })
+    (sym (append-nil notes.skips))
+
+-- law: the reading after all writes that a pass has seen is the record's, in every run that goes on from there
+pub reading_of_seen : (e : Ending) (ws : List Write) → GoesOnClock ws e → reading_at e.run.clock (length ws) ≡ reading_after ws
+reading_of_seen e ws on = reading_seen e ws (length ws) on (omega arith) ∙ ap (clock_after (at_stamp 0)) (take_whole ws)
+
+-- such a run has no fewer writes
+writes_within : (e : Ending) (ws : List Write) → GoesOnClock ws e → length ws ≤ length e.run.clock
+writes_within e ws on = omega (arith, length-map e.run.clock (λ (line : ClockLine). line.write), ap length on.1, length-append ws on.0)
+
+refused : (l m : LaneOf) (write : Write) → Looks l.pass.clock.knows.pass m.pass.clock.knows.pass → m.pass.timers ≡ l.pass.timers
+    → m.pass.objects ≡ l.pass.objects → m.notes ≡ l.notes → IsQuiet l m (calls.Clock write)
+refused l m write looks timers objects notes = record {
+  timers = begins_same l.pass.timers.known.seen m.pass.timers.known.seen (ap (λ t. t.known.seen) timers);
+  mine = ap (λ t. t.known.mine) timers;
+  clock = reads_begins l.pass m.pass looks.seen;
+  clock_mine = looks.mine;
+  objects = objects;
+  notes = notes;
+  on_none = refl;
+}
+
+write_kept : {s : Script} {x : WorldOf} {l m : LaneOf} {write : Write} (next : IsNextCall s x l (calls.Clock write)) (answer : Result ClockReading ClockFault)
+    → AnswersWrite write l.pass.clock.knows m.pass.clock.knows answer → m.pass.timers ≡ l.pass.timers → m.pass.objects ≡ l.pass.objects
+    → m.notes ≡ with_write_told l.notes l.label write answer → KeepsCall s l (calls.Clock write) (write_told answer) m
+write_kept {l = l} {m = m} {write = write} next (Err (faults.ClockRange would_be)) w timers objects notes =
+    let ws = writes m.pass.clock.knows in
+    let cause = (w.err.cause.range would_be).0 refl in
+    keeps_quiet next m (answers.Range would_be) (refused l m write w.err.looks timers objects notes) refl (λ e follows joined. record {
+      counted = omega (arith, writes_within e ws follows.clock, follows.few);
+      late = cause.1;
+      greatest = cause.2 ∙ ap (λ r. greatest (after_write r write)) (sym (reading_of_seen e ws follows.clock));
+    })
+write_kept {l = l} {m = m} {write = write} next (Err faults.ClockSpent) w timers objects notes =
+    let ws = writes m.pass.clock.knows in
+    let full : last_stamp ≤ (seen_reading m.pass.clock.knows).stamp = w.err.cause.spent.0 refl in
+    keeps_none next m answers.ClockSpent (refused l m write w.err.looks timers objects notes)
+    (λ e follows. omega (arith, full, stamp_after ws, writes_within e ws follows.clock, follows.few))
+write_kept {s = s} {l = l} {m = m} {write = write} next (Ok r) w timers objects notes =
+    let p = l.pass in
+    let q = m.pass in
+    let adds = w.ok.adds in
+    let ws = writes q.clock.knows in
+    let line = line_of_write l.label write r in
+    let added = write_notes r.stamp line in
+    let last = length q.timers.known.seen in
+    let many = length adds.before in
+    let number : many + 1 ≡ r.stamp = omega (arith, w.ok.count, ap length adds.last, length-append adds.before (write ∷ [])) in
+    let behind : length (writes p.clock.knows) ≤ many = begins_length (writes p.clock.knows) adds.before adds.begins in
+    let same_seen : q.timers.known.seen ≡ p.timers.known.seen = ap (λ t. t.known.seen) timers in
+    let enters = enters_none (λ clock. Unit) p.timers.known q.timers.known (begins_same p.timers.known.seen q.timers.known.seen same_seen)
+    (ap (λ t. t.known.mine) timers) in
+    let sees : SeesOn p q = record {
+      timers = enters.seen;
+      clock = reads_begins p q adds.seen;
+      objects = same_objects p q objects;
+      opening = ap (λ o. o.knows.opening) objects;
+    } in
+    let t = plain many last last (Wrote r.stamp write ∷ []) in
+    let logged : IsLogged (log_of p q [] t) (calls.Clock write) (answers.Clock r.stamp) (seen_by p) (seen_by q) = record {
+      forward = omega (arith, ap length same_seen);
+      last = omega arith;
+      inside = tt;
+      entered = refl;
+      reading = (behind, omega (arith, number, w.ok.count));
+      writes = (omega (arith, number), tt);
+      clock_steps = (behind, (omega (arith, number), omega (arith, w.ok.count)));
+      move_steps = (omega arith, omega arith);
+      object_steps = λ i. begins_length (seen_of p.objects i) (seen_of q.objects i) (sees.objects.each i);
+    } in
+    let whole : reading_after (take r.stamp ws) ≡ r =
+    ap (λ n. reading_after (take n ws)) w.ok.count ∙ ap reading_after (take_whole ws) ∙ sym w.ok.shows in
+    record {
+      notes = [];
+      trace = t;
+      added = added;
+      sees = sees;
+      joins = notes ∙ write_joins l.notes r.stamp line;
+      bears = record { entries = tt; looks = tt; objects = tt; skips = tt; writes = (refl, tt) };
+      receipts = same_order [] [] refl;
+      tells = record {
+        writes = refl;
+        looks = λ i. refl;
+        objects = λ i. refl;
+        skips = λ i. refl;
+        writes_rise = (omega (arith, number), tt);
+        looks_rise = λ i. tt;
+        objects_rise = λ i. tt;
+        skips_rise = λ i. (1, omega arith);
+      };
+      few = omega arith;
+      places = record {
+        timers = λ i n. no_places (is_place i n) p.timers.known.mine q.timers.known.mine (ap (λ t. t.known.mine) timers);
+        objects = λ i n. no_places (is_place i n) p.objects.knows.pass.mine q.objects.knows.pass.mine (ap (λ o. o.knows.pass.mine) objects);
+        clock = λ n. ap (count (is_place 0 n)) w.ok.place ∙ total-append (λ k. one_if (is_place 0 n k)) p.clock.knows.pass.mine ((0, r.stamp) ∷ []);
+      };
+      seen = record {
+        writes = (
+          record {
+            before = many;
+            number = number;
+            behind = behind;
+            there = subst (λ xs. slice_get xs many ≡ Some write) (sym adds.last) (at_seam adds.before [] write);
+            shows = subst (ShowsReading line) (sym whole) (record { mono = refl; real = refl; boot = refl; changes = refl });
+          },
+          tt,
+        );
+        looks = tt;
+        objects = tt;
+        skips = tt;
+      };
+      stand = stand_from (λ clock. Unit) p q [] enters (λ e follows. tt);
+      logged = logged;
+      promised = promised_from next q [] t (answers.Clock r.stamp) logged
+          (λ e follows joined has kept low. wrote_made r.stamp write kept (ap length same_seen ∙ low));
+    }
+
+-- law: a lane keeps a write of the clock
+pub keeps_write : {s : Script} {x : WorldOf} {l m : LaneOf} {a : Answer} {write : Write} → IsNextCall s x l (calls.Clock write)
+    → CallsWrite x l m a write → KeepsCall s l (calls.Clock write) a m
+keeps_write {s = s} {l = l} {m = m} {write = write} next c =
+    subst (λ a. KeepsCall s l (calls.Clock write) a m) (sym c.told) (write_kept next c.answer c.writes c.timers c.objects c.notes)

@@ -1,0 +1,22 @@
+use Rattle.std.proofs.Common.{◌+◌, sym, subst, take}
+use Rattle.std.proofs.lemmas.Bool.{eq-eqb}
+use Rattle.lane_run.specs.declared.lane.Lane.{Lane}
+use Rattle.lane_run.proofs.Calls.{HasCome, calls_of_lane, come_none, come_on, come_past, other_lane}
+use Rattle.lane_run.proofs.lane.make_calls.Goals as goal
+use Rattle.lane_run.proofs.lane.make_calls.Goals.{then-line-lane, else-line-lane}
+
+pub loop-line-init : goal.loop-line-init
+loop-line-init g c = come_none c.args.world.now c.args.lane.now c.requires.pass
+
+pub loop-line-preserved : goal.loop-line-preserved
+loop-line-preserved g c =
+    let xs = c.as_slice-line-items.result.now in
+    let old = c.loop-line in elim c.if-line-lane.branch [
+      | then-line-lane w ↦
+          subst (λ (l : Lane). HasCome c.args.world.now c.args.lane.now l (calls_of_lane c.args.lane.now.label.lane (take (old.line-index + 1) xs))) (sym w.lane-is)
+          (come_on c.args.world.now xs old.line-index _ c.args.lane.now old.lane w.make_next.new.lane c.loop-line-test.true (eq-eqb _ _ w.if-line-lane.true) old.invariant
+          w.make_next.ensures.pass w.make_next.ensures.keeps w.make_next.ensures.lane w.make_next.ensures.before w.make_next.ensures.calls)
+      | else-line-lane w ↦
+          subst (λ (l : Lane). HasCome c.args.world.now c.args.lane.now l (calls_of_lane c.args.lane.now.label.lane (take (old.line-index + 1) xs))) (sym w.lane-is)
+          (come_past c.args.world.now xs old.line-index _ c.args.lane.now old.lane c.loop-line-test.true (other_lane _ _ w.if-line-lane.false) old.invariant)
+    ]

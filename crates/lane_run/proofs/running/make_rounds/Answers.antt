@@ -1,0 +1,38 @@
+use Rattle.std.proofs.Common.{◌<◌, List, [], ◌∷◌, ◌++◌, length, get_or, take, arith, sym, ap, ◌∙◌, subst}
+use Rattle.std.specs.List.{AllByRecursion}
+use Rattle.std.proofs.lemmas.List.{take_more}
+use Rattle.script_text.specs.declared.script.LaneCall.{LaneCall}
+use Rattle.script_text.specs.declared.script.Round.{Round}
+use Rattle.lane_run.specs.Rounds.{MakesRounds, none_left}
+use Rattle.lane_run.specs.Worlds.{CanCall}
+use Rattle.lane_run.proofs.Ranges.{round_can}
+use Rattle.lane_run.proofs.Taking.{rounds_push}
+use Rattle.lane_run.proofs.running.make_rounds.Goals as goal
+
+pub make_round-requires-clause-few : goal.make_round-requires-clause-few
+make_round-requires-clause-few g c = omega (arith, c.loop-round.invariant.lanes, c.requires.range.lanes.1)
+
+pub make_round-requires-clause-calls : goal.make_round-requires-clause-calls
+make_round-requires-clause-calls g c = λ κs outlives.
+    let items = c.as_slice-round-items in
+    let i = c.loop-round.round-index in
+    let is = c.round-item.is ∙ ap (λ rs. get_or rs i c.round-item.result) items.ensures in
+    subst (λ (r : Round). AllByRecursion (λ (x : LaneCall). CanCall c.args.world.now x.call) r.calls) (sym is)
+    (round_can c.args.script.now c.args.world.now c.requires.range c.requires.world i c.round-item.result
+    (subst (λ (rs : List Round). i < length rs) items.ensures c.loop-round-test.true))
+
+pub loop-round-preserved : goal.loop-round-preserved
+loop-round-preserved g c =
+    let x = c.args.world.now in
+    let p = c.args.main.now in
+    let none = none_left c.args.script.now.lanes in
+    let items = c.as_slice-round-items.result.now in
+    let old = c.loop-round in
+    let next = c.make_round.new in record {
+      main = c.make_round.ensures.main;
+      lanes = c.make_round.ensures.lanes ∙ old.invariant.lanes;
+      rounds = subst (λ rs. MakesRounds x rs p none next.main next.left) (sym (take_more items old.round-index c.round-item.result c.loop-round-test.true))
+          (subst (λ (r : Round). MakesRounds x (take old.round-index items ++ r ∷ []) p none next.main next.left) c.round-item.is
+          (rounds_push x (take old.round-index items) c.round-item.result p old.main next.main none old.left next.left old.invariant.rounds
+          c.in_ok-make_round.ensures.round));
+    }

@@ -1,0 +1,11 @@
+use Rattle.lane_run.proofs.Mains.{main_first, main_last}
+use Rattle.lane_run.proofs.running.run.Goals as goal
+
+pub make_rounds-requires-clause-main : goal.make_rounds-requires-clause-main
+make_rounds-requires-clause-main g c = λ κs outlives. main_first c.args.world c.args.pass c.requires.pass c.requires.first
+
+pub close-requires-clause-last : goal.close-requires-clause-last
+close-requires-clause-last g c = main_last c.args.world c.make_rounds.new.main c.make_rounds.ensures.main
+
+pub returns-in-Ok-clause-last : goal.returns-in-Ok-clause-last
+returns-in-Ok-clause-last g c = main_last c.args.world c.make_rounds.new.main c.make_rounds.ensures.main

@@ -1,0 +1,268 @@
+-- What each call of a lane does and answers: what its passes know before and after it, and what it notes.
+use Rattle.std.specs.Prelude.{ℕ, ◌≡◌, ◌-◌, Bool, true, false, nat_eq, if◌then◌else◌, List, [], ◌∷◌, ◌++◌, length, Result, Ok, Err}
+use Rattle.ktime.specs.Readings.{ClockReading}
+use Rattle.ktime.specs.declared.mode.Mode.{Mode}
+use Rattle.clock_model.specs.declared.write.ClockFault.TheVariants as faults
+use Rattle.clock_model.specs.declared.write.Write.{Write}
+use Rattle.clock_cell.specs.Views.{AnswersWrite, seen_reading, writes}
+use Rattle.pass_names.specs.Passes.{Looks}
+use Rattle.seq_timer.specs.declared.event.Event.TheVariants as events
+use Rattle.timer_core.specs.declared.answer.CancelAnswer.{CancelAnswer}
+use Rattle.timer_core.specs.declared.answer.CancelAnswer.TheVariants as cancels
+use Rattle.hr_timers.specs.declared.answer.StartAnswer.{StartAnswer}
+use Rattle.hr_timers.specs.declared.answer.StartAnswer.TheVariants as starts
+use Rattle.hr_timers.specs.Calls.{Cancels, Peeks, StartsTimer}
+use Rattle.expire_pass.specs.declared.expiry.ExpireAnswer.{ExpireAnswer}
+use Rattle.expire_pass.specs.declared.expiry.ExpireAnswer.TheVariants as expiries
+use Rattle.expire_pass.specs.declared.log.Receipt.{Receipt}
+use Rattle.timer_objects.specs.declared.log.ObjectReceipt.{ObjectReceipt}
+use Rattle.timer_objects.specs.Calls.{Accepts, Caller, Gettimes, LooksOverrun, LooksReadable, ReadsFd, Settimes}
+use Rattle.record_text.specs.declared.record.Answer.{Answer}
+use Rattle.record_text.specs.declared.record.Answer.TheVariants as answers
+use Rattle.record_text.specs.declared.record.Label.{Label}
+use Rattle.seq_timer.specs.declared.event.Event.{Event}
+use Rattle.seq_timer.specs.declared.event.Reply.{Reply}
+use Rattle.seq_timer.specs.declared.event.Reply.TheVariants as replies
+use Rattle.seq_timer.specs.declared.observation.Peek.{Peek}
+use Rattle.clock_model.specs.declared.write.ClockFault.{ClockFault}
+use Rattle.expire_pass.specs.declared.log.Noted.TheVariants as noteds
+use Rattle.posix_timer.specs.declared.answers.AcceptAnswer.{AcceptAnswer}
+use Rattle.posix_timer.specs.declared.answers.AcceptAnswer.TheVariants as acceptances
+use Rattle.timer_fd.specs.declared.answers.ReadAnswer.{ReadAnswer}
+use Rattle.timer_fd.specs.declared.answers.ReadAnswer.TheVariants as reads
+use Rattle.timer_fd.specs.declared.answers.SettimeAnswer.{SettimeAnswer}
+use Rattle.timer_fd.specs.declared.answers.SettimeAnswer.TheVariants as settings
+use Rattle.timer_objects.specs.declared.answers.Gettime.{Gettime}
+use Rattle.timer_objects.specs.declared.answers.Gettime.TheVariants as gettimes
+use Rattle.timer_objects.specs.declared.answers.Overrun.{Overrun}
+use Rattle.timer_objects.specs.declared.answers.Readable.{Readable}
+use Rattle.timer_objects.specs.declared.object.Kind.{Kind}
+use Rattle.timer_objects.specs.declared.object.Kind.TheVariants as over
+use Rattle.timer_objects.specs.Known.{decl_at}
+use Rattle.record_text.specs.declared.record.ClockLine.{ClockLine}
+use Rattle.script_text.specs.Actions.{also}
+use Rattle.script_text.specs.declared.script.Call.{Call}
+use Rattle.script_text.specs.declared.script.Call.TheVariants as calls
+use Rattle.lane_notes.specs.Notes.{NotesOf, with_write_note}
+use Rattle.lane_notes.specs.Entries.{with_receipts}
+use Rattle.lane_notes.specs.Objects.{with_object_receipts}
+use Rattle.lane_run.specs.Expiries.{RunsGated}
+use Rattle.lane_run.specs.Worlds.{WorldOf}
+use Rattle.lane_run.specs.declared.lane.Lane.{Lane}
+use Rattle.lane_run.specs.declared.world.WorldPass.{WorldPass}
+
+-- what calls change of a lane: its passes and its notes. The label is that of the next call.
+pub record LaneOf : Type 0 where
+  pub label : Label
+  pub pass : WorldPass
+  pub notes : NotesOf
+
+abbrev pub lane_of : Lane → LaneOf
+lane_of l = record { label = l.label; pass = l.pass; notes = l.notes }
+
+-- ---- what all calls share
+
+-- notes of what one call did: its entries and looks, its entries of objects, and its write of the clock
+abbrev pub with_done : NotesOf → Label → List Receipt → List ObjectReceipt → NotesOf
+with_done notes label log object_log = with_object_receipts (with_receipts notes label log) label object_log
+
+-- the clock was read
+pub record Reads (p q : WorldPass) (r : ClockReading) : Type 0 where
+  pub shows : r ≡ seen_reading q.clock.knows
+  pub count : r.stamp ≡ length (writes q.clock.knows)
+  pub looks : Looks p.clock.knows.pass q.clock.knows.pass
+
+-- the clock was left alone
+abbrev pub LeavesClock : WorldPass → WorldPass → Type 0
+LeavesClock p q = q.clock ≡ p.clock
+
+-- what the lane's passes know, with these logs of a call
+abbrev pub caller_of : WorldPass → List Receipt → List ObjectReceipt → Caller
+caller_of p log object_log = record { timers = p.timers.known; objects = p.objects; log = log; object_log = object_log }
+
+-- ---- timers by themselves
+
+-- the receipt of an entry
+abbrev pub entry_receipt : ℕ → ℕ → Event → Reply → Receipt
+entry_receipt timer number event reply = record { timer = timer; number = number; event = event; reply = noteds.Entry reply }
+
+-- the receipt of a start that was made; the timer was armed before it, and on this base
+abbrev pub start_receipt : ℕ → Mode → ℕ → ℕ → ClockReading → Bool → StartAnswer → List Receipt
+start_receipt timer mode ns asked reading armed (starts.Started was_armed generation base outs clock expires) =
+    entry_receipt timer generation (events.Start mode ns reading asked) (replies.Start base clock expires armed) ∷ []
+start_receipt timer mode ns asked reading armed (starts.Spent stamp) = []
+
+-- the receipts of a start: of an Out too where it moved the timer, which is then not armed any more
+abbrev pub start_receipts : ℕ → Mode → ℕ → ℕ → ClockReading → StartAnswer → List Receipt
+start_receipts timer mode ns asked reading (starts.Started was_armed generation base outs clock expires) =
+    if nat_eq outs 0
+    then start_receipt timer mode ns asked reading was_armed (starts.Started was_armed generation base outs clock expires)
+    else entry_receipt timer (generation - 1) (events.Out asked) (replies.Out was_armed)
+    ∷ start_receipt timer mode ns asked reading false (starts.Started was_armed generation base outs clock expires)
+start_receipts timer mode ns asked reading (starts.Spent stamp) = []
+
+abbrev pub start_told : StartAnswer → Answer
+start_told (starts.Started was_armed generation base outs clock expires) = answers.Started generation base was_armed
+start_told (starts.Spent stamp) = answers.Spent stamp
+
+-- the receipt of a cancel
+abbrev pub cancel_receipts : ℕ → CancelAnswer → List Receipt
+cancel_receipts timer (cancels.Idle stamp) = []
+cancel_receipts timer (cancels.Cancelled generation number) = entry_receipt timer number events.Cancel (replies.Cancel generation) ∷ []
+cancel_receipts timer (cancels.Running generation stamp) = []
+
+abbrev pub cancel_told : CancelAnswer → Answer
+cancel_told (cancels.Idle stamp) = answers.Idle stamp
+cancel_told (cancels.Cancelled generation number) = answers.Cancelled generation
+cancel_told (cancels.Running generation stamp) = answers.Running generation stamp
+
+-- the answer of a write
+abbrev pub write_told : Result ClockReading ClockFault → Answer
+write_told (Ok reading) = answers.Clock reading.stamp
+write_told (Err (faults.ClockRange would_be)) = answers.Range would_be
+write_told (Err faults.ClockSpent) = answers.ClockSpent
+
+-- the line of a write that the clock took
+abbrev pub line_of_write : Label → Write → ClockReading → ClockLine
+line_of_write label write r = record { label = label; write = write; mono = r.mono; real = r.real; boot = r.boot; changes = r.changes }
+
+abbrev pub with_write_told : NotesOf → Label → Write → Result ClockReading ClockFault → NotesOf
+with_write_told notes label write (Ok reading) = with_write_note notes reading.stamp (line_of_write label write reading)
+with_write_told notes label write (Err fault) = notes
+
+-- ---- expiry runs
+
+-- whether an event is a claim
+abbrev pub is_claim : Event → Bool
+is_claim (events.Claim base reading) = true
+is_claim event = false
+
+-- the timers that were claimed, in the order of their claims
+abbrev pub claimed_in : List Receipt → List ℕ
+claimed_in [] = []
+claimed_in (r ∷ rs) = also (is_claim r.event) r.timer (claimed_in rs)
+
+abbrev pub expire_told : ℕ → List ℕ → ExpireAnswer → Answer
+expire_told reading fired (expiries.More count) = answers.More reading fired
+expire_told reading fired (expiries.Done count) = answers.Done reading fired
+expire_told reading fired (expiries.BaseBusy count timer generation) = answers.Busy reading fired timer generation
+
+-- ---- objects
+
+abbrev pub settime_told : SettimeAnswer → Answer
+settime_told (settings.Old left interval) = answers.Old left interval
+settime_told settings.BadFlags = answers.Invalid
+settime_told settings.BadTime = answers.Invalid
+settime_told (settings.Spent stamp) = answers.Spent stamp
+settime_told (settings.Unarmed stamp) = answers.Unarmed stamp
+settime_told settings.Canceled = answers.Canceled
+
+abbrev pub gettime_told : Kind → ℕ → Gettime → Answer
+gettime_told kind reading (gettimes.Spent stamp) = answers.Spent stamp
+gettime_told over.Fd reading (gettimes.Left left interval stamp) = answers.Left left interval
+gettime_told over.Raw reading (gettimes.Left left interval stamp) = answers.LeftAt left interval reading stamp
+gettime_told over.Posix reading (gettimes.Left left interval stamp) = answers.LeftAt left interval reading stamp
+
+abbrev pub accept_told : AcceptAnswer → Answer
+accept_told (acceptances.Accepted overrun) = answers.Accepted overrun
+accept_told acceptances.NoSignal = answers.NoSignal
+accept_told (acceptances.Spent stamp) = answers.Spent stamp
+
+abbrev pub read_told : ReadAnswer → Answer
+read_told (reads.Count total) = answers.Count total
+read_told reads.ShortBuffer = answers.Invalid
+read_told (reads.Spent stamp) = answers.Spent stamp
+read_told reads.Canceled = answers.Canceled
+read_told reads.Again = answers.Again
+
+-- ---- the calls
+
+module _ (x : WorldOf) (l m : LaneOf) (a : Answer) where
+  pub record CallsStart (timer : ℕ) (mode : Mode) (ns base : ℕ) : Type 0 where
+    pub reading : ClockReading
+    pub reads : Reads l.pass m.pass reading
+    pub answer : StartAnswer
+    pub starts : StartsTimer x.timers.about l.pass.timers.known m.pass.timers.known timer mode ns base reading answer
+    pub objects : m.pass.objects ≡ l.pass.objects
+    pub notes : m.notes ≡ with_done l.notes l.label (start_receipts timer mode ns base reading answer) []
+    pub told : a ≡ start_told answer
+
+  pub record CallsCancel (timer : ℕ) : Type 0 where
+    pub clock : LeavesClock l.pass m.pass
+    pub answer : CancelAnswer
+    pub cancels : Cancels x.timers.about l.pass.timers.known m.pass.timers.known timer answer
+    pub objects : m.pass.objects ≡ l.pass.objects
+    pub notes : m.notes ≡ with_done l.notes l.label (cancel_receipts timer answer) []
+    pub told : a ≡ cancel_told answer
+
+  pub record CallsPeek (timer : ℕ) : Type 0 where
+    pub clock : LeavesClock l.pass m.pass
+    pub seen : Peek
+    pub peeks : Peeks x.timers.about l.pass.timers.known m.pass.timers.known timer seen
+    pub objects : m.pass.objects ≡ l.pass.objects
+    pub notes : m.notes ≡ l.notes
+    pub told : a ≡ answers.Peek seen.stamp seen.base seen.enqueued seen.running seen.moving
+
+  -- ---- the clock
+
+  pub record CallsWrite (write : Write) : Type 0 where
+    pub answer : Result ClockReading ClockFault
+    pub writes : AnswersWrite write l.pass.clock.knows m.pass.clock.knows answer
+    pub timers : m.pass.timers ≡ l.pass.timers
+    pub objects : m.pass.objects ≡ l.pass.objects
+    pub notes : m.notes ≡ with_write_told l.notes l.label write answer
+    pub told : a ≡ write_told answer
+
+  -- ---- expiry runs
+
+  pub record CallsExpire (base budget : ℕ) : Type 0 where
+    pub reading : ClockReading
+    pub reads : Reads l.pass m.pass reading
+    pub log : List Receipt
+    pub callback_log : List Receipt
+    pub object_log : List ObjectReceipt
+    pub answer : ExpireAnswer
+    pub runs : RunsGated x l.pass.timers.known l.pass.objects m.pass.timers.known m.pass.objects base budget reading log callback_log object_log answer
+    pub notes : m.notes ≡ with_done l.notes l.label (log ++ callback_log) object_log
+    pub told : a ≡ expire_told reading.stamp (claimed_in log) answer
+
+  -- a call on an object, by what the lane's passes know before and after it
+  pub record CallsObject (Does : Caller → Caller → ClockReading → Type 0) : Type 0 where
+    pub reading : ClockReading
+    pub reads : Reads l.pass m.pass reading
+    pub log : List Receipt
+    pub object_log : List ObjectReceipt
+    pub does : Does (caller_of l.pass [] []) (caller_of m.pass log object_log) reading
+    pub notes : m.notes ≡ with_done l.notes l.label log object_log
+
+  pub record CallsOverrun (timer : ℕ) : Type 0 where
+    pub clock : LeavesClock l.pass m.pass
+    pub found : Overrun
+    pub looks : LooksOverrun (caller_of l.pass [] []) (caller_of m.pass [] []) timer found
+    pub notes : m.notes ≡ l.notes
+    pub told : a ≡ answers.Overrun found.overrun found.stamp
+
+-- what a call does and answers
+abbrev pub Called : WorldOf → LaneOf → Call → Answer → LaneOf → Type 0
+Called x l (calls.Start timer mode ns base) a m = CallsStart x l m a timer mode ns base
+Called x l (calls.Cancel timer) a m = CallsCancel x l m a timer
+Called x l (calls.Peek timer) a m = CallsPeek x l m a timer
+Called x l (calls.Expire base budget) a m = CallsExpire x l m a base budget
+Called x l (calls.Clock write) a m = CallsWrite x l m a write
+Called x l (calls.Settime timer flags value interval) a m =
+    (s : SettimeAnswer) × (a ≡ settime_told s)
+    × CallsObject x l m a (λ old new reading. Settimes x.objects x.timers.about old new timer flags value interval reading s)
+Called x l (calls.Gettime timer) a m =
+    (g : Gettime) × CallsObject x l m a (λ old new reading.
+    Gettimes x.objects x.timers.about old new timer reading (decl_at x.objects timer).kind g
+    × (a ≡ gettime_told (decl_at x.objects timer).kind reading.stamp g))
+Called x l (calls.Accept timer) a m =
+    (s : AcceptAnswer) × (a ≡ accept_told s)
+    × CallsObject x l m a (λ old new reading. Accepts x.objects x.timers.about old new timer reading s)
+Called x l (calls.Overrun timer) a m = CallsOverrun x l m a timer
+Called x l (calls.Read timer len) a m =
+    (s : ReadAnswer) × (a ≡ read_told s)
+    × CallsObject x l m a (λ old new reading. ReadsFd x.objects x.timers.about old new timer len reading s)
+Called x l (calls.Readable timer) a m =
+    (found : Readable) × CallsObject x l m a (λ old new reading.
+    LooksReadable old new timer reading found × (a ≡ answers.Readable found.ready reading.stamp found.stamp))

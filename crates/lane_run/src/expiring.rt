@@ -1,0 +1,229 @@
+//! An expiry run as a call of a lane.
+ghost use Rattle.std.specs.Prelude.{◌≡◌, ◌≤◌, ◌<◌, ◌*◌, [], IfOk};
+ghost use Rattle.hr_timers.specs.Known.{IsPassOf};
+ghost use Rattle.expire_pass.specs.Handlers.{KeepsPass};
+ghost use Rattle.expire_pass.specs.Handlers.{CanServe};
+ghost use Rattle.timer_objects.specs.Firings.{firing as firing_meaning, ready_of};
+ghost use Rattle.timer_objects.specs.Known.{IsObjectsPass};
+ghost use Rattle.script_text.specs.Scripts.{most_budget};
+ghost use Rattle.lane_run.specs.Called.{CallsExpire, claimed_in, expire_told, is_claim, lane_of};
+ghost use Rattle.lane_run.specs.Expiries.{KeepsName, RunsGated, RunsWith};
+ghost use Rattle.lane_run.specs.Worlds.{ArePassesOf, KeepPasses};
+
+use crate::gate::{Gate, Point};
+use crate::lane::Lane;
+use crate::world::World;
+use counted_row::RowPass;
+use expire_pass::{ExpireAnswer, Handler, Log, Restart};
+use hr_timers::{Claim, Pass, Timers};
+use ktime::Reading;
+use lane_notes::{Notes, note_object_receipts, note_receipts};
+use record_text::{Answer, ItemList, Label};
+use seq_timer::Event;
+use std::alloc::{AllocError, Global};
+use std::sync::Wait;
+use timer_objects::{Firing, FiringWith, ObjectCell, ObjectLog};
+
+/// The handler of objects and callbacks, with the gate's point before each function.
+#[derive(Drop)]
+struct Gated<'a, 'b, 'g, G> {
+    firing: &'a mut FiringWith<'b, Log, ObjectLog>,
+    gate: &'g G,
+    label: Label,
+}
+
+impl<G: Gate> Handler for Gated<'_, '_, '_, G> {
+    ghost use Rattle.std.specs.Prelude.{length};
+    ghost use Rattle.timer_objects.specs.Callbacks.{bases_of};
+    ghost use Rattle.timer_objects.specs.Firings.{ready_of};
+    ghost use Rattle.lane_run.specs.Expiries.{FiresLent};
+
+    ghost meaning = { record { did = λ o h h' v w c reading restart. FiresLent o h.firing.ghost_name h'.firing.ghost_name h.firing.now h'.firing.now v w c reading restart; ready = λ h. ready_of h.firing.now; timers = λ h. length h.firing.now.objects.now.decls; bases = λ h. bases_of h.firing.now.callbacks.now } };
+
+    fn fire<R: Wait>(
+        &mut self,
+        rt: &R,
+        timers: &Timers,
+        pass: &mut Pass,
+        claim: &Claim,
+        reading: Reading,
+    ) -> Restart {
+        let Label { lane, call } = self.label;
+        self.gate.at(lane, call, Point::Callback);
+        self.firing.fire(rt, timers, pass, claim, reading)
+    }
+}
+
+/// What an expiry run leaves: its answer, its own log, and those of its handler.
+#[derive(Drop)]
+struct Expired {
+    answer: ExpireAnswer,
+    log: Log,
+    callback_log: Log,
+    object_log: ObjectLog,
+}
+
+/// An expiry run on a base, of at most so many functions.
+pub(crate) fn expire<R: Wait, G: Gate>(
+    rt: &R,
+    alloc: Global,
+    world: &World,
+    gate: &G,
+    lane: &mut Lane,
+    base: u32,
+    budget: u64,
+) -> Result<Answer, AllocError>
+    requires pass { ArePassesOf world.now lane.old.pass }
+    requires base { base < world.now.timers.about.bases }
+    requires budget { budget ≤ most_budget }
+    ensures pass { ArePassesOf world.now lane.new.pass }
+    ensures keeps { KeepPasses lane.old.pass lane.new.pass }
+    ensures rest { (lane.new.label ≡ lane.old.label) × (lane.new.answers ≡ lane.old.answers) × (lane.new.wants_memory ≡ lane.old.wants_memory) }
+    ensures call { IfOk result (λ a. CallsExpire world.now (lane_of lane.old) (lane_of lane.new) a base budget) }
+{
+    let reading = world.clock.read(rt, &mut lane.pass.clock);
+    let Expired {
+        answer,
+        log,
+        callback_log,
+        object_log,
+    } = run_gated(
+        rt,
+        alloc,
+        world,
+        gate,
+        lane.label,
+        &mut lane.pass.timers,
+        &mut lane.pass.objects,
+        base,
+        budget,
+        reading,
+    )?;
+    note_receipts(&mut lane.notes, lane.label, log.receipts())?;
+    note_receipts(&mut lane.notes, lane.label, callback_log.receipts())?;
+    note_object_receipts(&mut lane.notes, lane.label, object_log.receipts())?;
+    let fired = claimed(alloc, &log)?;
+    Ok(answer_of(answer, reading.stamp, fired))
+}
+
+/// The run itself, by these passes.
+fn run_gated<R: Wait, G: Gate>(
+    rt: &R,
+    alloc: Global,
+    world: &World,
+    gate: &G,
+    label: Label,
+    pass: &mut Pass,
+    objects_pass: &mut RowPass<ObjectCell>,
+    base: u32,
+    budget: u64,
+    reading: Reading,
+) -> Result<Expired, AllocError>
+    requires timers { IsPassOf world.now.timers pass.old }
+    requires objects { IsObjectsPass world.now.objects objects_pass.old }
+    requires base { base < world.now.timers.about.bases }
+    requires budget { budget ≤ most_budget }
+    ensures timers { IsPassOf world.now.timers pass.new }
+    ensures objects { IsObjectsPass world.now.objects objects_pass.new }
+    ensures keeps { KeepsPass pass.old.known pass.new.known }
+    ensures name { KeepsName objects_pass.old objects_pass.new }
+    ensures runs { IfOk result (λ e. RunsGated world.now pass.old.known objects_pass.old pass.new.known objects_pass.new base budget reading e.log.receipts e.callback_log.receipts e.object_log.receipts e.answer) }
+{
+    let mut log = Log::make(alloc);
+    log.reserve(2 * budget as usize)?;
+    let mut firing = Firing::make(alloc, &world.objects, objects_pass, &world.callbacks);
+    if firing.reserve(budget as usize).is_err() {
+        let _ = firing.into_logs();
+        return Err(AllocError);
+    }
+    let timers = &world.timers;
+    let answer = run_with(
+        rt,
+        timers,
+        gate,
+        label,
+        pass,
+        base,
+        budget,
+        reading,
+        &mut firing,
+        &mut log,
+    );
+    let (callback_log, object_log) = firing.into_logs();
+    Ok(Expired {
+        answer,
+        log,
+        callback_log,
+        object_log,
+    })
+}
+
+/// The run with a handler of objects.
+fn run_with<R: Wait, G: Gate>(
+    rt: &R,
+    timers: &Timers,
+    gate: &G,
+    label: Label,
+    pass: &mut Pass,
+    base: u32,
+    budget: u64,
+    reading: Reading,
+    firing: &mut FiringWith<'_, Log, ObjectLog>,
+    log: &mut Log,
+) -> ExpireAnswer
+    requires timers { IsPassOf timers.now pass.old }
+    requires base { base < timers.now.about.bases }
+    requires room { 2 * budget ≤ log.old.spare }
+    requires ready { budget ≤ ready_of firing.old }
+    requires suits { CanServe firing_meaning timers.now.about firing.old }
+    ensures timers { IsPassOf timers.now pass.new }
+    ensures keeps { KeepsPass pass.old.known pass.new.known }
+    ensures runs { RunsWith timers.now.about base reading budget pass.old.known firing.old log.old.receipts pass.new.known firing.new log.new.receipts result }
+{
+    let mut handler = Gated {
+        firing,
+        gate,
+        label,
+    };
+    expire_pass::expire(rt, timers, pass, base, reading, budget, &mut handler, log)
+}
+
+/// The timers that a run has claimed, in the order of their claims.
+fn claimed(alloc: Global, log: &Log) -> Result<ItemList<u32>, AllocError>
+    ensures { IfOk result (λ timers. timers ≡ claimed_in log.now.receipts) }
+{
+    let mut timers = ItemList::new(alloc);
+    for receipt in log.receipts() {
+        if is_claim(receipt.event) {
+            timers.push(receipt.timer)?;
+        }
+    }
+    Ok(timers)
+}
+
+/// Whether an event is a claim.
+fn is_claim(event: Event) -> bool
+    ensures { result ≡ is_claim event }
+{
+    matches!(event, Event::Claim { .. })
+}
+
+/// The answer of a run by this reading that has claimed these timers.
+fn answer_of(answer: ExpireAnswer, reading: u64, fired: ItemList<u32>) -> Answer
+    ensures { result ≡ expire_told reading fired answer }
+{
+    match answer {
+        ExpireAnswer::More { .. } => Answer::More { reading, fired },
+        ExpireAnswer::Done { .. } => Answer::Done { reading, fired },
+        ExpireAnswer::BaseBusy {
+            timer,
+            generation,
+            ..
+        } => Answer::Busy {
+            reading,
+            fired,
+            timer,
+            generation,
+        },
+    }
+}

@@ -1,0 +1,141 @@
+//! A lane in a round: its calls in their order, each with its answer and with notes of what it did.
+ghost use Rattle.std.specs.Prelude.{◌≡◌, ◌≤◌, ◌<◌, ◌∷◌, [], false, IfOk, OnOk, length};
+ghost use Rattle.std.specs.List.{AllByRecursion};
+ghost use Rattle.script_text.specs.Scripts.{IsCallInRange};
+ghost use Rattle.lane_run.specs.Called.{Called, lane_of};
+ghost use Rattle.lane_run.specs.Rounds.{Answers, MakesCalls, lane_calls};
+ghost use Rattle.lane_run.specs.Worlds.{ArePassesOf, CanCall, KeepPasses};
+
+use crate::expiring::expire;
+use crate::gate::{Gate, Point};
+use crate::object_calls::{accept, gettime, overrun, read, readable, settime};
+use crate::timer_calls::{cancel, peek, start, write};
+use crate::world::{World, WorldPass};
+use lane_notes::Notes;
+use record_text::{Answer, Label};
+use script_text::{Call, Round};
+use std::alloc::{AllocError, Global};
+use std::sync::Wait;
+
+/// What a lane works with in a round: the label of its next call, its passes, its notes and answers. Once it wants memory it makes no call.
+pub struct Lane {
+    pub label: Label,
+    pub pass: WorldPass,
+    pub notes: Notes,
+    pub answers: Vec<Answer>,
+    pub wants_memory: bool,
+}
+
+/// Makes the lane's calls of a round.
+pub(crate) fn make_calls<R: Wait, G: Gate>(
+    rt: &R,
+    alloc: Global,
+    world: &World,
+    gate: &G,
+    round: &Round,
+    lane: &mut Lane,
+)
+    requires pass { ArePassesOf world.now lane.old.pass }
+    requires calls { AllByRecursion (λ c. CanCall world.now c.call) round.now.calls }
+    ensures pass { ArePassesOf world.now lane.new.pass }
+    ensures keeps { KeepPasses lane.old.pass lane.new.pass }
+    ensures lane { lane.new.label.lane ≡ lane.old.label.lane }
+    ensures calls { lane.new.wants_memory ≡ false → MakesCalls world.now lane.old lane.new (lane_calls lane.old.label.lane round.now) }
+{
+    for line in round.calls.as_slice() {
+        if line.lane == lane.label.lane {
+            make_next(rt, alloc, world, gate, lane, line.call);
+        }
+    }
+}
+
+/// Makes the lane's next call, with the gate's points before and after it.
+fn make_next<R: Wait, G: Gate>(
+    rt: &R,
+    alloc: Global,
+    world: &World,
+    gate: &G,
+    lane: &mut Lane,
+    call: Call,
+)
+    requires pass { ArePassesOf world.now lane.old.pass }
+    requires call { CanCall world.now call }
+    ensures pass { ArePassesOf world.now lane.new.pass }
+    ensures keeps { KeepPasses lane.old.pass lane.new.pass }
+    ensures lane { lane.new.label.lane ≡ lane.old.label.lane }
+    ensures before { lane.new.wants_memory ≡ false → lane.old.wants_memory ≡ false }
+    ensures calls { lane.new.wants_memory ≡ false → MakesCalls world.now lane.old lane.new (call ∷ []) }
+{
+    if lane.wants_memory {
+        return;
+    }
+    let label = lane.label;
+    gate.at(label.lane, label.call, Point::Call);
+    let done = make_noted(rt, alloc, world, gate, lane, call);
+    gate.at(label.lane, label.call, Point::After);
+    lane.wants_memory = done.is_err();
+    lane.label.call = label.call.saturating_add(1);
+}
+
+/// Makes a call, and keeps its answer.
+fn make_noted<R: Wait, G: Gate>(
+    rt: &R,
+    alloc: Global,
+    world: &World,
+    gate: &G,
+    lane: &mut Lane,
+    call: Call,
+) -> Result<(), AllocError>
+    requires pass { ArePassesOf world.now lane.old.pass }
+    requires call { CanCall world.now call }
+    ensures pass { ArePassesOf world.now lane.new.pass }
+    ensures keeps { KeepPasses lane.old.pass lane.new.pass }
+    ensures label { lane.new.label ≡ lane.old.label }
+    ensures call { OnOk result (Answers world.now lane.old call lane.new) }
+{
+    lane.answers.reserve(1)?;
+    let answer = make(rt, alloc, world, gate, lane, call)?;
+    lane.answers.push(answer)?;
+    Ok(())
+}
+
+/// Makes a call.
+fn make<R: Wait, G: Gate>(
+    rt: &R,
+    alloc: Global,
+    world: &World,
+    gate: &G,
+    lane: &mut Lane,
+    call: Call,
+) -> Result<Answer, AllocError>
+    requires pass { ArePassesOf world.now lane.old.pass }
+    requires call { CanCall world.now call }
+    ensures pass { ArePassesOf world.now lane.new.pass }
+    ensures keeps { KeepPasses lane.old.pass lane.new.pass }
+    ensures rest { (lane.new.label ≡ lane.old.label) × (lane.new.answers ≡ lane.old.answers) × (lane.new.wants_memory ≡ lane.old.wants_memory) }
+    ensures call { IfOk result (λ a. Called world.now (lane_of lane.old) call a (lane_of lane.new)) }
+{
+    match call {
+        Call::Start {
+            timer,
+            mode,
+            ns,
+            base,
+        } => start(rt, world, lane, timer, mode, ns, base),
+        Call::Cancel { timer } => cancel(rt, world, lane, timer),
+        Call::Peek { timer } => Ok(peek(world, lane, timer)),
+        Call::Expire { base, budget } => expire(rt, alloc, world, gate, lane, base, budget),
+        Call::Clock { write: wanted } => write(rt, world, lane, wanted),
+        Call::Settime {
+            timer,
+            flags,
+            value,
+            interval,
+        } => settime(rt, alloc, world, lane, timer, flags, value, interval),
+        Call::Gettime { timer } => gettime(rt, alloc, world, lane, timer),
+        Call::Accept { timer } => accept(rt, alloc, world, lane, timer),
+        Call::Overrun { timer } => Ok(overrun(rt, alloc, world, lane, timer)),
+        Call::Read { timer, len } => read(rt, alloc, world, lane, timer, len),
+        Call::Readable { timer } => Ok(readable(rt, alloc, world, lane, timer)),
+    }
+}

@@ -1,0 +1,18 @@
+//! Lanes of calls on threads: each round's lanes run beside each other over the same timers, objects and clock, and what they leave together is
+//! the record of the run.
+#![tactic(auto)]
+
+pub use gate::{Gate, OpenGate, Point};
+pub use running::run;
+pub use world::{World, WorldPass};
+
+mod expiring;
+mod gate;
+mod lane;
+mod object_calls;
+mod rounds;
+mod running;
+#[cfg(test)]
+mod tests;
+mod timer_calls;
+mod world;

@@ -1,0 +1,321 @@
+//! The calls on POSIX timers and timer descriptors.
+ghost use Rattle.std.specs.Prelude.{◌≡◌, ◌≢◌, ◌≤◌, ◌<◌, [], IfOk, OnOk, length};
+ghost use Rattle.timer_objects.specs.declared.object.Kind.TheVariants as over;
+ghost use Rattle.timer_objects.specs.Calls.{Accepts, Gettimes, LooksReadable, ReadsFd, Settimes};
+ghost use Rattle.timer_objects.specs.Known.{decl_at};
+ghost use Rattle.posix_timer.specs.declared.answers.AcceptAnswer.{AcceptAnswer};
+ghost use Rattle.timer_fd.specs.declared.answers.ReadAnswer.{ReadAnswer};
+ghost use Rattle.timer_fd.specs.declared.answers.SettimeAnswer.{SettimeAnswer};
+ghost use Rattle.timer_objects.specs.declared.answers.Gettime.{Gettime};
+ghost use Rattle.timer_objects.specs.declared.answers.Readable.{Readable};
+ghost use Rattle.record_text.specs.declared.record.Answer.TheVariants as answers;
+ghost use Rattle.lane_run.specs.Called.{CallsObject, CallsOverrun, accept_told, gettime_told, lane_of, read_told, settime_told, with_done};
+ghost use Rattle.lane_run.specs.Worlds.{ArePassesOf, KeepPasses};
+
+use crate::lane::Lane;
+use crate::world::World;
+use expire_pass::Log;
+use ktime::TimeSpec;
+use lane_notes::{note_object_receipts, note_receipts};
+use posix_timer::AcceptAnswer;
+use record_text::Answer;
+use std::alloc::{AllocError, Global};
+use std::sync::Wait;
+use timer_fd::{ReadAnswer, SettimeAnswer};
+use timer_objects::{Gettime, Kind, ObjectLog};
+
+/// The logs of one call, with room for what it can note.
+#[derive(Drop)]
+struct Logs {
+    timers: Log,
+    objects: ObjectLog,
+}
+
+/// Logs with room for a cancel, an Out and a start of the timer, and the entry of the object.
+fn make_logs(alloc: Global) -> Result<Logs, AllocError>
+    ensures empty { IfOk result (λ l. (l.timers.receipts ≡ []) × (l.objects.receipts ≡ [])) }
+    ensures room { IfOk result (λ l. (4 ≤ l.timers.spare) × (1 ≤ l.objects.spare)) }
+{
+    let mut logs = Logs {
+        timers: Log::make(alloc),
+        objects: ObjectLog::make(alloc),
+    };
+    logs.timers.reserve(4)?;
+    logs.objects.reserve(1)?;
+    Ok(logs)
+}
+
+/// Notes what a call has logged.
+fn note_logs(lane: &mut Lane, logs: &Logs) -> Result<(), AllocError>
+    ensures rest { (lane.new.label ≡ lane.old.label) × (lane.new.answers ≡ lane.old.answers) × (lane.new.wants_memory ≡ lane.old.wants_memory) × (lane.new.pass ≡ lane.old.pass) }
+    ensures notes { OnOk result (lane.new.notes ≡ with_done lane.old.notes lane.old.label logs.now.timers.receipts logs.now.objects.receipts) }
+{
+    let label = lane.label;
+    note_receipts(&mut lane.notes, label, logs.timers.receipts())?;
+    note_object_receipts(&mut lane.notes, label, logs.objects.receipts())
+}
+
+/// A settime.
+pub(crate) fn settime<R: Wait>(
+    rt: &R,
+    alloc: Global,
+    world: &World,
+    lane: &mut Lane,
+    timer: u32,
+    flags: u64,
+    value: TimeSpec,
+    interval: TimeSpec,
+) -> Result<Answer, AllocError>
+    requires pass { ArePassesOf world.now lane.old.pass }
+    requires timer { timer < length world.now.objects.decls }
+    requires kind { (decl_at world.now.objects timer).kind ≢ over.Raw }
+    ensures pass { ArePassesOf world.now lane.new.pass }
+    ensures keeps { KeepPasses lane.old.pass lane.new.pass }
+    ensures rest { (lane.new.label ≡ lane.old.label) × (lane.new.answers ≡ lane.old.answers) × (lane.new.wants_memory ≡ lane.old.wants_memory) }
+    ensures call { IfOk result (λ a. (s : SettimeAnswer) × (a ≡ settime_told s) × CallsObject world.now (lane_of lane.old) (lane_of lane.new) a (λ old new reading. Settimes world.now.objects world.now.timers.about old new timer flags value interval reading s)) }
+{
+    let mut logs = make_logs(alloc)?;
+    let reading = world.clock.read(rt, &mut lane.pass.clock);
+    let answer = world.objects.settime(
+        rt,
+        &world.timers,
+        &mut lane.pass.timers,
+        &mut lane.pass.objects,
+        &mut logs.timers,
+        &mut logs.objects,
+        timer,
+        flags,
+        value,
+        interval,
+        reading,
+    );
+    note_logs(lane, &logs)?;
+    Ok(settime_answer(answer))
+}
+
+/// What a settime answers.
+fn settime_answer(answer: SettimeAnswer) -> Answer
+    ensures { result ≡ settime_told answer }
+{
+    match answer {
+        SettimeAnswer::Old { left, interval } => Answer::Old { left, interval },
+        SettimeAnswer::BadFlags | SettimeAnswer::BadTime => Answer::Invalid,
+        SettimeAnswer::Spent { stamp } => Answer::Spent { stamp },
+        SettimeAnswer::Unarmed { stamp } => Answer::Unarmed { stamp },
+        SettimeAnswer::Canceled => Answer::Canceled,
+    }
+}
+
+/// A gettime: a look at a POSIX timer, an entry of a descriptor.
+pub(crate) fn gettime<R: Wait>(
+    rt: &R,
+    alloc: Global,
+    world: &World,
+    lane: &mut Lane,
+    timer: u32,
+) -> Result<Answer, AllocError>
+    requires pass { ArePassesOf world.now lane.old.pass }
+    requires timer { timer < length world.now.objects.decls }
+    requires kind { (decl_at world.now.objects timer).kind ≢ over.Raw }
+    ensures pass { ArePassesOf world.now lane.new.pass }
+    ensures keeps { KeepPasses lane.old.pass lane.new.pass }
+    ensures rest { (lane.new.label ≡ lane.old.label) × (lane.new.answers ≡ lane.old.answers) × (lane.new.wants_memory ≡ lane.old.wants_memory) }
+    ensures call { IfOk result (λ a. (g : Gettime) × CallsObject world.now (lane_of lane.old) (lane_of lane.new) a (λ old new reading. Gettimes world.now.objects world.now.timers.about old new timer reading (decl_at world.now.objects timer).kind g × (a ≡ gettime_told (decl_at world.now.objects timer).kind reading.stamp g))) }
+{
+    let mut logs = make_logs(alloc)?;
+    let reading = world.clock.read(rt, &mut lane.pass.clock);
+    let answer = world.objects.gettime(
+        rt,
+        &world.timers,
+        &mut lane.pass.timers,
+        &mut lane.pass.objects,
+        &mut logs.timers,
+        &mut logs.objects,
+        timer,
+        reading,
+    );
+    note_logs(lane, &logs)?;
+    Ok(gettime_answer(answer, world.objects.kind(timer), reading.stamp))
+}
+
+/// What a gettime by this reading answers.
+fn gettime_answer(answer: Gettime, kind: Kind, reading: u64) -> Answer
+    ensures { result ≡ gettime_told kind reading answer }
+{
+    match (answer, kind) {
+        (Gettime::Spent { stamp }, _) => Answer::Spent { stamp },
+        (Gettime::Left { left, interval, .. }, Kind::Fd) => Answer::Left { left, interval },
+        (
+            Gettime::Left {
+                left,
+                interval,
+                stamp,
+            },
+            Kind::Raw | Kind::Posix,
+        ) => Answer::LeftAt {
+            left,
+            interval,
+            reading,
+            stamp,
+        },
+    }
+}
+
+/// The acceptance of a POSIX timer's signal.
+pub(crate) fn accept<R: Wait>(
+    rt: &R,
+    alloc: Global,
+    world: &World,
+    lane: &mut Lane,
+    timer: u32,
+) -> Result<Answer, AllocError>
+    requires pass { ArePassesOf world.now lane.old.pass }
+    requires timer { timer < length world.now.objects.decls }
+    requires kind { (decl_at world.now.objects timer).kind ≡ over.Posix }
+    ensures pass { ArePassesOf world.now lane.new.pass }
+    ensures keeps { KeepPasses lane.old.pass lane.new.pass }
+    ensures rest { (lane.new.label ≡ lane.old.label) × (lane.new.answers ≡ lane.old.answers) × (lane.new.wants_memory ≡ lane.old.wants_memory) }
+    ensures call { IfOk result (λ a. (s : AcceptAnswer) × (a ≡ accept_told s) × CallsObject world.now (lane_of lane.old) (lane_of lane.new) a (λ old new reading. Accepts world.now.objects world.now.timers.about old new timer reading s)) }
+{
+    let mut logs = make_logs(alloc)?;
+    let reading = world.clock.read(rt, &mut lane.pass.clock);
+    let answer = world.objects.accept(
+        rt,
+        &world.timers,
+        &mut lane.pass.timers,
+        &mut lane.pass.objects,
+        &mut logs.timers,
+        &mut logs.objects,
+        timer,
+        reading,
+    );
+    note_logs(lane, &logs)?;
+    Ok(accept_answer(answer))
+}
+
+/// What the acceptance of a signal answers.
+fn accept_answer(answer: AcceptAnswer) -> Answer
+    ensures { result ≡ accept_told answer }
+{
+    match answer {
+        AcceptAnswer::Accepted { overrun } => Answer::Accepted { overrun },
+        AcceptAnswer::NoSignal => Answer::NoSignal,
+        AcceptAnswer::Spent { stamp } => Answer::Spent { stamp },
+    }
+}
+
+/// A read of a descriptor.
+pub(crate) fn read<R: Wait>(
+    rt: &R,
+    alloc: Global,
+    world: &World,
+    lane: &mut Lane,
+    timer: u32,
+    len: u64,
+) -> Result<Answer, AllocError>
+    requires pass { ArePassesOf world.now lane.old.pass }
+    requires timer { timer < length world.now.objects.decls }
+    requires kind { (decl_at world.now.objects timer).kind ≡ over.Fd }
+    ensures pass { ArePassesOf world.now lane.new.pass }
+    ensures keeps { KeepPasses lane.old.pass lane.new.pass }
+    ensures rest { (lane.new.label ≡ lane.old.label) × (lane.new.answers ≡ lane.old.answers) × (lane.new.wants_memory ≡ lane.old.wants_memory) }
+    ensures call { IfOk result (λ a. (s : ReadAnswer) × (a ≡ read_told s) × CallsObject world.now (lane_of lane.old) (lane_of lane.new) a (λ old new reading. ReadsFd world.now.objects world.now.timers.about old new timer len reading s)) }
+{
+    let mut logs = make_logs(alloc)?;
+    let reading = world.clock.read(rt, &mut lane.pass.clock);
+    let answer = world.objects.read(
+        rt,
+        &world.timers,
+        &mut lane.pass.timers,
+        &mut lane.pass.objects,
+        &mut logs.timers,
+        &mut logs.objects,
+        timer,
+        len,
+        reading,
+    );
+    note_logs(lane, &logs)?;
+    Ok(read_answer(answer))
+}
+
+/// What a read answers.
+fn read_answer(answer: ReadAnswer) -> Answer
+    ensures { result ≡ read_told answer }
+{
+    match answer {
+        ReadAnswer::Count { total } => Answer::Count { total },
+        ReadAnswer::ShortBuffer => Answer::Invalid,
+        ReadAnswer::Spent { stamp } => Answer::Spent { stamp },
+        ReadAnswer::Canceled => Answer::Canceled,
+        ReadAnswer::Again => Answer::Again,
+    }
+}
+
+/// The overrun of the last accepted signal.
+pub(crate) fn overrun<R: Wait>(
+    rt: &R,
+    alloc: Global,
+    world: &World,
+    lane: &mut Lane,
+    timer: u32,
+) -> Answer
+    requires pass { ArePassesOf world.now lane.old.pass }
+    requires timer { timer < length world.now.objects.decls }
+    requires kind { (decl_at world.now.objects timer).kind ≡ over.Posix }
+    ensures pass { ArePassesOf world.now lane.new.pass }
+    ensures keeps { KeepPasses lane.old.pass lane.new.pass }
+    ensures rest { (lane.new.label ≡ lane.old.label) × (lane.new.answers ≡ lane.old.answers) × (lane.new.wants_memory ≡ lane.old.wants_memory) }
+    ensures call { CallsOverrun world.now (lane_of lane.old) (lane_of lane.new) result timer }
+{
+    let mut log = Log::make(alloc);
+    let mut object_log = ObjectLog::make(alloc);
+    let found = world.objects.getoverrun(
+        rt,
+        &world.timers,
+        &mut lane.pass.timers,
+        &mut lane.pass.objects,
+        &mut log,
+        &mut object_log,
+        timer,
+    );
+    Answer::Overrun {
+        overrun: found.overrun,
+        stamp: found.stamp,
+    }
+}
+
+/// Whether a descriptor is ready to be read.
+pub(crate) fn readable<R: Wait>(
+    rt: &R,
+    alloc: Global,
+    world: &World,
+    lane: &mut Lane,
+    timer: u32,
+) -> Answer
+    requires pass { ArePassesOf world.now lane.old.pass }
+    requires timer { timer < length world.now.objects.decls }
+    requires kind { (decl_at world.now.objects timer).kind ≡ over.Fd }
+    ensures pass { ArePassesOf world.now lane.new.pass }
+    ensures keeps { KeepPasses lane.old.pass lane.new.pass }
+    ensures rest { (lane.new.label ≡ lane.old.label) × (lane.new.answers ≡ lane.old.answers) × (lane.new.wants_memory ≡ lane.old.wants_memory) }
+    ensures call { (found : Readable) × CallsObject world.now (lane_of lane.old) (lane_of lane.new) result (λ old new reading. LooksReadable old new timer reading found × (result ≡ answers.Readable found.ready reading.stamp found.stamp)) }
+{
+    let reading = world.clock.read(rt, &mut lane.pass.clock);
+    let mut log = Log::make(alloc);
+    let mut object_log = ObjectLog::make(alloc);
+    let found = world.objects.readable(
+        rt,
+        &world.timers,
+        &mut lane.pass.timers,
+        &mut lane.pass.objects,
+        &mut log,
+        &mut object_log,
+        timer,
+        reading,
+    );
+    Answer::Readable {
+        ready: found.ready,
+        reading: reading.stamp,
+        stamp: found.stamp,
+    }
+}

@@ -1,0 +1,81 @@
+//! The run of a script: its rounds in turn, and the record of what all lanes left.
+ghost use Rattle.std.specs.Prelude.{◌≡◌, [], IfOk, replicate};
+ghost use Rattle.script_text.specs.Scripts.{IsInRange};
+ghost use Rattle.lane_run.specs.Rounds.{IsMain};
+ghost use Rattle.lane_run.specs.Runs.{MakesRun};
+ghost use Rattle.lane_run.specs.Worlds.{AreFirst, AreLast, ArePassesOf, IsWorldOf};
+
+use crate::gate::Gate;
+use crate::rounds::{Left, make_round};
+use crate::world::{World, WorldPass};
+use lane_notes::{Notes, record_of};
+use record_text::{Answer, ItemList, RunRecord};
+use script_text::Script;
+use std::alloc::{AllocError, Global};
+use std::sync::Wait;
+use std::thread::Threads;
+
+/// Runs a script in its world, and gives the record of the run with the world and its last passes. Where it wants memory it has closed both.
+pub fn run<R: Threads + Wait + Sync, G: Gate>(
+    rt: &R,
+    alloc: Global,
+    world: World,
+    pass: WorldPass,
+    script: &Script,
+    gate: &G,
+) -> Result<(RunRecord, World, WorldPass), AllocError>
+    requires range { IsInRange script.now }
+    requires world { IsWorldOf script.now world }
+    requires pass { ArePassesOf world pass }
+    requires first { AreFirst world pass }
+    ensures world { IfOk result (λ r. r.1 ≡ world) }
+    ensures pass { IfOk result (λ r. ArePassesOf world r.2) }
+    ensures last { IfOk result (λ r. AreLast r.2) }
+    ensures run { IfOk result (λ r. MakesRun world script.now pass r.0 r.2) }
+{
+    let mut main = pass;
+    match make_rounds(rt, alloc, &world, &mut main, script, gate) {
+        Ok(record) => Ok((record, world, main)),
+        Err(fault) => {
+            world.close(main);
+            Err(fault)
+        }
+    }
+}
+
+/// Makes the rounds of a script, and the record of what they leave.
+fn make_rounds<R: Threads + Wait + Sync, G: Gate>(
+    rt: &R,
+    alloc: Global,
+    world: &World,
+    main: &mut WorldPass,
+    script: &Script,
+    gate: &G,
+) -> Result<RunRecord, AllocError>
+    requires range { IsInRange script.now }
+    requires world { IsWorldOf script.now world.now }
+    requires main { IsMain world.now main.old [] }
+    ensures main { IsMain world.now main.new [] }
+    ensures run { IfOk result (λ r. MakesRun world.now script.now main.old r main.new) }
+{
+    let mut left = Left {
+        notes: Notes::new(alloc),
+        answers: no_answers(alloc, script.lanes)?,
+    };
+    for round in script.rounds.as_slice() {
+        make_round(rt, alloc, world, main, gate, round, &mut left)?;
+    }
+    let Left { notes, answers } = left;
+    record_of(alloc, notes, script.timers.as_slice().len(), answers)
+}
+
+/// No answers yet, of so many lanes.
+fn no_answers(alloc: Global, lanes: u32) -> Result<Vec<ItemList<Answer>>, AllocError>
+    ensures { IfOk result (λ v. v.items ≡ replicate lanes []) }
+{
+    let mut answers = Vec::new(alloc);
+    for _lane in 0..lanes {
+        answers.push(ItemList::new(alloc))?;
+    }
+    Ok(answers)
+}

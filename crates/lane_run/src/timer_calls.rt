@@ -1,0 +1,226 @@
+//! The calls on timers by themselves, and the writes of the clock.
+ghost use Rattle.std.specs.Prelude.{◌≡◌, ◌<◌, [], ◌∷◌, IfOk, OnOk, length};
+ghost use Rattle.lane_notes.specs.Entries.{with_receipts};
+ghost use Rattle.lane_run.specs.Called.{CallsCancel, CallsPeek, CallsStart, CallsWrite, cancel_receipts, cancel_told, entry_receipt, lane_of, start_receipts, start_told, with_done};
+ghost use Rattle.lane_run.specs.Worlds.{ArePassesOf, KeepPasses};
+
+use crate::lane::Lane;
+use crate::world::World;
+use clock_model::{ClockFault, Write};
+use expire_pass::{Noted, Receipt};
+use hr_timers::StartAnswer;
+use ktime::{Mode, Reading};
+use lane_notes::note_receipts;
+use record_text::{Answer, ClockLine};
+use seq_timer::{Event, Reply};
+use std::alloc::AllocError;
+use std::sync::Wait;
+use timer_core::CancelAnswer;
+
+/// A start.
+pub(crate) fn start<R: Wait>(
+    rt: &R,
+    world: &World,
+    lane: &mut Lane,
+    timer: u32,
+    mode: Mode,
+    ns: u64,
+    base: u32,
+) -> Result<Answer, AllocError>
+    requires pass { ArePassesOf world.now lane.old.pass }
+    requires timer { timer < length world.now.timers.about.timers }
+    requires base { base < world.now.timers.about.bases }
+    ensures pass { ArePassesOf world.now lane.new.pass }
+    ensures keeps { KeepPasses lane.old.pass lane.new.pass }
+    ensures rest { (lane.new.label ≡ lane.old.label) × (lane.new.answers ≡ lane.old.answers) × (lane.new.wants_memory ≡ lane.old.wants_memory) }
+    ensures call { IfOk result (λ a. CallsStart world.now (lane_of lane.old) (lane_of lane.new) a timer mode ns base) }
+{
+    let reading = world.clock.read(rt, &mut lane.pass.clock);
+    let pass = &mut lane.pass.timers;
+    let answer = world.timers.start(rt, pass, timer, mode, ns, base, reading);
+    note_start(lane, timer, mode, ns, base, reading, answer)?;
+    Ok(start_answer(answer))
+}
+
+/// What a start answers.
+fn start_answer(answer: StartAnswer) -> Answer
+    ensures { result ≡ start_told answer }
+{
+    match answer {
+        StartAnswer::Spent { stamp } => Answer::Spent { stamp },
+        StartAnswer::Started {
+            was_armed,
+            generation,
+            base,
+            ..
+        } => Answer::Started {
+            generation,
+            base,
+            was_armed,
+        },
+    }
+}
+
+/// Notes the entries of a start: the Start, and before it an Out where it moved the timer, which is then not armed any more.
+fn note_start(
+    lane: &mut Lane,
+    timer: u32,
+    mode: Mode,
+    ns: u64,
+    asked: u32,
+    reading: Reading,
+    answer: StartAnswer,
+) -> Result<(), AllocError>
+    ensures rest { (lane.new.label ≡ lane.old.label) × (lane.new.answers ≡ lane.old.answers) × (lane.new.wants_memory ≡ lane.old.wants_memory) × (lane.new.pass ≡ lane.old.pass) }
+    ensures notes { OnOk result (lane.new.notes ≡ with_done lane.old.notes lane.old.label (start_receipts timer mode ns asked reading answer) []) }
+{
+    let StartAnswer::Started {
+        was_armed,
+        generation,
+        base,
+        outs,
+        clock,
+        expires,
+    } = answer
+    else {
+        return Ok(());
+    };
+    let event = Event::Start {
+        mode,
+        ns,
+        reading,
+        asked,
+    };
+    if outs == 0 {
+        let reply = Reply::Start {
+            base,
+            clock,
+            expires,
+            was_armed,
+        };
+        return note(lane, timer, generation, event, reply);
+    }
+    let out = Event::Out { base: asked };
+    note(
+        lane,
+        timer,
+        generation.saturating_sub(1),
+        out,
+        Reply::Out { was_armed },
+    )?;
+    let reply = Reply::Start {
+        base,
+        clock,
+        expires,
+        was_armed: false,
+    };
+    note(lane, timer, generation, event, reply)
+}
+
+/// A try to cancel.
+pub(crate) fn cancel<R: Wait>(
+    rt: &R,
+    world: &World,
+    lane: &mut Lane,
+    timer: u32,
+) -> Result<Answer, AllocError>
+    requires pass { ArePassesOf world.now lane.old.pass }
+    requires timer { timer < length world.now.timers.about.timers }
+    ensures pass { ArePassesOf world.now lane.new.pass }
+    ensures keeps { KeepPasses lane.old.pass lane.new.pass }
+    ensures rest { (lane.new.label ≡ lane.old.label) × (lane.new.answers ≡ lane.old.answers) × (lane.new.wants_memory ≡ lane.old.wants_memory) }
+    ensures call { IfOk result (λ a. CallsCancel world.now (lane_of lane.old) (lane_of lane.new) a timer) }
+{
+    let answer = world.timers.try_to_cancel(rt, &mut lane.pass.timers, timer);
+    if let CancelAnswer::Cancelled { generation, number } = answer {
+        note(
+            lane,
+            timer,
+            number,
+            Event::Cancel,
+            Reply::Cancel { generation },
+        )?;
+    }
+    Ok(cancel_answer(answer))
+}
+
+/// What a try to cancel answers.
+fn cancel_answer(answer: CancelAnswer) -> Answer
+    ensures { result ≡ cancel_told answer }
+{
+    match answer {
+        CancelAnswer::Idle { stamp } => Answer::Idle { stamp },
+        CancelAnswer::Running { generation, stamp } => Answer::Running { generation, stamp },
+        CancelAnswer::Cancelled { generation, .. } => Answer::Cancelled { generation },
+    }
+}
+
+/// A look at a timer.
+pub(crate) fn peek(world: &World, lane: &mut Lane, timer: u32) -> Answer
+    requires pass { ArePassesOf world.now lane.old.pass }
+    requires timer { timer < length world.now.timers.about.timers }
+    ensures pass { ArePassesOf world.now lane.new.pass }
+    ensures keeps { KeepPasses lane.old.pass lane.new.pass }
+    ensures rest { (lane.new.label ≡ lane.old.label) × (lane.new.answers ≡ lane.old.answers) × (lane.new.wants_memory ≡ lane.old.wants_memory) }
+    ensures call { CallsPeek world.now (lane_of lane.old) (lane_of lane.new) result timer }
+{
+    let seen = world.timers.peek(&mut lane.pass.timers, timer);
+    Answer::Peek {
+        stamp: seen.stamp,
+        base: seen.base,
+        enqueued: seen.enqueued,
+        running: seen.running,
+        moving: seen.moving,
+    }
+}
+
+/// A write of the clock.
+pub(crate) fn write<R: Wait>(
+    rt: &R,
+    world: &World,
+    lane: &mut Lane,
+    write: Write,
+) -> Result<Answer, AllocError>
+    requires pass { ArePassesOf world.now lane.old.pass }
+    ensures pass { ArePassesOf world.now lane.new.pass }
+    ensures keeps { KeepPasses lane.old.pass lane.new.pass }
+    ensures rest { (lane.new.label ≡ lane.old.label) × (lane.new.answers ≡ lane.old.answers) × (lane.new.wants_memory ≡ lane.old.wants_memory) }
+    ensures call { IfOk result (λ a. CallsWrite world.now (lane_of lane.old) (lane_of lane.new) a write) }
+{
+    match world.clock.write(rt, &mut lane.pass.clock, write) {
+        Ok(after) => {
+            let line = ClockLine {
+                label: lane.label,
+                write,
+                mono: after.mono,
+                real: after.real,
+                boot: after.boot,
+                changes: after.changes,
+            };
+            lane.notes.note_write(after.stamp, line)?;
+            Ok(Answer::Clock { stamp: after.stamp })
+        }
+        Err(ClockFault::ClockRange { would_be }) => Ok(Answer::Range { would_be }),
+        Err(ClockFault::ClockSpent) => Ok(Answer::ClockSpent),
+    }
+}
+
+/// Notes an entry of a timer that the lane's call made.
+fn note(
+    lane: &mut Lane,
+    timer: u32,
+    number: u64,
+    event: Event,
+    reply: Reply,
+) -> Result<(), AllocError>
+    ensures rest { (lane.new.label ≡ lane.old.label) × (lane.new.answers ≡ lane.old.answers) × (lane.new.wants_memory ≡ lane.old.wants_memory) × (lane.new.pass ≡ lane.old.pass) }
+    ensures notes { OnOk result (lane.new.notes ≡ with_receipts lane.old.notes lane.old.label (entry_receipt timer number event reply ∷ [])) }
+{
+    let receipt = Receipt {
+        timer,
+        number,
+        event,
+        reply: Noted::Entry(reply),
+    };
+    note_receipts(&mut lane.notes, lane.label, &[receipt])
+}

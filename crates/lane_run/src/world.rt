@@ -1,0 +1,196 @@
+//! What a script's calls are made on: its timers, its objects and the clock, with the first passes.
+ghost use Rattle.std.specs.Prelude.{◌≡◌, ◌≤◌, ◌<◌, IfOk, OnOk, map};
+ghost use Rattle.script_text.specs.Scripts.{IsInRange};
+ghost use Rattle.run_history.specs.Courses.{clocks_of};
+ghost use Rattle.lane_run.specs.Rounds.{TakesInPass};
+ghost use Rattle.lane_run.specs.Worlds.{AnswerFor, AreFirst, AreLast, ArePassesOf, IsWorldOf, SplitsPass, callback_of, decl_of};
+
+use clock_cell::{ClockPass, SharedClock};
+use counted_row::RowPass;
+use hr_timers::{Pass, Timers};
+use ktime::ClockId;
+use script_text::{Callback, Declaration, Kind, Script};
+use std::alloc::{AllocError, Global};
+use std::marker::Model;
+use std::sync::Wait;
+use timer_objects::{Decl, ObjectCell, Objects};
+
+/// The timers, objects and clock of a script, with the callbacks of its timers. Lanes share it.
+#[derive(Drop)]
+pub struct World {
+    pub(crate) timers: Timers,
+    pub(crate) objects: Objects,
+    pub(crate) clock: SharedClock,
+    pub(crate) callbacks: Vec<timer_objects::Callback>,
+}
+
+/// A pass of each kind. It can't be dropped.
+pub struct WorldPass {
+    pub timers: Pass,
+    pub objects: RowPass<ObjectCell>,
+    pub clock: ClockPass,
+}
+
+impl Model for World {
+    ghost use Rattle.lane_run.specs.Worlds.{IsWhole, WorldOf};
+
+    ghost Value = { WorldOf };
+
+    ghost view = { λ w. record { timers = w.timers; objects = w.objects; clock = w.clock; callbacks = w.callbacks.items } };
+
+    ghost invariant = { λ w. IsWhole (record { timers = w.timers; objects = w.objects; clock = w.clock; callbacks = w.callbacks.items }) };
+}
+
+impl World {
+    /// The world of a script before its first call, and its first passes.
+    pub fn make(alloc: Global, script: &Script) -> Result<(World, WorldPass), AllocError>
+        requires range { IsInRange script.now }
+        ensures world { IfOk result (λ r. IsWorldOf script.now r.0) }
+        ensures pass { IfOk result (λ r. ArePassesOf r.0 r.1) }
+        ensures first { IfOk result (λ r. AreFirst r.0 r.1) }
+        ensures last { IfOk result (λ r. AreLast r.1) }
+    {
+        let declared = script.timers.as_slice();
+        let clocks = clocks_of(alloc, declared)?;
+        let decls = decls_of(alloc, declared)?;
+        let callbacks = callbacks_of(alloc, declared)?;
+        let (clock, clock_pass) = SharedClock::make(alloc)?;
+        let (objects, objects_pass) = match Objects::make(alloc, &decls, script.limit) {
+            Ok(made) => made,
+            Err(fault) => {
+                clock.close(clock_pass);
+                return Err(fault);
+            }
+        };
+        match Timers::make(alloc, script.bases, &clocks, script.limit) {
+            Ok((timers, pass)) => {
+                let world = World {
+                    timers,
+                    objects,
+                    clock,
+                    callbacks,
+                };
+                let passes = WorldPass {
+                    timers: pass,
+                    objects: objects_pass,
+                    clock: clock_pass,
+                };
+                Ok((world, passes))
+            }
+            Err(fault) => {
+                clock.close(clock_pass);
+                objects.close(objects_pass);
+                Err(fault)
+            }
+        }
+    }
+
+    /// Ends a world with its last passes.
+    pub fn close(self, pass: WorldPass)
+        requires pass { ArePassesOf self pass }
+        requires last { AreLast pass }
+    {
+        let World {
+            timers,
+            objects,
+            clock,
+            callbacks: _,
+        } = self;
+        let WorldPass {
+            timers: timers_pass,
+            objects: objects_pass,
+            clock: clock_pass,
+        } = pass;
+        timers.close(timers_pass);
+        objects.close(objects_pass);
+        clock.close(clock_pass);
+    }
+
+    /// One more pass of each kind, which has seen as much.
+    pub(crate) fn split(&self, main: &mut WorldPass) -> WorldPass
+        requires pass { ArePassesOf self.now main.old }
+        ensures pass { ArePassesOf self.now main.new × ArePassesOf self.now result }
+        ensures splits { SplitsPass main.old main.new result }
+    {
+        WorldPass {
+            timers: self.timers.split(&mut main.timers),
+            objects: self.objects.split(&mut main.objects),
+            clock: self.clock.split(&mut main.clock),
+        }
+    }
+
+    /// The first passes take in those that were split off them, and have then seen all that either had seen.
+    pub(crate) fn take_in<R: Wait>(&self, rt: &R, main: &mut WorldPass, other: WorldPass)
+        requires pass { ArePassesOf self.now main.old × ArePassesOf self.now other }
+        requires answers { AnswerFor main.old other }
+        ensures pass { ArePassesOf self.now main.new }
+        ensures takes { TakesInPass main.old other main.new }
+    {
+        let WorldPass {
+            timers,
+            objects,
+            clock,
+        } = other;
+        self.timers.retire(&mut main.timers, timers);
+        self.objects.join(&mut main.objects, objects);
+        self.clock.take_in(rt, &mut main.clock, clock);
+    }
+}
+
+/// The clocks that timers are declared on.
+fn clocks_of(alloc: Global, timers: &[Declaration]) -> Result<Vec<ClockId>, AllocError>
+    ensures { IfOk result (λ v. v.items ≡ map (λ d. d.clock) timers.now) }
+{
+    timers.iter().map(|timer| timer.clock).collect(alloc)
+}
+
+/// What stands over each timer.
+fn decls_of(alloc: Global, timers: &[Declaration]) -> Result<Vec<Decl>, AllocError>
+    ensures { IfOk result (λ v. v.items ≡ map decl_of timers.now) }
+{
+    timers.iter().map(|timer| decl_of(*timer)).collect(alloc)
+}
+
+/// What stands over a declared timer. One by itself has base 0 here, which is not used.
+fn decl_of(timer: Declaration) -> Decl
+    ensures { result ≡ decl_of timer }
+{
+    let (kind, base) = match timer.kind {
+        Kind::Raw { .. } => (timer_objects::Kind::Raw, 0),
+        Kind::Posix { base } => (timer_objects::Kind::Posix, base),
+        Kind::Fd { base } => (timer_objects::Kind::Fd, base),
+    };
+    Decl {
+        kind,
+        clock: timer.clock,
+        base,
+    }
+}
+
+/// The callback of each timer. That of an object's timer is not run.
+fn callbacks_of(
+    alloc: Global,
+    timers: &[Declaration],
+) -> Result<Vec<timer_objects::Callback>, AllocError>
+    ensures { IfOk result (λ v. v.items ≡ map (λ d. callback_of d.kind) timers.now) }
+{
+    timers
+        .iter()
+        .map(|timer| callback_of(timer.kind))
+        .collect(alloc)
+}
+
+/// The callback that a timer is declared with.
+fn callback_of(kind: Kind) -> timer_objects::Callback
+    ensures { result ≡ callback_of kind }
+{
+    match kind {
+        Kind::Raw { callback } => match callback {
+            Callback::Once => timer_objects::Callback::Once,
+            Callback::Every { interval } => timer_objects::Callback::Every(interval),
+            Callback::Cancels => timer_objects::Callback::Cancels,
+            Callback::Starts { ns, base } => timer_objects::Callback::Starts(ns, base),
+        },
+        Kind::Posix { .. } | Kind::Fd { .. } => timer_objects::Callback::Once,
+    }
+}
