@@ -3,9 +3,10 @@ use Rattle.std.specs.Prelude.{◌≡◌, ◌⊎◌, ℕ, List}
 use Rattle.script_text.specs.declared.refusal.Refused.{Refused}
 use Rattle.script_text.specs.declared.script.Script.{Script}
 use Rattle.record_text.specs.declared.record.RunRecord.{RunRecord}
-use Rattle.script_text.specs.Fits.{Fits}
+use Rattle.run_history.specs.Fits.{Fits}
 use Rattle.script_text.specs.Refusals.{IsRefused, refusal_text}
 use Rattle.script_text.specs.Scripts.{Reads}
+use Rattle.record_text.specs.Numbers.{HasMachineNumbers}
 use Rattle.record_text.specs.Text.{text_of}
 use Rattle.hrt_app.specs.declared.engine.Answer.{Answer}
 use Rattle.hrt_app.specs.declared.engine.Answer.TheVariants.{Record, Refusal}
@@ -14,12 +15,14 @@ use Rattle.hrt_app.specs.declared.engine.Answer.TheVariants.{Record, Refusal}
 unfoldable pub IsScript : List ℕ → Type 0
 IsScript bytes = (s : Script) × Reads bytes s
 
--- the text is that of a record that fits the script that these bytes read as
+-- The text is that of a record that fits the script that these bytes read as. Each number of the record is one that a program can hold, so by
+-- `text_determines_the_record` no other record that fits the script has this text.
 pub record IsRecordText (bytes text : List ℕ) : Type 0 where
   pub script : Script
   pub reads : Reads bytes script
   pub run : RunRecord
   pub fits : Fits script run
+  pub numbers : HasMachineNumbers run
   pub spelled : text ≡ text_of run
 
 -- the text is the line that tells why these bytes are refused, which are no script

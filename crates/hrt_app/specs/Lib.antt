@@ -1,11 +1,3 @@
-pub mod Objects
-pub mod Progress
-pub mod ObjectTurns
-pub mod Renewals
-pub mod ObjectLooks
-pub mod Callbacks
-pub mod Turns
-pub mod Runs
 pub mod Streams
 pub mod Transfer
 pub mod Status

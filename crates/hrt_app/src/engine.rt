@@ -1,12 +1,15 @@
 //! From the bytes of a script to the text that answers them.
 ghost use Rattle.std.specs.Prelude.{IfOk};
+ghost use Rattle.script_text.specs.Scripts.{IsInRange};
+ghost use Rattle.run_history.specs.Fits.{Fits};
 ghost use Rattle.hrt_app.specs.Engine.{Answers};
 
-use crate::gate::Gate;
-use crate::runner::run;
-use record_text::text;
-use script_text::{ParseError, parse};
+use lane_run::{Gate, World, run};
+use record_text::{RunRecord, text};
+use script_text::{ParseError, Script, parse};
 use std::alloc::{AllocError, Global};
+use std::sync::Wait;
+use std::thread::Threads;
 
 /// The text that answers a script.
 #[derive(Drop)]
@@ -18,7 +21,12 @@ pub enum Answer {
 }
 
 /// Reads the bytes as a script, runs it, and makes the text of its record; or refuses them.
-pub fn answer_to<G: Gate>(alloc: Global, gate: &G, bytes: &[u8]) -> Result<Answer, AllocError>
+pub fn answer_to<R: Threads + Wait + Sync, G: Gate>(
+    rt: &R,
+    alloc: Global,
+    gate: &G,
+    bytes: &[u8],
+) -> Result<Answer, AllocError>
     ensures { IfOk result (λ a. Answers bytes.now a) }
 {
     let script = match parse(alloc, bytes) {
@@ -29,7 +37,23 @@ pub fn answer_to<G: Gate>(alloc: Global, gate: &G, bytes: &[u8]) -> Result<Answe
         }
         Err(ParseError::OutOfMemory) => return Err(AllocError),
     };
-    let record = run(alloc, &script, gate)?;
+    let record = record_of(rt, alloc, gate, &script)?;
     let bytes = text(alloc, &record)?;
     Ok(Answer::Record(bytes))
+}
+
+/// Makes the world of a script, runs the script in it, and gives the record of the run.
+fn record_of<R: Threads + Wait + Sync, G: Gate>(
+    rt: &R,
+    alloc: Global,
+    gate: &G,
+    script: &Script,
+) -> Result<RunRecord, AllocError>
+    requires { IsInRange script.now }
+    ensures { IfOk result (λ r. Fits script.now r) }
+{
+    let (world, pass) = World::make(alloc, script)?;
+    let (record, world, pass) = run(rt, alloc, world, pass, script, gate)?;
+    world.close(pass);
+    Ok(record)
 }

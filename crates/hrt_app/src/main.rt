@@ -2,17 +2,9 @@
 #![tactic(auto)]
 
 mod adapters;
-mod callbacks;
-mod calls;
 mod command;
 mod engine;
-mod gate;
 mod memory;
-mod object_calls;
-mod objects;
-mod renewals;
-mod run;
-mod runner;
 mod status;
 mod stream;
 #[cfg(test)]
@@ -21,7 +13,7 @@ mod top;
 mod transfer;
 
 use adapters::{ReaderSource, WriterSink};
-use gate::OpenGate;
+use lane_run::OpenGate;
 use std::env;
 use std::process::ExitCode;
 

@@ -1,10 +1,12 @@
 //! Whole runs over streams in memory: a record from a source of single bytes, and the points of the gate that a run passes.
-use crate::gate::{Gate, OpenGate, Point};
+mod lanes;
+
 use crate::memory::{BytesSink, BytesSource};
 use crate::status::Status;
 use crate::top::{on_bytes, top};
+use lane_run::{Gate, OpenGate, Point};
 use std::alloc::{AllocError, Global};
-use std::cell::RefCell;
+use std::sync::Mutex;
 use std::test::Fail;
 
 fn run_words(alloc: Global) -> Result<Vec<String>, AllocError> {
@@ -54,12 +56,12 @@ fn a_timer_that_expires_runs_its_callback_once(rt: HostRuntime) -> Result<(), Fa
 // A gate that notes each point that is passed: its lane, its call and which it is.
 #[derive(Drop)]
 struct NotingGate {
-    passed: RefCell<Vec<(u32, u32, Point)>>,
+    passed: Mutex<Vec<(u32, u32, Point)>>,
 }
 
 impl Gate for NotingGate {
     fn at(&self, lane: u32, call: u32, point: Point) {
-        if let Ok(mut passed) = self.passed.try_borrow_mut() {
+        if let Some(mut passed) = self.passed.try_lock() {
             // A point for which there is no memory is missed in the test.
             let _ = passed.push((lane, call, point));
         }
@@ -83,7 +85,7 @@ const TWO_CALLBACKS: &[u8] = b"hrt 1\n\
 #[test]
 fn each_call_passes_its_points_once_and_in_order(rt: HostRuntime) -> Result<(), Fail> {
     let gate = NotingGate {
-        passed: RefCell::new(Vec::new(rt.alloc())),
+        passed: Mutex::new(Vec::new(rt.alloc())),
     };
     let words = run_words(rt.alloc())?;
     let (status, _) = on_bytes(&rt, &words, TWO_CALLBACKS, &gate);

@@ -9,18 +9,20 @@ ghost use Rattle.hrt_app.specs.Top.{IsAskedFor, HasRecorded, HasRefused, HasStop
 
 use crate::command::{Asked, asks};
 use crate::engine::{Answer, answer_to};
-use crate::gate::Gate;
 use crate::memory::{CleanSink, CleanSource};
 use crate::status::Status;
 use crate::stream::{Failed, Sink, Source};
 use crate::transfer::{ReadFault, read_all, write_all};
+use lane_run::Gate;
 use std::alloc::Global;
+use std::sync::Wait;
+use std::thread::Threads;
 
 /// Does what the words ask for, the program's name being the first: reads a script from the source, runs it, and
 /// writes its record or its refusal to the sink. The text is made whole before the first write.
 #[tactic(auto, using(crate::proofs::Outcomes::recorded, crate::proofs::Outcomes::may_run_out))]
-pub fn top<S: Source, K: Sink, G: Gate>(
-    rt: &impl AllocGlobal,
+pub fn top<R: Threads + Wait + Sync + AllocGlobal, S: Source, K: Sink, G: Gate>(
+    rt: &R,
     words: &[String],
     source: &mut S,
     sink: &mut K,
@@ -49,7 +51,7 @@ pub fn top<S: Source, K: Sink, G: Gate>(
         Err(ReadFault::Failed) => return Status::ReadFault,
         Err(ReadFault::OutOfMemory) => return Status::OutOfMemory,
     };
-    match answer_to(rt.alloc(), gate, &bytes) {
+    match answer_to(rt, rt.alloc(), gate, &bytes) {
         Ok(Answer::Record(text)) => match write_all(sink, &text) {
             Ok(()) => Status::Ok,
             Err(Failed) => Status::WriteFault,
@@ -64,8 +66,8 @@ pub fn top<S: Source, K: Sink, G: Gate>(
 
 /// The program over bytes in memory, with a source and a sink that never fail: the outcome, and the sink.
 #[tactic(auto, using(crate::proofs::Outcomes::refused_given))]
-pub fn on_bytes<G: Gate>(
-    rt: &impl AllocGlobal,
+pub fn on_bytes<R: Threads + Wait + Sync + AllocGlobal, G: Gate>(
+    rt: &R,
     words: &[String],
     bytes: &[u8],
     gate: &G,
@@ -86,8 +88,8 @@ pub fn on_bytes<G: Gate>(
 #[cfg(test)]
 mod tests {
     use super::*;
-    use crate::gate::OpenGate;
     use crate::memory::{BytesSink, BytesSource};
+    use lane_run::OpenGate;
     use std::alloc::AllocError;
     use std::test::Fail;
 
@@ -105,8 +107,8 @@ mod tests {
         Ok(all)
     }
 
-    fn outcome(
-        rt: &impl AllocGlobal,
+    fn outcome<R: Threads + Wait + Sync + AllocGlobal>(
+        rt: &R,
         words: &[&str],
         source: &mut BytesSource<'_>,
         sink: &mut BytesSink<'_>,

@@ -5,7 +5,6 @@ use Rattle.script_text.specs.declared.refusal.Refused.{Refused}
 use Rattle.script_text.specs.declared.script.Script.{Script}
 use Rattle.script_text.specs.Refusals.{Gives, IsReason}
 use Rattle.hrt_app.specs.Engine.{IsScript}
-use Rattle.hrt_app.proofs.Form.{runnable}
 use Rattle.hrt_app.proofs.engine.answer_to.Goals as goal
 
 unequal : (r : Refused) (s : Script) → Gives (Err (errors.Refused r)) (Ok s) → ⊥
@@ -20,15 +19,12 @@ returns-in-Err-Refused g c = record {
   spelled = ap (λ v. v.items) c.into_bytes.ensures.value ∙ c.in_ok-line-in-Err-Refused.ensures;
 }
 
-pub run-requires : goal.run-requires
-run-requires g c = runnable c.args.bytes.now c.in-Ok.script c.in-Ok.ensures.script
-
 pub returns : goal.returns
 returns g c = record {
   script = c.in-Ok.script;
   reads = c.in-Ok.ensures.script;
   run = c.in_ok-record.record;
-  fits =
-      c.in_ok-record.ensures;
+  fits = c.in_ok-record.ensures;
+  numbers = c.in_ok-bytes.ensures.numbers;
   spelled = c.in_ok-bytes.ensures.text;
 }

@@ -1,0 +1,220 @@
+//! Runs of two lanes, whose order a gate forces: what calls that meet answer, and that lanes run beside each other.
+use super::run_words;
+use crate::status::Status;
+use crate::top::on_bytes;
+use lane_run::{Gate, Point};
+use std::sync::Wait;
+use std::sync::atomic::{AtomicBool, AtomicUsize, Ordering};
+use std::test::Fail;
+use std::thread::Threads;
+
+/// How often a lane looks whether it may go on.
+const TURNS: u32 = 50_000_000;
+
+/// A lane at a point of one of its calls.
+type Place = (u32, u32, Point);
+
+/// A gate that lets lanes go on in one order of places: a lane at a point is held until all before the last place of this point
+/// in the order were passed, and passes its places on the way. A point that isn't in the order is free. Once a lane has waited
+/// too long, no lane is held any more.
+#[derive(Drop)]
+struct Ordered<'a> {
+    order: &'a [Place],
+    passed: AtomicUsize,
+    given_up: AtomicBool,
+}
+
+impl<'a> Ordered<'a> {
+    fn new(order: &'a [Place]) -> Self {
+        Ordered {
+            order,
+            passed: AtomicUsize::new(0),
+            given_up: AtomicBool::new(false),
+        }
+    }
+
+    /// Waits until so many places were passed.
+    fn wait(&self, places: usize) {
+        for _ in 0..TURNS {
+            if self.passed.load(Ordering::SeqCst) >= places || self.given_up.load(Ordering::SeqCst) {
+                return;
+            }
+        }
+        self.given_up.store(true, Ordering::SeqCst);
+    }
+
+    /// Whether all places were passed, in their order.
+    fn is_kept(&self) -> bool {
+        self.passed.load(Ordering::SeqCst) == self.order.len()
+            && !self.given_up.load(Ordering::SeqCst)
+    }
+}
+
+impl Gate for Ordered<'_> {
+    fn at(&self, lane: u32, call: u32, point: Point) {
+        for (place, at) in self.order.iter().enumerate() {
+            if *at == (lane, call, point) {
+                self.wait(place);
+                self.passed.fetch_max(place.saturating_add(1), Ordering::SeqCst);
+            }
+        }
+    }
+}
+
+/// Whether a script, run by this order, gives this record, and the order was kept.
+fn gives<R: Threads + Wait + Sync + AllocGlobal>(
+    rt: &R,
+    script: &[u8],
+    order: &[Place],
+    record: &[u8],
+) -> Result<bool, Fail> {
+    let gate = Ordered::new(order);
+    let words = run_words(rt.alloc())?;
+    let (status, sink) = on_bytes(rt, &words, script, &gate);
+    Ok(status == Status::Ok && gate.is_kept() && sink.kept.bytes() == Some(record))
+}
+
+/// Lane 0 starts a timer. Then it cancels it, while lane 1 runs what is due.
+const CANCEL_AND_EXPIRE: &[u8] = b"hrt 1\n\
+    bases 1\n\
+    lanes 2\n\
+    limit 100\n\
+    raw 0 monotonic once\n\
+    round\n\
+    0 start 0 rel 0 0\n\
+    round\n\
+    0 cancel 0\n\
+    1 expire 0 4\n";
+
+const CANCELLED: &[u8] = b"record 1\n\
+    timer 0 1 0 0 start rel 0 0 0 0 monotonic 0 0\n\
+    timer 0 2 0 1 cancel 1\n\
+    call 0 0 started 1 0 0\n\
+    call 0 1 cancelled 1\n\
+    call 1 0 done 0 0\n\
+    end\n";
+
+#[test]
+fn a_cancel_before_the_expiry_cancels_the_timer(rt: HostRuntime) -> Result<(), Fail> {
+    let order = [(0, 1, Point::After), (1, 0, Point::Call)];
+    assert!(rt; gives(&rt, CANCEL_AND_EXPIRE, &order, CANCELLED)?);
+    Ok(())
+}
+
+const RUNNING: &[u8] = b"record 1\n\
+    timer 0 1 0 0 start rel 0 0 0 0 monotonic 0 0\n\
+    timer 0 2 1 0 claim 0 0 1\n\
+    timer 0 3 1 0 finish stop 1 none\n\
+    call 0 0 started 1 0 0\n\
+    call 0 1 running 1 2\n\
+    call 1 0 done 1 0 0\n\
+    end\n";
+
+#[test]
+fn a_cancel_beside_the_callback_is_told_that_it_is_running(rt: HostRuntime) -> Result<(), Fail> {
+    // The callback has begun before the cancel, and is held until the cancel was answered.
+    let order = [
+        (1, 0, Point::Callback),
+        (0, 1, Point::Call),
+        (0, 1, Point::After),
+        (1, 0, Point::Callback),
+    ];
+    assert!(rt; gives(&rt, CANCEL_AND_EXPIRE, &order, RUNNING)?);
+    Ok(())
+}
+
+const IDLE: &[u8] = b"record 1\n\
+    timer 0 1 0 0 start rel 0 0 0 0 monotonic 0 0\n\
+    timer 0 2 1 0 claim 0 0 1\n\
+    timer 0 3 1 0 finish stop 1 none\n\
+    call 0 0 started 1 0 0\n\
+    call 0 1 idle 3\n\
+    call 1 0 done 1 0 0\n\
+    end\n";
+
+#[test]
+fn a_cancel_after_the_expiry_finds_the_timer_idle(rt: HostRuntime) -> Result<(), Fail> {
+    let order = [(1, 0, Point::After), (0, 1, Point::Call)];
+    assert!(rt; gives(&rt, CANCEL_AND_EXPIRE, &order, IDLE)?);
+    Ok(())
+}
+
+/// Lane 0 starts a timer on each base. Then each lane runs what is due on a base of its own.
+const TWO_BASES: &[u8] = b"hrt 1\n\
+    bases 2\n\
+    lanes 2\n\
+    limit 100\n\
+    raw 0 monotonic once\n\
+    raw 1 monotonic once\n\
+    round\n\
+    0 start 0 rel 0 0\n\
+    0 start 1 rel 0 1\n\
+    round\n\
+    0 expire 0 4\n\
+    1 expire 1 4\n";
+
+const TWO_BASES_RECORD: &[u8] = b"record 1\n\
+    timer 0 1 0 0 start rel 0 0 0 0 monotonic 0 0\n\
+    timer 0 2 0 2 claim 0 0 1\n\
+    timer 0 3 0 2 finish stop 1 none\n\
+    timer 1 1 0 1 out 1 0\n\
+    timer 1 2 0 1 start rel 0 0 1 1 monotonic 0 0\n\
+    timer 1 3 1 0 claim 1 0 2\n\
+    timer 1 4 1 0 finish stop 2 none\n\
+    call 0 0 started 1 0 0\n\
+    call 0 1 started 2 1 0\n\
+    call 0 2 done 1 0 0\n\
+    call 1 0 done 1 0 1\n\
+    end\n";
+
+#[test]
+fn callbacks_on_two_bases_run_beside_each_other(rt: HostRuntime) -> Result<(), Fail> {
+    // Each callback is held until the other one has begun.
+    let order = [
+        (0, 2, Point::Callback),
+        (1, 0, Point::Callback),
+        (0, 2, Point::Callback),
+    ];
+    assert!(rt; gives(&rt, TWO_BASES, &order, TWO_BASES_RECORD)?);
+    Ok(())
+}
+
+/// Lane 0 sets a POSIX timer. Then it sets it anew, while lane 1 runs its function.
+const SET_AND_EXPIRE: &[u8] = b"hrt 1\n\
+    bases 1\n\
+    lanes 2\n\
+    limit 100\n\
+    posix 0 monotonic 0\n\
+    round\n\
+    0 settime 0 1 0 100 0 0\n\
+    0 advance 100\n\
+    round\n\
+    0 settime 0 1 0 500 0 0\n\
+    1 expire 0 4\n";
+
+const SET_AND_EXPIRE_RECORD: &[u8] = b"record 1\n\
+    clock 1 0 1 advance 100 100 100 100 0\n\
+    timer 0 1 0 0 start abs 100 0 0 0 monotonic 100 0\n\
+    timer 0 2 1 0 claim 0 1 1\n\
+    timer 0 3 1 0 finish stop 1 none\n\
+    timer 0 4 0 2 start abs 500 1 0 0 monotonic 500 0\n\
+    object 0 1 0 0 settime 1 100 0 0 1 old 0 0\n\
+    object 0 2 1 0 trigger 1 1 counted\n\
+    object 0 3 0 2 settime 1 500 0 1 4 old 0 0\n\
+    call 0 0 old 0 0\n\
+    call 0 1 clock 1\n\
+    call 0 2 old 0 0\n\
+    call 1 0 done 1 1 0\n\
+    end\n";
+
+#[test]
+fn a_settime_waits_for_the_function_of_its_timer(rt: HostRuntime) -> Result<(), Fail> {
+    // The function has begun before the settime, and is held until that is about to be called.
+    let order = [
+        (1, 0, Point::Callback),
+        (0, 2, Point::Call),
+        (1, 0, Point::Callback),
+    ];
+    assert!(rt; gives(&rt, SET_AND_EXPIRE, &order, SET_AND_EXPIRE_RECORD)?);
+    Ok(())
+}
