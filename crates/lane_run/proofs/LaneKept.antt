@@ -3,7 +3,6 @@ use Rattle.std.proofs.Common.{◌≡◌, ◌<◌, ◌^◌, ℕ, suc, ◌+◌, So
 use Rattle.std.specs.List.{slice_get}
 use Rattle.std.proofs.lemmas.List.{append_assoc, append-nil}
 use Rattle.std.proofs.lemmas.Option.{slice_get_within}
-use Rattle.clock_cell.specs.Views.{writes}
 use Rattle.record_text.specs.declared.record.Answer.{Answer}
 use Rattle.record_text.specs.declared.record.Label.{Label}
 use Rattle.script_text.specs.Actions.{wrote}
@@ -13,7 +12,7 @@ use Rattle.script_text.specs.Scripts.{IsInRange}
 use Rattle.script_text.specs.declared.script.Call.TheVariants as calls
 use Rattle.script_text.specs.declared.script.Call.{Call}
 use Rattle.script_text.specs.declared.script.Script.{Script}
-use Rattle.timer_objects.specs.Known.{row_of, seen_of}
+use Rattle.timer_objects.specs.Known.{row_of}
 use Rattle.run_history.specs.Courses.{Course}
 use Rattle.run_history.specs.Fits.{FitsCall, FitsLane, Seen}
 use Rattle.run_history.specs.Promises.{IsPromised, IsPromisedSoFar}
@@ -25,11 +24,10 @@ use Rattle.lane_run.specs.Kept.{AreNextCalls, Follows, IsNextCall, IsNoLess, Kee
 use Rattle.lane_run.specs.Rounds.{as_index, CalledAll, next_of}
 use Rattle.lane_run.specs.Worlds.{IsWhole, IsWorldOf, WorldOf}
 use Rattle.lane_run.specs.declared.world.WorldPass.{WorldPass}
-use Rattle.lane_run.proofs.Entering.{begins_trans}
 use Rattle.lane_run.proofs.Expired.{keeps_expire}
-use Rattle.lane_run.proofs.FiredOnce.{goes_before}
 use Rattle.lane_run.proofs.Parts.{falls_lower}
 use Rattle.lane_run.proofs.Quiet.{keeps_peek}
+use Rattle.lane_run.proofs.SeenMore.{follows_less, more_called}
 use Rattle.lane_run.proofs.TimerCalls.{keeps_cancel, keeps_start}
 use Rattle.lane_run.proofs.Writing.{keeps_write}
 
@@ -52,19 +50,7 @@ keeps_call (calls.Readable timer) next c on_object = on_object timer refl
 
 -- law: a run that goes on from what a lane has seen goes on from what it had seen before
 pub follows_earlier : (p q : WorldPass) (e : Ending) → SeesOn p q → Follows q e → Follows p e
-follows_earlier p q e sees follows = record {
-  few = follows.few;
-  timers = goes_before p.timers.known.seen q.timers.known.seen e sees.timers follows.timers;
-  clock = (
-    sees.clock.rest ++ follows.clock.0,
-    follows.clock.1 ∙ ap (λ ws. ws ++ follows.clock.0) sees.clock.whole ∙ append_assoc (writes p.clock.knows) sees.clock.rest follows.clock.0,
-  );
-  objects = λ i. record {
-    history = (follows.objects i).history;
-    goes_on = begins_trans (seen_of p.objects i) (seen_of q.objects i) (follows.objects i).history (sees.objects.each i) (follows.objects i).goes_on;
-    lines = (follows.objects i).lines;
-  };
-}
+follows_earlier p q e sees follows = follows_less p q e (more_called p q sees) follows
 
 -- law: a call that fits behind what its lane had seen fits behind less
 pub fits_behind : (w : Course) (c : Label) (call : Call) (a : Answer) (less before after : Seen) → IsNoLess less before → FitsCall w c call a before after
@@ -108,13 +94,13 @@ index_below : (n : ℕ) → n < 2 ^ 32 → as_index n ≡ n
 index_below n less = omega (arith, less)
 
 module _ (s : Script) (lane : ℕ) (bound : length (calls_of s lane) < 2 ^ 32) where
-  -- the number of a call that there is
-  this_index : (index : ℕ) (c : Call) (cs : List Call) (number : ℕ) → number ≡ as_index index → AreNextCalls s lane index (c ∷ cs) → number ≡ index
+  -- law: the number of a call that there is
+  pub this_index : (index : ℕ) (c : Call) (cs : List Call) (number : ℕ) → number ≡ as_index index → AreNextCalls s lane index (c ∷ cs) → number ≡ index
   this_index index c cs number is next =
       let within = slice_get_within (calls_of s lane) index next.0.0 next.0.1 in is ∙ index_below index (omega (arith, within, bound))
 
-  -- the number of the next one
-  next_index : (index number : ℕ) → number ≡ index → as_index (number + 1) ≡ as_index (index + 1)
+  -- law: the number of the next one
+  pub next_index : (index number : ℕ) → number ≡ index → as_index (number + 1) ≡ as_index (index + 1)
   next_index index number is = ap (λ n. as_index (n + 1)) is
 
   -- law: a lane keeps the calls that it makes in turn, where it keeps those on objects

@@ -24,3 +24,12 @@ pub mod Expired
 pub mod LaneKept
 pub mod ObjectSeen
 pub mod ObjectLooks
+pub mod SeenMore
+pub mod NotesJoined
+pub mod Tallies
+pub mod Chains
+pub mod CallingLanes
+pub mod LaneRound
+pub mod LanesTaken
+pub mod RoundsLeft
+pub mod LeftByRounds
