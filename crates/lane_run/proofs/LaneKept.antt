@@ -1,12 +1,12 @@
 -- A lane's calls in turn: what it keeps of them, and its promise of all.
-use Rattle.std.proofs.Common.{◌≡◌, ◌<◌, ◌^◌, ℕ, suc, ◌+◌, Some, List, [], ◌∷◌, ◌++◌, length, length-append, map, arith, refl, sym, ap, ◌∙◌, subst}
+use Rattle.std.proofs.Common.{◌≡◌, ◌<◌, ◌^◌, ℕ, suc, ◌+◌, Some, List, [], ◌∷◌, ◌++◌, length, length-append, map, arith, sym, ap, ◌∙◌, subst}
 use Rattle.std.specs.List.{slice_get}
 use Rattle.std.proofs.lemmas.List.{append_assoc, append-nil}
 use Rattle.std.proofs.lemmas.Option.{slice_get_within}
 use Rattle.record_text.specs.declared.record.Answer.{Answer}
 use Rattle.record_text.specs.declared.record.Label.{Label}
 use Rattle.script_text.specs.Actions.{wrote}
-use Rattle.script_text.specs.Fits.{object_called, object_steps_on}
+use Rattle.script_text.specs.Fits.{object_steps_on}
 use Rattle.script_text.specs.Order.{CallInRound, calls_of}
 use Rattle.script_text.specs.Scripts.{IsInRange}
 use Rattle.script_text.specs.declared.script.Call.TheVariants as calls
@@ -25,28 +25,31 @@ use Rattle.lane_run.specs.Rounds.{as_index, CalledAll, next_of}
 use Rattle.lane_run.specs.Worlds.{IsWhole, IsWorldOf, WorldOf}
 use Rattle.lane_run.specs.declared.world.WorldPass.{WorldPass}
 use Rattle.lane_run.proofs.Expired.{keeps_expire}
+use Rattle.lane_run.proofs.ObjectLooks.{keeps_overrun, keeps_readable}
 use Rattle.lane_run.proofs.Parts.{falls_lower}
 use Rattle.lane_run.proofs.Quiet.{keeps_peek}
+use Rattle.lane_run.proofs.RearmedCalls.{keeps_accept, keeps_gettime, keeps_read}
 use Rattle.lane_run.proofs.SeenMore.{follows_less, more_called}
+use Rattle.lane_run.proofs.Settimes.{keeps_settime}
 use Rattle.lane_run.proofs.TimerCalls.{keeps_cancel, keeps_start}
 use Rattle.lane_run.proofs.Writing.{keeps_write}
 
 -- ---- one call
 
--- law: a lane keeps each call, where it keeps those on objects
+-- law: a lane keeps each call
 pub keeps_call : {s : Script} {x : WorldOf} {l m : LaneOf} {a : Answer} (call : Call) → IsNextCall s x l call → Called x l call a m
-    → ((i : ℕ) → object_called call ≡ Some i → KeepsCall s l call a m) → KeepsCall s l call a m
-keeps_call (calls.Start timer mode ns base) next c on_object = keeps_start next c
-keeps_call (calls.Cancel timer) next c on_object = keeps_cancel next c
-keeps_call (calls.Peek timer) next c on_object = keeps_peek next c
-keeps_call (calls.Expire base budget) next c on_object = keeps_expire next c
-keeps_call (calls.Clock write) next c on_object = keeps_write next c
-keeps_call (calls.Settime timer flags value interval) next c on_object = on_object timer refl
-keeps_call (calls.Gettime timer) next c on_object = on_object timer refl
-keeps_call (calls.Accept timer) next c on_object = on_object timer refl
-keeps_call (calls.Overrun timer) next c on_object = on_object timer refl
-keeps_call (calls.Read timer len) next c on_object = on_object timer refl
-keeps_call (calls.Readable timer) next c on_object = on_object timer refl
+    → KeepsCall s l call a m
+keeps_call (calls.Start timer mode ns base) next c = keeps_start next c
+keeps_call (calls.Cancel timer) next c = keeps_cancel next c
+keeps_call (calls.Peek timer) next c = keeps_peek next c
+keeps_call (calls.Expire base budget) next c = keeps_expire next c
+keeps_call (calls.Clock write) next c = keeps_write next c
+keeps_call (calls.Settime timer flags value interval) next c = keeps_settime next c
+keeps_call (calls.Gettime timer) next c = keeps_gettime next c
+keeps_call (calls.Accept timer) next c = keeps_accept next c
+keeps_call (calls.Overrun timer) next c = keeps_overrun next c
+keeps_call (calls.Read timer len) next c = keeps_read next c
+keeps_call (calls.Readable timer) next c = keeps_readable next c
 
 -- law: a run that goes on from what a lane has seen goes on from what it had seen before
 pub follows_earlier : (p q : WorldPass) (e : Ending) → SeesOn p q → Follows q e → Follows p e
@@ -103,15 +106,14 @@ module _ (s : Script) (lane : ℕ) (bound : length (calls_of s lane) < 2 ^ 32) w
   pub next_index : (index number : ℕ) → number ≡ index → as_index (number + 1) ≡ as_index (index + 1)
   next_index index number is = ap (λ n. as_index (n + 1)) is
 
-  -- law: a lane keeps the calls that it makes in turn, where it keeps those on objects
+  -- law: a lane keeps the calls that it makes in turn
   pub keeps_calls : (x : WorldOf) → IsWorldOf s x → IsInRange s → IsWhole x
-      → ((l m : LaneOf) (call : Call) (a : Answer) (i : ℕ) → IsNextCall s x l call → Called x l call a m → object_called call ≡ Some i → KeepsCall s l call a m)
       → (l : LaneOf) (index : ℕ) (cs : List Call) (given : List Answer) (m : LaneOf) → l.label.lane ≡ lane → l.label.call ≡ as_index index
       → AreNextCalls s lane index cs → l.pass.objects.knows.opening ≡ (row_of x.objects).made → CalledAll x l cs given m → KeepsCalls s l cs given m
-  keeps_calls x world range whole on_object l index [] [] m is number next opening called = called
-  keeps_calls x world range whole on_object l index [] (a ∷ given) m is number next opening called = absurd called
-  keeps_calls x world range whole on_object l index (c ∷ cs) [] m is number next opening called = absurd called
-  keeps_calls x world range whole on_object l index (c ∷ cs) (a ∷ given) m is number next opening called =
+  keeps_calls x world range whole l index [] [] m is number next opening called = called
+  keeps_calls x world range whole l index [] (a ∷ given) m is number next opening called = absurd called
+  keeps_calls x world range whole l index (c ∷ cs) [] m is number next opening called = absurd called
+  keeps_calls x world range whole l index (c ∷ cs) (a ∷ given) m is number next opening called =
       let n = called.0 in
       let at = this_index index c cs l.label.call number next in
       let this : IsNextCall s x l c = record {
@@ -124,11 +126,11 @@ module _ (s : Script) (lane : ℕ) (bound : length (calls_of s lane) < 2 ^ 32) w
             (subst (λ j. slice_get (calls_of s lane) j ≡ Some next.0.0) (sym at) next.0.1);
         is = next.0.2;
       } in
-      let kept = keeps_call c this called.2 (λ i on. on_object l n c a i this called.2 on) in (
+      let kept = keeps_call c this called.2 in (
         n,
         called.1,
         kept,
-        keeps_calls x world range whole on_object (next_of n) (index + 1) cs given m (ap (λ (d : Label). d.lane) called.1 ∙ is)
+        keeps_calls x world range whole (next_of n) (index + 1) cs given m (ap (λ (d : Label). d.lane) called.1 ∙ is)
             (next_index index n.label.call (ap (λ (d : Label). d.call) called.1 ∙ at)) next.1 (kept.sees.opening ∙ opening) called.3,
       )
 

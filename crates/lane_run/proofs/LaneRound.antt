@@ -1,5 +1,5 @@
 -- What a lane leaves of one round: what it kept of its calls in it, behind what was kept of it so far.
-use Rattle.std.proofs.Common.{◌≡◌, ◌≤◌, ◌<◌, ℕ, ◌+◌, ◌^◌, suc, get_or, Some, List, [], ◌∷◌, ◌++◌, length, length-append, arith, refl, sym, ap, ◌∙◌, subst, ⊎_elim, inl, inr}
+use Rattle.std.proofs.Common.{◌≡◌, ◌≤◌, ◌<◌, ℕ, ◌+◌, ◌^◌, suc, get_or, List, [], ◌∷◌, ◌++◌, length, length-append, arith, refl, sym, ap, ◌∙◌, subst, ⊎_elim, inl, inr}
 use Rattle.std.specs.List.{AllByRecursion}
 use Rattle.std.proofs.lemmas.Bool.{cases_lt}
 use Rattle.std.proofs.lemmas.List.{append_assoc, append-nil, get_or_append_left, get_or_push}
@@ -9,14 +9,13 @@ use Rattle.record_text.specs.declared.record.Label.{Label}
 use Rattle.run_history.specs.Fits.{Seen}
 use Rattle.run_history.specs.Promises.{IsPromisedSoFar}
 use Rattle.run_history.specs.Runs.{CallLog}
-use Rattle.script_text.specs.Fits.{object_called}
 use Rattle.script_text.specs.Order.{CallInRound, calls_of}
 use Rattle.script_text.specs.Scripts.{IsInRange}
 use Rattle.script_text.specs.declared.script.Call.{Call}
 use Rattle.script_text.specs.declared.script.Round.{Round}
 use Rattle.script_text.specs.declared.script.Script.{Script}
-use Rattle.lane_run.specs.Called.{Called, lane_of, LaneOf}
-use Rattle.lane_run.specs.Kept.{AreNextCalls, Follows, IsNextCall, KeepsCall, KeepsCalls, log_of, logs_of, seen_by}
+use Rattle.lane_run.specs.Called.{lane_of, LaneOf}
+use Rattle.lane_run.specs.Kept.{AreNextCalls, Follows, KeepsCall, KeepsCalls, log_of, logs_of, seen_by}
 use Rattle.lane_run.specs.Left.{StandAt}
 use Rattle.lane_run.specs.Rounds.{as_index, BeginsRound, IsLaneOf, lane_calls, LeftOf, MakesLane, next_of}
 use Rattle.lane_run.specs.Worlds.{IsWhole, IsWorldOf, WorldOf}
@@ -228,9 +227,7 @@ pub record LeavesRound (s : Script) (p : WorldPass) (lane : ℕ) (d : LaneSoFar)
   pub chain : (x : ListOf) → Chain x (x.seen (seen_by p)) new (x.seen (seen_by m))
   pub promised : IsPromisedSoFar s lane (length (d.logs ++ new)) (d.logs ++ new) (Follows m) (seen_by m) rest (d.given ++ given)
 
-module _ (s : Script) (x : WorldOf) (world : IsWorldOf s x) (range : IsInRange s) (whole : IsWhole x)
-    (on_object : (l m : LaneOf) (call : Call) (a : Answer) (i : ℕ) → IsNextCall s x l call → Called x l call a m → object_called call ≡ Some i
-    → KeepsCall s l call a m) where
+module _ (s : Script) (x : WorldOf) (world : IsWorldOf s x) (range : IsInRange s) (whole : IsWhole x) where
   -- law: a lane that made its calls leaves this
   pub leaves_round : (past : List Seen) (p : WorldPass) (left : LeftOf) (round : ℕ) (r : Round) (rest : List CallInRound) (d : LaneSoFar) (old new : Lane)
       → IsKeptOf s past p old.label.lane d → d.rest ≡ in_round round (lane_calls old.label.lane r) ++ rest
@@ -249,7 +246,7 @@ module _ (s : Script) (x : WorldOf) (world : IsWorldOf s x) (range : IsInRange s
       let next : AreNextCalls s lane index cs =
       subst (λ n. AreNextCalls s lane n cs) (sym so_far.counted)
       (next_calls s lane round d.done cs rest (so_far.parts ∙ ap (λ qs. d.done ++ qs) left_calls)) in
-      let kept = keeps_calls s lane bound x world range whole on_object l index cs makes.calls.given m refl number next of.pass.objects.row.made
+      let kept = keeps_calls s lane bound x world range whole l index cs makes.calls.given m refl number next of.pass.objects.row.made
       makes.calls.calls in
       let many = as_many_calls s l cs makes.calls.given m kept in
       let logs = logs_of s l cs makes.calls.given m kept in

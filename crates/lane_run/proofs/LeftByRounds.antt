@@ -11,7 +11,6 @@ use Rattle.lane_notes.specs.declared.notes.LookNote.{LookNote}
 use Rattle.lane_notes.specs.declared.notes.ObjectNote.{ObjectNote}
 use Rattle.lane_notes.specs.declared.notes.SkipNote.{SkipNote}
 use Rattle.lane_notes.specs.declared.notes.WriteNote.{WriteNote}
-use Rattle.record_text.specs.declared.record.Answer.{Answer}
 use Rattle.record_text.specs.declared.record.Label.{Label}
 use Rattle.run_history.specs.Fits.{FitsLane, Seen, unseen}
 use Rattle.run_history.specs.Promises.{HasLog, HasLogs, IsPromisedSoFar}
@@ -19,17 +18,14 @@ use Rattle.run_history.specs.Rounds.{IsLedger, label_at, Spans}
 use Rattle.run_history.specs.Runs.{CallLog, course_of, Ending, Starts}
 use Rattle.run_history.proofs.Lists.{all_at, at_map}
 use Rattle.run_history.proofs.Promise.{promised_all}
-use Rattle.script_text.specs.Fits.{object_called}
 use Rattle.script_text.specs.Order.{CallInRound, calls_of, IsLabel, round_of}
 use Rattle.script_text.specs.Scripts.{all_calls, IsInRange}
-use Rattle.script_text.specs.declared.script.Call.{Call}
 use Rattle.script_text.specs.declared.script.Call.TheVariants as calls
 use Rattle.script_text.specs.declared.script.Script.{Script}
-use Rattle.lane_run.specs.Called.{Called, LaneOf}
-use Rattle.lane_run.specs.Kept.{Follows, IsLookNote, IsNextCall, IsSkipNote, KeepsCall, seen_by}
+use Rattle.lane_run.specs.Kept.{Follows, IsLookNote, IsSkipNote, seen_by}
 use Rattle.lane_run.specs.Left.{AreByRounds, AreLeft, IsObjectLeft, IsWriteLeft, own_notes, StandAt, TellLog}
 use Rattle.lane_run.specs.Rounds.{LeftOf, MakesRounds, none_left}
-use Rattle.lane_run.specs.Worlds.{AreFirst, ArePassesOf, IsWhole, IsWorldOf, WorldOf}
+use Rattle.lane_run.specs.Worlds.{AreFirst, IsWhole, IsWorldOf, WorldOf}
 use Rattle.lane_run.specs.declared.world.WorldPass.{WorldPass}
 use Rattle.lane_run.proofs.Chains.{chain_at, chain_next, clock_list, IsLink, lies_at, LiesIn, ListOf, moves_list, object_list, start_of, starts_rise}
 use Rattle.lane_run.proofs.LaneRound.{LaneSoFar, log_at, no_log}
@@ -207,12 +203,11 @@ module _ (s : Script) (past : List Seen) (q : WorldPass) (left : LeftOf) (of : �
 
 -- law: rounds in turn, from the first passes on, leave notes of calls that their lanes kept, and calls that stand by rounds
 pub left_by_rounds : (s : Script) (x : WorldOf) (p q : WorldPass) (left : LeftOf)
-    → ((l m : LaneOf) (call : Call) (a : Answer) (i : ℕ) → IsNextCall s x l call → Called x l call a m → object_called call ≡ Some i
-    → KeepsCall s l call a m) → IsWorldOf s x → IsInRange s → IsWhole x → AreFirst x p → ArePassesOf x p
+    → IsWorldOf s x → IsInRange s → IsWhole x → AreFirst x p
     → MakesRounds x s.rounds p (none_left s.lanes) q left
     → (logs : Label → CallLog) × (starts : Starts) × AreLeft s q left.notes logs × AreByRounds s q logs starts left.answers
-left_by_rounds s x p q left on_object world range whole first passes makes =
-    let all = rounds_left s x world range whole on_object s.rounds [] p (none_left s.lanes) (lane_first s) q left (left_first s x p first) (λ j. refl)
+left_by_rounds s x p q left world range whole first makes =
+    let all = rounds_left s x world range whole s.rounds [] p (none_left s.lanes) (lane_first s) q left (left_first s x p first) (λ j. refl)
     range.callers makes in (
       logs_in all.of,
       all_starts s all.past q left all.of all.all all.rest,

@@ -24,6 +24,15 @@ pub mod Expired
 pub mod LaneKept
 pub mod ObjectSeen
 pub mod ObjectLooks
+pub mod Armed
+pub mod ObjectEntered
+pub mod Sights
+pub mod Rearmed
+pub mod RearmedCalls
+pub mod Disarmed
+pub mod SettimeNoted
+pub mod SettimeParts
+pub mod Settimes
 pub mod SeenMore
 pub mod NotesJoined
 pub mod Tallies

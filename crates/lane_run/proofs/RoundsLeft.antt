@@ -1,5 +1,5 @@
 -- What all lanes leave of a round, and of rounds in turn, from the first passes on.
-use Rattle.std.proofs.Common.{◌≡◌, ◌≤◌, ◌<◌, ℕ, ◌+◌, suc, Some, get_or, replicate, List, [], ◌∷◌, ◌++◌, length, length-append, map, arith, refl, sym, ap, ◌∙◌, subst, ⊎_elim}
+use Rattle.std.proofs.Common.{◌≡◌, ◌≤◌, ◌<◌, ℕ, ◌+◌, suc, get_or, replicate, List, [], ◌∷◌, ◌++◌, length, length-append, map, arith, refl, sym, ap, ◌∙◌, subst, ⊎_elim}
 use Rattle.std.specs.List.{AllByRecursion}
 use Rattle.std.proofs.lemmas.Bool.{cases_Bool, cases_lt, eqb-false, ne_eqb}
 use Rattle.std.proofs.lemmas.List.{get_or-replicate, get_or_past, length-replicate}
@@ -10,15 +10,12 @@ use Rattle.pass_names.proofs.Counts.{total-map}
 use Rattle.record_text.specs.declared.record.Answer.{Answer}
 use Rattle.run_history.specs.Fits.{Seen, unseen}
 use Rattle.run_history.proofs.Promise.{promised_none}
-use Rattle.script_text.specs.Fits.{object_called}
 use Rattle.script_text.specs.Order.{CallInRound, calls_from, calls_of}
 use Rattle.script_text.specs.Scripts.{all_calls, IsInRange}
-use Rattle.script_text.specs.declared.script.Call.{Call}
 use Rattle.script_text.specs.declared.script.LaneCall.{LaneCall}
 use Rattle.script_text.specs.declared.script.Round.{Round}
 use Rattle.script_text.specs.declared.script.Script.{Script}
-use Rattle.lane_run.specs.Called.{Called, LaneOf}
-use Rattle.lane_run.specs.Kept.{Follows, IsNextCall, KeepsCall, seen_by}
+use Rattle.lane_run.specs.Kept.{Follows, seen_by}
 use Rattle.lane_run.specs.Rounds.{BeginsRound, calling_from, has_calls, HasSplit, IsLaneOf, lane_calls, LeftOf, MakesLane, MakesRound, MakesRounds, none_left, TakesInLanes}
 use Rattle.lane_run.specs.Worlds.{AreFirst, IsWhole, IsWorldOf, WorldOf}
 use Rattle.lane_run.specs.declared.lane.Lane.{Lane}
@@ -123,9 +120,7 @@ pub record AreAllLeft (s : Script) (left : LeftOf) (calls : ℕ) (q : WorldPass)
   pub rest : (j : ℕ) → (of j).rest ≡ []
   pub few : length now.notes.writes ≤ length left.notes.writes + calls
 
-module _ (s : Script) (x : WorldOf) (world : IsWorldOf s x) (range : IsInRange s) (whole : IsWhole x)
-    (on_object : (l m : LaneOf) (call : Call) (a : Answer) (i : ℕ) → IsNextCall s x l call → Called x l call a m → object_called call ≡ Some i
-    → KeepsCall s l call a m) where
+module _ (s : Script) (x : WorldOf) (world : IsWorldOf s x) (range : IsInRange s) (whole : IsWhole x) where
   -- each lane of the round leaves this
   each_leaves : (before : List Seen) (p : WorldPass) (left : LeftOf) (of : ℕ → LaneSoFar) (r : Round) (rest : ℕ → List CallInRound)
       → AreLeftSoFar s before p left of → ((j : ℕ) → (of j).rest ≡ in_round (length before) (lane_calls j r) ++ rest j) → (begun ended : List Lane)
@@ -140,7 +135,7 @@ module _ (s : Script) (x : WorldOf) (world : IsWorldOf s x) (range : IsInRange s
       let name = b.label.lane in
       let those = each_leaves before p left of r rest so_far calls begun ended (omega (arith, many)) begins.1 lanes.1
       (λ k d less. made (suc k) d (omega (arith, less))) in
-      let leaves = leaves_round s x world range whole on_object before p left (length before) r (rest name) (of name) b e (so_far.kept name) (calls name)
+      let leaves = leaves_round s x world range whole before p left (length before) r (rest name) (of name) b e (so_far.kept name) (calls name)
       (so_far.given name) begins.0 lanes.0 makes in (
         (
           record {

@@ -6,7 +6,9 @@ use Rattle.std.specs.Prelude.{ℕ, ◌≡◌, ◌≤◌, ◌<◌, ◌+◌, nat_e
 use Rattle.clock_cell.specs.Views.{reading_after, writes}
 use Rattle.clock_model.specs.Clocks.{last_stamp}
 use Rattle.counted_row.specs.declared.view.Entry.{Entry}
+use Rattle.lane_notes.specs.FdNotes.{fd_as_told}
 use Rattle.lane_notes.specs.Notes.{NotesOf, both_noted}
+use Rattle.lane_notes.specs.PosixNotes.{posix_as_told}
 use Rattle.lane_notes.specs.declared.notes.EntryNote.{EntryNote}
 use Rattle.lane_notes.specs.declared.notes.LookNote.{LookNote}
 use Rattle.lane_notes.specs.declared.notes.ObjectNote.{ObjectNote}
@@ -77,10 +79,10 @@ log_of p q notes trace = record {
 
 -- ---- the runs in which a lane may still end
 
--- an entry of an object as the record's line has it, by the readings that the line's stamps name
+-- an entry of an object as the record's line has it, by the readings that the line's stamps name; of a start that was refused the line may have no stamp
 abbrev pub ShowsObjectCall : List ClockLine → ObjectCall → ObjectReply → ObjectEntry → Type 0
-ShowsObjectCall clock (of_kind.Posix call) (replies.Posix reply) e = posix_entry clock e ≡ Some (record { call = call; reply = reply })
-ShowsObjectCall clock (of_kind.Fd call) (replies.Fd reply) e = fd_entry clock e ≡ Some (record { call = call; reply = reply })
+ShowsObjectCall clock (of_kind.Posix call) (replies.Posix reply) e = posix_entry clock e ≡ Some (record { call = posix_as_told call; reply = reply })
+ShowsObjectCall clock (of_kind.Fd call) (replies.Fd reply) e = fd_entry clock e ≡ Some (record { call = fd_as_told call; reply = reply })
 ShowsObjectCall clock call reply e = ⊥
 
 -- an object's lines, from a number of entry on, show these entries, and the run has their spans
