@@ -24,3 +24,14 @@ pub mod Expired
 pub mod LaneKept
 pub mod ObjectSeen
 pub mod ObjectLooks
+pub mod Numbered
+pub mod OwnLines
+pub mod LastSeen
+pub mod FiledNotes
+pub mod ClockLines
+pub mod ObjectHistories
+pub mod ObjectLines
+pub mod HungNotes
+pub mod HungLines
+pub mod Recorded
+pub mod Ended
