@@ -60,7 +60,6 @@ tell_none = record {
     writes_rise = tt;
     looks_rise = λ t. tt;
     objects_rise = λ i. tt;
-    skips_rise = λ i. (0, omega arith);
   };
 }
 

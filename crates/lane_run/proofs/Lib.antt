@@ -42,3 +42,14 @@ pub mod LaneRound
 pub mod LanesTaken
 pub mod RoundsLeft
 pub mod LeftByRounds
+pub mod Numbered
+pub mod OwnLines
+pub mod LastSeen
+pub mod FiledNotes
+pub mod ClockLines
+pub mod ObjectHistories
+pub mod ObjectLines
+pub mod HungNotes
+pub mod HungLines
+pub mod Recorded
+pub mod Ended

@@ -34,7 +34,7 @@ use Rattle.script_text.specs.Actions.{Action, also, looked, made, skipped, wrote
 use Rattle.script_text.specs.FdHistories.{fd_entry}
 use Rattle.script_text.specs.Histories.{ShowsReading}
 use Rattle.script_text.specs.Objects.{lines_of_object}
-use Rattle.script_text.specs.Order.{CallInRound, calls_of, NeverFall}
+use Rattle.script_text.specs.Order.{CallInRound, calls_of}
 use Rattle.script_text.specs.PosixHistories.{posix_entry}
 use Rattle.script_text.specs.Scripts.{IsInRange}
 use Rattle.script_text.specs.declared.script.Call.{Call}
@@ -143,7 +143,6 @@ pub record TellActions (added : NotesOf) (actions : List Action) : Type 0 where
   pub writes_rise : Rises 1 (map (λ n. n.0) (wrote actions))
   pub looks_rise : (t : ℕ) → Rises 1 (map (λ n. n.0) (looked t actions))
   pub objects_rise : (i : ℕ) → Rises 1 (map (λ n. n.0) (made i actions))
-  pub skips_rise : (i : ℕ) → (last : ℕ) × NeverFall 0 (map (λ n. n.0) (skipped i actions)) last
 
 -- the places that a lane's passes have added to their own are those of the notes
 pub record AddsPlaces (p q : WorldPass) (added : NotesOf) : Type 0 where
