@@ -53,3 +53,4 @@ pub mod HungNotes
 pub mod HungLines
 pub mod Recorded
 pub mod Ended
+pub mod RunFits
