@@ -7,12 +7,7 @@ use Rattle.timer_setting.specs.declared.arming.Wanted.{Wanted}
 use Rattle.timer_setting.specs.declared.phase.Phase.{Phase}
 use Rattle.timer_setting.specs.declared.phase.Phase.TheVariants as phases
 use Rattle.timer_setting.specs.Phases.{IsOutcomeOf, rearmed}
-
--- the outcome of a start without the stamp of a refusal, as a line tells it
-abbrev pub arm_told : Arm → Arm
-arm_told arms.NotAsked = arms.NotAsked
-arm_told (arms.Armed generation) = arms.Armed generation
-arm_told (arms.Unarmed stamp) = arms.Unarmed 0
+use Rattle.lane_notes.specs.Arms.{arm_told}
 
 asked : (n : ℕ) → arms.Unarmed n ≡ arms.NotAsked → ⊥
 asked n e = absurd (cc)

@@ -17,18 +17,12 @@ use Rattle.timer_fd.specs.Steps.{FdAllows, answers_canceled, canceled, fd_answer
 use Rattle.record_text.specs.declared.record.ClockLine.{ClockLine}
 use Rattle.record_text.specs.declared.record.ObjectEntry.{ObjectEntry}
 use Rattle.script_text.specs.FdHistories.{fd_entry}
-use Rattle.lane_notes.specs.FdNotes.{fd_noted}
+use Rattle.lane_notes.specs.Arms.{arm_told}
+use Rattle.lane_notes.specs.FdNotes.{fd_as_told, fd_noted}
 use Rattle.lane_notes.specs.Shown.{IsFdRead, IsNamedReading}
-use Rattle.lane_notes.proofs.ArmsAgain.{arm_told, outcome_told, rearmed_told}
+use Rattle.lane_notes.proofs.ArmsAgain.{outcome_told, rearmed_told}
 
--- the call as its line tells it
-abbrev pub fd_as_told : Call → Call
-fd_as_told (calls.Settime c) = calls.Settime c
-fd_as_told (calls.Trigger generation reading) = calls.Trigger generation reading
-fd_as_told (calls.Read reading arm) = calls.Read reading (arm_told arm)
-fd_as_told (calls.Gettime reading arm) = calls.Gettime reading (arm_told arm)
-
--- law: it has the same step and the same answer, and may be made where the call may
+-- law: a call as its line tells it has the same step and the same answer, and may be made where the call may
 pub fd_step-told : (t : Descriptor) (c : Call) → fd_step t (fd_as_told c) ≡ fd_step t c
 fd_step-told t (calls.Settime c) = refl
 fd_step-told t (calls.Trigger generation reading) = refl

@@ -29,11 +29,13 @@ use Rattle.record_text.specs.declared.record.ObjectEntry.{ObjectEntry}
 use Rattle.script_text.specs.Objects.{present}
 use Rattle.script_text.specs.PosixHistories.{posix_entry}
 use Rattle.script_text.specs.FdHistories.{fd_entry}
+use Rattle.lane_notes.specs.FdNotes.{fd_as_told}
 use Rattle.lane_notes.specs.Objects.{object_entry_noted}
+use Rattle.lane_notes.specs.PosixNotes.{posix_as_told}
 use Rattle.lane_notes.specs.Shown.{IsObjectRead}
-use Rattle.lane_notes.proofs.PosixAgain.{PosixAllows-told, posix_answer-told, posix_entry-noted, posix_step-told, posix_as_told}
+use Rattle.lane_notes.proofs.PosixAgain.{PosixAllows-told, posix_answer-told, posix_entry-noted, posix_step-told}
 use Rattle.lane_notes.proofs.InTurn.{All-take, AreNoted, AreNoted-take, leads_take, take-present}
-use Rattle.lane_notes.proofs.FdAgain.{FdAllows-told, fd_answer-told, fd_entry-noted, fd_step-told, fd_as_told}
+use Rattle.lane_notes.proofs.FdAgain.{FdAllows-told, fd_answer-told, fd_entry-noted, fd_step-told}
 
 -- these lines are the notes of these calls, in their order
 abbrev pub AreNotedAs : List (Entry SpannedCall ObjectReply) → List ObjectEntry → Type 0

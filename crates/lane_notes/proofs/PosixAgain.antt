@@ -16,15 +16,10 @@ use Rattle.posix_timer.specs.Steps.{PosixAllows, accept_wanted, kept_in, overrun
 use Rattle.record_text.specs.declared.record.ClockLine.{ClockLine}
 use Rattle.record_text.specs.declared.record.ObjectEntry.{ObjectEntry}
 use Rattle.script_text.specs.PosixHistories.{posix_entry}
-use Rattle.lane_notes.specs.PosixNotes.{posix_noted}
+use Rattle.lane_notes.specs.Arms.{arm_told}
+use Rattle.lane_notes.specs.PosixNotes.{posix_as_told, posix_noted}
 use Rattle.lane_notes.specs.Shown.{IsPosixRead, IsNamedReading}
-use Rattle.lane_notes.proofs.ArmsAgain.{arm_told, outcome_told, rearmed_told}
-
--- the call as its line tells it
-abbrev pub posix_as_told : Call → Call
-posix_as_told (calls.Settime c) = calls.Settime c
-posix_as_told (calls.Trigger generation reading) = calls.Trigger generation reading
-posix_as_told (calls.Accept reading arm) = calls.Accept reading (arm_told arm)
+use Rattle.lane_notes.proofs.ArmsAgain.{outcome_told, rearmed_told}
 
 kept_told : (periods : Option ℕ) (interval : ℕ) (arm : Arm) → kept_in periods interval (arm_told arm) ≡ kept_in periods interval arm
 kept_told periods interval arms.NotAsked = refl
@@ -32,7 +27,7 @@ kept_told periods interval (arms.Armed generation) = refl
 kept_told None interval (arms.Unarmed stamp) = refl
 kept_told (Some periods) interval (arms.Unarmed stamp) = refl
 
--- law: it has the same step and the same answer, and may be made where the call may
+-- law: a call as its line tells it has the same step and the same answer, and may be made where the call may
 pub posix_step-told : (t : PosixTimer) (c : Call) → posix_step t (posix_as_told c) ≡ posix_step t c
 posix_step-told t (calls.Settime c) = refl
 posix_step-told t (calls.Trigger generation reading) = refl

@@ -86,6 +86,23 @@ module _ {X : Type 0} (place : X → Place) (l n : ℕ) where
       ))
       rest
 
+  none_lower : (x : X) (xs : List X) → (place x).list ≡ l → (place x).number ≡ n → AllByRecursion (λ y. comes_before (place y) (place x) ≡ false) xs
+      → AllByRecursion (λ other. is_lower other (place x).label ≡ false) (labels_at place l n xs)
+  none_lower x [] lists numbers order = tt
+  none_lower x (y ∷ ys) lists numbers order =
+      labels_with y ys (AllByRecursion (λ other. is_lower other (place x).label ≡ false))
+      (λ is_list is_number. (labels_before (place x) (place y) (lists ∙ sym is_list) (numbers ∙ sym is_number) order.0, none_lower x ys lists numbers order.1))
+      (none_lower x ys lists numbers order.1)
+
+  -- law: no label is lower than one ahead of it; what a list of such labels has, a head at a time, these have
+  pub labels_never_fall : (P : List Label → Type 0) → P []
+      → ((c : Label) (cs : List Label) → AllByRecursion (λ other. is_lower other c ≡ false) cs → P cs → P (c ∷ cs))
+      → (xs : List X) → StandInOrder place xs → P (labels_at place l n xs)
+  labels_never_fall P none more [] order = none
+  labels_never_fall P none more (x ∷ xs) order =
+      let rest = labels_never_fall P none more xs order.1 in
+      labels_with x xs P (λ is_list is_number. more (place x).label (labels_at place l n xs) (none_lower x xs is_list is_number order.0) rest) rest
+
 -- law: the labels of the sorted notes at a number of a list stand in order, each once, where each label is noted once there
 pub AreSorted-labels_at : {X : Type 0} (place : X → Place) (l n : ℕ) (xs sorted : List X) → IsSortedOf place xs sorted → ((label : Label) → AtMostOne (is_of_call place l n label) xs) → AreSorted (labels_at place l n sorted)
 AreSorted-labels_at place l n xs sorted is once = labels_sorted place l n sorted is.order (λ label. AtMostOne-permuted (is_of_call place l n label) xs sorted is.same (once label))

@@ -22,7 +22,7 @@ use Rattle.lane_notes.specs.Sorted.{IsSortedOf, Place, place_of_entry, is_of_lis
 use Rattle.lane_notes.specs.Records.{look_of, noted_object_lines, record_from, skip_of, noted_timer_lines}
 use Rattle.lane_notes.proofs.Lists.{timer_line_shape, lines_of_object-none, lines_of_object-record_from, lines_of_timer-none, lines_of_timer-record_from, entry_note_shape, object_line_shape, noted_object_lines-entries, noted_object_lines-skips, object_note_shape, noted_timer_lines-entries, noted_timer_lines-looks}
 use Rattle.lane_notes.proofs.Standing.{AtMostOne, HasPlace, filter_stands_in, map_stands_in, stands_in_filter, stands_in_map}
-use Rattle.lane_notes.proofs.UnderLines.{AreSorted-labels_at, is_of_call}
+use Rattle.lane_notes.proofs.UnderLines.{AreSorted-labels_at, is_of_call, labels_at}
 
 -- notes of lists below a number are none of a list from there on
 none_past : {X : Type 0} (place : X → Place) (count l : ℕ) (xs : List X) → count ≤ l → AllByRecursion (λ x. (place x).list < count) xs → filter (is_of_list place l) xs ≡ []
@@ -64,13 +64,13 @@ looks_sorted t entries noted looks is once =
     let under = filter (is_of_number place_of_look (k + 1)) (filter (is_of_list place_of_look t) looks) in
     subst AreSorted (sym (ap (map (λ (l : Look). l.label)) (noted_timer_lines-looks t entries looks k line at) ∙ map-map look_of (λ l. l.label) under)) (AreSorted-labels_at place_of_look t (k + 1) noted looks is (once (k + 1))))
 
--- law: and under each line of an object
-pub skips_sorted : (i : ℕ) (entries : List ObjectNote) (noted skips : List SkipNote) → IsSortedOf place_of_skip noted skips → ((n : ℕ) (label : Label) → AtMostOne (is_of_call place_of_skip i n label) noted)
-    → AllByRecursion (λ line. AreSorted (map (λ l. l.label) line.skips)) (noted_object_lines i entries skips)
-skips_sorted i entries noted skips is once =
-    each (λ line. AreSorted (map (λ l. l.label) line.skips)) (noted_object_lines i entries skips) (λ k line at.
-    let under = filter (is_of_number place_of_skip (k + 1)) (filter (is_of_list place_of_skip i) skips) in
-    subst AreSorted (sym (ap (map (λ (l : Skip). l.label)) (noted_object_lines-skips i entries skips k line at) ∙ map-map skip_of (λ l. l.label) under)) (AreSorted-labels_at place_of_skip i (k + 1) noted skips is (once (k + 1))))
+-- law: the labels under a line of an object are those of the sorted notes at its number, of which none is lower than one ahead of it (`labels_never_fall`)
+pub skips_labels : (i : ℕ) (entries : List ObjectNote) (skips : List SkipNote) (k : ℕ) (line : ObjectLine)
+    → slice_get (noted_object_lines i entries skips) k ≡ Some line
+    → map (λ l. l.label) line.skips ≡ labels_at place_of_skip i (k + 1) skips
+skips_labels i entries skips k line at =
+    ap (map (λ (l : Skip). l.label)) (noted_object_lines-skips i entries skips k line at)
+    ∙ map-map skip_of (λ l. l.label) (filter (is_of_number place_of_skip (k + 1)) (filter (is_of_list place_of_skip i) skips))
 
 -- the notes at a number of a list
 at_number : {X : Type 0} (place : X → Place) (l n : ℕ) (xs : List X) (x : X) → HasPlace (filter (is_of_number place n) (filter (is_of_list place l) xs)) x → HasPlace xs x × ((place x).list ≡ l) × ((place x).number ≡ n)

@@ -16,6 +16,12 @@ arm_noted arms.NotAsked = armings.None
 arm_noted (arms.Armed generation) = armings.Generation generation
 arm_noted (arms.Unarmed stamp) = armings.Unarmed
 
+-- the outcome of a start as a line tells it, where no answer has the stamp of a refusal
+abbrev pub arm_told : Arm → Arm
+arm_told arms.NotAsked = arms.NotAsked
+arm_told (arms.Armed generation) = arms.Armed generation
+arm_told (arms.Unarmed stamp) = arms.Unarmed 0
+
 -- the entry of an expiry; none where it was refused
 abbrev pub trigger_noted : ℕ → ClockReading → TriggerAnswer → Option ObjectEntry
 trigger_noted generation reading triggers.Counted = Some (entries.Trigger generation reading.stamp true)

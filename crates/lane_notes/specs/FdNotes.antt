@@ -15,7 +15,7 @@ use Rattle.record_text.specs.declared.record.ReadReply.{ReadReply}
 use Rattle.record_text.specs.declared.record.ReadReply.TheVariants as reads
 use Rattle.record_text.specs.declared.record.ObjectEntry.{ObjectEntry}
 use Rattle.record_text.specs.declared.record.ObjectEntry.TheVariants as entries
-use Rattle.lane_notes.specs.Arms.{arm_noted, trigger_noted, trigger_skip}
+use Rattle.lane_notes.specs.Arms.{arm_noted, arm_told, trigger_noted, trigger_skip}
 
 -- what a settime was answered that made an entry
 abbrev pub fd_set_noted : SettimeAnswer → Option SettimeReply
@@ -46,3 +46,10 @@ fd_noted call reply = None
 abbrev pub fd_skip : Call → Reply → Option ℕ
 fd_skip (calls.Trigger generation reading) (replies.Trigger answer) = trigger_skip generation answer
 fd_skip call reply = None
+
+-- a call as its line tells it: of a refused start a read and a gettime have no stamp
+abbrev pub fd_as_told : Call → Call
+fd_as_told (calls.Settime c) = calls.Settime c
+fd_as_told (calls.Trigger generation reading) = calls.Trigger generation reading
+fd_as_told (calls.Read reading arm) = calls.Read reading (arm_told arm)
+fd_as_told (calls.Gettime reading arm) = calls.Gettime reading (arm_told arm)

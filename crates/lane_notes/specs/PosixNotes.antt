@@ -14,7 +14,7 @@ use Rattle.record_text.specs.declared.record.AcceptReply.{AcceptReply}
 use Rattle.record_text.specs.declared.record.AcceptReply.TheVariants as acceptances
 use Rattle.record_text.specs.declared.record.ObjectEntry.{ObjectEntry}
 use Rattle.record_text.specs.declared.record.ObjectEntry.TheVariants as entries
-use Rattle.lane_notes.specs.Arms.{arm_noted, trigger_noted, trigger_skip}
+use Rattle.lane_notes.specs.Arms.{arm_noted, arm_told, trigger_noted, trigger_skip}
 
 -- what a settime was answered that made an entry
 abbrev pub posix_set_noted : SettimeAnswer → Option SettimeReply
@@ -41,3 +41,9 @@ posix_noted call reply = None
 abbrev pub posix_skip : Call → Reply → Option ℕ
 posix_skip (calls.Trigger generation reading) (replies.Trigger answer) = trigger_skip generation answer
 posix_skip call reply = None
+
+-- a call as its line tells it: of a refused start an acceptance has no stamp
+abbrev pub posix_as_told : Call → Call
+posix_as_told (calls.Settime c) = calls.Settime c
+posix_as_told (calls.Trigger generation reading) = calls.Trigger generation reading
+posix_as_told (calls.Accept reading arm) = calls.Accept reading (arm_told arm)

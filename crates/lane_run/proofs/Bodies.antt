@@ -111,7 +111,6 @@ pub record ObjectBody (IsSo : List ClockLine → Type 0) (label : Label) (p q : 
   pub objects_rise : (i : ℕ) → RisesTo (length (seen_of p i) + 1) (map (λ n. n.0) (made i body)) (length (seen_of q i) + 1)
   pub objects_seen : AllByRecursion (IsNoteIn IsSo p q) (object_notes label log)
   pub skips : (i : ℕ) → skips_on i (skip_notes label log) ≡ skipped i body
-  pub skips_fall : (i : ℕ) → NeverFall (length (seen_of p i)) (map (λ n. n.0) (skipped i body)) (length (seen_of q i))
   pub skips_seen : AllByRecursion (λ n. (0 < n.number) × (n.number ≤ length (seen_of q n.object))) (skip_notes label log)
   pub steps : (i : ℕ) → NeverFall (length (seen_of p i)) (numbers_of_object i body) (length (seen_of q i))
   pub goes_on : GoesOn p.knows.pass.seen q.knows.pass.seen
@@ -147,7 +146,6 @@ objects_still IsSo label p q log log' body same logs none no_skip no_step =
           (omega (arith, long i));
       objects_seen = tt;
       skips = λ i. sym (no_skip i);
-      skips_fall = λ i. subst (λ ns. NeverFall (length (seen_of p i)) (map (λ n. n.0) ns) (length (seen_of q i))) (sym (no_skip i)) (omega (arith, long i));
       skips_seen = tt;
       steps = λ i. subst (λ ns. NeverFall (length (seen_of p i)) ns (length (seen_of q i))) (sym (no_step i)) (omega (arith, long i));
       goes_on = record { each = λ i. begins_same (seen_of p i) (seen_of q i) (ap (λ o. seen_of o i) same) };

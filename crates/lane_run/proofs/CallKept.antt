@@ -194,7 +194,8 @@ stand_from IsSo p q notes enters so = record {
 
 -- ---- the log
 
-inside_of : (low k high : ℕ) (notes : List Noted) → low ≤ k → Rises k (map (λ x. x.place) notes) → AllByRecursion (λ x. x.place < high) notes
+-- rising places below a number stand between it and where they rise from
+pub inside_of : (low k high : ℕ) (notes : List Noted) → low ≤ k → Rises k (map (λ x. x.place) notes) → AllByRecursion (λ x. x.place < high) notes
     → AllByRecursion (λ x. (low ≤ x.place) × (x.place < high)) notes
 inside_of low k high [] le rise below = tt
 inside_of low k high (x ∷ notes) le rise below =

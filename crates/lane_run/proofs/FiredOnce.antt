@@ -282,7 +282,6 @@ module _ (IsSo : List ClockLine → Type 0) (s : Script) (x : WorldOf) (is : IsW
               (b.objects.objects_rise i);
           objects_seen = b.objects.objects_seen;
           skips = λ i. b.objects.skips i ∙ skips_are i;
-          skips_fall = λ i. subst (λ ns. NeverFall (length (seen_of p i)) (map (λ n. n.0) ns) (length (seen_of p' i))) (skips_are i) (b.objects.skips_fall i);
           skips_seen = b.objects.skips_seen;
           steps = λ i. subst (λ ns. NeverFall (length (seen_of p i)) ns (length (seen_of p' i))) (numbers_are i) (b.objects.steps i);
           goes_on = b.objects.goes_on;

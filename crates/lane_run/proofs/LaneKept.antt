@@ -1,19 +1,18 @@
 -- A lane's calls in turn: what it keeps of them, and its promise of all.
-use Rattle.std.proofs.Common.{◌≡◌, ◌<◌, ◌^◌, ℕ, suc, ◌+◌, Some, List, [], ◌∷◌, ◌++◌, length, length-append, map, arith, refl, sym, ap, ◌∙◌, subst}
+use Rattle.std.proofs.Common.{◌≡◌, ◌<◌, ◌^◌, ℕ, suc, ◌+◌, Some, List, [], ◌∷◌, ◌++◌, length, length-append, map, arith, sym, ap, ◌∙◌, subst}
 use Rattle.std.specs.List.{slice_get}
 use Rattle.std.proofs.lemmas.List.{append_assoc, append-nil}
 use Rattle.std.proofs.lemmas.Option.{slice_get_within}
-use Rattle.clock_cell.specs.Views.{writes}
 use Rattle.record_text.specs.declared.record.Answer.{Answer}
 use Rattle.record_text.specs.declared.record.Label.{Label}
 use Rattle.script_text.specs.Actions.{wrote}
-use Rattle.script_text.specs.Fits.{object_called, object_steps_on}
+use Rattle.script_text.specs.Fits.{object_steps_on}
 use Rattle.script_text.specs.Order.{CallInRound, calls_of}
 use Rattle.script_text.specs.Scripts.{IsInRange}
 use Rattle.script_text.specs.declared.script.Call.TheVariants as calls
 use Rattle.script_text.specs.declared.script.Call.{Call}
 use Rattle.script_text.specs.declared.script.Script.{Script}
-use Rattle.timer_objects.specs.Known.{row_of, seen_of}
+use Rattle.timer_objects.specs.Known.{row_of}
 use Rattle.run_history.specs.Courses.{Course}
 use Rattle.run_history.specs.Fits.{FitsCall, FitsLane, Seen}
 use Rattle.run_history.specs.Promises.{IsPromised, IsPromisedSoFar}
@@ -25,46 +24,36 @@ use Rattle.lane_run.specs.Kept.{AreNextCalls, Follows, IsNextCall, IsNoLess, Kee
 use Rattle.lane_run.specs.Rounds.{as_index, CalledAll, next_of}
 use Rattle.lane_run.specs.Worlds.{IsWhole, IsWorldOf, WorldOf}
 use Rattle.lane_run.specs.declared.world.WorldPass.{WorldPass}
-use Rattle.lane_run.proofs.Entering.{begins_trans}
 use Rattle.lane_run.proofs.Expired.{keeps_expire}
-use Rattle.lane_run.proofs.FiredOnce.{goes_before}
+use Rattle.lane_run.proofs.ObjectLooks.{keeps_overrun, keeps_readable}
 use Rattle.lane_run.proofs.Parts.{falls_lower}
 use Rattle.lane_run.proofs.Quiet.{keeps_peek}
+use Rattle.lane_run.proofs.RearmedCalls.{keeps_accept, keeps_gettime, keeps_read}
+use Rattle.lane_run.proofs.SeenMore.{follows_less, more_called}
+use Rattle.lane_run.proofs.Settimes.{keeps_settime}
 use Rattle.lane_run.proofs.TimerCalls.{keeps_cancel, keeps_start}
 use Rattle.lane_run.proofs.Writing.{keeps_write}
 
 -- ---- one call
 
--- law: a lane keeps each call, where it keeps those on objects
+-- law: a lane keeps each call
 pub keeps_call : {s : Script} {x : WorldOf} {l m : LaneOf} {a : Answer} (call : Call) → IsNextCall s x l call → Called x l call a m
-    → ((i : ℕ) → object_called call ≡ Some i → KeepsCall s l call a m) → KeepsCall s l call a m
-keeps_call (calls.Start timer mode ns base) next c on_object = keeps_start next c
-keeps_call (calls.Cancel timer) next c on_object = keeps_cancel next c
-keeps_call (calls.Peek timer) next c on_object = keeps_peek next c
-keeps_call (calls.Expire base budget) next c on_object = keeps_expire next c
-keeps_call (calls.Clock write) next c on_object = keeps_write next c
-keeps_call (calls.Settime timer flags value interval) next c on_object = on_object timer refl
-keeps_call (calls.Gettime timer) next c on_object = on_object timer refl
-keeps_call (calls.Accept timer) next c on_object = on_object timer refl
-keeps_call (calls.Overrun timer) next c on_object = on_object timer refl
-keeps_call (calls.Read timer len) next c on_object = on_object timer refl
-keeps_call (calls.Readable timer) next c on_object = on_object timer refl
+    → KeepsCall s l call a m
+keeps_call (calls.Start timer mode ns base) next c = keeps_start next c
+keeps_call (calls.Cancel timer) next c = keeps_cancel next c
+keeps_call (calls.Peek timer) next c = keeps_peek next c
+keeps_call (calls.Expire base budget) next c = keeps_expire next c
+keeps_call (calls.Clock write) next c = keeps_write next c
+keeps_call (calls.Settime timer flags value interval) next c = keeps_settime next c
+keeps_call (calls.Gettime timer) next c = keeps_gettime next c
+keeps_call (calls.Accept timer) next c = keeps_accept next c
+keeps_call (calls.Overrun timer) next c = keeps_overrun next c
+keeps_call (calls.Read timer len) next c = keeps_read next c
+keeps_call (calls.Readable timer) next c = keeps_readable next c
 
 -- law: a run that goes on from what a lane has seen goes on from what it had seen before
 pub follows_earlier : (p q : WorldPass) (e : Ending) → SeesOn p q → Follows q e → Follows p e
-follows_earlier p q e sees follows = record {
-  few = follows.few;
-  timers = goes_before p.timers.known.seen q.timers.known.seen e sees.timers follows.timers;
-  clock = (
-    sees.clock.rest ++ follows.clock.0,
-    follows.clock.1 ∙ ap (λ ws. ws ++ follows.clock.0) sees.clock.whole ∙ append_assoc (writes p.clock.knows) sees.clock.rest follows.clock.0,
-  );
-  objects = λ i. record {
-    history = (follows.objects i).history;
-    goes_on = begins_trans (seen_of p.objects i) (seen_of q.objects i) (follows.objects i).history (sees.objects.each i) (follows.objects i).goes_on;
-    lines = (follows.objects i).lines;
-  };
-}
+follows_earlier p q e sees follows = follows_less p q e (more_called p q sees) follows
 
 -- law: a call that fits behind what its lane had seen fits behind less
 pub fits_behind : (w : Course) (c : Label) (call : Call) (a : Answer) (less before after : Seen) → IsNoLess less before → FitsCall w c call a before after
@@ -108,24 +97,23 @@ index_below : (n : ℕ) → n < 2 ^ 32 → as_index n ≡ n
 index_below n less = omega (arith, less)
 
 module _ (s : Script) (lane : ℕ) (bound : length (calls_of s lane) < 2 ^ 32) where
-  -- the number of a call that there is
-  this_index : (index : ℕ) (c : Call) (cs : List Call) (number : ℕ) → number ≡ as_index index → AreNextCalls s lane index (c ∷ cs) → number ≡ index
+  -- law: the number of a call that there is
+  pub this_index : (index : ℕ) (c : Call) (cs : List Call) (number : ℕ) → number ≡ as_index index → AreNextCalls s lane index (c ∷ cs) → number ≡ index
   this_index index c cs number is next =
       let within = slice_get_within (calls_of s lane) index next.0.0 next.0.1 in is ∙ index_below index (omega (arith, within, bound))
 
-  -- the number of the next one
-  next_index : (index number : ℕ) → number ≡ index → as_index (number + 1) ≡ as_index (index + 1)
+  -- law: the number of the next one
+  pub next_index : (index number : ℕ) → number ≡ index → as_index (number + 1) ≡ as_index (index + 1)
   next_index index number is = ap (λ n. as_index (n + 1)) is
 
-  -- law: a lane keeps the calls that it makes in turn, where it keeps those on objects
+  -- law: a lane keeps the calls that it makes in turn
   pub keeps_calls : (x : WorldOf) → IsWorldOf s x → IsInRange s → IsWhole x
-      → ((l m : LaneOf) (call : Call) (a : Answer) (i : ℕ) → IsNextCall s x l call → Called x l call a m → object_called call ≡ Some i → KeepsCall s l call a m)
       → (l : LaneOf) (index : ℕ) (cs : List Call) (given : List Answer) (m : LaneOf) → l.label.lane ≡ lane → l.label.call ≡ as_index index
       → AreNextCalls s lane index cs → l.pass.objects.knows.opening ≡ (row_of x.objects).made → CalledAll x l cs given m → KeepsCalls s l cs given m
-  keeps_calls x world range whole on_object l index [] [] m is number next opening called = called
-  keeps_calls x world range whole on_object l index [] (a ∷ given) m is number next opening called = absurd called
-  keeps_calls x world range whole on_object l index (c ∷ cs) [] m is number next opening called = absurd called
-  keeps_calls x world range whole on_object l index (c ∷ cs) (a ∷ given) m is number next opening called =
+  keeps_calls x world range whole l index [] [] m is number next opening called = called
+  keeps_calls x world range whole l index [] (a ∷ given) m is number next opening called = absurd called
+  keeps_calls x world range whole l index (c ∷ cs) [] m is number next opening called = absurd called
+  keeps_calls x world range whole l index (c ∷ cs) (a ∷ given) m is number next opening called =
       let n = called.0 in
       let at = this_index index c cs l.label.call number next in
       let this : IsNextCall s x l c = record {
@@ -138,11 +126,11 @@ module _ (s : Script) (lane : ℕ) (bound : length (calls_of s lane) < 2 ^ 32) w
             (subst (λ j. slice_get (calls_of s lane) j ≡ Some next.0.0) (sym at) next.0.1);
         is = next.0.2;
       } in
-      let kept = keeps_call c this called.2 (λ i on. on_object l n c a i this called.2 on) in (
+      let kept = keeps_call c this called.2 in (
         n,
         called.1,
         kept,
-        keeps_calls x world range whole on_object (next_of n) (index + 1) cs given m (ap (λ (d : Label). d.lane) called.1 ∙ is)
+        keeps_calls x world range whole (next_of n) (index + 1) cs given m (ap (λ (d : Label). d.lane) called.1 ∙ is)
             (next_index index n.label.call (ap (λ (d : Label). d.call) called.1 ∙ at)) next.1 (kept.sees.opening ∙ opening) called.3,
       )
 

@@ -1,7 +1,5 @@
 -- Looks at an object, as their lanes keep them: the overrun of a POSIX timer, and whether a descriptor is ready.
-use Rattle.std.proofs.Common.{◌≡◌, ◌≤◌, ℕ, Bool, true, false, nat_eq, if◌then◌else◌, Some, List, [], ◌∷◌, length, get_or, arith, refl, sym, ap, ◌∙◌, subst}
-use Rattle.std.proofs.lemmas.Bool.{eqb-true}
-use Rattle.std.proofs.lemmas.Option.{slice_get_within}
+use Rattle.std.proofs.Common.{◌≡◌, ℕ, Some, List, [], ◌∷◌, length, get_or, refl, sym, ap, ◌∙◌, subst}
 use Rattle.clock_cell.specs.Views.{writes}
 use Rattle.ktime.specs.declared.clock_id.ClockId.TheVariants as clocks
 use Rattle.counted_row.specs.Views.{StateAfter}
@@ -23,11 +21,10 @@ use Rattle.timer_objects.specs.declared.object.Object.{Object}
 use Rattle.timer_objects.proofs.Counting.{state_is}
 use Rattle.record_text.specs.declared.record.Answer.TheVariants as answers
 use Rattle.record_text.specs.declared.record.Answer.{Answer}
-use Rattle.script_text.specs.Fits.{object_called, object_stamp_in, object_steps_on, stamps_on}
+use Rattle.script_text.specs.Fits.{object_called, object_stamp_in}
 use Rattle.script_text.specs.Histories.{reading_at}
 use Rattle.script_text.specs.ObjectCalls.{base_of, DoesGettime}
 use Rattle.script_text.specs.Objects.{fd_after, kind_of, posix_after}
-use Rattle.script_text.specs.Order.{calls_of, IsLabel, NeverFall}
 use Rattle.script_text.specs.declared.script.Call.TheVariants as calls
 use Rattle.script_text.specs.declared.script.Call.{Call}
 use Rattle.script_text.specs.declared.script.Kind.TheVariants as kinds
@@ -36,17 +33,13 @@ use Rattle.script_text.specs.declared.script.Script.{Script}
 use Rattle.run_history.specs.Calls.{Does}
 use Rattle.run_history.specs.Runs.{course_of, Ending, IsJoined}
 use Rattle.run_history.specs.Truths.{IsObjectPoint, IsSeen}
-use Rattle.run_history.proofs.OthersMade.{plain, quiet_made}
-use Rattle.run_history.proofs.Promise.{object_point_from}
 use Rattle.lane_run.specs.Called.{Called, caller_of, CallsOverrun, gettime_told, LaneOf, with_done}
 use Rattle.lane_run.specs.Kept.{Follows, IsNextCall, KeepsCall}
 use Rattle.lane_run.specs.Worlds.{IsWorldOf, WorldOf}
-use Rattle.lane_run.proofs.Entering.{begins_length, begins_same}
 use Rattle.lane_run.proofs.FiredOnce.{declared_as, over_of}
-use Rattle.lane_run.proofs.CallKept.{leaves_begins, logged_from, no_notes-joins, reads_begins, with_done-joins}
+use Rattle.lane_run.proofs.CallKept.{leaves_begins, no_notes-joins, reads_begins, with_done-joins}
 use Rattle.lane_run.proofs.ObjectSeen.{fd_seen, posix_seen}
-use Rattle.lane_run.proofs.PartKept.{keeps_part, sees_part}
-use Rattle.lane_run.proofs.SmallParts.{part_seen}
+use Rattle.lane_run.proofs.Sights.{keeps_sight, LooksOnly, point_seen, same_timers, stamped}
 use Rattle.lane_run.proofs.Writing.{reading_of_seen}
 
 -- ---- what stands over a timer
@@ -68,6 +61,20 @@ posix_declared s i is = go (kind_of s i) is
 
 -- ---- the call
 
+-- it only looked
+looks_only : (l m : LaneOf) (i : ℕ) (object : Object) (stamp : ℕ) → LooksAtObject (caller_of l.pass [] []) (caller_of m.pass [] []) i object stamp
+    → Begins (writes l.pass.clock.knows) (writes m.pass.clock.knows) → m.pass.clock.knows.pass.mine ≡ l.pass.clock.knows.pass.mine → m.notes ≡ l.notes
+    → LooksOnly l m
+looks_only l m i object stamp looks clock clock_mine notes = record {
+  timers = same_timers l.pass.timers.known m.pass.timers.known looks.timers;
+  objects = looks.reads.pass.seen;
+  mine = looks.reads.pass.mine;
+  opening = looks.reads.opening;
+  clock = clock;
+  clock_mine = clock_mine;
+  notes = notes;
+}
+
 -- law: a lane keeps a call that looked at an object, where its answer holds of the object as it was seen
 pub keeps_look : {s : Script} {x : WorldOf} {l m : LaneOf} {call : Call} (next : IsNextCall s x l call) (a : Answer) (i : ℕ) (object : Object) (stamp : ℕ)
     → LooksAtObject (caller_of l.pass [] []) (caller_of m.pass [] []) i object stamp → Begins (writes l.pass.clock.knows) (writes m.pass.clock.knows)
@@ -76,37 +83,10 @@ pub keeps_look : {s : Script} {x : WorldOf} {l m : LaneOf} {call : Call} (next :
     → ((e : Ending) → Follows m.pass e → IsJoined s e → IsObjectPoint (course_of s e) l.label [] i stamp
     → IsSeen (course_of s e) (length m.pass.timers.known.seen) (length m.pass.timers.known.seen) l.label (length (writes m.pass.clock.knows)) [] call a)
     → KeepsCall s l call a m
-keeps_look {s = s} {l = l} {m = m} {call = call} next a i object stamp looks clock clock_mine notes on stamps does seen =
-    let p = l.pass in
-    let q = m.pass in
-    let last = length q.timers.known.seen in
-    let at = length (writes q.clock.knows) in
-    let t = plain at last last [] in
-    let part = part_seen (λ c. Unit) l.label p.timers.known p.objects q.timers.known q.objects
-    (begins_same p.timers.known.seen q.timers.known.seen (ap (λ k. k.seen) looks.timers)) (ap (λ k. k.mine) looks.timers) looks.reads.pass.seen
-    looks.reads.pass.mine looks.reads.opening in
-    let grows : (j : ℕ) → length (seen_of p.objects j) ≤ length (seen_of q.objects j) =
-    λ j. begins_length (seen_of p.objects j) (seen_of q.objects j) (looks.reads.pass.seen.each j) in
-    let steps : (j : ℕ) → NeverFall (length (seen_of p.objects j)) (object_steps_on j call a []) (length (seen_of q.objects j)) =
-    λ j. subst (λ ns. NeverFall (length (seen_of p.objects j)) ns (length (seen_of q.objects j)))
-    (sym (ap (λ o. stamps_on j o (object_stamp_in a)) on ∙ ap (λ ns. if nat_eq i j then ns else []) stamps))
-    (stamp_falls stamp (length (seen_of p.objects j)) (length (seen_of q.objects j)) (nat_eq i j)
-    (λ is. let here = eqb-true i j is in
-    let many : length (seen_of q.objects j) ≡ stamp = subst (λ k. length (seen_of q.objects k) ≡ stamp) here (sym looks.stamp) in
-    let le = grows j in
-    (omega (arith, le, many), omega (arith, many))) (grows j)) in
-    let logged = logged_from p q [] t call a (sees_part p q part clock) refl part.enters.made refl refl refl steps in
-    keeps_part next m a (λ c. Unit) [] [] [] t part (λ e goes. tt) clock clock_mine
-    (notes ∙ no_notes-joins l.notes ∙ sym (with_done-joins l.notes l.label [] [])) logged
-    (λ e follows joined has kept low.
-    let is : IsLabel s l.label = slice_get_within (calls_of s l.label.lane) l.label.call next.at next.there in
-    quiet_made kept does (seen e follows joined
-    (object_point_from joined is has i stamp [] [] refl (let le = grows i in omega (arith, le, looks.stamp)) (omega (arith, looks.stamp)) tt tt)))
-  where
-    stamp_falls : (number low high : ℕ) (b : Bool) → (b ≡ true → (low ≤ number) × (number ≤ high)) → low ≤ high
-        → NeverFall low (if b then number ∷ [] else []) high
-    stamp_falls number low high true bounds le = bounds refl
-    stamp_falls number low high false bounds le = le
+keeps_look {l = l} {m = m} {call = call} next a i object stamp looks clock clock_mine notes on stamps does seen =
+    let only = looks_only l m i object stamp looks clock clock_mine notes in
+    keeps_sight next a only (stamped only call a i stamp looks.stamp on stamps) does
+    (λ e follows joined has. seen e follows joined (point_seen next only _ refl i stamp looks.stamp e joined has))
 
 -- law: a lane keeps a look at an overrun
 pub keeps_overrun : {s : Script} {x : WorldOf} {l m : LaneOf} {a : Answer} {timer : ℕ} → IsNextCall s x l (calls.Overrun timer) → CallsOverrun x l m a timer

@@ -32,6 +32,10 @@ use Rattle.script_text.specs.declared.script.Callback.TheVariants as callbacks
 use Rattle.script_text.specs.declared.script.Declaration.{Declaration}
 use Rattle.script_text.specs.declared.script.Kind.TheVariants as kinds
 use Rattle.script_text.specs.declared.script.Script.{Script}
+use Rattle.lane_notes.specs.FdNotes.{fd_as_told}
+use Rattle.lane_notes.specs.PosixNotes.{posix_as_told}
+use Rattle.lane_notes.proofs.FdAgain.{fd_step-told}
+use Rattle.lane_notes.proofs.PosixAgain.{posix_step-told}
 use Rattle.run_history.specs.Runs.{Ending}
 use Rattle.lane_run.specs.Kept.{AreObjectLines, FollowsObject, ObjectMove, ShowsObjectCall}
 use Rattle.lane_run.specs.Worlds.{decl_as, decl_of, IsWorldOf, WorldOf}
@@ -42,9 +46,10 @@ take_none (x ∷ xs) = refl
 
 -- ---- POSIX timers
 
-posix_one : (clock : List ClockLine) (t : PosixTimer) (call : ObjectCall) (reply : ObjectReply) (entry : ObjectEntry) → ObjectAllows (objects.Posix t) call
+-- law: an entry of a POSIX timer that a line shows, with its answer, as the line tells it
+pub posix_one : (clock : List ClockLine) (t : PosixTimer) (call : ObjectCall) (reply : ObjectReply) (entry : ObjectEntry) → ObjectAllows (objects.Posix t) call
     → reply ≡ object_answer (objects.Posix t) call → ShowsObjectCall clock call reply entry
-    → (c : posix_call.Call) × (call ≡ of_kind.Posix c) × (posix_entry clock entry ≡ Some (record { call = c; reply = posix_answer t c }))
+    → (c : posix_call.Call) × (call ≡ of_kind.Posix c) × (posix_entry clock entry ≡ Some (record { call = posix_as_told c; reply = posix_answer t c }))
 posix_one clock t (of_kind.Posix c) reply entry allows is shows =
     (c, refl, subst (λ r. ShowsObjectCall clock (of_kind.Posix c) r entry) is shows)
 posix_one clock t (of_kind.Fd c) reply entry allows is shows = absurd allows
@@ -61,13 +66,15 @@ posix_leads clock spans k t last (e ∷ es) rest (line ∷ lines) cell leads are
     let later = map (posix_entry clock) (map (λ (y : ObjectLine). y.entry) lines) in
     posix_leads clock spans (k + 1) (posix_step t one.0) e.call.to es rest lines cell
     (subst (λ c. Leads cell_meaning (record { object = object_step (objects.Posix t) c; last = e.call.to }) es cell) one.1 leads.2) are.2
+    ∙ ap (λ u. objects.Posix (after_calls posix_table u (take (length es) (present later)))) (sym (posix_step-told t one.0))
     ∙ ap (λ o. objects.Posix (after_calls posix_table t (take (suc (length es)) (present (o ∷ later))))) (sym one.2)
 
 -- ---- descriptors
 
-fd_one : (clock : List ClockLine) (t : Descriptor) (call : ObjectCall) (reply : ObjectReply) (entry : ObjectEntry) → ObjectAllows (objects.Fd t) call
+-- law: an entry of a descriptor that a line shows, with its answer, as the line tells it
+pub fd_one : (clock : List ClockLine) (t : Descriptor) (call : ObjectCall) (reply : ObjectReply) (entry : ObjectEntry) → ObjectAllows (objects.Fd t) call
     → reply ≡ object_answer (objects.Fd t) call → ShowsObjectCall clock call reply entry
-    → (c : fd_call.Call) × (call ≡ of_kind.Fd c) × (fd_entry clock entry ≡ Some (record { call = c; reply = fd_answer t c }))
+    → (c : fd_call.Call) × (call ≡ of_kind.Fd c) × (fd_entry clock entry ≡ Some (record { call = fd_as_told c; reply = fd_answer t c }))
 fd_one clock t (of_kind.Fd c) reply entry allows is shows = (c, refl, subst (λ r. ShowsObjectCall clock (of_kind.Fd c) r entry) is shows)
 fd_one clock t (of_kind.Posix c) reply entry allows is shows = absurd allows
 
@@ -83,23 +90,27 @@ fd_leads clock spans k t last (e ∷ es) rest (line ∷ lines) cell leads are =
     let later = map (fd_entry clock) (map (λ (y : ObjectLine). y.entry) lines) in
     fd_leads clock spans (k + 1) (fd_step t one.0) e.call.to es rest lines cell
     (subst (λ c. Leads cell_meaning (record { object = object_step (objects.Fd t) c; last = e.call.to }) es cell) one.1 leads.2) are.2
+    ∙ ap (λ u. objects.Fd (after_calls fd_table u (take (length es) (present later)))) (sym (fd_step-told t one.0))
     ∙ ap (λ o. objects.Fd (after_calls fd_table t (take (suc (length es)) (present (o ∷ later))))) (sym one.2)
 
 -- ---- as a script declares them
 
-opened_at : (limit : ℕ) (ds : List Decl) (i : ℕ) (c : ObjectCell) (d : Decl) → get_elem? (map (opened_cell limit) ds) i ≡ some c
+-- law: an object that was just made is that of its declaration
+pub opened_at : (limit : ℕ) (ds : List Decl) (i : ℕ) (c : ObjectCell) (d : Decl) → get_elem? (map (opened_cell limit) ds) i ≡ some c
     → c ≡ opened_cell limit (get_or ds i d)
 opened_at limit [] i c d e = absurd (some-ne-none c (sym e))
 opened_at limit (y ∷ ys) zero c d e = some-injective c (opened_cell limit y) (sym e)
 opened_at limit (y ∷ ys) (suc i) c d e = opened_at limit ys i c d e
 
-posix_decl : (ds : List Declaration) (i base : ℕ) (d : Decl) → get_or (map (λ d. d.kind) ds) i (kinds.Raw callbacks.Once) ≡ kinds.Posix base
+-- law: how a POSIX timer is declared
+pub posix_decl : (ds : List Declaration) (i base : ℕ) (d : Decl) → get_or (map (λ d. d.kind) ds) i (kinds.Raw callbacks.Once) ≡ kinds.Posix base
     → get_or (map decl_of ds) i d ≡ record { kind = over.Posix; clock = get_or (map (λ d. d.clock) ds) i clocks.Monotonic; base = base }
 posix_decl [] i base d is = absurd (cc)
 posix_decl (x ∷ ds) zero base d is = ap (λ k. decl_as k x.clock) is
 posix_decl (x ∷ ds) (suc i) base d is = posix_decl ds i base d is
 
-fd_decl : (ds : List Declaration) (i base : ℕ) (d : Decl) → get_or (map (λ d. d.kind) ds) i (kinds.Raw callbacks.Once) ≡ kinds.Fd base
+-- law: how a descriptor is declared
+pub fd_decl : (ds : List Declaration) (i base : ℕ) (d : Decl) → get_or (map (λ d. d.kind) ds) i (kinds.Raw callbacks.Once) ≡ kinds.Fd base
     → get_or (map decl_of ds) i d ≡ record { kind = over.Fd; clock = get_or (map (λ d. d.clock) ds) i clocks.Monotonic; base = base }
 fd_decl [] i base d is = absurd (cc)
 fd_decl (x ∷ ds) zero base d is = ap (λ k. decl_as k x.clock) is

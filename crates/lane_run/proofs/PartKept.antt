@@ -11,7 +11,7 @@ use Rattle.timer_objects.specs.declared.log.ObjectReceipt.{ObjectReceipt}
 use Rattle.record_text.specs.declared.record.Answer.{Answer}
 use Rattle.record_text.specs.declared.record.ClockLine.{ClockLine}
 use Rattle.record_text.specs.declared.record.Label.{Label}
-use Rattle.script_text.specs.Actions.{Action, looked, made, skipped}
+use Rattle.script_text.specs.Actions.{Action, looked, made}
 use Rattle.script_text.specs.declared.script.Call.{Call}
 use Rattle.script_text.specs.declared.script.Script.{Script}
 use Rattle.lane_notes.specs.Entries.{entry_notes, look_notes}
@@ -32,7 +32,7 @@ use Rattle.lane_run.specs.Kept.{Follows, IsLookNote, IsNextCall, IsObjectNote, I
 use Rattle.lane_run.specs.Worlds.{WorldOf}
 use Rattle.lane_run.specs.declared.world.WorldPass.{WorldPass}
 use Rattle.lane_run.proofs.CallKept.{no_places, notes_of, notes_of-bear, places_added, promised_from, stand_from, with_done-joins}
-use Rattle.lane_run.proofs.Parts.{falls_lower, IsNoteIn, IsPart, object_place, rises_lower, rises_only}
+use Rattle.lane_run.proofs.Parts.{IsNoteIn, IsPart, object_place, rises_lower, rises_only}
 
 -- ---- notes
 
@@ -104,10 +104,6 @@ keeps_part {l = l} next m a IsSo log object_log notes t part so clock clock_mine
             (part.looks_rise i));
         objects_rise = λ i. rises_lower 1 (length (seen_of p.objects i) + 1) (map (λ k. k.0) (made i actions)) (omega arith)
             (rises_only (length (seen_of p.objects i) + 1) (map (λ k. k.0) (made i actions)) (length (seen_of q.objects i) + 1) (part.objects_rise i));
-        skips_rise = λ i. (
-          length (seen_of q.objects i),
-          falls_lower 0 (length (seen_of p.objects i)) (map (λ k. k.0) (skipped i actions)) (length (seen_of q.objects i)) (omega arith) (part.skips_fall i),
-        );
       };
       few = omega arith;
       places = record {

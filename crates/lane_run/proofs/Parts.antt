@@ -207,7 +207,6 @@ pub record IsPart (IsSo : List ClockLine → Type 0) (label : Label) (v : KnownO
   pub objects_rise : (i : ℕ) → RisesTo (length (seen_of p i) + 1) (map (λ n. n.0) (made i actions)) (length (seen_of q i) + 1)
   pub objects_seen : AllByRecursion (IsNoteIn IsSo p q) (object_notes label object_log)
   pub skips : (i : ℕ) → skips_on i (skip_notes label object_log) ≡ skipped i actions
-  pub skips_fall : (i : ℕ) → NeverFall (length (seen_of p i)) (map (λ n. n.0) (skipped i actions)) (length (seen_of q i))
   pub skips_seen : AllByRecursion (λ n. (0 < n.number) × (n.number ≤ length (seen_of q n.object))) (skip_notes label object_log)
   pub steps : (i : ℕ) → NeverFall (length (seen_of p i)) (numbers_of_object i actions) (length (seen_of q i))
   pub goes_on : GoesOn p.knows.pass.seen q.knows.pass.seen
@@ -229,7 +228,6 @@ part_none IsSo label v p w seen mine = record {
   objects_rise = λ i. omega arith;
   objects_seen = tt;
   skips = λ i. refl;
-  skips_fall = λ i. omega arith;
   skips_seen = tt;
   steps = λ i. omega arith;
   goes_on = record { each = λ i. begins_same (seen_of p i) (seen_of p i) refl };
@@ -281,10 +279,6 @@ part-append IsSo label u o v p w q ds es xs ys log more all object_log object_mo
           ∙ skips_on-append i (skip_notes label object_log) (skip_notes label object_more)
           ∙ ap (λ ns. ns ++ skips_on i (skip_notes label object_more)) (one.skips i) ∙ ap (λ ns. skipped i ds ++ ns) (two.skips i)
           ∙ sym (skipped-append i ds es);
-      skips_fall = λ i. subst (λ ns. NeverFall (length (seen_of o i)) ns (length (seen_of q i)))
-          (sym (ap (map (λ n. n.0)) (skipped-append i ds es) ∙ map-append (λ n. n.0) (skipped i ds) (skipped i es)))
-          (falls_on (length (seen_of o i)) (map (λ n. n.0) (skipped i ds)) (length (seen_of p i)) (map (λ n. n.0) (skipped i es)) (length (seen_of q i))
-          (one.skips_fall i) (two.skips_fall i));
       skips_seen = subst (λ ns. AllByRecursion (λ n. (0 < n.number) × (n.number ≤ length (seen_of q n.object))) ns)
           (sym (skip_notes-append label object_log object_more))
           (each_both (λ n. (0 < n.number) × (n.number ≤ length (seen_of p n.object))) (λ n. (0 < n.number) × (n.number ≤ length (seen_of q n.object)))

@@ -134,7 +134,6 @@ keeps_entered {s = s} {l = l} {call = call} next m a IsSo log notes t only fits 
         writes_rise = subst (λ ws. Rises 1 (map (λ n. n.0) ws)) (sym none.wrote) tt;
         looks_rise = λ i. subst (λ ws. Rises 1 (map (λ n. n.0) ws)) (sym (none.looked i)) tt;
         objects_rise = λ i. subst (λ ws. Rises 1 (map (λ n. n.0) ws)) (sym (none.made i)) tt;
-        skips_rise = λ i. (1, subst (λ ws. NeverFall 0 (map (λ n. n.0) ws) 1) (sym (none.skipped i)) (omega arith));
       };
       few = omega arith;
       places = record {

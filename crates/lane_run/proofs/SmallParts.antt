@@ -55,7 +55,6 @@ part_seen IsSo label v p w q seen mine goes_on object_mine opening =
       objects_rise = λ i. let le = grows i in omega (arith, le);
       objects_seen = tt;
       skips = λ i. refl;
-      skips_fall = grows;
       skips_seen = tt;
       steps = grows;
       goes_on = goes_on;
@@ -83,7 +82,6 @@ part_entered IsSo label v p w actions notes log enters only are told no_look =
       objects_rise = λ i. subst (λ ns. RisesTo (length (seen_of p i) + 1) (map (λ n. n.0) ns) (length (seen_of p i) + 1)) (sym (none.made i)) (omega arith);
       objects_seen = tt;
       skips = λ i. sym (none.skipped i);
-      skips_fall = λ i. subst (λ ns. NeverFall (length (seen_of p i)) (map (λ n. n.0) ns) (length (seen_of p i))) (sym (none.skipped i)) (still i);
       skips_seen = tt;
       steps = λ i. subst (λ ns. NeverFall (length (seen_of p i)) ns (length (seen_of p i))) (sym (none.numbers i)) (still i);
       goes_on = record { each = λ i. begins_same (seen_of p i) (seen_of p i) refl };
@@ -136,7 +134,6 @@ part_made IsSo label v p q id step entry adds opening noted no_skip shows =
         tt,
       );
       skips = λ i. ap (skips_on i) no_skips;
-      skips_fall = grows;
       skips_seen = subst (AllByRecursion (λ k. (0 < k.number) × (k.number ≤ length (seen_of q k.object)))) (sym no_skips) tt;
       steps = λ i. one_falls (many + 1) (length (seen_of p i)) (length (seen_of q i)) (nat_eq id i)
           (λ is. (omega (arith, low i is), omega (arith, high i is))) (grows i);

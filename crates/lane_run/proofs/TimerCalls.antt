@@ -189,14 +189,15 @@ pub starts_as : (s : Timer) (timer : ℕ) (mode : Mode) (ns asked : ℕ) (readin
     (start_answer s (step_all s (start_events s mode ns asked reading)) asked)
 starts_as s timer mode ns asked reading = starts_by (moves_first s asked) s timer mode ns asked reading
 
--- the same of a start that answered so
-started_so : (s : Timer) (timer : ℕ) (mode : Mode) (ns asked : ℕ) (reading : ClockReading) (answer : StartAnswer)
+-- law: the same of a start that answered so
+pub started_so : (s : Timer) (timer : ℕ) (mode : Mode) (ns asked : ℕ) (reading : ClockReading) (answer : StartAnswer)
     → answer ≡ start_answer s (step_all s (start_events s mode ns asked reading)) asked
     → StartsAs s (start_events s mode ns asked reading) timer mode ns asked reading answer
 started_so s timer mode ns asked reading answer is =
     subst (StartsAs s (start_events s mode ns asked reading) timer mode ns asked reading) (sym is) (starts_as s timer mode ns asked reading)
 
-start_reads : (mode : Mode) (ns asked : ℕ) (reading : ClockReading) (clock : List ClockLine) (moves : Bool) → reading_at clock reading.stamp ≡ reading
+-- a record's clock has the readings of a start's events where it has that of the start
+pub start_reads : (mode : Mode) (ns asked : ℕ) (reading : ClockReading) (clock : List ClockLine) (moves : Bool) → reading_at clock reading.stamp ≡ reading
     → AllByRecursion (HasReading clock) (events_by moves mode ns asked reading)
 start_reads mode ns asked reading clock true so = (tt, (so, tt))
 start_reads mode ns asked reading clock false so = (so, tt)

@@ -127,11 +127,6 @@ pub one_falls : (number low high : ℕ) (b : Bool) → (b ≡ true → (low ≤ 
 one_falls number low high true bounds le = bounds refl
 one_falls number low high false bounds le = le
 
-one_fall_of : {A : Type 0} (number : ℕ) (thing : A) (low high : ℕ) (b : Bool) → (b ≡ true → (low ≤ number) × (number ≤ high)) → low ≤ high
-    → NeverFall low (map (λ (n : ℕ × A). n.0) (also b (number, thing) [])) high
-one_fall_of number thing low high true bounds le = bounds refl
-one_fall_of number thing low high false bounds le = le
-
 -- ---- the trigger
 
 module _ (IsSo : List ClockLine → Type 0) (s : Script) (x : ObjectsOf) (limit : x.limit ≡ s.limit) (some : 1 ≤ s.limit) (label : Label) (c : ClaimNumbers)
@@ -189,7 +184,6 @@ module _ (IsSo : List ClockLine → Type 0) (s : Script) (x : ObjectsOf) (limit 
             tt,
           );
           skips = λ i. ap (skips_on i) no_skips;
-          skips_fall = λ i. grows i;
           skips_seen = subst (AllByRecursion (λ k. (0 < k.number) × (k.number ≤ length (seen_of q k.object)))) (sym no_skips) tt;
           steps = λ i. one_falls (many + 1) (length (seen_of p i)) (length (seen_of q i)) (nat_eq c.timer i)
               (λ is. let here = eqb-true c.timer i is in
@@ -246,7 +240,6 @@ module _ (IsSo : List ClockLine → Type 0) (s : Script) (x : ObjectsOf) (limit 
           objects_rise = λ i. let le = grows i in omega (arith, le);
           objects_seen = subst (AllByRecursion (IsNoteIn IsSo p q)) (sym no_notes) tt;
           skips = λ i. ap (skips_on i) are;
-          skips_fall = λ i. one_fall_of many c.generation (length (seen_of p i)) (length (seen_of q i)) (nat_eq c.timer i) (bounds i) (grows i);
           skips_seen = subst (AllByRecursion (λ k. (0 < k.number) × (k.number ≤ length (seen_of q k.object)))) (sym are)
               ((omega (arith, t.full, limit, some), omega arith), tt);
           steps = λ i. one_falls many (length (seen_of p i)) (length (seen_of q i)) (nat_eq c.timer i) (bounds i) (grows i);

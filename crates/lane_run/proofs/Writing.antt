@@ -134,7 +134,6 @@ write_kept {s = s} {l = l} {m = m} {write = write} next (Ok r) w timers objects 
         writes_rise = (omega (arith, number), tt);
         looks_rise = λ i. tt;
         objects_rise = λ i. tt;
-        skips_rise = λ i. (1, omega arith);
       };
       few = omega arith;
       places = record {

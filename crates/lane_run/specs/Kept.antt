@@ -6,7 +6,9 @@ use Rattle.std.specs.Prelude.{ℕ, ◌≡◌, ◌≤◌, ◌<◌, ◌+◌, nat_e
 use Rattle.clock_cell.specs.Views.{reading_after, writes}
 use Rattle.clock_model.specs.Clocks.{last_stamp}
 use Rattle.counted_row.specs.declared.view.Entry.{Entry}
+use Rattle.lane_notes.specs.FdNotes.{fd_as_told}
 use Rattle.lane_notes.specs.Notes.{NotesOf, both_noted}
+use Rattle.lane_notes.specs.PosixNotes.{posix_as_told}
 use Rattle.lane_notes.specs.declared.notes.EntryNote.{EntryNote}
 use Rattle.lane_notes.specs.declared.notes.LookNote.{LookNote}
 use Rattle.lane_notes.specs.declared.notes.ObjectNote.{ObjectNote}
@@ -32,7 +34,7 @@ use Rattle.script_text.specs.Actions.{Action, also, looked, made, skipped, wrote
 use Rattle.script_text.specs.FdHistories.{fd_entry}
 use Rattle.script_text.specs.Histories.{ShowsReading}
 use Rattle.script_text.specs.Objects.{lines_of_object}
-use Rattle.script_text.specs.Order.{CallInRound, calls_of, NeverFall}
+use Rattle.script_text.specs.Order.{CallInRound, calls_of}
 use Rattle.script_text.specs.PosixHistories.{posix_entry}
 use Rattle.script_text.specs.Scripts.{IsInRange}
 use Rattle.script_text.specs.declared.script.Call.{Call}
@@ -77,10 +79,10 @@ log_of p q notes trace = record {
 
 -- ---- the runs in which a lane may still end
 
--- an entry of an object as the record's line has it, by the readings that the line's stamps name
+-- an entry of an object as the record's line has it, by the readings that the line's stamps name; of a start that was refused the line may have no stamp
 abbrev pub ShowsObjectCall : List ClockLine → ObjectCall → ObjectReply → ObjectEntry → Type 0
-ShowsObjectCall clock (of_kind.Posix call) (replies.Posix reply) e = posix_entry clock e ≡ Some (record { call = call; reply = reply })
-ShowsObjectCall clock (of_kind.Fd call) (replies.Fd reply) e = fd_entry clock e ≡ Some (record { call = call; reply = reply })
+ShowsObjectCall clock (of_kind.Posix call) (replies.Posix reply) e = posix_entry clock e ≡ Some (record { call = posix_as_told call; reply = reply })
+ShowsObjectCall clock (of_kind.Fd call) (replies.Fd reply) e = fd_entry clock e ≡ Some (record { call = fd_as_told call; reply = reply })
 ShowsObjectCall clock call reply e = ⊥
 
 -- an object's lines, from a number of entry on, show these entries, and the run has their spans
@@ -141,7 +143,6 @@ pub record TellActions (added : NotesOf) (actions : List Action) : Type 0 where
   pub writes_rise : Rises 1 (map (λ n. n.0) (wrote actions))
   pub looks_rise : (t : ℕ) → Rises 1 (map (λ n. n.0) (looked t actions))
   pub objects_rise : (i : ℕ) → Rises 1 (map (λ n. n.0) (made i actions))
-  pub skips_rise : (i : ℕ) → (last : ℕ) × NeverFall 0 (map (λ n. n.0) (skipped i actions)) last
 
 -- the places that a lane's passes have added to their own are those of the notes
 pub record AddsPlaces (p q : WorldPass) (added : NotesOf) : Type 0 where

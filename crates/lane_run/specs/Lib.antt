@@ -4,3 +4,4 @@ pub mod Called
 pub mod Rounds
 pub mod Runs
 pub mod Kept
+pub mod Left

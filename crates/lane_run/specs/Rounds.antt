@@ -152,7 +152,7 @@ pub record RunsLane (x : WorldOf) (r : Round) (old new : Lane) : Type 0 where
   pub keeps : KeepPasses old.pass new.pass
   pub made : new.wants_memory ≡ false → MakesLane x r old new
 
--- A round: the lanes that have calls in it begin it with passes of their own, make their calls, and are taken in again.
+-- A round: the lanes that have calls in it begin it with passes of their own, which are the world's, make their calls, and are taken in again.
 pub record MakesRound (x : WorldOf) (r : Round) (p : WorldPass) (left : LeftOf) (q : WorldPass) (now : LeftOf) : Type 0 where
   pub begun : List Lane
   pub ended : List Lane
@@ -160,6 +160,7 @@ pub record MakesRound (x : WorldOf) (r : Round) (p : WorldPass) (left : LeftOf) 
   pub main : HasSplit p split
   pub lanes : map (λ l. l.label.lane) begun ≡ calling_from r 0 (length left.answers)
   pub begins : All (BeginsRound p left) begun
+  pub of : All (IsLaneOf x) begun
   pub as_many : length ended ≡ length begun
   pub made : (k : ℕ) (d : Lane) → k < length begun → MakesLane x r (get_or begun k d) (get_or ended k d)
   pub taken : TakesInLanes split left ended q now

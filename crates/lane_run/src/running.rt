@@ -2,7 +2,8 @@
 ghost use Rattle.std.specs.Prelude.{◌≡◌, [], IfOk, replicate};
 ghost use Rattle.script_text.specs.Scripts.{IsInRange};
 ghost use Rattle.lane_run.specs.Rounds.{IsMain};
-ghost use Rattle.lane_run.specs.Runs.{MakesRun};
+ghost use Rattle.lane_run.specs.Runs.{MakesRun, ShowsAllSeen};
+ghost use Rattle.run_history.specs.Fits.{Fits};
 ghost use Rattle.lane_run.specs.Worlds.{AreFirst, AreLast, ArePassesOf, IsWorldOf};
 
 use crate::gate::Gate;
@@ -32,6 +33,8 @@ pub fn run<R: Threads + Wait + Sync, G: Gate>(
     ensures pass { IfOk result (λ r. ArePassesOf world r.2) }
     ensures last { IfOk result (λ r. AreLast r.2) }
     ensures run { IfOk result (λ r. MakesRun world script.now pass r.0 r.2) }
+    ensures fits { IfOk result (λ r. Fits script.now r.0) }
+    ensures histories { IfOk result (λ r. ShowsAllSeen r.0 r.2) }
 {
     let mut main = pass;
     match make_rounds(rt, alloc, &world, &mut main, script, gate) {

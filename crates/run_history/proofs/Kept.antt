@@ -1,6 +1,7 @@
 -- A call by its receipts: its moments, and what makes it fit.
 use Rattle.std.proofs.Common.{false, length, ◌≡◌, ◌<◌, ◌≤◌, ℕ, ◌+◌, true, List, [], ◌∷◌, ◌++◌, map, arith, refl, sym, ap, ◌∙◌, subst}
 use Rattle.std.specs.List.{AllByRecursion}
+use Rattle.std.specs.List.Sorted.{IsPermutation}
 use Rattle.std.proofs.lemmas.List.{append-nil, length-map, map-append}
 use Rattle.record_text.specs.declared.record.Answer.{Answer}
 use Rattle.record_text.specs.declared.record.Label.{Label}
@@ -73,7 +74,7 @@ pub record IsKept (w : Course) (moves : Spans) (c : Label) (t : Trace) (notes : 
   pub clock : own (λ line. line.label) (λ line. line.write) c 1 w.run.clock ≡ wrote t.actions
   pub looks : (i : ℕ) → own_looks c 1 (lines_of_timer w.run i) ≡ looked i t.actions
   pub objects : (i : ℕ) → own (λ line. line.label) (λ line. line.entry) c 1 (lines_of_object w.run i) ≡ made i t.actions
-  pub skips : (i : ℕ) → own_skips c 1 (lines_of_object w.run i) ≡ skipped i t.actions
+  pub skips : (i : ℕ) → IsPermutation (own_skips c 1 (lines_of_object w.run i)) (skipped i t.actions)
   pub reading : IsPoint w.script c 0 t.at (clock_labels w.run)
   pub clock_steps : NeverFall before.clock (t.at ∷ map (λ x. x.0) (wrote t.actions)) after.clock
   pub move_steps : (before.moves ≤ moves.first c) × (moves.last c ≤ after.moves)

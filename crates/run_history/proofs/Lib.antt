@@ -11,6 +11,7 @@ pub mod Looks
 pub mod ObjectsMade
 pub mod OthersMade
 pub mod PassState
+pub mod Permuted
 pub mod Points
 pub mod Promise
 pub mod Rounds

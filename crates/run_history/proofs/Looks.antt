@@ -1,7 +1,13 @@
--- What hangs under the lines of a list, looks under a timer's entries and refused expiries under an object's: a call's are its receipts of them, where
--- it has at most one under each line.
-use Rattle.std.proofs.Common.{◌≡◌, ◌⊎◌, ◌||◌, ◌&&◌, ℕ, ◌+◌, zero, suc, true, false, nat_eq, nat_lt, List, [], ◌∷◌, ◌++◌, Some, map, arith, refl, sym, ap, ◌∙◌, subst, inl, inr}
+-- What hangs under the lines of a list, looks under a timer's entries and refused expiries under an object's: a call's are its receipts of them. It has
+-- at most one look under each line; of its refused expiries under one line the order is left open.
+use Rattle.std.proofs.Common.{◌≡◌, ◌⊎◌, ◌||◌, ◌&&◌, ℕ, ◌+◌, zero, suc, true, false, nat_eq, nat_lt, List, [], ◌∷◌, ◌++◌, Some, filter, map, arith, refl, sym, ap, ◌∙◌, subst, inl, inr}
 use Rattle.std.specs.List.{AllByRecursion, slice_get}
+use Rattle.std.specs.List.Sorted.{IsPermutation}
+use Rattle.std.proofs.lemmas.List.Sorted.{IsPermutation-map}
+use Rattle.std.proofs.lemmas.List.{map-append}
+use Rattle.std.proofs.lemmas.List.Elements.{filter-append}
+use Rattle.run_history.proofs.Permuted.{filter_permuted}
+use mathlib.Core.Bool.{cond}
 use Rattle.std.proofs.Math.Logic.{⊎_elim}
 use Rattle.std.proofs.lemmas.Bool.Decides.{nat_tests}
 use Rattle.std.proofs.lemmas.Bool.{false≢true}
@@ -181,27 +187,47 @@ own_looks_are c lines items sorted rise stand all =
 
 -- ---- refused expiries
 
-skips_are_under : (c : Label) (k : ℕ) (ls : List Skip) → skips_under c k ls ≡ under (λ l. l.label) (λ l. l.generation) c k ls
-skips_are_under c k [] = refl
-skips_are_under c k (l ∷ ls) = ap (also (is_label c l.label) (k, l.generation)) (skips_are_under c k ls)
+-- all that hangs under lines that are numbered from here, each with its label and number
+abbrev pub all_under : {X L A : Type 0} → (X → List L) → (L → Label) → (L → A) → ℕ → List X → List (Label × (ℕ × A))
+all_under hung label shown k [] = []
+all_under hung label shown k (x ∷ xs) = map (λ l. (label l, (k, shown l))) (hung x) ++ all_under hung label shown (k + 1) xs
 
-own_skips_under : (c : Label) (k : ℕ) (lines : List ObjectLine)
-    → own_skips c k lines ≡ own_under (λ line. line.skips) (λ l. l.label) (λ l. l.generation) c k lines
-own_skips_under c k [] = refl
-own_skips_under c k (line ∷ lines) =
-    ap (λ xs. xs ++ own_skips c (k + 1) lines) (skips_are_under c k line.skips)
-    ∙ ap (λ ys. under (λ l. l.label) (λ l. l.generation) c k line.skips ++ ys) (own_skips_under c (k + 1) lines)
+-- those of a call
+abbrev pub of_call : {A : Type 0} → Label → List (Label × A) → List A
+of_call c es = map (λ e. e.1) (filter (λ e. is_label c e.0) es)
 
--- a refused expiry of the call under the entry of a number
-abbrev pub SkipsIn : Label → List ObjectLine → ℕ × ℕ → Type 0
-SkipsIn c lines e = HangsIn ObjectLine Skip ℕ (λ line. line.skips) (λ l. l.label) (λ l. l.generation) c 1 lines e
+of_call-append : {A : Type 0} (c : Label) (xs ys : List (Label × A)) → of_call c (xs ++ ys) ≡ of_call c xs ++ of_call c ys
+of_call-append {A = A} c xs ys =
+    ap (map (λ (e : Label × A). e.1)) (filter-append (λ (e : Label × A). is_label c e.0) xs ys)
+    ∙ map-append (λ (e : Label × A). e.1) (filter (λ e. is_label c e.0) xs) (filter (λ e. is_label c e.0) ys)
 
--- law: the refused expiries under the call's label are its receipts of them
-pub own_skips_are : (c : Label) (lines : List ObjectLine) (items : List (ℕ × ℕ))
-    → AllByRecursion (λ line. AreSorted (map (λ l. l.label) line.skips)) lines → RiseIn 1 items → ((e : ℕ × ℕ) → Among e items → SkipsIn c lines e)
-    → ((p : ℕ) (line : ObjectLine) (l : Skip) → slice_get lines p ≡ Some line → Among l line.skips → is_label c l.label ≡ true
-    → Among (1 + p, l.generation) items)
-    → own_skips c 1 lines ≡ items
-own_skips_are c lines items sorted rise stand all =
-    own_skips_under c 1 lines
-    ∙ own_things_are ObjectLine Skip ℕ (λ line. line.skips) (λ l. l.label) (λ l. l.generation) c lines items sorted rise stand all
+of_call-permuted : {A : Type 0} (c : Label) (xs ys : List (Label × A)) → IsPermutation xs ys → IsPermutation (of_call c xs) (of_call c ys)
+of_call-permuted {A = A} c xs ys same =
+    IsPermutation-map (λ (e : Label × A). e.1) (filter (λ e. is_label c e.0) xs) (filter (λ e. is_label c e.0) ys)
+    (filter_permuted (λ (e : Label × A). is_label c e.0) xs ys same)
+
+skips_of_call : (c : Label) (k : ℕ) (ls : List Skip) → skips_under c k ls ≡ of_call c (map (λ l. (l.label, (k, l.generation))) ls)
+skips_of_call c k [] = refl
+skips_of_call c k (l ∷ ls) =
+    let rest = filter (λ (e : Label × (ℕ × ℕ)). is_label c e.0) (map (λ (m : Skip). (m.label, (k, m.generation))) ls) in
+    elim (is_label c l.label) as (λ b. also b (k, l.generation) (skips_under c k ls) ≡ map (λ e. e.1) (cond b ((l.label, (k, l.generation)) ∷ rest) rest)) [
+      | true ↦ ap (λ xs. (k, l.generation) ∷ xs) (skips_of_call c k ls)
+      | false ↦ skips_of_call c k ls
+    ]
+
+-- all that were refused under an object's lines
+abbrev pub all_skips : ℕ → List ObjectLine → List (Label × (ℕ × ℕ))
+all_skips k lines = all_under (λ line. line.skips) (λ l. l.label) (λ l. l.generation) k lines
+
+own_skips_of_call : (c : Label) (k : ℕ) (lines : List ObjectLine) → own_skips c k lines ≡ of_call c (all_skips k lines)
+own_skips_of_call c k [] = refl
+own_skips_of_call c k (line ∷ lines) =
+    ap (λ xs. xs ++ own_skips c (k + 1) lines) (skips_of_call c k line.skips)
+    ∙ ap (λ ys. of_call c (map (λ l. (l.label, (k, l.generation))) line.skips) ++ ys) (own_skips_of_call c (k + 1) lines)
+    ∙ sym (of_call-append c (map (λ (l : Skip). (l.label, (k, l.generation))) line.skips) (all_skips (k + 1) lines))
+
+-- law: the refused expiries under the call's label are its receipts of them, in some order, where all are all receipts in some order
+pub own_skips_are : (c : Label) (lines : List ObjectLine) (items : List (Label × (ℕ × ℕ))) → IsPermutation (all_skips 1 lines) items
+    → IsPermutation (own_skips c 1 lines) (of_call c items)
+own_skips_are c lines items same =
+    subst (λ xs. IsPermutation xs (of_call c items)) (sym (own_skips_of_call c 1 lines)) (of_call-permuted c (all_skips 1 lines) items same)

@@ -28,7 +28,8 @@ module _ (s : Script) (e : Ending) (ends : IsEnding s e) where
   each_is_all : (c : Label) → AreAll c (course_of s e).moves (notes_in e c)
   each_is_all c = are_all e.run e.order (notes_in e) receipts c
 
-  shows : (t : ℕ) → history_of e.run t ≡ entries_of t e.order
+  -- each timer's lines show its part of the order
+  pub shows : (t : ℕ) → history_of e.run t ≡ entries_of t e.order
   shows = shows_from e.run e.order (notes_in e) receipts ends.entries
 
   -- each entry of the order stands in the span of its call, as the call's receipt does

@@ -18,7 +18,7 @@ use Rattle.run_history.proofs.Lists.{all_at}
 use Rattle.run_history.proofs.Weave.{length_history, with_own}
 
 -- lists of the same length with the same items
-same_items : {X : Type 0} (xs ys : List X) → length xs ≡ length ys → ((k : ℕ) (x : X) → slice_get xs k ≡ Some x → slice_get ys k ≡ Some x) → xs ≡ ys
+pub same_items : {X : Type 0} (xs ys : List X) → length xs ≡ length ys → ((k : ℕ) (x : X) → slice_get xs k ≡ Some x → slice_get ys k ≡ Some x) → xs ≡ ys
 same_items [] [] same at = refl
 same_items [] (y ∷ ys) same at = absurd (omega (arith, same))
 same_items (x ∷ xs) [] same at = absurd (omega (arith, same))

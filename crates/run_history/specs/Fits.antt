@@ -1,6 +1,6 @@
 -- What it means that a record fits a script: each call is there once, in the order of its lane, all timers' entries are one
 -- history, and each object's are one history.
-use Rattle.std.specs.Prelude.{ℕ, ◌≡◌, ◌≤◌, ◌+◌, List, [], ◌∷◌, length, map}
+use Rattle.std.specs.Prelude.{ℕ, ◌≡◌, ◌≤◌, ◌+◌, false, List, [], ◌∷◌, length, map}
 use Rattle.std.specs.List.{AllByRecursion}
 use Rattle.clock_model.specs.Clocks.{at_stamp}
 use Rattle.script_text.specs.declared.script.Call.{Call}
@@ -13,7 +13,7 @@ use Rattle.script_text.specs.Order.{CallInRound, calls_of, IsLabel, IsPoint, IsI
 use Rattle.script_text.specs.Histories.{AreWrites, clock_labels, lines_of_timer}
 use Rattle.script_text.specs.Objects.{IsLegalObject, kind_of, object_labels, lines_of_object}
 use Rattle.script_text.specs.Actions.{wrote}
-use Rattle.script_text.specs.Fits.{AreUnder, answers_of, object_steps_on}
+use Rattle.script_text.specs.Fits.{AreUnder, answers_of, is_lower, object_steps_on}
 use Rattle.run_history.specs.Courses.{Course, IsOneHistory, labels}
 use Rattle.run_history.specs.Traces.{HasTraced}
 use Rattle.run_history.specs.Calls.{Does}
@@ -58,6 +58,16 @@ abbrev pub AreBehind : (ℕ → ℕ × ℕ) → ℕ → ℕ → List ObjectLine 
 AreBehind spans number from [] = Unit
 AreBehind spans number from (line ∷ lines) = (from ≤ (spans number).0) × ((spans number).0 ≤ (spans number).1) × AreBehind spans (number + 1) (spans number).1 lines
 
+-- no label is lower than one that stands ahead of it
+abbrev pub LabelsNeverFall : List Label → Type 0
+LabelsNeverFall [] = Unit
+LabelsNeverFall (c ∷ cs) = AllByRecursion (λ other. is_lower other c ≡ false) cs × LabelsNeverFall cs
+
+-- the labels of the refused expiries under one entry are those of calls, and stand in order; one call may have had more than one refused there
+pub record AreSkipsUnder (s : Script) (labels : List Label) : Type 0 where
+  pub calls : AllByRecursion (IsLabel s) labels
+  pub in_order : LabelsNeverFall labels
+
 -- the record fits the script, in this order of all timers' entries
 pub record FitsIn (w : Course) : Type 0 where
   -- a history for each timer, one for the object of the same number, and the answers of each lane
@@ -69,7 +79,7 @@ pub record FitsIn (w : Course) : Type 0 where
   pub timer_calls : AllByRecursion (IsLabel w.script) (labels w)
   pub looks : (t : ℕ) → AllByRecursion (λ line. AreUnder w.script (map (λ look. look.label) line.looks)) (lines_of_timer w.run t)
   pub object_calls : (i : ℕ) → AllByRecursion (IsLabel w.script) (object_labels w.run i)
-  pub skips : (i : ℕ) → AllByRecursion (λ line. AreUnder w.script (map (λ skip. skip.label) line.skips)) (lines_of_object w.run i)
+  pub skips : (i : ℕ) → AllByRecursion (λ line. AreSkipsUnder w.script (map (λ skip. skip.label) line.skips)) (lines_of_object w.run i)
   -- the clock's lines are writes that it took, all timers' entries are one history, and each object's one that such an object gives
   pub writes : AreWrites (at_stamp 0) w.run.clock
   pub history : IsOneHistory w

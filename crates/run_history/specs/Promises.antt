@@ -1,5 +1,6 @@
 -- What a lane promises while it runs: each of its calls fits in every run that it can still end in.
 use Rattle.std.specs.List.{AllByRecursion}
+use Rattle.std.specs.List.Sorted.{IsPermutation}
 use Rattle.std.specs.Prelude.{ℕ, ◌≡◌, ◌≤◌, ◌<◌, ◌+◌, List, [], ◌∷◌, ◌++◌, map}
 use Rattle.clock_model.specs.declared.write.Write.{Write}
 use Rattle.seq_timer.specs.declared.system.TimerEntry.{TimerEntry}
@@ -32,13 +33,14 @@ pub record IsLogged (log : CallLog) (call : Call) (answer : Answer) (before afte
   pub move_steps : (before.moves ≤ log.moves.0) × (log.moves.1 ≤ after.moves)
   pub object_steps : (i : ℕ) → NeverFall (before.objects i) (object_steps_on i call answer log.trace.actions) (after.objects i)
 
--- the run has of a call what its lane kept of it; the record has under its label what the call did, but for timers' entries
+-- the run has of a call what its lane kept of it; the record has under its label what the call did, but for timers' entries; the refused expiries under
+-- one entry have no order among themselves
 pub record HasLog (e : Ending) (c : Label) (log : CallLog) : Type 0 where
   pub kept : e.logs c ≡ log
   pub clock : own (λ line. line.label) (λ line. line.write) c 1 e.run.clock ≡ wrote log.trace.actions
   pub looks : (t : ℕ) → own_looks c 1 (lines_of_timer e.run t) ≡ looked t log.trace.actions
   pub objects : (i : ℕ) → own (λ line. line.label) (λ line. line.entry) c 1 (lines_of_object e.run i) ≡ made i log.trace.actions
-  pub skips : (i : ℕ) → own_skips c 1 (lines_of_object e.run i) ≡ skipped i log.trace.actions
+  pub skips : (i : ℕ) → IsPermutation (own_skips c 1 (lines_of_object e.run i)) (skipped i log.trace.actions)
 
 -- the same of the calls of a lane, from one of them on
 abbrev pub HasLogs : Ending → ℕ → ℕ → List CallLog → Type 0

@@ -12,7 +12,7 @@ use Rattle.script_text.specs.Objects.{IsLegalObject, kind_of, lines_of_object, o
 use Rattle.script_text.specs.Order.{calls_of, IsLabel}
 use Rattle.script_text.specs.declared.script.Script.{Script}
 use Rattle.run_history.specs.Courses.{clocks_of, Course, entries_in, IsOneHistory, labels, Trace}
-use Rattle.run_history.specs.Fits.{AreBehind, FitsLane, unseen}
+use Rattle.run_history.specs.Fits.{AreBehind, AreSkipsUnder, FitsLane, unseen}
 use Rattle.run_history.specs.Receipts.{AreAll, AreFiled, Filed, Noted, ShowsEntry, weave}
 use Rattle.run_history.specs.Rounds.{IsLaid, IsLedger, Spans}
 
@@ -93,7 +93,7 @@ pub record IsEnding (s : Script) (e : Ending) : Type 0 where
   pub spans : (i : ℕ) → AreBehind (e.spans i) 1 0 (lines_of_object e.run i)
   -- looks and skips under their lines, and one list for each timer and lane
   pub looks : (t : ℕ) → AllByRecursion (λ line. AreUnder s (map (λ look. look.label) line.looks)) (lines_of_timer e.run t)
-  pub skips : (i : ℕ) → AllByRecursion (λ line. AreUnder s (map (λ skip. skip.label) line.skips)) (lines_of_object e.run i)
+  pub skips : (i : ℕ) → AllByRecursion (λ line. AreSkipsUnder s (map (λ skip. skip.label) line.skips)) (lines_of_object e.run i)
   pub timers : length e.run.timers ≡ length s.timers
   pub objects : length e.run.objects ≡ length s.timers
   pub lanes : length e.run.answers ≡ s.lanes

@@ -1,5 +1,6 @@
 -- What one call did is what the record has under its label.
 use Rattle.std.specs.Prelude.{ℕ, ◌≡◌, ◌+◌, List, [], ◌∷◌}
+use Rattle.std.specs.List.Sorted.{IsPermutation}
 use Rattle.record_text.specs.declared.record.Entry.{Entry}
 use Rattle.record_text.specs.declared.record.Label.{Label}
 use Rattle.run_history.specs.Courses.{Course, Move}
@@ -22,10 +23,11 @@ abbrev pub own_moves : Label → List Move → List (ℕ × (ℕ × Entry))
 own_moves c [] = []
 own_moves c (m ∷ ms) = also (is_label c m.line.label) (m.timer, (m.before + 1, m.line.entry)) (own_moves c ms)
 
--- the record has these things under the label, and no others; the timers' entries in this very order
+-- the record has these things under the label, and no others; the timers' entries in this very order; the refused expiries of one call under one entry
+-- have no order among themselves
 pub record HasTraced (w : Course) (c : Label) (actions : List Action) : Type 0 where
   pub clock : own (λ line. line.label) (λ line. line.write) c 1 w.run.clock ≡ wrote actions
   pub timers : own_moves c w.moves ≡ all_entered actions
   pub looks : (t : ℕ) → own_looks c 1 (lines_of_timer w.run t) ≡ looked t actions
   pub objects : (i : ℕ) → own (λ line. line.label) (λ line. line.entry) c 1 (lines_of_object w.run i) ≡ made i actions
-  pub skips : (i : ℕ) → own_skips c 1 (lines_of_object w.run i) ≡ skipped i actions
+  pub skips : (i : ℕ) → IsPermutation (own_skips c 1 (lines_of_object w.run i)) (skipped i actions)

@@ -36,6 +36,7 @@ returns-clause-round g c =
       main = c.in_ok-lanes.ensures.split;
       lanes = c.in_ok-lanes.ensures.names;
       begins = c.in_ok-lanes.ensures.begins;
+      of = c.in_ok-lanes.ensures.lanes;
       as_many = many;
       made = λ k d h. (c.run_lanes.ensures.ran k d h).made (quiet k d (subst (λ n. k < n) (sym many) h));
       taken = subst (λ l. TakesInLanes c.split_lanes.new.main l ended q now) c.in_ok-lanes.ensures.left taken;
