@@ -10,7 +10,7 @@ use Rattle.record_text.specs.declared.record.Look.{Look}
 use Rattle.record_text.specs.declared.record.Skip.{Skip}
 use Rattle.record_text.specs.declared.record.ObjectLine.{ObjectLine}
 use Rattle.record_text.specs.declared.record.TimerLine.{TimerLine}
-use Rattle.script_text.specs.Fits.{AreSorted}
+use Rattle.script_text.specs.Order.{AreSorted}
 use Rattle.script_text.specs.Histories.{lines_of_timer}
 use Rattle.script_text.specs.Objects.{lines_of_object}
 use Rattle.lane_notes.specs.declared.notes.EntryNote.{EntryNote}

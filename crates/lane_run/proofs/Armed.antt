@@ -32,7 +32,7 @@ use Rattle.record_text.specs.declared.record.ClockLine.{ClockLine}
 use Rattle.record_text.specs.declared.record.Entry.{Entry}
 use Rattle.record_text.specs.declared.record.Label.{Label}
 use Rattle.script_text.specs.Actions.{Action}
-use Rattle.script_text.specs.Calls.{IsArmedLike}
+use Rattle.script_text.specs.Told.{IsArmedLike}
 use Rattle.script_text.specs.Histories.{reading_at}
 use Rattle.script_text.specs.ObjectCalls.{Arms}
 use Rattle.script_text.specs.Objects.{kind_of, object_armed_after, present}

@@ -45,7 +45,7 @@ use Rattle.record_text.specs.declared.record.Entry.{Entry}
 use Rattle.record_text.specs.declared.record.Label.{Label}
 use Rattle.record_text.specs.declared.record.Restart as line_restart
 use Rattle.script_text.specs.Actions.{Action, also, Entered, Looked, looked, Made, made, numbers_of_object, Skipped, skipped, wrote, Wrote}
-use Rattle.script_text.specs.Calls.{IsBelowLimit, observed}
+use Rattle.script_text.specs.Told.{IsBelowLimit, observed}
 use Rattle.script_text.specs.Histories.{reading_at}
 use Rattle.script_text.specs.Objects.{kind_of, present}
 use Rattle.script_text.specs.Order.{NeverFall}

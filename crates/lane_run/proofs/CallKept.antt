@@ -19,7 +19,7 @@ use Rattle.record_text.specs.declared.record.ClockLine.{ClockLine}
 use Rattle.record_text.specs.declared.record.Entry.{Entry}
 use Rattle.record_text.specs.declared.record.Label.{Label}
 use Rattle.script_text.specs.Actions.{made, wrote}
-use Rattle.script_text.specs.Fits.{object_steps_on}
+use Rattle.script_text.specs.Told.{object_steps_on}
 use Rattle.script_text.specs.Histories.{reading_at}
 use Rattle.script_text.specs.Objects.{present}
 use Rattle.script_text.specs.Order.{calls_of, IsLabel, NeverFall}

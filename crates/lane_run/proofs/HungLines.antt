@@ -24,10 +24,9 @@ use Rattle.record_text.specs.declared.record.ObjectLine.{ObjectLine}
 use Rattle.record_text.specs.declared.record.Skip.{Skip}
 use Rattle.record_text.specs.declared.record.TimerLine.{TimerLine}
 use Rattle.script_text.specs.Actions.{looked, own_looks, own_skips, skipped}
-use Rattle.script_text.specs.Fits.{AreSorted, AreUnder}
 use Rattle.script_text.specs.Histories.{lines_of_timer}
 use Rattle.script_text.specs.Objects.{lines_of_object}
-use Rattle.script_text.specs.Order.{is_label, IsLabel}
+use Rattle.script_text.specs.Order.{AreSorted, AreUnder, is_label, IsLabel}
 use Rattle.script_text.specs.declared.script.Script.{Script}
 use Rattle.run_history.specs.Fits.{AreSkipsUnder, LabelsNeverFall}
 use Rattle.run_history.specs.Receipts as receipts

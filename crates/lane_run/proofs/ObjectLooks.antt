@@ -21,7 +21,7 @@ use Rattle.timer_objects.specs.declared.object.Object.{Object}
 use Rattle.timer_objects.proofs.Counting.{state_is}
 use Rattle.record_text.specs.declared.record.Answer.TheVariants as answers
 use Rattle.record_text.specs.declared.record.Answer.{Answer}
-use Rattle.script_text.specs.Fits.{object_called, object_stamp_in}
+use Rattle.script_text.specs.Told.{object_called, object_stamp_in}
 use Rattle.script_text.specs.Histories.{reading_at}
 use Rattle.script_text.specs.ObjectCalls.{base_of, DoesGettime}
 use Rattle.script_text.specs.Objects.{fd_after, kind_of, posix_after}

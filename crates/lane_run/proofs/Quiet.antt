@@ -17,7 +17,7 @@ use Rattle.record_text.specs.declared.record.Answer.{Answer}
 use Rattle.record_text.specs.declared.record.Answer.TheVariants as answers
 use Rattle.record_text.specs.declared.record.ClockLine.{ClockLine}
 use Rattle.script_text.specs.Actions.{Action, Entered, Looked, looked, Made, made, numbers_of_object, Skipped, skipped, Wrote, wrote}
-use Rattle.script_text.specs.Fits.{object_called, object_stamp_in, object_steps_on, stamps_on}
+use Rattle.script_text.specs.Told.{object_called, object_stamp_in, object_steps_on, stamps_on}
 use Rattle.script_text.specs.Order.{NeverFall}
 use Rattle.script_text.specs.declared.script.Call.{Call}
 use Rattle.script_text.specs.declared.script.Call.TheVariants as calls

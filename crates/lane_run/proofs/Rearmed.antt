@@ -38,8 +38,7 @@ use Rattle.record_text.specs.declared.record.ClockLine.{ClockLine}
 use Rattle.record_text.specs.declared.record.Label.{Label}
 use Rattle.record_text.specs.declared.record.ObjectEntry.{ObjectEntry}
 use Rattle.script_text.specs.Actions.{Action}
-use Rattle.script_text.specs.Calls.{IsArmedLike}
-use Rattle.script_text.specs.Fits.{object_called, object_stamp_in}
+use Rattle.script_text.specs.Told.{IsArmedLike, object_called, object_stamp_in}
 use Rattle.script_text.specs.Histories.{reading_at}
 use Rattle.script_text.specs.ObjectCalls.{Arms}
 use Rattle.script_text.specs.Objects.{armed_in_phase}

@@ -32,7 +32,7 @@ use Rattle.record_text.specs.declared.record.ObjectEntry.TheVariants as object_e
 use Rattle.record_text.specs.declared.record.ReadReply.TheVariants as reads
 use Rattle.record_text.specs.declared.record.ReadReply.{ReadReply}
 use Rattle.script_text.specs.FdHistories.{fd_arm, read_answer_of}
-use Rattle.script_text.specs.Fits.{object_stamp_in}
+use Rattle.script_text.specs.Told.{object_stamp_in}
 use Rattle.script_text.specs.Histories.{reading_at}
 use Rattle.script_text.specs.ObjectCalls.{DoesGettime}
 use Rattle.script_text.specs.Objects.{kind_of}

@@ -13,7 +13,7 @@ use Rattle.timer_objects.specs.Known.{seen_of}
 use Rattle.timer_objects.specs.declared.log.ObjectReceipt.{ObjectReceipt}
 use Rattle.record_text.specs.declared.record.Answer.{Answer}
 use Rattle.script_text.specs.Actions.{Action, numbers_of_object}
-use Rattle.script_text.specs.Fits.{object_called, object_stamp_in, object_steps_on, stamps_on}
+use Rattle.script_text.specs.Told.{object_called, object_stamp_in, object_steps_on, stamps_on}
 use Rattle.script_text.specs.Order.{calls_of, IsLabel, NeverFall}
 use Rattle.script_text.specs.declared.script.Call.{Call}
 use Rattle.script_text.specs.declared.script.Script.{Script}

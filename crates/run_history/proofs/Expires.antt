@@ -15,7 +15,7 @@ use Rattle.record_text.specs.declared.record.Entry.{Entry}
 use Rattle.record_text.specs.declared.record.Label.{Label}
 use Rattle.record_text.specs.declared.record.ObjectEntry.TheVariants as object_entries
 use Rattle.script_text.specs.Actions.{Action, Entered, Looked, Made, Skipped}
-use Rattle.script_text.specs.Calls.{IsBelowLimit, observed}
+use Rattle.script_text.specs.Told.{IsBelowLimit, observed}
 use Rattle.script_text.specs.Objects.{kind_of}
 use Rattle.script_text.specs.Starts.{arming_actions}
 use Rattle.script_text.specs.declared.script.Call.TheVariants as calls

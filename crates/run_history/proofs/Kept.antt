@@ -6,7 +6,7 @@ use Rattle.std.proofs.lemmas.List.{append-nil, length-map, map-append}
 use Rattle.record_text.specs.declared.record.Answer.{Answer}
 use Rattle.record_text.specs.declared.record.Label.{Label}
 use Rattle.script_text.specs.Actions.{Action, also, looked, made, own, own_looks, own_skips, skipped, wrote}
-use Rattle.script_text.specs.Fits.{object_steps_on}
+use Rattle.script_text.specs.Told.{object_steps_on}
 use Rattle.script_text.specs.Histories.{clock_labels, lines_of_timer}
 use Rattle.script_text.specs.Objects.{lines_of_object}
 use Rattle.script_text.specs.Order.{is_label, IsLabel, IsPoint, NeverFall}

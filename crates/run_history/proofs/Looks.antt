@@ -19,8 +19,7 @@ use Rattle.record_text.specs.declared.record.ObjectLine.{ObjectLine}
 use Rattle.record_text.specs.declared.record.Skip.{Skip}
 use Rattle.record_text.specs.declared.record.TimerLine.{TimerLine}
 use Rattle.script_text.specs.Actions.{also, looks_under, own_looks, own_skips, skips_under}
-use Rattle.script_text.specs.Fits.{AreSorted, is_lower}
-use Rattle.script_text.specs.Order.{is_label}
+use Rattle.script_text.specs.Order.{AreSorted, is_label, is_lower}
 use Rattle.run_history.proofs.Items.{Among, lower, RiseIn, same_items}
 use Rattle.run_history.proofs.Labels.{same_label}
 

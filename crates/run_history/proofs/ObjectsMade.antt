@@ -28,7 +28,7 @@ use Rattle.record_text.specs.declared.record.ReadReply.{ReadReply}
 use Rattle.record_text.specs.declared.record.SettimeReply.TheVariants as settings
 use Rattle.record_text.specs.declared.record.SettimeReply.{SettimeReply}
 use Rattle.script_text.specs.Actions.{Action, Entered, Looked, Made, Skipped, Wrote}
-use Rattle.script_text.specs.Calls.{IsArmedLike}
+use Rattle.script_text.specs.Told.{IsArmedLike}
 use Rattle.script_text.specs.ObjectCalls.{AreValidFor, Arms, base_of, cancels, DoesGettime, MakesRearming, MakesSettime, nanoseconds_of, start_mode}
 use Rattle.script_text.specs.Objects.{ArmedAs, kind_of, object_armed_after}
 use Rattle.script_text.specs.Starts.{Arming, arming_actions}

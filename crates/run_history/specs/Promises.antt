@@ -7,7 +7,7 @@ use Rattle.seq_timer.specs.declared.system.TimerEntry.{TimerEntry}
 use Rattle.record_text.specs.declared.record.Answer.{Answer}
 use Rattle.record_text.specs.declared.record.Label.{Label}
 use Rattle.script_text.specs.Actions.{looked, made, own, own_looks, own_skips, skipped, wrote}
-use Rattle.script_text.specs.Fits.{object_steps_on}
+use Rattle.script_text.specs.Told.{object_steps_on}
 use Rattle.script_text.specs.Histories.{lines_of_timer}
 use Rattle.script_text.specs.Objects.{lines_of_object}
 use Rattle.script_text.specs.Order.{CallInRound, calls_of, NeverFall}

@@ -6,10 +6,9 @@ use Rattle.seq_timer.specs.Systems.{IsSystemHistory}
 use Rattle.seq_timer.specs.declared.system.TimerEntry.{TimerEntry}
 use Rattle.record_text.specs.declared.record.Label.{Label}
 use Rattle.record_text.specs.declared.record.RunRecord.{RunRecord}
-use Rattle.script_text.specs.Fits.{answers_of, AreUnder}
-use Rattle.script_text.specs.Histories.{AreWrites, clock_labels, lines_of_timer}
+use Rattle.script_text.specs.Histories.{answers_of, AreWrites, clock_labels, lines_of_timer}
 use Rattle.script_text.specs.Objects.{IsLegalObject, kind_of, lines_of_object, object_labels}
-use Rattle.script_text.specs.Order.{calls_of, IsLabel}
+use Rattle.script_text.specs.Order.{AreUnder, calls_of, IsLabel}
 use Rattle.script_text.specs.declared.script.Script.{Script}
 use Rattle.run_history.specs.Courses.{clocks_of, Course, entries_in, IsOneHistory, labels, Trace}
 use Rattle.run_history.specs.Fits.{AreBehind, AreSkipsUnder, FitsLane, unseen}

@@ -21,7 +21,7 @@ use Rattle.script_text.specs.Order.{IsPoint}
 use Rattle.script_text.specs.Histories.{reading_at}
 use Rattle.script_text.specs.Objects.{object_armed_after, fd_after, kind_of, object_labels, posix_after}
 use Rattle.script_text.specs.Actions.{Action, Entered, Looked, Made, Skipped, made}
-use Rattle.script_text.specs.Calls.{IsBelowLimit, IsOutOfRange, IsArmedLike, observed}
+use Rattle.script_text.specs.Told.{IsBelowLimit, IsOutOfRange, IsArmedLike, observed}
 use Rattle.seq_timer.specs.Tables.{is_due_on, runs_on}
 use Rattle.run_history.specs.Traces.{all_entered}
 use Rattle.run_history.specs.Courses.{Course, labels, timer_then}

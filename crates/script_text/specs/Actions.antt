@@ -1,5 +1,5 @@
 -- What one call did, in its order: the entries that it made of timers and objects, and what its callbacks were told in place of entries.
-use Rattle.std.specs.Prelude.{ℕ, ◌≡◌, ◌+◌, Bool, true, false, nat_eq, List, [], ◌∷◌, ◌++◌}
+use Rattle.std.specs.Prelude.{ℕ, ◌+◌, Bool, true, false, nat_eq, List, [], ◌∷◌, ◌++◌}
 use Rattle.clock_model.specs.declared.write.Write.{Write}
 use Rattle.record_text.specs.declared.record.Label.{Label}
 use Rattle.record_text.specs.declared.record.Entry.{Entry}
@@ -9,10 +9,7 @@ use Rattle.record_text.specs.declared.record.TimerLine.{TimerLine}
 use Rattle.record_text.specs.declared.record.ObjectEntry.{ObjectEntry}
 use Rattle.record_text.specs.declared.record.ObjectLine.{ObjectLine}
 use Rattle.record_text.specs.declared.record.Skip.{Skip}
-use Rattle.record_text.specs.declared.record.RunRecord.{RunRecord}
 use Rattle.script_text.specs.Order.{is_label}
-use Rattle.script_text.specs.Histories.{lines_of_timer}
-use Rattle.script_text.specs.Objects.{lines_of_object}
 
 -- one thing that a call did, with its number in its list: a write of the clock; an entry of a timer, or a look that holds after that
 -- entry; an entry of an object, or an expiry of a generation that the object refused after that entry, its history being full
@@ -36,15 +33,6 @@ wrote (Entered timer number entry ∷ ds) = wrote ds
 wrote (Looked timer number reply ∷ ds) = wrote ds
 wrote (Made i number entry ∷ ds) = wrote ds
 wrote (Skipped i number generation ∷ ds) = wrote ds
-
--- the entries of a timer among these, each with its number
-abbrev pub entered : ℕ → List Action → List (ℕ × Entry)
-entered t [] = []
-entered t (Wrote number write ∷ ds) = entered t ds
-entered t (Entered timer number entry ∷ ds) = also (nat_eq timer t) (number, entry) (entered t ds)
-entered t (Looked timer number reply ∷ ds) = entered t ds
-entered t (Made i number entry ∷ ds) = entered t ds
-entered t (Skipped i number generation ∷ ds) = entered t ds
 
 -- the entries of an object among these, each with its number
 abbrev pub made : ℕ → List Action → List (ℕ × ObjectEntry)
@@ -72,15 +60,6 @@ skipped t (Entered timer number entry ∷ ds) = skipped t ds
 skipped t (Looked timer number reply ∷ ds) = skipped t ds
 skipped t (Made i number entry ∷ ds) = skipped t ds
 skipped t (Skipped i number generation ∷ ds) = also (nat_eq i t) (number, generation) (skipped t ds)
-
--- the numbers of a timer's entries and looks among these, in their order
-abbrev pub numbers_on : ℕ → List Action → List ℕ
-numbers_on t [] = []
-numbers_on t (Wrote number write ∷ ds) = numbers_on t ds
-numbers_on t (Entered timer number entry ∷ ds) = also (nat_eq timer t) number (numbers_on t ds)
-numbers_on t (Looked timer number reply ∷ ds) = also (nat_eq timer t) number (numbers_on t ds)
-numbers_on t (Made i number entry ∷ ds) = numbers_on t ds
-numbers_on t (Skipped i number generation ∷ ds) = numbers_on t ds
 
 -- the numbers of an object's entries and refused expiries among these, in their order
 abbrev pub numbers_of_object : ℕ → List Action → List ℕ
@@ -115,11 +94,3 @@ skips_under c number (skip ∷ skips) = also (is_label c skip.label) (number, sk
 abbrev pub own_skips : Label → ℕ → List ObjectLine → List (ℕ × ℕ)
 own_skips c number [] = []
 own_skips c number (line ∷ lines) = skips_under c number line.skips ++ own_skips c (number + 1) lines
-
--- the record has these things under the label, and no others
-pub record Tells (r : RunRecord) (c : Label) (actions : List Action) : Type 0 where
-  pub clock : own (λ line. line.label) (λ line. line.write) c 1 r.clock ≡ wrote actions
-  pub timers : (t : ℕ) → own (λ line. line.label) (λ line. line.entry) c 1 (lines_of_timer r t) ≡ entered t actions
-  pub looks : (t : ℕ) → own_looks c 1 (lines_of_timer r t) ≡ looked t actions
-  pub objects : (i : ℕ) → own (λ line. line.label) (λ line. line.entry) c 1 (lines_of_object r i) ≡ made i actions
-  pub skips : (i : ℕ) → own_skips c 1 (lines_of_object r i) ≡ skipped i actions

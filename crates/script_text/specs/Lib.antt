@@ -12,6 +12,4 @@ pub mod Objects
 pub mod Actions
 pub mod Starts
 pub mod ObjectCalls
-pub mod Calls
-pub mod ExpiryRuns
-pub mod Fits
+pub mod Told

@@ -1,5 +1,5 @@
 -- The order in which a script has its calls made, and what a number of entries of one list says of that order.
-use Rattle.std.specs.Prelude.{ℕ, ◌≡◌, ◌+◌, ◌≤◌, ◌<◌, Bool, false, ◌&&◌, ◌||◌, nat_eq, nat_lt, List, [], ◌∷◌, ◌++◌, length, map, filter, take, drop, get_or}
+use Rattle.std.specs.Prelude.{ℕ, ◌≡◌, ◌+◌, ◌≤◌, ◌<◌, Bool, true, false, ◌&&◌, ◌||◌, nat_eq, nat_lt, List, [], ◌∷◌, ◌++◌, length, map, filter, take, drop, get_or}
 use Rattle.std.specs.List.{AllByRecursion}
 use Rattle.script_text.specs.declared.script.Call.{Call}
 use Rattle.script_text.specs.declared.script.Round.{Round}
@@ -61,3 +61,17 @@ IsInOrder s (x ∷ xs) = AllByRecursion (λ y. is_before s y x ≡ false) xs × 
 abbrev pub NeverFall : ℕ → List ℕ → ℕ → Type 0
 NeverFall from [] to = from ≤ to
 NeverFall from (n ∷ ns) to = (from ≤ n) × NeverFall n ns to
+
+-- whether a label comes before another in the order of lanes, and of calls in a lane
+abbrev pub is_lower : Label → Label → Bool
+is_lower a b = nat_lt a.lane b.lane || (nat_eq a.lane b.lane && nat_lt a.call b.call)
+
+-- labels in their order, each once
+abbrev pub AreSorted : List Label → Type 0
+AreSorted [] = Unit
+AreSorted (c ∷ cs) = AllByRecursion (λ other. is_lower c other ≡ true) cs × AreSorted cs
+
+-- the labels of what hangs under one entry are those of calls, and stand in order
+pub record AreUnder (s : Script) (labels : List Label) : Type 0 where
+  pub calls : AllByRecursion (IsLabel s) labels
+  pub sorted : AreSorted labels

@@ -36,7 +36,9 @@ impl<'a> Ordered<'a> {
     /// Waits until so many places were passed.
     fn wait(&self, places: usize) {
         for _ in 0..TURNS {
-            if self.passed.load(Ordering::SeqCst) >= places || self.given_up.load(Ordering::SeqCst) {
+            if self.passed.load(Ordering::SeqCst) >= places
+                || self.given_up.load(Ordering::SeqCst)
+            {
                 return;
             }
         }
@@ -55,7 +57,8 @@ impl Gate for Ordered<'_> {
         for (place, at) in self.order.iter().enumerate() {
             if *at == (lane, call, point) {
                 self.wait(place);
-                self.passed.fetch_max(place.saturating_add(1), Ordering::SeqCst);
+                self.passed
+                    .fetch_max(place.saturating_add(1), Ordering::SeqCst);
             }
         }
     }
