@@ -1,4 +1,5 @@
 pub mod Actions
+pub mod EachTimer
 pub mod Expires
 pub mod Filed
 pub mod Items
@@ -11,6 +12,8 @@ pub mod Looks
 pub mod ObjectsMade
 pub mod OthersMade
 pub mod PassState
+pub mod OwnParts
+pub mod OwnPoints
 pub mod Permuted
 pub mod Points
 pub mod Promise

@@ -15,7 +15,7 @@ use Rattle.run_history.proofs.Actions.{made-append}
 use Rattle.run_history.proofs.Items.{own_rises, RiseIn}
 use Rattle.run_history.proofs.Rounds.{within_span}
 
-count_own : {X A : Type 0} (label : X → Label) (thing : X → A) (c : Label) (k : ℕ) (xs : List X)
+pub count_own : {X A : Type 0} (label : X → Label) (thing : X → A) (c : Label) (k : ℕ) (xs : List X)
     → made_by c (map label xs) ≡ length (own label thing c k xs)
 count_own label thing c k [] = refl
 count_own label thing c k (x ∷ xs) =

@@ -7,3 +7,4 @@ pub mod Receipts
 pub mod Rounds
 pub mod Runs
 pub mod Promises
+pub mod EachTimer

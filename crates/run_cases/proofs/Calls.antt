@@ -1,0 +1,169 @@
+-- Calls of a small course: tests of where they stand, and what else makes each right.
+use Rattle.std.proofs.Common.{◌≡◌, ◌≤◌, ◌⊎◌, ◌&&◌, ℕ, ◌+◌, Bool, true, nat_eq, nat_le, nat_lt, None, Option, Some, List, [], ◌∷◌, ◌++◌, if◌then◌else◌, length, map, arith, refl, sym, ap, ◌∙◌, subst}
+use Rattle.std.specs.List.Sorted.{IsPermutation}
+use Rattle.std.specs.List.{AllByRecursion, list_all}
+use Rattle.std.proofs.Math.Logic.{⊎_elim}
+use Rattle.std.proofs.lemmas.Bool.{and_parts, eqb-true}
+use Rattle.std.proofs.lemmas.List.Sorted.{IsPermutation-refl}
+use Rattle.std.proofs.lemmas.List.{get_or_past, nil_from_length}
+use Rattle.record_text.specs.declared.record.Answer.{Answer}
+use Rattle.record_text.specs.declared.record.Label.{Label}
+use Rattle.record_text.specs.declared.record.ObjectLine.{ObjectLine}
+use Rattle.script_text.specs.declared.script.Call.{Call}
+use Rattle.script_text.specs.Actions.{own, looked, made, own_looks, skips_under, own_skips, skipped, wrote}
+use Rattle.script_text.specs.Fits.{object_called, object_stamp_in, object_steps_on, stamps_on}
+use Rattle.script_text.specs.Histories.{clock_labels, lines_of_timer}
+use Rattle.script_text.specs.Objects.{lines_of_object}
+use Rattle.script_text.specs.Order.{CallInRound, NeverFall}
+use Rattle.run_history.specs.Calls.{Does}
+use Rattle.run_history.specs.Courses.{Course, labels}
+use Rattle.run_history.specs.Fits.{FitsLane}
+use Rattle.run_history.specs.Traces.{all_entered, HasTraced, own_moves}
+use Rattle.run_history.specs.Truths.{AreTrue, IsClaimSpan, IsSeen}
+use Rattle.run_cases.proofs.Courses.{Along, everywhere, each_list}
+use Rattle.run_cases.proofs.Tests.{all_true, are_made, are_plain, plain_pass, is_point, never_fall, IsPast, made_past, other, point_passes, steps_pass, upto}
+
+-- ---- calls
+
+-- the last of these numbers, or this one
+abbrev pub last_of : ℕ → List ℕ → ℕ
+last_of n [] = n
+last_of n (m ∷ ms) = last_of m ms
+
+-- how many writes a call has seen at its end
+abbrev pub clock_then : Course → Label → ℕ
+clock_then w c = last_of (w.traces c).at (map (λ x. x.0) (wrote (w.traces c).actions))
+
+-- a call's reading, its first and its last moment stand where they may, behind these numbers of writes and of entries
+abbrev pub is_placed : Course → Label → ℕ → ℕ → Bool
+is_placed w c clock moves =
+    (is_point w.script c 0 (w.traces c).at (clock_labels w.run)
+    && never_fall clock ((w.traces c).at ∷ map (λ x. x.0) (wrote (w.traces c).actions)) (clock_then w c))
+    && ((is_point w.script c 0 (w.traces c).first (labels w)
+    && is_point w.script c (length (all_entered (w.traces c).actions)) (w.traces c).last (labels w)) && nat_le moves (w.traces c).first)
+
+-- what else makes a call fit; the lane had seen so many entries of each object before it, and has seen so many after it
+pub record IsRight (w : Course) (c : Label) (call : Call) (answer : Answer) (before after : ℕ) : Type 0 where
+  pub traced : HasTraced w c (w.traces c).actions
+  pub does : Does w.script (w.traces c).at call answer (w.traces c).fired (w.traces c).actions
+  pub truth : AreTrue w c (w.traces c).first (w.traces c).first [] (w.traces c).actions (w.traces c).last
+  pub expiries : AllByRecursion (λ f. IsClaimSpan w f f.body) (w.traces c).fired
+  pub seen : IsSeen w (w.traces c).first (w.traces c).last c (w.traces c).at (w.traces c).actions call answer
+  pub steps : (i : ℕ) → NeverFall before (object_steps_on i call answer (w.traces c).actions) after
+
+-- the same of a lane's calls from one of them on
+abbrev pub AreRight : Course → ℕ → ℕ → ℕ → List CallInRound → List Answer → Type 0
+AreRight w lane index before [] [] = Unit
+AreRight w lane index before (p ∷ ps) (a ∷ more) =
+    (after : ℕ) × IsRight w (record { lane = lane; call = index }) p.call a before after × AreRight w lane (index + 1) after ps more
+AreRight w lane index before [] (a ∷ more) = ⊥
+AreRight w lane index before (p ∷ ps) [] = ⊥
+
+-- the same of a lane's calls from one of them on
+abbrev pub are_placed : Course → ℕ → ℕ → ℕ → ℕ → List CallInRound → Bool
+are_placed w lane index clock moves [] = true
+are_placed w lane index clock moves (p ∷ ps) =
+    is_placed w (record { lane = lane; call = index }) clock moves
+    && are_placed w lane (index + 1) (clock_then w (record { lane = lane; call = index })) (w.traces (record { lane = lane; call = index })).last ps
+
+-- law: so the calls of a lane fit
+pub lane_fits : (w : Course) (lane index clock moves objects : ℕ) (ps : List CallInRound) (given : List Answer) → are_placed w lane index clock moves ps ≡ true
+    → AreRight w lane index objects ps given → FitsLane w lane index (record { clock = clock; moves = moves; objects = λ i. objects }) ps given
+lane_fits w lane index clock moves objects [] [] placed right = tt
+lane_fits w lane index clock moves objects [] (a ∷ more) placed right = absurd right
+lane_fits w lane index clock moves objects (p ∷ ps) [] placed right = absurd right
+lane_fits w lane index clock moves objects (p ∷ ps) (a ∷ more) placed right =
+    let c : Label = record { lane = lane; call = index } in
+    let t = w.traces c in
+    let these = map (λ x. x.0) (wrote t.actions) in
+    let both = and_parts (is_placed w c clock moves) (are_placed w lane (index + 1) (clock_then w c) t.last ps) placed in
+    let halves = and_parts (is_point w.script c 0 t.at (clock_labels w.run) && never_fall clock (t.at ∷ these) (clock_then w c))
+    ((is_point w.script c 0 t.first (labels w) && is_point w.script c (length (all_entered t.actions)) t.last (labels w)) && nat_le moves t.first) both.0 in
+    let times = and_parts (is_point w.script c 0 t.at (clock_labels w.run)) (never_fall clock (t.at ∷ these) (clock_then w c)) halves.0 in
+    let rest = and_parts (is_point w.script c 0 t.first (labels w) && is_point w.script c (length (all_entered t.actions)) t.last (labels w))
+    (nat_le moves t.first) halves.1 in
+    let ends = and_parts (is_point w.script c 0 t.first (labels w)) (is_point w.script c (length (all_entered t.actions)) t.last (labels w)) rest.0 in (
+      record { clock = clock_then w c; moves = t.last; objects = λ i. right.0 },
+      record {
+        traced = right.1.traced;
+        does = right.1.does;
+        reading = point_passes w.script c 0 t.at (clock_labels w.run) times.0;
+        begins = point_passes w.script c 0 t.first (labels w) ends.0;
+        ends = point_passes w.script c (length (all_entered t.actions)) t.last (labels w) ends.1;
+        truth = right.1.truth;
+        expiries = right.1.expiries;
+        seen = right.1.seen;
+        clock_steps = steps_pass clock (t.at ∷ these) (clock_then w c) times.1;
+        move_steps = (upto moves t.first rest.1, omega arith);
+        object_steps = right.1.steps;
+      },
+      lane_fits w lane (index + 1) (clock_then w c) t.last right.0 ps more both.1 right.2,
+    )
+
+-- under an object's entries there are no refused expiries
+abbrev pub is_unrefused : List ObjectLine → Bool
+is_unrefused lines = list_all (λ line. nat_eq (length line.skips) 0) lines
+
+no_skips : (c : Label) (k : ℕ) (lines : List ObjectLine) → is_unrefused lines ≡ true → own_skips c k lines ≡ []
+no_skips c k [] e = refl
+no_skips c k (l ∷ lines) e = let parts = and_parts (nat_eq (length l.skips) 0) (is_unrefused lines) e in
+    ap (λ skips. skips_under c k skips ++ own_skips c (k + 1) lines) (nil_from_length l.skips (eqb-true (length l.skips) 0 parts.0))
+    ∙ no_skips c (k + 1) lines parts.1
+
+-- a call is on a timer by itself, or on an object that is there
+abbrev pub is_on : ℕ → Option ℕ → Bool
+is_on k None = true
+is_on k (Some i) = nat_lt i k
+
+no_stamps : (k i : ℕ) (on : Option ℕ) (stamps : List ℕ) → is_on k on ≡ true → k ≤ i → stamps_on i on stamps ≡ []
+no_stamps k i None stamps e past = refl
+no_stamps k i (Some on) stamps e past = ap (λ b. if b then stamps else []) (other on k i e past)
+
+-- what a call did can be said of each timer and each object that is there
+abbrev pub is_said : Course → Label → Call → ℕ → ℕ → Bool
+is_said w c call before after =
+    (list_all is_unrefused w.run.objects && are_made (length w.run.timers) (length w.run.objects) (w.traces c).actions)
+    && (is_on (length w.run.objects) (object_called call) && nat_le before after)
+
+-- law: so a call is right
+pub right : {w : Course} {c : Label} {call : Call} {answer : Answer} {before after : ℕ} → is_said w c call before after ≡ true
+    → own (λ line. line.label) (λ line. line.write) c 1 w.run.clock ≡ wrote (w.traces c).actions → own_moves c w.moves ≡ all_entered (w.traces c).actions
+    → Along (λ t. own_looks c 1 (lines_of_timer w.run t) ≡ looked t (w.traces c).actions) 0 w.run.timers
+    → Along (λ i. own (λ line. line.label) (λ line. line.entry) c 1 (lines_of_object w.run i) ≡ made i (w.traces c).actions) 0 w.run.objects
+    → Along (λ i. NeverFall before (object_steps_on i call answer (w.traces c).actions) after) 0 w.run.objects
+    → Does w.script (w.traces c).at call answer (w.traces c).fired (w.traces c).actions
+    → (are_plain w c (w.traces c).first [] (w.traces c).actions (w.traces c).last ≡ true)
+    ⊎ AreTrue w c (w.traces c).first (w.traces c).first [] (w.traces c).actions (w.traces c).last
+    → AllByRecursion (λ f. IsClaimSpan w f f.body) (w.traces c).fired
+    → IsSeen w (w.traces c).first (w.traces c).last c (w.traces c).at (w.traces c).actions call answer
+    → IsRight w c call answer before after
+right {w} {c} {call} {answer} {before} {after} said clock timers looks objects steps does truth expiries seen =
+    let r = w.run in
+    let ds = (w.traces c).actions in
+    let parts = and_parts (list_all is_unrefused r.objects && are_made (length r.timers) (length r.objects) ds)
+    (is_on (length r.objects) (object_called call) && nat_le before after) said in
+    let did_so = and_parts (list_all is_unrefused r.objects) (are_made (length r.timers) (length r.objects) ds) parts.0 in
+    let called = and_parts (is_on (length r.objects) (object_called call)) (nat_le before after) parts.1 in
+    let past : (i : ℕ) → IsPast (length r.timers) (length r.objects) i ds = λ i. made_past (length r.timers) (length r.objects) i ds did_so.1 in
+    record {
+      traced = record {
+        clock = clock;
+        timers = timers;
+        looks = everywhere (λ t. own_looks c 1 (lines_of_timer r t) ≡ looked t ds) r.timers looks (λ t more.
+            ap (own_looks c 1) (get_or_past r.timers t [] more) ∙ sym ((past t).looked more));
+        objects = everywhere (λ i. own (λ line. line.label) (λ line. line.entry) c 1 (lines_of_object r i) ≡ made i ds) r.objects objects (λ i more.
+            ap (own (λ line. line.label) (λ line. line.entry) c 1) (get_or_past r.objects i [] more) ∙ sym ((past i).made more));
+        skips = λ i. subst (λ xs. IsPermutation xs (skipped i ds))
+            (sym (each_list (λ lines. own_skips c 1 lines ≡ []) r.objects refl
+            (all_true (λ lines. own_skips c 1 lines ≡ []) is_unrefused (no_skips c 1) r.objects did_so.0) i))
+            (subst (IsPermutation []) (sym (past i).skipped) (IsPermutation-refl []));
+      };
+      does = does;
+      truth = ⊎_elim (plain_pass w c (w.traces c).first (w.traces c).first [] ds (w.traces c).last) (λ is. is) truth;
+      expiries = expiries;
+      seen = seen;
+      steps = everywhere (λ i. NeverFall before (object_steps_on i call answer ds) after) r.objects steps (λ i more.
+          subst (λ ns. NeverFall before (ns ++ stamps_on i (object_called call) (object_stamp_in answer)) after) (sym ((past i).numbers more))
+          (subst (λ ns. NeverFall before ns after) (sym (no_stamps (length r.objects) i (object_called call) (object_stamp_in answer) called.0 more))
+          (upto before after called.1)));
+    }

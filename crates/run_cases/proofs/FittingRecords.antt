@@ -1,0 +1,251 @@
+-- The records that fit: a course for each, and what makes it fit.
+use Rattle.std.proofs.Common.{◌≡◌, ℕ, true, false, [], ◌∷◌, List, None, Some, get_or, arith, refl, inl, inr}
+use Rattle.ktime.specs.Times.{passed}
+use Rattle.ktime.specs.declared.mode.Mode.TheVariants as modes
+use Rattle.clock_model.specs.declared.write.Write.TheVariants as writes
+use Rattle.seq_timer.specs.Systems.{after_entry, changed}
+use Rattle.record_text.specs.declared.record.Answer.TheVariants as answers
+use Rattle.record_text.specs.declared.record.Answer.{Answer}
+use Rattle.record_text.specs.declared.record.Armed.TheVariants as armings
+use Rattle.record_text.specs.declared.record.CallbackReply.TheVariants as replies
+use Rattle.record_text.specs.declared.record.Entry.TheVariants as entries
+use Rattle.record_text.specs.declared.record.RunRecord.{RunRecord}
+use Rattle.script_text.specs.declared.script.Call.TheVariants as calls
+use Rattle.script_text.specs.Actions.{Entered, Looked, Made, Wrote}
+use Rattle.script_text.specs.Order.{calls_of}
+use Rattle.run_history.specs.Courses.{Course, Trace}
+use Rattle.run_history.specs.Fits.{Fits}
+use Rattle.run_cases.specs.Fitting.{accept_entry, accepted_record, accepted_script, beside, beside_script, cancelled_record, expired_lines, idle_record, idle_script, kept_start, late_record, moved_record, moved_script, moved_start, next_start, none_entry, running_record, set_entry, told_record, told_script, trigger_entry}
+use Rattle.run_cases.specs.Lines.{at, start}
+use Rattle.run_cases.proofs.Calls.{are_placed, IsRight, right}
+use Rattle.run_cases.proofs.Courses.{armed_by, course_by, did, done_by, fired, next, ran, step, three, two}
+use Rattle.run_cases.proofs.Small.{fits_by}
+use Rattle.run_cases.proofs.Tests.{le, lt, point_passes}
+
+-- ---- a timer is started, expires, is cancelled when it is idle, and is looked at
+
+-- its course
+abbrev idle_course : Course
+idle_course = course_by idle_script idle_record (0 ∷ 0 ∷ 0 ∷ []) ((did 0 (Entered 0 1 (start modes.Rel 100 100) ∷ []) 0 1
+    ∷ did 0 (Wrote 1 (writes.Advance 100) ∷ []) 1 1 ∷ ran 0 1 (fired 2 1 [] 3 false ∷ []) 1 3 ∷ did 1 [] 3 3 ∷ did 1 [] 3 3 ∷ []) ∷ []) (λ i k. (0, 0))
+
+-- law: it fits
+pub idle_fits : Fits idle_script idle_record
+unfolding after_entry changed
+idle_fits = fits_by idle_course (record {
+  passed = refl;
+  writes = (record { counted = lt refl; timely = le refl }, record { mono = refl; real = refl; boot = refl; changes = refl }, tt);
+  all = (refl, tt);
+  history = two (step refl (inr refl, inl (lt refl)) refl tt)
+      (two (step refl (refl, refl, refl, refl, le refl) refl (refl, refl)) (two (step refl refl refl tt) tt));
+  object_histories = (refl, tt);
+  object_spans = (tt, tt);
+  placed = (refl, tt);
+  calls = two (
+      next 0 (right refl refl refl (refl, tt) (refl, tt) (le refl, tt) (armed_by 1 100, refl, refl, refl, refl, tt) (inl refl) tt tt)
+      (next 0 (right refl refl refl (refl, tt) (refl, tt) (le refl, tt) refl (inl refl) tt tt)
+      (next 0 (right refl refl refl (refl, tt) (refl, tt) (le refl, tt)
+      (record { one_reading = refl; claimed = refl; done = refl; bodies = ((refl, refl), tt) }, lt refl)
+      (inl refl) (tt, tt) (done_by idle_course 1 0 3 refl ((refl, refl), tt)))
+      (next 0 (right refl refl refl (refl, tt) (refl, tt) (le refl, tt) refl (inl refl) tt
+      (record { stamp = refl; holds = record { armed = refl; running = refl; moving = refl } }))
+      (next 0 (right refl refl refl (refl, tt) (refl, tt) (le refl, tt) refl (inl refl) tt (record { stamp = refl; holds = refl })) tt))))
+      ) tt;
+})
+
+-- ---- a callback is told that its own timer runs
+
+-- its course
+abbrev told_course : Course
+told_course = course_by told_script told_record (0 ∷ 0 ∷ 0 ∷ []) ((did 0 (Entered 0 1 (start modes.Rel 0 0) ∷ []) 0 1
+    ∷ ran 0 0 (fired 2 1 (Looked 0 2 (replies.Running 1) ∷ []) 3 false ∷ []) 1 3 ∷ []) ∷ []) (λ i k. (0, 0))
+
+-- law: it fits
+pub told_fits : Fits told_script told_record
+unfolding after_entry changed
+told_fits = fits_by told_course (record {
+  passed = refl;
+  writes = tt;
+  all = (refl, tt);
+  history = two (step refl (inr refl, inl (lt refl)) refl tt)
+      (two (step refl (refl, refl, refl, refl, le refl) refl (refl, refl)) (two (step refl refl refl tt) tt));
+  object_histories = (refl, tt);
+  object_spans = (tt, tt);
+  placed = (refl, tt);
+  calls = two (
+      next 0 (right refl refl refl (refl, tt) (refl, tt) (le refl, tt) (armed_by 1 0, refl, refl, refl, refl, tt) (inl refl) tt tt)
+      (next 0 (right refl refl refl (refl, tt) (refl, tt) (le refl, tt)
+      (record { one_reading = refl; claimed = refl; done = refl; bodies = (((2, refl), refl), tt) }, refl)
+      (inr (
+        1,
+        le refl,
+        point_passes _ _ _ _ _ refl,
+        (
+          2,
+          le refl,
+          (point_passes _ _ _ _ _ refl, record { stamp = refl; holds = refl }, tt),
+          (2, le refl, tt, le refl),
+        ),
+      )) (tt, tt) tt) tt)
+      ) tt;
+})
+
+-- ---- a callback starts its own timer while it runs, and a later start moves the timer to another base
+
+-- its course
+abbrev moved_course : Course
+moved_course = course_by moved_script moved_record (0 ∷ 0 ∷ 0 ∷ 0 ∷ 0 ∷ 0 ∷ []) ((did 0 (Entered 0 1 (start modes.Abs 0 0) ∷ []) 0 1
+    ∷ ran 0 0 (fired 2 1 (Entered 0 3 kept_start ∷ []) 4 true ∷ []) 1 4 ∷ did 0 [] 4 4
+    ∷ did 0 (Entered 0 5 (entries.Out 1 true) ∷ Entered 0 6 moved_start ∷ []) 4 6 ∷ []) ∷ []) (λ i k. (0, 0))
+
+-- law: it fits
+pub moved_fits : Fits moved_script moved_record
+unfolding after_entry changed
+moved_fits = fits_by moved_course (record {
+  passed = refl;
+  writes = tt;
+  all = (refl, tt);
+  history = two (step refl (inr refl, inl (lt refl)) refl tt) (two (step refl (refl, refl, refl, refl, le refl) refl (refl, refl))
+      (two (step refl (inl refl, inl (lt refl)) refl tt) (two (step refl refl refl tt)
+      (two (step refl (refl, refl, (λ e. omega (arith, e)), lt refl) refl (lt refl)) (two (step refl (inr refl, inl (lt refl)) refl tt) tt)))));
+  object_histories = (refl, tt);
+  object_spans = (tt, tt);
+  placed = (refl, tt);
+  calls = two (
+      next 0 (right refl refl refl (refl, tt) (refl, tt) (le refl, tt) (armed_by 1 0, refl, refl, refl, refl, tt) (inl refl) tt tt)
+      (next 0 (right refl refl refl (refl, tt) (refl, tt) (le refl, tt)
+      (record { one_reading = refl; claimed = refl; done = refl; bodies = ((inl (armed_by 3 50, refl), refl), tt) }, refl) (inl refl) (tt, tt) tt)
+      (next 0 (right refl refl refl (refl, tt) (refl, tt) (le refl, tt) refl (inl refl) tt (record { stamp = refl; holds = refl }))
+      (next 0 (right refl refl refl (refl, tt) (refl, tt) (le refl, tt)
+      (record (armed_by 6 70) { out = Some (5, true); base = 1 }, refl, refl, refl, refl, refl) (inl refl) tt tt) tt)))
+      ) tt;
+})
+
+-- ---- a lane cancels a timer beside another lane's expiry run
+
+-- the start came first; then the cancel, and the other lane's expiry run, did these things
+abbrev beside_course : RunRecord → List ℕ → Trace → Trace → Course
+beside_course r order cancel expire =
+    course_by beside_script r (0 ∷ order) ((did 0 (Entered 0 1 (start modes.Rel 0 0) ∷ []) 0 1 ∷ cancel ∷ []) ∷ (expire ∷ []) ∷ []) (λ i k. (0, 0))
+
+-- the cancel came first
+abbrev cancelled_course : Course
+cancelled_course = beside_course cancelled_record (0 ∷ []) (did 0 (Entered 0 2 (entries.Cancel 1) ∷ []) 1 2) (ran 0 0 [] 2 2)
+
+-- law: it fits
+pub cancelled_fits : Fits beside_script cancelled_record
+unfolding after_entry changed
+cancelled_fits = fits_by cancelled_course (record {
+  passed = refl;
+  writes = tt;
+  all = (refl, tt);
+  history = two (step refl (inr refl, inl (lt refl)) refl tt) (two (step refl (refl, refl, refl) refl tt) tt);
+  object_histories = (refl, tt);
+  object_spans = (tt, tt);
+  placed = (refl, (refl, tt));
+  calls = two (
+      next 0 (right refl refl refl (refl, tt) (refl, tt) (le refl, tt) (armed_by 1 0, refl, refl, refl, refl, tt) (inl refl) tt tt)
+      (next 0 (right refl refl refl (refl, tt) (refl, tt) (le refl, tt) (2, refl) (inl refl) tt tt) tt)
+      ) (two (
+      next 0 (right refl refl refl (refl, tt) (refl, tt) (le refl, tt) (record { one_reading = refl; claimed = refl; done = refl; bodies = tt }, lt refl)
+      (inl refl) tt (done_by cancelled_course 0 0 2 refl ((refl, refl), tt))) tt
+      ) tt);
+})
+
+-- the timer expired, and a cancel did nothing at this moment
+abbrev expired_course : Answer → ℕ → Course
+expired_course told moment = beside_course (beside expired_lines told (answers.Done 0 (0 ∷ []))) (0 ∷ 0 ∷ []) (did 0 [] moment moment)
+    (ran 0 0 (fired 2 1 [] 3 false ∷ []) 1 3)
+
+expired_fits : (told : Answer) (moment : ℕ) → are_placed (expired_course told moment) 0 0 0 0 (calls_of beside_script 0) ≡ true
+    → IsRight (expired_course told moment) (at 0 1) (calls.Cancel 0) told 0 0 → Fits beside_script (beside expired_lines told (answers.Done 0 (0 ∷ [])))
+unfolding after_entry changed
+expired_fits told moment placed cancel = fits_by (expired_course told moment) (record {
+  passed = refl;
+  writes = tt;
+  all = (refl, tt);
+  history = two (step refl (inr refl, inl (lt refl)) refl tt)
+      (two (step refl (refl, refl, refl, refl, le refl) refl (refl, refl)) (two (step refl refl refl tt) tt));
+  object_histories = (refl, tt);
+  object_spans = (tt, tt);
+  placed = (placed, (refl, tt));
+  calls = two (
+      next 0 (right refl refl refl (refl, tt) (refl, tt) (le refl, tt) (armed_by 1 0, refl, refl, refl, refl, tt) (inl refl) tt tt) (next 0 cancel tt)
+      ) (two (
+      next 0 (right refl refl refl (refl, tt) (refl, tt) (le refl, tt)
+      (record { one_reading = refl; claimed = refl; done = refl; bodies = ((refl, refl), tt) }, lt refl) (inl refl) (tt, tt)
+      (done_by (expired_course told moment) 0 0 3 refl ((refl, refl), tt))) tt
+      ) tt);
+})
+
+-- law: so it fits where the function ran
+pub running_fits : Fits beside_script running_record
+unfolding after_entry changed
+running_fits = expired_fits (answers.Running 1 2) 2 refl
+    (right refl refl refl (refl, tt) (refl, tt) (le refl, tt) refl (inl refl) tt (record { stamp = refl; holds = refl }))
+
+-- law: and where it had run
+pub late_fits : Fits beside_script late_record
+unfolding after_entry changed
+late_fits = expired_fits (answers.Idle 3) 3 refl (right refl refl refl (refl, tt) (refl, tt) (le refl, tt) refl (inl refl) tt
+    (record { stamp = refl; holds = record { armed = refl; running = refl; moving = refl } }))
+
+-- ---- a POSIX timer is set, expires, and has its signal accepted, which arms it again; a second acceptance finds none
+
+-- the spans of the object's entries, by their numbers
+abbrev accepted_spans : ℕ → ℕ × ℕ
+accepted_spans k = get_or ((0, 0) ∷ (0, 1) ∷ (1, 2) ∷ (3, 4) ∷ (4, 4) ∷ []) k (0, 0)
+
+-- its course
+abbrev accepted_course : Course
+accepted_course = course_by accepted_script accepted_record (0 ∷ 0 ∷ 0 ∷ 0 ∷ []) ((did 0 (Entered 0 1 (start modes.Abs 100 100) ∷ Made 0 1 set_entry ∷ []) 0 1
+    ∷ did 0 (Wrote 1 (writes.Advance 100) ∷ []) 1 1 ∷ ran 0 1 (fired 2 1 (Made 0 2 trigger_entry ∷ []) 3 false ∷ []) 1 3
+    ∷ did 1 (Wrote 2 (writes.Advance 35) ∷ []) 3 3 ∷ did 2 (Entered 0 4 next_start ∷ Made 0 3 accept_entry ∷ []) 3 4
+    ∷ did 2 (Made 0 4 none_entry ∷ []) 4 4 ∷ did 2 [] 4 4 ∷ []) ∷ []) (λ i. accepted_spans)
+
+-- law: it fits
+pub accepted_fits : Fits accepted_script accepted_record
+unfolding after_entry changed passed
+accepted_fits = fits_by accepted_course (record {
+  passed = refl;
+  writes = three (record { counted = lt refl; timely = le refl }) (record { mono = refl; real = refl; boot = refl; changes = refl })
+      (three (record { counted = lt refl; timely = le refl }) (record { mono = refl; real = refl; boot = refl; changes = refl }) tt);
+  all = (refl, tt);
+  history = two (step refl (inr refl, inl (lt refl)) refl tt) (two (step refl (refl, refl, refl, refl, le refl) refl (refl, refl)) (two (step refl refl refl tt)
+      (two (step refl (inr refl, inl (lt refl)) refl tt) tt)));
+  object_histories = two (two (refl, (refl, (refl, (refl, tt)))) (three (lt refl, refl, le refl, le refl, (λ e. absurd (cc), λ e. absurd (cc))) refl
+      (three (lt refl) refl (three (lt refl, (λ e. absurd (cc), λ e. absurd (cc))) refl (three (lt refl, (λ e. refl, λ e. refl)) refl tt))))) tt;
+  object_spans = ((le refl, le refl, (le refl, le refl, (le refl, le refl, (le refl, le refl, tt)))), tt);
+  placed = (refl, tt);
+  calls = two (
+      next 1 (right refl refl refl (refl, tt) (refl, tt) ((le refl, le refl), tt) (record {
+        taken = record { known = refl; good_value = lt refl; good_interval = lt refl };
+        cancel = None;
+        arm = armings.Generation 1;
+        start = Entered 0 1 (start modes.Abs 100 100) ∷ [];
+        number = 1;
+        arms = (armed_by 1 100, refl, refl, tt);
+        done = refl;
+      }) (inr (0, le refl, tt, (1, le refl, (point_passes _ _ _ _ _ refl, (refl, (refl, refl, λ e. refl)), refl), le refl))) tt
+      (record { armed = refl; running = refl; moving = refl }))
+      (next 1 (right refl refl refl (refl, tt) (refl, tt) (le refl, tt) refl (inl refl) tt tt)
+      (next 2 (right refl refl refl (refl, tt) (refl, tt) ((le refl, le refl), tt)
+      (record { one_reading = refl; claimed = refl; done = refl; bodies = ((inl (2, true, refl), refl), tt) }, lt refl)
+      (inr (1, le refl, point_passes _ _ _ _ _ refl, (2, le refl, (point_passes _ _ _ _ _ refl, tt, tt), (2, le refl, tt, le refl))))
+      ((1, refl, refl), tt) (done_by accepted_course 1 0 3 refl ((refl, refl), tt)))
+      (next 2 (right refl refl refl (refl, tt) (refl, tt) (le refl, tt) refl (inl refl) tt tt)
+      (next 3 (right refl refl refl (refl, tt) (refl, tt) ((le refl, le refl), tt) (record {
+        arm = armings.Generation 4;
+        ns = 140;
+        start = Entered 0 4 next_start ∷ [];
+        number = 3;
+        timely = le refl;
+        arms = (armed_by 4 140, refl, refl, tt);
+        done = refl;
+      }) (inr (3, le refl, tt, (4, le refl, (point_passes _ _ _ _ _ refl, (refl, (refl, refl, λ e. refl)), refl), le refl))) tt tt)
+      (next 4 (right refl refl refl (refl, tt) (refl, tt) ((le refl, le refl), tt)
+      (record { arm = armings.None; ns = 0; start = []; number = 4; timely = le refl; arms = refl; done = refl })
+      (inr (4, le refl, (point_passes _ _ _ _ _ refl, tt, record { empty = refl; seen = λ e. le refl }), le refl)) tt tt)
+      (next 4 (right refl refl refl (refl, tt) (refl, tt) ((le refl, le refl), tt) refl (inl refl) tt (point_passes _ _ _ _ _ refl, refl)) tt))))))
+      ) tt;
+})

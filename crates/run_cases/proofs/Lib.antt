@@ -1,0 +1,8 @@
+pub mod Calls
+pub mod Courses
+pub mod FittingRecords
+pub mod Orders
+pub mod Settimes
+pub mod Small
+pub mod Tests
+pub mod WrongRecords

@@ -1,0 +1,158 @@
+-- The record of a small course fits: tests of the whole, and what is said of each timer and each lane.
+use Rattle.std.proofs.Common.{◌≡◌, ◌≤◌, ◌&&◌, ℕ, ◌+◌, Bool, true, false, nat_eq, nat_lt, List, [], ◌∷◌, length, map, refl, sym, ap, ◌∙◌, subst}
+use Rattle.std.specs.List.{AllByRecursion, list_all}
+use Rattle.std.proofs.lemmas.Bool.{and_parts, eqb-true}
+use Rattle.std.proofs.lemmas.List.{get_or_past, length-map, nil_from_length}
+use Rattle.clock_model.specs.Clocks.{at_stamp}
+use Rattle.seq_timer.specs.Systems.{IsSystemHistory}
+use Rattle.seq_timer.proofs.Ties.{may_follow}
+use Rattle.record_text.specs.declared.record.ObjectLine.{ObjectLine}
+use Rattle.record_text.specs.declared.record.TimerLine.{TimerLine}
+use Rattle.script_text.specs.declared.script.Callback.TheVariants as callbacks
+use Rattle.script_text.specs.declared.script.Kind.TheVariants as kinds
+use Rattle.script_text.specs.declared.script.LaneCall.{LaneCall}
+use Rattle.script_text.specs.declared.script.Round.{Round}
+use Rattle.script_text.specs.declared.script.Script.{Script}
+use Rattle.script_text.specs.Fits.{answers_of, AreUnder}
+use Rattle.script_text.specs.Histories.{AreWrites, clock_labels, lines_of_timer}
+use Rattle.script_text.specs.Objects.{IsLegalObject, kind_of, lines_of_object}
+use Rattle.script_text.specs.Order.{calls_of, IsInOrder, IsLabel}
+use Rattle.run_history.specs.Courses.{clocks_of, Course, entries_in, labels, Move, moves_from, moves_on}
+use Rattle.run_history.specs.Fits.{AreBehind, AreSkipsUnder, Fits, FitsIn, FitsLane, unseen}
+use Rattle.run_cases.proofs.Calls.{AreRight, are_placed, is_unrefused, lane_fits}
+use Rattle.run_cases.proofs.Courses.{Along, everywhere, each_list, none_on, no_calls}
+use Rattle.run_cases.proofs.Tests.{all_true, are_calls, are_in_order, are_sorted, calls_pass, order_passes, other, sorted_pass}
+
+-- ---- the whole record
+
+-- its labels are those of calls, and in order
+abbrev pub are_called : Course → Bool
+are_called w =
+    (are_calls w.script (clock_labels w.run) && are_calls w.script (labels w))
+    && list_all (λ lines. are_calls w.script (map (λ line. line.label) lines)) w.run.objects
+
+-- along each of its lists labels are in order
+abbrev pub are_ordered : Course → Bool
+are_ordered w =
+    (are_in_order w.script (clock_labels w.run) && are_in_order w.script (labels w))
+    && list_all (λ lines. are_in_order w.script (map (λ line. line.label) lines)) w.run.objects
+
+-- looks bear the labels of calls and stand in order, and no object refused an expiry
+abbrev pub is_under : Script → TimerLine → Bool
+is_under s line = are_calls s (map (λ look. look.label) line.looks) && are_sorted (map (λ look. look.label) line.looks)
+
+-- the same of all its lines
+abbrev pub are_under : Course → Bool
+are_under w = list_all (λ lines. list_all (is_under w.script) lines) w.run.timers && list_all is_unrefused w.run.objects
+
+-- no move is of a timer, and no call of a lane, that isn't there
+abbrev pub are_there : Course → Bool
+are_there w =
+    list_all (λ m. nat_lt m.timer (length w.run.timers)) w.moves
+    && list_all (λ round. list_all (λ c. nat_lt c.lane (length w.run.answers)) round.calls) w.script.rounds
+
+-- there are lists for each timer, each object and each lane
+abbrev pub are_sized : Course → Bool
+are_sized w =
+    (nat_eq (length w.run.timers) (length w.script.timers) && nat_eq (length w.run.objects) (length w.script.timers))
+    && nat_eq (length w.run.answers) w.script.lanes
+
+-- all these tests
+abbrev pub is_passed : Course → Bool
+is_passed w = are_sized w && ((are_called w && are_ordered w) && (are_under w && are_there w))
+
+-- what makes the record of a small course fit: the tests are passed, and the rest is said of each timer and each lane
+pub record IsSmall (w : Course) : Type 0 where
+  pub passed : is_passed w ≡ true
+  pub writes : AreWrites (at_stamp 0) w.run.clock
+  pub all : Along (λ t. moves_on t w.moves ≡ moves_from t 0 (lines_of_timer w.run t)) 0 w.run.timers
+  pub history : IsSystemHistory w.script.bases (clocks_of w.script) w.script.limit (entries_in w)
+  pub object_histories : Along (λ i. IsLegalObject w.script w.run i (kind_of w.script i)) 0 w.script.timers
+  pub object_spans : Along (λ i. AreBehind (w.spans i) 1 0 (lines_of_object w.run i)) 0 w.run.objects
+  pub placed : Along (λ lane. are_placed w lane 0 0 0 (calls_of w.script lane) ≡ true) 0 w.run.answers
+  pub calls : Along (λ lane. AreRight w lane 0 0 (calls_of w.script lane) (answers_of w.run lane)) 0 w.run.answers
+
+under_passes : (s : Script) (line : TimerLine) → is_under s line ≡ true → AreUnder s (map (λ look. look.label) line.looks)
+under_passes s line e = let parts = and_parts (are_calls s (map (λ look. look.label) line.looks)) (are_sorted (map (λ look. look.label) line.looks)) e in
+    record { calls = calls_pass s (map (λ look. look.label) line.looks) parts.0; sorted = sorted_pass (map (λ look. look.label) line.looks) parts.1 }
+
+none_skipped : (s : Script) (line : ObjectLine) → nat_eq (length line.skips) 0 ≡ true → AreSkipsUnder s (map (λ skip. skip.label) line.skips)
+none_skipped s line e = subst (λ skips. AreSkipsUnder s (map (λ skip. skip.label) skips)) (sym (nil_from_length line.skips (eqb-true (length line.skips) 0 e)))
+    (record { calls = tt; in_order = tt })
+
+small_fits : (w : Course) → IsSmall w → FitsIn w
+small_fits w small =
+    let s = w.script in
+    let r = w.run in
+    let of_calls = λ (lines : List ObjectLine). are_calls s (map (λ line. line.label) lines) in
+    let of_order = λ (lines : List ObjectLine). are_in_order s (map (λ line. line.label) lines) in
+    let of_looks = λ (lines : List TimerLine). list_all (is_under s) lines in
+    let passed = and_parts (are_sized w) ((are_called w && are_ordered w) && (are_under w && are_there w)) small.passed in
+    let tests = and_parts (are_called w && are_ordered w) (are_under w && are_there w) passed.1 in
+    let along = and_parts (are_called w) (are_ordered w) tests.0 in
+    let within = and_parts (are_under w) (are_there w) tests.1 in
+    let sized = and_parts (nat_eq (length r.timers) (length s.timers) && nat_eq (length r.objects) (length s.timers))
+    (nat_eq (length r.answers) s.lanes) passed.0 in
+    let each_sized = and_parts (nat_eq (length r.timers) (length s.timers)) (nat_eq (length r.objects) (length s.timers)) sized.0 in
+    let objects : length r.objects ≡ length s.timers = eqb-true (length r.objects) (length s.timers) each_sized.1 in
+    let called = and_parts (are_calls s (clock_labels r) && are_calls s (labels w)) (list_all of_calls r.objects) along.0 in
+    let called_by = and_parts (are_calls s (clock_labels r)) (are_calls s (labels w)) called.0 in
+    let ordered = and_parts (are_in_order s (clock_labels r) && are_in_order s (labels w)) (list_all of_order r.objects) along.1 in
+    let ordered_by = and_parts (are_in_order s (clock_labels r)) (are_in_order s (labels w)) ordered.0 in
+    let under = and_parts (list_all of_looks r.timers) (list_all is_unrefused r.objects) within.0 in
+    let of_moves = λ (m : Move). nat_lt m.timer (length r.timers) in
+    let of_lanes = λ (c : LaneCall). nat_lt c.lane (length r.answers) in
+    let of_rounds = λ (round : Round). list_all of_lanes round.calls in
+    let there = and_parts (list_all of_moves w.moves) (list_all of_rounds s.rounds) within.1 in
+    record {
+      timers = eqb-true (length r.timers) (length s.timers) each_sized.0;
+      objects = objects;
+      lanes = eqb-true (length r.answers) s.lanes sized.1;
+      clock_calls = calls_pass s (clock_labels r) called_by.0;
+      timer_calls = calls_pass s (labels w) called_by.1;
+      looks = each_list (AllByRecursion (λ line. AreUnder s (map (λ look. look.label) line.looks))) r.timers tt
+          (all_true (AllByRecursion (λ line. AreUnder s (map (λ look. look.label) line.looks))) of_looks
+          (λ lines e. all_true (λ line. AreUnder s (map (λ look. look.label) line.looks)) (is_under s) (under_passes s) lines e) r.timers under.0);
+      object_calls = each_list (λ (lines : List ObjectLine). AllByRecursion (IsLabel s) (map (λ line. line.label) lines)) r.objects tt
+          (all_true (λ (lines : List ObjectLine). AllByRecursion (IsLabel s) (map (λ line. line.label) lines)) of_calls
+          (λ lines e. calls_pass s (map (λ line. line.label) lines) e) r.objects called.1);
+      skips = each_list (AllByRecursion (λ line. AreSkipsUnder s (map (λ skip. skip.label) line.skips))) r.objects tt
+          (all_true (AllByRecursion (λ line. AreSkipsUnder s (map (λ skip. skip.label) line.skips))) is_unrefused
+          (λ lines e. all_true (λ line. AreSkipsUnder s (map (λ skip. skip.label) line.skips)) (λ line. nat_eq (length line.skips) 0) (none_skipped s) lines e)
+          r.objects under.1);
+      writes = small.writes;
+      history = record {
+        all = everywhere (λ t. moves_on t w.moves ≡ moves_from t 0 (lines_of_timer r t)) r.timers small.all (λ t past.
+            none_on t w.moves (all_true (λ m. nat_eq m.timer t ≡ false) of_moves (λ m less. other m.timer (length r.timers) t less past) w.moves there.0)
+            ∙ ap (moves_from t 0) (sym (get_or_past r.timers t [] past)));
+        history = λ before later x is. may_follow s.bases s.limit (clocks_of s) before later x
+            (subst (IsSystemHistory s.bases (clocks_of s) s.limit) is small.history);
+      };
+      object_histories = everywhere (λ i. IsLegalObject s r i (kind_of s i)) s.timers small.object_histories (λ i past.
+          subst (IsLegalObject s r i) (sym (get_or_past (map (λ d. d.kind) s.timers) i (kinds.Raw callbacks.Once)
+          (subst (λ n. n ≤ i) (sym (length-map s.timers (λ d. d.kind))) past))) (get_or_past r.objects i [] (subst (λ n. n ≤ i) (sym objects) past)));
+      clock_order = order_passes s (clock_labels r) ordered_by.0;
+      order = order_passes s (labels w) ordered_by.1;
+      object_order = each_list (λ (lines : List ObjectLine). IsInOrder s (map (λ line. line.label) lines)) r.objects tt
+          (all_true (λ (lines : List ObjectLine). IsInOrder s (map (λ line. line.label) lines)) of_order
+          (λ lines e. order_passes s (map (λ line. line.label) lines) e) r.objects ordered.1);
+      object_spans = everywhere (λ i. AreBehind (w.spans i) 1 0 (lines_of_object r i)) r.objects small.object_spans (λ i past.
+          subst (AreBehind (w.spans i) 1 0) (sym (get_or_past r.objects i [] past)) tt);
+      calls = everywhere (λ lane. FitsLane w lane 0 unseen (calls_of s lane) (answers_of r lane)) r.answers
+          (both 0 r.answers small.placed small.calls) (λ lane past.
+          subst (λ ps. FitsLane w lane 0 unseen ps (answers_of r lane)) (sym (no_calls lane 0 s.rounds
+          (all_true (λ (round : Round). AllByRecursion (λ c. nat_eq c.lane lane ≡ false) round.calls) of_rounds
+          (λ round e. all_true (λ c. nat_eq c.lane lane ≡ false) of_lanes
+          (λ c less. other c.lane (length r.answers) lane less past) round.calls e) s.rounds there.1)))
+          (subst (FitsLane w lane 0 unseen []) (sym (get_or_past r.answers lane [] past)) tt));
+    }
+  where
+    both : {X : Type 0} (n : ℕ) (xs : List X) → Along (λ lane. are_placed w lane 0 0 0 (calls_of w.script lane) ≡ true) n xs
+        → Along (λ lane. AreRight w lane 0 0 (calls_of w.script lane) (answers_of w.run lane)) n xs
+        → Along (λ lane. FitsLane w lane 0 unseen (calls_of w.script lane) (answers_of w.run lane)) n xs
+    both n [] placed each = tt
+    both n (x ∷ xs) placed each = (lane_fits w n 0 0 0 0 (calls_of w.script n) (answers_of w.run n) placed.0 each.0, both (n + 1) xs placed.1 each.1)
+
+-- law: the record of a small course fits its script
+pub fits_by : (w : Course) → IsSmall w → Fits w.script w.run
+fits_by w small = (w, refl, refl, small_fits w small)

@@ -1,0 +1,199 @@
+-- What of a fit is a matter of numbers and labels, as tests that small courses pass by computing.
+use Rattle.std.proofs.Common.{◌≡◌, ◌<◌, ◌≤◌, ◌&&◌, ℕ, ◌+◌, zero, suc, Bool, true, false, not, if◌then◌else◌, nat_eq, nat_le, nat_lt, List, [], ◌∷◌, ◌++◌, length, take, drop, arith, refl, ap, ◌∙◌}
+use Rattle.std.specs.List.{AllByRecursion, list_all}
+use Rattle.std.proofs.lemmas.Bool.Decides.{nat_tests}
+use Rattle.std.proofs.lemmas.Bool.{and_parts, eqb-true}
+use Rattle.record_text.specs.declared.record.Entry.TheVariants as entries
+use Rattle.record_text.specs.declared.record.Entry.{Entry}
+use Rattle.record_text.specs.declared.record.Label.{Label}
+use Rattle.script_text.specs.declared.script.Script.{Script}
+use Rattle.script_text.specs.Actions.{Action, also, Entered, Looked, looked, Made, made, numbers_of_object, Skipped, skipped, Wrote}
+use Rattle.script_text.specs.Fits.{AreSorted, is_lower}
+use Rattle.script_text.specs.Order.{calls_of, is_before, is_label, IsInOrder, IsLabel, IsPoint, made_by, NeverFall}
+use Rattle.run_history.specs.Courses.{Course, labels}
+use Rattle.run_history.specs.Traces.{all_entered}
+use Rattle.run_history.specs.Truths.{AreTrue, IsMoment, IsTrue}
+
+-- numbers that a test compared
+pub below : (a b : ℕ) → nat_lt a b ≡ true → a < b
+below a b e = grind (arith, nat_tests)
+
+pub upto : (a b : ℕ) → nat_le a b ≡ true → a ≤ b
+upto a b e = grind (arith, nat_tests)
+
+-- the same, of numbers that the goal names
+pub lt : {a b : ℕ} → nat_lt a b ≡ true → a < b
+lt {a} {b} e = below a b e
+
+pub le : {a b : ℕ} → nat_le a b ≡ true → a ≤ b
+le {a} {b} e = upto a b e
+
+unless : (b : Bool) → not b ≡ true → b ≡ false
+unless true e = cc
+unless false e = refl
+
+-- what a test shows of each item
+pub all_true : {X : Type 0} (P : X → Type 0) (test : X → Bool) (each : (x : X) → test x ≡ true → P x) (xs : List X) → list_all test xs ≡ true
+    → AllByRecursion P xs
+all_true P test each [] e = tt
+all_true P test each (x ∷ xs) e = let parts = and_parts (test x) (list_all test xs) e in (each x parts.0, all_true P test each xs parts.1)
+
+all_unless : {X : Type 0} (test : X → Bool) (xs : List X) → list_all (λ x. not (test x)) xs ≡ true → AllByRecursion (λ x. test x ≡ false) xs
+all_unless test xs e = all_true (λ x. test x ≡ false) (λ x. not (test x)) (λ x. unless (test x)) xs e
+
+-- ---- labels
+
+-- the labels are those of calls
+abbrev pub are_calls : Script → List Label → Bool
+are_calls s ls = list_all (λ l. nat_lt l.call (length (calls_of s l.lane))) ls
+
+pub calls_pass : (s : Script) (ls : List Label) → are_calls s ls ≡ true → AllByRecursion (IsLabel s) ls
+calls_pass s ls e = all_true (IsLabel s) (λ l. nat_lt l.call (length (calls_of s l.lane))) (λ l. below l.call (length (calls_of s l.lane))) ls e
+
+-- no label stands behind one whose call began after it was over
+abbrev pub are_in_order : Script → List Label → Bool
+are_in_order s [] = true
+are_in_order s (x ∷ xs) = list_all (λ y. not (is_before s y x)) xs && are_in_order s xs
+
+pub order_passes : (s : Script) (ls : List Label) → are_in_order s ls ≡ true → IsInOrder s ls
+order_passes s [] e = tt
+order_passes s (x ∷ xs) e = let parts = and_parts (list_all (λ y. not (is_before s y x)) xs) (are_in_order s xs) e in
+    (all_unless (λ y. is_before s y x) xs parts.0, order_passes s xs parts.1)
+
+-- the number is one that the call may have seen, having made so many entries of the list
+abbrev pub is_point : Script → Label → ℕ → ℕ → List Label → Bool
+is_point s c own n ls =
+    (nat_le n (length ls) && list_all (λ x. not (is_before s c x)) (take n ls))
+    && (list_all (λ x. not (is_before s x c)) (drop n ls) && nat_eq (made_by c (take n ls)) own)
+
+pub point_passes : (s : Script) (c : Label) (own n : ℕ) (ls : List Label) → is_point s c own n ls ≡ true → IsPoint s c own n ls
+point_passes s c own n ls e =
+    let halves = and_parts (nat_le n (length ls) && list_all (λ x. not (is_before s c x)) (take n ls))
+    (list_all (λ x. not (is_before s x c)) (drop n ls) && nat_eq (made_by c (take n ls)) own) e in
+    let one = and_parts (nat_le n (length ls)) (list_all (λ x. not (is_before s c x)) (take n ls)) halves.0 in
+    let two = and_parts (list_all (λ x. not (is_before s x c)) (drop n ls)) (nat_eq (made_by c (take n ls)) own) halves.1 in
+    record {
+      within = record {
+        small = upto n (length ls) one.0;
+        before = all_unless (λ x. is_before s c x) (take n ls) one.1;
+        behind = all_unless (λ x. is_before s x c) (drop n ls) two.0;
+      };
+      so_many = eqb-true (made_by c (take n ls)) own two.1;
+    }
+
+-- labels in their order, each once
+abbrev pub are_sorted : List Label → Bool
+are_sorted [] = true
+are_sorted (c ∷ cs) = list_all (λ other. is_lower c other) cs && are_sorted cs
+
+pub sorted_pass : (cs : List Label) → are_sorted cs ≡ true → AreSorted cs
+sorted_pass [] e = tt
+sorted_pass (c ∷ cs) e = let parts = and_parts (list_all (λ other. is_lower c other) cs) (are_sorted cs) e in
+    (all_true (λ other. is_lower c other ≡ true) (λ other. is_lower c other) (λ x is. is) cs parts.0, sorted_pass cs parts.1)
+
+-- ---- numbers
+
+-- numbers that never fall
+abbrev pub never_fall : ℕ → List ℕ → ℕ → Bool
+never_fall from [] to = nat_le from to
+never_fall from (n ∷ ns) to = nat_le from n && never_fall n ns to
+
+pub steps_pass : (from : ℕ) (ns : List ℕ) (to : ℕ) → never_fall from ns to ≡ true → NeverFall from ns to
+steps_pass from [] to e = upto from to e
+steps_pass from (n ∷ ns) to e = let parts = and_parts (nat_le from n) (never_fall n ns to) e in (upto from n parts.0, steps_pass n ns to parts.1)
+
+-- ---- what a call did to timers alone is true: its claims are made at moments of the call
+
+-- the place at which the call has its next entry, where it has made so many; the first of these places is numbered so
+abbrev pub own_place : Label → ℕ → ℕ → List Label → ℕ
+own_place c made n [] = n
+own_place c zero n (x ∷ xs) = if is_label c x then n else own_place c zero (n + 1) xs
+own_place c (suc made) n (x ∷ xs) = own_place c (if is_label c x then made else suc made) (n + 1) xs
+
+-- the call only wrote the clock and made entries of timers, each claim at a moment of its own
+abbrev pub are_plain : Course → Label → ℕ → List Action → List Action → ℕ → Bool
+are_plain w c from before [] last = nat_le from last
+are_plain w c from before (Wrote number write ∷ ds) last = nat_le from from && are_plain w c from (before ++ Wrote number write ∷ []) ds last
+are_plain w c from before (Entered t number entry ∷ ds) last =
+    let n = own_place c (length (all_entered before)) 0 (labels w) in
+    nat_le from n && (is_point w.script c (length (all_entered before)) n (labels w) && are_plain w c n (before ++ Entered t number entry ∷ []) ds last)
+are_plain w c from before (Looked t number look ∷ ds) last = false
+are_plain w c from before (Made i number entry ∷ ds) last = false
+are_plain w c from before (Skipped i number generation ∷ ds) last = false
+
+-- law: so what it did is true
+pub plain_pass : (w : Course) (c : Label) (first from : ℕ) (before ds : List Action) (last : ℕ) → are_plain w c from before ds last ≡ true
+    → AreTrue w c first from before ds last
+plain_pass w c first from before [] last e = upto from last e
+plain_pass w c first from before (Wrote number write ∷ ds) last e =
+    let parts = and_parts (nat_le from from) (are_plain w c from (before ++ Wrote number write ∷ []) ds last) e in
+    (from, upto from from parts.0, tt, plain_pass w c first from (before ++ Wrote number write ∷ []) ds last parts.1)
+plain_pass w c first from before (Entered t number entry ∷ ds) last e =
+    let n = own_place c (length (all_entered before)) 0 (labels w) in
+    let parts = and_parts (nat_le from n)
+    (is_point w.script c (length (all_entered before)) n (labels w) && are_plain w c n (before ++ Entered t number entry ∷ []) ds last) e in
+    let rest = and_parts (is_point w.script c (length (all_entered before)) n (labels w))
+    (are_plain w c n (before ++ Entered t number entry ∷ []) ds last) parts.1 in (
+      n,
+      upto from n parts.0,
+      entry_true entry n (point_passes w.script c (length (all_entered before)) n (labels w) rest.0),
+      plain_pass w c first n (before ++ Entered t number entry ∷ []) ds last rest.1,
+    )
+  where
+    entry_true : (entry : Entry) (n : ℕ) → IsMoment w c before n → IsTrue w c first before (Entered t number entry) n
+    entry_true (entries.Out base was) n moment = tt
+    entry_true (entries.Start mode ns reading asked base clock expires was) n moment = tt
+    entry_true (entries.Cancel generation) n moment = tt
+    entry_true (entries.Claim base reading generation) n moment = moment
+    entry_true (entries.Forward reading interval count expires) n moment = tt
+    entry_true (entries.Finish restart generation rearmed) n moment = tt
+plain_pass w c first from before (Looked t number look ∷ ds) last e = absurd (cc)
+plain_pass w c first from before (Made i number entry ∷ ds) last e = absurd (cc)
+plain_pass w c first from before (Skipped i number generation ∷ ds) last e = absurd (cc)
+
+-- ---- what a call did, of timers and objects that are there
+
+-- a number past so many is none of them
+pub other : (a n k : ℕ) → nat_lt a n ≡ true → n ≤ k → nat_eq a k ≡ false
+other a n k less past = grind (arith, nat_tests)
+
+-- it looked at no timer past so many, made no entry of an object past so many, and had no expiry refused
+abbrev pub are_made : ℕ → ℕ → List Action → Bool
+are_made timers objects [] = true
+are_made timers objects (Wrote number write ∷ ds) = are_made timers objects ds
+are_made timers objects (Entered t number entry ∷ ds) = are_made timers objects ds
+are_made timers objects (Looked t number look ∷ ds) = nat_lt t timers && are_made timers objects ds
+are_made timers objects (Made i number entry ∷ ds) = nat_lt i objects && are_made timers objects ds
+are_made timers objects (Skipped i number generation ∷ ds) = false
+
+-- so past them there is nothing
+pub record IsPast (timers objects i : ℕ) (ds : List Action) : Type 0 where
+  pub looked : timers ≤ i → looked i ds ≡ []
+  pub made : objects ≤ i → made i ds ≡ []
+  pub numbers : objects ≤ i → numbers_of_object i ds ≡ []
+  pub skipped : skipped i ds ≡ []
+
+-- law: the same, of what passes the test
+pub made_past : (timers objects i : ℕ) (ds : List Action) → are_made timers objects ds ≡ true → IsPast timers objects i ds
+made_past timers objects i [] e = record { looked = λ p. refl; made = λ p. refl; numbers = λ p. refl; skipped = refl }
+made_past timers objects i (Wrote number write ∷ ds) e =
+    let rest = made_past timers objects i ds e in record { looked = rest.looked; made = rest.made; numbers = rest.numbers; skipped = rest.skipped }
+made_past timers objects i (Entered t number entry ∷ ds) e =
+    let rest = made_past timers objects i ds e in record { looked = rest.looked; made = rest.made; numbers = rest.numbers; skipped = rest.skipped }
+made_past timers objects i (Looked t number look ∷ ds) e =
+    let parts = and_parts (nat_lt t timers) (are_made timers objects ds) e in
+    let rest = made_past timers objects i ds parts.1 in record {
+      looked = λ p. ap (λ b. also b (number, look) (looked i ds)) (other t timers i parts.0 p) ∙ rest.looked p;
+      made = rest.made;
+      numbers = rest.numbers;
+      skipped = rest.skipped;
+    }
+made_past timers objects i (Made j number entry ∷ ds) e =
+    let parts = and_parts (nat_lt j objects) (are_made timers objects ds) e in
+    let rest = made_past timers objects i ds parts.1 in record {
+      looked = rest.looked;
+      made = λ p. ap (λ b. also b (number, entry) (made i ds)) (other j objects i parts.0 p) ∙ rest.made p;
+      numbers = λ p. ap (λ b. also b number (numbers_of_object i ds)) (other j objects i parts.0 p) ∙ rest.numbers p;
+      skipped = rest.skipped;
+    }
+made_past timers objects i (Skipped j number generation ∷ ds) e = absurd (cc)

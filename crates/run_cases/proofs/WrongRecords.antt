@@ -1,0 +1,232 @@
+-- The records that don't fit.
+use Rattle.std.proofs.Common.{◌≡◌, ◌<◌, ◌≤◌, ℕ, true, false, [], ◌∷◌, Some, arith, refl, sym, ap, ◌∙◌, subst, ◌⊎◌, zero, suc, inl, inr, ◌+◌, ◌++◌, List, flat_map, length, take}
+use Rattle.std.specs.List.{slice_get, AllByRecursion}
+use Rattle.std.proofs.Math.Logic.{⊎_elim}
+use Rattle.std.proofs.lemmas.Bool.{cases_lt, false≢true, eq-eqb}
+use Rattle.seq_timer.specs.Histories.{IsIdle}
+use Rattle.seq_timer.specs.Systems.{after_entry, changed}
+use Rattle.seq_timer.specs.Tables.{runs_on, is_due_on}
+use Rattle.record_text.specs.declared.record.Entry.TheVariants as entries
+use Rattle.record_text.specs.declared.record.Entry.{Entry}
+use Rattle.record_text.specs.declared.record.Label.{Label}
+use Rattle.record_text.specs.declared.record.ObjectEntry.TheVariants as object_entries
+use Rattle.record_text.specs.declared.record.ObjectEntry.{ObjectEntry}
+use Rattle.script_text.specs.Actions.{Action, also, Entered, made}
+use Rattle.script_text.specs.Histories.{timer_after, reading_at}
+use Rattle.script_text.specs.Objects.{kind_of}
+use Rattle.script_text.specs.Order.{is_before, IsPoint, made_by}
+use Rattle.run_history.specs.Calls.{fires, IsBody, IsTrigger}
+use Rattle.run_history.specs.Courses.{labels, Move, timer_then, Course, Trace, Fired}
+use Rattle.run_history.specs.Fits.{Fits}
+use Rattle.run_history.specs.Traces.{all_entered}
+use Rattle.run_history.specs.Truths.{IsDone, IsClaimSpan}
+use Rattle.run_history.proofs.EachTimer.{heads}
+use Rattle.run_history.proofs.Lists.{at_map}
+use Rattle.run_history.proofs.OwnPoints.{same_then, seen, seen_rises, stamp_then, turn_at}
+use Rattle.run_cases.specs.Lines.{at, line}
+use Rattle.run_cases.specs.Wrong.{both_record, both_script, tie_record, tie_script, due_record, due_script, uncancelled_record, uncancelled_script, crossed_record, crossed_script, set_entry, settimes_record, settimes_script}
+use Rattle.run_cases.proofs.Courses.{moves_by}
+use Rattle.run_cases.proofs.Orders.{at_early, at_late, course_with, found, opened, in_one_order}
+use Rattle.run_cases.proofs.Settimes.{idle_first, settime_span}
+
+-- ---- two functions run at once on one base, by what a lane is told before and behind its claim
+
+-- the claim that lane 1 makes
+abbrev claim : Move
+claim = record { timer = 1; before = 1; line = line 1 1 (entries.Claim 0 0 1) }
+
+-- law: it does not fit
+pub both_dont_fit : Fits both_script both_record → ⊥
+both_dont_fit fits =
+    let o = opened both_script both_record fits in
+    let w = course_with both_script both_record o.0 o.1 o.2 in
+    let f = o.3 in
+    let one = (f.calls 1).1 in
+    let three = (f.calls 1).2.2.1 in
+    let a = (o.1 (at 1 0)).last in
+    let b = (o.1 (at 1 2)).last in
+    let place = found 1 1 w.moves claim (ap (λ ms. slice_get ms 1) (f.history.all 1)) in
+    let p = place.0 in
+    let label : slice_get (labels w) p ≡ Some (at 1 1) = at_map (λ (m : Move). m.line.label) w.moves p claim place.1 in
+    -- the claim stands between the two looks
+    let behind : a ≤ p = ⊎_elim
+    (λ (less : p < a). absurd (false≢true (sym
+    (at_early (λ x. is_before both_script (at 1 0) x ≡ false) a p (labels w) (at 1 1) one.ends.within.before label less))))
+    (λ more. more) (cases_lt p a) in
+    let before : p ≤ b = ⊎_elim
+    (λ (less : p < b). omega (arith, less))
+    (λ (more : b ≤ p). absurd (false≢true (sym
+    (at_late (λ x. is_before both_script x (at 1 2) ≡ false) b p (labels w) (at 1 1) three.ends.within.behind label more))))
+    (cases_lt p b) in
+    -- so timer 0 has two entries there, as at the looks, and runs
+    let low = seen_rises w f.history f.timers a p 0 behind in
+    let high = seen_rises w f.history f.timers p b 0 before in
+    let first : seen w a 0 ≡ 2 = sym (stamp_then w f.history f.timers a 0) ∙ one.seen.stamp in
+    let last : seen w b 0 ≡ 2 = sym (stamp_then w f.history f.timers b 0) ∙ three.seen.stamp in
+    let two : seen w p 0 ≡ 2 = omega (arith, low, high, first, last) in
+    let runs : runs_on 0 (timer_then w p 0) ≡ true =
+    same_then w f.history f.timers (runs_on 0) refl p 0 ∙ ap (λ k. runs_on 0 (timer_after both_script both_record 0 k)) two in
+    -- while the claim needs that none does
+    false≢true (sym ((turn_at w f.history f.timers p claim 0 0 1 place.1 refl).idle 0) ∙ runs)
+
+-- ---- of two timers with the same expiry the one that was armed later is claimed first
+
+-- law: it does not fit
+pub tie_doesnt_fit : Fits tie_script tie_record → ⊥
+unfolding after_entry changed
+tie_doesnt_fit fits =
+    let o = in_one_order tie_script tie_record (0 ∷ 1 ∷ 1 ∷ 1 ∷ 0 ∷ 0 ∷ []) refl (refl, (refl, tt)) refl fits in
+    let w = course_with tie_script tie_record (moves_by tie_record [] (0 ∷ 1 ∷ 1 ∷ 1 ∷ 0 ∷ 0 ∷ [])) o.0 o.1 in
+    -- at the third place, where the second timer is claimed
+    let wrong : 2 < 1 = (turn_at w o.2.history o.2.timers 2 _ 0 1 1 refl refl).ties 0 (λ e. omega (arith, e)) refl refl in
+    omega (arith, wrong)
+
+-- ---- an expiry run has nothing left to do, though at each moment one timer or the other was due
+
+-- the one order: the first timer is started, the second is, and the first is cancelled
+abbrev due_course : (Label → Trace) → (ℕ → ℕ → ℕ × ℕ) → Course
+due_course traces spans = course_with due_script due_record (moves_by due_record [] (0 ∷ 1 ∷ 0 ∷ [])) traces spans
+
+one_is_due : (traces : Label → Trace) (spans : ℕ → ℕ → ℕ × ℕ) (n made : ℕ)
+    → IsPoint due_script (at 1 0) made n (labels (due_course traces spans))
+    → (is_due_on 0 (reading_at [] 0) (timer_then (due_course traces spans) n 0) ≡ true)
+    ⊎ (is_due_on 0 (reading_at [] 0) (timer_then (due_course traces spans) n 1) ≡ true)
+unfolding after_entry changed
+one_is_due traces spans zero made point = absurd (false≢true (sym point.within.behind.0))
+one_is_due traces spans (suc zero) made point = inl refl
+one_is_due traces spans (suc (suc zero)) made point = inl refl
+one_is_due traces spans (suc (suc (suc zero))) made point = inr refl
+one_is_due traces spans (suc (suc (suc (suc n)))) made point = absurd (omega (arith, point.within.small))
+
+-- law: it does not fit
+pub due_doesnt_fit : Fits due_script due_record → ⊥
+due_doesnt_fit fits =
+    let o = in_one_order due_script due_record (0 ∷ 1 ∷ 0 ∷ []) refl (refl, (refl, tt)) refl fits in
+    let call = (o.2.calls 1).1 in
+    let done : IsDone (due_course o.0 o.1) 0 0 (o.0 (at 1 0)).last =
+    subst (λ k. IsDone (due_course o.0 o.1) k 0 (o.0 (at 1 0)).last) (sym call.does.0.one_reading) call.seen in
+    ⊎_elim (λ due. false≢true (sym (done.none_due 0) ∙ due)) (λ due. false≢true (sym (done.none_due 1) ∙ due))
+    (one_is_due o.0 o.1 (o.0 (at 1 0)).last _ call.ends)
+
+-- ---- a settime of an armed POSIX timer starts it with no cancel before
+
+-- the one order: both starts
+abbrev uncancelled_course : (Label → Trace) → (ℕ → ℕ → ℕ × ℕ) → Course
+uncancelled_course traces spans = course_with uncancelled_script uncancelled_record (moves_by uncancelled_record [] (0 ∷ 0 ∷ [])) traces spans
+
+-- where the second settime begins the timer is armed by the first
+armed_there : (traces : Label → Trace) (spans : ℕ → ℕ → ℕ × ℕ) (n : ℕ) → IsPoint uncancelled_script (at 0 1) 0 n (labels (uncancelled_course traces spans))
+    → IsIdle (timer_then (uncancelled_course traces spans) n 0) → ⊥
+unfolding after_entry changed
+armed_there traces spans zero point idle = false≢true (sym point.within.behind.0)
+armed_there traces spans (suc zero) point idle = let armed = idle.armed in cc
+armed_there traces spans (suc (suc zero)) point idle = let many = point.so_many in cc
+armed_there traces spans (suc (suc (suc n))) point idle = omega (arith, point.within.small)
+
+-- law: it does not fit
+pub uncancelled_doesnt_fit : Fits uncancelled_script uncancelled_record → ⊥
+uncancelled_doesnt_fit fits =
+    let o = in_one_order uncancelled_script uncancelled_record (0 ∷ 0 ∷ []) refl (refl, tt) refl fits in
+    let call = (o.2.calls 0).2.1 in
+    armed_there o.0 o.1 (o.0 (at 0 1)).first call.begins
+    (idle_first (uncancelled_course o.0 o.1) 0 (o.0 (at 0 1)).actions (o.0 (at 0 1)).first _ _ _ _ (λ generation is. cc) call.traced.timers call.seen)
+
+-- ---- a settime's start stands behind the claim of an expiry, but its entry stands before that expiry's
+
+-- the one order: the start, the claim, the finish, the start
+abbrev crossed_course : (Label → Trace) → (ℕ → ℕ → ℕ × ℕ) → Course
+crossed_course traces spans = course_with crossed_script crossed_record (moves_by crossed_record [] (0 ∷ 0 ∷ 0 ∷ 0 ∷ [])) traces spans
+
+-- the settime ended behind the fourth entry, which is its start
+set_there : (traces : Label → Trace) (spans : ℕ → ℕ → ℕ × ℕ) (n : ℕ) → n ≤ 4 → made_by (at 0 2) (take n (labels (crossed_course traces spans))) ≡ 1
+    → (timer_then (crossed_course traces spans) n 0).stamp ≡ 4
+unfolding after_entry changed
+set_there traces spans zero small many = absurd (cc)
+set_there traces spans (suc zero) small many = absurd (cc)
+set_there traces spans (suc (suc zero)) small many = absurd (cc)
+set_there traces spans (suc (suc (suc zero))) small many = absurd (cc)
+set_there traces spans (suc (suc (suc (suc zero)))) small many = refl
+set_there traces spans (suc (suc (suc (suc (suc n))))) small many = absurd (omega (arith, small))
+
+-- the span of an expiry's entry is just its claim
+module _ (w : Course) (base reading claim number : ℕ) (entry : ObjectEntry) where
+  claimed_span : (f : Fired) → f.timer ≡ 0 → f.claim ≡ claim → IsTrigger reading f → (number, entry) ∷ [] ≡ made 0 (fires base reading f ++ [])
+      → IsClaimSpan w f f.body → (w.spans 0 number).0 + 1 ≡ claim
+  claimed_span f timer claim_is trigger its span = ⊎_elim
+      (λ m. let e = object_entries.Trigger f.generation reading m.1 in
+      let one : (number, entry) ∷ [] ≡ (m.0, e) ∷ [] = its ∙ ap (λ body. made 0 (of_body f body)) m.2 ∙ ap (λ b. also b (m.0, e) []) (eq-eqb f.timer 0 timer) in
+      let same : number ≡ m.0 = ap (λ (x : ℕ × ObjectEntry). x.0) (heads (number, entry) (m.0, e) [] [] one) in
+      let there = subst (IsClaimSpan w f) m.2 span in
+      ap (λ (x : ℕ × ℕ). x.0 + 1) (ap (w.spans 0) same ∙ ap (λ i. w.spans i m.0) (sym timer) ∙ there.2) ∙ there.1 ∙ claim_is)
+      (λ s. absurd (let none = its ∙ ap (λ body. made 0 (of_body f body)) s.1 in cc))
+      trigger.0
+    where
+      of_body : Fired → List Action → List Action
+      of_body f body = Entered f.timer f.claim (entries.Claim base reading f.generation)
+          ∷ (body ++ Entered f.timer f.finish (entries.Finish f.restart f.generation f.rearmed) ∷ []) ++ []
+
+  one_span : (fired : List Fired) (claimed : Entry) (rest : List (ℕ × (ℕ × Entry))) → length fired ≡ 1
+      → (0, (claim, claimed)) ∷ rest ≡ all_entered (flat_map (fires base reading) fired) → (number, entry) ∷ [] ≡ made 0 (flat_map (fires base reading) fired)
+      → AllByRecursion (λ f. IsBody (kind_of crossed_script f.timer) reading f) fired → AllByRecursion (λ f. IsClaimSpan w f f.body) fired
+      → (w.spans 0 number).0 + 1 ≡ claim
+  one_span [] claimed rest one entered its bodies spans = absurd (cc)
+  one_span (f ∷ g ∷ fs) claimed rest one entered its bodies spans = absurd (cc)
+  one_span (f ∷ []) claimed rest one entered its bodies spans =
+      let first = heads (0, (claim, claimed)) (f.timer, (f.claim, entries.Claim base reading f.generation)) rest _ entered in
+      let timer : f.timer ≡ 0 = sym (ap (λ (x : ℕ × (ℕ × Entry)). x.0) first) in
+      claimed_span f timer (sym (ap (λ (x : ℕ × (ℕ × Entry)). x.1.0) first))
+      (subst (λ t. IsBody (kind_of crossed_script t) reading f) timer bodies.0) its spans.0
+
+-- law: it does not fit
+pub crossed_doesnt_fit : Fits crossed_script crossed_record → ⊥
+crossed_doesnt_fit fits =
+    let o = in_one_order crossed_script crossed_record (0 ∷ 0 ∷ 0 ∷ 0 ∷ []) refl (refl, tt) refl fits in
+    let w = crossed_course o.0 o.1 in
+    let t = o.0 (at 1 0) in
+    let run = (o.2.calls 1).1 in
+    let settime = settime_span {w = w} {c = at 0 2} 0 2 (set_entry 50 1 4 1) (o.2.calls 0).2.2.1 refl in
+    let expiry = one_span w 0 t.at 2 3 (object_entries.Trigger 1 1 false) t.fired _ _ run.does.1 (run.traced.timers ∙ ap all_entered run.does.0.done)
+    (run.traced.objects 0 ∙ ap (made 0) run.does.0.done) run.does.0.bodies run.expiries in
+    let behind = (o.2.object_spans 0).2.2.0 in
+    omega (arith, behind, settime.high, expiry, set_there o.0 o.1 settime.end settime.small settime.many)
+
+-- ---- of two lanes' settimes the one whose start stands first has its entry last
+
+-- the one order: the first settime's start, the other's cancel and start
+abbrev settimes_course : (Label → Trace) → (ℕ → ℕ → ℕ × ℕ) → Course
+settimes_course traces spans = course_with settimes_script settimes_record (moves_by settimes_record [] (0 ∷ 0 ∷ 0 ∷ [])) traces spans
+
+-- lane 0 began before its own start, which is the first entry; lane 1 ended behind the third
+begins_there : (traces : Label → Trace) (spans : ℕ → ℕ → ℕ × ℕ) (n : ℕ) → made_by (at 0 0) (take n (labels (settimes_course traces spans))) ≡ 0
+    → (timer_then (settimes_course traces spans) n 0).stamp ≡ 0
+unfolding after_entry changed
+begins_there traces spans zero many = refl
+begins_there traces spans (suc n) many = absurd (cc)
+
+ends_there : (traces : Label → Trace) (spans : ℕ → ℕ → ℕ × ℕ) (n : ℕ) → n ≤ 3 → made_by (at 1 0) (take n (labels (settimes_course traces spans))) ≡ 2
+    → (timer_then (settimes_course traces spans) n 0).stamp ≡ 3
+unfolding after_entry changed
+ends_there traces spans zero small many = absurd (cc)
+ends_there traces spans (suc zero) small many = absurd (cc)
+ends_there traces spans (suc (suc zero)) small many = absurd (cc)
+ends_there traces spans (suc (suc (suc zero))) small many = refl
+ends_there traces spans (suc (suc (suc (suc n)))) small many = absurd (omega (arith, small))
+
+-- law: it does not fit
+pub settimes_dont_fit : Fits settimes_script settimes_record → ⊥
+settimes_dont_fit fits =
+    let o = in_one_order settimes_script settimes_record (0 ∷ 0 ∷ 0 ∷ []) refl (refl, tt) refl fits in
+    let w = settimes_course o.0 o.1 in
+    let zero_call = (o.2.calls 0).1 in
+    let one_call = (o.2.calls 1).1 in
+    let early = settime_span {w = w} {c = at 1 0} 0 1 (set_entry 200 0 3 0) one_call refl in
+    let late = settime_span {w = w} {c = at 0 0} 0 2 (set_entry 100 0 1 200) zero_call refl in
+    let behind = (o.2.object_spans 0).2.0 in
+    omega (
+      arith,
+      behind,
+      early.high,
+      late.low,
+      ends_there o.0 o.1 early.end early.small early.many,
+      begins_there o.0 o.1 (o.0 (at 0 0)).first zero_call.begins.so_many,
+    )

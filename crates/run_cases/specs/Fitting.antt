@@ -1,0 +1,140 @@
+-- Scripts, each with a record that fits it.
+use Rattle.std.specs.Prelude.{true, false, List, [], ◌∷◌}
+use Rattle.ktime.specs.declared.clock_id.ClockId.TheVariants as clocks
+use Rattle.ktime.specs.declared.mode.Mode.TheVariants as modes
+use Rattle.clock_model.specs.declared.write.Write.TheVariants as writes
+use Rattle.record_text.specs.declared.record.AcceptReply.TheVariants as acceptances
+use Rattle.record_text.specs.declared.record.Answer.TheVariants as answers
+use Rattle.record_text.specs.declared.record.Answer.{Answer}
+use Rattle.record_text.specs.declared.record.Armed.TheVariants as armings
+use Rattle.record_text.specs.declared.record.CallbackReply.TheVariants as replies
+use Rattle.record_text.specs.declared.record.Entry.TheVariants as entries
+use Rattle.record_text.specs.declared.record.Entry.{Entry}
+use Rattle.record_text.specs.declared.record.ObjectEntry.TheVariants as object_entries
+use Rattle.record_text.specs.declared.record.ObjectEntry.{ObjectEntry}
+use Rattle.record_text.specs.declared.record.Restart.TheVariants as restarts
+use Rattle.record_text.specs.declared.record.RunRecord.{RunRecord}
+use Rattle.record_text.specs.declared.record.SettimeReply.TheVariants as settings
+use Rattle.record_text.specs.declared.record.TimerLine.{TimerLine}
+use Rattle.script_text.specs.declared.script.Call.TheVariants as calls
+use Rattle.script_text.specs.declared.script.Callback.TheVariants as callbacks
+use Rattle.script_text.specs.declared.script.Kind.TheVariants as kinds
+use Rattle.script_text.specs.declared.script.Script.{Script}
+use Rattle.run_cases.specs.Lines.{at, by, line, object_line, raw_record, script_of, start}
+
+-- ---- a timer is started, expires, is cancelled when it is idle, and is looked at
+
+-- the script
+abbrev pub idle_script : Script
+idle_script = script_of 1 1 (kinds.Raw callbacks.Once ∷ []) ((by 0 (calls.Start 0 modes.Rel 100 0) ∷ by 0 (calls.Clock (writes.Advance 100))
+    ∷ by 0 (calls.Expire 0 4) ∷ by 0 (calls.Cancel 0) ∷ by 0 (calls.Peek 0) ∷ []) ∷ [])
+
+-- its record
+abbrev pub idle_record : RunRecord
+idle_record = raw_record (record { label = at 0 1; write = writes.Advance 100; mono = 100; real = 100; boot = 100; changes = 0 } ∷ [])
+    ((line 0 0 (start modes.Rel 100 100) ∷ line 0 2 (entries.Claim 0 1 1) ∷ line 0 2 (entries.Finish false 1 restarts.None) ∷ []) ∷ [])
+    ((answers.Started 1 0 false ∷ answers.Clock 1 ∷ answers.Done 1 (0 ∷ []) ∷ answers.Idle 3 ∷ answers.Peek 3 0 false false false ∷ []) ∷ [])
+
+-- ---- a lane cancels a timer beside another lane's expiry run
+
+-- the script
+abbrev pub beside_script : Script
+beside_script = script_of 1 2 (kinds.Raw callbacks.Once ∷ [])
+    ((by 0 (calls.Start 0 modes.Rel 0 0) ∷ []) ∷ (by 0 (calls.Cancel 0) ∷ by 1 (calls.Expire 0 4) ∷ []) ∷ [])
+
+-- the timer's lines, and what the cancel and the expiry run were answered
+abbrev pub beside : List TimerLine → Answer → Answer → RunRecord
+beside lines cancelled expired = raw_record [] ((line 0 0 (start modes.Rel 0 0) ∷ lines) ∷ [])
+    ((answers.Started 1 0 false ∷ cancelled ∷ []) ∷ (expired ∷ []) ∷ [])
+
+-- the cancel came first
+abbrev pub cancelled_record : RunRecord
+cancelled_record = beside (line 0 1 (entries.Cancel 1) ∷ []) (answers.Cancelled 1) (answers.Done 0 [])
+
+-- the timer's lines where it expired
+abbrev pub expired_lines : List TimerLine
+expired_lines = line 1 0 (entries.Claim 0 0 1) ∷ line 1 0 (entries.Finish false 1 restarts.None) ∷ []
+
+-- the cancel came while the timer's function ran
+abbrev pub running_record : RunRecord
+running_record = beside expired_lines (answers.Running 1 2) (answers.Done 0 (0 ∷ []))
+
+-- the cancel came when the function had run
+abbrev pub late_record : RunRecord
+late_record = beside expired_lines (answers.Idle 3) (answers.Done 0 (0 ∷ []))
+
+-- ---- a callback is told that its own timer runs
+
+-- the script
+abbrev pub told_script : Script
+told_script = script_of 1 1 (kinds.Raw callbacks.Cancels ∷ []) ((by 0 (calls.Start 0 modes.Rel 0 0) ∷ by 0 (calls.Expire 0 1) ∷ []) ∷ [])
+
+-- its record
+abbrev pub told_record : RunRecord
+told_record = raw_record [] ((line 0 0 (start modes.Rel 0 0) ∷ record {
+  label = at 0 1;
+  entry = entries.Claim 0 0 1;
+  looks = record { label = at 0 1; reply = replies.Running 1 } ∷ [];
+} ∷ line 0 1 (entries.Finish false 1 restarts.None) ∷ []) ∷ [])
+    ((answers.Started 1 0 false ∷ answers.More 0 (0 ∷ []) ∷ []) ∷ [])
+
+-- ---- a callback starts its own timer while it runs, and a later start moves the timer to another base
+
+-- the script
+abbrev pub moved_script : Script
+moved_script = script_of 2 1 (kinds.Raw (callbacks.Starts 50 1) ∷ [])
+    ((by 0 (calls.Start 0 modes.Abs 0 0) ∷ by 0 (calls.Expire 0 1) ∷ by 0 (calls.Peek 0) ∷ by 0 (calls.Start 0 modes.Rel 70 1) ∷ []) ∷ [])
+
+-- the start that the callback makes, which stays on base 0 as the timer runs there, and the one that moves it
+abbrev pub kept_start : Entry
+kept_start = entries.Start modes.Rel 50 0 1 0 clocks.Monotonic 50 false
+
+-- the start that moves it
+abbrev pub moved_start : Entry
+moved_start = entries.Start modes.Rel 70 0 1 1 clocks.Monotonic 70 false
+
+-- its record
+abbrev pub moved_record : RunRecord
+moved_record = raw_record [] ((line 0 0 (start modes.Abs 0 0) ∷ line 0 1 (entries.Claim 0 0 1) ∷ line 0 1 kept_start
+    ∷ line 0 1 (entries.Finish true 1 restarts.None) ∷ line 0 3 (entries.Out 1 true) ∷ line 0 3 moved_start ∷ []) ∷ [])
+    ((answers.Started 1 0 false ∷ answers.More 0 (0 ∷ []) ∷ answers.Peek 4 0 true false false ∷ answers.Started 6 1 true ∷ []) ∷ [])
+
+-- ---- a POSIX timer is set, expires, and has its signal accepted, which arms it again; a second acceptance finds none
+
+-- the script
+abbrev pub accepted_script : Script
+accepted_script = script_of 1 1 (kinds.Posix 0 ∷ []) ((by 0 (calls.Settime 0 1 (record { sec = 0; nsec = 100 }) (record { sec = 0; nsec = 10 }))
+    ∷ by 0 (calls.Clock (writes.Advance 100)) ∷ by 0 (calls.Expire 0 4) ∷ by 0 (calls.Clock (writes.Advance 35)) ∷ by 0 (calls.Accept 0)
+    ∷ by 0 (calls.Accept 0) ∷ by 0 (calls.Overrun 0) ∷ []) ∷ [])
+
+-- the start by which the first acceptance arms the timer
+abbrev pub next_start : Entry
+next_start = entries.Start modes.Keep 140 2 0 0 clocks.Monotonic 140 false
+
+-- the object's entries
+abbrev pub set_entry : ObjectEntry
+set_entry = object_entries.Settime 1 100 10 0 (armings.Generation 1) (settings.Old 0 0)
+
+-- the expiry's
+abbrev pub trigger_entry : ObjectEntry
+trigger_entry = object_entries.Trigger 1 1 true
+
+-- the first acceptance's
+abbrev pub accept_entry : ObjectEntry
+accept_entry = object_entries.Accept 2 (armings.Generation 4) (acceptances.Accepted 3)
+
+-- the second acceptance's
+abbrev pub none_entry : ObjectEntry
+none_entry = object_entries.Accept 2 armings.None acceptances.NoSignal
+
+-- its record
+abbrev pub accepted_record : RunRecord
+accepted_record = record {
+  clock = record { label = at 0 1; write = writes.Advance 100; mono = 100; real = 100; boot = 100; changes = 0 }
+      ∷ record { label = at 0 3; write = writes.Advance 35; mono = 135; real = 135; boot = 135; changes = 0 } ∷ [];
+  timers = (line 0 0 (start modes.Abs 100 100) ∷ line 0 2 (entries.Claim 0 1 1) ∷ line 0 2 (entries.Finish false 1 restarts.None) ∷ line 0 4 next_start
+      ∷ []) ∷ [];
+  objects = (object_line 0 0 set_entry ∷ object_line 0 2 trigger_entry ∷ object_line 0 4 accept_entry ∷ object_line 0 5 none_entry ∷ []) ∷ [];
+  answers = (answers.Old 0 0 ∷ answers.Clock 1 ∷ answers.Done 1 (0 ∷ []) ∷ answers.Clock 2 ∷ answers.Accepted 3 ∷ answers.NoSignal ∷ answers.Overrun 3 4
+      ∷ []) ∷ [];
+}

@@ -1,0 +1,128 @@
+-- Scripts, each with a record that doesn't fit it, though each timer's lines by themselves are a history.
+use Rattle.std.specs.Prelude.{ℕ, Bool, true, false, List, [], ◌∷◌}
+use Rattle.ktime.specs.declared.clock_id.ClockId.TheVariants as clocks
+use Rattle.ktime.specs.declared.mode.Mode.TheVariants as modes
+use Rattle.clock_model.specs.declared.write.Write.TheVariants as writes
+use Rattle.record_text.specs.declared.record.Answer.TheVariants as answers
+use Rattle.record_text.specs.declared.record.Armed.TheVariants as armings
+use Rattle.record_text.specs.declared.record.Entry.TheVariants as entries
+use Rattle.record_text.specs.declared.record.Entry.{Entry}
+use Rattle.record_text.specs.declared.record.ObjectEntry.TheVariants as object_entries
+use Rattle.record_text.specs.declared.record.ObjectEntry.{ObjectEntry}
+use Rattle.record_text.specs.declared.record.Restart.TheVariants as restarts
+use Rattle.record_text.specs.declared.record.RunRecord.{RunRecord}
+use Rattle.record_text.specs.declared.record.SettimeReply.TheVariants as settings
+use Rattle.record_text.specs.declared.record.TimerLine.{TimerLine}
+use Rattle.script_text.specs.declared.script.Call.TheVariants as calls
+use Rattle.script_text.specs.declared.script.Call.{Call}
+use Rattle.script_text.specs.declared.script.Callback.TheVariants as callbacks
+use Rattle.script_text.specs.declared.script.Kind.TheVariants as kinds
+use Rattle.script_text.specs.declared.script.Kind.{Kind}
+use Rattle.script_text.specs.declared.script.Script.{Script}
+use Rattle.run_cases.specs.Lines.{at, by, line, object_line, raw_record, script_of, start}
+
+-- two timers whose callbacks do nothing
+abbrev pub two_timers : List Kind
+two_timers = kinds.Raw callbacks.Once ∷ kinds.Raw callbacks.Once ∷ []
+
+-- the lines of a timer that this call of lane 0 starts, and that a call of a lane then claims, by the reading of this stamp
+abbrev pub claimed_by : ℕ → ℕ → ℕ → ℕ → ℕ → List TimerLine
+claimed_by call ns lane other stamp =
+    line 0 call (start modes.Abs ns ns) ∷ line lane other (entries.Claim 0 stamp 1) ∷ line lane other (entries.Finish false 1 restarts.None) ∷ []
+
+-- ---- two functions at once on one base: a lane is told that a timer runs before it claims another timer there, and behind that, too
+
+-- the script
+abbrev pub both_script : Script
+both_script = script_of 1 2 two_timers ((by 0 (calls.Start 0 modes.Abs 0 0) ∷ by 0 (calls.Start 1 modes.Abs 0 0) ∷ [])
+    ∷ (by 0 (calls.Expire 0 1) ∷ by 1 (calls.Cancel 0) ∷ by 1 (calls.Expire 0 1) ∷ by 1 (calls.Cancel 0) ∷ []) ∷ [])
+
+-- a record that breaks it
+abbrev pub both_record : RunRecord
+both_record = raw_record [] (claimed_by 0 0 0 2 0 ∷ claimed_by 1 0 1 1 0 ∷ [])
+    ((answers.Started 1 0 false ∷ answers.Started 1 0 false ∷ answers.More 0 (0 ∷ []) ∷ [])
+    ∷ (answers.Running 1 2 ∷ answers.More 0 (1 ∷ []) ∷ answers.Running 1 2 ∷ []) ∷ [])
+
+-- ---- of two timers with the same expiry the one that was armed later is claimed first
+
+-- the script
+abbrev pub tie_script : Script
+tie_script = script_of 1 1 two_timers ((by 0 (calls.Start 0 modes.Abs 100 0) ∷ by 0 (calls.Start 1 modes.Abs 100 0) ∷ by 0 (calls.Clock (writes.Advance 100))
+    ∷ by 0 (calls.Expire 0 1) ∷ by 0 (calls.Expire 0 1) ∷ []) ∷ [])
+
+-- a record that breaks it
+abbrev pub tie_record : RunRecord
+tie_record = raw_record (record { label = at 0 2; write = writes.Advance 100; mono = 100; real = 100; boot = 100; changes = 0 } ∷ [])
+    (claimed_by 0 100 0 4 1 ∷ claimed_by 1 100 0 3 1 ∷ [])
+    ((answers.Started 1 0 false ∷ answers.Started 1 0 false ∷ answers.Clock 1 ∷ answers.More 1 (1 ∷ []) ∷ answers.More 1 (0 ∷ []) ∷ []) ∷ [])
+
+-- ---- nothing was left to do, though at each moment one timer or the other was due: the first is cancelled when the second is armed
+
+-- the script
+abbrev pub due_script : Script
+due_script = script_of 1 2 two_timers ((by 0 (calls.Start 0 modes.Abs 0 0) ∷ [])
+    ∷ (by 0 (calls.Start 1 modes.Abs 0 0) ∷ by 0 (calls.Cancel 0) ∷ by 1 (calls.Expire 0 4) ∷ []) ∷ [])
+
+-- a record that breaks it
+abbrev pub due_record : RunRecord
+due_record = raw_record [] ((line 0 0 (start modes.Abs 0 0) ∷ line 0 2 (entries.Cancel 1) ∷ []) ∷ (line 0 1 (start modes.Abs 0 0) ∷ []) ∷ [])
+    ((answers.Started 1 0 false ∷ answers.Started 1 0 false ∷ answers.Cancelled 1 ∷ []) ∷ (answers.Done 0 [] ∷ []) ∷ [])
+
+-- ---- a settime of an armed POSIX timer starts it with no cancel before
+
+-- a settime of timer 0 to an absolute time, once
+abbrev pub settime_to : ℕ → Call
+settime_to value = calls.Settime 0 1 (record { sec = 0; nsec = value }) (record { sec = 0; nsec = 0 })
+
+-- the start that it makes by the reading of a stamp, and its entry
+abbrev pub set_start : ℕ → ℕ → Bool → Entry
+set_start value stamp was_armed = entries.Start modes.Abs value stamp 0 0 clocks.Monotonic value was_armed
+
+-- the entry that it makes: the value, the stamp of its reading, the generation that it armed, and what was left before
+abbrev pub set_entry : ℕ → ℕ → ℕ → ℕ → ObjectEntry
+set_entry value stamp generation left = object_entries.Settime 1 value 0 stamp (armings.Generation generation) (settings.Old left 0)
+
+-- the script
+abbrev pub uncancelled_script : Script
+uncancelled_script = script_of 1 1 (kinds.Posix 0 ∷ []) ((by 0 (settime_to 100) ∷ by 0 (settime_to 200) ∷ []) ∷ [])
+
+-- a record that breaks it
+abbrev pub uncancelled_record : RunRecord
+uncancelled_record = record {
+  clock = [];
+  timers = (line 0 0 (set_start 100 0 false) ∷ line 0 1 (set_start 200 0 true) ∷ []) ∷ [];
+  objects = (object_line 0 0 (set_entry 100 0 1 0) ∷ object_line 0 1 (set_entry 200 0 2 100) ∷ []) ∷ [];
+  answers = (answers.Old 0 0 ∷ answers.Old 100 0 ∷ []) ∷ [];
+}
+
+-- ---- a settime's start stands behind the claim of an expiry, but its entry stands before that expiry's
+
+-- the script
+abbrev pub crossed_script : Script
+crossed_script = script_of 1 2 (kinds.Posix 0 ∷ []) ((by 0 (settime_to 1) ∷ by 0 (calls.Clock (writes.Advance 1)) ∷ [])
+    ∷ (by 0 (settime_to 50) ∷ by 1 (calls.Expire 0 1) ∷ []) ∷ [])
+
+-- a record that breaks it
+abbrev pub crossed_record : RunRecord
+crossed_record = record {
+  clock = record { label = at 0 1; write = writes.Advance 1; mono = 1; real = 1; boot = 1; changes = 0 } ∷ [];
+  timers = (line 0 0 (set_start 1 0 false) ∷ line 1 0 (entries.Claim 0 1 1) ∷ line 1 0 (entries.Finish false 1 restarts.None)
+      ∷ line 0 2 (set_start 50 1 false) ∷ []) ∷ [];
+  objects = (object_line 0 0 (set_entry 1 0 1 0) ∷ object_line 0 2 (set_entry 50 1 4 1) ∷ object_line 1 0 (object_entries.Trigger 1 1 false) ∷ []) ∷ [];
+  answers = (answers.Old 0 0 ∷ answers.Clock 1 ∷ answers.Old 1 0 ∷ []) ∷ (answers.More 1 (0 ∷ []) ∷ []) ∷ [];
+}
+
+-- ---- of two lanes' settimes the one whose start stands first has its entry last
+
+-- the script
+abbrev pub settimes_script : Script
+settimes_script = script_of 1 2 (kinds.Posix 0 ∷ []) ((by 0 (settime_to 100) ∷ by 1 (settime_to 200) ∷ []) ∷ [])
+
+-- a record that breaks it
+abbrev pub settimes_record : RunRecord
+settimes_record = record {
+  clock = [];
+  timers = (line 0 0 (set_start 100 0 false) ∷ line 1 0 (entries.Cancel 1) ∷ line 1 0 (set_start 200 0 false) ∷ []) ∷ [];
+  objects = (object_line 1 0 (set_entry 200 0 3 0) ∷ object_line 0 0 (set_entry 100 0 1 200) ∷ []) ∷ [];
+  answers = (answers.Old 200 0 ∷ []) ∷ (answers.Old 0 0 ∷ []) ∷ [];
+}

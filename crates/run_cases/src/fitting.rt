@@ -1,0 +1,35 @@
+//! Records that fit their scripts.
+ghost use Rattle.run_history.specs.Fits.{Fits};
+ghost use Rattle.run_cases.specs.Fitting as fitting;
+
+/// A timer is started, expires, is cancelled when it is idle, and is looked at.
+#[tactic(auto, using(crate::proofs::FittingRecords::idle_fits))]
+pub fn an_expiry_and_an_idle_cancel()
+    ensures { Fits fitting.idle_script fitting.idle_record }
+{}
+
+/// A callback is told that its own timer runs.
+#[tactic(auto, using(crate::proofs::FittingRecords::told_fits))]
+pub fn a_callback_is_told_that_it_runs()
+    ensures { Fits fitting.told_script fitting.told_record }
+{}
+
+/// A callback starts its own timer while it runs, and a later start moves the timer to another base.
+#[tactic(auto, using(crate::proofs::FittingRecords::moved_fits))]
+pub fn a_start_while_running_and_one_to_another_base()
+    ensures { Fits fitting.moved_script fitting.moved_record }
+{}
+
+/// A lane cancels a timer beside another lane's expiry run: before it, while the function runs, or when it has run.
+#[tactic(auto, using(crate::proofs::FittingRecords::cancelled_fits, crate::proofs::FittingRecords::running_fits, crate::proofs::FittingRecords::late_fits))]
+pub fn a_cancel_beside_an_expiry()
+    ensures cancelled { Fits fitting.beside_script fitting.cancelled_record }
+    ensures running { Fits fitting.beside_script fitting.running_record }
+    ensures idle { Fits fitting.beside_script fitting.late_record }
+{}
+
+/// A POSIX timer is set, expires, and has its signal accepted, which arms it again; a second acceptance finds none.
+#[tactic(auto, using(crate::proofs::FittingRecords::accepted_fits))]
+pub fn an_accepted_signal_arms_a_timer_again()
+    ensures { Fits fitting.accepted_script fitting.accepted_record }
+{}

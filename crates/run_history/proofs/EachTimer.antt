@@ -1,0 +1,282 @@
+-- What follows from a record that fits for each timer by itself: each call knows of timers what their own lists say.
+use Rattle.std.proofs.Common.{◌≡◌, ◌<◌, ◌≤◌, ◌||◌, ◌&&◌, ℕ, ◌+◌, zero, suc, true, false, nat_eq, nat_lt, List, [], ◌∷◌, ◌++◌, Some, length, take, arith, refl, sym, ap, ◌∙◌, subst}
+use Rattle.std.specs.List.{slice_get}
+use Rattle.std.proofs.Math.Logic.{⊎_elim}
+use Rattle.std.proofs.lemmas.Bool.{cases_lt}
+use Rattle.std.proofs.lemmas.Bool.Decides.{nat_tests}
+use Rattle.std.proofs.lemmas.List.{append_assoc, append-nil, take-map}
+use Rattle.std.proofs.lemmas.Option.{same_Some, slice_get_within}
+use Rattle.seq_timer.specs.declared.observation.Observation.{Observation}
+use Rattle.seq_timer.specs.declared.observation.Observation.TheVariants as observations
+use Rattle.seq_timer.specs.Tables.{is_ahead, is_due_on, is_smaller, IsNextDue, runs_on}
+use Rattle.record_text.specs.declared.record.Answer.{Answer}
+use Rattle.record_text.specs.declared.record.Answer.TheVariants as answers
+use Rattle.record_text.specs.declared.record.Entry.{Entry}
+use Rattle.record_text.specs.declared.record.Entry.TheVariants as entries
+use Rattle.record_text.specs.declared.record.Label.{Label}
+use Rattle.record_text.specs.declared.record.RunRecord.{RunRecord}
+use Rattle.script_text.specs.declared.script.Call.{Call}
+use Rattle.script_text.specs.declared.script.Call.TheVariants as calls
+use Rattle.script_text.specs.declared.script.Script.{Script}
+use Rattle.script_text.specs.Actions.{Action, also, Entered, Looked}
+use Rattle.script_text.specs.Calls.{observed}
+use Rattle.script_text.specs.Fits.{answers_of}
+use Rattle.script_text.specs.Histories.{reading_at, timer_after}
+use Rattle.script_text.specs.Order.{CallInRound, calls_of, is_before, is_label, IsInOrder, IsLabel, IsWithin, made_by, round_of}
+use Rattle.run_history.specs.Courses.{Course, labels, Move, timer_then}
+use Rattle.run_history.specs.EachTimer.{HasTimers, KnowsTimers, TookNextDue, WasRefused, WasSo, WasTold}
+use Rattle.run_history.specs.Fits.{Fits, FitsCall, FitsIn, FitsLane, Seen, unseen}
+use Rattle.run_history.specs.Traces.{all_entered, own_moves}
+use Rattle.run_history.specs.Truths.{AreTrue, IsMoment, IsSeen, IsTrue, Saw, SawRefusal}
+use Rattle.run_history.proofs.Actions.{all_entered-append}
+use Rattle.run_history.proofs.Labels.{same_label}
+use Rattle.run_history.proofs.Lists.{all_at, at_map, each_drop, each_take}
+use Rattle.run_history.proofs.OwnParts.{count_moves}
+use Rattle.run_history.proofs.OwnPoints.{before_then, entered_then, labels_each, legal_each, order_each, point_then, same_then, saw_then, seen, stamp_then, turn_at}
+
+-- ---- where an entry of a call stands in the order
+
+-- an entry of the call stands here, behind those that it had made
+pub record Stands (c : Label) (ms : List Move) (before : List (ℕ × (ℕ × Entry))) (e : ℕ × (ℕ × Entry)) : Type 0 where
+  pub place : ℕ
+  pub move : Move
+  pub there : slice_get ms place ≡ Some move
+  pub label : move.line.label ≡ c
+  pub is : (move.timer, (move.before + 1, move.line.entry)) ≡ e
+  pub own : own_moves c (take place ms) ≡ before
+
+-- lists that are the same begin with the same
+pub heads : {X : Type 0} (x y : X) (xs ys : List X) → x ∷ xs ≡ y ∷ ys → x ≡ y
+heads x y xs ys e = cc
+
+tails : {X : Type 0} (x y : X) (xs ys : List X) → x ∷ xs ≡ y ∷ ys → xs ≡ ys
+tails x y xs ys e = cc
+
+shape : Move → ℕ × (ℕ × Entry)
+shape m = (m.timer, (m.before + 1, m.line.entry))
+
+-- law: each entry that a call made stands somewhere, behind those that it made before
+pub stands : (c : Label) (ms : List Move) (before rest : List (ℕ × (ℕ × Entry))) (e : ℕ × (ℕ × Entry)) → own_moves c ms ≡ before ++ e ∷ rest
+    → Stands c ms before e
+stands c [] [] rest e own = absurd (cc)
+stands c [] (b ∷ before) rest e own = absurd (cc)
+stands c (m ∷ ms) before rest e own =
+    elim (is_label c m.line.label) as (λ b. is_label c m.line.label ≡ b → also b (m.timer, (m.before + 1, m.line.entry)) (own_moves c ms) ≡ before ++ e ∷ rest
+    → Stands c (m ∷ ms) before e) [
+      | true ↦ λ is own. here before is own (λ early own. stands c ms early rest e own)
+      | false ↦ λ is own. let s = stands c ms before rest e own in record {
+        place = suc s.place;
+        move = s.move;
+        there = s.there;
+        label = s.label;
+        is = s.is;
+        own = ap (λ b. also b (m.timer, (m.before + 1, m.line.entry)) (own_moves c (take s.place ms))) is ∙ s.own;
+      }
+    ] refl own
+  where
+    here : (before : List (ℕ × (ℕ × Entry))) → is_label c m.line.label ≡ true → (m.timer, (m.before + 1, m.line.entry)) ∷ own_moves c ms ≡ before ++ e ∷ rest
+        → ((early : List (ℕ × (ℕ × Entry))) → own_moves c ms ≡ early ++ e ∷ rest → Stands c ms early e) → Stands c (m ∷ ms) before e
+    here [] is own further = record { place = 0; move = m; there = refl; label = same_label c m.line.label is; is = heads _ _ _ _ own; own = refl }
+    here (b ∷ before) is own further = let s = further before (tails _ _ _ _ own) in record {
+      place = suc s.place;
+      move = s.move;
+      there = s.there;
+      label = s.label;
+      is = s.is;
+      own = ap (λ t. also t (m.timer, (m.before + 1, m.line.entry)) (own_moves c (take s.place ms))) is
+          ∙ ap (λ xs. (m.timer, (m.before + 1, m.line.entry)) ∷ xs) s.own ∙ ap (λ x. x ∷ before) (heads _ _ _ _ own);
+    }
+
+not_before_itself : (s : Script) (c : Label) → is_before s c c ≡ false
+not_before_itself s c = neither (round_of s c) c.lane c.call
+  where
+    neither : (r l k : ℕ) → (nat_lt r r || (nat_eq l l && nat_lt k k)) ≡ false
+    neither r l k = grind (arith, nat_tests)
+
+ordered : (s : Script) (ls : List Label) (p q : ℕ) (x y : Label) → IsInOrder s ls → slice_get ls p ≡ Some x → slice_get ls q ≡ Some y → p < q
+    → is_before s y x ≡ false
+ordered s [] p q x y order at_p at_q less = absurd (cc)
+ordered s (l ∷ ls) p zero x y order at_p at_q less = absurd (omega (arith, less))
+ordered s (l ∷ ls) zero (suc q) x y order at_p at_q less =
+    subst (λ z. is_before s y z ≡ false) (same_Some l x at_p) (all_at (λ y. is_before s y l ≡ false) ls q y order.0 at_q)
+ordered s (l ∷ ls) (suc p) (suc q) x y order at_p at_q less = ordered s ls p q x y order.1 at_p at_q (omega (arith, less))
+
+-- the place of an own entry is within the call's bounds
+within_at : (s : Script) (c : Label) (ls : List Label) (p : ℕ) → IsInOrder s ls → slice_get ls p ≡ Some c → IsWithin s c p ls
+within_at s c ls p order there = record {
+  small = omega (arith, slice_get_within ls p c there);
+  before = each_take (λ x. is_before s c x ≡ false) p ls (λ q x at less. ordered s ls q p x c order at there less);
+  behind = each_drop (λ x. is_before s x c ≡ false) p ls (λ q x at more. ⊎_elim
+      (λ (less : p < q). ordered s ls p q c x order there at less)
+      (λ (none : q ≤ p). subst (λ y. is_before s y c ≡ false) (same_Some c x (sym there ∙ ap (slice_get ls) (both p q more none) ∙ at)) (not_before_itself s c))
+      (cases_lt p q));
+}
+  where
+    both : (a b : ℕ) → a ≤ b → b ≤ a → a ≡ b
+    both a b x y = omega (arith, x, y)
+
+-- ---- each call
+
+-- what is true of all that a call did is true of each thing
+pub true_at : (w : Course) (c : Label) (first from : ℕ) (done ds mid : List Action) (d : Action) (rest : List Action) (last : ℕ)
+    → AreTrue w c first from done ds last
+    → ds ≡ mid ++ d ∷ rest → (n : ℕ) × IsTrue w c first (done ++ mid) d n
+true_at w c first from done [] [] d rest last all is = absurd (cc)
+true_at w c first from done [] (m ∷ mid) d rest last all is = absurd (cc)
+true_at w c first from done (x ∷ ds) [] d rest last all is = (
+  all.0,
+  subst (λ y. IsTrue w c first (done ++ []) y all.0) (heads x d ds rest is)
+      (subst (λ b. IsTrue w c first b x all.0) (sym (append-nil done)) all.2),
+)
+true_at w c first from done (x ∷ ds) (m ∷ mid) d rest last all is =
+    let further = true_at w c first all.0 (done ++ x ∷ []) ds mid d rest last all.3 (tails x m ds (mid ++ d ∷ rest) is) in (
+      further.0,
+      subst (λ b. IsTrue w c first b d further.0)
+          (append_assoc done (x ∷ []) mid ∙ ap (λ y. done ++ y ∷ mid) (heads x m ds (mid ++ d ∷ rest) is)) further.1,
+    )
+
+module _ (w : Course) (f : FitsIn w) where
+  -- a claim was made at the place where its entry stands
+  claim_then : (c : Label) (before rest : List Action) (t number base reading generation : ℕ)
+      → own_moves c w.moves ≡ all_entered (before ++ Entered t number (entries.Claim base reading generation) ∷ rest)
+      → TookNextDue w.script w.run c before base reading t number
+  claim_then c before rest t number base reading generation own_are =
+      let e = Entered t number (entries.Claim base reading generation) in
+      let s = stands c w.moves (all_entered before) (all_entered rest) (t, (number, entries.Claim base reading generation))
+      (own_are ∙ all_entered-append before (e ∷ rest)) in
+      let p = s.place in
+      let m = s.move in
+      let clock = w.run.clock in
+      let timer_is : m.timer ≡ t = ap (λ (x : ℕ × (ℕ × Entry)). x.0) s.is in
+      let entry_is : m.line.entry ≡ entries.Claim base reading generation = ap (λ (x : ℕ × (ℕ × Entry)). x.1.1) s.is in
+      let label : slice_get (labels w) p ≡ Some c = at_map (λ (m : Move). m.line.label) w.moves p m s.there ∙ ap (λ l. Some l) s.label in
+      let moment : IsMoment w c before p = record {
+        within = within_at w.script c (labels w) p f.order label;
+        so_many = ap (made_by c) (take-map (λ (m : Move). m.line.label) p w.moves) ∙ count_moves c (take p w.moves) ∙ ap length s.own;
+      } in
+      let turn = turn_at w f.history f.timers p m base reading generation s.there entry_is in
+      let next : IsNextDue (timer_then w p) base (reading_at clock reading) t =
+      subst (IsNextDue (timer_then w p) base (reading_at clock reading)) timer_is turn.next in
+      let same = same_then w f.history f.timers in
+      record {
+        seen = seen w p;
+        points = λ u. point_then w f.history f.timers c before (e ∷ rest) p u own_are moment;
+        claimed = ap (λ u. seen w p u + 1) (sym timer_is) ∙ ap (λ n. n + 1) (before_then w f.history f.timers p m s.there)
+            ∙ ap (λ (x : ℕ × (ℕ × Entry)). x.1.0) s.is;
+        free = λ u. sym (same (runs_on base) refl p u) ∙ turn.idle u;
+        next = record {
+          due = sym (same (is_due_on base (reading_at clock reading)) refl p t) ∙ next.due;
+          ahead = λ u. sym (same (is_ahead base (reading_at clock reading) (timer_after w.script w.run t (seen w p t)).clock) refl p u)
+              ∙ ap (λ k. is_ahead base (reading_at clock reading) k (timer_then w p u)) (sym (same_then w f.history f.timers (λ x. x.clock) refl p t))
+              ∙ next.ahead u;
+          smaller = λ u. sym (same (is_smaller base (timer_after w.script w.run t (seen w p t)).clock
+              (timer_after w.script w.run t (seen w p t)).expires) refl p u)
+              ∙ ap (λ k. is_smaller base k (timer_after w.script w.run t (seen w p t)).expires (timer_then w p u))
+              (sym (same_then w f.history f.timers (λ x. x.clock) refl p t))
+              ∙ ap (λ k. is_smaller base (timer_then w p t).clock k (timer_then w p u)) (sym (same_then w f.history f.timers (λ x. x.expires) refl p t))
+              ∙ next.smaller u;
+        };
+      }
+
+  module _ (c : Label) (at first last : ℕ) (actions : List Action) (own_are : own_moves c w.moves ≡ all_entered actions)
+      (ends : IsMoment w c actions last) where
+    all_own : own_moves c w.moves ≡ all_entered (actions ++ [])
+    all_own = own_are ∙ ap all_entered (sym (append-nil actions))
+
+    was_so : (t number : ℕ) (observation : Observation) → Saw w t number observation last → WasSo w.script w.run c actions t number observation
+    was_so t number observation saw = saw_then w f.history f.timers c actions [] last t number observation all_own ends saw
+
+    refused : (t stamp : ℕ) → SawRefusal w t stamp last → WasRefused w.script w.run c actions t stamp
+    refused t stamp is = (
+      was_so t stamp observations.Spent is.0,
+      ap (λ k. (timer_after w.script w.run t k).moving) (sym is.0.stamp ∙ stamp_then w f.history f.timers last t)
+          ∙ sym (same_then w f.history f.timers (λ x. x.moving) refl last t) ∙ is.1,
+    )
+
+    -- what an answer tells was so
+    told_then : (call : Call) (answer : Answer) → IsSeen w first last c at actions call answer → WasTold w.script w.run c at actions call answer
+    told_then (calls.Start t mode ns base) (answers.Spent stamp) is = refused t stamp is
+    told_then (calls.Cancel t) (answers.Running generation stamp) is = was_so t stamp (observations.Running generation) is
+    told_then (calls.Cancel t) (answers.Idle stamp) is = was_so t stamp observations.Idle is
+    told_then (calls.Peek t) (answers.Peek stamp base enqueued running moving) is =
+        was_so t stamp (observations.Peek (record { stamp = stamp; base = base; enqueued = enqueued; running = running; moving = moving })) is
+    told_then (calls.Expire base budget) (answers.Done shown timers) is = record {
+      seen = seen w last;
+      points = λ u. point_then w f.history f.timers c actions [] last u all_own ends;
+      free = λ u. sym (same_then w f.history f.timers (runs_on base) refl last u) ∙ is.free u;
+      none_due = λ u. sym (same_then w f.history f.timers (is_due_on base (reading_at w.run.clock at)) refl last u) ∙ is.none_due u;
+    }
+    told_then (calls.Expire base budget) (answers.Busy shown timers t generation) is = (
+      (timer_then w last t).stamp,
+      was_so t (timer_then w last t).stamp (observations.Running generation) (record { stamp = refl; holds = is.0 }),
+      ap (λ k. (timer_after w.script w.run t k).base) (stamp_then w f.history f.timers last t)
+          ∙ sym (same_then w f.history f.timers (λ x. x.base) refl last t) ∙ is.1,
+    )
+    told_then (calls.Settime t flags value interval) (answers.Unarmed stamp) is = refused t stamp is.1
+    told_then call answer is = tt
+
+  knows_from : (c : Label) (call : Call) (answer : Answer) (before after : Seen) → FitsCall w c call answer before after
+      → KnowsTimers w.script w.run c call answer
+  knows_from c call answer before after fits =
+      let t = w.traces c in
+      record {
+        at = t.at;
+        fired = t.fired;
+        actions = t.actions;
+        does = fits.does;
+        reading = fits.reading;
+        entered = λ u. entered_then w f.history f.timers c t.actions u fits.traced.timers;
+        looked = fits.traced.looks;
+        looks = λ early rest u number look is.
+            let true_there = true_at w c t.first t.first [] t.actions early (Looked u number look) rest t.last fits.truth is in
+            saw_then w f.history f.timers c early (Looked u number look ∷ rest) true_there.0 u number (observed look) (fits.traced.timers ∙ ap all_entered is)
+            true_there.1.0 true_there.1.1;
+        claims = λ early rest u number base reading generation is.
+            claim_then c early rest u number base reading generation (fits.traced.timers ∙ ap all_entered is);
+        told = told_then c t.at t.first t.last t.actions fits.traced.timers fits.ends call answer fits.seen;
+      }
+
+  each_answered : (lane index : ℕ) (before : Seen) (ps : List CallInRound) (given : List Answer) → FitsLane w lane index before ps given
+      → length given ≡ length ps
+  each_answered lane index before [] [] fits = refl
+  each_answered lane index before (p ∷ ps) (a ∷ more) fits = ap suc (each_answered lane (index + 1) fits.0 ps more fits.2)
+  each_answered lane index before [] (a ∷ more) fits = absurd fits
+  each_answered lane index before (p ∷ ps) [] fits = absurd fits
+
+  each_knows : (lane index k : ℕ) (before : Seen) (ps : List CallInRound) (given : List Answer) (p : CallInRound) (answer : Answer)
+      → FitsLane w lane index before ps given → slice_get ps k ≡ Some p → slice_get given k ≡ Some answer
+      → KnowsTimers w.script w.run (record { lane = lane; call = index + k }) p.call answer
+  each_knows lane index k before [] given p answer fits at_p at_a = absurd (cc)
+  each_knows lane index k before (q ∷ ps) [] p answer fits at_p at_a = absurd (cc)
+  each_knows lane index zero before (q ∷ ps) (a ∷ more) p answer fits at_p at_a =
+      subst (λ n. KnowsTimers w.script w.run (record { lane = lane; call = n }) p.call answer) (none index)
+      (subst (λ (x : CallInRound). KnowsTimers w.script w.run (record { lane = lane; call = index }) x.call answer) (same_Some q p at_p)
+      (subst (KnowsTimers w.script w.run (record { lane = lane; call = index }) q.call) (same_Some a answer at_a)
+      (knows_from (record { lane = lane; call = index }) q.call a before fits.0 fits.1)))
+    where
+      none : (n : ℕ) → n ≡ n + 0
+      none n = omega arith
+  each_knows lane index (suc k) before (q ∷ ps) (a ∷ more) p answer fits at_p at_a =
+      subst (λ n. KnowsTimers w.script w.run (record { lane = lane; call = n }) p.call answer) (further index k)
+      (each_knows lane (index + 1) k fits.0 ps more p answer fits.2 at_p at_a)
+    where
+      further : (n k : ℕ) → n + 1 + k ≡ n + suc k
+      further n k = omega arith
+
+  has_timers : HasTimers w.script w.run
+  has_timers = record {
+    histories = legal_each w f.history f.timers;
+    labels = λ t. labels_each w f.history f.timers (IsLabel w.script) t f.timer_calls;
+    order = λ t. order_each w f.history f.timers t f.order;
+    answered = λ lane. each_answered lane 0 unseen (calls_of w.script lane) (answers_of w.run lane) (f.calls lane);
+    calls = λ lane index p answer at_p at_a.
+        subst (λ n. KnowsTimers w.script w.run (record { lane = lane; call = n }) p.call answer) (from_none index)
+        (each_knows lane 0 index unseen (calls_of w.script lane) (answers_of w.run lane) p answer (f.calls lane) at_p at_a);
+  }
+    where
+      from_none : (n : ℕ) → 0 + n ≡ n
+      from_none n = omega arith
+
+-- law: a record that fits is right of each timer by itself
+pub fits_for_each_timer : (s : Script) (r : RunRecord) → Fits s r → HasTimers s r
+fits_for_each_timer s r fits = subst (λ y. HasTimers s y) fits.2 (subst (λ x. HasTimers x fits.0.run) fits.1 (has_timers fits.0 fits.3))

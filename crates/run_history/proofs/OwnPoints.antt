@@ -1,0 +1,255 @@
+-- One timer in the order of all: its list is a history, it is at each moment as after a number of its own entries, and a moment of a call is a point of the
+-- call in that list.
+use Rattle.std.proofs.Common.{◌≡◌, ◌<◌, ◌≤◌, ◌⊎◌, ℕ, ◌+◌, zero, suc, Bool, true, false, nat_eq, if◌then◌else◌, List, [], ◌∷◌, ◌++◌, Some, length, map, take, drop, get_or, arith, refl, sym, ap, ◌∙◌, subst, inl, inr}
+use Rattle.std.specs.List.{AllByRecursion, slice_get}
+use Rattle.std.proofs.Math.Logic.{⊎_elim}
+use Rattle.std.proofs.lemmas.Bool.{cases_eq, cases_lt, eq-eqb, ne_eqb}
+use Rattle.std.proofs.lemmas.List.{append_assoc, drop-map, get_or_past, get_or-map, length-map, take-map}
+use Rattle.ktime.specs.declared.clock_id.ClockId.{ClockId}
+use Rattle.ktime.specs.declared.clock_id.ClockId.TheVariants as clocks
+use Rattle.seq_timer.specs.declared.observation.Observation.{Observation}
+use Rattle.seq_timer.specs.declared.observation.Observation.TheVariants as observations
+use Rattle.seq_timer.specs.declared.system.TimerEntry.{TimerEntry}
+use Rattle.seq_timer.specs.Histories.{after_all, AreSteps, Entry, Holds, IsLegal}
+use Rattle.seq_timer.specs.Steps.{opening, Timer}
+use Rattle.seq_timer.specs.Systems.{after_entry, armed_in, entries_of, first_system, openings, System, system_of}
+use Rattle.seq_timer.specs.Tables.{no_timer, timer_at}
+use Rattle.seq_timer.specs.Turns.{IsInTurn, IsTurn}
+use Rattle.seq_timer.proofs.Agreement.{stamp_counts}
+use Rattle.seq_timer.proofs.Systems.{after_entries-append, after_entries-entries_of, timer_else, timer_here}
+use Rattle.record_text.specs.declared.record.Entry.TheVariants as entries
+use Rattle.record_text.specs.declared.record.Label.{Label}
+use Rattle.record_text.specs.declared.record.TimerLine.{TimerLine}
+use Rattle.script_text.specs.Actions.{Action, also, entered, own}
+use Rattle.script_text.specs.Histories.{clock_of, entry_shown, history_from, history_of, lines_of_timer, reading_at, timer_after, timer_labels}
+use Rattle.script_text.specs.Order.{is_before, IsInOrder, made_by}
+use Rattle.run_history.specs.Courses.{clocks_of, Course, entries_in, entry_of_move, IsOneHistory, labels, Move, moves_on, timer_then}
+use Rattle.run_history.specs.EachTimer.{IsOwnPoint, WasSo}
+use Rattle.run_history.specs.Traces.{all_entered, own_moves}
+use Rattle.run_history.specs.Truths.{IsMoment, Saw}
+use Rattle.run_history.proofs.Actions.{all_entered-append}
+use Rattle.run_history.proofs.Lists.{at_map}
+use Rattle.run_history.proofs.OwnParts.{all_on, before_at, entries_on, history_shown, labels_of_lines, of_timer, of_timer-entered, of_timer-from, of_timer-on, on_drop, on_place, on_take, own_early, own_entry, take_from}
+use Rattle.run_history.proofs.Points.{count_own}
+
+-- an entry after so many
+pub split_at : {X : Type 0} (xs : List X) (p : ℕ) (x : X) → slice_get xs p ≡ Some x → xs ≡ take p xs ++ x ∷ drop (suc p) xs
+split_at [] p x at = absurd (cc)
+split_at (y ∷ xs) zero x at = let same : y ≡ x = cc in ap (λ z. z ∷ xs) same
+split_at (y ∷ xs) (suc p) x at = ap (λ zs. y ∷ zs) (split_at xs p x at)
+
+-- how many entries a timer has among the first so many of all
+abbrev pub seen : Course → ℕ → ℕ → ℕ
+seen w n t = length (moves_on t (take n w.moves))
+
+-- ---- a timer's part of a history of all is one of its own
+
+own_steps : (bases : ℕ) (list : List ClockId) (limit t : ℕ) (log done later : List TimerEntry) → IsInTurn bases list limit log → log ≡ done ++ later
+    → AreSteps ((system_of list limit done).timers t) (entries_of t later)
+own_steps bases list limit t log done [] turns is = tt
+own_steps bases list limit t log done (e ∷ es) turns is =
+    let first = first_system (openings list limit) in
+    let now = system_of list limit done in
+    let may = turns done es e is in
+    let on : (system_of list limit (done ++ e ∷ [])).timers t ≡ (after_entry now e).timers t =
+    ap (λ (x : System). x.timers t) (after_entries-append first done (e ∷ [])) in
+    let rest = subst (λ x. AreSteps x (entries_of t es)) on
+    (own_steps bases list limit t log (done ++ e ∷ []) es turns (is ∙ sym (append_assoc done (e ∷ []) es))) in
+    ⊎_elim
+    (λ (same : e.timer ≡ t). subst (λ (b : Bool). AreSteps (now.timers t)
+    (if b then record { event = e.event; reply = e.reply } ∷ entries_of t es else entries_of t es))
+    (sym (eq-eqb e.timer t same))
+    (subst (λ u. AreSteps ((after_entry now e).timers u) (entries_of t es)
+    → AreSteps (now.timers u) (record { event = e.event; reply = e.reply } ∷ entries_of t es)) same
+    (λ steps. (may.needs, may.reply, subst (λ x. AreSteps x (entries_of t es)) (timer_here now e) steps)) rest))
+    (λ (other : e.timer ≡ t → ⊥). subst (λ (b : Bool). AreSteps (now.timers t)
+    (if b then record { event = e.event; reply = e.reply } ∷ entries_of t es else entries_of t es))
+    (sym (ne_eqb e.timer t other))
+    (subst (λ x. AreSteps x (entries_of t es)) (timer_else now e t (λ q. other (sym q))) rest))
+    (cases_eq e.timer t)
+
+-- a script's timer by its number; one that isn't there has no clock of its own
+declared : (list : List ClockId) (limit t : ℕ) → t < length list → timer_at (openings list limit) t ≡ opening (get_or list t clocks.Monotonic) limit
+declared list limit t less = get_or-map (λ clock. opening clock limit) list t clocks.Monotonic no_timer less
+
+absent : (list : List ClockId) (limit t : ℕ) → length list ≤ t → timer_at (openings list limit) t ≡ no_timer
+absent list limit t past = get_or_past (openings list limit) t no_timer (subst (λ n. n ≤ t) (sym (length-map list (λ clock. opening clock limit))) past)
+
+nothing_taken : (o : Timer) (n : ℕ) (es : List Entry) → es ≡ [] → after_all o (take n es) ≡ o
+nothing_taken o zero [] is = refl
+nothing_taken o (suc n) [] is = refl
+nothing_taken o n (e ∷ es) is = absurd (cc)
+
+module _ (w : Course) (one : IsOneHistory w) (timers : length w.run.timers ≡ length w.script.timers) where
+  -- law: a timer has made as many entries as stand in the order
+  pub stamp_then : (n t : ℕ) → (timer_then w n t).stamp ≡ seen w n t
+  stamp_then n t =
+      stamp_counts w.script.limit (clocks_of w.script) (take n (entries_in w)) t
+      ∙ ap (λ xs. length (entries_of t xs)) (take-map (entry_of_move w.run.clock) n w.moves)
+      ∙ ap length (entries_on w.run.clock t (take n w.moves))
+      ∙ length-map (moves_on t (take n w.moves)) (own_entry w.run.clock)
+
+  own_history : (t : ℕ) → entries_of t (entries_in w) ≡ history_of w.run t
+  own_history t = entries_on w.run.clock t w.moves ∙ ap (map (own_entry w.run.clock)) (one.all t) ∙ history_shown w.run.clock t 0 (lines_of_timer w.run t)
+
+  early_history : (n t : ℕ) → entries_of t (take n (entries_in w)) ≡ take (seen w n t) (history_of w.run t)
+  early_history n t =
+      ap (entries_of t) (take-map (entry_of_move w.run.clock) n w.moves)
+      ∙ entries_on w.run.clock t (take n w.moves)
+      ∙ ap (map (own_entry w.run.clock)) (sym (on_take t n w.moves))
+      ∙ sym (take-map (own_entry w.run.clock) (seen w n t) (moves_on t w.moves))
+      ∙ ap (take (seen w n t)) (sym (entries_on w.run.clock t w.moves) ∙ own_history t)
+
+  begins : (t : ℕ) → (timer_at (openings (clocks_of w.script) w.script.limit) t ≡ opening (clock_of w.script t) w.script.limit)
+      ⊎ ((timer_at (openings (clocks_of w.script) w.script.limit) t ≡ no_timer) × (clock_of w.script t ≡ clocks.Monotonic) × (history_of w.run t ≡ []))
+  begins t = ⊎_elim
+      (λ less. inl (declared (clocks_of w.script) w.script.limit t less))
+      (λ past. inr (
+        absent (clocks_of w.script) w.script.limit t past,
+        get_or_past (clocks_of w.script) t clocks.Monotonic past,
+        ap (history_from w.run.clock 0) (get_or_past w.run.timers t [] (subst (λ n. n ≤ t) (length-map w.script.timers (λ d. d.clock) ∙ sym timers) past)),
+      ))
+      (cases_lt t (length (clocks_of w.script)))
+
+  -- law: each timer's list is a history of such a timer
+  pub legal_each : (t : ℕ) → IsLegal (clock_of w.script t) w.script.limit (history_of w.run t)
+  legal_each t = ⊎_elim
+      (λ is. subst (λ x. AreSteps x (history_of w.run t)) is (subst (AreSteps (timer_at (openings (clocks_of w.script) w.script.limit) t)) (own_history t)
+      (own_steps w.script.bases (clocks_of w.script) w.script.limit t (entries_in w) [] (entries_in w) one.history refl)))
+      (λ none. subst (AreSteps (opening (clock_of w.script t) w.script.limit)) (sym none.2) tt)
+      (begins t)
+
+  -- at each moment a timer is as after so many of its own entries; one that isn't there is as it began
+  state_then : (n t : ℕ) → (timer_then w n t ≡ timer_after w.script w.run t (seen w n t))
+      ⊎ ((timer_then w n t ≡ no_timer) × (timer_after w.script w.run t (seen w n t) ≡ opening clocks.Monotonic w.script.limit))
+  state_then n t =
+      let first = timer_at (openings (clocks_of w.script) w.script.limit) t in
+      let is : timer_then w n t ≡ after_all first (take (seen w n t) (history_of w.run t)) =
+      after_entries-entries_of (first_system (openings (clocks_of w.script) w.script.limit)) t (take n (entries_in w))
+      ∙ ap (after_all first) (early_history n t) in
+      ⊎_elim
+      (λ begun. inl (is ∙ ap (λ x. after_all x (take (seen w n t) (history_of w.run t))) begun))
+      (λ none. inr (
+        is ∙ nothing_taken first (seen w n t) (history_of w.run t) none.2 ∙ none.0,
+        nothing_taken (opening (clock_of w.script t) w.script.limit) (seen w n t) (history_of w.run t) none.2
+            ∙ ap (λ clock. opening clock w.script.limit) none.1,
+      ))
+      (begins t)
+
+  -- law: so what doesn't hang on the limit is the same of both
+  pub same_then : {X : Type 0} (f : Timer → X) → f no_timer ≡ f (opening clocks.Monotonic w.script.limit) → (n t : ℕ)
+      → f (timer_then w n t) ≡ f (timer_after w.script w.run t (seen w n t))
+  same_then f none n t = ⊎_elim (λ is. ap f is) (λ is. ap f is.0 ∙ none ∙ sym (ap f is.1)) (state_then n t)
+
+  holds_then : (n t : ℕ) (observation : Observation) → Holds (timer_then w n t) observation → Holds (timer_after w.script w.run t (seen w n t)) observation
+  holds_then n t observation holds = ⊎_elim
+      (λ is. subst (λ x. Holds x observation) is holds)
+      (λ is. subst (λ x. Holds x observation) (sym is.1) (of_none observation (subst (λ x. Holds x observation) is.0 holds)))
+      (state_then n t)
+    where
+      of_none : (observation : Observation) → Holds no_timer observation → Holds (opening clocks.Monotonic w.script.limit) observation
+      of_none (observations.Peek peek) holds = holds
+      of_none observations.Idle holds = record { armed = refl; running = refl; moving = refl }
+      of_none (observations.Running generation) holds = holds
+      of_none (observations.Armed generation) holds = holds
+      of_none observations.Spent holds = absurd (omega (arith, holds))
+
+  -- law: a moment of a call is a point of the call in each timer's list
+  pub point_then : (c : Label) (before rest : List Action) (n t : ℕ) → own_moves c w.moves ≡ all_entered (before ++ rest) → IsMoment w c before n
+      → IsOwnPoint w.script w.run c before t (seen w n t)
+  point_then c before rest n t own_are moment =
+      let early = take n w.moves in
+      let k = seen w n t in
+      let lines = lines_of_timer w.run t in
+      let its : map (λ m. m.line.label) (moves_on t w.moves) ≡ timer_labels w.run t = ap (map (λ m. m.line.label)) (one.all t) ∙ labels_of_lines t 0 lines in
+      let taken : take k (timer_labels w.run t) ≡ map (λ m. m.line.label) (moves_on t early) =
+      ap (take k) (sym its) ∙ take-map (λ (m : Move). m.line.label) k (moves_on t w.moves) ∙ ap (map (λ m. m.line.label)) (on_take t n w.moves) in
+      let dropped : drop k (timer_labels w.run t) ≡ map (λ m. m.line.label) (moves_on t (drop n w.moves)) =
+      ap (drop k) (sym its) ∙ drop-map (λ (m : Move). m.line.label) k (moves_on t w.moves) ∙ ap (map (λ m. m.line.label)) (on_drop t n w.moves) in
+      let these : own_moves c early ≡ all_entered before = own_early c n w.moves (all_entered before) (all_entered rest)
+      (own_are ∙ all_entered-append before rest) moment.so_many in
+      record {
+        within = record {
+          small = fits (timer_labels w.run t) k (ap length taken ∙ length-map (moves_on t early) (λ m. m.line.label));
+          before = subst (AllByRecursion (λ x. is_before w.script c x ≡ false)) (sym taken) (all_on (λ x. is_before w.script c x ≡ false) t early
+              (subst (AllByRecursion (λ x. is_before w.script c x ≡ false)) (take-map (λ (m : Move). m.line.label) n w.moves) moment.within.before));
+          behind = subst (AllByRecursion (λ x. is_before w.script x c ≡ false)) (sym dropped) (all_on (λ x. is_before w.script x c ≡ false) t (drop n w.moves)
+              (subst (AllByRecursion (λ x. is_before w.script x c ≡ false)) (drop-map (λ (m : Move). m.line.label) n w.moves) moment.within.behind));
+        };
+        so_many = ap (made_by c) (take-map (λ (l : TimerLine). l.label) k lines)
+            ∙ count_own (λ line. line.label) (λ line. line.entry) c 1 (take k lines)
+            ∙ ap length (sym (of_timer-from c t 0 (take k lines))
+            ∙ ap (λ ms. of_timer t (own_moves c ms)) (take_from t 0 k lines ∙ ap (take k) (sym (one.all t)) ∙ on_take t n w.moves)
+            ∙ of_timer-on c t early ∙ ap (of_timer t) these ∙ of_timer-entered t before);
+      }
+    where
+      fits : {X : Type 0} (xs : List X) (k : ℕ) → length (take k xs) ≡ k → k ≤ length xs
+      fits [] zero is = omega arith
+      fits [] (suc k) is = absurd (omega (arith, is))
+      fits (x ∷ xs) zero is = omega arith
+      fits (x ∷ xs) (suc k) is = let below = fits xs k (omega (arith, is)) in omega (arith, below)
+
+  -- at a move's place its timer has as many entries as it says
+  pub before_then : (p : ℕ) (m : Move) → slice_get w.moves p ≡ Some m → seen w p m.timer ≡ m.before
+  before_then p m at = from_none (seen w p m.timer) ∙ before_at m.timer 0 (seen w p m.timer) (lines_of_timer w.run m.timer) m
+      (ap (λ ms. slice_get ms (seen w p m.timer)) (sym (one.all m.timer)) ∙ on_place m.timer p w.moves m at refl)
+    where
+      from_none : (n : ℕ) → n ≡ 0 + n
+      from_none n = omega arith
+
+  -- law: a timer has no fewer entries later
+  pub seen_rises : (a b t : ℕ) → a ≤ b → seen w a t ≤ seen w b t
+  seen_rises a b t le = rises w.moves a b le
+    where
+      rises : (ms : List Move) (a b : ℕ) → a ≤ b → length (moves_on t (take a ms)) ≤ length (moves_on t (take b ms))
+      rises [] zero b le = omega arith
+      rises [] (suc a) zero le = omega arith
+      rises [] (suc a) (suc b) le = omega arith
+      rises (m ∷ ms) zero b le = omega arith
+      rises (m ∷ ms) (suc a) zero le = absurd (omega (arith, le))
+      rises (m ∷ ms) (suc a) (suc b) le =
+          let rest = rises ms a b (omega (arith, le)) in
+          elim (nat_eq m.timer t) as (λ x. length (also x m (moves_on t (take a ms))) ≤ length (also x m (moves_on t (take b ms)))) [
+            | true ↦ omega (arith, rest)
+            | false ↦ rest
+          ]
+
+  -- law: a claim was in turn at its place
+  pub turn_at : (p : ℕ) (m : Move) (base reading generation : ℕ) → slice_get w.moves p ≡ Some m → m.line.entry ≡ entries.Claim base reading generation
+      → IsTurn (timer_then w p) (armed_in (clocks_of w.script) w.script.limit (take p (entries_in w))) base (reading_at w.run.clock reading) m.timer
+  turn_at p m base reading generation at is =
+      (one.history (take p (entries_in w)) _ (entry_of_move w.run.clock m) (split_at (entries_in w) p (entry_of_move w.run.clock m)
+      (at_map (entry_of_move w.run.clock) w.moves p m at))).turn base (reading_at w.run.clock reading) (ap (λ x. (entry_shown w.run.clock m.before x).event) is)
+
+  -- law: what a call saw at a moment was so after a number of the timer's entries
+  pub saw_then : (c : Label) (before rest : List Action) (n t number : ℕ) (observation : Observation) → own_moves c w.moves ≡ all_entered (before ++ rest)
+      → IsMoment w c before n → Saw w t number observation n → WasSo w.script w.run c before t number observation
+  saw_then c before rest n t number observation own_are moment saw =
+      subst (λ k. WasSo w.script w.run c before t k observation) (sym (stamp_then n t) ∙ saw.stamp) (record {
+        point = point_then c before rest n t own_are moment;
+        holds = holds_then n t observation saw.holds;
+      })
+
+  -- law: a timer's list has of a call what the call did there
+  pub entered_then : (c : Label) (actions : List Action) (t : ℕ) → own_moves c w.moves ≡ all_entered actions
+      → own (λ line. line.label) (λ line. line.entry) c 1 (lines_of_timer w.run t) ≡ entered t actions
+  entered_then c actions t own_are =
+      sym (of_timer-from c t 0 (lines_of_timer w.run t)) ∙ ap (λ ms. of_timer t (own_moves c ms)) (sym (one.all t)) ∙ of_timer-on c t w.moves
+      ∙ ap (of_timer t) own_are ∙ of_timer-entered t actions
+
+  -- law: along each timer's list labels are as along the order
+  pub labels_each : (P : Label → Type 0) (t : ℕ) → AllByRecursion P (labels w) → AllByRecursion P (timer_labels w.run t)
+  labels_each P t all = subst (AllByRecursion P) (ap (map (λ m. m.line.label)) (one.all t) ∙ labels_of_lines t 0 (lines_of_timer w.run t))
+      (all_on P t w.moves all)
+
+  -- law: and in order
+  pub order_each : (t : ℕ) → IsInOrder w.script (labels w) → IsInOrder w.script (timer_labels w.run t)
+  order_each t order = subst (IsInOrder w.script) (ap (map (λ m. m.line.label)) (one.all t) ∙ labels_of_lines t 0 (lines_of_timer w.run t))
+      (along w.moves order)
+    where
+      along : (ms : List Move) → IsInOrder w.script (map (λ m. m.line.label) ms) → IsInOrder w.script (map (λ m. m.line.label) (moves_on t ms))
+      along [] all = tt
+      along (m ∷ ms) all = elim (nat_eq m.timer t) as (λ b. IsInOrder w.script (map (λ m. m.line.label) (also b m (moves_on t ms)))) [
+        | true ↦ (all_on (λ y. is_before w.script y m.line.label ≡ false) t ms all.0, along ms all.1)
+        | false ↦ along ms all.1
+      ]

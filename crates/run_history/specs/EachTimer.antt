@@ -1,0 +1,93 @@
+-- What a record that fits says of each timer by itself, with no order of all timers' entries: its list is a history of such a timer, and what calls did
+-- there and were told of it was so after numbers of its own entries.
+use Rattle.std.specs.Prelude.{ℕ, ◌≡◌, ◌+◌, false, Some, List, ◌∷◌, ◌++◌, length}
+use Rattle.std.specs.List.{AllByRecursion, slice_get}
+use Rattle.seq_timer.specs.declared.observation.Observation.{Observation}
+use Rattle.seq_timer.specs.declared.observation.Observation.TheVariants as observations
+use Rattle.seq_timer.specs.Histories.{HoldsAt, IsLegal}
+use Rattle.seq_timer.specs.Tables.{IsNextDue, is_due_on, runs_on}
+use Rattle.record_text.specs.declared.record.Answer.{Answer}
+use Rattle.record_text.specs.declared.record.Answer.TheVariants as answers
+use Rattle.record_text.specs.declared.record.CallbackReply.{CallbackReply}
+use Rattle.record_text.specs.declared.record.Entry.TheVariants as entries
+use Rattle.record_text.specs.declared.record.Label.{Label}
+use Rattle.record_text.specs.declared.record.RunRecord.{RunRecord}
+use Rattle.script_text.specs.declared.script.Call.{Call}
+use Rattle.script_text.specs.declared.script.Call.TheVariants as calls
+use Rattle.script_text.specs.declared.script.Script.{Script}
+use Rattle.script_text.specs.Actions.{Action, Entered, entered, Looked, looked, own, own_looks}
+use Rattle.script_text.specs.Calls.{observed}
+use Rattle.script_text.specs.Fits.{answers_of}
+use Rattle.script_text.specs.Histories.{clock_labels, clock_of, history_of, lines_of_timer, reading_at, timer_after, timer_labels}
+use Rattle.script_text.specs.Order.{CallInRound, calls_of, IsInOrder, IsLabel, IsPoint}
+use Rattle.run_history.specs.Calls.{Does}
+use Rattle.run_history.specs.Courses.{Fired}
+
+-- a number of a timer's entries is one that the call, having done so much, may have seen
+abbrev pub IsOwnPoint : Script → RunRecord → Label → List Action → ℕ → ℕ → Type 0
+IsOwnPoint s r c before t n = IsPoint s c (length (entered t before)) n (timer_labels r t)
+
+-- what a call, having done so much, was told of a timer was so after this number of its entries
+pub record WasSo (s : Script) (r : RunRecord) (c : Label) (before : List Action) (t number : ℕ) (observation : Observation) : Type 0 where
+  pub point : IsOwnPoint s r c before t number
+  pub holds : HoldsAt (clock_of s t) s.limit (history_of r t) number observation
+
+-- a start was refused: the timer's history was full, and the timer was not on the move between bases
+abbrev pub WasRefused : Script → RunRecord → Label → List Action → ℕ → ℕ → Type 0
+WasRefused s r c before t stamp = WasSo s r c before t stamp observations.Spent × ((timer_after s r t stamp).moving ≡ false)
+
+-- a claim took the timer that was the next to expire on its base, where no function ran: after numbers of entries of each timer
+pub record TookNextDue (s : Script) (r : RunRecord) (c : Label) (before : List Action) (base reading t number : ℕ) : Type 0 where
+  pub seen : ℕ → ℕ
+  pub points : (u : ℕ) → IsOwnPoint s r c before u (seen u)
+  pub claimed : seen t + 1 ≡ number
+  pub free : (u : ℕ) → runs_on base (timer_after s r u (seen u)) ≡ false
+  pub next : IsNextDue (λ u. timer_after s r u (seen u)) base (reading_at r.clock reading) t
+
+-- no function ran on a base, and no timer was due there: after numbers of entries of each timer
+pub record WasDone (s : Script) (r : RunRecord) (c : Label) (actions : List Action) (base reading : ℕ) : Type 0 where
+  pub seen : ℕ → ℕ
+  pub points : (u : ℕ) → IsOwnPoint s r c actions u (seen u)
+  pub free : (u : ℕ) → runs_on base (timer_after s r u (seen u)) ≡ false
+  pub none_due : (u : ℕ) → is_due_on base (reading_at r.clock reading) (timer_after s r u (seen u)) ≡ false
+
+-- what an answer tells of timers was so, when the call had done all that it did
+abbrev pub WasTold : Script → RunRecord → Label → ℕ → List Action → Call → Answer → Type 0
+WasTold s r c at actions (calls.Start t mode ns base) (answers.Spent stamp) = WasRefused s r c actions t stamp
+WasTold s r c at actions (calls.Cancel t) (answers.Running generation stamp) = WasSo s r c actions t stamp (observations.Running generation)
+WasTold s r c at actions (calls.Cancel t) (answers.Idle stamp) = WasSo s r c actions t stamp observations.Idle
+WasTold s r c at actions (calls.Peek t) (answers.Peek stamp base enqueued running moving) =
+    WasSo s r c actions t stamp
+    (observations.Peek (record { stamp = stamp; base = base; enqueued = enqueued; running = running; moving = moving }))
+WasTold s r c at actions (calls.Expire base budget) (answers.Done shown timers) = WasDone s r c actions base at
+WasTold s r c at actions (calls.Expire base budget) (answers.Busy shown timers t generation) =
+    (stamp : ℕ) × WasSo s r c actions t stamp (observations.Running generation) × ((timer_after s r t stamp).base ≡ base)
+WasTold s r c at actions (calls.Settime t flags value interval) (answers.Unarmed stamp) = WasRefused s r c actions t stamp
+WasTold s r c at actions call answer = Unit
+
+-- one call with its answer: what it did is what the record shows of each timer, and what it was told in it and by it was so
+pub record KnowsTimers (s : Script) (r : RunRecord) (c : Label) (call : Call) (answer : Answer) : Type 0 where
+  pub at : ℕ
+  pub fired : List Fired
+  pub actions : List Action
+  pub does : Does s at call answer fired actions
+  pub reading : IsPoint s c 0 at (clock_labels r)
+  pub entered : (t : ℕ) → own (λ line. line.label) (λ line. line.entry) c 1 (lines_of_timer r t) ≡ entered t actions
+  pub looked : (t : ℕ) → own_looks c 1 (lines_of_timer r t) ≡ looked t actions
+  pub looks : (before rest : List Action) (t number : ℕ) (look : CallbackReply) → actions ≡ before ++ Looked t number look ∷ rest
+      → WasSo s r c before t number (observed look)
+  pub claims : (before rest : List Action) (t number base reading generation : ℕ)
+      → actions ≡ before ++ Entered t number (entries.Claim base reading generation) ∷ rest → TookNextDue s r c before base reading t number
+  pub told : WasTold s r c at actions call answer
+
+-- each timer's list by itself, and each call by such lists
+pub record HasTimers (s : Script) (r : RunRecord) : Type 0 where
+  -- each timer's lines are a history that a timer gives, on its declared clock and with the script's limit
+  pub histories : (t : ℕ) → IsLegal (clock_of s t) s.limit (history_of r t)
+  -- they bear the labels of calls; along each list rounds follow one another, and a lane's calls keep their order
+  pub labels : (t : ℕ) → AllByRecursion (IsLabel s) (timer_labels r t)
+  pub order : (t : ℕ) → IsInOrder s (timer_labels r t)
+  -- each lane has as many answers as calls, and each of them is right of each timer
+  pub answered : (lane : ℕ) → length (answers_of r lane) ≡ length (calls_of s lane)
+  pub calls : (lane index : ℕ) (p : CallInRound) (answer : Answer) → slice_get (calls_of s lane) index ≡ Some p
+      → slice_get (answers_of r lane) index ≡ Some answer → KnowsTimers s r (record { lane = lane; call = index }) p.call answer
