@@ -15,3 +15,5 @@ pub mod ObjectCalls
 pub mod Calls
 pub mod ExpiryRuns
 pub mod Fits
+pub mod Generator
+pub mod Summary

@@ -30,9 +30,9 @@ most_script_bytes = 1048576
 abbrev pub most_bases : ℕ
 most_bases = 8
 
--- how many lanes a script may have: one, until lanes run on threads
+-- how many lanes a script may have
 abbrev pub most_lanes : ℕ
-most_lanes = 1
+most_lanes = 16
 
 -- how many timers may be declared
 abbrev pub most_timers : ℕ

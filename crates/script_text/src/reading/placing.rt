@@ -17,8 +17,8 @@ const MOST_CALLS: u64 = 65536;
 /// How many bases a script may have.
 const MOST_BASES: u64 = 8;
 
-/// How many lanes a script may have, until lanes run on threads.
-const MOST_LANES: u64 = 1;
+/// How many lanes a script may have.
+const MOST_LANES: u64 = 16;
 
 /// The greatest limit on a timer's entries.
 const MOST_EVENTS: u64 = (1 << 40) - 4;

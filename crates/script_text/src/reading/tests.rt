@@ -31,7 +31,7 @@ fn refusal(rt: &impl Abort, alloc: Global, bytes: &[u8]) -> String {
     }
 }
 
-const REFUSED: [(&str, &str, &str); 25] = [
+const REFUSED: [(&str, &str, &str); 27] = [
     ("", "", "line 1: Unfinished\n"),
     ("", "hrt 2\n", "line 1: Version\n"),
     ("", "hrt  1\n", "line 1: BadSpace\n"),
@@ -51,7 +51,13 @@ const REFUSED: [(&str, &str, &str); 25] = [
         "line 7: WrongKind\n",
     ),
     ("", "\n# none\nhrt 1\n", "line 4: Unfinished\n"),
-    ("", "hrt 1\nbases 1\nlanes 2\n", "line 3: LaneLimit\n"),
+    ("", "hrt 1\nbases 1\nlanes 17\n", "line 3: LaneLimit\n"),
+    ("", "hrt 1\nbases 1\nlanes 0\n", "line 3: LaneLimit\n"),
+    (
+        "",
+        "hrt 1\nbases 1\nlanes 16\nlimit 9\nround\n15 set 7\n16 set 7\n",
+        "line 7: LaneLimit\n",
+    ),
     (
         "",
         "hrt 1\nbases 1\nlanes 1\nlimit 1099511627773\n",
