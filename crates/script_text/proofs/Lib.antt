@@ -15,3 +15,8 @@ pub mod Rows
 pub mod Scripts
 pub mod Steps
 pub mod DraftsRead
+pub mod Generated
+pub mod GeneratedReads
+pub mod Spelled
+pub mod Sums
+pub mod GeneratedCalls

@@ -79,6 +79,10 @@ line_words l h = row_words (row l.form) l.values h (form_again l.form).1
 pub spelled_kept : (l : Line) → IsLine l → is_skipped (spelled l) ≡ false
 spelled_kept l h = kept (fill_form (row l.form) l.values) (line_words l h)
 
+-- the bytes of a line that can be spelled are letters, digits, signs and spaces
+pub spelled_good : (l : Line) → IsLine l → list_any is_bad_byte (spelled l) ≡ false
+spelled_good l h = good_bytes (fill_form (row l.form) l.values) (line_words l h).1
+
 pub line_again : (l : Line) → IsLine l → line_in (spelled l) ≡ Ok l
 unfolding line_of_form
 line_again l h =

@@ -15,7 +15,8 @@ without_empty_tail-cons : (p : List ℕ) (ps : List (List ℕ)) (last : List ℕ
 without_empty_tail-cons p [] last = refl
 without_empty_tail-cons p (q ∷ qs) last = refl
 
-without_empty_tail-push : (ps : List (List ℕ)) (last : List ℕ)
+-- parts with one more, which stays only if it isn't empty
+pub without_empty_tail-push : (ps : List (List ℕ)) (last : List ℕ)
     → without_empty_tail (ps ++ last ∷ []) ≡ (if length last == 0 then ps else ps ++ last ∷ [])
 without_empty_tail-push [] last = refl
 without_empty_tail-push (p ∷ ps) last =

@@ -13,3 +13,5 @@ pub mod Actions
 pub mod Starts
 pub mod ObjectCalls
 pub mod Told
+pub mod Generator
+pub mod Summary

@@ -2,12 +2,17 @@
 #![tactic(auto)]
 
 pub use form::{Field, Form, Line, Part, Value};
+pub use generating::generate;
 pub use reading::laws::{at_most_one_script_is_read, bytes_are_read_or_refused};
 pub use reading::parsing::parse;
+pub use reading::words::number;
 pub use refusal::{Cause, ParseError, Refused};
 pub use script::{Call, Callback, Declaration, Kind, LaneCall, Round, Script};
+pub use summing::summary;
 
 mod form;
+mod generating;
 mod reading;
 mod refusal;
 mod script;
+mod summing;

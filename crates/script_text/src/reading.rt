@@ -10,4 +10,4 @@ pub mod parsing;
 mod placing;
 #[cfg(test)]
 mod tests;
-mod words;
+pub mod words;

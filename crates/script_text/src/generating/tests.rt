@@ -1,0 +1,41 @@
+//! Scripts that are generated, and that they are read.
+use super::generate;
+use crate::reading::parsing::parse;
+use crate::script::{Call, LaneCall};
+use ktime::Mode;
+
+const ONE_LANE: &str = "hrt 1\nbases 1\nlanes 1\nlimit 1000000\n\
+    raw 0 monotonic every 100\nraw 1 monotonic once\nround\n0 advance 50\nround\n\
+    0 start 0 rel 13 0\n0 expire 0 8\n0 start 1 rel 12 0\nround\n0 advance 50\nround\n0 expire 0 8\n";
+
+const NO_CALLS: &str = "hrt 1\nbases 2\nlanes 2\nlimit 1000000\n\
+    raw 0 monotonic every 100\nraw 1 monotonic once\nraw 2 monotonic every 100\nraw 3 monotonic once\n\
+    round\n0 advance 50\nround\n0 expire 0 8\n1 expire 1 8\n";
+
+#[test]
+fn writes_the_bytes_of_a_script(rt: HostRuntime) {
+    let one = generate(rt.alloc(), 1, 1, 3).expect(&rt, "memory");
+    assert_eq!(rt; one.as_slice(), ONE_LANE.as_bytes());
+    let none = generate(rt.alloc(), 1, 2, 0).expect(&rt, "memory");
+    assert_eq!(rt; none.as_slice(), NO_CALLS.as_bytes());
+}
+
+#[test]
+fn writes_the_largest_script(rt: HostRuntime) {
+    let bytes = generate(rt.alloc(), 7, 8, 4096).expect(&rt, "memory");
+    let Ok(script) = parse(rt.alloc(), &bytes) else {
+        panic!(rt; "refused");
+    };
+    assert_eq!(rt; (script.bases, script.lanes, script.limit), (8, 8, 1000000));
+    assert_eq!(rt; script.timers.as_slice().len(), 16);
+    let rounds = script.rounds.as_slice();
+    assert_eq!(rt; rounds.len(), 2050);
+    for (i, round) in rounds.iter().enumerate() {
+        let calls = match i {
+            2049 => 8,
+            _ if i % 2 == 0 => 1,
+            _ => 32,
+        };
+        assert_eq!(rt; round.calls.as_slice().len(), calls, "{i}");
+    }
+}
