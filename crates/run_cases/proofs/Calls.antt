@@ -11,7 +11,7 @@ use Rattle.record_text.specs.declared.record.Label.{Label}
 use Rattle.record_text.specs.declared.record.ObjectLine.{ObjectLine}
 use Rattle.script_text.specs.declared.script.Call.{Call}
 use Rattle.script_text.specs.Actions.{own, looked, made, own_looks, skips_under, own_skips, skipped, wrote}
-use Rattle.script_text.specs.Fits.{object_called, object_stamp_in, object_steps_on, stamps_on}
+use Rattle.script_text.specs.Told.{object_called, object_stamp_in, object_steps_on, stamps_on}
 use Rattle.script_text.specs.Histories.{clock_labels, lines_of_timer}
 use Rattle.script_text.specs.Objects.{lines_of_object}
 use Rattle.script_text.specs.Order.{CallInRound, NeverFall}

@@ -13,10 +13,9 @@ use Rattle.script_text.specs.declared.script.Kind.TheVariants as kinds
 use Rattle.script_text.specs.declared.script.LaneCall.{LaneCall}
 use Rattle.script_text.specs.declared.script.Round.{Round}
 use Rattle.script_text.specs.declared.script.Script.{Script}
-use Rattle.script_text.specs.Fits.{answers_of, AreUnder}
-use Rattle.script_text.specs.Histories.{AreWrites, clock_labels, lines_of_timer}
+use Rattle.script_text.specs.Histories.{answers_of, AreWrites, clock_labels, lines_of_timer}
 use Rattle.script_text.specs.Objects.{IsLegalObject, kind_of, lines_of_object}
-use Rattle.script_text.specs.Order.{calls_of, IsInOrder, IsLabel}
+use Rattle.script_text.specs.Order.{AreUnder, calls_of, IsInOrder, IsLabel}
 use Rattle.run_history.specs.Courses.{clocks_of, Course, entries_in, labels, Move, moves_from, moves_on}
 use Rattle.run_history.specs.Fits.{AreBehind, AreSkipsUnder, Fits, FitsIn, FitsLane, unseen}
 use Rattle.run_cases.proofs.Calls.{AreRight, are_placed, is_unrefused, lane_fits}

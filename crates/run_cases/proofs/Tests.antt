@@ -8,8 +8,7 @@ use Rattle.record_text.specs.declared.record.Entry.{Entry}
 use Rattle.record_text.specs.declared.record.Label.{Label}
 use Rattle.script_text.specs.declared.script.Script.{Script}
 use Rattle.script_text.specs.Actions.{Action, also, Entered, Looked, looked, Made, made, numbers_of_object, Skipped, skipped, Wrote}
-use Rattle.script_text.specs.Fits.{AreSorted, is_lower}
-use Rattle.script_text.specs.Order.{calls_of, is_before, is_label, IsInOrder, IsLabel, IsPoint, made_by, NeverFall}
+use Rattle.script_text.specs.Order.{AreSorted, calls_of, is_before, is_label, is_lower, IsInOrder, IsLabel, IsPoint, made_by, NeverFall}
 use Rattle.run_history.specs.Courses.{Course, labels}
 use Rattle.run_history.specs.Traces.{all_entered}
 use Rattle.run_history.specs.Truths.{AreTrue, IsMoment, IsTrue}

@@ -19,9 +19,8 @@ use Rattle.script_text.specs.declared.script.Call.{Call}
 use Rattle.script_text.specs.declared.script.Call.TheVariants as calls
 use Rattle.script_text.specs.declared.script.Script.{Script}
 use Rattle.script_text.specs.Actions.{Action, also, Entered, Looked}
-use Rattle.script_text.specs.Calls.{observed}
-use Rattle.script_text.specs.Fits.{answers_of}
-use Rattle.script_text.specs.Histories.{reading_at, timer_after}
+use Rattle.script_text.specs.Told.{observed}
+use Rattle.script_text.specs.Histories.{answers_of, reading_at, timer_after}
 use Rattle.script_text.specs.Order.{CallInRound, calls_of, is_before, is_label, IsInOrder, IsLabel, IsWithin, made_by, round_of}
 use Rattle.run_history.specs.Courses.{Course, labels, Move, timer_then}
 use Rattle.run_history.specs.EachTimer.{HasTimers, KnowsTimers, TookNextDue, WasRefused, WasSo, WasTold}

@@ -16,9 +16,8 @@ use Rattle.script_text.specs.declared.script.Call.{Call}
 use Rattle.script_text.specs.declared.script.Call.TheVariants as calls
 use Rattle.script_text.specs.declared.script.Script.{Script}
 use Rattle.script_text.specs.Actions.{Action, Entered, entered, Looked, looked, own, own_looks}
-use Rattle.script_text.specs.Calls.{observed}
-use Rattle.script_text.specs.Fits.{answers_of}
-use Rattle.script_text.specs.Histories.{clock_labels, clock_of, history_of, lines_of_timer, reading_at, timer_after, timer_labels}
+use Rattle.script_text.specs.Told.{observed}
+use Rattle.script_text.specs.Histories.{answers_of, clock_labels, clock_of, history_of, lines_of_timer, reading_at, timer_after, timer_labels}
 use Rattle.script_text.specs.Order.{CallInRound, calls_of, IsInOrder, IsLabel, IsPoint}
 use Rattle.run_history.specs.Calls.{Does}
 use Rattle.run_history.specs.Courses.{Fired}

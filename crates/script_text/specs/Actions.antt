@@ -34,6 +34,15 @@ wrote (Looked timer number reply ∷ ds) = wrote ds
 wrote (Made i number entry ∷ ds) = wrote ds
 wrote (Skipped i number generation ∷ ds) = wrote ds
 
+-- the entries of a timer among these, each with its number
+abbrev pub entered : ℕ → List Action → List (ℕ × Entry)
+entered t [] = []
+entered t (Wrote number write ∷ ds) = entered t ds
+entered t (Entered timer number entry ∷ ds) = also (nat_eq timer t) (number, entry) (entered t ds)
+entered t (Looked timer number reply ∷ ds) = entered t ds
+entered t (Made i number entry ∷ ds) = entered t ds
+entered t (Skipped i number generation ∷ ds) = entered t ds
+
 -- the entries of an object among these, each with its number
 abbrev pub made : ℕ → List Action → List (ℕ × ObjectEntry)
 made t [] = []

@@ -8,6 +8,7 @@ use Rattle.seq_timer.specs.declared.event.Event.TheVariants as events
 use Rattle.seq_timer.specs.declared.event.Reply.TheVariants as replies
 use Rattle.seq_timer.specs.declared.event.Rearmed.{Rearmed}
 use Rattle.seq_timer.specs.declared.event.Rearmed.TheVariants as rearmings
+use Rattle.seq_timer.specs.Steps.{Timer}
 use Rattle.seq_timer.specs.Histories as histories
 use Rattle.script_text.specs.declared.script.Script.{Script}
 use Rattle.record_text.specs.declared.record.Answer.{Answer}
@@ -45,6 +46,10 @@ clock_labels r = map (λ line. line.label) r.clock
 abbrev pub lines_of_timer : RunRecord → ℕ → List TimerLine
 lines_of_timer r timer = get_or r.timers timer []
 
+-- the labels along a timer's entries
+abbrev pub timer_labels : RunRecord → ℕ → List Label
+timer_labels r timer = map (λ line. line.label) (lines_of_timer r timer)
+
 -- a lane's answers; none for a lane that isn't there
 abbrev pub answers_of : RunRecord → ℕ → List Answer
 answers_of r lane = get_or r.answers lane []
@@ -80,3 +85,7 @@ history_of r timer = history_from r.clock 0 (lines_of_timer r timer)
 -- the clock that a timer is declared on
 abbrev pub clock_of : Script → ℕ → ClockId
 clock_of s timer = get_or (map (λ d. d.clock) s.timers) timer clocks.Monotonic
+
+-- a timer after its first so many entries
+abbrev pub timer_after : Script → RunRecord → ℕ → ℕ → Timer
+timer_after s r timer stamp = histories.state_after (clock_of s timer) s.limit (take stamp (history_of r timer))
