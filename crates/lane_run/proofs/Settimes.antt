@@ -32,7 +32,7 @@ use Rattle.record_text.specs.declared.record.ObjectEntry.{ObjectEntry}
 use Rattle.record_text.specs.declared.record.SettimeReply.TheVariants as settimes
 use Rattle.record_text.specs.declared.record.SettimeReply.{SettimeReply}
 use Rattle.script_text.specs.Actions.{Action}
-use Rattle.script_text.specs.Told.{object_stamp_in, object_steps_on, IsArmedLike}
+use Rattle.script_text.specs.Told.{IsArmedLike, object_stamp_in, object_steps_on}
 use Rattle.script_text.specs.Histories.{reading_at}
 use Rattle.script_text.specs.ObjectCalls.{AreValidFor, Arms, cancels, nanoseconds_of, start_mode}
 use Rattle.script_text.specs.Objects.{armed_in_phase, kind_of, object_armed_after}
