@@ -1,5 +1,5 @@
 -- A call that arms its object's timer again, after turns that only looked.
-use Rattle.std.proofs.Common.{ap, subst, ◌≡◌, ◌∙◌, ◌+◌, ℕ, List, [], ◌∷◌, ◌++◌, length}
+use Rattle.std.proofs.Common.{ap, subst, ◌≡◌, ◌∙◌, ◌+◌, ℕ, List, [], ◌∷◌, ◌++◌, length, ◌<◌}
 use Rattle.std.specs.Prelude.{Option, Some, None}
 use Rattle.ktime.specs.Readings.{ClockReading}
 use Rattle.pass_names.specs.SharedHistory.{LooksOn}
@@ -7,18 +7,23 @@ use Rattle.pass_names.proofs.SharedHistory.{looks_trans}
 use Rattle.base_row.specs.declared.view.Opening.{Opening}
 use Rattle.hr_timers.specs.Known.{KnownOfTimers}
 use Rattle.expire_pass.specs.declared.log.Receipt.{Receipt}
-use Rattle.counted_row.proofs.Calls.{commits_after, reads_after}
+use Rattle.counted_row.specs.declared.view.Locked.{Locked}
+use Rattle.counted_row.specs.Views.{IsPassOfRow, Locks, released}
+use Rattle.counted_row.proofs.Calls.{commits_after, reads_after, reads_of}
 use Rattle.timer_setting.specs.declared.arming.Arm.{Arm}
 use Rattle.timer_setting.specs.declared.arming.Wanted.{Wanted}
+use Rattle.timer_objects.specs.declared.cell.ObjectCell.{ObjectCell}
 use Rattle.timer_objects.specs.declared.cell.Span.{Span}
 use Rattle.timer_objects.specs.declared.cell.SpannedCall.{SpannedCall}
 use Rattle.timer_objects.specs.declared.object.ObjectReply.{ObjectReply}
 use Rattle.timer_objects.specs.declared.wanting.Rearming.{Rearming}
 use Rattle.timer_objects.specs.declared.wanting.Ended.{Ended}
 use Rattle.timer_objects.specs.declared.wanting.Ended.TheVariants as ends
-use Rattle.timer_objects.specs.Known.{ObjectsOf}
+use Rattle.timer_objects.specs.Cells.{cell_meaning}
+use Rattle.timer_objects.specs.Known.{IsObjectsPass, ObjectsOf, ObjectsPass, row_of, seen_of}
 use Rattle.timer_objects.specs.Arming.{Starts}
-use Rattle.timer_objects.specs.Calls.{Caller, EntersCall, RearmsFor, HasWaited}
+use Rattle.timer_objects.specs.Calls.{Caller, EntersCall, HasWaited, RearmsFor}
+use Rattle.timer_objects.specs.Waiting.{HasToWait}
 use Rattle.timer_objects.specs.Rearming.{Ends, KeepsNames}
 
 module _ {a b c : Caller} where
@@ -70,6 +75,16 @@ ends_after x o a b c id r reading (ends.Made n reply) waits made =
       made.1,
       made.2,
     )
+
+-- a turn that was given up while the object was held
+pub held_up : (x : ObjectsOf) (p m q : ObjectsPass) (id : ℕ) (h : Locked ObjectCell) → Locks cell_meaning p m id h → IsPassOfRow (row_of x) m
+    → IsObjectsPass x q → p.knows.held ≡ None → q.knows ≡ released m.knows → h.stamp ≡ length (seen_of q h.index) → h.stamp < x.limit
+    → (why : ObjectCell → Type 0) → why h.state → HasToWait x p q id why
+held_up x p m q id h locks here after idle is count room why because = record {
+  reads = reads_of {r = row_of x} locks here after.row idle is after.knows;
+  room = subst (λ n. n < x.limit) (count ∙ ap (λ i. length (seen_of q i)) locks.index) room;
+  because = because;
+}
 
 -- ---- names
 

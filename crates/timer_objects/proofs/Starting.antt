@@ -1,5 +1,5 @@
 -- What calls on an object do to its timer.
-use Rattle.std.proofs.Common.{arith, refl, sym, ap, ◌≡◌, ◌∙◌, ℕ, ◌+◌, ◌-◌, ◌^◌, ◌≤◌, Bool, true, false, not, nat_eq, List, [], ◌∷◌, ◌++◌, length, max, append_assoc}
+use Rattle.std.proofs.Common.{arith, refl, sym, ap, subst, inr, IsSome, ◌<◌, ◌≡◌, ◌∙◌, ℕ, ◌+◌, ◌-◌, ◌^◌, ◌≤◌, Bool, true, false, not, nat_eq, List, [], ◌∷◌, ◌++◌, length, max, append_assoc}
 use Rattle.std.proofs.lemmas.Bool.Decides.{nat_tests}
 use Rattle.std.proofs.lemmas.Nat.{pow_pos}
 use Rattle.std.specs.Prelude.{Option, None, Some, is_some, if◌then◌else◌}
@@ -34,6 +34,7 @@ use Rattle.expire_pass.proofs.Turning.{looks_then}
 use Rattle.expire_pass.specs.declared.log.Noted.TheVariants as noteds
 use Rattle.expire_pass.specs.declared.log.Receipt.{Receipt}
 use Rattle.timer_objects.specs.Arming.{Disarms, SeesQuietly, SeesTimer, Starts, arm_of, quiet_at, receipts_of, stamp_seen}
+use Rattle.timer_objects.specs.Waiting.{IsHindered}
 
 module _ (o : Opening) (v w : KnownOfTimers) (t : ℕ) (p : Peek) (peeks : Peeks o v w t p) where
   pub peek_looks : LooksOn v w
@@ -45,6 +46,9 @@ module _ (o : Opening) (v w : KnownOfTimers) (t : ℕ) (p : Peek) (peeks : Peeks
     number = ap (λ (q : Peek). q.stamp) peeks.fits ∙ sym (stamp_made o v w t peeks.at [] peeks.made ∙ omega arith);
     behind = behind;
   }
+
+  pub peek_fewer : (last : ℕ) → p.stamp < last → stamp_seen o w t < last
+  peek_fewer last fewer = omega (arith, ap (λ (q : Peek). q.stamp) peeks.fits, stamp_made o v w t peeks.at [] peeks.made, fewer)
 
 module _ (o : Opening) (v w : KnownOfTimers) (t last : ℕ) (p : Peek) (peeks : Peeks o v w t p) where
   then_seen : timer_then o w.seen t ≡ timer_then o peeks.at t
@@ -77,6 +81,11 @@ module _ (o : Opening) (v w : KnownOfTimers) (t last : ℕ) (p : Peek) (peeks : 
       at_seen : (r : Option ℕ) → is_some r ≡ false → max last (stamp_seen o w t) ≡ quiet_at last r (stamp_seen o w t)
       at_seen None e = refl
       at_seen (Some g) e = cc
+
+-- a timer whose function is running can't be disarmed
+pub running_hinders : (o : Opening) (v w : KnownOfTimers) (t last g n : ℕ) → Cancels o v w t (cancels.Running g n) → IsHindered o w t last
+running_hinders o v w t last g n c =
+    inr (subst IsSome (sym (ap (λ (u : Timer). u.running) (timer_after o v w t c.at [] c.made) ∙ c.fits.0)) refl)
 
 -- what was seen before a cancel goes on to it
 abbrev pub cancels_after : (o : Opening) (u v w : KnownOfTimers) (t : ℕ) (a : CancelAnswer) → LooksOn u v → Cancels o v w t a → Cancels o u w t a

@@ -4,6 +4,7 @@ pub mod Logs
 pub mod Known
 pub mod Arming
 pub mod Calls
+pub mod Waiting
 pub mod Valid
 pub mod Rearming
 pub mod Callbacks

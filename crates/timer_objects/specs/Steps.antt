@@ -1,7 +1,6 @@
 -- The step table of an object, by its kind: what a call needs, the state after it, and its answer.
 use Rattle.std.specs.Prelude.{ℕ, ◌≡◌}
 use Rattle.ktime.specs.declared.clock_id.ClockId.{ClockId}
-use Rattle.timer_setting.specs.StepTables.{StepTable}
 use Rattle.posix_timer.specs.States.{posix_opening}
 use Rattle.posix_timer.specs.Steps.{PosixAllows, posix_answer, posix_step}
 use Rattle.timer_fd.specs.States.{fd_opening}
@@ -56,7 +55,3 @@ object_answer (objects.Posix t) (calls.Posix c) = replies.Posix (posix_answer t 
 object_answer (objects.Posix t) (calls.Fd c) = replies.None
 object_answer (objects.Fd t) (calls.Posix c) = replies.None
 object_answer (objects.Fd t) (calls.Fd c) = replies.Fd (fd_answer t c)
-
--- the whole table
-abbrev pub object_table : StepTable Object ObjectCall ObjectReply
-object_table = record { allows = ObjectAllows; next = object_step; answer = object_answer }

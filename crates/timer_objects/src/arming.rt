@@ -1,11 +1,12 @@
 //! What calls on objects do to the timers below.
-ghost use Rattle.std.specs.Prelude.{◌≡◌, ◌≤◌, ◌<◌, ◌+◌, [], ◌∷◌, ◌++◌, length, MatchOption};
+ghost use Rattle.std.specs.Prelude.{◌≡◌, ◌≤◌, ◌<◌, ◌+◌, [], ◌∷◌, ◌++◌, length, IfNone, MatchOption};
 ghost use Rattle.pass_names.specs.SharedHistory.{LooksOn};
 ghost use Rattle.hr_timers.specs.Known.{IsPassOf};
 ghost use Rattle.timer_setting.specs.Phases.{IsOutcomeOf};
 ghost use Rattle.seq_timer.specs.declared.event.Reply.TheVariants as replies;
 ghost use Rattle.expire_pass.specs.declared.log.Noted.TheVariants as noteds;
-ghost use Rattle.timer_objects.specs.Arming.{ArmsFor, Disarms, SeesQuietly, SeesTimer, Starts};
+ghost use Rattle.timer_objects.specs.Arming.{ArmsFor, Disarms, SeesQuietly, SeesTimer, Starts, stamp_seen};
+ghost use Rattle.timer_objects.specs.Waiting.{IsHindered};
 
 use crate::cell::Span;
 use expire_pass::Log;
@@ -22,6 +23,7 @@ pub(crate) fn look(timers: &Timers, pass: &mut Pass, timer: u32, last: u64) -> O
     requires timer { timer < length timers.now.about.timers }
     ensures pass { IsPassOf timers.now pass.new }
     ensures sees { MatchOption result (LooksOn pass.old.known pass.new.known) (λ n. SeesTimer timers.now.about pass.old.known pass.new.known timer last n) }
+    ensures fewer { IfNone result (stamp_seen timers.now.about pass.new.known timer < last) }
 {
     let seen = timers.peek(pass, timer);
     if seen.stamp < last {
@@ -64,6 +66,7 @@ pub(crate) fn disarm<R: Wait>(
     requires room { 0 < log.old.spare }
     ensures pass { IsPassOf timers.now pass.new }
     ensures disarms { MatchOption result (LooksOn pass.old.known pass.new.known × (log.new ≡ log.old)) (λ span. Disarms timers.now.about pass.old.known pass.new.known timer last span log.old.receipts log.new.receipts) }
+    ensures why { IfNone result (IsHindered timers.now.about pass.new.known timer last) }
     ensures room { log.old.spare ≤ log.new.spare + 1 }
 {
     look(timers, pass, timer, last)?;

@@ -1,5 +1,5 @@
 //! The calls that make an entry of an object and arm its timer again where it is periodic and has expired.
-ghost use Rattle.std.specs.Prelude.{◌≡◌, ◌≤◌, ◌<◌, ◌+◌, [], ◌∷◌, ◌++◌, length, IfNone, IfSome, MatchOption};
+ghost use Rattle.std.specs.Prelude.{◌≡◌, ◌≤◌, ◌<◌, ◌+◌, [], ◌∷◌, ◌++◌, length, IfNone, IfSome, IsSome, MatchOption};
 ghost use Rattle.pass_names.specs.SharedHistory.{LooksOn};
 ghost use Rattle.hr_timers.specs.Known.{IsPassOf};
 ghost use Rattle.counted_row.specs.Views.{Sees};
@@ -8,7 +8,9 @@ ghost use Rattle.timer_objects.specs.declared.object.Kind.TheVariants as kinds;
 ghost use Rattle.timer_objects.specs.declared.wanting.Rearming.TheVariants as rearmings;
 ghost use Rattle.timer_objects.specs.Cells.{spanned};
 ghost use Rattle.timer_objects.specs.Known.{HoldsObject, IsObjectsPass, MayEnter, Enters, Suits, decl_at, receipt_of};
-ghost use Rattle.timer_objects.specs.Calls.{Accepts, Gettimes, ReadsFd, RearmsFor, HasWaited, rearming_call};
+ghost use Rattle.timer_objects.specs.Arming.{stamp_seen};
+ghost use Rattle.timer_objects.specs.Calls.{Accepts, Gettimes, HasWaited, ReadsFd, RearmsFor, rearming_call, wanted_by};
+ghost use Rattle.timer_objects.specs.Waiting.{HasToWait};
 ghost use Rattle.timer_objects.specs.Rearming.{Ends, KeepsNames, caller_of, kind_of};
 
 use crate::answers::Gettime;
@@ -244,6 +246,7 @@ impl Objects {
         ensures ends { MatchOption result (HasWaited (caller_of pass.old objects_pass.old log.old object_log.old) (caller_of pass.new objects_pass.new log.new object_log.new)) (λ e. Ends self.now timers.now.about (caller_of pass.old objects_pass.old log.old object_log.old) (caller_of pass.new objects_pass.new log.new object_log.new) id call reading e) }
         ensures room { (log.old.spare ≤ log.new.spare + 2) × (object_log.old.spare ≤ object_log.new.spare + 1) }
         ensures again { IfNone result ((log.new ≡ log.old) × (object_log.new ≡ object_log.old)) }
+        ensures why { IfNone result (HasToWait self.now objects_pass.old objects_pass.new id (λ cell. IsSome (wanted_by call cell.object reading) × (stamp_seen timers.now.about pass.new.known id < cell.last))) }
     {
         let held = self.lock(rt, objects_pass, id);
         if self.is_full(&held) {
@@ -328,6 +331,7 @@ fn start_again<R: Wait>(
     ensures pass { IsPassOf timers.now pass.new }
     ensures rearms { MatchOption result (LooksOn pass.old.known pass.new.known × (log.new ≡ log.old)) (λ r. RearmsFor timers.now.about pass.old.known pass.new.known timer last wanted base reading r.0 r.1 log.old.receipts log.new.receipts) }
     ensures outcome { IfSome result (λ r. IsOutcomeOf r.0 wanted) }
+    ensures fewer { IfNone result (IsSome wanted × (stamp_seen timers.now.about pass.new.known timer < last)) }
     ensures room { log.old.spare ≤ log.new.spare + 2 }
 {
     let Some(start) = wanted else {

@@ -5,7 +5,8 @@ ghost use Rattle.hr_timers.specs.Known.{IsPassOf};
 ghost use Rattle.timer_objects.specs.declared.object.Kind.TheVariants as kinds;
 ghost use Rattle.timer_objects.specs.Cells.{spanned};
 ghost use Rattle.timer_objects.specs.Known.{Enters, IsObjectsPass, MayEnter, Suits, decl_at, receipt_of};
-ghost use Rattle.timer_objects.specs.Calls.{SettimeMade, SettimeTells, Settimes, HasWaited, flags_of, settime_call};
+ghost use Rattle.timer_objects.specs.Calls.{HasWaited, SettimeMade, SettimeTells, Settimes, flags_of, settime_call};
+ghost use Rattle.timer_objects.specs.Waiting.{HasToWait, IsHindered};
 ghost use Rattle.timer_objects.specs.Rearming.{KeepsNames, caller_of};
 ghost use Rattle.timer_objects.specs.Valid.{IsSettimeReply, IsValidSettime, end_by};
 
@@ -143,6 +144,7 @@ impl Objects {
         ensures objects { IsObjectsPass self.now objects_pass.new }
         ensures turn { MatchOption result (HasWaited (caller_of pass.old objects_pass.old log.old object_log.old) (caller_of pass.new objects_pass.new log.new object_log.new)) (λ a. SettimeMade self.now timers.now.about (caller_of pass.old objects_pass.old log.old object_log.old) (caller_of pass.new objects_pass.new log.new object_log.new) id valid.now.flags valid.now.value valid.now.interval valid.now.reading a) }
         ensures again { IfNone result ((log.new ≡ log.old) × (object_log.new ≡ object_log.old)) }
+        ensures why { IfNone result (HasToWait self.now objects_pass.old objects_pass.new id (λ cell. IsHindered timers.now.about pass.new.known id cell.last)) }
         ensures room { (log.old.spare ≤ log.new.spare + 4) × (object_log.old.spare ≤ object_log.new.spare + 1) }
     {
         let held = self.lock(rt, objects_pass, id);

@@ -1,5 +1,5 @@
 //! The trigger of an object by the expiry of its timer.
-ghost use Rattle.std.specs.Prelude.{◌≡◌, ◌≤◌, ◌<◌, ◌+◌, [], ◌∷◌, ◌++◌, None, Some, length};
+ghost use Rattle.std.specs.Prelude.{◌≡◌, ◌≤◌, ◌<◌, ◌+◌, [], ◌∷◌, ◌++◌, None, Some, length, MatchBool};
 ghost use Rattle.counted_row.specs.Views.{IsPassOfRow, Locks, released};
 ghost use Rattle.timer_objects.specs.Cells.{cell_meaning, spanned};
 ghost use Rattle.timer_objects.specs.Known.{HoldsObject, IsObjectsPass, decl_at, row_of, seen_of};
@@ -105,13 +105,20 @@ fn hold<R: Wait>(
     let backoff = Backoff::new();
     for _ in rt.forever() {
         let held = objects.lock(rt, pass, id);
-        if held.stamp() >= objects.limit() || held.state().last <= from {
+        if is_ready(objects, &held, from) {
             return held;
         }
         objects.release(pass, held);
         backoff.snooze();
     }
     unreachable!()
+}
+
+/// Whether the spans of a held object's calls don't go beyond this number, or its history is full.
+fn is_ready(objects: &Objects, held: &Held<ObjectCell>, from: u64) -> bool
+    ensures { MatchBool result (held.now.stamp < objects.now.limit → held.now.state.last ≤ from) ((held.now.stamp < objects.now.limit) × (from < held.now.state.last)) }
+{
+    held.stamp() >= objects.limit() || held.state().last <= from
 }
 
 /// Lets the lock of an object go whose history is full, and notes the trigger that was refused.

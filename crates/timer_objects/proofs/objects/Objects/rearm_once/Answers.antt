@@ -1,13 +1,15 @@
-use Rattle.std.proofs.Common.{refl, ap, sym, subst, length, ◌≡◌, ◌∙◌, ◌+◌}
+use Rattle.std.proofs.Common.{refl, ap, sym, subst, length, ◌≡◌, ◌∙◌, ◌+◌, ◌<◌, IsSome}
 use Rattle.timer_setting.specs.Phases.{IsOutcomeOf}
 use Rattle.timer_objects.specs.declared.cell.ObjectCell.{ObjectCell}
 use Rattle.timer_objects.specs.Cells.{spanned}
+use Rattle.timer_objects.specs.Arming.{stamp_seen}
 use Rattle.timer_objects.specs.Calls.{rearming_call, wanted_by}
 use Rattle.timer_objects.specs.Known.{decl_at, seen_of}
 use Rattle.timer_objects.specs.Rearming.{caller_of, kind_of}
 use Rattle.timer_objects.proofs.Bearing.{allows, bears, rearms_as, replies_to}
 use Rattle.timer_objects.proofs.Entering.{enters_call}
 use Rattle.timer_objects.proofs.Restarting.{spans}
+use Rattle.timer_objects.proofs.Retrying.{held_up}
 use Rattle.timer_objects.proofs.objects.Objects.rearm_once.Goals as goal
 
 pub enter_rearming-reply-requires-clause-may : goal.enter_rearming-reply-requires-clause-may
@@ -56,3 +58,13 @@ returns-clause-ends g c =
       replies_to _ _ _ c.args.reading _ r h.state.object _ c.lock-held.ensures.holds kind entry.enters.reply,
       ap (λ n. n + 1) c.stamp-stamp.ensures ∙ (sym entry.enters.count ∙ ap (λ i. length (seen_of c.enter_rearming-reply.new.pass i)) locks.index),
     )
+
+pub returns-in_default-clause-why : goal.returns-in_default-clause-why
+returns-in_default-clause-why g c =
+    let freed = c.release.ensures in
+    let told = c.in_default.ensures.fewer in
+    held_up c.args.self.now c.args.objects_pass.now c.lock-held.new.pass c.release.new.pass c.args.id c.lock-held.result c.lock-held.ensures.locks
+    c.lock-held.ensures.row freed.pass c.requires.objects.idle freed.knows (sym freed.stamp ∙ freed.count) c.if-is_full.ensures _
+    (subst (λ (s : ObjectCell). IsSome (wanted_by c.args.call s.object c.args.reading)
+    × (stamp_seen c.args.timers.now.about c.start_again.new.pass.known c.args.id < s.last)) c.state.ensures
+    (subst IsSome c.wanted-wants.ensures told.0, told.1))

@@ -1,6 +1,8 @@
-use Rattle.std.proofs.Common.{ap}
+use Rattle.std.proofs.Common.{ap, sym, subst, ◌∙◌}
 use Rattle.timer_objects.specs.declared.cell.ObjectCell.{ObjectCell}
 use Rattle.timer_objects.specs.declared.object.Decl.{Decl}
+use Rattle.timer_objects.specs.Waiting.{IsHindered}
+use Rattle.timer_objects.proofs.Retrying.{held_up}
 use Rattle.timer_objects.proofs.SettimeMade.{may_enter, replies_to, turn_made}
 use Rattle.timer_objects.proofs.objects.Objects.settime_once.Goals as goal
 
@@ -34,3 +36,10 @@ returns-clause-turn g c =
     (ap (λ (d : Decl). d.kind) c.decl-kind.ensures) c.with.ensures c.requires.suits c.requires.within c.requires.kind c.requires.valid c.requires.objects
     c.lock-held.ensures.locks c.lock-held.ensures.row c.lock-held.ensures.holds c.if-is_full.ensures c.in-Some.ensures.disarms c.arm-arm.ensures.arms
     _ _ _ _ _ c.enter_settime-reply.ensures.pass c.enter_settime-reply.ensures.enters c.enter_settime-reply.ensures.receipt c.settime_answer.ensures
+
+pub returns-in_default-clause-why : goal.returns-in_default-clause-why
+returns-in_default-clause-why g c =
+    let freed = c.release.ensures in
+    held_up c.args.self.now c.args.objects_pass.now c.lock-held.new.pass c.release.new.pass c.args.id c.lock-held.result c.lock-held.ensures.locks
+    c.lock-held.ensures.row freed.pass c.requires.objects.idle freed.knows (sym freed.stamp ∙ freed.count) c.if-is_full.ensures _
+    (subst (λ (s : ObjectCell). IsHindered c.args.timers.now.about c.disarm.new.pass.known c.args.id s.last) c.state.ensures c.in_default.ensures.why)
