@@ -1,3 +1,6 @@
 pub mod Streams
 pub mod Form
 pub mod Outcomes
+pub mod Summaries
+pub mod Asking
+pub mod CommandLines

@@ -1,4 +1,4 @@
--- What the program answers to the bytes of a script.
+-- What the program answers to the bytes of a script, and to a number from which a script is made.
 use Rattle.std.specs.Prelude.{◌≡◌, ◌⊎◌, ℕ, List}
 use Rattle.script_text.specs.declared.refusal.Refused.{Refused}
 use Rattle.script_text.specs.declared.script.Script.{Script}
@@ -8,6 +8,8 @@ use Rattle.script_text.specs.Refusals.{IsRefused, refusal_text}
 use Rattle.script_text.specs.Scripts.{Reads}
 use Rattle.record_text.specs.Numbers.{HasMachineNumbers}
 use Rattle.record_text.specs.Text.{text_of}
+use Rattle.script_text.specs.Generator.{generated}
+use Rattle.script_text.specs.Summary.{summary_of}
 use Rattle.hrt_app.specs.declared.engine.Answer.{Answer}
 use Rattle.hrt_app.specs.declared.engine.Answer.TheVariants.{Record, Refusal}
 
@@ -40,3 +42,9 @@ IsAnswerText bytes text = IsRecordText bytes text ⊎ IsRefusalText bytes text
 abbrev pub Answers : List ℕ → Answer → Type 0
 Answers bytes (Record text) = IsRecordText bytes text.items
 Answers bytes (Refusal text) = IsRefusalText bytes text.items
+
+-- the text is the summary of a record that fits the script that this seed makes
+pub record IsSummaryText (seed lanes calls : ℕ) (text : List ℕ) : Type 0 where
+  pub run : RunRecord
+  pub fits : Fits (generated seed lanes calls) run
+  pub spelled : text ≡ summary_of run

@@ -16,7 +16,7 @@ code_of statuses.OutOfMemory = 6
 -- the line for standard error, where there is one
 abbrev pub message_of : Status → Option (List ℕ)
 message_of statuses.Ok = None
-message_of statuses.Usage = Some (codes "usage: hrt run")
+message_of statuses.Usage = Some (codes "usage: hrt run | hrt gen --seed N --lanes N --calls N")
 message_of statuses.Refused = None
 message_of statuses.ReadFault = Some (codes "hrt: read fault")
 message_of statuses.WriteFault = Some (codes "hrt: write fault")

@@ -4,7 +4,7 @@ use Rattle.std.specs.declared.option.Option.{Option}
 use Rattle.std.specs.Io.KnownBytes.{IsAtEnd}
 use Rattle.hrt_app.specs.Streams.{Adds}
 use Rattle.hrt_app.specs.Transfer.{IsRead, AddsPrefix}
-use Rattle.hrt_app.specs.Engine.{IsScript, IsRecordText, IsRefusalText, IsAnswerText}
+use Rattle.hrt_app.specs.Engine.{IsScript, IsRecordText, IsRefusalText, IsAnswerText, IsSummaryText}
 use Rattle.hrt_app.specs.declared.command.Asked.{Asked}
 use Rattle.hrt_app.specs.declared.command.Asked.TheVariants.{Run}
 use Rattle.hrt_app.specs.declared.status.Status.{Status}
@@ -12,11 +12,11 @@ use Rattle.hrt_app.specs.declared.status.Status.TheVariants as statuses
 
 -- what the words asked for, by the outcome
 abbrev pub IsAskedFor : Option Asked → Status → Type 0
-IsAskedFor asked statuses.Ok = asked ≡ Some Run
+IsAskedFor asked statuses.Ok = asked ≡ None → ⊥
 IsAskedFor asked statuses.Usage = asked ≡ None
 IsAskedFor asked statuses.Refused = asked ≡ Some Run
 IsAskedFor asked statuses.ReadFault = asked ≡ Some Run
-IsAskedFor asked statuses.WriteFault = asked ≡ Some Run
+IsAskedFor asked statuses.WriteFault = asked ≡ None → ⊥
 IsAskedFor asked statuses.OutOfMemory = ⊤
 
 -- a script was read to the source's end, and the text of a record that fits it was written
@@ -42,6 +42,18 @@ pub record HasStopped (left left_now taken taken_now : Option (List ℕ)) : Type
   pub text : List ℕ
   pub read : IsRead left left_now bytes
   pub answer : IsAnswerText bytes text
+  pub written : AddsPrefix taken taken_now text
+
+-- the summary of a record that fits the script that this seed makes was written
+pub record HasSummed (seed lanes calls : ℕ) (taken taken_now : Option (List ℕ)) : Type 0 where
+  pub text : List ℕ
+  pub summary : IsSummaryText seed lanes calls text
+  pub written : Adds taken taken_now text
+
+-- a prefix of such a summary was written
+pub record HasSummedInPart (seed lanes calls : ℕ) (taken taken_now : Option (List ℕ)) : Type 0 where
+  pub text : List ℕ
+  pub summary : IsSummaryText seed lanes calls text
   pub written : AddsPrefix taken taken_now text
 
 -- the outcomes that stand to bytes where neither stream fails

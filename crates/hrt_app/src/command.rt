@@ -1,10 +1,16 @@
 //! The words of the command line: how they are read, and what they ask for.
-ghost use Rattle.std.specs.Prelude.{◌≡◌};
+ghost use Rattle.std.specs.Prelude.{◌≡◌, ◌<◌, ◌≤◌, ◌^◌, ℕ, List, [], ◌∷◌, Some, None, IfOk, IfSome, codes, false};
+ghost use Rattle.std.specs.List.{AllByRecursion};
 ghost use Rattle.std.specs.IoError.{error_kind};
-ghost use Rattle.hrt_app.specs.Command.{asked_by, unread_status, AreWords};
+ghost use Rattle.clap.specs.Words.{app_of, found_of, rows_of, rule_of, subcommand_rows_of, Text};
+ghost use Rattle.hrt_app.specs.Command.{asked_by, asked_by_texts, asked_of, make_of, number_of, option_words, program, required_option, unread_status, AreWords, InAnyOrder, IsInRange, Lacks, OptionName, Seed, Lanes, Calls};
+ghost use Rattle.hrt_app.specs.declared.command.Asked.TheVariants.{Run, Make};
 
 use crate::status::Status;
-use std::alloc::Global;
+use clap::error::ErrorKind;
+use clap::{Arg, ArgAction, ArgMatches, Command};
+use script_text::number;
+use std::alloc::{AllocError, Global};
 use std::env::Args;
 use std::io;
 
@@ -13,16 +19,105 @@ use std::io;
 pub enum Asked {
     /// To read a script from the source, run it, and write its record.
     Run,
+    /// To make the script of so many calls of each lane from this seed, run it, and write its summary.
+    Make { seed: u64, lanes: u32, calls: u64 },
 }
 
 /// Reads the words of a command line, the program's name first. `None` where they ask for nothing that the
 /// program does, a request for help included.
-pub fn asks(words: &[String]) -> Option<Asked>
-    ensures { result ≡ asked_by words.now }
+pub fn asks(alloc: Global, words: &[String]) -> Result<Option<Asked>, AllocError>
+    ensures asked { IfOk result (λ asked. asked ≡ asked_by words.now) }
+    ensures range { IfOk result IsInRange }
 {
-    match words {
-        [_, word] if word.as_str() == "run" => Some(Asked::Run),
-        _ => None,
+    match command(alloc)?.try_get_matches_from(words) {
+        Ok(matches) => Ok(asked_of(&matches)),
+        Err(error) => match error.kind() {
+            ErrorKind::OutOfMemory => Err(AllocError),
+            _ => Ok(None),
+        },
+    }
+}
+
+/// What words ask for: the one word `run` for a run; `gen` with its three options in any order, each with a number in
+/// its range, for the script that is made from these; and no word, a request for help, or `gen` without one of its
+/// options, for nothing.
+pub fn what_words_ask_for()
+    ensures run { (name : Text) → asked_by_texts (name ∷ codes "run" ∷ []) ≡ Some Run }
+    ensures make { (name : Text) → (s w n : ℕ) → s ≤ 2147483647 → 1 ≤ w → w ≤ 8 → n ≤ 4096
+        → (options : List (OptionName × ℕ)) → InAnyOrder (Seed, s) (Lanes, w) (Calls, n) options
+        → asked_by_texts (name ∷ codes "gen" ∷ option_words options) ≡ Some (Make s w n) }
+    ensures incomplete { (name : Text) → (missing : OptionName) → (options : List (OptionName × ℕ)) → AllByRecursion (λ p. p.1 < 2 ^ 64) options
+        → Lacks missing options → asked_by_texts (name ∷ codes "gen" ∷ option_words options) ≡ None }
+    ensures none { (asked_by_texts [] ≡ None) × ((name : Text) → asked_by_texts (name ∷ []) ≡ None) }
+    ensures help { (name : Text) → (asked_by_texts (name ∷ codes "--help" ∷ []) ≡ None) × (asked_by_texts (name ∷ codes "help" ∷ []) ≡ None) }
+{}
+
+/// The command, as its words are read.
+fn command<'a>(alloc: Global) -> Result<Command<'a>, AllocError>
+    ensures { IfOk result (λ c. app_of c ≡ program) }
+{
+    let run = Command::new(alloc, "run");
+    let make = Command::new(alloc, "gen")
+        .arg(required(alloc, "seed"))?
+        .arg(required(alloc, "lanes"))?
+        .arg(required(alloc, "calls"))?;
+    Command::new(alloc, "hrt")
+        .subcommand_required(true)
+        .subcommand(run)?
+        .subcommand(make)
+}
+
+/// An option that must be given, once, with one value.
+fn required<'a>(alloc: Global, name: &'a str) -> Arg<'a>
+    ensures rule { rule_of result ≡ required_option name.entry.now }
+    ensures local { result.global ≡ false }
+{
+    Arg::new(alloc, name)
+        .long(name)
+        .required(true)
+        .action(ArgAction::Set)
+}
+
+/// What was asked for, by the subcommand and its options.
+fn asked_of(matches: &ArgMatches<'_>) -> Option<Asked>
+    ensures asked { result ≡ asked_of (subcommand_rows_of matches.now) }
+    ensures range { IsInRange result }
+{
+    let (name, options) = matches.subcommand()?;
+    if name == "run" {
+        Some(Asked::Run)
+    } else if name == "gen" {
+        make_of(options)
+    } else {
+        None
+    }
+}
+
+/// The script that these options ask for, where each is in its range.
+fn make_of(options: &ArgMatches<'_>) -> Option<Asked>
+    ensures asked { result ≡ make_of (rows_of (found_of options.now)) }
+    ensures range { IsInRange result }
+{
+    let seed = number_of(options, "seed", 0, 2147483647)?;
+    let lanes = number_of(options, "lanes", 1, 8)?;
+    let calls = number_of(options, "calls", 0, 4096)?;
+    Some(Asked::Make {
+        seed,
+        lanes: lanes as u32,
+        calls,
+    })
+}
+
+/// The number of an option, where it is one within these bounds.
+fn number_of(options: &ArgMatches<'_>, name: &str, least: u64, most: u64) -> Option<u64>
+    ensures number { result ≡ number_of name.now least most (rows_of (found_of options.now)) }
+    ensures range { IfSome result (λ n. (least ≤ n) × (n ≤ most)) }
+{
+    let n = number(options.get_str(name)?.as_bytes())?;
+    if least <= n && n <= most {
+        Some(n)
+    } else {
+        None
     }
 }
 
@@ -54,15 +149,121 @@ mod tests {
     use super::*;
     use std::test::Fail;
 
+    const MADE: Option<Asked> = Some(Asked::Make {
+        seed: 2147483647,
+        lanes: 8,
+        calls: 4096,
+    });
+
+    const CASES: [(&[&str], Option<Asked>); 26] = [
+        (&[], None),
+        (&["hrt"], None),
+        (&["run"], None),
+        (&["hrt", "run"], Some(Asked::Run)),
+        (&["", "run"], Some(Asked::Run)),
+        (&["hrt", "Run"], None),
+        (&["hrt", "run", "run"], None),
+        (&["hrt", "run", "--seed", "1"], None),
+        (&["hrt", "help"], None),
+        (&["hrt", "--help"], None),
+        (&["hrt", "run", "--help"], None),
+        (&["hrt", "gen"], None),
+        (&["hrt", "gen", "--help"], None),
+        (&["hrt", "gen", "--seed", "1", "--lanes", "1"], None),
+        (
+            &["hrt", "gen", "--seed", "1", "--lanes", "1", "--calls"],
+            None,
+        ),
+        (
+            &["hrt", "gen", "--seed", "0", "--lanes", "1", "--calls", "0"],
+            Some(Asked::Make {
+                seed: 0,
+                lanes: 1,
+                calls: 0,
+            }),
+        ),
+        (
+            &[
+                "hrt",
+                "gen",
+                "--calls",
+                "4096",
+                "--seed",
+                "2147483647",
+                "--lanes",
+                "8",
+            ],
+            MADE,
+        ),
+        (
+            &[
+                "hrt",
+                "gen",
+                "--lanes=8",
+                "--calls=4096",
+                "--seed=2147483647",
+            ],
+            MADE,
+        ),
+        (
+            &[
+                "hrt",
+                "gen",
+                "--seed",
+                "2147483648",
+                "--lanes",
+                "1",
+                "--calls",
+                "0",
+            ],
+            None,
+        ),
+        (
+            &["hrt", "gen", "--seed", "0", "--lanes", "0", "--calls", "0"],
+            None,
+        ),
+        (
+            &["hrt", "gen", "--seed", "0", "--lanes", "9", "--calls", "0"],
+            None,
+        ),
+        (
+            &[
+                "hrt", "gen", "--seed", "0", "--lanes", "1", "--calls", "4097",
+            ],
+            None,
+        ),
+        (
+            &["hrt", "gen", "--seed", "01", "--lanes", "1", "--calls", "0"],
+            None,
+        ),
+        (
+            &["hrt", "gen", "--seed", "+1", "--lanes", "1", "--calls", "0"],
+            None,
+        ),
+        (
+            &[
+                "hrt", "gen", "--seed", "1", "--seed", "1", "--lanes", "1", "--calls", "0",
+            ],
+            None,
+        ),
+        (
+            &[
+                "hrt", "gen", "--seed", "1", "--lanes", "1", "--calls", "0", "0",
+            ],
+            None,
+        ),
+    ];
+
     #[test]
-    fn the_one_word_run_asks_for_a_run(rt: HostRuntime) -> Result<(), Fail> {
-        let name = String::from_str(rt.alloc(), "hrt")?;
-        let run = String::from_str(rt.alloc(), "run")?;
-        let mut words = Vec::new(rt.alloc());
-        words.push(name)?;
-        assert_eq!(rt; asks(&words), None);
-        words.push(run)?;
-        assert_eq!(rt; asks(&words), Some(Asked::Run));
+    fn words_ask_for_a_run_or_a_script_that_is_made(rt: HostRuntime) -> Result<(), Fail> {
+        for (i, (words, asked)) in CASES.iter().enumerate() {
+            let mut all = Vec::new(rt.alloc());
+            for word in *words {
+                all.push(String::from_str(rt.alloc(), word)?)?;
+            }
+            assert_eq!(rt; asks(rt.alloc(), &all)?, *asked, "{i}");
+        }
+        what_words_ask_for();
         Ok(())
     }
 }

@@ -40,7 +40,7 @@ impl Status {
     {
         match self {
             Status::Ok | Status::Refused => None,
-            Status::Usage => Some("usage: hrt run"),
+            Status::Usage => Some("usage: hrt run | hrt gen --seed N --lanes N --calls N"),
             Status::ReadFault => Some("hrt: read fault"),
             Status::WriteFault => Some("hrt: write fault"),
             Status::OutOfMemory => Some("hrt: out of memory"),
@@ -56,7 +56,11 @@ mod tests {
     fn each_status_has_its_number_and_its_line(rt: HostRuntime) {
         let cases = [
             (Status::Ok, 0, None),
-            (Status::Usage, 2, Some("usage: hrt run")),
+            (
+                Status::Usage,
+                2,
+                Some("usage: hrt run | hrt gen --seed N --lanes N --calls N"),
+            ),
             (Status::Refused, 3, None),
             (Status::ReadFault, 4, Some("hrt: read fault")),
             (Status::WriteFault, 5, Some("hrt: write fault")),

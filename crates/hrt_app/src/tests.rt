@@ -1,4 +1,5 @@
 //! Whole runs over streams in memory: a record from a source of single bytes, and the points of the gate that a run passes.
+mod generated;
 mod lanes;
 
 use crate::memory::{BytesSink, BytesSource};
@@ -9,11 +10,16 @@ use std::alloc::{AllocError, Global};
 use std::sync::Mutex;
 use std::test::Fail;
 
+pub fn command(alloc: Global, words: &[&str]) -> Result<Vec<String>, AllocError> {
+    let mut all = Vec::new(alloc);
+    for word in words {
+        all.push(String::from_str(alloc, word)?)?;
+    }
+    Ok(all)
+}
+
 fn run_words(alloc: Global) -> Result<Vec<String>, AllocError> {
-    let mut words = Vec::new(alloc);
-    words.push(String::from_str(alloc, "hrt")?)?;
-    words.push(String::from_str(alloc, "run")?)?;
-    Ok(words)
+    command(alloc, &["hrt", "run"])
 }
 
 const ONE_SHOT: &[u8] = b"hrt 1\n\
