@@ -95,7 +95,7 @@ pub record AnswerFor (p q : WorldPass) : Type 0 where
   pub objects : AnswersFor p.objects.knows.pass.id q.objects.knows.pass.id
   pub clock : AnswersFor p.clock.knows.pass.id q.clock.knows.pass.id
 
--- the passes' names, and the claims on timers, are as they were; what was seen and made goes on
+-- the passes' names, and the claims on timers, are as they were
 pub record KeepPasses (p q : WorldPass) : Type 0 where
   pub timers : q.timers.known.id ≡ p.timers.known.id
   pub claims : q.timers.known.claims ≡ p.timers.known.claims
