@@ -18,7 +18,7 @@ unfoldable pub IsScript : List ℕ → Type 0
 IsScript bytes = (s : Script) × Reads bytes s
 
 -- The text is that of a record that fits the script that these bytes read as. Each number of the record is one that a program can hold, so by
--- `text_determines_the_record` no other record that fits the script has this text.
+-- `text_determines_the_record` no other record that fits the script and has such numbers has this text.
 pub record IsRecordText (bytes text : List ℕ) : Type 0 where
   pub script : Script
   pub reads : Reads bytes script

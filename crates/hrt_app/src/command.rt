@@ -24,7 +24,7 @@ pub enum Asked {
 }
 
 /// Reads the words of a command line, the program's name first. `None` where they ask for nothing that the
-/// program does, a request for help included.
+/// program does, `help` and `--help` alone among them.
 pub fn asks(alloc: Global, words: &[String]) -> Result<Option<Asked>, AllocError>
     ensures asked { IfOk result (λ asked. asked ≡ asked_by words.now) }
     ensures range { IfOk result IsInRange }
@@ -39,7 +39,7 @@ pub fn asks(alloc: Global, words: &[String]) -> Result<Option<Asked>, AllocError
 }
 
 /// What words ask for: the one word `run` for a run; `gen` with its three options in any order, each with a number in
-/// its range, for the script that is made from these; and no word, a request for help, or `gen` without one of its
+/// its range, for the script that is made from these; and no word, `help` or `--help` alone, or `gen` without one of its
 /// options, for nothing.
 pub fn what_words_ask_for()
     ensures run { (name : Text) → asked_by_texts (name ∷ codes "run" ∷ []) ≡ Some Run }

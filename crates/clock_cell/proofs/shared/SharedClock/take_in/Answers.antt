@@ -20,5 +20,5 @@ pub returns-clause-retires : goal.returns-clause-retires
 returns-clause-retires g c =
     let read = c.read.ensures in
     let heard = of_one c.args.main.now.knows c.args.other.knows c.join.new.main.knows c.read.new.pass.knows
-        (ap (λ (v : ClockView). v.heard) c.join.ensures.joined) read.heard in
+    (ap (λ (v : ClockView). v.heard) c.join.ensures.joined) read.heard in
     retires_looks _ _ _ _ (c.join.ensures.retires (record { all = writes c.read.new.pass.knows; first = heard.0; second = heard.1 })) read.looks
