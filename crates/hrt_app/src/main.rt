@@ -1,4 +1,5 @@
-//! The program `hrt`: reads a script of timer calls, runs it, and writes the record of what happened.
+//! The program `hrt`: reads a script of timer calls, runs it, and writes the record of what happened; or makes a script from a number, runs
+//! it, and writes a summary.
 #![tactic(auto)]
 
 mod adapters;
