@@ -40,7 +40,7 @@ most_timers = 256
 
 -- the greatest limit on a timer's entries
 abbrev pub most_events : ℕ
-most_events = 2 ^ 40 - 4
+most_events = 2 ^ 48 - 16
 
 -- how many call lines a script may have
 abbrev pub most_calls : ℕ

@@ -21,7 +21,7 @@ const MOST_BASES: u64 = 8;
 const MOST_LANES: u64 = 16;
 
 /// The greatest limit on a timer's entries.
-const MOST_EVENTS: u64 = (1 << 40) - 4;
+const MOST_EVENTS: u64 = (1 << 48) - 16;
 
 /// How many timers one expire may claim.
 const MOST_BUDGET: u64 = 4096;

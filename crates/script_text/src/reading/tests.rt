@@ -13,7 +13,7 @@ const HEADER: &str = "hrt 1\nbases 1\nlanes 1\nlimit 100\n";
 /// A timer of each kind, and a round's beginning.
 const KINDS: &str = "raw 0 monotonic once\nposix 1 realtime 0\nfd 2 boottime 0\nround\n";
 
-const WHOLE: &str = "#\u{7} anything\n\nhrt 1\nbases 2\nlanes 1\nlimit 1099511627772\n\
+const WHOLE: &str = "#\u{7} anything\n\nhrt 1\nbases 2\nlanes 1\nlimit 281474976710640\n\
     raw 0 monotonic once\nraw 1 realtime every 10\n# more\nraw 2 boottime cancels\n\
     raw 3 monotonic starts 5 1\nposix 4 realtime 1\nfd 5 boottime 0\nround\n\
     0 start 0 rel 100 0\n0 start 1 abs 9223372036854775807 1\n0 cancel 2\n\n0 peek 3\nround\n\
@@ -161,7 +161,7 @@ fn reads_a_script_whole(rt: HostRuntime) {
     };
     assert_eq!(rt;
         (script.bases, script.lanes, script.limit),
-        (2, 1, 1099511627772)
+        (2, 1, 281474976710640)
     );
     assert_eq!(rt; script.timers.as_slice(), declarations().as_slice());
     let [a, b, c, d] = script.rounds.as_slice() else {
