@@ -1,5 +1,5 @@
 -- What was read of a source and written to a sink, as far as they tell it.
-use Rattle.std.specs.Prelude.{◌<◌, ◌≤◌, ◌⊎◌, ℕ, List, length, take}
+use Rattle.std.specs.Prelude.{◌<◌, ◌≤◌, ◌+◌, ◌⊎◌, ℕ, List, length, take}
 use Rattle.std.specs.declared.option.Option.{Option}
 use Rattle.std.specs.Io.KnownBytes.{Consumes, IsAtEnd}
 use Rattle.hrt_app.specs.Streams.{Adds}
@@ -8,10 +8,15 @@ use Rattle.hrt_app.specs.Streams.{Adds}
 abbrev pub most_bytes : ℕ
 most_bytes = 1048576
 
--- these bytes were read: to the source's end, or past the most that a script may have
+-- the most bytes that one read asks for
+abbrev pub chunk : ℕ
+chunk = 4096
+
+-- these bytes were read: to the source's end, or by one read past the most that a script may have
 pub record IsRead (left now : Option (List ℕ)) (bytes : List ℕ) : Type 0 where
   pub front : Consumes left now bytes
   pub whole : IsAtEnd now ⊎ (most_bytes < length bytes)
+  pub few : length bytes ≤ most_bytes + chunk
 
 -- at most so many bytes were taken
 pub record TakesAtMost (left now : Option (List ℕ)) (most : ℕ) : Type 0 where

@@ -32,7 +32,6 @@ impl From<AllocError> for ReadFault {
 /// Reads a source to its end, or until more than `MOST_BYTES` were taken.
 pub fn read_all<S: Source>(alloc: Global, source: &mut S) -> Result<Vec<u8>, ReadFault>
     ensures read { IfOk result (λ bytes. IsRead (S.left source.old) (S.left source.new) bytes.items) }
-    ensures stops { IfOk result (λ bytes. length bytes.items ≤ most_bytes + 4096) }
     ensures ok { OnOk result (S.faults source.new ≡ S.faults source.old) }
     ensures failed { IsErrOf result ReadFault.Failed → Rose (S.faults source.old) (S.faults source.new) }
     ensures short { IsErrOf result ReadFault.Failed → TakesAtMost (S.left source.old) (S.left source.new) most_bytes }
