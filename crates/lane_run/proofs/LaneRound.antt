@@ -24,7 +24,8 @@ use Rattle.lane_run.specs.declared.world.WorldPass.{WorldPass}
 use Rattle.lane_run.proofs.CallingLanes.{calls_bound, calls_in_round, in_round, next_calls}
 use Rattle.lane_run.proofs.Chains.{Chain, chain_calls, chain_higher, Lies, lies_later, lies_pushed, ListOf}
 use Rattle.lane_run.proofs.LaneKept.{keeps_calls, next_index, promised_calls, promised_later, this_index}
-use Rattle.lane_run.proofs.NotesJoined.{AreOf, call_notes, each_weaker, joined}
+use Rattle.lane_run.proofs.NotesJoined.{AreOf, call_notes, joined}
+use Rattle.lane_run.proofs.PartLists.{each_weaker}
 use Rattle.lane_run.proofs.SeenMore.{follows_less, more_begun, more_called, more_same, more_trans, no_less, seen_begun, SeesMore, stand_called, stand_later}
 use Rattle.lane_run.proofs.Tallies.{Tallies, tallies_called, tallies_none}
 

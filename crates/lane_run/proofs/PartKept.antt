@@ -32,7 +32,8 @@ use Rattle.lane_run.specs.Kept.{Follows, IsLookNote, IsNextCall, IsObjectNote, I
 use Rattle.lane_run.specs.Worlds.{WorldOf}
 use Rattle.lane_run.specs.declared.world.WorldPass.{WorldPass}
 use Rattle.lane_run.proofs.CallKept.{no_places, notes_of, notes_of-bear, places_added, promised_from, stand_from, with_done-joins}
-use Rattle.lane_run.proofs.Parts.{IsNoteIn, IsPart, object_place, rises_lower, rises_only}
+use Rattle.lane_run.proofs.Parts.{IsNoteIn, IsPart, object_place}
+use Rattle.lane_run.proofs.PartLists.{rises_lower, rises_only}
 
 -- ---- notes
 
@@ -67,7 +68,7 @@ objects_noted IsSo p q so (n ∷ ns) all = (
 pub sees_part : {IsSo : List ClockLine → Type 0} {label : Label} {actions : List Action} {notes : List Noted} {log : List Receipt}
     {object_log : List ObjectReceipt} (p q : WorldPass) → IsPart IsSo label p.timers.known p.objects q.timers.known q.objects actions notes log object_log
     → Begins (writes p.clock.knows) (writes q.clock.knows) → SeesOn p q
-sees_part p q part clock = record { timers = part.enters.seen; clock = clock; objects = part.goes_on; opening = part.opening }
+sees_part p q part clock = record { timers = part.timers.enters.seen; clock = clock; objects = part.objects.goes_on; opening = part.objects.opening }
 
 -- law: a lane keeps a call that is a part, with its log, where it fits in every run that goes on from there
 pub keeps_part : {s : Script} {x : WorldOf} {l : LaneOf} {call : Call} (next : IsNextCall s x l call) (m : LaneOf) (a : Answer)
@@ -92,33 +93,33 @@ keeps_part {l = l} next m a IsSo log object_log notes t part so clock clock_mine
       sees = sees_part p q part clock;
       joins = joins ∙ with_done-joins l.notes label log object_log;
       bears = notes_of-bear label log object_log;
-      receipts = part.told;
+      receipts = part.timers.told;
       tells = record {
-        writes = sym part.no_write;
-        looks = part.looks;
-        objects = part.objects;
-        skips = part.skips;
-        writes_rise = subst (λ ws. Rises 1 (map (λ k. k.0) ws)) (sym part.no_write) tt;
+        writes = sym part.timers.no_write;
+        looks = part.timers.looks;
+        objects = part.objects.makes;
+        skips = part.objects.skips;
+        writes_rise = subst (λ ws. Rises 1 (map (λ k. k.0) ws)) (sym part.timers.no_write) tt;
         looks_rise = λ i. rises_lower 1 (receipts.count i p.timers.known.seen + 1) (map (λ k. k.0) (looked i actions)) (omega arith)
             (rises_only (receipts.count i p.timers.known.seen + 1) (map (λ k. k.0) (looked i actions)) (receipts.count i q.timers.known.seen + 1)
-            (part.looks_rise i));
+            (part.timers.looks_rise i));
         objects_rise = λ i. rises_lower 1 (length (seen_of p.objects i) + 1) (map (λ k. k.0) (made i actions)) (omega arith)
-            (rises_only (length (seen_of p.objects i) + 1) (map (λ k. k.0) (made i actions)) (length (seen_of q.objects i) + 1) (part.objects_rise i));
+            (rises_only (length (seen_of p.objects i) + 1) (map (λ k. k.0) (made i actions)) (length (seen_of q.objects i) + 1) (part.objects.rise i));
       };
       few = omega arith;
       places = record {
-        timers = places_added p.timers.known.mine q.timers.known.mine notes (entry_notes label log) part.enters.mine part.told;
-        objects = λ i k. ap (count (is_place i k)) part.object_mine
+        timers = places_added p.timers.known.mine q.timers.known.mine notes (entry_notes label log) part.timers.enters.mine part.timers.told;
+        objects = λ i k. ap (count (is_place i k)) part.objects.mine
             ∙ total-append (λ u. one_if (is_place i k u)) p.objects.knows.pass.mine (map object_place (object_notes label object_log));
         clock = λ k. no_places (is_place 0 k) p.clock.knows.pass.mine q.clock.knows.pass.mine clock_mine;
       };
       seen = record {
         writes = tt;
-        looks = looks_noted q (look_notes label log) part.looks_seen;
-        objects = objects_noted IsSo p q so (object_notes label object_log) part.objects_seen;
-        skips = skips_noted q (skip_notes label object_log) part.skips_seen;
+        looks = looks_noted q (look_notes label log) part.timers.looks_seen;
+        objects = objects_noted IsSo p q so (object_notes label object_log) part.objects.seen;
+        skips = skips_noted q (skip_notes label object_log) part.objects.skips_seen;
       };
-      stand = stand_from IsSo p q notes part.enters (λ e follows. so e follows.clock);
+      stand = stand_from IsSo p q notes part.timers.enters (λ e follows. so e follows.clock);
       logged = logged;
       promised = promised_from next q notes t a logged fits;
     }

@@ -48,8 +48,9 @@ use Rattle.lane_run.specs.Called.{accept_told, Called, caller_of, CallsObject, g
 use Rattle.lane_run.specs.Kept.{IsNextCall, KeepsCall}
 use Rattle.lane_run.specs.Worlds.{WorldOf}
 use Rattle.lane_run.proofs.CallKept.{reads_begins}
-use Rattle.lane_run.proofs.ObjectEntered.{IsNotedAs}
-use Rattle.lane_run.proofs.ObjectLooks.{declared_over, fd_declared, keeps_gettime-posix}
+use Rattle.lane_run.proofs.Parts.{IsNotedAs}
+use Rattle.lane_run.proofs.Declared.{fd_declared}
+use Rattle.lane_run.proofs.ObjectLooks.{keeps_gettime-posix}
 use Rattle.lane_run.proofs.Rearmed.{keeps_rearming}
 use Rattle.lane_run.proofs.Sights.{keeps_full, keeps_same}
 
@@ -182,7 +183,7 @@ gettime_kept {s = s} {x = x} {l = l} {m = m} {a = a} {timer = timer} next fd cal
     by_answer called.0 (called.1.does.1 ∙ ap (λ k. gettime_told k called.1.reading.stamp called.0) fd)
     (subst (λ k. Gettimes x.objects x.timers.about (caller_of l.pass [] []) (caller_of m.pass called.1.log called.1.object_log) timer called.1.reading k
     called.0) fd called.1.does.0)
-    (fd_declared s timer (sym (declared_over s x timer next.world) ∙ fd))
+    (fd_declared s x timer next.world fd)
   where
     by_answer : (g : Gettime) → a ≡ gettime_told over.Fd called.1.reading.stamp g
         → Gettimes x.objects x.timers.about (caller_of l.pass [] []) (caller_of m.pass called.1.log called.1.object_log) timer called.1.reading over.Fd g

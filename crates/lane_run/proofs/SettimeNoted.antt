@@ -34,7 +34,7 @@ use Rattle.run_history.specs.Courses.{Course}
 use Rattle.run_history.specs.Truths.{SawRefusal}
 use Rattle.run_history.proofs.ObjectsMade.{RefusedBy}
 use Rattle.lane_run.specs.Called.{settime_told}
-use Rattle.lane_run.proofs.ObjectEntered.{IsNotedAs}
+use Rattle.lane_run.proofs.Parts.{IsNotedAs}
 
 -- ---- the entry
 
