@@ -57,7 +57,7 @@ use Rattle.lane_run.proofs.Declared.{declared_callback, declared_over, over_of}
 use Rattle.lane_run.proofs.Bodies.{BodyKept, callback_kept, fired_of}
 use Rattle.lane_run.proofs.Entering.{begins_length, begins_trans, enters-append, enters_along, EntersNotes}
 use Rattle.lane_run.proofs.Parts.{count_begins, IsObjectsPart, IsPart, objects-append, objects_alone}
-use Rattle.lane_run.proofs.PartLists.{looked-append, RisesTo, wrote-append}
+use Rattle.lane_run.proofs.PartLists.{each_weaker, looked-append, RisesTo, wrote-append}
 use Rattle.lane_run.proofs.Triggered.{fd_noted, posix_noted, trigger_kept}
 
 -- ---- one callback
@@ -95,10 +95,8 @@ goes_before xs ys e begins on =
 looks_to : (low high : ℕ) (w : KnownOfTimers) (ns : List LookNote) (timer : ℕ) → 0 < low → high ≤ count timer w.seen
     → AllByRecursion (λ n. (n.timer ≡ timer) × (low ≤ n.number) × (n.number ≤ high)) ns
     → AllByRecursion (λ n. (0 < n.number) × (n.number ≤ count n.timer w.seen)) ns
-looks_to low high w [] timer some le are = tt
-looks_to low high w (n ∷ ns) timer some le are =
-    let its : high ≤ count n.timer w.seen = subst (λ t. high ≤ count t w.seen) (sym are.0.0) le in
-    ((omega (arith, some, are.0.1), omega (arith, its, are.0.2)), looks_to low high w ns timer some le are.1)
+looks_to low high w ns timer some le are = each_weaker _ (λ n. (0 < n.number) × (n.number ≤ count n.timer w.seen)) ns (λ n is.
+    let its : high ≤ count n.timer w.seen = subst (λ t. high ≤ count t w.seen) (sym is.0) le in (omega (arith, some, is.1), omega (arith, its, is.2))) are
 
 module _ (IsSo : List ClockLine → Type 0) (s : Script) (x : WorldOf) (is : IsWorldOf s x) (some : 1 ≤ s.limit) (label : Label) (base : ℕ)
     (reading : ClockReading) (so : (clock : List ClockLine) → IsSo clock → reading_at clock reading.stamp ≡ reading) where

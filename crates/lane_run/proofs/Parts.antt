@@ -15,6 +15,8 @@ use Rattle.timer_objects.specs.declared.log.ObjectReceipt.{ObjectReceipt}
 use Rattle.record_text.specs.declared.record.ClockLine.{ClockLine}
 use Rattle.record_text.specs.declared.record.Label.{Label}
 use Rattle.script_text.specs.Actions.{Action, Entered, Looked, looked, Made, made, numbers_of_object, Skipped, skipped, Wrote, wrote}
+use Rattle.script_text.specs.Histories.{reading_at}
+use Rattle.ktime.specs.Readings.{ClockReading}
 use Rattle.script_text.specs.Objects.{present}
 use Rattle.script_text.specs.Order.{NeverFall}
 use Rattle.lane_notes.specs.Entries.{entry_notes, look_notes}
@@ -202,6 +204,17 @@ pub record IsNotedAs (IsSo : List ClockLine → Type 0) (call : ObjectCall) (rep
   pub noted : object_entry_noted call reply ≡ Some entry
   pub no_skip : skip_generation call reply ≡ None
   pub shows : (clock : List ClockLine) → IsSo clock → ShowsObjectCall clock call reply entry
+
+-- law: so is a call at a reading that the record's clock has
+pub noted_at : (reading : ClockReading) (call : ClockReading → ObjectCall) (reply : ObjectReply) (entry : ObjectEntry)
+    → object_entry_noted (call reading) reply ≡ Some entry → skip_generation (call reading) reply ≡ None
+    → ((clock : List ClockLine) → ShowsObjectCall clock (call (reading_at clock reading.stamp)) reply entry)
+    → IsNotedAs (λ clock. reading_at clock reading.stamp ≡ reading) (call reading) reply entry
+noted_at reading call reply entry noted no_skip shows = record {
+  noted = noted;
+  no_skip = no_skip;
+  shows = λ clock has. subst (λ r. ShowsObjectCall clock (call r) reply entry) has (shows clock);
+}
 
 -- law: an entry of an object
 pub objects_made : (IsSo : List ClockLine → Type 0) (label : Label) (p q : ObjectsPass) (id : ℕ) (step : ObjectMove) (entry : ObjectEntry)

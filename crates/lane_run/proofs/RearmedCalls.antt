@@ -48,7 +48,7 @@ use Rattle.lane_run.specs.Called.{accept_told, Called, caller_of, CallsObject, g
 use Rattle.lane_run.specs.Kept.{IsNextCall, KeepsCall}
 use Rattle.lane_run.specs.Worlds.{WorldOf}
 use Rattle.lane_run.proofs.CallKept.{reads_begins}
-use Rattle.lane_run.proofs.Parts.{IsNotedAs}
+use Rattle.lane_run.proofs.Parts.{IsNotedAs, noted_at}
 use Rattle.lane_run.proofs.Declared.{fd_declared}
 use Rattle.lane_run.proofs.ObjectLooks.{keeps_gettime-posix}
 use Rattle.lane_run.proofs.Rearmed.{keeps_rearming}
@@ -92,37 +92,35 @@ read_unstamped reads.Canceled = refl
 accept_as : (reading : ClockReading) (reply : AcceptReply) (arm : Arm)
     → IsNotedAs (HasRead reading) (rearming_call rearmings.Accepting reading arm) (replies.Posix (posix_replies.Accept (accept_answer_of reply)))
     (object_entries.Accept reading.stamp (arm_noted arm) reply)
-accept_as reading reply arm = record {
-  noted = ap (option_map (λ (r : AcceptReply). object_entries.Accept reading.stamp (arm_noted arm) r)) (accept_back reply);
-  no_skip = refl;
-  shows = λ clock has.
-      ap (λ r. Some (record { call = posix_calls.Accept r (posix_arm (arm_noted arm) 0); reply = posix_replies.Accept (accept_answer_of reply) })) has
-      ∙ ap (λ k. Some (record { call = posix_calls.Accept reading k; reply = posix_replies.Accept (accept_answer_of reply) })) (posix_arm-told arm);
-}
+accept_as reading reply arm =
+    noted_at reading (λ r. rearming_call rearmings.Accepting r arm) (replies.Posix (posix_replies.Accept (accept_answer_of reply)))
+    (object_entries.Accept reading.stamp (arm_noted arm) reply)
+    (ap (option_map (λ (r : AcceptReply). object_entries.Accept reading.stamp (arm_noted arm) r)) (accept_back reply)) refl
+    (λ clock. ap (λ k. Some (record {
+      call = posix_calls.Accept (reading_at clock reading.stamp) k;
+      reply = posix_replies.Accept (accept_answer_of reply);
+    })) (posix_arm-told arm))
 
 -- a read
 read_as : (reading : ClockReading) (reply : ReadReply) (arm : Arm)
     → IsNotedAs (HasRead reading) (rearming_call rearmings.Reading reading arm) (replies.Fd (fd_replies.Read (read_answer_of reply)))
     (object_entries.Read reading.stamp (arm_noted arm) reply)
-read_as reading reply arm = record {
-  noted = ap (option_map (λ (r : ReadReply). object_entries.Read reading.stamp (arm_noted arm) r)) (read_back reply);
-  no_skip = refl;
-  shows = λ clock has.
-      ap (λ r. Some (record { call = fd_calls.Read r (fd_arm (arm_noted arm) 0); reply = fd_replies.Read (read_answer_of reply) })) has
-      ∙ ap (λ k. Some (record { call = fd_calls.Read reading k; reply = fd_replies.Read (read_answer_of reply) })) (fd_arm-told arm);
-}
+read_as reading reply arm =
+    noted_at reading (λ r. rearming_call rearmings.Reading r arm) (replies.Fd (fd_replies.Read (read_answer_of reply)))
+    (object_entries.Read reading.stamp (arm_noted arm) reply)
+    (ap (option_map (λ (r : ReadReply). object_entries.Read reading.stamp (arm_noted arm) r)) (read_back reply)) refl
+    (λ clock. ap (λ k. Some (record { call = fd_calls.Read (reading_at clock reading.stamp) k; reply = fd_replies.Read (read_answer_of reply) }))
+    (fd_arm-told arm))
 
 -- a gettime of a descriptor
 gettime_as : (reading : ClockReading) (left interval : ℕ) (arm : Arm)
     → IsNotedAs (HasRead reading) (rearming_call rearmings.Getting reading arm) (replies.Fd (fd_replies.Gettime (lefts.Left left interval)))
     (object_entries.Gettime reading.stamp (arm_noted arm) left interval)
-gettime_as reading left interval arm = record {
-  noted = refl;
-  no_skip = refl;
-  shows = λ clock has.
-      ap (λ r. Some (record { call = fd_calls.Gettime r (fd_arm (arm_noted arm) 0); reply = fd_replies.Gettime (lefts.Left left interval) })) has
-      ∙ ap (λ k. Some (record { call = fd_calls.Gettime reading k; reply = fd_replies.Gettime (lefts.Left left interval) })) (fd_arm-told arm);
-}
+gettime_as reading left interval arm =
+    noted_at reading (λ r. rearming_call rearmings.Getting r arm) (replies.Fd (fd_replies.Gettime (lefts.Left left interval)))
+    (object_entries.Gettime reading.stamp (arm_noted arm) left interval) refl refl
+    (λ clock. ap (λ k. Some (record { call = fd_calls.Gettime (reading_at clock reading.stamp) k; reply = fd_replies.Gettime (lefts.Left left interval) }))
+    (fd_arm-told arm))
 
 -- ---- the calls
 

@@ -46,7 +46,7 @@ use Rattle.run_history.proofs.Lists.{at_left, at_seam}
 use Rattle.lane_run.specs.Kept.{AreObjectLines, made_on, ObjectMove, skips_on, FollowsObject}
 use Rattle.lane_run.proofs.Bodies.{BodyKept, fired_of, timers_still}
 use Rattle.lane_run.proofs.Entering.{begins_length}
-use Rattle.lane_run.proofs.Parts.{IsNoteIn, object_place, IsNotedAs, objects_made}
+use Rattle.lane_run.proofs.Parts.{IsNoteIn, object_place, IsNotedAs, objects_made, noted_at}
 use Rattle.lane_run.proofs.PartLists.{one_falls}
 use Rattle.run_history.specs.Runs.{Ending}
 
@@ -96,21 +96,13 @@ posix_noted (objects.Posix t) generation reading allows = by_test (is_expiry_of 
         (replies.Posix (posix_replies.Trigger (if b then triggers.Counted else triggers.Stale))) generation reading
     by_test true = (
       true,
-      record {
-        noted = refl;
-        no_skip = refl;
-        shows = λ clock has.
-            ap (λ at. Some (record { call = posix_calls.Trigger generation at; reply = posix_replies.Trigger triggers.Counted })) has;
-      },
+      noted_at reading (λ r. of_kind.Posix (posix_calls.Trigger generation r)) (replies.Posix (posix_replies.Trigger triggers.Counted)) _ refl refl
+          (λ clock. refl),
     )
     by_test false = (
       false,
-      record {
-        noted = refl;
-        no_skip = refl;
-        shows = λ clock has.
-            ap (λ at. Some (record { call = posix_calls.Trigger generation at; reply = posix_replies.Trigger triggers.Stale })) has;
-      },
+      noted_at reading (λ r. of_kind.Posix (posix_calls.Trigger generation r)) (replies.Posix (posix_replies.Trigger triggers.Stale)) _ refl refl
+          (λ clock. refl),
     )
 
 -- law: a trigger of a descriptor that made an entry is noted
@@ -124,21 +116,13 @@ fd_noted (objects.Fd t) generation reading allows = by_test (is_expiry_of t.phas
         (replies.Fd (fd_replies.Trigger (if b then triggers.Counted else triggers.Stale))) generation reading
     by_test true = (
       true,
-      record {
-        noted = refl;
-        no_skip = refl;
-        shows = λ clock has.
-            ap (λ at. Some (record { call = fd_calls.Trigger generation at; reply = fd_replies.Trigger triggers.Counted })) has;
-      },
+      noted_at reading (λ r. of_kind.Fd (fd_calls.Trigger generation r)) (replies.Fd (fd_replies.Trigger triggers.Counted)) _ refl refl
+          (λ clock. refl),
     )
     by_test false = (
       false,
-      record {
-        noted = refl;
-        no_skip = refl;
-        shows = λ clock has.
-            ap (λ at. Some (record { call = fd_calls.Trigger generation at; reply = fd_replies.Trigger triggers.Stale })) has;
-      },
+      noted_at reading (λ r. of_kind.Fd (fd_calls.Trigger generation r)) (replies.Fd (fd_replies.Trigger triggers.Stale)) _ refl refl
+          (λ clock. refl),
     )
 
 -- ---- the trigger
