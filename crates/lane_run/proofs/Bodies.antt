@@ -327,12 +327,14 @@ module _ (IsSo : List ClockLine → Type 0) (s : Script) (o : Opening) (is : o �
           → BodyKept IsSo s label c reading.stamp restart v w p q log log' object_log object_log'
       forwards_kept (forwards.Spent n) f logs =
           looked_kept restart f.at n (events.Forward reading interval) observations.Spent replies.Spent f.made refl refl logs f.fits.1 f.fits.0 tt
-          (λ finish rearmed. is_asked (callbacks.Every interval) restart true kind (ap asks run.1) (Looked c.timer n replies.Spent ∷ []) finish rearmed (inr (inr (n, refl)), refl))
+          (λ finish rearmed. is_asked (callbacks.Every interval) restart true kind (ap asks run.1) (Looked c.timer n replies.Spent ∷ []) finish rearmed
+          (inr (inr (n, refl)), refl))
       forwards_kept (forwards.Armed g n) f logs =
           looked_kept restart f.at n (events.Forward reading interval) (observations.Armed g) (replies.Armed g) f.made refl refl logs f.fits.2
           (subst IsSome (sym f.runs) refl, f.fits.1)
           (let most = limit_within s o f.at c.timer on some in omega (arith, f.fits.0, f.fits.2, most))
-          (λ finish rearmed. is_asked (callbacks.Every interval) restart true kind (ap asks run.1) (Looked c.timer n (replies.Armed g) ∷ []) finish rearmed (inr (inl (n, g, refl)), refl))
+          (λ finish rearmed. is_asked (callbacks.Every interval) restart true kind (ap asks run.1) (Looked c.timer n (replies.Armed g) ∷ []) finish rearmed
+          (inr (inl (n, g, refl)), refl))
       forwards_kept (forwards.Forwarded number passed_by expires) f logs =
           let u = timer_then o f.at c.timer in
           let along = enters_along IsSo o (clocks_of s) s.limit v w c.timer f.at (events.Forward reading interval ∷ []) on f.made
@@ -340,7 +342,8 @@ module _ (IsSo : List ClockLine → Type 0) (s : Script) (o : Opening) (is : o �
           let are = along.are ∙ ap (forward_in_receipt c.timer reading.stamp interval) (sym f.fits.2) in
           entered_kept restart (Entered c.timer number (entries.Forward reading.stamp interval passed_by expires) ∷ [])
           (forward_receipt c reading interval (forwards.Forwarded number passed_by expires)) along.notes along.enters logs (tt, tt) are are refl
-          (λ finish rearmed. is_asked (callbacks.Every interval) restart true kind (ap asks run.1) (Entered c.timer number (entries.Forward reading.stamp interval passed_by expires) ∷ []) finish rearmed
+          (λ finish rearmed. is_asked (callbacks.Every interval) restart true kind (ap asks run.1)
+          (Entered c.timer number (entries.Forward reading.stamp interval passed_by expires) ∷ []) finish rearmed
           (inl (number, passed_by, expires, refl), refl))
   callback_kept callbacks.Cancels restart kind run =
       looked_kept restart run.0.cancels.at run.0.stamp events.Cancel (observations.Running c.generation) (replies.Running c.generation) run.0.cancels.made refl
@@ -355,7 +358,8 @@ module _ (IsSo : List ClockLine → Type 0) (s : Script) (o : Opening) (is : o �
           → BodyKept IsSo s label c reading.stamp restart v w p q log log' object_log object_log'
       begins_kept (starts.Spent n) f runs logs =
           looked_kept restart f.at n (events.Start modes.Rel ns reading asked) observations.Spent replies.Spent f.made refl refl logs f.fits.2 f.fits.1 tt
-          (λ finish rearmed. is_asked (callbacks.Starts ns asked) restart true kind (ap asks run.1) (Looked c.timer n replies.Spent ∷ []) finish rearmed (inr (n, refl), refl))
+          (λ finish rearmed. is_asked (callbacks.Starts ns asked) restart true kind (ap asks run.1) (Looked c.timer n replies.Spent ∷ []) finish rearmed
+          (inr (n, refl), refl))
       begins_kept (starts.Started was generation base outs clock expires) f runs logs =
           let u = timer_then o f.at c.timer in
           let stays : moves_first u asked ≡ false = ap (λ r. not (is_some r) && not (nat_eq u.base asked)) runs in
@@ -374,4 +378,5 @@ module _ (IsSo : List ClockLine → Type 0) (s : Script) (o : Opening) (is : o �
           let are = along.are ∙ ap (start_in_receipt c.timer reading.stamp ns asked) (sym fits) in
           entered_kept restart (arming_actions c.timer modes.Rel ns reading.stamp asked arming)
           (start_receipt c reading ns asked (starts.Started was generation base outs clock expires)) along.notes along.enters logs (tt, tt) are are refl
-          (λ finish rearmed. is_asked (callbacks.Starts ns asked) restart true kind (ap asks run.1) (arming_actions c.timer modes.Rel ns reading.stamp asked arming) finish rearmed (inl (arming, refl), refl))
+          (λ finish rearmed. is_asked (callbacks.Starts ns asked) restart true kind (ap asks run.1)
+          (arming_actions c.timer modes.Rel ns reading.stamp asked arming) finish rearmed (inl (arming, refl), refl))

@@ -57,7 +57,8 @@ middle_swapped a b c d =
 
 rises_low : {A : Type 0} (low : ℕ) (xs : List (ℕ × A)) (high : ℕ) → RisesTo low (map (λ n. n.0) xs) high → AllByRecursion (λ n. low ≤ n.0) xs
 rises_low low [] high rises = tt
-rises_low low (x ∷ xs) high rises = (rises.0, each_weaker (λ n. x.0 + 1 ≤ n.0) (λ n. low ≤ n.0) xs (λ n le. omega (arith, rises.0, le)) (rises_low (x.0 + 1) xs high rises.1))
+rises_low low (x ∷ xs) high rises =
+    (rises.0, each_weaker (λ n. x.0 + 1 ≤ n.0) (λ n. low ≤ n.0) xs (λ n le. omega (arith, rises.0, le)) (rises_low (x.0 + 1) xs high rises.1))
 
 rises_above : {A : Type 0} (low : ℕ) (xs : List (ℕ × A)) (high : ℕ) → RisesTo low (map (λ n. n.0) xs) high → low ≤ high
 rises_above low [] high rises = rises
@@ -167,7 +168,8 @@ module _ (IsSo : List ClockLine → Type 0) (s : Script) (label : Label) (base a
             let earlier : HasPoints s e label p p1 (done ++ (one ++ later)) =
             λ i m before rest parts low high below above.
             points i m before rest (whole ∙ parts) low (let le = grows i in omega (arith, high, le)) below above in
-            let before_run = run.have e joined (goes_before k1.seen k'.seen e turn.part.timers.enters.seen goes) (follows_before p1 p' e turn.part.objects.goes_on follows)
+            let before_run = run.have e joined (goes_before k1.seen k'.seen e turn.part.timers.enters.seen goes)
+            (follows_before p1 p' e turn.part.objects.goes_on follows)
             (one ++ later)
             (λ i. subst (AllByRecursion (λ x. length (seen_of p1 i) < x.0)) (sym (made-append i one later))
             (each_joined (λ x. length (seen_of p1 i) + 1 ≤ x.0) (λ x. length (seen_of p' i) < x.0) (λ x. length (seen_of p1 i) < x.0) (made i one)
@@ -176,7 +178,8 @@ module _ (IsSo : List ClockLine → Type 0) (s : Script) (label : Label) (base a
             let one_run = turn.ran e joined goes follows done
             (λ i none. points i (length (seen_of p' i)) (with_claim base at f done) ((f.body ++ finishing) ++ later)
             (whole ∙ sym (append_assoc done (Entered f.timer f.claim (claim_of base at f) ∷ []) ((f.body ++ finishing) ++ later)))
-            (let le = grows i in let first = begins_length (seen_of p i) (seen_of p1 i) (run.part.objects.goes_on.each i) in omega (arith, le, first)) (omega arith)
+            (let le = grows i in let first = begins_length (seen_of p i) (seen_of p1 i) (run.part.objects.goes_on.each i) in omega (arith, le, first))
+            (omega arith)
             (subst (AllByRecursion (λ x. x.0 ≤ length (seen_of p' i)))
             (sym (made-append i done (Entered f.timer f.claim (claim_of base at f) ∷ []) ∙ append-nil (made i done)))
             (each_weaker (λ x. x.0 < length (seen_of p1 i) + 1) (λ x. x.0 ≤ length (seen_of p' i)) (made i done)

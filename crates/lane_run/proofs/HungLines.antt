@@ -43,7 +43,7 @@ use Rattle.lane_run.proofs.FiledNotes.{timer_lines_long}
 use Rattle.lane_run.proofs.HungNotes.{one_look, skip_shape, skips_hang, skips_of_call}
 use Rattle.lane_run.proofs.LastSeen.{objects_once, objects_past}
 use Rattle.lane_run.proofs.Numbered.{as_many}
-use Rattle.lane_run.proofs.OwnLines.{among_at, among_made, looks_on-filter, made_among, own_on, own_on_from, own_on_parts, place_among, rise_in, skips_on-filter}
+use Rattle.lane_run.proofs.OwnLines.{among_at, among_made, looks_on-filter, made_among, own_on, own_on_from, own_on_parts, place_among, rise_in, skips_on-filter, turned}
 
 in_either : {X : Type 0} {xs ys : List X} (k : ℕ) (x : X) → (xs ≡ ys) ⊎ (xs ≡ []) → slice_get xs k ≡ Some x → slice_get ys k ≡ Some x
 in_either {xs = xs} {ys = ys} k x either at =
@@ -129,9 +129,6 @@ module _ {s : Script} {x : WorldOf} {q : WorldPass} {notes sorted : NotesOf} {lo
           less_one : (b n k : ℕ) → n ≡ b + 1 → n ≤ k → b < k
           less_one b n k e le = omega (arith, e, le)
 
-          turned : (b : ℕ) → b + 1 ≡ 1 + b
-          turned b = omega arith
-
       all : (p : ℕ) (line : TimerLine) (l : Look) → slice_get (lines t) p ≡ Some line → Among l line.looks → is_label c l.label ≡ true
           → Among (1 + p, l.reply) (looked t (logs c).trace.actions)
       all p line l at here own_look =
@@ -142,9 +139,6 @@ module _ {s : Script} {x : WorldOf} {q : WorldPass} {notes sorted : NotesOf} {lo
           (ap (λ k. (k, m.note.reply)) (m.number ∙ turned p) ∙ ap (λ (y : Look). (1 + p, y.reply)) m.is)
           (among_made told (own_on place_of_look t c notes.looks) m.note
           (own_on_from place_of_look t c notes.looks m.note st m.timer (ap (λ (y : Look). is_label c y.label) m.is ∙ own_look))))
-        where
-          turned : (b : ℕ) → b + 1 ≡ 1 + b
-          turned b = omega arith
 
   -- law: labels of looks under a line are those of calls, in order
   pub looks_under : (t : ℕ) → AllByRecursion (λ line. AreUnder s (map (λ look. look.label) line.looks))

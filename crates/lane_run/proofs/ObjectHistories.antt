@@ -82,7 +82,8 @@ module _ (s : Script) (x : WorldOf) (world : IsWorldOf s x) (r : RunRecord) (i :
   object_legal = by_kind (kind_of s i) refl
     where
       by_kind : (k : Kind) → kind_of s i ≡ k → IsLegalObject s r i k
-      by_kind (kinds.Raw callback) is = raw_none r.clock spans 1 0 cell hs (lines_of_object r i) (leads_from s x world i hs cell after (kinds.Raw callback) is) are
+      by_kind (kinds.Raw callback) is =
+          raw_none r.clock spans 1 0 cell hs (lines_of_object r i) (leads_from s x world i hs cell after (kinds.Raw callback) is) are
       by_kind (kinds.Posix base) is =
           legal posix_kind r.clock spans 1 (posix_opening (clock_of s i) base s.limit) 0 cell hs (lines_of_object r i)
           (leads_from s x world i hs cell after (kinds.Posix base) is) are

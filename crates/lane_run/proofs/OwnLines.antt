@@ -98,6 +98,10 @@ pub rise_in : {A : Type 0} (k : ℕ) (xs : List (ℕ × A)) → Rises k (map (λ
 rise_in k [] rise = tt
 rise_in k (x ∷ xs) rise = (rise.0, rise_in (x.0 + 1) xs rise.1)
 
+-- one more on either side
+pub turned : (n : ℕ) → n + 1 ≡ 1 + n
+turned n = omega arith
+
 -- ---- its lines
 
 module _ {X L A : Type 0} (place : X → Place) (many : ℕ → ℕ) (xs sorted : List X) (is : IsSortedOf place xs sorted) (once : AreEachOnce place many xs)
@@ -135,9 +139,6 @@ module _ {X L A : Type 0} (place : X → Place) (many : ℕ → ℕ) (xs sorted 
             own = ap (λ (p : Label × A). is_label c p.0) y.2 ∙ o.own;
             is = m.2 ∙ ap (λ k. (k, told n)) (s.2 ∙ turned s.0) ∙ ap (λ (p : Label × A). (1 + s.0, p.1)) (sym y.2);
           }
-        where
-          turned : (j : ℕ) → j + 1 ≡ 1 + j
-          turned j = omega arith
 
       all : (p : ℕ) (y : L) → slice_get lines p ≡ Some y → is_label c (label y) ≡ true → Among (1 + p, thing y) items
       all p y at own_line =
@@ -150,6 +151,3 @@ module _ {X L A : Type 0} (place : X → Place) (many : ℕ → ℕ) (xs sorted 
           (subst (λ e. Among e (map {B = ℕ × A} (λ n. ((place n).number, told n)) (own_on place l c xs)))
           (ap (λ k. (k, told n)) (number ∙ turned p) ∙ ap (λ (q : Label × A). (1 + p, q.1)) m.2)
           (among_made (λ (n : X). ((place n).number, told n)) (own_on place l c xs) n (own_on_from place l c xs n w.0 w.1 is_own)))
-        where
-          turned : (j : ℕ) → j + 1 ≡ 1 + j
-          turned j = omega arith

@@ -87,7 +87,8 @@ can_call s x range is (calls.Readable timer) ok = (
 )
 
 -- what is known of all calls is known of those of each round
-calls_at : (P : LaneCall → Type 0) (rs : List Round) (i : ℕ) (r : Round) → i < length rs → AllByRecursion P (all_calls rs) → AllByRecursion P (get_or rs i r).calls
+calls_at : (P : LaneCall → Type 0) (rs : List Round) (i : ℕ) (r : Round) → i < length rs → AllByRecursion P (all_calls rs)
+    → AllByRecursion P (get_or rs i r).calls
 calls_at P [] i r here all = absurd (omega (arith, here))
 calls_at P (x ∷ rs) zero r here all = All-front P x.calls (all_calls rs) all
 calls_at P (x ∷ rs) (suc i) r here all = calls_at P rs i r (omega (arith, here)) (All-back P x.calls (all_calls rs) all)

@@ -130,7 +130,8 @@ accept_kept : {s : Script} {x : WorldOf} {l m : LaneOf} {a : Answer} {timer : �
     → KeepsCall s l (calls.Accept timer) (answer_of_accept reply) m
 accept_kept {s = s} {x = x} {l = l} {m = m} {timer = timer} next reply c =
     keeps_rearming s x l m (calls.Accept timer) timer next (answer_of_accept reply) rearmings.Accepting c.reading c.reads
-    (replies.Posix (posix_replies.Accept (accept_answer_of reply))) c.log c.object_log c.does c.notes refl (accept_unstamped reply) (λ arm. object_entries.Accept c.reading.stamp arm reply) (accept_as c.reading reply)
+    (replies.Posix (posix_replies.Accept (accept_answer_of reply))) c.log c.object_log c.does c.notes refl (accept_unstamped reply)
+    (λ arm. object_entries.Accept c.reading.stamp arm reply) (accept_as c.reading reply)
     (λ e begin last arm start notes kept low rearmed. accept_made reply kept low rearmed)
 
 -- law: a lane keeps an acceptance
@@ -153,7 +154,8 @@ read_kept : {s : Script} {x : WorldOf} {l m : LaneOf} {a : Answer} {timer len : 
     → KeepsCall s l (calls.Read timer len) (answer_of_read reply) m
 read_kept {s = s} {x = x} {l = l} {m = m} {timer = timer} {len = len} next reply c =
     keeps_rearming s x l m (calls.Read timer len) timer next (answer_of_read reply) rearmings.Reading c.reading c.reads
-    (replies.Fd (fd_replies.Read (read_answer_of reply))) c.log c.object_log c.does.1 c.notes refl (read_unstamped reply) (λ arm. object_entries.Read c.reading.stamp arm reply) (read_as c.reading reply)
+    (replies.Fd (fd_replies.Read (read_answer_of reply))) c.log c.object_log c.does.1 c.notes refl (read_unstamped reply)
+    (λ arm. object_entries.Read c.reading.stamp arm reply) (read_as c.reading reply)
     (λ e begin last arm start notes kept low rearmed. read_made len reply kept low rearmed c.does.0)
 
 -- law: a lane keeps a read
@@ -195,7 +197,8 @@ gettime_kept {s = s} {x = x} {l = l} {m = m} {a = a} {timer = timer} next fd cal
         let c = called.1 in
         subst (λ b. KeepsCall s l (calls.Gettime timer) b m) (sym told)
         (keeps_rearming s x l m (calls.Gettime timer) timer next (answers.Left left interval) rearmings.Getting c.reading c.reads
-        (replies.Fd (fd_replies.Gettime (lefts.Left left interval))) c.log c.object_log does.0 c.notes refl refl (λ arm. object_entries.Gettime c.reading.stamp arm left interval)
+        (replies.Fd (fd_replies.Gettime (lefts.Left left interval))) c.log c.object_log does.0 c.notes refl refl
+        (λ arm. object_entries.Gettime c.reading.stamp arm left interval)
         (gettime_as c.reading left interval)
         (λ e begin last arm start notes kept low rearmed. gettime_made kind.0 left interval kept low rearmed kind.1))
 

@@ -165,7 +165,8 @@ module _ (s : Script) (x : WorldOf) (l m : LaneOf) (timer flags : ℕ) (value in
   steps : (i : ℕ) → NeverFall (length (seen_of p i))
       (object_steps_on i (calls.Settime timer flags value interval) (answer_of_settime noted.told) actions) (length (seen_of q i))
   steps i = subst (λ ns. NeverFall (length (seen_of p i)) ns (length (seen_of q i)))
-      (sym (unstamped i (calls.Settime timer flags value interval) (answer_of_settime noted.told) timer actions refl (no_stamp noted.told))) (whole.objects.steps i)
+      (sym (unstamped i (calls.Settime timer flags value interval) (answer_of_settime noted.told) timer actions refl (no_stamp noted.told)))
+      (whole.objects.steps i)
     where
       no_stamp : (reply : SettimeReply) → object_stamp_in (answer_of_settime reply) ≡ []
       no_stamp (settimes.Old left old) = refl

@@ -49,6 +49,7 @@ use Rattle.lane_run.proofs.Entering.{begins_length}
 use Rattle.lane_run.proofs.Parts.{IsNoteIn, object_place, IsNotedAs, objects_made, noted_at}
 use Rattle.lane_run.proofs.PartLists.{one_falls}
 use Rattle.run_history.specs.Runs.{Ending}
+use Rattle.lane_run.proofs.OwnLines.{turned}
 
 -- ---- the record's spans
 
@@ -71,11 +72,8 @@ span_at clock spans k (suc n) (x ∷ xs) (line ∷ lines) h are there = ap spans
 pub span_made : (q : ObjectsPass) (e : Ending) (i many : ℕ) (step : ObjectMove) → FollowsObject e i (seen_of q i) → slice_get (seen_of q i) many ≡ Some step
     → e.spans i (many + 1) ≡ (step.call.from, step.call.to)
 span_made q e i many step follows there =
-    ap (e.spans i) (one_more many) ∙ span_at e.run.clock (e.spans i) 1 many follows.history (lines_of_object e.run i) step follows.lines
+    ap (e.spans i) (turned many) ∙ span_at e.run.clock (e.spans i) 1 many follows.history (lines_of_object e.run i) step follows.lines
     (subst (λ ys. slice_get ys many ≡ Some step) (sym follows.goes_on.whole) (at_left (seen_of q i) follows.goes_on.rest many step there))
-  where
-    one_more : (n : ℕ) → n + 1 ≡ 1 + n
-    one_more n = omega arith
 
 -- ---- the note of a trigger
 
