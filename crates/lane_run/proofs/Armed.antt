@@ -5,7 +5,6 @@ use Rattle.std.proofs.lemmas.List.{append-nil}
 use Rattle.ktime.specs.Readings.{ClockReading}
 use Rattle.ktime.specs.declared.clock_id.ClockId.{ClockId}
 use Rattle.ktime.specs.declared.mode.Mode.{Mode}
-use Rattle.pass_names.specs.SharedHistory.{LooksOn}
 use Rattle.seq_timer.specs.Histories as histories
 use Rattle.seq_timer.specs.Histories.{Holds}
 use Rattle.seq_timer.specs.Steps.{after, reply_to, Timer}
@@ -49,10 +48,9 @@ use Rattle.run_history.proofs.ObjectsMade.{refused_seen}
 use Rattle.run_history.proofs.PassState.{state_seen, timer_seen}
 use Rattle.lane_run.specs.Kept.{entry_in_note}
 use Rattle.lane_run.proofs.CallKept.{inside_of}
-use Rattle.lane_run.proofs.Entering.{enters_along, EntersNotes, HasReading, line_entry, lines_along}
-use Rattle.lane_run.proofs.Parts.{IsPart, part_none}
-use Rattle.lane_run.proofs.Quiet.{IsEntered, looks_made}
-use Rattle.lane_run.proofs.SmallParts.{part_entered}
+use Rattle.lane_run.proofs.Entering.{enters_along, EntersNotes, HasReading, line_entry, lines_along, begins_same}
+use Rattle.lane_run.proofs.Parts.{IsPart, part_none, IsEntered, part_entered}
+use Rattle.lane_run.proofs.Quiet.{looks_made}
 use Rattle.lane_run.proofs.TimerCalls.{start_reads, started_so}
 
 -- ---- receipts of entries
@@ -101,7 +99,7 @@ part_along IsSo label o clocks limit v w p t x es actions is made reads only lin
     let log = receipts_of t s.stamp (entries_along s es) in
     let along = enters_along IsSo o clocks limit v w t x es is made reads in (
       along.notes,
-      part_entered IsSo label v p w actions along.notes log along.enters only (along.are ∙ lines)
+      part_entered IsSo label v p w p actions along.notes log along.enters refl only (along.are ∙ lines)
           (along.are ∙ sym (receipts_of-noted label t s.stamp s es)) (receipts_of-no_looks label t s.stamp (entries_along s es)),
     )
 
@@ -126,15 +124,15 @@ pub record StartPart (IsSo : List ClockLine → Type 0) (label : Label) (o : Ope
 
 -- law: no start
 pub start_none : (IsSo : List ClockLine → Type 0) (label : Label) (o : Opening) (v w : KnownOfTimers) (p : ObjectsPass) (t : ℕ) (mode : Mode) (ns base : ℕ)
-    (reading : ClockReading) (log log' : List Receipt) → LooksOn v w → log' ≡ log
+    (reading : ClockReading) (log log' : List Receipt) → w ≡ v → log' ≡ log
     → StartPart IsSo label o v w p t mode ns base reading arms.NotAsked log log'
-start_none IsSo label o v w p t mode ns base reading log log' looks same = record {
+start_none IsSo label o v w p t mode ns base reading log log' alone same = record {
   start = [];
   notes = [];
   more = [];
   adds = same ∙ sym (append-nil log);
   arms = refl;
-  part = part_none IsSo label v p w looks.seen looks.mine;
+  part = part_none IsSo label v p w (begins_same v.seen w.seen (ap (λ k. k.seen) alone)) (ap (λ k. k.mine) alone);
   armed = tt;
 }
 

@@ -1,12 +1,12 @@
 -- The actions of an expiry run's callbacks, between what their pass knew after the claim and before the finish.
-use Rattle.std.proofs.Common.{◌≡◌, ◌≤◌, ◌<◌, ℕ, ◌+◌, inl, inr, Bool, true, false, not, ◌&&◌, is_some, nat_eq, if◌then◌else◌, ◌^◌, IsSome, None, Some, option_map, zero, suc, List, [], ◌∷◌, ◌++◌, length, map, arith, refl, sym, ap, ◌∙◌, subst}
+use Rattle.std.proofs.Common.{◌≡◌, ◌≤◌, ◌<◌, ℕ, inl, inr, Bool, true, false, not, ◌&&◌, is_some, nat_eq, if◌then◌else◌, ◌^◌, IsSome, None, Some, option_map, zero, suc, List, [], ◌∷◌, ◌++◌, length, map, arith, refl, sym, ap, ◌∙◌, subst}
 use Rattle.std.specs.List.{AllByRecursion}
 use Rattle.std.proofs.lemmas.Bool.{eqb-true}
 use Rattle.std.proofs.lemmas.List.{append-nil}
 use Rattle.ktime.specs.Readings.{ClockReading}
 use Rattle.ktime.specs.declared.clock_id.ClockId.{ClockId}
 use Rattle.ktime.specs.declared.mode.Mode.TheVariants as modes
-use Rattle.pass_names.specs.Passes.{Begins, GoesOn}
+use Rattle.pass_names.specs.Passes.{Begins}
 use Rattle.seq_timer.specs.Histories as seq
 use Rattle.seq_timer.specs.Histories.{Holds}
 use Rattle.seq_timer.specs.Steps.{after, Timer}
@@ -44,11 +44,10 @@ use Rattle.record_text.specs.declared.record.Entry.TheVariants as entries
 use Rattle.record_text.specs.declared.record.Entry.{Entry}
 use Rattle.record_text.specs.declared.record.Label.{Label}
 use Rattle.record_text.specs.declared.record.Restart as line_restart
-use Rattle.script_text.specs.Actions.{Action, also, Entered, Looked, looked, Made, made, numbers_of_object, Skipped, skipped, wrote, Wrote}
+use Rattle.script_text.specs.Actions.{Action, Entered, Looked, looked, Made, made, numbers_of_object, Skipped, skipped, wrote, Wrote}
 use Rattle.script_text.specs.Told.{IsBelowLimit, observed}
 use Rattle.script_text.specs.Histories.{reading_at}
 use Rattle.script_text.specs.Objects.{kind_of, present}
-use Rattle.script_text.specs.Order.{NeverFall}
 use Rattle.script_text.specs.Starts.{Arming, arming_actions}
 use Rattle.script_text.specs.declared.script.Callback.TheVariants as callbacks
 use Rattle.script_text.specs.declared.script.Callback.{Callback}
@@ -56,7 +55,6 @@ use Rattle.script_text.specs.declared.script.Kind.TheVariants as kinds
 use Rattle.script_text.specs.declared.script.Script.{Script}
 use Rattle.lane_notes.specs.Entries.{entry_notes, look_noted, look_notes}
 use Rattle.lane_notes.specs.declared.notes.LookNote.{LookNote}
-use Rattle.lane_notes.specs.Objects.{object_notes, skip_notes}
 use Rattle.run_history.specs.Calls.{IsBody, IsCallback}
 use Rattle.run_history.specs.Courses.{clocks_of, Course, Fired}
 use Rattle.run_history.specs.Promises as promises
@@ -67,11 +65,12 @@ use Rattle.run_history.specs.Truths.{IsClaimSpan, IsObjectPoint, Saw}
 use Rattle.run_history.proofs.Expires.{ReplyHolds}
 use Rattle.run_history.proofs.PassState.{saw_from, state_seen}
 use Rattle.run_history.proofs.Promise.{seen_first}
-use Rattle.lane_run.specs.Kept.{entry_in_note, FollowsObject, looks_on, made_on, skips_on}
+use Rattle.lane_run.specs.Kept.{entry_in_note, FollowsObject, looks_on}
 use Rattle.lane_run.specs.Worlds.{callback_of}
 use Rattle.lane_run.proofs.Entering.{begins_same, enters_along, enters_none, EntersNotes, stamp_counts}
-use Rattle.lane_run.proofs.Parts.{count_begins, IsNoteIn, object_place, RisesTo}
-use Rattle.lane_run.proofs.Quiet.{IsEntered, looks_made, no_other}
+use Rattle.lane_run.proofs.Parts.{count_begins, IsEntered, no_other, IsObjectsPart, objects_alone}
+use Rattle.lane_run.proofs.PartLists.{RisesTo, one_rises}
+use Rattle.lane_run.proofs.Quiet.{looks_made}
 
 -- ---- what callbacks do of timers
 
@@ -107,15 +106,7 @@ pub record ObjectBody (IsSo : List ClockLine → Type 0) (label : Label) (p q : 
     : Type 0 where
   pub log : List ObjectReceipt
   pub adds : after ≡ before ++ log
-  pub objects : (i : ℕ) → made_on i (object_notes label log) ≡ made i body
-  pub objects_rise : (i : ℕ) → RisesTo (length (seen_of p i) + 1) (map (λ n. n.0) (made i body)) (length (seen_of q i) + 1)
-  pub objects_seen : AllByRecursion (IsNoteIn IsSo p q) (object_notes label log)
-  pub skips : (i : ℕ) → skips_on i (skip_notes label log) ≡ skipped i body
-  pub skips_seen : AllByRecursion (λ n. (0 < n.number) × (n.number ≤ length (seen_of q n.object))) (skip_notes label log)
-  pub steps : (i : ℕ) → NeverFall (length (seen_of p i)) (numbers_of_object i body) (length (seen_of q i))
-  pub goes_on : GoesOn p.knows.pass.seen q.knows.pass.seen
-  pub opening : q.knows.opening ≡ p.knows.opening
-  pub mine : q.knows.pass.mine ≡ p.knows.pass.mine ++ map object_place (object_notes label log)
+  pub part : IsObjectsPart IsSo label p q body log
 
 -- a callback's work, with what it promises of every run that goes on from there
 pub record BodyKept (IsSo : List ClockLine → Type 0) (s : Script) (label : Label) (c : ClaimNumbers) (at : ℕ) (restart : Restart) (v w : KnownOfTimers)
@@ -137,21 +128,7 @@ pub objects_still : (IsSo : List ClockLine → Type 0) (label : Label) (p q : Ob
     → log' ≡ log → ((i : ℕ) → made i body ≡ []) → ((i : ℕ) → skipped i body ≡ []) → ((i : ℕ) → numbers_of_object i body ≡ [])
     → ObjectBody IsSo label p q log log' body
 objects_still IsSo label p q log log' body same logs none no_skip no_step =
-    let long : (i : ℕ) → length (seen_of q i) ≡ length (seen_of p i) = λ i. ap (λ o. length (seen_of o i)) same in
-    record {
-      log = [];
-      adds = logs ∙ sym (append-nil log);
-      objects = λ i. sym (none i);
-      objects_rise = λ i. subst (λ ns. RisesTo (length (seen_of p i) + 1) (map (λ n. n.0) ns) (length (seen_of q i) + 1)) (sym (none i))
-          (omega (arith, long i));
-      objects_seen = tt;
-      skips = λ i. sym (no_skip i);
-      skips_seen = tt;
-      steps = λ i. subst (λ ns. NeverFall (length (seen_of p i)) ns (length (seen_of q i))) (sym (no_step i)) (omega (arith, long i));
-      goes_on = record { each = λ i. begins_same (seen_of p i) (seen_of q i) (ap (λ o. seen_of o i) same) };
-      opening = ap (λ o. o.knows.opening) same;
-      mine = ap (λ o. o.knows.pass.mine) same ∙ sym (append-nil p.knows.pass.mine);
-    }
+    record { log = []; adds = logs ∙ sym (append-nil log); part = objects_alone IsSo label p q body same none no_skip no_step }
 
 -- law: timers left alone
 pub timers_still : (IsSo : List ClockLine → Type 0) (label : Label) (timer : ℕ) (v w : KnownOfTimers) (log log' : List Receipt) (body : List Action) → w ≡ v
@@ -188,12 +165,6 @@ timers_entered IsSo label timer v w log log' body r notes enters logs only are t
       looks_rise = λ t low high le its. subst (λ ns. RisesTo low (map (λ n. n.0) ns) high) (sym (none.looked t)) le;
       looks_seen = subst (AllByRecursion (λ n. (n.timer ≡ timer) × (count timer v.seen ≤ n.number) × (n.number ≤ count timer w.seen))) (sym no_look) tt;
     }
-
--- a number at most, between two others
-pub one_rises : {A : Type 0} (number : ℕ) (thing : A) (low high : ℕ) (b : Bool) → (b ≡ true → (low ≤ number) × (number < high)) → low ≤ high
-    → RisesTo low (map (λ (n : ℕ × A). n.0) (also b (number, thing) [])) high
-one_rises number thing low high true bounds le = let here = bounds refl in (here.0, omega (arith, here.1))
-one_rises number thing low high false bounds le = le
 
 -- law: a look at its timer
 pub timers_looked : (IsSo : List ClockLine → Type 0) (label : Label) (timer : ℕ) (v w : KnownOfTimers) (log log' : List Receipt) (number : ℕ) (event : Event)
@@ -316,26 +287,26 @@ module _ (IsSo : List ClockLine → Type 0) (s : Script) (o : Opening) (is : o �
         timers = timers_entered IsSo label c.timer v w log log' body r notes enters logs only are told no_look;
         objects = objects_still IsSo label p q object_log object_log' body same same_log none.made none.skipped none.numbers;
         kind = kind;
-        holds = λ e joined goes before points. no_reply (course_of s e) label before (length w.seen) body only;
-        span = λ e follows finish rearmed. no_span (course_of s e) (fired_of c body finish (asks restart) rearmed) body only;
+        holds = λ e joined goes before points. (none_else (course_of s e) body only).0 label before (length w.seen);
+        span = λ e follows finish rearmed. (none_else (course_of s e) body only).1 (fired_of c body finish (asks restart) rearmed);
       }
     where
-      no_reply : (x : Course) (d : Label) (before : List Action) (acted : ℕ) (ds : List Action) → AllByRecursion IsEntered ds
-          → ReplyHolds x d before acted ds
-      no_reply x d before acted [] all = tt
-      no_reply x d before acted (Entered timer number entry ∷ ds) all = tt
-      no_reply x d before acted (Wrote number write ∷ ds) all = absurd all.0
-      no_reply x d before acted (Looked timer number reply ∷ ds) all = absurd all.0
-      no_reply x d before acted (Made i number entry ∷ ds) all = absurd all.0
-      no_reply x d before acted (Skipped i number generation ∷ ds) all = absurd all.0
+      none_else : (x : Course) (ds : List Action) → AllByRecursion IsEntered ds
+          → ((d : Label) (before : List Action) (acted : ℕ) → ReplyHolds x d before acted ds) × ((f : Fired) → IsClaimSpan x f ds)
+      none_else x [] all = (λ d before acted. tt, λ f. tt)
+      none_else x (Entered timer number entry ∷ ds) all = (λ d before acted. tt, λ f. tt)
+      none_else x (Wrote number write ∷ ds) all = absurd all.0
+      none_else x (Looked timer number reply ∷ ds) all = absurd all.0
+      none_else x (Made i number entry ∷ ds) all = absurd all.0
+      none_else x (Skipped i number generation ∷ ds) all = absurd all.0
 
-      no_span : (x : Course) (f : Fired) (ds : List Action) → AllByRecursion IsEntered ds → IsClaimSpan x f ds
-      no_span x f [] all = tt
-      no_span x f (Entered timer number entry ∷ ds) all = tt
-      no_span x f (Wrote number write ∷ ds) all = absurd all.0
-      no_span x f (Looked timer number reply ∷ ds) all = absurd all.0
-      no_span x f (Made i number entry ∷ ds) all = absurd all.0
-      no_span x f (Skipped i number generation ∷ ds) all = absurd all.0
+  -- a callback's actions are those of its timer's callback, with what it asked for
+  is_asked : (callback : Callback) (restart : Restart) (b : Bool) → kind_of s c.timer ≡ kinds.Raw callback → asks restart ≡ b → (body : List Action)
+      (finish : ℕ) (rearmed : line_restart.Restart) → IsCallback callback reading.stamp (fired_of c body finish b rearmed)
+      → IsBody (kind_of s c.timer) reading.stamp (fired_of c body finish (asks restart) rearmed)
+  is_asked callback restart b kind asked body finish rearmed it =
+      subst (λ k. IsBody k reading.stamp (fired_of c body finish (asks restart) rearmed)) (sym kind)
+      (subst (λ a. IsCallback callback reading.stamp (fired_of c body finish a rearmed)) (sym asked) it)
 
   -- law: the actions of the callback of a timer by itself, as its timer declares it
   pub callback_kept : (callback : Callback) (restart : Restart) → kind_of s c.timer ≡ kinds.Raw callback
@@ -352,23 +323,18 @@ module _ (IsSo : List ClockLine → Type 0) (s : Script) (o : Opening) (is : o �
       }
   callback_kept (callbacks.Every interval) restart kind run = forwards_kept run.0.answer run.0.forwards run.0.receipt
     where
-      is_every : (body : List Action) (finish : ℕ) (rearmed : line_restart.Restart)
-          → IsCallback (callbacks.Every interval) reading.stamp (fired_of c body finish true rearmed)
-          → IsBody (kind_of s c.timer) reading.stamp (fired_of c body finish (asks restart) rearmed)
-      is_every body finish rearmed it =
-          subst (λ k. IsBody k reading.stamp (fired_of c body finish (asks restart) rearmed)) (sym kind)
-          (subst (λ b. IsCallback (callbacks.Every interval) reading.stamp (fired_of c body finish b rearmed)) (sym (ap asks run.1)) it)
-
       forwards_kept : (answer : ForwardAnswer) → Forwards o v w c reading interval answer → log' ≡ log ++ forward_receipt c reading interval answer ∷ []
           → BodyKept IsSo s label c reading.stamp restart v w p q log log' object_log object_log'
       forwards_kept (forwards.Spent n) f logs =
           looked_kept restart f.at n (events.Forward reading interval) observations.Spent replies.Spent f.made refl refl logs f.fits.1 f.fits.0 tt
-          (λ finish rearmed. is_every (Looked c.timer n replies.Spent ∷ []) finish rearmed (inr (inr (n, refl)), refl))
+          (λ finish rearmed. is_asked (callbacks.Every interval) restart true kind (ap asks run.1) (Looked c.timer n replies.Spent ∷ []) finish rearmed
+          (inr (inr (n, refl)), refl))
       forwards_kept (forwards.Armed g n) f logs =
           looked_kept restart f.at n (events.Forward reading interval) (observations.Armed g) (replies.Armed g) f.made refl refl logs f.fits.2
           (subst IsSome (sym f.runs) refl, f.fits.1)
           (let most = limit_within s o f.at c.timer on some in omega (arith, f.fits.0, f.fits.2, most))
-          (λ finish rearmed. is_every (Looked c.timer n (replies.Armed g) ∷ []) finish rearmed (inr (inl (n, g, refl)), refl))
+          (λ finish rearmed. is_asked (callbacks.Every interval) restart true kind (ap asks run.1) (Looked c.timer n (replies.Armed g) ∷ []) finish rearmed
+          (inr (inl (n, g, refl)), refl))
       forwards_kept (forwards.Forwarded number passed_by expires) f logs =
           let u = timer_then o f.at c.timer in
           let along = enters_along IsSo o (clocks_of s) s.limit v w c.timer f.at (events.Forward reading interval ∷ []) on f.made
@@ -376,7 +342,8 @@ module _ (IsSo : List ClockLine → Type 0) (s : Script) (o : Opening) (is : o �
           let are = along.are ∙ ap (forward_in_receipt c.timer reading.stamp interval) (sym f.fits.2) in
           entered_kept restart (Entered c.timer number (entries.Forward reading.stamp interval passed_by expires) ∷ [])
           (forward_receipt c reading interval (forwards.Forwarded number passed_by expires)) along.notes along.enters logs (tt, tt) are are refl
-          (λ finish rearmed. is_every (Entered c.timer number (entries.Forward reading.stamp interval passed_by expires) ∷ []) finish rearmed
+          (λ finish rearmed. is_asked (callbacks.Every interval) restart true kind (ap asks run.1)
+          (Entered c.timer number (entries.Forward reading.stamp interval passed_by expires) ∷ []) finish rearmed
           (inl (number, passed_by, expires, refl), refl))
   callback_kept callbacks.Cancels restart kind run =
       looked_kept restart run.0.cancels.at run.0.stamp events.Cancel (observations.Running c.generation) (replies.Running c.generation) run.0.cancels.made refl
@@ -386,19 +353,13 @@ module _ (IsSo : List ClockLine → Type 0) (s : Script) (o : Opening) (is : o �
       ((run.0.stamp, refl), ap asks run.1))
   callback_kept (callbacks.Starts ns asked) restart kind run = begins_kept run.0.answer run.0.starts run.0.runs run.0.receipt
     where
-      is_starts : (body : List Action) (finish : ℕ) (rearmed : line_restart.Restart)
-          → IsCallback (callbacks.Starts ns asked) reading.stamp (fired_of c body finish true rearmed)
-          → IsBody (kind_of s c.timer) reading.stamp (fired_of c body finish (asks restart) rearmed)
-      is_starts body finish rearmed it =
-          subst (λ k. IsBody k reading.stamp (fired_of c body finish (asks restart) rearmed)) (sym kind)
-          (subst (λ b. IsCallback (callbacks.Starts ns asked) reading.stamp (fired_of c body finish b rearmed)) (sym (ap asks run.1)) it)
-
       begins_kept : (answer : StartAnswer) → (f : StartsTimer o v w c.timer modes.Rel ns asked reading answer)
           → (timer_then o f.at c.timer).running ≡ Some c.generation → log' ≡ log ++ start_receipt c reading ns asked answer ∷ []
           → BodyKept IsSo s label c reading.stamp restart v w p q log log' object_log object_log'
       begins_kept (starts.Spent n) f runs logs =
           looked_kept restart f.at n (events.Start modes.Rel ns reading asked) observations.Spent replies.Spent f.made refl refl logs f.fits.2 f.fits.1 tt
-          (λ finish rearmed. is_starts (Looked c.timer n replies.Spent ∷ []) finish rearmed (inr (n, refl), refl))
+          (λ finish rearmed. is_asked (callbacks.Starts ns asked) restart true kind (ap asks run.1) (Looked c.timer n replies.Spent ∷ []) finish rearmed
+          (inr (n, refl), refl))
       begins_kept (starts.Started was generation base outs clock expires) f runs logs =
           let u = timer_then o f.at c.timer in
           let stays : moves_first u asked ≡ false = ap (λ r. not (is_some r) && not (nat_eq u.base asked)) runs in
@@ -417,4 +378,5 @@ module _ (IsSo : List ClockLine → Type 0) (s : Script) (o : Opening) (is : o �
           let are = along.are ∙ ap (start_in_receipt c.timer reading.stamp ns asked) (sym fits) in
           entered_kept restart (arming_actions c.timer modes.Rel ns reading.stamp asked arming)
           (start_receipt c reading ns asked (starts.Started was generation base outs clock expires)) along.notes along.enters logs (tt, tt) are are refl
-          (λ finish rearmed. is_starts (arming_actions c.timer modes.Rel ns reading.stamp asked arming) finish rearmed (inl (arming, refl), refl))
+          (λ finish rearmed. is_asked (callbacks.Starts ns asked) restart true kind (ap asks run.1)
+          (arming_actions c.timer modes.Rel ns reading.stamp asked arming) finish rearmed (inl (arming, refl), refl))

@@ -56,28 +56,26 @@ notes_of label log object_log = record {
   writes = [];
 }
 
+-- notes are the same where each list of them is
+pub notes_same : (a b : NotesOf) → a.entries ≡ b.entries → a.looks ≡ b.looks → a.objects ≡ b.objects → a.skips ≡ b.skips → a.writes ≡ b.writes → a ≡ b
+notes_same a b entries looks objects skips writes =
+    ap (λ es. record { entries = es; looks = a.looks; objects = a.objects; skips = a.skips; writes = a.writes }) entries
+    ∙ ap (λ ls. record { entries = b.entries; looks = ls; objects = a.objects; skips = a.skips; writes = a.writes }) looks
+    ∙ ap (λ os. record { entries = b.entries; looks = b.looks; objects = os; skips = a.skips; writes = a.writes }) objects
+    ∙ ap (λ ks. record { entries = b.entries; looks = b.looks; objects = b.objects; skips = ks; writes = a.writes }) skips
+    ∙ ap (λ ws. record { entries = b.entries; looks = b.looks; objects = b.objects; skips = b.skips; writes = ws }) writes
+
 -- law: a lane adds them behind its own
 pub with_done-joins : (notes : NotesOf) (label : Label) (log : List Receipt) (object_log : List ObjectReceipt)
     → with_done notes label log object_log ≡ both_noted notes (notes_of label log object_log)
 with_done-joins notes label log object_log =
-    ap (λ ws. record {
-      entries = notes.entries ++ entry_notes label log;
-      looks = notes.looks ++ look_notes label log;
-      objects = notes.objects ++ object_notes label object_log;
-      skips = notes.skips ++ skip_notes label object_log;
-      writes = ws;
-    }) (sym (append-nil notes.writes))
+    notes_same (with_done notes label log object_log) (both_noted notes (notes_of label log object_log)) refl refl refl refl (sym (append-nil notes.writes))
 
 -- law: no receipts, no notes
 pub no_notes-joins : (notes : NotesOf) → notes ≡ both_noted notes no_notes
 no_notes-joins notes =
-    ap (λ es. record notes { entries = es }) (sym (append-nil notes.entries))
-    ∙ ap (λ ls. record notes { entries = notes.entries ++ []; looks = ls }) (sym (append-nil notes.looks))
-    ∙ ap (λ os. record notes { entries = notes.entries ++ []; looks = notes.looks ++ []; objects = os }) (sym (append-nil notes.objects))
-    ∙ ap (λ ks. record notes { entries = notes.entries ++ []; looks = notes.looks ++ []; objects = notes.objects ++ []; skips = ks })
-    (sym (append-nil notes.skips))
-    ∙ ap (λ ws. record { entries = notes.entries ++ []; looks = notes.looks ++ []; objects = notes.objects ++ []; skips = notes.skips ++ []; writes = ws })
-    (sym (append-nil notes.writes))
+    notes_same notes (both_noted notes no_notes) (sym (append-nil notes.entries)) (sym (append-nil notes.looks)) (sym (append-nil notes.objects))
+    (sym (append-nil notes.skips)) (sym (append-nil notes.writes))
 
 -- what is made of items that are there has what each that is made has
 present_all : {X Y Z : Type 0} (P : Z → Type 0) (make : X → Y → Z) (found : X → Option Y) (xs : List X) → ((x : X) (y : Y) → P (make x y))

@@ -26,8 +26,7 @@ use Rattle.record_text.specs.declared.record.Label.{Label}
 use Rattle.script_text.specs.ObjectCalls.{cancels}
 use Rattle.run_history.specs.Receipts.{Noted, receipt}
 use Rattle.lane_run.proofs.Entering.{begins_same, enters_along}
-use Rattle.lane_run.proofs.Parts.{IsPart, part_none}
-use Rattle.lane_run.proofs.SmallParts.{part_entered}
+use Rattle.lane_run.proofs.Parts.{IsPart, part_none, part_entered}
 
 -- a pass as it stood at a moment of a call
 abbrev pub moment : KnownOfTimers → List TimerEntry → KnownOfTimers
@@ -82,8 +81,8 @@ module _ (IsSo : List ClockLine → Type 0) (label : Label) (o : Opening) (clock
         notes = along.notes;
         more = receipts_of timer from (cancel_entries (cancelled.Cancelled g n));
         adds = adds;
-        part = part_entered IsSo label (moment v c.at) p w (cancels timer (Some (from + 1, g))) along.notes
-            (receipts_of timer from (cancel_entries (cancelled.Cancelled g n))) along.enters (tt, tt) are are refl;
+        part = part_entered IsSo label (moment v c.at) p w p (cancels timer (Some (from + 1, g))) along.notes
+            (receipts_of timer from (cancel_entries (cancelled.Cancelled g n))) along.enters refl (tt, tt) are are refl;
         idle = tt;
       }
 

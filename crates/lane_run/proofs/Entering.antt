@@ -28,6 +28,7 @@ use Rattle.script_text.specs.Histories.{entry_shown, reading_at, rearmed_as}
 use Rattle.lane_notes.specs.Entries.{restart_noted}
 use Rattle.run_history.specs.Receipts.{count, Noted, receipt, ShowsEntry}
 use Rattle.run_history.proofs.Known.{adds_made, AreEntries, AreMade, AreShown, made-append, made_goes_on, made_wider, none_made, numbered, shows_made}
+use Rattle.record_text.proofs.Lists.{All-append}
 
 -- ---- the record's entries of events
 
@@ -120,10 +121,6 @@ begins_same xs ys same = record { rest = []; whole = same ∙ sym (append-nil xs
 pub begins_length : {A : Type 0} (xs ys : List A) → Begins xs ys → length xs ≤ length ys
 begins_length xs ys begins = omega (arith, ap length begins.whole, length-append xs begins.rest)
 
-all_append : {A : Type 0} (P : A → Type 0) (xs ys : List A) → AllByRecursion P xs → AllByRecursion P ys → AllByRecursion P (xs ++ ys)
-all_append P [] ys one two = two
-all_append P (x ∷ xs) ys one two = (one.0, all_append P xs ys one.1 two)
-
 -- law: receipts of two parts of a call are those of both
 pub enters-append : (IsSo : List ClockLine → Type 0) (u v w : KnownOfTimers) (xs ys : List Noted) → EntersNotes IsSo u v xs → EntersNotes IsSo v w ys
     → EntersNotes IsSo u w (xs ++ ys)
@@ -134,7 +131,7 @@ enters-append IsSo u v w xs ys one two = record {
       (begins_length u.seen v.seen one.seen) (begins_length v.seen w.seen two.seen);
   mine = two.mine ∙ ap (λ ps. ps ++ map place_of ys) one.mine ∙ append_assoc u.mine (map place_of xs) (map place_of ys)
       ∙ ap (λ ps. u.mine ++ ps) (sym (map-append place_of xs ys));
-  shows = λ r order later is so. all_append (ShowsEntry r order) xs ys
+  shows = λ r order later is so. All-append (ShowsEntry r order) xs ys
       (one.shows r order (two.seen.rest ++ later) (is ∙ ap (λ zs. zs ++ later) two.seen.whole ∙ append_assoc v.seen two.seen.rest later) so)
       (two.shows r order later is so);
 }

@@ -109,9 +109,10 @@ keeps_run {s = s} {l = l} {m = m} {base = base} {budget = budget} next a reading
     let part = part_looked IsSo label p.timers.known p.objects w q.objects q.timers.known actions run.notes (log ++ callback_log) object_log run.part seen
     mine in
     let clock = reads_begins p q reads.looks.seen in
-    let logged = logged_from p q run.notes t call a (sees_part p q part clock) refl part.enters.made part.are reads.count part.no_write
+    let logged = logged_from p q run.notes t call a (sees_part p q part clock) refl part.timers.enters.made part.timers.are reads.count
+    part.timers.no_write
     (λ i. subst (λ ns. NeverFall (length (seen_of p.objects i)) ns (length (seen_of q.objects i))) (sym (append-nil (numbers_of_object i actions)))
-    (part.steps i)) in
+    (part.objects.steps i)) in
     keeps_part next m a IsSo (log ++ callback_log) object_log run.notes t part (reading_goes_on p q reading reads) clock reads.looks.mine notes logged
     (λ e follows joined has kept low.
     let is : IsLabel s label = slice_get_within (calls_of s label.lane) label.call next.at next.there in

@@ -32,7 +32,7 @@ use Rattle.lane_run.specs.Worlds.{WorldOf}
 use Rattle.lane_run.specs.declared.world.WorldPass.{WorldPass}
 use Rattle.lane_run.proofs.LastSeen.{entries_once, has_receipt, HasReceipt, is_told, note_within}
 use Rattle.lane_run.proofs.Numbered.{as_many, rise_behind}
-use Rattle.lane_run.proofs.Parts.{rises_lower}
+use Rattle.lane_run.proofs.PartLists.{rises_lower}
 
 -- ---- one entry, one receipt
 

@@ -1,5 +1,5 @@
 -- The callbacks of an expiry run, one behind the other.
-use Rattle.std.proofs.Common.{◌≡◌, ◌≤◌, ◌<◌, ℕ, ◌+◌, true, false, zero, suc, List, [], ◌∷◌, ◌++◌, length, length-append, map, arith, refl, sym, ap, ◌∙◌, subst}
+use Rattle.std.proofs.Common.{◌≡◌, ◌≤◌, ◌<◌, ℕ, ◌+◌, zero, suc, List, [], ◌∷◌, ◌++◌, length, length-append, map, arith, refl, sym, ap, ◌∙◌, subst}
 use Rattle.std.specs.List.{AllByRecursion}
 use Rattle.std.specs.List.Sorted.{IsPermutation}
 use Rattle.std.specs.Prelude.{flat_map}
@@ -15,7 +15,7 @@ use Rattle.timer_objects.specs.Known.{ObjectsPass, seen_of}
 use Rattle.timer_objects.specs.declared.log.ObjectReceipt.{ObjectReceipt}
 use Rattle.record_text.specs.declared.record.ClockLine.{ClockLine}
 use Rattle.record_text.specs.declared.record.Label.{Label}
-use Rattle.script_text.specs.Actions.{Action, also, Entered, made}
+use Rattle.script_text.specs.Actions.{Action, Entered, made}
 use Rattle.script_text.specs.Histories.{reading_at}
 use Rattle.script_text.specs.declared.script.Script.{Script}
 use Rattle.lane_notes.specs.Entries.{entry_notes, look_notes}
@@ -32,7 +32,8 @@ use Rattle.lane_run.specs.Kept.{FollowsObject}
 use Rattle.lane_run.specs.Worlds.{IsWorldOf, WorldOf}
 use Rattle.lane_run.proofs.Entering.{begins_length, begins_same, begins_trans}
 use Rattle.lane_run.proofs.FiredOnce.{goes_before, turn_kept, TurnKept}
-use Rattle.lane_run.proofs.Parts.{each_both, entry_notes-append, IsPart, look_notes-append, part-append, part_none, RisesTo}
+use Rattle.lane_run.proofs.Parts.{IsPart, part-append, part_none}
+use Rattle.lane_run.proofs.PartLists.{entry_notes-append, look_notes-append, RisesTo, also-append, each_weaker, each_joined}
 
 -- ---- lists
 
@@ -42,11 +43,7 @@ flat_map-append f (x ∷ xs) ys = ap (λ zs. f x ++ zs) (flat_map-append f xs ys
 
 claimed_in-append : (xs ys : List Receipt) → claimed_in (xs ++ ys) ≡ claimed_in xs ++ claimed_in ys
 claimed_in-append [] ys = refl
-claimed_in-append (r ∷ xs) ys =
-    elim (is_claim r.event) as (λ b. also b r.timer (claimed_in (xs ++ ys)) ≡ also b r.timer (claimed_in xs) ++ claimed_in ys) [
-      | true ↦ ap (λ ts. r.timer ∷ ts) (claimed_in-append xs ys)
-      | false ↦ claimed_in-append xs ys
-    ]
+claimed_in-append (r ∷ xs) ys = also-append (is_claim r.event) r.timer _ _ _ (claimed_in-append xs ys)
 
 -- the middle two of four parts change places
 middle_swapped : {A : Type 0} (a b c d : List A) → IsPermutation ((a ++ b) ++ (c ++ d)) ((a ++ c) ++ (b ++ d))
@@ -58,13 +55,10 @@ middle_swapped a b c d =
     (subst (IsPermutation ((b ++ c) ++ d)) (append_assoc c b d)
     (IsPermutation-append_left d (b ++ c) (c ++ b) (IsPermutation-append_comm b c))))))
 
-lower_all : {A : Type 0} (low high : ℕ) (xs : List (ℕ × A)) → low ≤ high → AllByRecursion (λ n. high ≤ n.0) xs → AllByRecursion (λ n. low ≤ n.0) xs
-lower_all low high [] le all = tt
-lower_all low high (x ∷ xs) le all = (omega (arith, le, all.0), lower_all low high xs le all.1)
-
 rises_low : {A : Type 0} (low : ℕ) (xs : List (ℕ × A)) (high : ℕ) → RisesTo low (map (λ n. n.0) xs) high → AllByRecursion (λ n. low ≤ n.0) xs
 rises_low low [] high rises = tt
-rises_low low (x ∷ xs) high rises = (rises.0, lower_all low (x.0 + 1) xs (omega (arith, rises.0)) (rises_low (x.0 + 1) xs high rises.1))
+rises_low low (x ∷ xs) high rises =
+    (rises.0, each_weaker (λ n. x.0 + 1 ≤ n.0) (λ n. low ≤ n.0) xs (λ n le. omega (arith, rises.0, le)) (rises_low (x.0 + 1) xs high rises.1))
 
 rises_above : {A : Type 0} (low : ℕ) (xs : List (ℕ × A)) (high : ℕ) → RisesTo low (map (λ n. n.0) xs) high → low ≤ high
 rises_above low [] high rises = rises
@@ -74,10 +68,6 @@ rises_below : {A : Type 0} (low : ℕ) (xs : List (ℕ × A)) (high : ℕ) → R
 rises_below low [] high rises = tt
 rises_below low (x ∷ xs) high rises =
     let more = rises_above (x.0 + 1) xs high rises.1 in (omega (arith, more), rises_below (x.0 + 1) xs high rises.1)
-
-all_to : {A : Type 0} (P Q : A → Type 0) (xs : List A) → ((x : A) → P x → Q x) → AllByRecursion P xs → AllByRecursion Q xs
-all_to P Q [] to all = tt
-all_to P Q (x ∷ xs) to all = (to x all.0, all_to P Q xs to all.1)
 
 -- ---- the callbacks so far
 
@@ -174,27 +164,27 @@ module _ (IsSo : List ClockLine → Type 0) (s : Script) (label : Label) (base a
             let whole : flat_map (fires base at) (run.fired ++ f ∷ []) ++ later ≡ done ++ (one ++ later) =
             ap (λ ds. ds ++ later) all ∙ append_assoc done one later in
             let grows : (i : ℕ) → length (seen_of p1 i) ≤ length (seen_of p' i) =
-            λ i. begins_length (seen_of p1 i) (seen_of p' i) (turn.part.goes_on.each i) in
+            λ i. begins_length (seen_of p1 i) (seen_of p' i) (turn.part.objects.goes_on.each i) in
             let earlier : HasPoints s e label p p1 (done ++ (one ++ later)) =
             λ i m before rest parts low high below above.
             points i m before rest (whole ∙ parts) low (let le = grows i in omega (arith, high, le)) below above in
-            let before_run = run.have e joined (goes_before k1.seen k'.seen e turn.part.enters.seen goes) (follows_before p1 p' e turn.part.goes_on follows)
+            let before_run = run.have e joined (goes_before k1.seen k'.seen e turn.part.timers.enters.seen goes)
+            (follows_before p1 p' e turn.part.objects.goes_on follows)
             (one ++ later)
             (λ i. subst (AllByRecursion (λ x. length (seen_of p1 i) < x.0)) (sym (made-append i one later))
-            (each_both (λ x. length (seen_of p1 i) + 1 ≤ x.0) (λ x. length (seen_of p1 i) < x.0) (made i one) (made i later)
-            (λ x le. omega (arith, le))
-            (rises_low (length (seen_of p1 i) + 1) (made i one) (length (seen_of p' i) + 1) (turn.part.objects_rise i))
-            (all_to (λ x. length (seen_of p' i) < x.0) (λ x. length (seen_of p1 i) < x.0) (made i later)
-            (λ x less. let le = grows i in omega (arith, less, le)) (behind i)))) earlier in
+            (each_joined (λ x. length (seen_of p1 i) + 1 ≤ x.0) (λ x. length (seen_of p' i) < x.0) (λ x. length (seen_of p1 i) < x.0) (made i one)
+            (made i later) (λ x le. omega (arith, le)) (λ x less. let le = grows i in omega (arith, less, le))
+            (rises_low (length (seen_of p1 i) + 1) (made i one) (length (seen_of p' i) + 1) (turn.part.objects.rise i)) (behind i))) earlier in
             let one_run = turn.ran e joined goes follows done
             (λ i none. points i (length (seen_of p' i)) (with_claim base at f done) ((f.body ++ finishing) ++ later)
             (whole ∙ sym (append_assoc done (Entered f.timer f.claim (claim_of base at f) ∷ []) ((f.body ++ finishing) ++ later)))
-            (let le = grows i in let first = begins_length (seen_of p i) (seen_of p1 i) (run.part.goes_on.each i) in omega (arith, le, first)) (omega arith)
+            (let le = grows i in let first = begins_length (seen_of p i) (seen_of p1 i) (run.part.objects.goes_on.each i) in omega (arith, le, first))
+            (omega arith)
             (subst (AllByRecursion (λ x. x.0 ≤ length (seen_of p' i)))
             (sym (made-append i done (Entered f.timer f.claim (claim_of base at f) ∷ []) ∙ append-nil (made i done)))
-            (all_to (λ x. x.0 < length (seen_of p1 i) + 1) (λ x. x.0 ≤ length (seen_of p' i)) (made i done)
+            (each_weaker (λ x. x.0 < length (seen_of p1 i) + 1) (λ x. x.0 ≤ length (seen_of p' i)) (made i done)
             (λ x less. let le = grows i in omega (arith, less, le))
-            (rises_below (length (seen_of p i) + 1) (made i done) (length (seen_of p1 i) + 1) (run.part.objects_rise i))))
+            (rises_below (length (seen_of p i) + 1) (made i done) (length (seen_of p1 i) + 1) (run.part.objects.rise i))))
             (subst (AllByRecursion (λ x. length (seen_of p' i) < x.0))
             (sym (made-append i (f.body ++ finishing) later
             ∙ ap (λ xs. xs ++ made i later) (made-append i f.body finishing ∙ append-nil (made i f.body) ∙ none i)))

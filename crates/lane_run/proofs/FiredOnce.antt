@@ -1,11 +1,10 @@
 -- One callback of an expiry run, with its claim and its finish.
-use Rattle.std.proofs.Common.{◌≡◌, ◌≤◌, ◌<◌, ℕ, ◌+◌, Bool, unwrap_or, zero, suc, List, [], ◌∷◌, ◌++◌, length, length-append, map, get_or, arith, refl, sym, ap, ◌∙◌, subst}
+use Rattle.std.proofs.Common.{◌≡◌, ◌≤◌, ◌<◌, ℕ, ◌+◌, Bool, unwrap_or, List, [], ◌∷◌, ◌++◌, length, length-append, map, get_or, arith, refl, sym, ap, ◌∙◌, subst}
 use Rattle.std.specs.List.{AllByRecursion}
 use Rattle.std.specs.List.Sorted.{IsPermutation}
 use Rattle.std.proofs.lemmas.List.{append_assoc, append-nil, map-append}
 use Rattle.std.proofs.lemmas.List.Sorted.{IsPermutation-cons, IsPermutation-to_front}
 use Rattle.ktime.specs.Readings.{ClockReading}
-use Rattle.ktime.specs.declared.clock_id.ClockId.TheVariants as clocks
 use Rattle.pass_names.specs.Passes.{Begins}
 use Rattle.seq_timer.specs.Steps.{rearmed_by, reply_to}
 use Rattle.seq_timer.specs.Systems.{entries_of}
@@ -27,9 +26,6 @@ use Rattle.timer_objects.specs.Known.{decl_at, ObjectsPass, seen_of}
 use Rattle.timer_objects.specs.Triggers.{trigger_of}
 use Rattle.timer_objects.specs.declared.callback.Callback.TheVariants as runs
 use Rattle.timer_objects.specs.declared.log.ObjectReceipt.{ObjectReceipt}
-use Rattle.timer_objects.specs.declared.object.Decl.{Decl}
-use Rattle.timer_objects.specs.declared.object.Kind as object_kind
-use Rattle.timer_objects.specs.declared.object.Kind.TheVariants as over
 use Rattle.timer_objects.specs.declared.object.ObjectCall.TheVariants as of_kind
 use Rattle.posix_timer.specs.declared.calls.Call.TheVariants as posix_calls
 use Rattle.timer_fd.specs.declared.calls.Call.TheVariants as fd_calls
@@ -37,12 +33,9 @@ use Rattle.record_text.specs.declared.record.ClockLine.{ClockLine}
 use Rattle.record_text.specs.declared.record.Entry.TheVariants as entries
 use Rattle.record_text.specs.declared.record.Entry.{Entry}
 use Rattle.record_text.specs.declared.record.Label.{Label}
-use Rattle.script_text.specs.Actions.{Action, Entered, looked, made, numbers_of_object, skipped}
+use Rattle.script_text.specs.Actions.{Action, Entered, looked, made}
 use Rattle.script_text.specs.Histories.{reading_at}
 use Rattle.script_text.specs.Objects.{kind_of}
-use Rattle.script_text.specs.Order.{NeverFall}
-use Rattle.script_text.specs.declared.script.Callback.TheVariants as callbacks
-use Rattle.script_text.specs.declared.script.Declaration.{Declaration}
 use Rattle.script_text.specs.declared.script.Kind.TheVariants as kinds
 use Rattle.script_text.specs.declared.script.Kind.{Kind}
 use Rattle.script_text.specs.declared.script.Script.{Script}
@@ -53,38 +46,19 @@ use Rattle.run_history.specs.Promises as promises
 use Rattle.run_history.specs.Receipts.{count, Noted, receipt}
 use Rattle.run_history.specs.Runs.{course_of, Ending, IsJoined}
 use Rattle.run_history.specs.Truths.{IsObjectPoint}
-use Rattle.run_history.proofs.Actions.{all_entered-append, made-append}
+use Rattle.run_history.proofs.Actions.{all_entered-append}
 use Rattle.run_history.proofs.Expires as expires
 use Rattle.run_history.proofs.Expires.{claim_of, finish_of, with_claim}
 use Rattle.run_history.proofs.Known.{made_goes_on}
 use Rattle.lane_run.specs.Called.{claimed_in}
 use Rattle.lane_run.specs.Kept.{entry_in_note, FollowsObject}
-use Rattle.lane_run.specs.Worlds.{callback_of, decl_as, decl_of, IsWorldOf, WorldOf}
+use Rattle.lane_run.specs.Worlds.{callback_of, IsWorldOf, WorldOf}
+use Rattle.lane_run.proofs.Declared.{declared_callback, declared_over, over_of}
 use Rattle.lane_run.proofs.Bodies.{BodyKept, callback_kept, fired_of}
 use Rattle.lane_run.proofs.Entering.{begins_length, begins_trans, enters-append, enters_along, EntersNotes}
-use Rattle.lane_run.proofs.Parts.{count_begins, IsPart, looked-append, numbers-append, RisesTo, skipped-append, wrote-append}
+use Rattle.lane_run.proofs.Parts.{count_begins, IsObjectsPart, IsPart, objects-append, objects_alone}
+use Rattle.lane_run.proofs.PartLists.{each_weaker, looked-append, RisesTo, wrote-append}
 use Rattle.lane_run.proofs.Triggered.{fd_noted, posix_noted, trigger_kept}
-
--- ---- what stands over a timer
-
--- the kind of object over a timer of this kind
-abbrev pub over_of : Kind → object_kind.Kind
-over_of (kinds.Raw callback) = over.Raw
-over_of (kinds.Posix base) = over.Posix
-over_of (kinds.Fd base) = over.Fd
-
--- law: the objects and callbacks of a script's timers are as these are declared
-pub declared_as : (ds : List Declaration) (t : ℕ) (d : Decl) → d.kind ≡ over.Raw
-    → ((get_or (map decl_of ds) t d).kind ≡ over_of (get_or (map (λ d. d.kind) ds) t (kinds.Raw callbacks.Once)))
-    × (get_or (map (λ d. callback_of d.kind) ds) t runs.Once ≡ callback_of (get_or (map (λ d. d.kind) ds) t (kinds.Raw callbacks.Once)))
-declared_as [] t d raw = (raw, refl)
-declared_as (x ∷ ds) zero d raw = (of_kind_is x.kind, refl)
-  where
-    of_kind_is : (k : Kind) → (decl_as k x.clock).kind ≡ over_of k
-    of_kind_is (kinds.Raw callback) = refl
-    of_kind_is (kinds.Posix base) = refl
-    of_kind_is (kinds.Fd base) = refl
-declared_as (x ∷ ds) (suc t) d raw = declared_as ds t d raw
 
 -- ---- one callback
 
@@ -121,10 +95,8 @@ goes_before xs ys e begins on =
 looks_to : (low high : ℕ) (w : KnownOfTimers) (ns : List LookNote) (timer : ℕ) → 0 < low → high ≤ count timer w.seen
     → AllByRecursion (λ n. (n.timer ≡ timer) × (low ≤ n.number) × (n.number ≤ high)) ns
     → AllByRecursion (λ n. (0 < n.number) × (n.number ≤ count n.timer w.seen)) ns
-looks_to low high w [] timer some le are = tt
-looks_to low high w (n ∷ ns) timer some le are =
-    let its : high ≤ count n.timer w.seen = subst (λ t. high ≤ count t w.seen) (sym are.0.0) le in
-    ((omega (arith, some, are.0.1), omega (arith, its, are.0.2)), looks_to low high w ns timer some le are.1)
+looks_to low high w ns timer some le are = each_weaker _ (λ n. (0 < n.number) × (n.number ≤ count n.timer w.seen)) ns (λ n is.
+    let its : high ≤ count n.timer w.seen = subst (λ t. high ≤ count t w.seen) (sym is.0) le in (omega (arith, some, is.1), omega (arith, its, is.2))) are
 
 module _ (IsSo : List ClockLine → Type 0) (s : Script) (x : WorldOf) (is : IsWorldOf s x) (some : 1 ≤ s.limit) (label : Label) (base : ℕ)
     (reading : ClockReading) (so : (clock : List ClockLine) → IsSo clock → reading_at clock reading.stamp ≡ reading) where
@@ -138,16 +110,9 @@ module _ (IsSo : List ClockLine → Type 0) (s : Script) (x : WorldOf) (is : IsW
       h'.object_log.receipts
   fires_kept h h' v w c restart objects handlers numbered fires = by_kind (kind_of s c.timer) refl
     where
-      declared : ((decl_at x.objects c.timer).kind ≡ over_of (kind_of s c.timer)) × (get_or x.callbacks c.timer runs.Once ≡ callback_of (kind_of s c.timer))
-      declared =
-          let all = declared_as s.timers c.timer (record { kind = over.Raw; clock = clocks.Monotonic; base = 0 }) refl in (
-            ap (λ (ds : List Decl). (get_or ds c.timer (record { kind = over.Raw; clock = clocks.Monotonic; base = 0 })).kind) is.decls ∙ all.0,
-            ap (λ cs. get_or cs c.timer runs.Once) is.callbacks ∙ all.1,
-          )
-
       by_over : (k : Kind) → kind_of s c.timer ≡ k → FiresBy x.timers.about h h' v w c reading restart (trigger_of (over_of k) c reading)
       by_over k same = subst (λ d. FiresBy x.timers.about h h' v w c reading restart (trigger_of d c reading))
-          (ap (λ y. (decl_at y c.timer).kind) objects ∙ declared.0 ∙ ap over_of same) fires.fires
+          (ap (λ y. (decl_at y c.timer).kind) objects ∙ declared_over s x c.timer is ∙ ap over_of same) fires.fires
 
       by_kind : (k : Kind) → kind_of s c.timer ≡ k
           → BodyKept IsSo s label c reading.stamp restart v w h.objects_pass.now h'.objects_pass.now h.log.receipts h'.log.receipts h.object_log.receipts
@@ -155,7 +120,7 @@ module _ (IsSo : List ClockLine → Type 0) (s : Script) (x : WorldOf) (is : IsW
       by_kind (kinds.Raw callback) same =
           let run = by_over (kinds.Raw callback) same in
           let its : callback_at h c.timer ≡ callback_of (kinds.Raw callback) =
-          ap (λ cs. get_or cs c.timer runs.Once) handlers ∙ declared.1 ∙ ap callback_of same in
+          ap (λ cs. get_or cs c.timer runs.Once) (handlers ∙ is.callbacks) ∙ declared_callback s.timers c.timer ∙ ap callback_of same in
           callback_kept IsSo s x.timers.about is.timers some label c reading so v w h.objects_pass.now h'.objects_pass.now run.1 h.log.receipts h'.log.receipts
           h.object_log.receipts h'.object_log.receipts run.2 callback restart same
           (subst (λ cb. RunsCallback x.timers.about v w c reading h.log.receipts h'.log.receipts cb restart) its run.0)
@@ -245,10 +210,9 @@ module _ (IsSo : List ClockLine → Type 0) (s : Script) (x : WorldOf) (is : IsW
       let last_seen = count_begins c.timer done.seen k'.seen three.1.seen in
       let whole = begins_trans k.seen claimed.seen k'.seen one.1.seen (begins_trans claimed.seen done.seen k'.seen b.timers.enters.seen three.1.seen) in
       let looks_are : (t : ℕ) → looked t body ≡ looked t (fires base at f) = λ t. sym (looked-append t body finishing ∙ append-nil (looked t body)) in
-      let made_are : (i : ℕ) → made i body ≡ made i (fires base at f) = λ i. sym (made-append i body finishing ∙ append-nil (made i body)) in
-      let skips_are : (i : ℕ) → skipped i body ≡ skipped i (fires base at f) = λ i. sym (skipped-append i body finishing ∙ append-nil (skipped i body)) in
-      let numbers_are : (i : ℕ) → numbers_of_object i body ≡ numbers_of_object i (fires base at f) =
-      λ i. sym (numbers-append i body finishing ∙ append-nil (numbers_of_object i body)) in
+      let nothing : IsObjectsPart IsSo label p' p' finishing [] = objects_alone IsSo label p' p' finishing refl (λ i. refl) (λ i. refl) (λ i. refl) in
+      let before : IsObjectsPart IsSo label p p (Entered f.timer f.claim (claim_of base at f) ∷ []) [] =
+      objects_alone IsSo label p p (Entered f.timer f.claim (claim_of base at f) ∷ []) refl (λ i. refl) (λ i. refl) (λ i. refl) in
       let log_more : List Receipt = claim_receipt reading c ∷ finish_receipt c ran.restart finished ∷ [] in
       record {
         fired = f;
@@ -262,31 +226,26 @@ module _ (IsSo : List ClockLine → Type 0) (s : Script) (x : WorldOf) (is : IsW
         no_looks = refl;
         claimed = refl;
         part = record {
-          enters = enters-append IsSo k done k' (one.0 ∷ two) (three.0 ∷ [])
-              (enters-append IsSo k claimed done (one.0 ∷ []) two one.1 b.timers.enters) three.1;
-          are = ap (λ r. r ∷ map receipt (two ++ three.0 ∷ [])) one.2
-              ∙ ap (λ rs. C ∷ rs) (tail ∙ ap (λ rs. rs ++ F ∷ []) b.timers.are ∙ sym (all_entered-append body finishing));
-          told = subst (λ rs. IsPermutation rs (C_noted ∷ F ∷ told)) (sym source)
-              (IsPermutation-cons C_noted (told ++ F ∷ []) (F ∷ told) (IsPermutation-to_front told F));
-          no_write = wrote-append body finishing b.timers.no_write refl;
-          looks = λ t. b.timers.looks t ∙ looks_are t;
-          looks_rise = λ t. subst (λ ns. RisesTo (count t k.seen + 1) (map (λ n. n.0) ns) (count t k'.seen + 1)) (looks_are t)
-              (b.timers.looks_rise t (count t k.seen + 1) (count t k'.seen + 1)
-              (let le = count_begins t k.seen k'.seen whole in omega (arith, le))
-              (λ same. subst (λ u. (count u k.seen + 1 ≤ count u claimed.seen) × (count u done.seen < count u k'.seen + 1)) (sym same)
-              (more_seen, omega (arith, last_seen))));
-          looks_seen = looks_to (count c.timer claimed.seen) (count c.timer done.seen) k' (look_notes label more) c.timer (omega (arith, more_seen)) last_seen
-              b.timers.looks_seen;
-          objects = λ i. b.objects.objects i ∙ made_are i;
-          objects_rise = λ i. subst (λ ns. RisesTo (length (seen_of p i) + 1) (map (λ n. n.0) ns) (length (seen_of p' i) + 1)) (made_are i)
-              (b.objects.objects_rise i);
-          objects_seen = b.objects.objects_seen;
-          skips = λ i. b.objects.skips i ∙ skips_are i;
-          skips_seen = b.objects.skips_seen;
-          steps = λ i. subst (λ ns. NeverFall (length (seen_of p i)) ns (length (seen_of p' i))) (numbers_are i) (b.objects.steps i);
-          goes_on = b.objects.goes_on;
-          opening = b.objects.opening;
-          object_mine = b.objects.mine;
+          timers = record {
+            enters = enters-append IsSo k done k' (one.0 ∷ two) (three.0 ∷ [])
+                (enters-append IsSo k claimed done (one.0 ∷ []) two one.1 b.timers.enters) three.1;
+            are = ap (λ r. r ∷ map receipt (two ++ three.0 ∷ [])) one.2
+                ∙ ap (λ rs. C ∷ rs) (tail ∙ ap (λ rs. rs ++ F ∷ []) b.timers.are ∙ sym (all_entered-append body finishing));
+            told = subst (λ rs. IsPermutation rs (C_noted ∷ F ∷ told)) (sym source)
+                (IsPermutation-cons C_noted (told ++ F ∷ []) (F ∷ told) (IsPermutation-to_front told F));
+            no_write = wrote-append body finishing b.timers.no_write refl;
+            looks = λ t. b.timers.looks t ∙ looks_are t;
+            looks_rise = λ t. subst (λ ns. RisesTo (count t k.seen + 1) (map (λ n. n.0) ns) (count t k'.seen + 1)) (looks_are t)
+                (b.timers.looks_rise t (count t k.seen + 1) (count t k'.seen + 1)
+                (let le = count_begins t k.seen k'.seen whole in omega (arith, le))
+                (λ same. subst (λ u. (count u k.seen + 1 ≤ count u claimed.seen) × (count u done.seen < count u k'.seen + 1)) (sym same)
+                (more_seen, omega (arith, last_seen))));
+            looks_seen = looks_to (count c.timer claimed.seen) (count c.timer done.seen) k' (look_notes label more) c.timer (omega (arith, more_seen)) last_seen
+                b.timers.looks_seen;
+          };
+          objects = subst (IsObjectsPart IsSo label p p' (fires base at f)) (append-nil b.objects.log)
+              (objects-append IsSo label p p p' (Entered f.timer f.claim (claim_of base at f) ∷ []) (body ++ finishing) [] (b.objects.log ++ []) before
+              (objects-append IsSo label p p' p' body finishing b.objects.log [] b.objects.part nothing));
         };
         ran = λ e joined goes follows before points. (
           record {

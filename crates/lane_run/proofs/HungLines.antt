@@ -1,5 +1,5 @@
 -- The record has under its lines the looks and refused expiries that calls noted, each under the line of its number.
-use Rattle.std.proofs.Common.{◌≡◌, ℕ, ◌+◌, ◌<◌, ◌≤◌, zero, suc, true, Some, List, [], ◌∷◌, filter, get_or, length, map, arith, refl, sym, ap, ◌∙◌, subst}
+use Rattle.std.proofs.Common.{◌≡◌, ℕ, ◌+◌, ◌<◌, ◌≤◌, zero, suc, true, Some, List, [], ◌∷◌, filter, get_or, length, map, arith, refl, sym, ap, ◌∙◌, subst, ◌⊎◌, inl, inr}
 use Rattle.std.specs.List.{AllByRecursion, slice_get}
 use Rattle.std.specs.List.Sorted.{IsPermutation}
 use Rattle.std.proofs.Math.Logic.{⊎_elim}
@@ -43,7 +43,14 @@ use Rattle.lane_run.proofs.FiledNotes.{timer_lines_long}
 use Rattle.lane_run.proofs.HungNotes.{one_look, skip_shape, skips_hang, skips_of_call}
 use Rattle.lane_run.proofs.LastSeen.{objects_once, objects_past}
 use Rattle.lane_run.proofs.Numbered.{as_many}
-use Rattle.lane_run.proofs.OwnLines.{among_at, among_made, looks_on-filter, made_among, own_on, own_on_from, own_on_parts, place_among, rise_in, skips_on-filter}
+use Rattle.lane_run.proofs.OwnLines.{among_at, among_made, looks_on-filter, made_among, own_on, own_on_from, own_on_parts, place_among, rise_in, skips_on-filter, turned}
+
+in_either : {X : Type 0} {xs ys : List X} (k : ℕ) (x : X) → (xs ≡ ys) ⊎ (xs ≡ []) → slice_get xs k ≡ Some x → slice_get ys k ≡ Some x
+in_either {xs = xs} {ys = ys} k x either at =
+    ⊎_elim (λ (same : xs ≡ ys). ap (λ zs. slice_get zs k) (sym same) ∙ at) (λ (none : xs ≡ []). nothing (ap (λ zs. slice_get zs k) (sym none) ∙ at)) either
+  where
+    nothing : slice_get [] k ≡ Some x → slice_get ys k ≡ Some x
+    nothing e = absurd (cc)
 
 module _ {s : Script} {x : WorldOf} {q : WorldPass} {notes sorted : NotesOf} {logs : Label → CallLog} (last : AreLastOf s x q) (left : AreLeft s q notes logs)
     (is : IsSortedFrom notes sorted) (answers : List (List Answer)) where
@@ -55,14 +62,12 @@ module _ {s : Script} {x : WorldOf} {q : WorldPass} {notes sorted : NotesOf} {lo
 
   -- ---- looks
 
+  line_either : (t : ℕ) → (lines t ≡ noted_timer_lines t sorted.entries sorted.looks) ⊎ (lines t ≡ [])
+  line_either t = ⊎_elim (λ (less : t < length s.timers). inl (lines_of_timer-record_from sorted (length s.timers) answers t less))
+      (λ (past : length s.timers ≤ t). inr (lines_of_timer-none sorted (length s.timers) answers t past)) (cases_lt t (length s.timers))
+
   look_line : (t k : ℕ) (line : TimerLine) → slice_get (lines t) k ≡ Some line → slice_get (noted_timer_lines t sorted.entries sorted.looks) k ≡ Some line
-  look_line t k line at = ⊎_elim
-      (λ (less : t < length s.timers). ap (λ ls. slice_get ls k) (sym (lines_of_timer-record_from sorted (length s.timers) answers t less)) ∙ at)
-      (λ (past : length s.timers ≤ t). nothing (ap (λ ls. slice_get ls k) (sym (lines_of_timer-none sorted (length s.timers) answers t past)) ∙ at))
-      (cases_lt t (length s.timers))
-    where
-      nothing : slice_get [] k ≡ Some line → slice_get (noted_timer_lines t sorted.entries sorted.looks) k ≡ Some line
-      nothing e = absurd (cc)
+  look_line t k line at = in_either k line (line_either t) at
 
   -- a call's looks at a timer are what it kept of them
   own_looks_noted : (c : Label) (t : ℕ) → map (λ n. (n.number, n.reply)) (own_on place_of_look t c notes.looks) ≡ looked t (logs c).trace.actions
@@ -79,12 +84,9 @@ module _ {s : Script} {x : WorldOf} {q : WorldPass} {notes sorted : NotesOf} {lo
 
   timer_looks_sorted : (t : ℕ) → AllByRecursion (λ line. AreSorted (map (λ l. l.label) line.looks)) (lines t)
   timer_looks_sorted t = ⊎_elim
-      (λ (less : t < length s.timers). subst (AllByRecursion (λ (line : TimerLine). AreSorted (map (λ (l : Look). l.label) line.looks)))
-      (sym (lines_of_timer-record_from sorted (length s.timers) answers t less))
+      (λ same. subst (AllByRecursion (λ (line : TimerLine). AreSorted (map (λ (l : Look). l.label) line.looks))) (sym same)
       (looks_sorted t sorted.entries notes.looks sorted.looks is.looks (λ n c. one_look t n c notes.looks (look_numbers_rise c t))))
-      (λ (past : length s.timers ≤ t). subst (AllByRecursion (λ (line : TimerLine). AreSorted (map (λ (l : Look). l.label) line.looks)))
-      (sym (lines_of_timer-none sorted (length s.timers) answers t past)) tt)
-      (cases_lt t (length s.timers))
+      (λ none. subst (AllByRecursion (λ (line : TimerLine). AreSorted (map (λ (l : Look). l.label) line.looks))) (sym none) tt) (line_either t)
 
   look_noted : (n : LookNote) → HasPlace notes.looks n → IsLabel s n.label × IsLookNote q n
   look_noted n st = all_at (λ m. IsLabel s m.label × IsLookNote q m) notes.looks st.0 n left.looks st.1
@@ -127,9 +129,6 @@ module _ {s : Script} {x : WorldOf} {q : WorldPass} {notes sorted : NotesOf} {lo
           less_one : (b n k : ℕ) → n ≡ b + 1 → n ≤ k → b < k
           less_one b n k e le = omega (arith, e, le)
 
-          turned : (b : ℕ) → b + 1 ≡ 1 + b
-          turned b = omega arith
-
       all : (p : ℕ) (line : TimerLine) (l : Look) → slice_get (lines t) p ≡ Some line → Among l line.looks → is_label c l.label ≡ true
           → Among (1 + p, l.reply) (looked t (logs c).trace.actions)
       all p line l at here own_look =
@@ -140,9 +139,6 @@ module _ {s : Script} {x : WorldOf} {q : WorldPass} {notes sorted : NotesOf} {lo
           (ap (λ k. (k, m.note.reply)) (m.number ∙ turned p) ∙ ap (λ (y : Look). (1 + p, y.reply)) m.is)
           (among_made told (own_on place_of_look t c notes.looks) m.note
           (own_on_from place_of_look t c notes.looks m.note st m.timer (ap (λ (y : Look). is_label c y.label) m.is ∙ own_look))))
-        where
-          turned : (b : ℕ) → b + 1 ≡ 1 + b
-          turned b = omega arith
 
   -- law: labels of looks under a line are those of calls, in order
   pub looks_under : (t : ℕ) → AllByRecursion (λ line. AreUnder s (map (λ look. look.label) line.looks))
@@ -158,15 +154,13 @@ module _ {s : Script} {x : WorldOf} {q : WorldPass} {notes sorted : NotesOf} {lo
 
   -- ---- refused expiries
 
+  hung_either : (i : ℕ) → (object_lines i ≡ noted_object_lines i sorted.objects sorted.skips) ⊎ (object_lines i ≡ [])
+  hung_either i = ⊎_elim (λ (less : i < length s.timers). inl (lines_of_object-record_from sorted (length s.timers) answers i less))
+      (λ (past : length s.timers ≤ i). inr (lines_of_object-none sorted (length s.timers) answers i past)) (cases_lt i (length s.timers))
+
   skip_line : (i k : ℕ) (line : ObjectLine) → slice_get (object_lines i) k ≡ Some line
       → slice_get (noted_object_lines i sorted.objects sorted.skips) k ≡ Some line
-  skip_line i k line at = ⊎_elim
-      (λ (less : i < length s.timers). ap (λ ls. slice_get ls k) (sym (lines_of_object-record_from sorted (length s.timers) answers i less)) ∙ at)
-      (λ (past : length s.timers ≤ i). nothing (ap (λ ls. slice_get ls k) (sym (lines_of_object-none sorted (length s.timers) answers i past)) ∙ at))
-      (cases_lt i (length s.timers))
-    where
-      nothing : slice_get [] k ≡ Some line → slice_get (noted_object_lines i sorted.objects sorted.skips) k ≡ Some line
-      nothing e = absurd (cc)
+  skip_line i k line at = in_either k line (hung_either i) at
 
   skip_noted : (n : SkipNote) → HasPlace notes.skips n → IsLabel s n.label × IsSkipNote q n
   skip_noted n st = all_at (λ m. IsLabel s m.label × IsSkipNote q m) notes.skips st.0 n left.skips st.1

@@ -4,7 +4,7 @@ use Rattle.std.proofs.Common.{◌≡◌, ◌&&◌, ℕ, ◌+◌, ◌<◌, ◌≤
 use Rattle.std.specs.List.{AllByRecursion}
 use Rattle.std.specs.List.Sorted.{IsPermutation}
 use Rattle.std.proofs.Math.Logic.{⊎_elim}
-use Rattle.std.proofs.lemmas.Bool.{cases_lt, eq-eqb, eqb-true, le-leb, lt-leb, ne_eqb}
+use Rattle.std.proofs.lemmas.Bool.{cases_lt, eq-eqb, eqb-true, le-leb, lt-leb, ne_eqb, and_from, and_left, and_right, cond-false, cond-true}
 use Rattle.std.proofs.lemmas.List.{map-append}
 use Rattle.std.proofs.lemmas.List.Sorted.{IsPermutation-append_right, IsPermutation-cons, IsPermutation-map, IsPermutation-middle, IsPermutation-refl, IsPermutation-sym, IsPermutation-trans}
 use Rattle.lane_notes.specs.Records.{line_of_object_note, numbered_from, skip_of}
@@ -12,7 +12,6 @@ use Rattle.lane_notes.specs.Sorted.{is_of_list, is_of_number, IsSortedOf, Place,
 use Rattle.lane_notes.specs.declared.notes.LookNote.{LookNote}
 use Rattle.lane_notes.specs.declared.notes.ObjectNote.{ObjectNote}
 use Rattle.lane_notes.specs.declared.notes.SkipNote.{SkipNote}
-use Rattle.lane_notes.proofs.Rising.{is_at}
 use Rattle.lane_notes.proofs.Standing.{AtMostOne}
 use Rattle.lane_notes.proofs.UnderLines.{is_of_call}
 use Rattle.record_text.specs.declared.record.Label.{Label}
@@ -39,38 +38,47 @@ one_most n k (x ∷ xs) rise =
       | false ↦ λ not. one_most n (x + 1) xs rise.1
     ] refl
 
+-- what passes two tests is what passes a test that is both
+filter_both : {X : Type 0} (p o both : X → Bool) → ((x : X) → both x ≡ (p x && o x)) → (xs : List X) → filter p (filter o xs) ≡ filter both xs
+filter_both p o both is [] = refl
+filter_both {X = X} p o both is (x ∷ xs) = at_tests (p x) (o x) refl refl (filter_both p o both is xs)
+  where
+    at_tests : (a b : Bool) → p x ≡ a → o x ≡ b → filter p (filter o xs) ≡ filter both xs
+        → filter p (cond b (x ∷ filter o xs) (filter o xs)) ≡ cond (both x) (x ∷ filter both xs) (filter both xs)
+    at_tests a false is_p is_o rest =
+        rest ∙ sym (cond-false (both x) (x ∷ filter both xs) (filter both xs) (is x ∙ and_right (p x) (o x) is_o))
+    at_tests true true is_p is_o rest =
+        cond-true (p x) (x ∷ filter p (filter o xs)) (filter p (filter o xs)) is_p ∙ ap (λ ys. x ∷ ys) rest
+        ∙ sym (cond-true (both x) (x ∷ filter both xs) (filter both xs) (is x ∙ and_from (p x) (o x) is_p is_o))
+    at_tests false true is_p is_o rest =
+        cond-false (p x) (x ∷ filter p (filter o xs)) (filter p (filter o xs)) is_p ∙ rest
+        ∙ sym (cond-false (both x) (x ∷ filter both xs) (filter both xs) (is x ∙ and_left (p x) (o x) is_p))
+
+-- numbers that pass a test are as many as those that they are of
+many_passing : {X : Type 0} (f : X → ℕ) (p : ℕ → Bool) (xs : List X) → length (filter p (map f xs)) ≡ length (filter (λ x. p (f x)) xs)
+many_passing f p [] = refl
+many_passing f p (x ∷ xs) =
+    elim (p (f x)) as (λ b. length (cond b (f x ∷ filter p (map f xs)) (filter p (map f xs)))
+    ≡ length (cond b (x ∷ filter (λ y. p (f y)) xs) (filter (λ y. p (f y)) xs))) [
+      | true ↦ ap suc (many_passing f p xs)
+      | false ↦ many_passing f p xs
+    ]
+
 -- notes of a call at a number of a list, counted by their numbers
 calls_counted : {X : Type 0} (place : X → Place) (l n : ℕ) (c : Label) (xs : List X) → length (filter (is_of_call place l n c) xs)
     ≡ length (filter (λ m. nat_eq m n) (map (λ x. (place x).number) (own_on place l c xs)))
-calls_counted place l n c [] = refl
-calls_counted {X = X} place l n c (x ∷ xs) =
-    at_tests (nat_eq (place x).list l) (nat_eq (place x).number n) (is_label c (place x).label) refl refl (calls_counted place l n c xs)
+calls_counted {X = X} place l n c xs =
+    let own : X → Bool = λ x. is_label c (place x).label in
+    let at : X → Bool = λ x. nat_eq (place x).number n in
+    ap length (sym (ap (filter at) (filter_both (is_of_list place l) own (λ x. is_of_list place l x && own x) (λ x. refl) xs)
+    ∙ filter_both at (λ x. is_of_list place l x && own x) (is_of_call place l n c) (λ x. turned (is_of_list place l x) (at x) (own x)) xs))
+    ∙ sym (many_passing (λ (x : X). (place x).number) (λ m. nat_eq m n) (own_on place l c xs))
   where
-    counted : List ℕ
-    counted = filter (λ m. nat_eq m n) (map (λ y. (place y).number) (own_on place l c xs))
-
-    with_first : (here at : Bool) → nat_eq (place x).list l ≡ here → nat_eq (place x).number n ≡ at
-        → length (cond here (cond at ((place x).number ∷ counted) counted) counted)
-        ≡ length (filter (λ m. nat_eq m n) (map (λ y. (place y).number) (cond (nat_eq (place x).list l) (x ∷ own_on place l c xs) (own_on place l c xs))))
-    with_first true at is_here is_at =
-        ap (λ b. length (cond b ((place x).number ∷ counted) counted)) (sym is_at)
-        ∙ ap (λ b. length (filter (λ m. nat_eq m n) (map (λ y. (place y).number) (cond b (x ∷ own_on place l c xs) (own_on place l c xs))))) (sym is_here)
-    with_first false at is_here is_at =
-        ap (λ b. length (filter (λ m. nat_eq m n) (map (λ y. (place y).number) (cond b (x ∷ own_on place l c xs) (own_on place l c xs))))) (sym is_here)
-
-    at_tests : (here at own : Bool) → nat_eq (place x).list l ≡ here → nat_eq (place x).number n ≡ at
-        → length (filter (is_of_call place l n c) xs) ≡ length counted
-        → length (cond ((here && at) && own) (x ∷ filter (is_of_call place l n c) xs) (filter (is_of_call place l n c) xs))
-        ≡ length (filter (λ m. nat_eq m n) (map (λ y. (place y).number)
-        (filter (is_of_list place l) (cond own (x ∷ filter (λ y. is_label c (place y).label) xs) (filter (λ y. is_label c (place y).label) xs)))))
-    at_tests true true true is_here is_at rest = ap suc rest ∙ with_first true true is_here is_at
-    at_tests true false true is_here is_at rest = rest ∙ with_first true false is_here is_at
-    at_tests false true true is_here is_at rest = rest ∙ with_first false true is_here is_at
-    at_tests false false true is_here is_at rest = rest ∙ with_first false false is_here is_at
-    at_tests true true false is_here is_at rest = rest
-    at_tests true false false is_here is_at rest = rest
-    at_tests false true false is_here is_at rest = rest
-    at_tests false false false is_here is_at rest = rest
+    turned : (a b d : Bool) → ((a && b) && d) ≡ (b && (a && d))
+    turned true true d = refl
+    turned true false d = refl
+    turned false true d = refl
+    turned false false d = refl
 
 -- law: a call whose looks rise has one at most at each number
 pub one_look : (t n : ℕ) (c : Label) (xs : List LookNote) → Rises 1 (map (λ x. x.number) (own_on place_of_look t c xs))
@@ -178,16 +186,14 @@ of_call_shapes c (x ∷ xs) =
     ]
 
 turn_filters : {X : Type 0} (p o : X → Bool) (xs : List X) → filter p (filter o xs) ≡ filter o (filter p xs)
-turn_filters p o [] = refl
-turn_filters {X = X} p o (x ∷ xs) = at_tests (p x) (o x) refl refl (turn_filters p o xs)
+turn_filters p o xs =
+    filter_both p o (λ x. p x && o x) (λ x. refl) xs ∙ sym (filter_both o p (λ x. p x && o x) (λ x. turned (p x) (o x)) xs)
   where
-    at_tests : (a b : Bool) → p x ≡ a → o x ≡ b → filter p (filter o xs) ≡ filter o (filter p xs)
-        → filter p (cond b (x ∷ filter o xs) (filter o xs)) ≡ filter o (cond a (x ∷ filter p xs) (filter p xs))
-    at_tests true true is_p is_o rest = ap (λ t. cond t (x ∷ filter p (filter o xs)) (filter p (filter o xs))) is_p ∙ ap (λ ys. x ∷ ys) rest
-        ∙ ap (λ t. cond t (x ∷ filter o (filter p xs)) (filter o (filter p xs))) (sym is_o)
-    at_tests true false is_p is_o rest = rest ∙ ap (λ t. cond t (x ∷ filter o (filter p xs)) (filter o (filter p xs))) (sym is_o)
-    at_tests false true is_p is_o rest = ap (λ t. cond t (x ∷ filter p (filter o xs)) (filter p (filter o xs))) is_p ∙ rest
-    at_tests false false is_p is_o rest = rest
+    turned : (a b : Bool) → (a && b) ≡ (b && a)
+    turned true true = refl
+    turned true false = refl
+    turned false true = refl
+    turned false false = refl
 
 -- law: the sorted ones of a call are its own, in some order
 pub skips_of_call : (i : ℕ) (c : Label) (xs sorted : List SkipNote) → IsSortedOf place_of_skip xs sorted

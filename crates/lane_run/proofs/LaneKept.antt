@@ -26,7 +26,7 @@ use Rattle.lane_run.specs.Worlds.{IsWhole, IsWorldOf, WorldOf}
 use Rattle.lane_run.specs.declared.world.WorldPass.{WorldPass}
 use Rattle.lane_run.proofs.Expired.{keeps_expire}
 use Rattle.lane_run.proofs.ObjectLooks.{keeps_overrun, keeps_readable}
-use Rattle.lane_run.proofs.Parts.{falls_lower}
+use Rattle.lane_run.proofs.PartLists.{falls_lower}
 use Rattle.lane_run.proofs.Quiet.{keeps_peek}
 use Rattle.lane_run.proofs.RearmedCalls.{keeps_accept, keeps_gettime, keeps_read}
 use Rattle.lane_run.proofs.SeenMore.{follows_less, more_called}

@@ -24,7 +24,8 @@ use Rattle.lane_run.specs.declared.world.WorldPass.{WorldPass}
 use Rattle.lane_run.proofs.CallingLanes.{calls_bound, calls_in_round, in_round, next_calls}
 use Rattle.lane_run.proofs.Chains.{Chain, chain_calls, chain_higher, Lies, lies_later, lies_pushed, ListOf}
 use Rattle.lane_run.proofs.LaneKept.{keeps_calls, next_index, promised_calls, promised_later, this_index}
-use Rattle.lane_run.proofs.NotesJoined.{AreOf, call_notes, each_weaker, joined}
+use Rattle.lane_run.proofs.NotesJoined.{AreOf, call_notes, joined}
+use Rattle.lane_run.proofs.PartLists.{each_weaker}
 use Rattle.lane_run.proofs.SeenMore.{follows_less, more_begun, more_called, more_same, more_trans, no_less, seen_begun, SeesMore, stand_called, stand_later}
 use Rattle.lane_run.proofs.Tallies.{Tallies, tallies_called, tallies_none}
 
@@ -76,55 +77,42 @@ kept_pushed s past p lane d kept = record {
 
 -- ---- calls in turn
 
--- law: then more was seen
-pub sees_calls : (s : Script) (l : LaneOf) (cs : List Call) (given : List Answer) (m : LaneOf) → KeepsCalls s l cs given m → SeesMore l.pass m.pass
-sees_calls s l [] [] m kept = subst (λ (k : LaneOf). SeesMore l.pass k.pass) (sym kept) (more_same l.pass)
-sees_calls s l [] (a ∷ given) m kept = absurd kept
-sees_calls s l (c ∷ cs) [] m kept = absurd kept
-sees_calls s l (c ∷ cs) (a ∷ given) m kept =
-    more_trans l.pass kept.0.pass m.pass (more_called l.pass kept.0.pass kept.2.sees) (sees_calls s (next_of kept.0) cs given m kept.3)
-
--- as many answers as calls, as many logs, and no more writes
-pub record AreAsMany (s : Script) (l : LaneOf) (cs : List Call) (given : List Answer) (m : LaneOf) (kept : KeepsCalls s l cs given m) : Type 0 where
+-- what comes of them: more was seen, where all notes stand; there are as many answers and logs as calls, and no more writes
+pub record AreCalled (s : Script) (l : LaneOf) (cs : List Call) (given : List Answer) (m : LaneOf) (kept : KeepsCalls s l cs given m) : Type 0 where
+  pub sees : SeesMore l.pass m.pass
   pub answers : length given ≡ length cs
   pub logs : length (logs_of s l cs given m kept) ≡ length cs
   pub writes : length m.notes.writes ≤ length l.notes.writes + length cs
+  pub tallies : Tallies l.pass l.notes → Tallies m.pass m.notes
+  pub stand : AllByRecursion (StandAt m.pass) (logs_of s l cs given m kept)
 
-as_many_calls : (s : Script) (l : LaneOf) (cs : List Call) (given : List Answer) (m : LaneOf) (kept : KeepsCalls s l cs given m)
-    → AreAsMany s l cs given m kept
-as_many_calls s l [] [] m kept = record {
+are_called : (s : Script) (l : LaneOf) (cs : List Call) (given : List Answer) (m : LaneOf) (kept : KeepsCalls s l cs given m)
+    → AreCalled s l cs given m kept
+are_called s l [] [] m kept = record {
+  sees = subst (λ (k : LaneOf). SeesMore l.pass k.pass) (sym kept) (more_same l.pass);
   answers = refl;
   logs = refl;
   writes = subst (λ (k : LaneOf). length k.notes.writes ≤ length l.notes.writes + 0) (sym kept) (omega arith);
+  tallies = λ so_far. subst (λ (k : LaneOf). Tallies k.pass k.notes) (sym kept) so_far;
+  stand = tt;
 }
-as_many_calls s l [] (a ∷ given) m kept = absurd kept
-as_many_calls s l (c ∷ cs) [] m kept = absurd kept
-as_many_calls s l (c ∷ cs) (a ∷ given) m kept =
-    let rest = as_many_calls s (next_of kept.0) cs given m kept.3 in
+are_called s l [] (a ∷ given) m kept = absurd kept
+are_called s l (c ∷ cs) [] m kept = absurd kept
+are_called s l (c ∷ cs) (a ∷ given) m kept =
+    let n = kept.0 in
+    let rest = are_called s (next_of n) cs given m kept.3 in
     let writes = ap (λ (ns : NotesOf). length ns.writes) kept.2.joins in record {
+      sees = more_trans l.pass n.pass m.pass (more_called l.pass n.pass kept.2.sees) rest.sees;
       answers = ap suc rest.answers;
       logs = ap suc rest.logs;
       writes = omega (arith, rest.writes, writes, length-append l.notes.writes kept.2.added.writes, kept.2.few);
+      tallies = λ so_far. rest.tallies (tallies_called s l c a n kept.2 so_far);
+      stand = (
+        stand_later n.pass m.pass (log_of l.pass n.pass kept.2.notes kept.2.trace) rest.sees
+            (stand_called l.pass n.pass kept.2.notes kept.2.trace kept.2.stand),
+        rest.stand,
+      );
     }
-
-tallies_calls : (s : Script) (l : LaneOf) (cs : List Call) (given : List Answer) (m : LaneOf) → KeepsCalls s l cs given m → Tallies l.pass l.notes
-    → Tallies m.pass m.notes
-tallies_calls s l [] [] m kept tallies = subst (λ (k : LaneOf). Tallies k.pass k.notes) (sym kept) tallies
-tallies_calls s l [] (a ∷ given) m kept tallies = absurd kept
-tallies_calls s l (c ∷ cs) [] m kept tallies = absurd kept
-tallies_calls s l (c ∷ cs) (a ∷ given) m kept tallies =
-    tallies_calls s (next_of kept.0) cs given m kept.3 (tallies_called s l c a kept.0 kept.2 tallies)
-
-stand_calls : (s : Script) (l : LaneOf) (cs : List Call) (given : List Answer) (m : LaneOf) (kept : KeepsCalls s l cs given m)
-    → AllByRecursion (StandAt m.pass) (logs_of s l cs given m kept)
-stand_calls s l [] [] m kept = tt
-stand_calls s l [] (a ∷ given) m kept = absurd kept
-stand_calls s l (c ∷ cs) [] m kept = absurd kept
-stand_calls s l (c ∷ cs) (a ∷ given) m kept = (
-  stand_later kept.0.pass m.pass (log_of l.pass kept.0.pass kept.2.notes kept.2.trace) (sees_calls s (next_of kept.0) cs given m kept.3)
-      (stand_called l.pass kept.0.pass kept.2.notes kept.2.trace kept.2.stand),
-  stand_calls s (next_of kept.0) cs given m kept.3,
-)
 
 -- ---- their notes
 
@@ -248,7 +236,7 @@ module _ (s : Script) (x : WorldOf) (world : IsWorldOf s x) (range : IsInRange s
       (next_calls s lane round d.done cs rest (so_far.parts ∙ ap (λ qs. d.done ++ qs) left_calls)) in
       let kept = keeps_calls s lane bound x world range whole l index cs makes.calls.given m refl number next of.pass.objects.row.made
       makes.calls.calls in
-      let many = as_many_calls s l cs makes.calls.given m kept in
+      let many = are_called s l cs makes.calls.given m kept in
       let logs = logs_of s l cs makes.calls.given m kept in
       let answers : makes.calls.given ≡ new.answers.items =
       ap (λ zs. zs ++ makes.calls.given) (sym begins.answers) ∙ sym makes.calls.answers in
@@ -262,13 +250,12 @@ module _ (s : Script) (x : WorldOf) (world : IsWorldOf s x) (range : IsInRange s
         new = logs;
         as_many = many.logs;
         answered = ap length (sym answers) ∙ many.answers;
-        sees = more_trans p l.pass m.pass begun (sees_calls s l cs makes.calls.given m kept);
+        sees = more_trans p l.pass m.pass begun many.sees;
         are = notes_calls s lane bound index index l cs makes.calls.given m d.logs kept refl number next refl (omega arith)
             (subst (λ ns. AreOf l.pass ns (λ c. log_at d.logs c.call) (IsFrom lane index d.logs)) (sym begins.notes) (notes_none l.pass lane d.logs));
-        tallies = tallies_calls s l cs makes.calls.given m kept
-            (subst (Tallies l.pass) (sym begins.notes) (tallies_none l.pass begins.timers_mine begins.objects_mine begins.clock_mine));
+        tallies = many.tallies (subst (Tallies l.pass) (sym begins.notes) (tallies_none l.pass begins.timers_mine begins.objects_mine begins.clock_mine));
         few = omega (arith, many.writes, ap (λ (ns : NotesOf). length ns.writes) begins.notes);
-        stand = stand_calls s l cs makes.calls.given m kept;
+        stand = many.stand;
         chain = λ y. subst (λ k. Chain y k logs (y.seen (seen_by m.pass))) (ap y.seen (seen_begun p left old begins))
             (chain_calls y s l cs makes.calls.given m kept);
         promised = subst (λ n. IsPromisedSoFar s lane n (d.logs ++ logs) (Follows m.pass) (seen_by m.pass) rest (d.given ++ new.answers.items))

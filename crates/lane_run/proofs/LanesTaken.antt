@@ -20,7 +20,8 @@ use Rattle.lane_run.proofs.CallingLanes.{in_round}
 use Rattle.lane_run.proofs.Chains.{AreUpTo, chain-append, chain_higher, lies-append, lies_between, lies_later, start_behind, start_last, up_to_later}
 use Rattle.lane_run.proofs.LaneKept.{promised_later}
 use Rattle.lane_run.proofs.LaneRound.{IsFrom, IsKeptOf, kept_later, LaneSoFar, LeavesRound, log_at, no_log}
-use Rattle.lane_run.proofs.NotesJoined.{AreOf, each_weaker, joined}
+use Rattle.lane_run.proofs.NotesJoined.{AreOf, joined}
+use Rattle.lane_run.proofs.PartLists.{each_weaker}
 use Rattle.lane_run.proofs.SeenMore.{follows_less, more_heard, more_taken, more_trans, no_less, SeesMore, stand_later}
 use Rattle.lane_run.proofs.Tallies.{Tallies, tallies_taken}
 

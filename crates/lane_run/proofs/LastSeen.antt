@@ -93,6 +93,9 @@ module _ {s : Script} {q : WorldPass} {notes : NotesOf} {logs : Label → CallLo
       let f = filter_stands_in (λ (n : EntryNote). is_label c n.label) notes.entries m.0 m.1 in
       record { note = m.0; noted = f.0; label = same_label c m.0.label f.1; is = sym m.2 }
 
+below : (m k n : ℕ) → m < k → k ≤ n → m < n
+below m k n less le = omega (arith, less, le)
+
 -- ---- what the last passes have seen
 
 module _ {s : Script} {x : WorldOf} {q : WorldPass} (last : AreLastOf s x q) where
@@ -128,10 +131,7 @@ module _ {s : Script} {x : WorldOf} {q : WorldPass} (last : AreLastOf s x q) whe
   -- law: nor of a timer that isn't there
   pub timers_past : (t : ℕ) → length s.timers ≤ t → receipts.count t q.timers.known.seen ≡ 0
   timers_past t past = none_of t q.timers.known.seen
-      (each (λ e. e.timer < t) q.timers.known.seen (λ p e at. below e.timer t (timer_within p e at) past))
-    where
-      below : (m n : ℕ) → m < length s.timers → length s.timers ≤ n → m < n
-      below m n less le = omega (arith, less, le)
+      (each (λ e. e.timer < t) q.timers.known.seen (λ p e at. below e.timer (length s.timers) t (timer_within p e at) past))
 
   module _ {notes : NotesOf} {logs : Label → CallLog} (left : AreLeft s q notes logs) where
     -- law: notes of entries are of timers that are there
@@ -147,12 +147,9 @@ module _ {s : Script} {x : WorldOf} {q : WorldPass} (last : AreLastOf s x q) whe
         (λ (less : t < length s.timers). sym (count_places place_of_entry t n notes.entries) ∙ sym (left.timers_places t n)
         ∙ (last.passes.timers.knows.whole last.last.timers).once t n (subst (λ m. t < m) (sym many_timers) less))
         (λ (past : length s.timers ≤ t). none_at t n notes.entries
-        (each (λ e. e.timer < t) notes.entries (λ p e at. below e.timer t (note_within e (p, at)) past))
+        (each (λ e. e.timer < t) notes.entries (λ p e at. below e.timer (length s.timers) t (note_within e (p, at)) past))
         ∙ sym (no_number n) ∙ ap (λ k. one_if (within n k)) (sym (timers_past t past)))
         (cases_lt t (length s.timers))
-      where
-        below : (m n : ℕ) → m < length s.timers → length s.timers ≤ n → m < n
-        below m n less le = omega (arith, less, le)
 
     -- law: each entry of each object is
     pub objects_once : AreEachOnce place_of_object (λ i. length (seen_of q.objects i)) notes.objects

@@ -30,7 +30,8 @@ use Rattle.lane_run.specs.declared.world.WorldPass.{WorldPass}
 use Rattle.lane_run.proofs.Chains.{chain_at, chain_next, clock_list, IsLink, lies_at, LiesIn, ListOf, moves_list, object_list, start_of, starts_rise}
 use Rattle.lane_run.proofs.LaneRound.{LaneSoFar, log_at, no_log}
 use Rattle.lane_run.proofs.LanesTaken.{AreLeftSoFar, IsIn, logs_in}
-use Rattle.lane_run.proofs.NotesJoined.{each_weaker, own_notes-none}
+use Rattle.lane_run.proofs.NotesJoined.{own_notes-none}
+use Rattle.lane_run.proofs.PartLists.{each_weaker}
 use Rattle.lane_run.proofs.RoundsLeft.{lane_first, left_first, rounds_left}
 
 -- a run has of a lane's calls what it kept of each

@@ -14,7 +14,8 @@ pub mod Quiet
 pub mod TimerCalls
 pub mod Writing
 pub mod Parts
-pub mod SmallParts
+pub mod PartLists
+pub mod Declared
 pub mod Bodies
 pub mod Triggered
 pub mod FiredOnce

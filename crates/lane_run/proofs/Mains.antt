@@ -34,15 +34,6 @@ covers_pop id_of l m lanes lane alone retired covers =
 
 -- ---- of all three
 
-timer_id : Lane → PassId
-timer_id l = l.pass.timers.known.id
-
-object_id : Lane → PassId
-object_id l = l.pass.objects.knows.pass.id
-
-clock_id : Lane → PassId
-clock_id l = l.pass.clock.knows.pass.id
-
 pub main_split : (x : WorldOf) (p q : WorldPass) (lanes : List Lane) (lane : Lane) → IsMain x p lanes → ArePassesOf x q
     → SplitsPass p q lane.pass → IsMain x q (lanes ++ lane ∷ [])
 main_split x p q lanes lane is pass splits = record {
@@ -136,14 +127,4 @@ main_same x p old new len each is = record {
       (sym (same_by (λ l. l.pass.objects.knows.pass.id) old new len (λ k d h. (each k d h).objects))) is.objects;
   clock = subst (Covers p.clock.knows.pass.id)
       (sym (same_by (λ l. l.pass.clock.knows.pass.id) old new len (λ k d h. (each k d h).clock))) is.clock;
-}
-
--- a lane's passes keep their names
-pub lane_kept : (x : WorldOf) (old new : Lane) → IsLaneOf x old → ArePassesOf x new.pass → KeepPasses old.pass new.pass → IsLaneOf x new
-lane_kept x old new of pass keeps = record {
-  pass = pass;
-  unclaimed = keeps.claims ∙ of.unclaimed;
-  timers = ap (λ (l : PassId). l.split) keeps.timers ∙ of.timers;
-  objects = ap (λ (l : PassId). l.split) keeps.objects ∙ of.objects;
-  clock = ap (λ (l : PassId). l.split) keeps.clock ∙ of.clock;
 }

@@ -1,5 +1,5 @@
 -- Notes of some calls and of others, joined: each call's own notes are among its own, and each note is still of something that passes have seen.
-use Rattle.std.proofs.Common.{◌≡◌, ◌⊎◌, ◌++◌, filter, List, [], ◌∷◌, refl, sym, ap, ◌∙◌, subst, ⊎_elim}
+use Rattle.std.proofs.Common.{◌≡◌, ◌⊎◌, filter, List, [], ◌∷◌, refl, sym, ap, ◌∙◌, subst, ⊎_elim}
 use Rattle.std.specs.List.{AllByRecursion}
 use Rattle.std.proofs.lemmas.Bool.{cond-false, cond-true}
 use Rattle.std.proofs.lemmas.List.Elements.{filter-append}
@@ -20,9 +20,9 @@ use Rattle.lane_run.specs.Called.{LaneOf}
 use Rattle.lane_run.specs.Kept.{IsLookNote, IsSkipNote, KeepsCall, log_of}
 use Rattle.lane_run.specs.Left.{IsObjectLeft, IsWriteLeft, own_notes, TellLog}
 use Rattle.lane_run.specs.declared.world.WorldPass.{WorldPass}
-use Rattle.lane_run.proofs.CallKept.{no_notes-joins}
-use Rattle.lane_run.proofs.Parts.{each_both}
+use Rattle.lane_run.proofs.CallKept.{no_notes-joins, notes_same}
 use Rattle.lane_run.proofs.SeenMore.{look_later, object_called, object_later, SeesMore, skip_later, write_called, write_later}
+use Rattle.lane_run.proofs.PartLists.{each_weaker, each_joined}
 
 -- notes of these calls, with what their lanes kept of each, and of what the passes have seen
 pub record AreOf (p : WorldPass) (notes : NotesOf) (logs : Label → CallLog) (Has : Label → Type 0) : Type 0 where
@@ -35,20 +35,10 @@ pub record AreOf (p : WorldPass) (notes : NotesOf) (logs : Label → CallLog) (H
 
 -- ---- lists of labelled items
 
--- what holds of each holds in a weaker form
-pub each_weaker : {X : Type 0} (P Q : X → Type 0) (xs : List X) → ((x : X) → P x → Q x) → AllByRecursion P xs → AllByRecursion Q xs
-each_weaker P Q [] to all = tt
-each_weaker P Q (x ∷ xs) to all = (to x all.0, each_weaker P Q xs to all.1)
-
 -- two facts of each are one
 each_two : {X : Type 0} (P Q : X → Type 0) (xs : List X) → AllByRecursion P xs → AllByRecursion Q xs → AllByRecursion (λ x. P x × Q x) xs
 each_two P Q [] one two = tt
 each_two P Q (x ∷ xs) one two = ((one.0, two.0), each_two P Q xs one.1 two.1)
-
--- what holds of the items of two lists holds of all
-each_joined : {X : Type 0} (P Q R : X → Type 0) (xs ys : List X) → ((x : X) → P x → R x) → ((x : X) → Q x → R x) → AllByRecursion P xs
-    → AllByRecursion Q ys → AllByRecursion R (xs ++ ys)
-each_joined P Q R xs ys left right one two = each_both P R xs ys left one (each_weaker Q R ys right two)
 
 -- none of them is of a call that isn't one of theirs
 filter_none : {X : Type 0} (label : X → Label) (Has : Label → Type 0) (c : Label) (xs : List X) → (Has c → ⊥) → AllByRecursion (λ x. Has (label x)) xs
@@ -67,14 +57,6 @@ filter_all label c (x ∷ xs) all =
     (ap (is_label c) all.0 ∙ label_itself c) ∙ ap (λ ys. x ∷ ys) (filter_all label c xs all.1)
 
 -- ---- a call's own notes
-
-notes_same : (a b : NotesOf) → a.entries ≡ b.entries → a.looks ≡ b.looks → a.objects ≡ b.objects → a.skips ≡ b.skips → a.writes ≡ b.writes → a ≡ b
-notes_same a b entries looks objects skips writes =
-    ap (λ es. record { entries = es; looks = a.looks; objects = a.objects; skips = a.skips; writes = a.writes }) entries
-    ∙ ap (λ ls. record { entries = b.entries; looks = ls; objects = a.objects; skips = a.skips; writes = a.writes }) looks
-    ∙ ap (λ os. record { entries = b.entries; looks = b.looks; objects = os; skips = a.skips; writes = a.writes }) objects
-    ∙ ap (λ ks. record { entries = b.entries; looks = b.looks; objects = b.objects; skips = ks; writes = a.writes }) skips
-    ∙ ap (λ ws. record { entries = b.entries; looks = b.looks; objects = b.objects; skips = b.skips; writes = ws }) writes
 
 own_notes-both : (c : Label) (a b : NotesOf) → own_notes c (both_noted a b) ≡ both_noted (own_notes c a) (own_notes c b)
 own_notes-both c a b = notes_same (own_notes c (both_noted a b)) (both_noted (own_notes c a) (own_notes c b))

@@ -154,7 +154,7 @@ module _ {s : Script} {x : WorldOf} {q : WorldPass} {notes sorted : NotesOf} {lo
   pub object_spans_follow : (i : ℕ) → AreBehind (e.spans i) 1 0 (lines_of_object e.run i)
   object_spans_follow i = ⊎_elim
       (λ (there : i < length s.timers). let c = cell_after i there in
-      object_behind s x last.world e.run i there (seen_of q.objects i) c.0 c.1 (e.spans i) (object_lines_show i))
+      object_behind s x last.world e.run i (seen_of q.objects i) c.0 c.1 (e.spans i) (object_lines_show i))
       (λ (past : length s.timers ≤ i). subst (AreBehind (e.spans i) 1 0) (sym (no_lines i past)) tt)
       (cases_lt i (length s.timers))
 
@@ -162,7 +162,7 @@ module _ {s : Script} {x : WorldOf} {q : WorldPass} {notes sorted : NotesOf} {lo
   pub objects_legal : (i : ℕ) → IsLegalObject s e.run i (kind_of s i)
   objects_legal i = ⊎_elim
       (λ (there : i < length s.timers). let c = cell_after i there in
-      object_legal s x last.world e.run i there (seen_of q.objects i) c.0 c.1 (e.spans i) (object_lines_show i))
+      object_legal s x last.world e.run i (seen_of q.objects i) c.0 c.1 (e.spans i) (object_lines_show i))
       (λ (past : length s.timers ≤ i). subst (IsLegalObject s e.run i)
       (sym (get_or_past (map (λ (d : Declaration). d.kind) s.timers) i _
       (subst (λ n. n ≤ i) (sym (length-map s.timers (λ (d : Declaration). d.kind))) past))) (no_lines i past))

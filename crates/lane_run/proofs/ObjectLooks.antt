@@ -1,7 +1,6 @@
 -- Looks at an object, as their lanes keep them: the overrun of a POSIX timer, and whether a descriptor is ready.
-use Rattle.std.proofs.Common.{◌≡◌, ℕ, Some, List, [], ◌∷◌, length, get_or, refl, sym, ap, ◌∙◌, subst}
+use Rattle.std.proofs.Common.{◌≡◌, ℕ, Some, List, [], ◌∷◌, length, refl, sym, ap, ◌∙◌, subst}
 use Rattle.clock_cell.specs.Views.{writes}
-use Rattle.ktime.specs.declared.clock_id.ClockId.TheVariants as clocks
 use Rattle.counted_row.specs.Views.{StateAfter}
 use Rattle.pass_names.specs.Passes.{Begins}
 use Rattle.posix_timer.specs.States.{PosixTimer, setting_of}
@@ -14,7 +13,6 @@ use Rattle.expire_pass.specs.declared.log.Receipt.{Receipt}
 use Rattle.timer_objects.specs.Cells.{cell_meaning, opened_cells}
 use Rattle.timer_objects.specs.Known.{decl_at, seen_of}
 use Rattle.timer_objects.specs.Steps.{IsObjectOf}
-use Rattle.timer_objects.specs.declared.object.Decl.{Decl}
 use Rattle.timer_objects.specs.declared.object.Kind.TheVariants as over
 use Rattle.timer_objects.specs.declared.object.Object.TheVariants as objects
 use Rattle.timer_objects.specs.declared.object.Object.{Object}
@@ -28,36 +26,19 @@ use Rattle.script_text.specs.Objects.{fd_after, kind_of, posix_after}
 use Rattle.script_text.specs.declared.script.Call.TheVariants as calls
 use Rattle.script_text.specs.declared.script.Call.{Call}
 use Rattle.script_text.specs.declared.script.Kind.TheVariants as kinds
-use Rattle.script_text.specs.declared.script.Kind.{Kind}
 use Rattle.script_text.specs.declared.script.Script.{Script}
 use Rattle.run_history.specs.Calls.{Does}
 use Rattle.run_history.specs.Runs.{course_of, Ending, IsJoined}
 use Rattle.run_history.specs.Truths.{IsObjectPoint, IsSeen}
 use Rattle.lane_run.specs.Called.{Called, caller_of, CallsOverrun, gettime_told, LaneOf, with_done}
 use Rattle.lane_run.specs.Kept.{Follows, IsNextCall, KeepsCall}
-use Rattle.lane_run.specs.Worlds.{IsWorldOf, WorldOf}
-use Rattle.lane_run.proofs.FiredOnce.{declared_as, over_of}
+use Rattle.lane_run.specs.Worlds.{WorldOf}
+use Rattle.lane_run.proofs.Declared.{fd_declared, posix_declared}
 use Rattle.lane_run.proofs.CallKept.{leaves_begins, no_notes-joins, reads_begins, with_done-joins}
 use Rattle.lane_run.proofs.ObjectSeen.{fd_seen, posix_seen}
-use Rattle.lane_run.proofs.Sights.{keeps_sight, LooksOnly, point_seen, same_timers, stamped}
+use Rattle.lane_run.proofs.Sights.{keeps_sight, LooksOnly, point_seen, stamped}
 use Rattle.lane_run.proofs.Writing.{reading_of_seen}
-
--- ---- what stands over a timer
-
--- law: the kind of object that is declared over a timer
-pub declared_over : (s : Script) (x : WorldOf) (i : ℕ) → IsWorldOf s x → (decl_at x.objects i).kind ≡ over_of (kind_of s i)
-declared_over s x i is =
-    let none : Decl = record { kind = over.Raw; clock = clocks.Monotonic; base = 0 } in
-    ap (λ (ds : List Decl). (get_or ds i none).kind) is.decls ∙ (declared_as s.timers i none refl).0
-
--- law: a POSIX timer is declared where one was seen
-pub posix_declared : (s : Script) (i : ℕ) → over_of (kind_of s i) ≡ over.Posix → (base : ℕ) × (kind_of s i ≡ kinds.Posix base)
-posix_declared s i is = go (kind_of s i) is
-  where
-    go : (k : Kind) → over_of k ≡ over.Posix → (base : ℕ) × (k ≡ kinds.Posix base)
-    go (kinds.Raw callback) is = absurd (cc)
-    go (kinds.Posix base) is = (base, refl)
-    go (kinds.Fd base) is = absurd (cc)
+use Rattle.lane_run.proofs.Entering.{begins_same}
 
 -- ---- the call
 
@@ -66,7 +47,8 @@ looks_only : (l m : LaneOf) (i : ℕ) (object : Object) (stamp : ℕ) → LooksA
     → Begins (writes l.pass.clock.knows) (writes m.pass.clock.knows) → m.pass.clock.knows.pass.mine ≡ l.pass.clock.knows.pass.mine → m.notes ≡ l.notes
     → LooksOnly l m
 looks_only l m i object stamp looks clock clock_mine notes = record {
-  timers = same_timers l.pass.timers.known m.pass.timers.known looks.timers;
+  timers = begins_same l.pass.timers.known.seen m.pass.timers.known.seen (ap (λ k. k.seen) looks.timers);
+  timers_mine = ap (λ k. k.mine) looks.timers;
   objects = looks.reads.pass.seen;
   mine = looks.reads.pass.mine;
   opening = looks.reads.opening;
@@ -88,39 +70,36 @@ keeps_look {l = l} {m = m} {call = call} next a i object stamp looks clock clock
     keeps_sight next a only (stamped only call a i stamp looks.stamp on stamps) does
     (λ e follows joined has. seen e follows joined (point_seen next only _ refl i stamp looks.stamp e joined has))
 
+-- law: a POSIX timer that a call looked at is the record's, after so many entries
+posix_looked : {s : Script} {x : WorldOf} {l : LaneOf} {call : Call} (next : IsNextCall s x l call) (m : LaneOf) (i stamp : ℕ) (t : PosixTimer)
+    → LooksAtObject (caller_of l.pass [] []) (caller_of m.pass [] []) i (objects.Posix t) stamp
+    → (base : ℕ) × (kind_of s i ≡ kinds.Posix base) × ((e : Ending) → Follows m.pass e → t ≡ posix_after s e.run i base stamp)
+posix_looked {s = s} {x = x} next m i stamp t looks =
+    let seen = seen_of m.pass.objects i in
+    let after = subst (λ made. StateAfter cell_meaning made i seen looks.reads.state) next.objects looks.reads.at in
+    let its = subst (IsObjectOf (decl_at x.objects i) x.objects.limit (length seen)) (sym looks.state)
+    (state_is x.objects i seen looks.reads.state after) in
+    let kind = posix_declared s x i next.world its.0 in (
+      kind.0,
+      kind.1,
+      λ e follows. let same : objects.Posix t ≡ objects.Posix (posix_after s e.run i kind.0 stamp) =
+          looks.state ∙ posix_seen s x next.world i seen looks.reads.state after e (follows.objects i) kind.0 kind.1
+          ∙ ap (λ n. objects.Posix (posix_after s e.run i kind.0 n)) (sym looks.stamp) in cc,
+    )
+
 -- law: a lane keeps a look at an overrun
 pub keeps_overrun : {s : Script} {x : WorldOf} {l m : LaneOf} {a : Answer} {timer : ℕ} → IsNextCall s x l (calls.Overrun timer) → CallsOverrun x l m a timer
     → KeepsCall s l (calls.Overrun timer) a m
-keeps_overrun {s = s} {x = x} {l = l} {m = m} {timer = timer} next c =
-    let t = c.looks.0 in
-    let looks = c.looks.1 in
-    let seen = seen_of m.pass.objects timer in
-    let after : StateAfter cell_meaning (opened_cells x.objects.decls x.objects.limit) timer seen looks.reads.state =
-    subst (λ made. StateAfter cell_meaning made timer seen looks.reads.state) next.objects looks.reads.at in
-    let is = state_is x.objects timer seen looks.reads.state after in
-    let its : IsObjectOf (decl_at x.objects timer) x.objects.limit (length seen) (objects.Posix t) =
-    subst (IsObjectOf (decl_at x.objects timer) x.objects.limit (length seen)) (sym looks.state) is in
-    let kind = posix_declared s timer (sym (declared_over s x timer next.world) ∙ its.0) in
+keeps_overrun {s = s} {l = l} {m = m} {timer = timer} next c =
+    let looked = posix_looked next m timer c.found.stamp c.looks.0 c.looks.1 in
     subst (λ a. KeepsCall s l (calls.Overrun timer) a m) (sym c.told)
-    (keeps_look next (answers.Overrun c.found.overrun c.found.stamp) timer (objects.Posix t) c.found.stamp looks (leaves_begins l.pass m.pass c.clock)
-    (ap (λ o. o.knows.pass.mine) c.clock) c.notes refl refl refl
+    (keeps_look next (answers.Overrun c.found.overrun c.found.stamp) timer (objects.Posix c.looks.0) c.found.stamp c.looks.1
+    (leaves_begins l.pass m.pass c.clock) (ap (λ o. o.knows.pass.mine) c.clock) c.notes refl refl refl
     (λ e follows joined point. (
       point,
-      let same : objects.Posix t ≡ objects.Posix (posix_after s e.run timer kind.0 (length seen)) =
-          looks.state ∙ posix_seen s x next.world timer seen looks.reads.state after e (follows.objects timer) kind.0 kind.1 in
-          let timers : t ≡ posix_after s e.run timer kind.0 (length seen) = cc in
-          ap (λ k. (posix_after s e.run timer (base_of k) c.found.stamp).overrun) kind.1
-          ∙ ap (λ n. (posix_after s e.run timer kind.0 n).overrun) looks.stamp ∙ ap (λ (u : PosixTimer). u.overrun) (sym timers) ∙ sym c.looks.2,
+      ap (λ k. (posix_after s e.run timer (base_of k) c.found.stamp).overrun) looked.1
+          ∙ ap (λ (u : PosixTimer). u.overrun) (sym (looked.2 e follows)) ∙ sym c.looks.2,
     )))
-
--- law: a descriptor is declared where one was seen
-pub fd_declared : (s : Script) (i : ℕ) → over_of (kind_of s i) ≡ over.Fd → (base : ℕ) × (kind_of s i ≡ kinds.Fd base)
-fd_declared s i is = go (kind_of s i) is
-  where
-    go : (k : Kind) → over_of k ≡ over.Fd → (base : ℕ) × (k ≡ kinds.Fd base)
-    go (kinds.Raw callback) is = absurd (cc)
-    go (kinds.Posix base) is = absurd (cc)
-    go (kinds.Fd base) is = (base, refl)
 
 -- law: a look leaves no receipts
 pub look_alone : (l m : LaneOf) (log : List Receipt) (object_log : List ObjectReceipt) (i : ℕ) (object : Object) (stamp : ℕ)
@@ -148,7 +127,7 @@ keeps_readable {s = s} {x = x} {l = l} {m = m} {timer = timer} next called =
     let is = state_is x.objects timer seen looks.reads.state after in
     let its : IsObjectOf (decl_at x.objects timer) x.objects.limit (length seen) (objects.Fd t) =
     subst (IsObjectOf (decl_at x.objects timer) x.objects.limit (length seen)) (sym looks.state) is in
-    let kind = fd_declared s timer (sym (declared_over s x timer next.world) ∙ its.0) in
+    let kind = fd_declared s x timer next.world its.0 in
     subst (λ a. KeepsCall s l (calls.Readable timer) a m) (sym c.does.1)
     (keeps_look next (answers.Readable found.ready c.reading.stamp found.stamp) timer (objects.Fd t) found.stamp looks
     (reads_begins l.pass m.pass c.reads.looks.seen) c.reads.looks.mine alone.1 refl refl (refl, c.reads.count)
@@ -180,22 +159,15 @@ keeps_gettime-posix {s = s} {x = x} {l = l} {m = m} {a = a} {timer = timer} next
         let alone = look_alone l m c.log c.object_log timer (objects.Posix t) stamp does.1 c.notes in
         let looks = alone.0 in
         let ws = writes m.pass.clock.knows in
-        let seen = seen_of m.pass.objects timer in
-        let after : StateAfter cell_meaning (opened_cells x.objects.decls x.objects.limit) timer seen looks.reads.state =
-        subst (λ made. StateAfter cell_meaning made timer seen looks.reads.state) next.objects looks.reads.at in
-        let kind = posix_declared s timer (sym (declared_over s x timer next.world) ∙ posix) in
+        let looked = posix_looked next m timer stamp t looks in
         subst (λ b. KeepsCall s l (calls.Gettime timer) b m)
         (sym (told ∙ ap (λ k. gettime_told k c.reading.stamp (gettimes.Left left interval stamp)) posix))
         (keeps_look next (answers.LeftAt left interval c.reading.stamp stamp) timer (objects.Posix t) stamp looks
         (reads_begins l.pass m.pass c.reads.looks.seen) c.reads.looks.mine alone.1 refl refl
-        (subst (λ k. DoesGettime k timer (length ws) (answers.LeftAt left interval c.reading.stamp stamp) []) (sym kind.1) (refl, c.reads.count))
+        (subst (λ k. DoesGettime k timer (length ws) (answers.LeftAt left interval c.reading.stamp stamp) []) (sym looked.1) (refl, c.reads.count))
         (λ e follows joined point. (
           point,
-          let same : objects.Posix t ≡ objects.Posix (posix_after s e.run timer kind.0 (length seen)) =
-              looks.state ∙ posix_seen s x next.world timer seen looks.reads.state after e (follows.objects timer) kind.0 kind.1 in
-              let timers : t ≡ posix_after s e.run timer kind.0 (length seen) = cc in
-              ap (λ k. setting_of (posix_after s e.run timer (base_of k) stamp) (reading_at e.run.clock (length ws))) kind.1
-              ∙ ap (λ n. setting_of (posix_after s e.run timer kind.0 n) (reading_at e.run.clock (length ws))) looks.stamp
-              ∙ ap (λ u. setting_of u (reading_at e.run.clock (length ws))) (sym timers)
+          ap (λ k. setting_of (posix_after s e.run timer (base_of k) stamp) (reading_at e.run.clock (length ws))) looked.1
+              ∙ ap (λ u. setting_of u (reading_at e.run.clock (length ws))) (sym (looked.2 e follows))
               ∙ ap (setting_of t) (reading_of_seen e ws follows.clock ∙ sym c.reads.shows) ∙ sym does.2,
         )))

@@ -1,22 +1,20 @@
 -- An object as a pass has seen it is the record's, in every run that goes on from there.
-use Rattle.std.proofs.Common.{◌≡◌, ℕ, ◌+◌, zero, suc, Some, List, [], ◌∷◌, ◌++◌, length, map, take, get_or, refl, sym, ap, ◌∙◌, subst}
+use Rattle.std.proofs.Common.{◌≡◌, ℕ, true, is_some, Option, ◌+◌, zero, suc, Some, List, [], ◌∷◌, ◌++◌, length, map, take, get_or, refl, sym, ap, ◌∙◌, subst}
 use mathlib.Core.Option.{some, some-injective, some-ne-none}
 use lib.ListN.{get_elem?}
-use Rattle.ktime.specs.declared.clock_id.ClockId.TheVariants as clocks
 use Rattle.counted_row.specs.Meaning.{Leads}
 use Rattle.counted_row.specs.Views.{StateAfter}
 use Rattle.posix_timer.specs.States.{posix_opening, PosixTimer}
-use Rattle.posix_timer.specs.Steps.{posix_answer, posix_step, posix_table}
+use Rattle.posix_timer.specs.Steps.{posix_answer, posix_step, posix_table, PosixAllows}
 use Rattle.posix_timer.specs.declared.calls.Call as posix_call
 use Rattle.timer_fd.specs.States.{Descriptor, fd_opening}
-use Rattle.timer_fd.specs.Steps.{fd_answer, fd_step, fd_table}
+use Rattle.timer_fd.specs.Steps.{fd_answer, fd_step, fd_table, FdAllows}
 use Rattle.timer_fd.specs.declared.calls.Call as fd_call
-use Rattle.timer_setting.specs.StepTables.{after_calls}
+use Rattle.timer_setting.specs.StepTables.{after_calls, AnsweredCall, AreCalls, StepTable}
 use Rattle.timer_objects.specs.Cells.{cell_meaning, opened_cell, opened_cells}
 use Rattle.timer_objects.specs.Steps.{object_answer, object_step, ObjectAllows}
 use Rattle.timer_objects.specs.declared.cell.ObjectCell.{ObjectCell}
 use Rattle.timer_objects.specs.declared.object.Decl.{Decl}
-use Rattle.timer_objects.specs.declared.object.Kind.TheVariants as over
 use Rattle.timer_objects.specs.declared.object.Object.TheVariants as objects
 use Rattle.timer_objects.specs.declared.object.ObjectCall.TheVariants as of_kind
 use Rattle.timer_objects.specs.declared.object.ObjectCall.{ObjectCall}
@@ -28,120 +26,138 @@ use Rattle.script_text.specs.FdHistories.{fd_entry}
 use Rattle.script_text.specs.Histories.{clock_of}
 use Rattle.script_text.specs.Objects.{fd_after, kind_of, lines_of_object, posix_after, present}
 use Rattle.script_text.specs.PosixHistories.{posix_entry}
-use Rattle.script_text.specs.declared.script.Callback.TheVariants as callbacks
-use Rattle.script_text.specs.declared.script.Declaration.{Declaration}
 use Rattle.script_text.specs.declared.script.Kind.TheVariants as kinds
 use Rattle.script_text.specs.declared.script.Script.{Script}
 use Rattle.lane_notes.specs.FdNotes.{fd_as_told}
 use Rattle.lane_notes.specs.PosixNotes.{posix_as_told}
-use Rattle.lane_notes.proofs.FdAgain.{fd_step-told}
-use Rattle.lane_notes.proofs.PosixAgain.{posix_step-told}
+use Rattle.lane_notes.proofs.FdAgain.{FdAllows-told, fd_answer-told, fd_step-told}
+use Rattle.lane_notes.proofs.PosixAgain.{PosixAllows-told, posix_answer-told, posix_step-told}
 use Rattle.run_history.specs.Runs.{Ending}
 use Rattle.lane_run.specs.Kept.{AreObjectLines, FollowsObject, ObjectMove, ShowsObjectCall}
-use Rattle.lane_run.specs.Worlds.{decl_as, decl_of, IsWorldOf, WorldOf}
+use Rattle.script_text.specs.declared.script.Kind.{Kind}
+use Rattle.timer_objects.specs.declared.object.Object.{Object}
+use Rattle.posix_timer.specs.declared.calls.Reply as posix_reply
+use Rattle.timer_fd.specs.declared.calls.Reply as fd_reply
+use Rattle.std.specs.List.{AllByRecursion}
+use Rattle.lane_run.specs.Worlds.{decl_as, IsWorldOf, WorldOf}
+use Rattle.lane_run.proofs.Declared.{declared_in, no_decl}
 
 take_none : {A : Type 0} (xs : List A) → take 0 xs ≡ []
 take_none [] = refl
 take_none (x ∷ xs) = refl
 
--- ---- POSIX timers
+-- ---- a kind of object
 
--- law: an entry of a POSIX timer that a line shows, with its answer, as the line tells it
-pub posix_one : (clock : List ClockLine) (t : PosixTimer) (call : ObjectCall) (reply : ObjectReply) (entry : ObjectEntry) → ObjectAllows (objects.Posix t) call
-    → reply ≡ object_answer (objects.Posix t) call → ShowsObjectCall clock call reply entry
-    → (c : posix_call.Call) × (call ≡ of_kind.Posix c) × (posix_entry clock entry ≡ Some (record { call = posix_as_told c; reply = posix_answer t c }))
-posix_one clock t (of_kind.Posix c) reply entry allows is shows =
-    (c, refl, subst (λ r. ShowsObjectCall clock (of_kind.Posix c) r entry) is shows)
-posix_one clock t (of_kind.Fd c) reply entry allows is shows = absurd allows
+-- A kind of object, with its states, calls and replies, and how a record's lines tell its entries: a line that shows a call gives one that may be made
+-- where the call may, with the same step and answer.
+pub record LineKind (S C R : Type 0) : Type 1 where
+  pub table : StepTable S C R
+  pub object : S → Object
+  pub entry_of : List ClockLine → ObjectEntry → Option (AnsweredCall C R)
+  pub told : (clock : List ClockLine) (t : S) (call : ObjectCall) (reply : ObjectReply) (entry : ObjectEntry) → ObjectAllows (object t) call
+      → reply ≡ object_answer (object t) call → ShowsObjectCall clock call reply entry
+      → (a : AnsweredCall C R) × (entry_of clock entry ≡ Some a) × table.allows t a.call × (a.reply ≡ table.answer t a.call)
+      × (object_step (object t) call ≡ object (table.next t a.call))
 
-posix_leads : (clock : List ClockLine) (spans : ℕ → ℕ × ℕ) (k : ℕ) (t : PosixTimer) (last : ℕ) (log rest : List ObjectMove) (lines : List ObjectLine)
-    (cell : ObjectCell) → Leads cell_meaning (record { object = objects.Posix t; last = last }) log cell → AreObjectLines clock spans k (log ++ rest) lines
-    → cell.object ≡ objects.Posix (after_calls posix_table t (take (length log) (present (map (posix_entry clock) (map (λ line. line.entry) lines)))))
-posix_leads clock spans k t last [] rest lines cell leads are =
-    ap (λ (c : ObjectCell). c.object) leads
-    ∙ ap (λ xs. objects.Posix (after_calls posix_table t xs)) (sym (take_none (present (map (posix_entry clock) (map (λ line. line.entry) lines)))))
-posix_leads clock spans k t last (e ∷ es) rest [] cell leads are = absurd are
-posix_leads clock spans k t last (e ∷ es) rest (line ∷ lines) cell leads are =
-    let one = posix_one clock t e.call.call e.reply line.entry leads.0.allowed leads.1 are.0 in
-    let later = map (posix_entry clock) (map (λ (y : ObjectLine). y.entry) lines) in
-    posix_leads clock spans (k + 1) (posix_step t one.0) e.call.to es rest lines cell
-    (subst (λ c. Leads cell_meaning (record { object = object_step (objects.Posix t) c; last = e.call.to }) es cell) one.1 leads.2) are.2
-    ∙ ap (λ u. objects.Posix (after_calls posix_table u (take (length es) (present later)))) (sym (posix_step-told t one.0))
-    ∙ ap (λ o. objects.Posix (after_calls posix_table t (take (suc (length es)) (present (o ∷ later))))) (sym one.2)
+-- law: POSIX timers are one
+abbrev pub posix_kind : LineKind PosixTimer posix_call.Call posix_reply.Reply
+posix_kind = record { table = posix_table; object = objects.Posix; entry_of = posix_entry; told = told }
+  where
+    told : (clock : List ClockLine) (t : PosixTimer) (call : ObjectCall) (reply : ObjectReply) (entry : ObjectEntry) → ObjectAllows (objects.Posix t) call
+        → reply ≡ object_answer (objects.Posix t) call → ShowsObjectCall clock call reply entry
+        → (a : AnsweredCall posix_call.Call posix_reply.Reply) × (posix_entry clock entry ≡ Some a) × PosixAllows t a.call
+        × (a.reply ≡ posix_answer t a.call) × (object_step (objects.Posix t) call ≡ objects.Posix (posix_step t a.call))
+    told clock t (of_kind.Posix c) reply entry allows is shows = (
+      record { call = posix_as_told c; reply = posix_answer t c },
+      subst (λ r. ShowsObjectCall clock (of_kind.Posix c) r entry) is shows,
+      PosixAllows-told t c allows,
+      sym (posix_answer-told t c),
+      ap objects.Posix (sym (posix_step-told t c)),
+    )
+    told clock t (of_kind.Fd c) reply entry allows is shows = absurd allows
 
--- ---- descriptors
+-- law: so are descriptors
+abbrev pub fd_kind : LineKind Descriptor fd_call.Call fd_reply.Reply
+fd_kind = record { table = fd_table; object = objects.Fd; entry_of = fd_entry; told = told }
+  where
+    told : (clock : List ClockLine) (t : Descriptor) (call : ObjectCall) (reply : ObjectReply) (entry : ObjectEntry) → ObjectAllows (objects.Fd t) call
+        → reply ≡ object_answer (objects.Fd t) call → ShowsObjectCall clock call reply entry
+        → (a : AnsweredCall fd_call.Call fd_reply.Reply) × (fd_entry clock entry ≡ Some a) × FdAllows t a.call × (a.reply ≡ fd_answer t a.call)
+        × (object_step (objects.Fd t) call ≡ objects.Fd (fd_step t a.call))
+    told clock t (of_kind.Fd c) reply entry allows is shows = (
+      record { call = fd_as_told c; reply = fd_answer t c },
+      subst (λ r. ShowsObjectCall clock (of_kind.Fd c) r entry) is shows,
+      FdAllows-told t c allows,
+      sym (fd_answer-told t c),
+      ap objects.Fd (sym (fd_step-told t c)),
+    )
+    told clock t (of_kind.Posix c) reply entry allows is shows = absurd allows
 
--- law: an entry of a descriptor that a line shows, with its answer, as the line tells it
-pub fd_one : (clock : List ClockLine) (t : Descriptor) (call : ObjectCall) (reply : ObjectReply) (entry : ObjectEntry) → ObjectAllows (objects.Fd t) call
-    → reply ≡ object_answer (objects.Fd t) call → ShowsObjectCall clock call reply entry
-    → (c : fd_call.Call) × (call ≡ of_kind.Fd c) × (fd_entry clock entry ≡ Some (record { call = fd_as_told c; reply = fd_answer t c }))
-fd_one clock t (of_kind.Fd c) reply entry allows is shows = (c, refl, subst (λ r. ShowsObjectCall clock (of_kind.Fd c) r entry) is shows)
-fd_one clock t (of_kind.Posix c) reply entry allows is shows = absurd allows
+module _ {S C R : Type 0} (k : LineKind S C R) (clock : List ClockLine) (spans : ℕ → ℕ × ℕ) where
+  -- the calls that lines tell, with their answers
+  abbrev pub calls_in : List ObjectLine → List (AnsweredCall C R)
+  calls_in lines = present (map (k.entry_of clock) (map (λ line. line.entry) lines))
 
-fd_leads : (clock : List ClockLine) (spans : ℕ → ℕ × ℕ) (k : ℕ) (t : Descriptor) (last : ℕ) (log rest : List ObjectMove) (lines : List ObjectLine)
-    (cell : ObjectCell) → Leads cell_meaning (record { object = objects.Fd t; last = last }) log cell → AreObjectLines clock spans k (log ++ rest) lines
-    → cell.object ≡ objects.Fd (after_calls fd_table t (take (length log) (present (map (fd_entry clock) (map (λ line. line.entry) lines)))))
-fd_leads clock spans k t last [] rest lines cell leads are =
-    ap (λ (c : ObjectCell). c.object) leads
-    ∙ ap (λ xs. objects.Fd (after_calls fd_table t xs)) (sym (take_none (present (map (fd_entry clock) (map (λ line. line.entry) lines)))))
-fd_leads clock spans k t last (e ∷ es) rest [] cell leads are = absurd are
-fd_leads clock spans k t last (e ∷ es) rest (line ∷ lines) cell leads are =
-    let one = fd_one clock t e.call.call e.reply line.entry leads.0.allowed leads.1 are.0 in
-    let later = map (fd_entry clock) (map (λ (y : ObjectLine). y.entry) lines) in
-    fd_leads clock spans (k + 1) (fd_step t one.0) e.call.to es rest lines cell
-    (subst (λ c. Leads cell_meaning (record { object = object_step (objects.Fd t) c; last = e.call.to }) es cell) one.1 leads.2) are.2
-    ∙ ap (λ u. objects.Fd (after_calls fd_table u (take (length es) (present later)))) (sym (fd_step-told t one.0))
-    ∙ ap (λ o. objects.Fd (after_calls fd_table t (take (suc (length es)) (present (o ∷ later))))) (sym one.2)
+  -- law: an object after calls that the first of these lines show is that after the calls that these lines tell
+  pub leads_to : (number : ℕ) (t : S) (last : ℕ) (log rest : List ObjectMove) (lines : List ObjectLine) (cell : ObjectCell)
+      → Leads cell_meaning (record { object = k.object t; last = last }) log cell → AreObjectLines clock spans number (log ++ rest) lines
+      → cell.object ≡ k.object (after_calls k.table t (take (length log) (calls_in lines)))
+  leads_to number t last [] rest lines cell leads are =
+      ap (λ (c : ObjectCell). c.object) leads ∙ ap (λ xs. k.object (after_calls k.table t xs)) (sym (take_none (calls_in lines)))
+  leads_to number t last (e ∷ es) rest [] cell leads are = absurd are
+  leads_to number t last (e ∷ es) rest (line ∷ lines) cell leads are =
+      let one = k.told clock t e.call.call e.reply line.entry leads.0.allowed leads.1 are.0 in
+      leads_to (number + 1) (k.table.next t one.0.call) e.call.to es rest lines cell
+      (subst (λ o. Leads cell_meaning (record { object = o; last = e.call.to }) es cell) one.4 leads.2) are.2
+      ∙ ap (λ o. k.object (after_calls k.table t (take (suc (length es)) (present (o ∷ map (k.entry_of clock) (map (λ (y : ObjectLine). y.entry) lines))))))
+      (sym one.1)
+
+  -- law: lines that show all calls of an object are a legal history of it
+  pub legal : (number : ℕ) (t : S) (last : ℕ) (to : ObjectCell) (hs : List ObjectMove) (lines : List ObjectLine)
+      → Leads cell_meaning (record { object = k.object t; last = last }) hs to → AreObjectLines clock spans number hs lines
+      → AllByRecursion (λ e. is_some (k.entry_of clock e) ≡ true) (map (λ line. line.entry) lines) × AreCalls k.table t (calls_in lines)
+  legal number t last to [] [] leads are = (tt, tt)
+  legal number t last to [] (line ∷ lines) leads are = absurd are
+  legal number t last to (h ∷ hs) [] leads are = absurd are
+  legal number t last to (h ∷ hs) (line ∷ lines) leads are =
+      let one = k.told clock t h.call.call h.reply line.entry leads.0.allowed leads.1 are.0 in
+      let rest = legal (number + 1) (k.table.next t one.0.call) h.call.to to hs lines
+      (subst (λ o. Leads cell_meaning (record { object = o; last = h.call.to }) hs to) one.4 leads.2) are.2 in (
+        (ap is_some one.1, rest.0),
+        subst (λ o. AreCalls k.table t (present (o ∷ map (k.entry_of clock) (map (λ (y : ObjectLine). y.entry) lines)))) (sym one.1)
+            (one.2, one.3, rest.1),
+      )
 
 -- ---- as a script declares them
 
 -- law: an object that was just made is that of its declaration
-pub opened_at : (limit : ℕ) (ds : List Decl) (i : ℕ) (c : ObjectCell) (d : Decl) → get_elem? (map (opened_cell limit) ds) i ≡ some c
+opened_at : (limit : ℕ) (ds : List Decl) (i : ℕ) (c : ObjectCell) (d : Decl) → get_elem? (map (opened_cell limit) ds) i ≡ some c
     → c ≡ opened_cell limit (get_or ds i d)
 opened_at limit [] i c d e = absurd (some-ne-none c (sym e))
 opened_at limit (y ∷ ys) zero c d e = some-injective c (opened_cell limit y) (sym e)
 opened_at limit (y ∷ ys) (suc i) c d e = opened_at limit ys i c d e
 
--- law: how a POSIX timer is declared
-pub posix_decl : (ds : List Declaration) (i base : ℕ) (d : Decl) → get_or (map (λ d. d.kind) ds) i (kinds.Raw callbacks.Once) ≡ kinds.Posix base
-    → get_or (map decl_of ds) i d ≡ record { kind = over.Posix; clock = get_or (map (λ d. d.clock) ds) i clocks.Monotonic; base = base }
-posix_decl [] i base d is = absurd (cc)
-posix_decl (x ∷ ds) zero base d is = ap (λ k. decl_as k x.clock) is
-posix_decl (x ∷ ds) (suc i) base d is = posix_decl ds i base d is
-
--- law: how a descriptor is declared
-pub fd_decl : (ds : List Declaration) (i base : ℕ) (d : Decl) → get_or (map (λ d. d.kind) ds) i (kinds.Raw callbacks.Once) ≡ kinds.Fd base
-    → get_or (map decl_of ds) i d ≡ record { kind = over.Fd; clock = get_or (map (λ d. d.clock) ds) i clocks.Monotonic; base = base }
-fd_decl [] i base d is = absurd (cc)
-fd_decl (x ∷ ds) zero base d is = ap (λ k. decl_as k x.clock) is
-fd_decl (x ∷ ds) (suc i) base d is = fd_decl ds i base d is
-
 module _ (s : Script) (x : WorldOf) (world : IsWorldOf s x) (i : ℕ) (seen : List ObjectMove) (cell : ObjectCell)
-    (after : StateAfter cell_meaning (opened_cells x.objects.decls x.objects.limit) i seen cell) (e : Ending) (follows : FollowsObject e i seen) where
-  none : Decl
-  none = record { kind = over.Raw; clock = clocks.Monotonic; base = 0 }
+    (after : StateAfter cell_meaning (opened_cells x.objects.decls x.objects.limit) i seen cell) where
+  -- law: an object leads from where its declaration opens it
+  pub leads_from : (k : Kind) → kind_of s i ≡ k → Leads cell_meaning (opened_cell s.limit (decl_as k (clock_of s i))) seen cell
+  leads_from k is =
+      subst (λ c. Leads cell_meaning c seen cell) (opened_at x.objects.limit x.objects.decls i after.from no_decl after.at
+      ∙ ap (opened_cell x.objects.limit) (declared_in s x i world ∙ ap (λ k. decl_as k (clock_of s i)) is)
+      ∙ ap (λ n. opened_cell n (decl_as k (clock_of s i))) world.limit) after.leads
 
-  shown : AreObjectLines e.run.clock (e.spans i) 1 (seen ++ follows.goes_on.rest) (lines_of_object e.run i)
-  shown = subst (λ hs. AreObjectLines e.run.clock (e.spans i) 1 hs (lines_of_object e.run i)) follows.goes_on.whole follows.lines
+  module _ (e : Ending) (follows : FollowsObject e i seen) where
+    shown : AreObjectLines e.run.clock (e.spans i) 1 (seen ++ follows.goes_on.rest) (lines_of_object e.run i)
+    shown = subst (λ hs. AreObjectLines e.run.clock (e.spans i) 1 hs (lines_of_object e.run i)) follows.goes_on.whole follows.lines
 
-  -- law: a POSIX timer after what was seen of it is the record's after so many entries
-  pub posix_seen : (base : ℕ) → kind_of s i ≡ kinds.Posix base → cell.object ≡ objects.Posix (posix_after s e.run i base (length seen))
-  posix_seen base is =
-      let opened = opened_at x.objects.limit x.objects.decls i after.from none after.at in
-      let decl = ap (λ ds. get_or ds i none) world.decls ∙ posix_decl s.timers i base none is in
-      let first : after.from ≡ record { object = objects.Posix (posix_opening (clock_of s i) base s.limit); last = 0 } =
-      opened ∙ ap (opened_cell x.objects.limit) decl
-      ∙ ap (λ n. record { object = objects.Posix (posix_opening (clock_of s i) base n); last = 0 }) world.limit in
-      posix_leads e.run.clock (e.spans i) 1 (posix_opening (clock_of s i) base s.limit) 0 seen follows.goes_on.rest (lines_of_object e.run i) cell
-      (subst (λ c. Leads cell_meaning c seen cell) first after.leads) shown
+    -- law: a POSIX timer after what was seen of it is the record's after so many entries
+    pub posix_seen : (base : ℕ) → kind_of s i ≡ kinds.Posix base → cell.object ≡ objects.Posix (posix_after s e.run i base (length seen))
+    posix_seen base is =
+        leads_to posix_kind e.run.clock (e.spans i) 1 (posix_opening (clock_of s i) base s.limit) 0 seen follows.goes_on.rest (lines_of_object e.run i) cell
+        (leads_from (kinds.Posix base) is) shown
 
-  -- law: a descriptor after what was seen of it is the record's after so many entries
-  pub fd_seen : (base : ℕ) → kind_of s i ≡ kinds.Fd base → cell.object ≡ objects.Fd (fd_after s e.run i base (length seen))
-  fd_seen base is =
-      let opened = opened_at x.objects.limit x.objects.decls i after.from none after.at in
-      let decl = ap (λ ds. get_or ds i none) world.decls ∙ fd_decl s.timers i base none is in
-      let first : after.from ≡ record { object = objects.Fd (fd_opening (clock_of s i) base s.limit); last = 0 } =
-      opened ∙ ap (opened_cell x.objects.limit) decl
-      ∙ ap (λ n. record { object = objects.Fd (fd_opening (clock_of s i) base n); last = 0 }) world.limit in
-      fd_leads e.run.clock (e.spans i) 1 (fd_opening (clock_of s i) base s.limit) 0 seen follows.goes_on.rest (lines_of_object e.run i) cell
-      (subst (λ c. Leads cell_meaning c seen cell) first after.leads) shown
+    -- law: a descriptor after what was seen of it is the record's after so many entries
+    pub fd_seen : (base : ℕ) → kind_of s i ≡ kinds.Fd base → cell.object ≡ objects.Fd (fd_after s e.run i base (length seen))
+    fd_seen base is =
+        leads_to fd_kind e.run.clock (e.spans i) 1 (fd_opening (clock_of s i) base s.limit) 0 seen follows.goes_on.rest (lines_of_object e.run i) cell
+        (leads_from (kinds.Fd base) is) shown

@@ -1,15 +1,14 @@
 -- A call's lines in a list of the record are what it did there, by the notes that were made of it and stand sorted.
 use mathlib.Core.Bool.{cond}
-use Rattle.std.proofs.Common.{◌≡◌, ℕ, ◌+◌, zero, suc, true, false, nat_eq, Some, List, [], ◌∷◌, filter, map, arith, refl, sym, ap, ◌∙◌, subst, inl, inr}
+use Rattle.std.proofs.Common.{◌≡◌, ℕ, ◌+◌, zero, suc, true, false, nat_eq, Some, List, [], ◌∷◌, filter, map, arith, refl, sym, ap, ◌∙◌, subst, inl, inr, Bool}
 use Rattle.std.specs.List.{slice_get}
 use Rattle.std.proofs.Math.Logic.{⊎_elim}
 use Rattle.std.proofs.lemmas.Bool.{eq-eqb, eqb-true}
 use Rattle.std.proofs.lemmas.Option.{same_Some}
-use Rattle.lane_notes.specs.Sorted.{is_of_list, IsSortedOf, Place}
+use Rattle.lane_notes.specs.Sorted.{is_of_list, IsSortedOf, Place, place_of_look, place_of_object, place_of_skip}
 use Rattle.lane_notes.specs.declared.notes.LookNote.{LookNote}
 use Rattle.lane_notes.specs.declared.notes.ObjectNote.{ObjectNote}
 use Rattle.lane_notes.specs.declared.notes.SkipNote.{SkipNote}
-use Rattle.lane_notes.specs.Sorted.{place_of_look, place_of_object, place_of_skip}
 use Rattle.lane_notes.proofs.Standing.{filter_stands_in, HasPlace, stands_in_filter}
 use Rattle.record_text.specs.declared.record.Label.{Label}
 use Rattle.script_text.specs.Actions.{also, own}
@@ -51,33 +50,26 @@ made_among f (y ∷ xs) e here =
 
 -- ---- the notes of a call
 
+-- what is made of an item that passes a test, in front of what is made of others
+also-map : {X Y : Type 0} (b : Bool) (f : X → Y) (x : X) (xs : List X) {ys : List Y} → ys ≡ map f xs → also b (f x) ys ≡ map f (cond b (x ∷ xs) xs)
+also-map true f x xs is = ap (λ ys. f x ∷ ys) is
+also-map false f x xs is = is
+
 -- law: notes of a list as what is told of each
 pub made_on-filter : (i : ℕ) (ns : List ObjectNote) → made_on i ns ≡ map (λ n. (n.number, n.entry)) (filter (is_of_list place_of_object i) ns)
 made_on-filter i [] = refl
 made_on-filter i (n ∷ ns) =
-    let rest = filter (is_of_list place_of_object i) ns in
-    elim (nat_eq n.object i) as (λ b. also b (n.number, n.entry) (made_on i ns) ≡ map (λ m. (m.number, m.entry)) (cond b (n ∷ rest) rest)) [
-      | true ↦ ap (λ xs. (n.number, n.entry) ∷ xs) (made_on-filter i ns)
-      | false ↦ made_on-filter i ns
-    ]
+    also-map (nat_eq n.object i) (λ (m : ObjectNote). (m.number, m.entry)) n (filter (is_of_list place_of_object i) ns) (made_on-filter i ns)
 
 pub looks_on-filter : (t : ℕ) (ns : List LookNote) → looks_on t ns ≡ map (λ n. (n.number, n.reply)) (filter (is_of_list place_of_look t) ns)
 looks_on-filter t [] = refl
 looks_on-filter t (n ∷ ns) =
-    let rest = filter (is_of_list place_of_look t) ns in
-    elim (nat_eq n.timer t) as (λ b. also b (n.number, n.reply) (looks_on t ns) ≡ map (λ m. (m.number, m.reply)) (cond b (n ∷ rest) rest)) [
-      | true ↦ ap (λ xs. (n.number, n.reply) ∷ xs) (looks_on-filter t ns)
-      | false ↦ looks_on-filter t ns
-    ]
+    also-map (nat_eq n.timer t) (λ (m : LookNote). (m.number, m.reply)) n (filter (is_of_list place_of_look t) ns) (looks_on-filter t ns)
 
 pub skips_on-filter : (i : ℕ) (ns : List SkipNote) → skips_on i ns ≡ map (λ n. (n.number, n.generation)) (filter (is_of_list place_of_skip i) ns)
 skips_on-filter i [] = refl
 skips_on-filter i (n ∷ ns) =
-    let rest = filter (is_of_list place_of_skip i) ns in
-    elim (nat_eq n.object i) as (λ b. also b (n.number, n.generation) (skips_on i ns) ≡ map (λ m. (m.number, m.generation)) (cond b (n ∷ rest) rest)) [
-      | true ↦ ap (λ xs. (n.number, n.generation) ∷ xs) (skips_on-filter i ns)
-      | false ↦ skips_on-filter i ns
-    ]
+    also-map (nat_eq n.object i) (λ (m : SkipNote). (m.number, m.generation)) n (filter (is_of_list place_of_skip i) ns) (skips_on-filter i ns)
 
 -- the notes of a call on one list
 abbrev pub own_on : {X : Type 0} → (X → Place) → ℕ → Label → List X → List X
@@ -105,6 +97,10 @@ own_on_parts place l c xs x s =
 pub rise_in : {A : Type 0} (k : ℕ) (xs : List (ℕ × A)) → Rises k (map (λ x. x.0) xs) → RiseIn k xs
 rise_in k [] rise = tt
 rise_in k (x ∷ xs) rise = (rise.0, rise_in (x.0 + 1) xs rise.1)
+
+-- one more on either side
+pub turned : (n : ℕ) → n + 1 ≡ 1 + n
+turned n = omega arith
 
 -- ---- its lines
 
@@ -143,9 +139,6 @@ module _ {X L A : Type 0} (place : X → Place) (many : ℕ → ℕ) (xs sorted 
             own = ap (λ (p : Label × A). is_label c p.0) y.2 ∙ o.own;
             is = m.2 ∙ ap (λ k. (k, told n)) (s.2 ∙ turned s.0) ∙ ap (λ (p : Label × A). (1 + s.0, p.1)) (sym y.2);
           }
-        where
-          turned : (j : ℕ) → j + 1 ≡ 1 + j
-          turned j = omega arith
 
       all : (p : ℕ) (y : L) → slice_get lines p ≡ Some y → is_label c (label y) ≡ true → Among (1 + p, thing y) items
       all p y at own_line =
@@ -158,6 +151,3 @@ module _ {X L A : Type 0} (place : X → Place) (many : ℕ → ℕ) (xs sorted 
           (subst (λ e. Among e (map {B = ℕ × A} (λ n. ((place n).number, told n)) (own_on place l c xs)))
           (ap (λ k. (k, told n)) (number ∙ turned p) ∙ ap (λ (q : Label × A). (1 + p, q.1)) m.2)
           (among_made (λ (n : X). ((place n).number, told n)) (own_on place l c xs) n (own_on_from place l c xs n w.0 w.1 is_own)))
-        where
-          turned : (j : ℕ) → j + 1 ≡ 1 + j
-          turned j = omega arith

@@ -1,6 +1,5 @@
 -- What a lane keeps of a call that is a part: of any call but a write of the clock.
-use Rattle.std.proofs.Common.{◌≡◌, ◌≤◌, ◌<◌, ◌+◌, List, [], ◌∷◌, length, map, arith, sym, ap, ◌∙◌, subst}
-use Rattle.std.specs.List.{AllByRecursion}
+use Rattle.std.proofs.Common.{◌≡◌, ◌+◌, List, length, map, arith, sym, ap, ◌∙◌, subst}
 use Rattle.clock_cell.specs.Views.{writes}
 use Rattle.pass_names.specs.Counts.{count, one_if}
 use Rattle.pass_names.specs.Passes.{Begins, is_place}
@@ -16,9 +15,6 @@ use Rattle.script_text.specs.declared.script.Call.{Call}
 use Rattle.script_text.specs.declared.script.Script.{Script}
 use Rattle.lane_notes.specs.Entries.{entry_notes, look_notes}
 use Rattle.lane_notes.specs.Objects.{object_notes, skip_notes}
-use Rattle.lane_notes.specs.declared.notes.LookNote.{LookNote}
-use Rattle.lane_notes.specs.declared.notes.ObjectNote.{ObjectNote}
-use Rattle.lane_notes.specs.declared.notes.SkipNote.{SkipNote}
 use Rattle.run_history.specs.Courses.{Trace}
 use Rattle.run_history.specs.Fits.{FitsCall}
 use Rattle.run_history.specs.Promises as promises
@@ -32,34 +28,8 @@ use Rattle.lane_run.specs.Kept.{Follows, IsLookNote, IsNextCall, IsObjectNote, I
 use Rattle.lane_run.specs.Worlds.{WorldOf}
 use Rattle.lane_run.specs.declared.world.WorldPass.{WorldPass}
 use Rattle.lane_run.proofs.CallKept.{no_places, notes_of, notes_of-bear, places_added, promised_from, stand_from, with_done-joins}
-use Rattle.lane_run.proofs.Parts.{IsNoteIn, IsPart, object_place, rises_lower, rises_only}
-
--- ---- notes
-
-looks_noted : (q : WorldPass) (ns : List LookNote)
-    → AllByRecursion (λ n. (0 < n.number) × (n.number ≤ receipts.count n.timer q.timers.known.seen)) ns → AllByRecursion (IsLookNote q) ns
-looks_noted q [] all = tt
-looks_noted q (n ∷ ns) all = (record { some = all.0.0; seen = all.0.1 }, looks_noted q ns all.1)
-
-skips_noted : (q : WorldPass) (ns : List SkipNote) → AllByRecursion (λ n. (0 < n.number) × (n.number ≤ length (seen_of q.objects n.object))) ns
-    → AllByRecursion (IsSkipNote q) ns
-skips_noted q [] all = tt
-skips_noted q (n ∷ ns) all = (record { some = all.0.0; seen = all.0.1 }, skips_noted q ns all.1)
-
-objects_noted : (IsSo : List ClockLine → Type 0) (p q : WorldPass) → ((e : Ending) → promises.GoesOnClock (writes q.clock.knows) e → IsSo e.run.clock)
-    → (ns : List ObjectNote) → AllByRecursion (IsNoteIn IsSo p.objects q.objects) ns → AllByRecursion (IsObjectNote p q) ns
-objects_noted IsSo p q so [] all = tt
-objects_noted IsSo p q so (n ∷ ns) all = (
-  record {
-    before = all.0.before;
-    number = all.0.number;
-    behind = all.0.behind;
-    step = all.0.step;
-    there = all.0.there;
-    shows = λ e goes. all.0.shows e.run.clock (so e goes);
-  },
-  objects_noted IsSo p q so ns all.1,
-)
+use Rattle.lane_run.proofs.Parts.{IsNoteIn, IsPart, object_place}
+use Rattle.lane_run.proofs.PartLists.{each_weaker, rises_lower, rises_only}
 
 -- ---- the call
 
@@ -67,7 +37,7 @@ objects_noted IsSo p q so (n ∷ ns) all = (
 pub sees_part : {IsSo : List ClockLine → Type 0} {label : Label} {actions : List Action} {notes : List Noted} {log : List Receipt}
     {object_log : List ObjectReceipt} (p q : WorldPass) → IsPart IsSo label p.timers.known p.objects q.timers.known q.objects actions notes log object_log
     → Begins (writes p.clock.knows) (writes q.clock.knows) → SeesOn p q
-sees_part p q part clock = record { timers = part.enters.seen; clock = clock; objects = part.goes_on; opening = part.opening }
+sees_part p q part clock = record { timers = part.timers.enters.seen; clock = clock; objects = part.objects.goes_on; opening = part.objects.opening }
 
 -- law: a lane keeps a call that is a part, with its log, where it fits in every run that goes on from there
 pub keeps_part : {s : Script} {x : WorldOf} {l : LaneOf} {call : Call} (next : IsNextCall s x l call) (m : LaneOf) (a : Answer)
@@ -92,33 +62,40 @@ keeps_part {l = l} next m a IsSo log object_log notes t part so clock clock_mine
       sees = sees_part p q part clock;
       joins = joins ∙ with_done-joins l.notes label log object_log;
       bears = notes_of-bear label log object_log;
-      receipts = part.told;
+      receipts = part.timers.told;
       tells = record {
-        writes = sym part.no_write;
-        looks = part.looks;
-        objects = part.objects;
-        skips = part.skips;
-        writes_rise = subst (λ ws. Rises 1 (map (λ k. k.0) ws)) (sym part.no_write) tt;
+        writes = sym part.timers.no_write;
+        looks = part.timers.looks;
+        objects = part.objects.makes;
+        skips = part.objects.skips;
+        writes_rise = subst (λ ws. Rises 1 (map (λ k. k.0) ws)) (sym part.timers.no_write) tt;
         looks_rise = λ i. rises_lower 1 (receipts.count i p.timers.known.seen + 1) (map (λ k. k.0) (looked i actions)) (omega arith)
             (rises_only (receipts.count i p.timers.known.seen + 1) (map (λ k. k.0) (looked i actions)) (receipts.count i q.timers.known.seen + 1)
-            (part.looks_rise i));
+            (part.timers.looks_rise i));
         objects_rise = λ i. rises_lower 1 (length (seen_of p.objects i) + 1) (map (λ k. k.0) (made i actions)) (omega arith)
-            (rises_only (length (seen_of p.objects i) + 1) (map (λ k. k.0) (made i actions)) (length (seen_of q.objects i) + 1) (part.objects_rise i));
+            (rises_only (length (seen_of p.objects i) + 1) (map (λ k. k.0) (made i actions)) (length (seen_of q.objects i) + 1) (part.objects.rise i));
       };
       few = omega arith;
       places = record {
-        timers = places_added p.timers.known.mine q.timers.known.mine notes (entry_notes label log) part.enters.mine part.told;
-        objects = λ i k. ap (count (is_place i k)) part.object_mine
+        timers = places_added p.timers.known.mine q.timers.known.mine notes (entry_notes label log) part.timers.enters.mine part.timers.told;
+        objects = λ i k. ap (count (is_place i k)) part.objects.mine
             ∙ total-append (λ u. one_if (is_place i k u)) p.objects.knows.pass.mine (map object_place (object_notes label object_log));
         clock = λ k. no_places (is_place 0 k) p.clock.knows.pass.mine q.clock.knows.pass.mine clock_mine;
       };
       seen = record {
         writes = tt;
-        looks = looks_noted q (look_notes label log) part.looks_seen;
-        objects = objects_noted IsSo p q so (object_notes label object_log) part.objects_seen;
-        skips = skips_noted q (skip_notes label object_log) part.skips_seen;
+        looks = each_weaker _ (IsLookNote q) (look_notes label log) (λ n its. record { some = its.0; seen = its.1 }) part.timers.looks_seen;
+        objects = each_weaker (IsNoteIn IsSo p.objects q.objects) (IsObjectNote p q) (object_notes label object_log) (λ n its. record {
+          before = its.before;
+          number = its.number;
+          behind = its.behind;
+          step = its.step;
+          there = its.there;
+          shows = λ e goes. its.shows e.run.clock (so e goes);
+        }) part.objects.seen;
+        skips = each_weaker _ (IsSkipNote q) (skip_notes label object_log) (λ n its. record { some = its.0; seen = its.1 }) part.objects.skips_seen;
       };
-      stand = stand_from IsSo p q notes part.enters (λ e follows. so e follows.clock);
+      stand = stand_from IsSo p q notes part.timers.enters (λ e follows. so e follows.clock);
       logged = logged;
       promised = promised_from next q notes t a logged fits;
     }

@@ -63,11 +63,11 @@ use Rattle.lane_run.proofs.Armed.{IsArmedSo, places_inside, seen_state, start_no
 use Rattle.lane_run.proofs.CallKept.{logged_from, reading_goes_on, reads_begins}
 use Rattle.lane_run.proofs.Entering.{begins_length}
 use Rattle.lane_run.proofs.FiredOnce.{goes_before}
-use Rattle.lane_run.proofs.ObjectEntered.{declared_base, entered_phase, entered_span, IsNotedAs, part_entry}
+use Rattle.lane_run.proofs.Declared.{declared_base}
+use Rattle.lane_run.proofs.ObjectEntered.{entered_phase, entered_span, part_entry}
 use Rattle.lane_run.proofs.PartKept.{keeps_part, sees_part}
-use Rattle.lane_run.proofs.Parts.{IsPart, part_none}
-use Rattle.lane_run.proofs.Sights.{same_timers, unstamped}
-use Rattle.lane_run.proofs.SmallParts.{part_then}
+use Rattle.lane_run.proofs.Parts.{IsPart, part_none, part_then, IsNotedAs}
+use Rattle.lane_run.proofs.Sights.{unstamped}
 use Rattle.lane_run.proofs.TimerCalls.{opened_timers}
 
 -- ---- the start that is wanted
@@ -144,8 +144,7 @@ module _ (IsSo : List ClockLine → Type 0) (label : Label) (o : Opening) (clock
         looks = r.1.looks;
         ns = 0;
         timely = omega arith;
-        does = start_none IsSo label o w w p t modes.Keep 0 base reading log log'
-            (same_timers w w refl) r.2;
+        does = start_none IsSo label o w w p t modes.Keep 0 base reading log log' refl r.2;
         spans = (sym r.1.to, λ none. seen_last last now.stamp span.from (r.1.from ∙ ap (λ k. quiet_at last k now.stamp) none));
       })
     where
@@ -237,7 +236,7 @@ module _ (s : Script) (x : WorldOf) (l m : LaneOf) (call : Call) (timer : ℕ) (
       let o = x.timers.about in
       let seen = m.pass.timers.known.seen in
       let early = k.begin.seen in
-      let begins = k.does.part.enters.seen in
+      let begins = k.does.part.timers.enters.seen in
       let goes = goes_before early seen e begins follows.timers in
       let is = seen_first seen joined follows.timers in
       let opened = opened_timers next in
@@ -256,7 +255,7 @@ module _ (s : Script) (x : WorldOf) (l m : LaneOf) (call : Call) (timer : ℕ) (
         ends = length seen;
         between = begins_length early seen begins;
         high = omega arith;
-        part = places_inside IsRead k.begin m.pass.timers.known k.does.notes k.does.part.enters;
+        part = places_inside IsRead k.begin m.pass.timers.known k.does.notes k.does.part.timers.enters;
         holds = start_true w seen follows.timers.0 is timer number false c.arm (subst (IsArmedSo c.arm) now k.does.armed)
             (λ generation same. subst (λ armed. IsArmedLike false armed generation (state_seen s seen timer)) (sym after)
             (subst (IsArmedLike false (armed_in_phase phase) generation) now (like_restart o m.pass.timers.known timer generation phase
@@ -284,9 +283,10 @@ module _ (s : Script) (x : WorldOf) (l m : LaneOf) (call : Call) (timer : ℕ) (
       let begin = length k.begin.seen in
       let last = length q.timers.known.seen in
       let t = plain reading.stamp begin last actions in
-      let logged = logged_from p q k.does.notes t call a (sees_part p q all clock) refl all.enters.made all.are reads.count all.no_write
+      let logged = logged_from p q k.does.notes t call a (sees_part p q all clock) refl all.timers.enters.made all.timers.are reads.count
+      all.timers.no_write
       (λ i. subst (λ ns. NeverFall (length (seen_of p.objects i)) ns (length (seen_of q.objects i)))
-      (sym (unstamped i call a timer actions on unstamps)) (all.steps i)) in
+      (sym (unstamped i call a timer actions on unstamps)) (all.objects.steps i)) in
       keeps_part next m a IsRead k.does.more receipts k.does.notes t all (reading_goes_on p q reading reads) clock reads.looks.mine
       (notes ∙ ap (λ rs. with_done l.notes l.label rs object_log) k.does.adds
       ∙ ap (λ rs. with_done l.notes l.label k.does.more rs) c.enters.object_log) logged

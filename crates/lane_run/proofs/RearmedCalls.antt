@@ -48,8 +48,9 @@ use Rattle.lane_run.specs.Called.{accept_told, Called, caller_of, CallsObject, g
 use Rattle.lane_run.specs.Kept.{IsNextCall, KeepsCall}
 use Rattle.lane_run.specs.Worlds.{WorldOf}
 use Rattle.lane_run.proofs.CallKept.{reads_begins}
-use Rattle.lane_run.proofs.ObjectEntered.{IsNotedAs}
-use Rattle.lane_run.proofs.ObjectLooks.{declared_over, fd_declared, keeps_gettime-posix}
+use Rattle.lane_run.proofs.Parts.{IsNotedAs, noted_at}
+use Rattle.lane_run.proofs.Declared.{fd_declared}
+use Rattle.lane_run.proofs.ObjectLooks.{keeps_gettime-posix}
 use Rattle.lane_run.proofs.Rearmed.{keeps_rearming}
 use Rattle.lane_run.proofs.Sights.{keeps_full, keeps_same}
 
@@ -91,37 +92,35 @@ read_unstamped reads.Canceled = refl
 accept_as : (reading : ClockReading) (reply : AcceptReply) (arm : Arm)
     → IsNotedAs (HasRead reading) (rearming_call rearmings.Accepting reading arm) (replies.Posix (posix_replies.Accept (accept_answer_of reply)))
     (object_entries.Accept reading.stamp (arm_noted arm) reply)
-accept_as reading reply arm = record {
-  noted = ap (option_map (λ (r : AcceptReply). object_entries.Accept reading.stamp (arm_noted arm) r)) (accept_back reply);
-  no_skip = refl;
-  shows = λ clock has.
-      ap (λ r. Some (record { call = posix_calls.Accept r (posix_arm (arm_noted arm) 0); reply = posix_replies.Accept (accept_answer_of reply) })) has
-      ∙ ap (λ k. Some (record { call = posix_calls.Accept reading k; reply = posix_replies.Accept (accept_answer_of reply) })) (posix_arm-told arm);
-}
+accept_as reading reply arm =
+    noted_at reading (λ r. rearming_call rearmings.Accepting r arm) (replies.Posix (posix_replies.Accept (accept_answer_of reply)))
+    (object_entries.Accept reading.stamp (arm_noted arm) reply)
+    (ap (option_map (λ (r : AcceptReply). object_entries.Accept reading.stamp (arm_noted arm) r)) (accept_back reply)) refl
+    (λ clock. ap (λ k. Some (record {
+      call = posix_calls.Accept (reading_at clock reading.stamp) k;
+      reply = posix_replies.Accept (accept_answer_of reply);
+    })) (posix_arm-told arm))
 
 -- a read
 read_as : (reading : ClockReading) (reply : ReadReply) (arm : Arm)
     → IsNotedAs (HasRead reading) (rearming_call rearmings.Reading reading arm) (replies.Fd (fd_replies.Read (read_answer_of reply)))
     (object_entries.Read reading.stamp (arm_noted arm) reply)
-read_as reading reply arm = record {
-  noted = ap (option_map (λ (r : ReadReply). object_entries.Read reading.stamp (arm_noted arm) r)) (read_back reply);
-  no_skip = refl;
-  shows = λ clock has.
-      ap (λ r. Some (record { call = fd_calls.Read r (fd_arm (arm_noted arm) 0); reply = fd_replies.Read (read_answer_of reply) })) has
-      ∙ ap (λ k. Some (record { call = fd_calls.Read reading k; reply = fd_replies.Read (read_answer_of reply) })) (fd_arm-told arm);
-}
+read_as reading reply arm =
+    noted_at reading (λ r. rearming_call rearmings.Reading r arm) (replies.Fd (fd_replies.Read (read_answer_of reply)))
+    (object_entries.Read reading.stamp (arm_noted arm) reply)
+    (ap (option_map (λ (r : ReadReply). object_entries.Read reading.stamp (arm_noted arm) r)) (read_back reply)) refl
+    (λ clock. ap (λ k. Some (record { call = fd_calls.Read (reading_at clock reading.stamp) k; reply = fd_replies.Read (read_answer_of reply) }))
+    (fd_arm-told arm))
 
 -- a gettime of a descriptor
 gettime_as : (reading : ClockReading) (left interval : ℕ) (arm : Arm)
     → IsNotedAs (HasRead reading) (rearming_call rearmings.Getting reading arm) (replies.Fd (fd_replies.Gettime (lefts.Left left interval)))
     (object_entries.Gettime reading.stamp (arm_noted arm) left interval)
-gettime_as reading left interval arm = record {
-  noted = refl;
-  no_skip = refl;
-  shows = λ clock has.
-      ap (λ r. Some (record { call = fd_calls.Gettime r (fd_arm (arm_noted arm) 0); reply = fd_replies.Gettime (lefts.Left left interval) })) has
-      ∙ ap (λ k. Some (record { call = fd_calls.Gettime reading k; reply = fd_replies.Gettime (lefts.Left left interval) })) (fd_arm-told arm);
-}
+gettime_as reading left interval arm =
+    noted_at reading (λ r. rearming_call rearmings.Getting r arm) (replies.Fd (fd_replies.Gettime (lefts.Left left interval)))
+    (object_entries.Gettime reading.stamp (arm_noted arm) left interval) refl refl
+    (λ clock. ap (λ k. Some (record { call = fd_calls.Gettime (reading_at clock reading.stamp) k; reply = fd_replies.Gettime (lefts.Left left interval) }))
+    (fd_arm-told arm))
 
 -- ---- the calls
 
@@ -131,7 +130,8 @@ accept_kept : {s : Script} {x : WorldOf} {l m : LaneOf} {a : Answer} {timer : �
     → KeepsCall s l (calls.Accept timer) (answer_of_accept reply) m
 accept_kept {s = s} {x = x} {l = l} {m = m} {timer = timer} next reply c =
     keeps_rearming s x l m (calls.Accept timer) timer next (answer_of_accept reply) rearmings.Accepting c.reading c.reads
-    (replies.Posix (posix_replies.Accept (accept_answer_of reply))) c.log c.object_log c.does c.notes refl (accept_unstamped reply) (λ arm. object_entries.Accept c.reading.stamp arm reply) (accept_as c.reading reply)
+    (replies.Posix (posix_replies.Accept (accept_answer_of reply))) c.log c.object_log c.does c.notes refl (accept_unstamped reply)
+    (λ arm. object_entries.Accept c.reading.stamp arm reply) (accept_as c.reading reply)
     (λ e begin last arm start notes kept low rearmed. accept_made reply kept low rearmed)
 
 -- law: a lane keeps an acceptance
@@ -154,7 +154,8 @@ read_kept : {s : Script} {x : WorldOf} {l m : LaneOf} {a : Answer} {timer len : 
     → KeepsCall s l (calls.Read timer len) (answer_of_read reply) m
 read_kept {s = s} {x = x} {l = l} {m = m} {timer = timer} {len = len} next reply c =
     keeps_rearming s x l m (calls.Read timer len) timer next (answer_of_read reply) rearmings.Reading c.reading c.reads
-    (replies.Fd (fd_replies.Read (read_answer_of reply))) c.log c.object_log c.does.1 c.notes refl (read_unstamped reply) (λ arm. object_entries.Read c.reading.stamp arm reply) (read_as c.reading reply)
+    (replies.Fd (fd_replies.Read (read_answer_of reply))) c.log c.object_log c.does.1 c.notes refl (read_unstamped reply)
+    (λ arm. object_entries.Read c.reading.stamp arm reply) (read_as c.reading reply)
     (λ e begin last arm start notes kept low rearmed. read_made len reply kept low rearmed c.does.0)
 
 -- law: a lane keeps a read
@@ -182,7 +183,7 @@ gettime_kept {s = s} {x = x} {l = l} {m = m} {a = a} {timer = timer} next fd cal
     by_answer called.0 (called.1.does.1 ∙ ap (λ k. gettime_told k called.1.reading.stamp called.0) fd)
     (subst (λ k. Gettimes x.objects x.timers.about (caller_of l.pass [] []) (caller_of m.pass called.1.log called.1.object_log) timer called.1.reading k
     called.0) fd called.1.does.0)
-    (fd_declared s timer (sym (declared_over s x timer next.world) ∙ fd))
+    (fd_declared s x timer next.world fd)
   where
     by_answer : (g : Gettime) → a ≡ gettime_told over.Fd called.1.reading.stamp g
         → Gettimes x.objects x.timers.about (caller_of l.pass [] []) (caller_of m.pass called.1.log called.1.object_log) timer called.1.reading over.Fd g
@@ -196,7 +197,8 @@ gettime_kept {s = s} {x = x} {l = l} {m = m} {a = a} {timer = timer} next fd cal
         let c = called.1 in
         subst (λ b. KeepsCall s l (calls.Gettime timer) b m) (sym told)
         (keeps_rearming s x l m (calls.Gettime timer) timer next (answers.Left left interval) rearmings.Getting c.reading c.reads
-        (replies.Fd (fd_replies.Gettime (lefts.Left left interval))) c.log c.object_log does.0 c.notes refl refl (λ arm. object_entries.Gettime c.reading.stamp arm left interval)
+        (replies.Fd (fd_replies.Gettime (lefts.Left left interval))) c.log c.object_log does.0 c.notes refl refl
+        (λ arm. object_entries.Gettime c.reading.stamp arm left interval)
         (gettime_as c.reading left interval)
         (λ e begin last arm start notes kept low rearmed. gettime_made kind.0 left interval kept low rearmed kind.1))
 

@@ -25,7 +25,8 @@ use Rattle.lane_run.proofs.Chains.{up_to_later, up_to_push}
 use Rattle.lane_run.proofs.LaneKept.{promised_later}
 use Rattle.lane_run.proofs.LaneRound.{IsKeptOf, kept_later, kept_pushed, LaneSoFar, leaves_round, LeavesRound}
 use Rattle.lane_run.proofs.LanesTaken.{AreLeftSoFar, after_round, left_taken, put, put_at}
-use Rattle.lane_run.proofs.NotesJoined.{are_later, each_weaker}
+use Rattle.lane_run.proofs.NotesJoined.{are_later}
+use Rattle.lane_run.proofs.PartLists.{each_weaker}
 use Rattle.lane_run.proofs.SeenMore.{more_split, more_taken, more_trans, no_less, SeesMore}
 use Rattle.lane_run.proofs.Tallies.{tallies_first, tallies_split}
 

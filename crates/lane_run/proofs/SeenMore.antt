@@ -19,7 +19,7 @@ use Rattle.run_history.proofs.Lists.{at_left}
 use Rattle.run_history.proofs.Promise.{goes_on_clock_less}
 use Rattle.script_text.specs.Histories.{ShowsReading}
 use Rattle.timer_objects.specs.Known.{seen_of}
-use Rattle.lane_run.specs.Kept.{Follows, IsLookNote, IsNoLess, IsObjectNote, IsSkipNote, IsWriteNote, log_of, seen_by, SeesOn, StandIn}
+use Rattle.lane_run.specs.Kept.{Follows, IsLookNote, IsNoLess, IsObjectNote, IsSkipNote, IsWriteNote, log_of, seen_by, SeesOn, StandIn, ObjectMove}
 use Rattle.lane_run.specs.Left.{IsObjectLeft, IsWriteLeft, StandAt}
 use Rattle.lane_run.specs.Rounds.{BeginsRound, HasSplit, LeftOf, TakesInPass}
 use Rattle.lane_run.specs.declared.lane.Lane.{Lane}
@@ -27,6 +27,8 @@ use Rattle.lane_run.specs.declared.world.WorldPass.{WorldPass}
 use Rattle.lane_run.proofs.Entering.{begins_length, begins_same, begins_trans}
 use Rattle.lane_run.proofs.FiredOnce.{goes_before}
 use Rattle.lane_run.proofs.Parts.{count_begins}
+use Rattle.run_history.specs.Fits.{Seen}
+use Rattle.seq_timer.specs.declared.system.TimerEntry.{TimerEntry}
 
 -- of each list what was seen goes on
 pub record SeesMore (p q : WorldPass) : Type 0 where
@@ -36,13 +38,18 @@ pub record SeesMore (p q : WorldPass) : Type 0 where
 
 -- ---- which have
 
+-- where they have seen the same
+more_equal : (p q : WorldPass) → q.timers.known.seen ≡ p.timers.known.seen → q.objects.knows.pass.seen ≡ p.objects.knows.pass.seen
+    → q.clock.knows.pass.seen ≡ p.clock.knows.pass.seen → SeesMore p q
+more_equal p q timers objects clock = record {
+  timers = begins_same p.timers.known.seen q.timers.known.seen timers;
+  clock = begins_same (writes p.clock.knows) (writes q.clock.knows) (ap (λ seen. entries 0 seen) clock);
+  objects = λ i. begins_same (seen_of p.objects i) (seen_of q.objects i) (ap (λ seen. entries i seen) objects);
+}
+
 -- the same passes
 pub more_same : (p : WorldPass) → SeesMore p p
-more_same p = record {
-  timers = begins_same p.timers.known.seen p.timers.known.seen refl;
-  clock = begins_same (writes p.clock.knows) (writes p.clock.knows) refl;
-  objects = λ i. begins_same (seen_of p.objects i) (seen_of p.objects i) refl;
-}
+more_same p = more_equal p p refl refl refl
 
 -- twice more
 pub more_trans : (p q r : WorldPass) → SeesMore p q → SeesMore q r → SeesMore p r
@@ -58,38 +65,20 @@ more_called p q sees = record { timers = sees.timers; clock = sees.clock; object
 
 -- passes that others were split off
 pub more_split : (p q : WorldPass) → HasSplit p q → SeesMore p q
-more_split p q split = record {
-  timers = begins_same p.timers.known.seen q.timers.known.seen split.timers;
-  clock = begins_same (writes p.clock.knows) (writes q.clock.knows) (ap (λ seen. entries 0 seen) split.clock);
-  objects = λ i. begins_same (seen_of p.objects i) (seen_of q.objects i) (ap (λ seen. entries i seen) split.objects);
-}
+more_split p q split = more_equal p q split.timers split.objects split.clock
 
 -- a lane's passes at the begin of a round
 pub more_begun : (p : WorldPass) (left : LeftOf) (lane : Lane) → BeginsRound p left lane → SeesMore p lane.pass
-more_begun p left lane begins = record {
-  timers = begins_same p.timers.known.seen lane.pass.timers.known.seen begins.timers;
-  clock = begins_same (writes p.clock.knows) (writes lane.pass.clock.knows) (ap (λ seen. entries 0 seen) begins.clock);
-  objects = λ i. begins_same (seen_of p.objects i) (seen_of lane.pass.objects i) (ap (λ seen. entries i seen) begins.objects);
-}
+more_begun p left lane begins = more_equal p lane.pass begins.timers begins.objects begins.clock
 
 -- law: they have seen as much
 pub seen_begun : (p : WorldPass) (left : LeftOf) (lane : Lane) → BeginsRound p left lane → seen_by lane.pass ≡ seen_by p
 seen_begun p left lane begins =
-    ap (λ seen. record {
-      clock = length (entries 0 seen);
-      moves = length lane.pass.timers.known.seen;
-      objects = λ i. length (entries i lane.pass.objects.knows.pass.seen);
-    }) begins.clock
-    ∙ ap (λ seen. record {
-      clock = length (entries 0 p.clock.knows.pass.seen);
-      moves = length seen;
-      objects = λ i. length (entries i lane.pass.objects.knows.pass.seen);
-    }) begins.timers
-    ∙ ap (λ seen. record {
-      clock = length (entries 0 p.clock.knows.pass.seen);
-      moves = length p.timers.known.seen;
-      objects = λ i. length (entries i seen);
-    }) begins.objects
+    let so : List (List Write) → List TimerEntry → List (List ObjectMove) → Seen = λ clock timers objects.
+    record { clock = length (entries 0 clock); moves = length timers; objects = λ i. length (entries i objects) } in
+    ap (λ seen. so seen lane.pass.timers.known.seen lane.pass.objects.knows.pass.seen) begins.clock
+    ∙ ap (λ seen. so p.clock.knows.pass.seen seen lane.pass.objects.knows.pass.seen) begins.timers
+    ∙ ap (λ seen. so p.clock.knows.pass.seen p.timers.known.seen seen) begins.objects
 
 -- law: passes that have taken in others have seen more than before
 pub more_taken : (p other q : WorldPass) → TakesInPass p other q → SeesMore p q

@@ -1,5 +1,5 @@
 -- The object's entry of a settime, as it is noted and answered.
-use Rattle.std.proofs.Common.{◌≡◌, ℕ, Bool, true, false, if◌then◌else◌, Some, refl, sym, ap, subst}
+use Rattle.std.proofs.Common.{◌≡◌, ℕ, Bool, true, false, if◌then◌else◌, Some, refl, sym, ap, subst, None, List}
 use Rattle.ktime.specs.Readings.{ClockReading}
 use Rattle.timer_setting.specs.declared.arming.Arm.TheVariants as arms
 use Rattle.timer_setting.specs.declared.arming.Arm.{Arm}
@@ -34,7 +34,10 @@ use Rattle.run_history.specs.Courses.{Course}
 use Rattle.run_history.specs.Truths.{SawRefusal}
 use Rattle.run_history.proofs.ObjectsMade.{RefusedBy}
 use Rattle.lane_run.specs.Called.{settime_told}
-use Rattle.lane_run.proofs.ObjectEntered.{IsNotedAs}
+use Rattle.lane_run.proofs.Parts.{IsNotedAs, noted_at}
+use Rattle.lane_notes.specs.Objects.{object_entry_noted, skip_generation}
+use Rattle.lane_run.specs.Kept.{ShowsObjectCall}
+use Rattle.record_text.specs.declared.record.ClockLine.{ClockLine}
 
 -- ---- the entry
 
@@ -52,106 +55,60 @@ abbrev pub set_by : ℕ → ℕ → ℕ → ClockReading → Arm → SettimeCall
 set_by flags value interval reading arm = record { flags = flags; value = value; interval = interval; reading = reading; arm = arm }
 
 module _ (flags value interval : ℕ) (reading : ClockReading) (answer : SettimeAnswer) where
+  -- a settime at a reading that the record's clock has, with its reply
+  noted_so : (call : ClockReading → ObjectCall) (reply : ObjectReply) (arm : Arm) (told : SettimeReply)
+      → object_entry_noted (call reading) reply ≡ Some (object_entries.Settime flags value interval reading.stamp (arm_noted arm) told)
+      → skip_generation (call reading) reply ≡ None
+      → ((clock : List ClockLine) → ShowsObjectCall clock (call (reading_at clock reading.stamp)) reply
+      (object_entries.Settime flags value interval reading.stamp (arm_noted arm) told))
+      → settime_told answer ≡ answer_of_settime told
+      → ((w : Course) (timer last : ℕ) → ((n : ℕ) → arm ≡ arms.Unarmed n → SawRefusal w timer n last) → RefusedBy w timer told last)
+      → SettimeNoted (call reading) reply flags value interval reading arm answer
+  noted_so call reply arm told noted no_skip shows tells refused = record {
+    told = told;
+    noted = noted_at reading call reply (object_entries.Settime flags value interval reading.stamp (arm_noted arm) told) noted no_skip shows;
+    answers = tells;
+    refused = refused;
+  }
+
+  -- of a POSIX timer
+  abbrev posix_so : (arm : Arm) → ClockReading → ObjectCall
+  posix_so arm r = of_kind.Posix (posix_calls.Settime (set_by flags value interval r arm))
+
   posix_noted : (t : PosixTimer) (arm : Arm) → SettimeTells (replies.Posix (posix_replies.Settime (posix_settime_answer t reading arm))) answer
       → SettimeNoted (of_kind.Posix (posix_calls.Settime (set_by flags value interval reading arm)))
       (replies.Posix (posix_replies.Settime (posix_settime_answer t reading arm))) flags value interval reading arm answer
-  posix_noted t arms.NotAsked tells = record {
-    told = settimes.Old (posix_left t reading) t.interval;
-    noted = record {
-      noted = refl;
-      no_skip = refl;
-      shows = λ clock has. ap (λ r. Some (record {
-        call = posix_calls.Settime (set_by flags value interval r arms.NotAsked);
-        reply = posix_replies.Settime (posix_settings.Old (posix_left t reading) t.interval);
-      })) has;
-    };
-    answers = ap settime_told tells;
-    refused = λ w timer last saw. tt;
-  }
-  posix_noted t (arms.Armed generation) tells = record {
-    told = settimes.Old (posix_left t reading) t.interval;
-    noted = record {
-      noted = refl;
-      no_skip = refl;
-      shows = λ clock has. ap (λ r. Some (record {
-        call = posix_calls.Settime (set_by flags value interval r (arms.Armed generation));
-        reply = posix_replies.Settime (posix_settings.Old (posix_left t reading) t.interval);
-      })) has;
-    };
-    answers = ap settime_told tells;
-    refused = λ w timer last saw. tt;
-  }
-  posix_noted t (arms.Unarmed stamp) tells = record {
-    told = settimes.Unarmed stamp;
-    noted = record {
-      noted = refl;
-      no_skip = refl;
-      shows = λ clock has. ap (λ r. Some (record {
-        call = posix_calls.Settime (set_by flags value interval r (arms.Unarmed stamp));
-        reply = posix_replies.Settime (posix_settings.Unarmed stamp);
-      })) has;
-    };
-    answers = ap settime_told tells;
-    refused = λ w timer last saw. saw stamp refl;
-  }
+  posix_noted t arms.NotAsked tells =
+      noted_so (posix_so arms.NotAsked) (replies.Posix (posix_replies.Settime (posix_settings.Old (posix_left t reading) t.interval))) arms.NotAsked
+      (settimes.Old (posix_left t reading) t.interval) refl refl (λ clock. refl) (ap settime_told tells) (λ w timer last saw. tt)
+  posix_noted t (arms.Armed generation) tells =
+      noted_so (posix_so (arms.Armed generation)) (replies.Posix (posix_replies.Settime (posix_settings.Old (posix_left t reading) t.interval)))
+      (arms.Armed generation) (settimes.Old (posix_left t reading) t.interval) refl refl (λ clock. refl) (ap settime_told tells) (λ w timer last saw. tt)
+  posix_noted t (arms.Unarmed stamp) tells =
+      noted_so (posix_so (arms.Unarmed stamp)) (replies.Posix (posix_replies.Settime (posix_settings.Unarmed stamp))) (arms.Unarmed stamp)
+      (settimes.Unarmed stamp) refl refl (λ clock. refl) (ap settime_told tells) (λ w timer last saw. saw stamp refl)
+
+  -- of a descriptor
+  abbrev fd_so : (arm : Arm) → ClockReading → ObjectCall
+  fd_so arm r = of_kind.Fd (fd_calls.Settime (set_by flags value interval r arm))
 
   -- a start of a descriptor that no limit refused
   fd_old : (arm : Arm) (canceled : Bool) (left old : ℕ) → ((n : ℕ) → arm ≡ arms.Unarmed n → ⊥)
       → answer ≡ (if canceled then settings.Canceled else settings.Old left old)
       → SettimeNoted (of_kind.Fd (fd_calls.Settime (set_by flags value interval reading arm)))
       (replies.Fd (fd_replies.Settime (if canceled then settings.Canceled else settings.Old left old))) flags value interval reading arm answer
-  fd_old arms.NotAsked true left old made tells = record {
-    told = settimes.Canceled;
-    noted = record {
-      noted = refl;
-      no_skip = refl;
-      shows = λ clock has. ap (λ r. Some (record {
-        call = fd_calls.Settime (set_by flags value interval r arms.NotAsked);
-        reply = fd_replies.Settime settings.Canceled;
-      })) has;
-    };
-    answers = ap settime_told tells;
-    refused = λ w timer last saw. tt;
-  }
-  fd_old arms.NotAsked false left old made tells = record {
-    told = settimes.Old left old;
-    noted = record {
-      noted = refl;
-      no_skip = refl;
-      shows = λ clock has. ap (λ r. Some (record {
-        call = fd_calls.Settime (set_by flags value interval r arms.NotAsked);
-        reply = fd_replies.Settime (settings.Old left old);
-      })) has;
-    };
-    answers = ap settime_told tells;
-    refused = λ w timer last saw. tt;
-  }
-  fd_old (arms.Armed generation) true left old made tells = record {
-    told = settimes.Canceled;
-    noted = record {
-      noted = refl;
-      no_skip = refl;
-      shows = λ clock has. ap (λ r. Some (record {
-        call = fd_calls.Settime (set_by flags value interval r (arms.Armed generation));
-        reply = fd_replies.Settime settings.Canceled;
-      })) has;
-    };
-    answers = ap settime_told tells;
-    refused = λ w timer last saw. tt;
-  }
-  fd_old (arms.Armed generation) false left old made tells = record {
-    told = settimes.Old left old;
-    noted = record {
-      noted = refl;
-      no_skip = refl;
-      shows = λ clock has. ap (λ r. Some (record {
-        call = fd_calls.Settime (set_by flags value interval r (arms.Armed generation));
-        reply = fd_replies.Settime (settings.Old left old);
-      })) has;
-    };
-    answers = ap settime_told tells;
-    refused = λ w timer last saw. tt;
-  }
+  fd_old arms.NotAsked true left old made tells =
+      noted_so (fd_so arms.NotAsked) (replies.Fd (fd_replies.Settime settings.Canceled)) arms.NotAsked settimes.Canceled refl refl (λ clock. refl)
+      (ap settime_told tells) (λ w timer last saw. tt)
+  fd_old arms.NotAsked false left old made tells =
+      noted_so (fd_so arms.NotAsked) (replies.Fd (fd_replies.Settime (settings.Old left old))) arms.NotAsked (settimes.Old left old) refl refl
+      (λ clock. refl) (ap settime_told tells) (λ w timer last saw. tt)
+  fd_old (arms.Armed generation) true left old made tells =
+      noted_so (fd_so (arms.Armed generation)) (replies.Fd (fd_replies.Settime settings.Canceled)) (arms.Armed generation) settimes.Canceled refl refl
+      (λ clock. refl) (ap settime_told tells) (λ w timer last saw. tt)
+  fd_old (arms.Armed generation) false left old made tells =
+      noted_so (fd_so (arms.Armed generation)) (replies.Fd (fd_replies.Settime (settings.Old left old))) (arms.Armed generation) (settimes.Old left old)
+      refl refl (λ clock. refl) (ap settime_told tells) (λ w timer last saw. tt)
   fd_old (arms.Unarmed stamp) canceled left old made tells = absurd (made stamp refl)
 
   fd_noted : (t : Descriptor) (arm : Arm) → answer ≡ fd_settime_answer t flags value reading arm
@@ -161,19 +118,9 @@ module _ (flags value interval : ℕ) (reading : ClockReading) (answer : Settime
       fd_old arms.NotAsked (answers_canceled t flags value reading) (fd_left t reading) t.interval (λ n is. absurd (cc)) tells
   fd_noted t (arms.Armed generation) tells =
       fd_old (arms.Armed generation) (answers_canceled t flags value reading) (fd_left t reading) t.interval (λ n is. absurd (cc)) tells
-  fd_noted t (arms.Unarmed stamp) tells = record {
-    told = settimes.Unarmed stamp;
-    noted = record {
-      noted = refl;
-      no_skip = refl;
-      shows = λ clock has. ap (λ r. Some (record {
-        call = fd_calls.Settime (set_by flags value interval r (arms.Unarmed stamp));
-        reply = fd_replies.Settime (settings.Unarmed stamp);
-      })) has;
-    };
-    answers = ap settime_told tells;
-    refused = λ w timer last saw. saw stamp refl;
-  }
+  fd_noted t (arms.Unarmed stamp) tells =
+      noted_so (fd_so (arms.Unarmed stamp)) (replies.Fd (fd_replies.Settime (settings.Unarmed stamp))) (arms.Unarmed stamp) (settimes.Unarmed stamp)
+      refl refl (λ clock. refl) (ap settime_told tells) (λ w timer last saw. saw stamp refl)
 
   -- law: a settime of an object of either kind is noted
   pub settime_noted : (d : Decl) (limit n : ℕ) (x : Object) (arm : Arm) → IsObjectOf d limit n x

@@ -32,8 +32,7 @@ use Rattle.script_text.specs.declared.script.Kind.TheVariants as kinds
 use Rattle.script_text.specs.declared.script.Kind.{Kind}
 use Rattle.lane_run.specs.Called.{settime_told}
 use Rattle.lane_run.proofs.Armed.{start_none, start_part, StartPart}
-use Rattle.lane_run.proofs.Entering.{begins_same}
-use Rattle.lane_run.proofs.FiredOnce.{over_of}
+use Rattle.lane_run.proofs.Declared.{over_of}
 
 -- ---- its arguments
 
@@ -112,10 +111,5 @@ settime_start IsSo label o clocks limit is v w p t flags ns base reading so arm 
     by_value : (b : Bool) → ArmsFor o v w t (if b then None else Some (record { mode = mode_by flags; ns = ns })) base reading arm log log'
         → StartPart IsSo label o v w p t (mode_by flags) ns base reading arm log log'
     by_value true none = subst (λ y. StartPart IsSo label o v w p t (mode_by flags) ns base reading y log log') (sym none.0)
-        (start_none IsSo label o v w p t (mode_by flags) ns base reading log log' (record {
-          seen = begins_same v.seen w.seen (ap (λ k. k.seen) none.1);
-          mine = ap (λ k. k.mine) none.1;
-          id = ap (λ k. k.id) none.1;
-          claims = ap (λ k. k.claims) none.1;
-        }) none.2)
+        (start_none IsSo label o v w p t (mode_by flags) ns base reading log log' none.1 none.2)
     by_value false start = start_part IsSo label o clocks limit is v w p t (record { mode = mode_by flags; ns = ns }) base reading so log log' arm start

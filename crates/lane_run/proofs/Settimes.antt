@@ -57,15 +57,14 @@ use Rattle.lane_run.proofs.CallKept.{logged_from, reading_goes_on, reads_begins}
 use Rattle.lane_run.proofs.Armed.{IsArmedSo, places_inside, seen_state, start_true, StartPart}
 use Rattle.lane_run.proofs.Disarmed.{disarmed_part, DisarmedPart, IsIdleOr, moment}
 use Rattle.lane_run.proofs.Entering.{begins_length}
-use Rattle.lane_run.proofs.FiredOnce.{goes_before, over_of}
-use Rattle.lane_run.proofs.ObjectEntered.{declared_base, entered_phase, entered_span, part_entry}
-use Rattle.lane_run.proofs.ObjectLooks.{declared_over}
+use Rattle.lane_run.proofs.FiredOnce.{goes_before}
+use Rattle.lane_run.proofs.ObjectEntered.{entered_phase, entered_span, part_entry}
+use Rattle.lane_run.proofs.Declared.{declared_base, declared_over, over_of}
 use Rattle.lane_run.proofs.PartKept.{keeps_part, sees_part}
-use Rattle.lane_run.proofs.Parts.{IsPart, part_none}
+use Rattle.lane_run.proofs.Parts.{IsPart, part_none, part_then}
 use Rattle.lane_run.proofs.Sights.{keeps_full, keeps_same, unstamped}
 use Rattle.lane_run.proofs.SettimeNoted.{settime_noted, SettimeNoted}
 use Rattle.lane_run.proofs.SettimeParts.{allowing_object, checked_for, entered_object, IsRefusal, mode_of, settime_start, valid_for}
-use Rattle.lane_run.proofs.SmallParts.{part_then}
 use Rattle.lane_run.proofs.TimerCalls.{opened_timers}
 
 -- ---- a settime that made an entry, by what its lane knows of it
@@ -166,7 +165,8 @@ module _ (s : Script) (x : WorldOf) (l m : LaneOf) (timer flags : ℕ) (value in
   steps : (i : ℕ) → NeverFall (length (seen_of p i))
       (object_steps_on i (calls.Settime timer flags value interval) (answer_of_settime noted.told) actions) (length (seen_of q i))
   steps i = subst (λ ns. NeverFall (length (seen_of p i)) ns (length (seen_of q i)))
-      (sym (unstamped i (calls.Settime timer flags value interval) (answer_of_settime noted.told) timer actions refl (no_stamp noted.told))) (whole.steps i)
+      (sym (unstamped i (calls.Settime timer flags value interval) (answer_of_settime noted.told) timer actions refl (no_stamp noted.told)))
+      (whole.objects.steps i)
     where
       no_stamp : (reply : SettimeReply) → object_stamp_in (answer_of_settime reply) ≡ []
       no_stamp (settimes.Old left old) = refl
@@ -182,7 +182,7 @@ module _ (s : Script) (x : WorldOf) (l m : LaneOf) (timer flags : ℕ) (value in
   logged : IsLogged (log_of l.pass m.pass receipts trace) (calls.Settime timer flags value interval) (answer_of_settime noted.told) (seen_by l.pass)
       (seen_by m.pass)
   logged = logged_from l.pass m.pass receipts trace (calls.Settime timer flags value interval) (answer_of_settime noted.told)
-      (sees_part l.pass m.pass whole clock) refl whole.enters.made whole.are reads.count whole.no_write steps
+      (sees_part l.pass m.pass whole clock) refl whole.timers.enters.made whole.timers.are reads.count whole.timers.no_write steps
 
   -- ---- in a run that goes on from there
 
@@ -194,7 +194,7 @@ module _ (s : Script) (x : WorldOf) (l m : LaneOf) (timer flags : ℕ) (value in
     entries_are = seen_first w.seen joined follows.timers
 
     found_on : promises.GoesOn at e
-    found_on = goes_before at w.seen e made.enters.seen follows.timers
+    found_on = goes_before at w.seen e made.timers.enters.seen follows.timers
 
     entries_found : entries_in c ≡ at ++ found_on.0
     entries_found = seen_first at joined found_on
@@ -238,9 +238,9 @@ module _ (s : Script) (x : WorldOf) (l m : LaneOf) (timer flags : ℕ) (value in
           (subst (λ k. Arms timer k (time_of value) reading.stamp (decl_at x.objects timer).base (arm_noted set.arm) armed.start)
           (sym (mode_of (kind_of s timer) flags object)) armed.arms);
       ends = length w.seen;
-      between = begins_length at w.seen made.enters.seen;
+      between = begins_length at w.seen made.timers.enters.seen;
       high = omega arith;
-      part = places_inside IsSo (moment v at) w receipts made.enters;
+      part = places_inside IsSo (moment v at) w receipts made.timers.enters;
       idle = found disarmed.cancel disarmed.idle;
       holds = start_true c w.seen follows.timers.0 entries_are timer number true set.arm so_armed like;
       span = span;

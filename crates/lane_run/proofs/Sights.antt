@@ -5,9 +5,7 @@ use Rattle.std.proofs.lemmas.List.{append-nil}
 use Rattle.std.proofs.lemmas.Option.{slice_get_within}
 use Rattle.clock_cell.specs.Views.{writes}
 use Rattle.pass_names.specs.Passes.{Begins, GoesOn}
-use Rattle.pass_names.specs.SharedHistory.{LooksOn}
 use Rattle.expire_pass.specs.declared.log.Receipt.{Receipt}
-use Rattle.hr_timers.specs.Known.{KnownOfTimers}
 use Rattle.timer_objects.specs.Calls.{Caller, FindsFull}
 use Rattle.timer_objects.specs.Known.{seen_of}
 use Rattle.timer_objects.specs.declared.log.ObjectReceipt.{ObjectReceipt}
@@ -20,23 +18,26 @@ use Rattle.script_text.specs.declared.script.Script.{Script}
 use Rattle.run_history.specs.Calls.{Does}
 use Rattle.run_history.specs.Courses.{Trace}
 use Rattle.run_history.specs.Promises.{HasLog}
-use Rattle.run_history.specs.Runs.{course_of, Ending, IsJoined}
+use Rattle.run_history.specs.Runs.{course_of, Ending, IsJoined, moves_spans}
 use Rattle.run_history.specs.Truths.{IsObjectPoint, IsSeen, SawFull}
 use Rattle.run_history.proofs.OthersMade.{plain, quiet_made}
 use Rattle.run_history.proofs.Promise.{object_point_from}
 use Rattle.lane_run.specs.Called.{caller_of, LaneOf, with_done}
-use Rattle.lane_run.specs.Kept.{Follows, IsNextCall, KeepsCall, log_of}
+use Rattle.lane_run.specs.Kept.{Follows, IsNextCall, KeepsCall, log_of, seen_by}
 use Rattle.lane_run.specs.Worlds.{WorldOf}
 use Rattle.lane_run.proofs.Entering.{begins_length, begins_same}
 use Rattle.lane_run.proofs.CallKept.{logged_from, no_notes-joins, same_objects, with_done-joins}
 use Rattle.lane_run.proofs.PartKept.{keeps_part, sees_part}
-use Rattle.lane_run.proofs.SmallParts.{part_seen}
+use Rattle.lane_run.proofs.Parts.{part_seen}
+use Rattle.run_history.proofs.Kept.{IsKept}
+use Rattle.run_history.specs.Fits.{FitsCall}
 
 -- ---- what such a call saw
 
 -- a call that looked at timers, objects and the clock, and noted nothing
 pub record LooksOnly (l m : LaneOf) : Type 0 where
-  pub timers : LooksOn l.pass.timers.known m.pass.timers.known
+  pub timers : Begins l.pass.timers.known.seen m.pass.timers.known.seen
+  pub timers_mine : m.pass.timers.known.mine ≡ l.pass.timers.known.mine
   pub objects : GoesOn l.pass.objects.knows.pass.seen m.pass.objects.knows.pass.seen
   pub mine : m.pass.objects.knows.pass.mine ≡ l.pass.objects.knows.pass.mine
   pub opening : m.pass.objects.knows.opening ≡ l.pass.objects.knows.opening
@@ -48,13 +49,19 @@ pub record LooksOnly (l m : LaneOf) : Type 0 where
 grown : {l m : LaneOf} → LooksOnly l m → (j : ℕ) → length (seen_of l.pass.objects j) ≤ length (seen_of m.pass.objects j)
 grown {l = l} {m = m} only j = begins_length (seen_of l.pass.objects j) (seen_of m.pass.objects j) (only.objects.each j)
 
--- law: a pass that is as it was has only looked
-pub same_timers : (v w : KnownOfTimers) → w ≡ v → LooksOn v w
-same_timers v w is = record {
-  seen = begins_same v.seen w.seen (ap (λ k. k.seen) is);
-  mine = ap (λ k. k.mine) is;
-  id = ap (λ k. k.id) is;
-  claims = ap (λ k. k.claims) is;
+-- law: a call that left objects alone, and made nothing of timers and the clock
+pub looks_alone : (l m : LaneOf) → Begins l.pass.timers.known.seen m.pass.timers.known.seen → m.pass.timers.known.mine ≡ l.pass.timers.known.mine
+    → m.pass.objects ≡ l.pass.objects → Begins (writes l.pass.clock.knows) (writes m.pass.clock.knows)
+    → m.pass.clock.knows.pass.mine ≡ l.pass.clock.knows.pass.mine → m.notes ≡ l.notes → LooksOnly l m
+looks_alone l m timers timers_mine same clock clock_mine notes = record {
+  timers = timers;
+  timers_mine = timers_mine;
+  objects = same_objects l.pass m.pass same;
+  mine = ap (λ o. o.knows.pass.mine) same;
+  opening = ap (λ o. o.knows.opening) same;
+  clock = clock;
+  clock_mine = clock_mine;
+  notes = notes;
 }
 
 -- law: receipts of none leave the notes as they were
@@ -94,26 +101,35 @@ point_seen {s = s} {l = l} next only t none i n number e joined has =
 
 -- ---- the call
 
--- law: a lane keeps a call that only looked, where its answer holds in every run that goes on from what it saw
+-- the moments of a call that did nothing
+abbrev pub looking : LaneOf → Trace
+looking m = plain (length (writes m.pass.clock.knows)) (length m.pass.timers.known.seen) (length m.pass.timers.known.seen) []
+
+-- law: a lane keeps a call that only looked, where it fits in every run that goes on from what it saw
+pub keeps_looking : {s : Script} {x : WorldOf} {l m : LaneOf} {call : Call} (next : IsNextCall s x l call) (a : Answer) → LooksOnly l m
+    → ((j : ℕ) → NeverFall (length (seen_of l.pass.objects j)) (object_steps_on j call a []) (length (seen_of m.pass.objects j)))
+    → ((e : Ending) → Follows m.pass e → IsJoined s e → HasLog e l.label (log_of l.pass m.pass [] (looking m))
+    → IsKept (course_of s e) (moves_spans e) l.label (looking m) [] call a (seen_by l.pass) (seen_by m.pass)
+    → length l.pass.timers.known.seen ≡ (moves_spans e).first l.label → FitsCall (course_of s e) l.label call a (seen_by l.pass) (seen_by m.pass))
+    → KeepsCall s l call a m
+keeps_looking {l = l} {m = m} {call = call} next a only steps fits =
+    let p = l.pass in
+    let q = m.pass in
+    let part = part_seen (λ c. Unit) l.label p.timers.known p.objects q.timers.known q.objects only.timers only.timers_mine only.objects only.mine
+    only.opening in
+    let logged = logged_from p q [] (looking m) call a (sees_part p q part only.clock) refl part.timers.enters.made refl refl refl steps in
+    keeps_part next m a (λ c. Unit) [] [] [] (looking m) part (λ e goes. tt) only.clock only.clock_mine
+    (only.notes ∙ no_notes-joins l.notes ∙ sym (with_done-joins l.notes l.label [] [])) logged fits
+
+-- law: the same where its answer holds in every such run
 pub keeps_sight : {s : Script} {x : WorldOf} {l m : LaneOf} {call : Call} (next : IsNextCall s x l call) (a : Answer) → LooksOnly l m
     → ((j : ℕ) → NeverFall (length (seen_of l.pass.objects j)) (object_steps_on j call a []) (length (seen_of m.pass.objects j)))
     → Does s (length (writes m.pass.clock.knows)) call a [] []
-    → ((e : Ending) → Follows m.pass e → IsJoined s e
-    → HasLog e l.label
-    (log_of l.pass m.pass [] (plain (length (writes m.pass.clock.knows)) (length m.pass.timers.known.seen) (length m.pass.timers.known.seen) []))
+    → ((e : Ending) → Follows m.pass e → IsJoined s e → HasLog e l.label (log_of l.pass m.pass [] (looking m))
     → IsSeen (course_of s e) (length m.pass.timers.known.seen) (length m.pass.timers.known.seen) l.label (length (writes m.pass.clock.knows)) [] call a)
     → KeepsCall s l call a m
-keeps_sight {l = l} {m = m} {call = call} next a only steps does seen =
-    let p = l.pass in
-    let q = m.pass in
-    let last = length q.timers.known.seen in
-    let t = plain (length (writes q.clock.knows)) last last [] in
-    let part = part_seen (λ c. Unit) l.label p.timers.known p.objects q.timers.known q.objects only.timers.seen only.timers.mine only.objects only.mine
-    only.opening in
-    let logged = logged_from p q [] t call a (sees_part p q part only.clock) refl part.enters.made refl refl refl steps in
-    keeps_part next m a (λ c. Unit) [] [] [] t part (λ e goes. tt) only.clock only.clock_mine
-    (only.notes ∙ no_notes-joins l.notes ∙ sym (with_done-joins l.notes l.label [] [])) logged
-    (λ e follows joined has kept low. quiet_made kept does (seen e follows joined has))
+keeps_sight next a only steps does seen =
+    keeps_looking next a only steps (λ e follows joined has kept low. quiet_made kept does (seen e follows joined has))
 
 none_either : (b : Bool) (xs : List ℕ) → xs ≡ [] → (if b then xs else []) ≡ []
 none_either true xs none = none
@@ -148,7 +164,8 @@ pub keeps_full : {s : Script} {x : WorldOf} {l m : LaneOf} {call : Call} (next :
     → KeepsCall s l call a m
 keeps_full {l = l} {m = m} {call = call} next a i n log object_log full clock clock_mine notes on stamps does seen =
     let only : LooksOnly l m = record {
-      timers = full.looks;
+      timers = full.looks.seen;
+      timers_mine = full.looks.mine;
       objects = full.reads.pass.seen;
       mine = full.reads.pass.mine;
       opening = full.reads.opening;
@@ -170,13 +187,6 @@ pub keeps_same : {s : Script} {x : WorldOf} {l m : LaneOf} {call : Call} (next :
     → KeepsCall s l call a m
 keeps_same {l = l} {m = m} next a i log object_log same clock clock_mine notes on none does seen =
     let timers = ap (λ (c : Caller). c.timers) same in
-    let objects = ap (λ (c : Caller). c.objects) same in
-    keeps_unstamped next a i (record {
-      timers = same_timers l.pass.timers.known m.pass.timers.known timers;
-      objects = same_objects l.pass m.pass objects;
-      mine = ap (λ o. o.knows.pass.mine) objects;
-      opening = ap (λ o. o.knows.opening) objects;
-      clock = clock;
-      clock_mine = clock_mine;
-      notes = notes_alone l m log object_log (ap (λ (c : Caller). c.log) same) (ap (λ (c : Caller). c.object_log) same) notes;
-    }) on none does seen
+    keeps_unstamped next a i (looks_alone l m (begins_same l.pass.timers.known.seen m.pass.timers.known.seen (ap (λ k. k.seen) timers))
+    (ap (λ k. k.mine) timers) (ap (λ (c : Caller). c.objects) same) clock clock_mine
+    (notes_alone l m log object_log (ap (λ (c : Caller). c.log) same) (ap (λ (c : Caller). c.object_log) same) notes)) on none does seen

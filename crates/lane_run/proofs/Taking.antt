@@ -33,12 +33,6 @@ takes_next p left all before lanes lane m q n now pop quiet takes with_it so_far
   taken = (m, n, so_far.taken, takes, with_it);
 }
 
--- so all were
-pub takes_all : (p : WorldPass) (left : LeftOf) (all : List Lane) (q : WorldPass) (now : LeftOf) → TakesRest p left all [] q now
-    → All (λ (l : Lane). l.wants_memory ≡ false) all × TakesInLanes p left all q now
-takes_all p left all q now is =
-    (subst (All (λ (l : Lane). l.wants_memory ≡ false)) (sym is.parts) is.quiet, subst (λ ls. TakesInLanes p left ls q now) (sym is.parts) is.taken)
-
 -- ---- the lanes of a round
 
 -- one more number was looked at

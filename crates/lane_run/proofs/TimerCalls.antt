@@ -43,8 +43,10 @@ use Rattle.lane_run.specs.Called.{CallsCancel, CallsStart, cancel_receipts, canc
 use Rattle.lane_run.specs.Kept.{entry_in_note, IsNextCall, KeepsCall}
 use Rattle.lane_run.specs.Worlds.{WorldOf}
 use Rattle.lane_run.proofs.Entering.{enters_along, HasReading, lines_along}
-use Rattle.lane_run.proofs.CallKept.{leaves_begins, no_notes-joins, reading_followed, reads_begins, with_done-joins}
-use Rattle.lane_run.proofs.Quiet.{IsEntered, keeps_entered, keeps_quiet, looks_made, saw_quiet, still_quiet}
+use Rattle.lane_run.proofs.CallKept.{leaves_begins, reads_begins, reading_goes_on}
+use Rattle.lane_run.proofs.Parts.{IsEntered}
+use Rattle.lane_run.proofs.Quiet.{keeps_entered, keeps_quiet, saw_quiet, still_quiet, looks_at}
+use Rattle.lane_run.proofs.Sights.{notes_alone}
 
 -- the timers of a script's world are on its clocks
 pub opened_timers : {s : Script} {x : WorldOf} {l : LaneOf} {call : Call} → IsNextCall s x l call → x.timers.about.timers ≡ openings (clocks_of s) s.limit
@@ -56,27 +58,13 @@ cancel_kept : {s : Script} {x : WorldOf} {l m : LaneOf} {timer : ℕ} → IsNext
     → (answer : CancelAnswer) → Cancels x.timers.about l.pass.timers.known m.pass.timers.known timer answer → m.pass.objects ≡ l.pass.objects
     → m.notes ≡ with_done l.notes l.label (cancel_receipts timer answer) [] → KeepsCall s l (calls.Cancel timer) (cancel_told answer) m
 cancel_kept {l = l} {m = m} {timer = timer} next clock (cancels.Idle n) c objects notes =
-    let v = l.pass.timers.known in
-    keeps_quiet next m (answers.Idle n) (record {
-      timers = (looks_made v m.pass.timers.known timer c.at c.made).0;
-      mine = (looks_made v m.pass.timers.known timer c.at c.made).1;
-      clock = leaves_begins l.pass m.pass clock;
-      clock_mine = ap (λ o. o.knows.pass.mine) clock;
-      objects = objects;
-      notes = notes ∙ with_done-joins l.notes l.label [] [] ∙ sym (no_notes-joins l.notes);
-      on_none = refl;
-    }) refl (saw_quiet next m.pass v timer c.at n observations.Idle c.made c.fits.1 c.fits.0)
+    keeps_quiet next (answers.Idle n) (looks_at l m timer c.at c.made objects (leaves_begins l.pass m.pass clock) (ap (λ o. o.knows.pass.mine) clock)
+    (notes_alone l m [] [] refl refl notes)) refl refl
+    (saw_quiet next m.pass l.pass.timers.known timer c.at n observations.Idle c.made c.fits.1 c.fits.0)
 cancel_kept {l = l} {m = m} {timer = timer} next clock (cancels.Running g n) c objects notes =
-    let v = l.pass.timers.known in
-    keeps_quiet next m (answers.Running g n) (record {
-      timers = (looks_made v m.pass.timers.known timer c.at c.made).0;
-      mine = (looks_made v m.pass.timers.known timer c.at c.made).1;
-      clock = leaves_begins l.pass m.pass clock;
-      clock_mine = ap (λ o. o.knows.pass.mine) clock;
-      objects = objects;
-      notes = notes ∙ with_done-joins l.notes l.label [] [] ∙ sym (no_notes-joins l.notes);
-      on_none = refl;
-    }) refl (saw_quiet next m.pass v timer c.at n (observations.Running g) c.made c.fits.1 c.fits.0)
+    keeps_quiet next (answers.Running g n) (looks_at l m timer c.at c.made objects (leaves_begins l.pass m.pass clock) (ap (λ o. o.knows.pass.mine) clock)
+    (notes_alone l m [] [] refl refl notes)) refl refl
+    (saw_quiet next m.pass l.pass.timers.known timer c.at n (observations.Running g) c.made c.fits.1 c.fits.0)
 cancel_kept {s = s} {x = x} {l = l} {m = m} {timer = timer} next clock (cancels.Cancelled g n) c objects notes =
     let v = l.pass.timers.known in
     let w = m.pass.timers.known in
@@ -91,21 +79,9 @@ cancel_kept {s = s} {x = x} {l = l} {m = m} {timer = timer} next clock (cancels.
     let are : map receipt along.notes ≡ (timer, (n, entries.Cancel g)) ∷ [] =
     along.are ∙ ap (λ k. (timer, (u.stamp + 1, entries.Cancel k)) ∷ []) generation ∙ ap (λ k. (timer, (k, entries.Cancel g)) ∷ []) number in
     keeps_entered next m (answers.Cancelled g) (λ clock. Unit) (cancel_receipts timer (cancels.Cancelled g n)) along.notes
-    (plain (length (writes m.pass.clock.knows)) (length v.seen) (length w.seen) (Entered timer n (entries.Cancel g) ∷ [])) (record {
-      enters = along.enters;
-      so = λ e follows. tt;
-      clock = leaves_begins l.pass m.pass clock;
-      clock_mine = ap (λ o. o.knows.pass.mine) clock;
-      objects = objects;
-      joins = notes ∙ with_done-joins l.notes l.label (cancel_receipts timer (cancels.Cancelled g n)) [];
-      receipts = are;
-      looks = refl;
-      only = (tt, tt);
-      are = are;
-      last = refl;
-      at = refl;
-      on_none = refl;
-    }) (λ e follows joined has kept low. cancelled_made timer n g kept low)
+    (plain (length (writes m.pass.clock.knows)) (length v.seen) (length w.seen) (Entered timer n (entries.Cancel g) ∷ [])) along.enters (λ e goes. tt)
+    (leaves_begins l.pass m.pass clock) (ap (λ o. o.knows.pass.mine) clock) objects notes (tt, tt) are are refl refl refl refl
+    (λ e follows joined has kept low. cancelled_made timer n g kept low)
 
 -- law: a lane keeps a cancel
 pub keeps_cancel : {s : Script} {x : WorldOf} {l m : LaneOf} {a : Answer} {timer : ℕ} → IsNextCall s x l (calls.Cancel timer) → CallsCancel x l m a timer
@@ -209,15 +185,8 @@ start_kept : {s : Script} {x : WorldOf} {l m : LaneOf} {timer ns base : ℕ} {mo
     → KeepsCall s l (calls.Start timer mode ns base) (start_told answer) m
 start_kept {s = s} {x = x} {l = l} {m = m} {timer = timer} {ns = ns} {base = base} {mode = mode} next reading reads (starts.Spent n) c objects notes =
     let v = l.pass.timers.known in
-    keeps_quiet next m (answers.Spent n) (record {
-      timers = (looks_made v m.pass.timers.known timer c.at c.made).0;
-      mine = (looks_made v m.pass.timers.known timer c.at c.made).1;
-      clock = reads_begins l.pass m.pass reads.looks.seen;
-      clock_mine = reads.looks.mine;
-      objects = objects;
-      notes = notes ∙ with_done-joins l.notes l.label [] [] ∙ sym (no_notes-joins l.notes);
-      on_none = refl;
-    }) refl (λ e follows joined. (
+    keeps_quiet next (answers.Spent n) (looks_at l m timer c.at c.made objects (reads_begins l.pass m.pass reads.looks.seen) reads.looks.mine
+    (notes_alone l m [] [] refl refl notes)) refl refl (λ e follows joined. (
       saw_quiet next m.pass v timer c.at n observations.Spent c.made c.fits.2 c.fits.1 e follows joined,
       still_quiet next m.pass v timer c.at c.made c.fits.0 e follows joined,
     ))
@@ -235,24 +204,12 @@ start_kept {s = s} {x = x} {l = l} {m = m} {timer = timer} {ns = ns} {base = bas
     (λ clock has. start_reads mode ns base reading clock (moves_first u base) has) in
     let log = start_receipts timer mode ns base reading answer in
     let actions = arming_actions timer mode ns reading.stamp base so.arming in
-    let at = reads.count in
     subst (λ a. KeepsCall s l (calls.Start timer mode ns base) a m) (sym so.told)
     (keeps_entered next m (answers.Started so.arming.number so.arming.base (was_armed_before so.arming.out so.arming.was_armed)) IsSo log along.notes
-    (plain reading.stamp (length v.seen) (length w.seen) actions) (record {
-      enters = along.enters;
-      so = reading_followed l.pass m.pass reading reads;
-      clock = reads_begins l.pass m.pass reads.looks.seen;
-      clock_mine = reads.looks.mine;
-      objects = objects;
-      joins = notes ∙ with_done-joins l.notes l.label log [];
-      receipts = along.are ∙ so.lines ∙ sym (so.notes l.label);
-      looks = so.no_looks l.label;
-      only = so.only;
-      are = along.are ∙ so.lines;
-      last = refl;
-      at = at;
-      on_none = refl;
-    }) (λ e follows joined has kept low. started_made timer ns base mode so.arming kept low so.just))
+    (plain reading.stamp (length v.seen) (length w.seen) actions) along.enters (reading_goes_on l.pass m.pass reading reads)
+    (reads_begins l.pass m.pass reads.looks.seen) reads.looks.mine objects notes so.only (along.are ∙ so.lines)
+    (along.are ∙ so.lines ∙ sym (so.notes l.label)) (so.no_looks l.label) refl reads.count refl
+    (λ e follows joined has kept low. started_made timer ns base mode so.arming kept low so.just))
 
 -- law: a lane keeps a start
 pub keeps_start : {s : Script} {x : WorldOf} {l m : LaneOf} {a : Answer} {timer ns base : ℕ} {mode : Mode}

@@ -1,5 +1,5 @@
 -- What the claim of an object's timer does: a trigger of the object, which made an entry of it or was refused.
-use Rattle.std.proofs.Common.{◌≡◌, ◌≤◌, ◌<◌, ◌-◌, ℕ, ◌+◌, Bool, true, false, if◌then◌else◌, nat_eq, None, Some, option_map, zero, suc, List, [], ◌∷◌, ◌++◌, length, length-append, map, arith, refl, sym, ap, ◌∙◌, subst, inl, inr}
+use Rattle.std.proofs.Common.{◌≡◌, ◌≤◌, ◌<◌, ◌-◌, ℕ, ◌+◌, Bool, true, false, if◌then◌else◌, nat_eq, None, Some, option_map, zero, suc, List, [], ◌∷◌, ◌++◌, length, map, arith, refl, sym, ap, ◌∙◌, subst, inl, inr}
 use Rattle.std.specs.List.{AllByRecursion, slice_get}
 use Rattle.std.proofs.Math.Logic.{⊎_elim}
 use Rattle.std.proofs.lemmas.Bool.{eqb-true}
@@ -34,21 +34,22 @@ use Rattle.record_text.specs.declared.record.Label.{Label}
 use Rattle.record_text.specs.declared.record.ObjectEntry.TheVariants as object_entries
 use Rattle.record_text.specs.declared.record.ObjectEntry.{ObjectEntry}
 use Rattle.record_text.specs.declared.record.ObjectLine.{ObjectLine}
-use Rattle.script_text.specs.Actions.{also, Made, Skipped}
+use Rattle.script_text.specs.Actions.{Made, Skipped}
 use Rattle.script_text.specs.Histories.{reading_at}
 use Rattle.script_text.specs.Objects.{kind_of, lines_of_object, present}
-use Rattle.script_text.specs.Order.{NeverFall}
 use Rattle.script_text.specs.declared.script.Script.{Script}
 use Rattle.lane_notes.specs.Objects.{object_entry_noted, object_notes, skip_generation, skip_notes}
-use Rattle.lane_notes.specs.declared.notes.ObjectNote.{ObjectNote}
 use Rattle.lane_notes.specs.declared.notes.SkipNote.{SkipNote}
 use Rattle.run_history.specs.Calls.{IsBody, IsTrigger}
 use Rattle.run_history.specs.Courses.{Fired}
 use Rattle.run_history.proofs.Lists.{at_left, at_seam}
-use Rattle.lane_run.specs.Kept.{AreObjectLines, made_on, ObjectMove, ShowsObjectCall, skips_on}
-use Rattle.lane_run.proofs.Bodies.{BodyKept, fired_of, one_rises, timers_still}
+use Rattle.lane_run.specs.Kept.{AreObjectLines, made_on, ObjectMove, skips_on, FollowsObject}
+use Rattle.lane_run.proofs.Bodies.{BodyKept, fired_of, timers_still}
 use Rattle.lane_run.proofs.Entering.{begins_length}
-use Rattle.lane_run.proofs.Parts.{IsNoteIn, object_place}
+use Rattle.lane_run.proofs.Parts.{IsNoteIn, object_place, IsNotedAs, objects_made, noted_at}
+use Rattle.lane_run.proofs.PartLists.{one_falls}
+use Rattle.run_history.specs.Runs.{Ending}
+use Rattle.lane_run.proofs.OwnLines.{turned}
 
 -- ---- the record's spans
 
@@ -67,15 +68,19 @@ span_at clock spans k (suc n) (x ∷ xs) (line ∷ lines) h are there = ap spans
     further : (k n : ℕ) → k + suc n ≡ k + 1 + n
     further k n = omega arith
 
+-- law: a run has the span of an object's entry that was made
+pub span_made : (q : ObjectsPass) (e : Ending) (i many : ℕ) (step : ObjectMove) → FollowsObject e i (seen_of q i) → slice_get (seen_of q i) many ≡ Some step
+    → e.spans i (many + 1) ≡ (step.call.from, step.call.to)
+span_made q e i many step follows there =
+    ap (e.spans i) (turned many) ∙ span_at e.run.clock (e.spans i) 1 many follows.history (lines_of_object e.run i) step follows.lines
+    (subst (λ ys. slice_get ys many ≡ Some step) (sym follows.goes_on.whole) (at_left (seen_of q i) follows.goes_on.rest many step there))
+
 -- ---- the note of a trigger
 
 -- a trigger that made an entry: the record's entry of it
-pub record TriggerNoted (call : ObjectCall) (reply : ObjectReply) (generation : ℕ) (reading : ClockReading) : Type 0 where
-  pub counted : Bool
-  pub noted : object_entry_noted call reply ≡ Some (object_entries.Trigger generation reading.stamp counted)
-  pub no_skip : skip_generation call reply ≡ None
-  pub shows : (clock : List ClockLine) → reading_at clock reading.stamp ≡ reading
-      → ShowsObjectCall clock call reply (object_entries.Trigger generation reading.stamp counted)
+abbrev pub TriggerNoted : ObjectCall → ObjectReply → ℕ → ClockReading → Type 0
+TriggerNoted call reply generation reading =
+    (counted : Bool) × IsNotedAs (λ clock. reading_at clock reading.stamp ≡ reading) call reply (object_entries.Trigger generation reading.stamp counted)
 
 -- law: a trigger of a POSIX timer that made an entry is noted
 pub posix_noted : (x : Object) (generation : ℕ) (reading : ClockReading) → ObjectAllows x (of_kind.Posix (posix_calls.Trigger generation reading))
@@ -87,18 +92,16 @@ posix_noted (objects.Posix t) generation reading allows = by_test (is_expiry_of 
   where
     by_test : (b : Bool) → TriggerNoted (of_kind.Posix (posix_calls.Trigger generation reading))
         (replies.Posix (posix_replies.Trigger (if b then triggers.Counted else triggers.Stale))) generation reading
-    by_test true = record {
-      counted = true;
-      noted = refl;
-      no_skip = refl;
-      shows = λ clock has. ap (λ r. Some (record { call = posix_calls.Trigger generation r; reply = posix_replies.Trigger triggers.Counted })) has;
-    }
-    by_test false = record {
-      counted = false;
-      noted = refl;
-      no_skip = refl;
-      shows = λ clock has. ap (λ r. Some (record { call = posix_calls.Trigger generation r; reply = posix_replies.Trigger triggers.Stale })) has;
-    }
+    by_test true = (
+      true,
+      noted_at reading (λ r. of_kind.Posix (posix_calls.Trigger generation r)) (replies.Posix (posix_replies.Trigger triggers.Counted)) _ refl refl
+          (λ clock. refl),
+    )
+    by_test false = (
+      false,
+      noted_at reading (λ r. of_kind.Posix (posix_calls.Trigger generation r)) (replies.Posix (posix_replies.Trigger triggers.Stale)) _ refl refl
+          (λ clock. refl),
+    )
 
 -- law: a trigger of a descriptor that made an entry is noted
 pub fd_noted : (x : Object) (generation : ℕ) (reading : ClockReading) → ObjectAllows x (of_kind.Fd (fd_calls.Trigger generation reading))
@@ -109,23 +112,16 @@ fd_noted (objects.Fd t) generation reading allows = by_test (is_expiry_of t.phas
   where
     by_test : (b : Bool) → TriggerNoted (of_kind.Fd (fd_calls.Trigger generation reading))
         (replies.Fd (fd_replies.Trigger (if b then triggers.Counted else triggers.Stale))) generation reading
-    by_test true = record {
-      counted = true;
-      noted = refl;
-      no_skip = refl;
-      shows = λ clock has. ap (λ r. Some (record { call = fd_calls.Trigger generation r; reply = fd_replies.Trigger triggers.Counted })) has;
-    }
-    by_test false = record {
-      counted = false;
-      noted = refl;
-      no_skip = refl;
-      shows = λ clock has. ap (λ r. Some (record { call = fd_calls.Trigger generation r; reply = fd_replies.Trigger triggers.Stale })) has;
-    }
-
--- a number at most, no less than one and no greater than another
-pub one_falls : (number low high : ℕ) (b : Bool) → (b ≡ true → (low ≤ number) × (number ≤ high)) → low ≤ high → NeverFall low (also b number []) high
-one_falls number low high true bounds le = bounds refl
-one_falls number low high false bounds le = le
+    by_test true = (
+      true,
+      noted_at reading (λ r. of_kind.Fd (fd_calls.Trigger generation r)) (replies.Fd (fd_replies.Trigger triggers.Counted)) _ refl refl
+          (λ clock. refl),
+    )
+    by_test false = (
+      false,
+      noted_at reading (λ r. of_kind.Fd (fd_calls.Trigger generation r)) (replies.Fd (fd_replies.Trigger triggers.Stale)) _ refl refl
+          (λ clock. refl),
+    )
 
 -- ---- the trigger
 
@@ -139,74 +135,31 @@ module _ (IsSo : List ClockLine → Type 0) (s : Script) (x : ObjectsOf) (limit 
       → EntersTrigger x p q object_log object_log' c.timer (spanned call (span_of c))
       → BodyKept IsSo s label c reading.stamp restart v w p q log log' object_log object_log'
   entered_trigger call notes is_body t =
-      let spanned_call = spanned call (span_of c) in
       let adds = t.commits.adds in
       let state = t.commits.state in
-      let reply = object_answer state.object call in
       let n = notes state.object t.may.allowed in
       let many = length adds.before in
-      let entry = object_entries.Trigger c.generation reading.stamp n.counted in
-      let step : ObjectMove = record { call = spanned_call; reply = reply } in
-      let r : ObjectReceipt = record { object = c.timer; number = many + 1; call = spanned_call; reply = reply } in
-      let note : ObjectNote = record { label = label; object = c.timer; number = many + 1; entry = entry } in
-      let are : object_notes label (r ∷ []) ≡ note ∷ [] =
-      ap (λ o. present (option_map (λ (y : ObjectEntry). record { label = label; object = c.timer; number = many + 1; entry = y }) o ∷ [])) n.noted in
-      let no_skips : skip_notes label (r ∷ []) ≡ [] =
-      ap (λ o. present (option_map (λ (y : ℕ). record { label = label; object = c.timer; number = many + 1; generation = y }) o ∷ [])) n.no_skip in
+      let entry = object_entries.Trigger c.generation reading.stamp n.0 in
+      let step : ObjectMove = record { call = spanned call (span_of c); reply = object_answer state.object call } in
       let body = Made c.timer (many + 1) entry ∷ [] in
-      let now : length (seen_of q c.timer) ≡ many + 1 = omega (arith, ap length adds.last, length-append adds.before (step ∷ [])) in
-      let behind = begins_length (seen_of p c.timer) adds.before adds.begins in
-      let grows : (i : ℕ) → length (seen_of p i) ≤ length (seen_of q i) = λ i. begins_length (seen_of p i) (seen_of q i) (adds.seen.each i) in
-      let there : slice_get (seen_of q c.timer) many ≡ Some step =
-      subst (λ ys. slice_get ys many ≡ Some step) (sym adds.last) (at_seam adds.before [] step) in
       record {
         body = body;
         timers = timers_still IsSo label c.timer v w log log' body same same_log refl refl (λ t. refl);
         objects = record {
-          log = r ∷ [];
+          log = record { object = c.timer; number = many + 1; call = step.call; reply = step.reply } ∷ [];
           adds = t.receipt;
-          objects = λ i. ap (made_on i) are;
-          objects_rise = λ i. one_rises (many + 1) entry (length (seen_of p i) + 1) (length (seen_of q i) + 1) (nat_eq c.timer i)
-              (λ is. let here = eqb-true c.timer i is in
-              let low : length (seen_of p i) ≤ many = subst (λ j. length (seen_of p j) ≤ many) here behind in
-              let high : length (seen_of q i) ≡ many + 1 = subst (λ j. length (seen_of q j) ≡ many + 1) here now in
-              (omega (arith, low), omega (arith, high)))
-              (let le = grows i in omega (arith, le));
-          objects_seen = subst (AllByRecursion (IsNoteIn IsSo p q)) (sym are) (
-            record {
-              before = many;
-              number = refl;
-              behind = behind;
-              step = step;
-              there = there;
-              shows = λ clock is. n.shows clock (so clock is);
-            },
-            tt,
-          );
-          skips = λ i. ap (skips_on i) no_skips;
-          skips_seen = subst (AllByRecursion (λ k. (0 < k.number) × (k.number ≤ length (seen_of q k.object)))) (sym no_skips) tt;
-          steps = λ i. one_falls (many + 1) (length (seen_of p i)) (length (seen_of q i)) (nat_eq c.timer i)
-              (λ is. let here = eqb-true c.timer i is in
-              let low : length (seen_of p i) ≤ many = subst (λ j. length (seen_of p j) ≤ many) here behind in
-              let high : length (seen_of q i) ≡ many + 1 = subst (λ j. length (seen_of q j) ≡ many + 1) here now in
-              (omega (arith, low), omega (arith, high))) (grows i);
-          goes_on = adds.seen;
-          opening = t.commits.opening;
-          mine = adds.mine ∙ ap (λ ns. p.knows.pass.mine ++ map object_place ns) (sym are);
+          part = objects_made IsSo label p q c.timer step entry adds t.commits.opening
+              (record { noted = n.1.noted; no_skip = n.1.no_skip; shows = λ clock is. n.1.shows clock (so clock is) });
         };
-        kind = λ finish rearmed. is_body (fired_of c body finish (asks restart) rearmed) (inl (many + 1, n.counted, refl), ap asks stops) refl;
+        kind = λ finish rearmed. is_body (fired_of c body finish (asks restart) rearmed) (inl (many + 1, n.0, refl), ap asks stops) refl;
         holds = λ e joined goes before points. tt;
-        span = λ e follows finish rearmed.
-            let its = follows c.timer in (
-              c.number - 1,
-              omega (arith, numbered),
-              ap (e.spans c.timer) (one_more many) ∙ span_at e.run.clock (e.spans c.timer) 1 many its.history (lines_of_object e.run c.timer) step its.lines
-                  (subst (λ ys. slice_get ys many ≡ Some step) (sym its.goes_on.whole) (at_left (seen_of q c.timer) its.goes_on.rest many step there)),
-            );
+        span = λ e follows finish rearmed. (
+          c.number - 1,
+          omega (arith, numbered),
+          span_made q e c.timer many step (follows c.timer)
+              (subst (λ ys. slice_get ys many ≡ Some step) (sym adds.last) (at_seam adds.before [] step)),
+        );
       }
-    where
-      one_more : (n : ℕ) → n + 1 ≡ 1 + n
-      one_more n = omega arith
 
   -- a trigger that a full history refused
   refused_trigger : (call : ObjectCall) → ((k : ℕ) → object_entry_noted call (refused_at call k) ≡ None)
@@ -236,16 +189,18 @@ module _ (IsSo : List ClockLine → Type 0) (s : Script) (x : ObjectsOf) (limit 
         objects = record {
           log = r ∷ [];
           adds = t.receipt;
-          objects = λ i. ap (made_on i) no_notes;
-          objects_rise = λ i. let le = grows i in omega (arith, le);
-          objects_seen = subst (AllByRecursion (IsNoteIn IsSo p q)) (sym no_notes) tt;
-          skips = λ i. ap (skips_on i) are;
-          skips_seen = subst (AllByRecursion (λ k. (0 < k.number) × (k.number ≤ length (seen_of q k.object)))) (sym are)
-              ((omega (arith, t.full, limit, some), omega arith), tt);
-          steps = λ i. one_falls many (length (seen_of p i)) (length (seen_of q i)) (nat_eq c.timer i) (bounds i) (grows i);
-          goes_on = t.reads.pass.seen;
-          opening = t.reads.opening;
-          mine = t.reads.pass.mine ∙ sym (append-nil p.knows.pass.mine) ∙ ap (λ ns. p.knows.pass.mine ++ map object_place ns) (sym no_notes);
+          part = record {
+            makes = λ i. ap (made_on i) no_notes;
+            rise = λ i. let le = grows i in omega (arith, le);
+            seen = subst (AllByRecursion (IsNoteIn IsSo p q)) (sym no_notes) tt;
+            skips = λ i. ap (skips_on i) are;
+            skips_seen = subst (AllByRecursion (λ k. (0 < k.number) × (k.number ≤ length (seen_of q k.object)))) (sym are)
+                ((omega (arith, t.full, limit, some), omega arith), tt);
+            steps = λ i. one_falls many (length (seen_of p i)) (length (seen_of q i)) (nat_eq c.timer i) (bounds i) (grows i);
+            goes_on = t.reads.pass.seen;
+            opening = t.reads.opening;
+            mine = t.reads.pass.mine ∙ sym (append-nil p.knows.pass.mine) ∙ ap (λ ns. p.knows.pass.mine ++ map object_place ns) (sym no_notes);
+          };
         };
         kind = λ finish rearmed. is_body (fired_of c body finish (asks restart) rearmed) (inr (many, refl), ap asks stops) refl;
         holds = λ e joined goes before points. (points c.timer (λ j. refl), omega (arith, t.full, limit));

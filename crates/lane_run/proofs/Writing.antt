@@ -31,7 +31,8 @@ use Rattle.lane_run.specs.Kept.{IsNextCall, KeepsCall, log_of, seen_by, SeesOn}
 use Rattle.lane_run.specs.Worlds.{WorldOf}
 use Rattle.lane_run.proofs.Entering.{begins_length, begins_same, enters_none}
 use Rattle.lane_run.proofs.CallKept.{no_places, promised_from, reads_begins, same_objects, same_order, stand_from, take_whole}
-use Rattle.lane_run.proofs.Quiet.{IsQuiet, keeps_none, keeps_quiet}
+use Rattle.lane_run.proofs.Quiet.{keeps_quiet, no_object_steps}
+use Rattle.lane_run.proofs.Sights.{LooksOnly, looks_alone, keeps_looking}
 
 -- the notes of a write alone
 abbrev pub write_notes : ℕ → ClockLine → NotesOf
@@ -56,17 +57,11 @@ reading_of_seen e ws on = reading_seen e ws (length ws) on (omega arith) ∙ ap 
 writes_within : (e : Ending) (ws : List Write) → GoesOnClock ws e → length ws ≤ length e.run.clock
 writes_within e ws on = omega (arith, length-map e.run.clock (λ (line : ClockLine). line.write), ap length on.1, length-append ws on.0)
 
-refused : (l m : LaneOf) (write : Write) → Looks l.pass.clock.knows.pass m.pass.clock.knows.pass → m.pass.timers ≡ l.pass.timers
-    → m.pass.objects ≡ l.pass.objects → m.notes ≡ l.notes → IsQuiet l m (calls.Clock write)
-refused l m write looks timers objects notes = record {
-  timers = begins_same l.pass.timers.known.seen m.pass.timers.known.seen (ap (λ t. t.known.seen) timers);
-  mine = ap (λ t. t.known.mine) timers;
-  clock = reads_begins l.pass m.pass looks.seen;
-  clock_mine = looks.mine;
-  objects = objects;
-  notes = notes;
-  on_none = refl;
-}
+refused : (l m : LaneOf) → Looks l.pass.clock.knows.pass m.pass.clock.knows.pass → m.pass.timers ≡ l.pass.timers → m.pass.objects ≡ l.pass.objects
+    → m.notes ≡ l.notes → LooksOnly l m
+refused l m looks timers objects notes =
+    looks_alone l m (begins_same l.pass.timers.known.seen m.pass.timers.known.seen (ap (λ t. t.known.seen) timers)) (ap (λ t. t.known.mine) timers) objects
+    (reads_begins l.pass m.pass looks.seen) looks.mine notes
 
 write_kept : {s : Script} {x : WorldOf} {l m : LaneOf} {write : Write} (next : IsNextCall s x l (calls.Clock write)) (answer : Result ClockReading ClockFault)
     → AnswersWrite write l.pass.clock.knows m.pass.clock.knows answer → m.pass.timers ≡ l.pass.timers → m.pass.objects ≡ l.pass.objects
@@ -74,7 +69,7 @@ write_kept : {s : Script} {x : WorldOf} {l m : LaneOf} {write : Write} (next : I
 write_kept {l = l} {m = m} {write = write} next (Err (faults.ClockRange would_be)) w timers objects notes =
     let ws = writes m.pass.clock.knows in
     let cause = (w.err.cause.range would_be).0 refl in
-    keeps_quiet next m (answers.Range would_be) (refused l m write w.err.looks timers objects notes) refl (λ e follows joined. record {
+    keeps_quiet next (answers.Range would_be) (refused l m w.err.looks timers objects notes) refl refl (λ e follows joined. record {
       counted = omega (arith, writes_within e ws follows.clock, follows.few);
       late = cause.1;
       greatest = cause.2 ∙ ap (λ r. greatest (after_write r write)) (sym (reading_of_seen e ws follows.clock));
@@ -82,8 +77,9 @@ write_kept {l = l} {m = m} {write = write} next (Err (faults.ClockRange would_be
 write_kept {l = l} {m = m} {write = write} next (Err faults.ClockSpent) w timers objects notes =
     let ws = writes m.pass.clock.knows in
     let full : last_stamp ≤ (seen_reading m.pass.clock.knows).stamp = w.err.cause.spent.0 refl in
-    keeps_none next m answers.ClockSpent (refused l m write w.err.looks timers objects notes)
-    (λ e follows. omega (arith, full, stamp_after ws, writes_within e ws follows.clock, follows.few))
+    let only = refused l m w.err.looks timers objects notes in
+    keeps_looking next answers.ClockSpent only (no_object_steps l.pass m.pass (calls.Clock write) answers.ClockSpent [] (λ i. refl) refl only.objects)
+    (λ e follows joined has kept low. absurd (omega (arith, full, stamp_after ws, writes_within e ws follows.clock, follows.few)))
 write_kept {s = s} {l = l} {m = m} {write = write} next (Ok r) w timers objects notes =
     let p = l.pass in
     let q = m.pass in

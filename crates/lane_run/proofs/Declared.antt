@@ -1,0 +1,78 @@
+-- What a script's timers are declared as: the objects over them, their bases and their callbacks.
+use Rattle.std.proofs.Common.{◌≡◌, ℕ, zero, suc, List, [], ◌∷◌, map, get_or, refl, sym, ap, ◌∙◌}
+use Rattle.ktime.specs.declared.clock_id.ClockId.{ClockId}
+use Rattle.ktime.specs.declared.clock_id.ClockId.TheVariants as clocks
+use Rattle.timer_objects.specs.Known.{decl_at}
+use Rattle.timer_objects.specs.declared.callback.Callback.TheVariants as runs
+use Rattle.timer_objects.specs.declared.object.Decl.{Decl}
+use Rattle.timer_objects.specs.declared.object.Kind as object_kind
+use Rattle.timer_objects.specs.declared.object.Kind.TheVariants as over
+use Rattle.script_text.specs.Histories.{clock_of}
+use Rattle.script_text.specs.ObjectCalls.{base_of}
+use Rattle.script_text.specs.Objects.{kind_of}
+use Rattle.script_text.specs.declared.script.Callback.TheVariants as callbacks
+use Rattle.script_text.specs.declared.script.Declaration.{Declaration}
+use Rattle.script_text.specs.declared.script.Kind.{Kind}
+use Rattle.script_text.specs.declared.script.Kind.TheVariants as kinds
+use Rattle.script_text.specs.declared.script.Script.{Script}
+use Rattle.lane_run.specs.Worlds.{callback_of, decl_as, decl_of, IsWorldOf, WorldOf}
+
+-- the kind of object over a timer of this kind
+abbrev pub over_of : Kind → object_kind.Kind
+over_of (kinds.Raw callback) = over.Raw
+over_of (kinds.Posix base) = over.Posix
+over_of (kinds.Fd base) = over.Fd
+
+decl_as-parts : (k : Kind) (clock : ClockId) → ((decl_as k clock).kind ≡ over_of k) × ((decl_as k clock).base ≡ base_of k)
+decl_as-parts (kinds.Raw callback) clock = (refl, refl)
+decl_as-parts (kinds.Posix base) clock = (refl, refl)
+decl_as-parts (kinds.Fd base) clock = (refl, refl)
+
+-- what stands over a timer that isn't declared
+abbrev pub no_decl : Decl
+no_decl = decl_as (kinds.Raw callbacks.Once) clocks.Monotonic
+
+-- law: an object is declared by its kind and its clock
+pub declared_at : (ds : List Declaration) (i : ℕ) → get_or (map decl_of ds) i no_decl
+    ≡ decl_as (get_or (map (λ d. d.kind) ds) i (kinds.Raw callbacks.Once)) (get_or (map (λ d. d.clock) ds) i clocks.Monotonic)
+declared_at [] i = refl
+declared_at (x ∷ ds) zero = refl
+declared_at (x ∷ ds) (suc i) = declared_at ds i
+
+-- law: the objects of a script's world are so declared
+pub declared_in : (s : Script) (x : WorldOf) (i : ℕ) → IsWorldOf s x → decl_at x.objects i ≡ decl_as (kind_of s i) (clock_of s i)
+declared_in s x i world = ap (λ (ds : List Decl). get_or ds i no_decl) world.decls ∙ declared_at s.timers i
+
+module _ (s : Script) (x : WorldOf) (i : ℕ) (is : IsWorldOf s x) where
+  -- law: the kind of object that is declared over a timer
+  pub declared_over : (decl_at x.objects i).kind ≡ over_of (kind_of s i)
+  declared_over = ap (λ (d : Decl). d.kind) (declared_in s x i is) ∙ (decl_as-parts (kind_of s i) (clock_of s i)).0
+
+  -- law: the base that an object's timer is declared on
+  pub declared_base : (decl_at x.objects i).base ≡ base_of (kind_of s i)
+  declared_base = ap (λ (d : Decl). d.base) (declared_in s x i is) ∙ (decl_as-parts (kind_of s i) (clock_of s i)).1
+
+  -- law: a POSIX timer is declared where there is one
+  pub posix_declared : (decl_at x.objects i).kind ≡ over.Posix → (base : ℕ) × (kind_of s i ≡ kinds.Posix base)
+  posix_declared posix = go (kind_of s i) (sym declared_over ∙ posix)
+    where
+      go : (k : Kind) → over_of k ≡ over.Posix → (base : ℕ) × (k ≡ kinds.Posix base)
+      go (kinds.Raw callback) is = absurd (cc)
+      go (kinds.Posix base) is = (base, refl)
+      go (kinds.Fd base) is = absurd (cc)
+
+  -- law: so is a descriptor
+  pub fd_declared : (decl_at x.objects i).kind ≡ over.Fd → (base : ℕ) × (kind_of s i ≡ kinds.Fd base)
+  fd_declared fd = go (kind_of s i) (sym declared_over ∙ fd)
+    where
+      go : (k : Kind) → over_of k ≡ over.Fd → (base : ℕ) × (k ≡ kinds.Fd base)
+      go (kinds.Raw callback) is = absurd (cc)
+      go (kinds.Posix base) is = absurd (cc)
+      go (kinds.Fd base) is = (base, refl)
+
+-- law: the callback of a timer is that of its declaration
+pub declared_callback : (ds : List Declaration) (i : ℕ) → get_or (map (λ d. callback_of d.kind) ds) i runs.Once
+    ≡ callback_of (get_or (map (λ d. d.kind) ds) i (kinds.Raw callbacks.Once))
+declared_callback [] i = refl
+declared_callback (x ∷ ds) zero = refl
+declared_callback (x ∷ ds) (suc i) = declared_callback ds i
