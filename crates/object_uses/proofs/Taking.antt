@@ -18,6 +18,8 @@ use Rattle.timer_fd.specs.declared.calls.Reply.TheVariants as fd_replies
 use Rattle.timer_fd.specs.States.{Descriptor, is_canceled}
 use Rattle.timer_fd.specs.Steps.{fd_read, total_in}
 use Rattle.base_row.specs.declared.view.Opening.{Opening}
+use Rattle.counted_row.specs.Calls.{Commits}
+use Rattle.timer_objects.specs.declared.cell.SpannedCall.{SpannedCall}
 use Rattle.timer_objects.specs.declared.object.Object.{Object}
 use Rattle.timer_objects.specs.declared.object.Object.TheVariants as objects
 use Rattle.timer_objects.specs.declared.object.ObjectCall.TheVariants as calls
@@ -26,9 +28,10 @@ use Rattle.timer_objects.specs.declared.object.ObjectReply.TheVariants as replie
 use Rattle.timer_objects.specs.declared.wanting.Rearming.{Rearming}
 use Rattle.timer_objects.specs.declared.wanting.Rearming.TheVariants as rearmings
 use Rattle.timer_objects.specs.Calls.{Accepts, Caller, MakesRearming, ReadsFd}
-use Rattle.timer_objects.specs.Known.{ObjectsOf}
+use Rattle.timer_objects.specs.Cells.{cell_meaning}
+use Rattle.timer_objects.specs.Known.{ObjectsOf, ObjectsPass}
 use Rattle.timer_objects.specs.Steps.{object_answer}
-use Rattle.object_uses.specs.Callers.{AcceptFits, ReadFits, TakesCount, TakesSignal}
+use Rattle.object_uses.specs.Callers.{AcceptFits, EndsWith, ReadFits, TakesCount, TakesSignal}
 
 -- the number that a reply has
 abbrev number_in : ObjectReply → Option ℕ
@@ -65,19 +68,19 @@ module _ (reading : ClockReading) (arm : Arm) (n : ℕ) where
   count_of (objects.Fd t) e =
       let by = count_by t (is_canceled t reading) (nat_eq t.count 0) (nat_eq (total_in t reading) 0) _ _ _ refl e in (t, refl, by.0, by.1)
 
+ends_with : (p q : ObjectsPass) (id : ℕ) (call : SpannedCall) (commits : Commits cell_meaning p q id call)
+    → EndsWith p q id commits.state (record { call = call; reply = cell_meaning.reply commits.state call })
+ends_with p q id call commits = record { before = commits.adds.before; seen = commits.adds.begins; at = commits.at; last = commits.adds.last }
+
 module _ (x : ObjectsOf) (o : Opening) (old new : Caller) (id : ℕ) (reading : ClockReading) (n : ℕ) where
   takes_signal : MakesRearming x o old new id rearmings.Accepting reading (replies.Posix (posix_replies.Accept (acceptances.Accepted n)))
       → TakesSignal old.objects new.objects id reading n
   takes_signal made =
-      let commits = made.enters.commits in
-      let taken = signal_of reading made.arm n commits.state.object (ap number_in made.enters.reply) in
+      let taken = signal_of reading made.arm n made.enters.commits.state.object (ap number_in made.enters.reply) in
       record {
-        before = commits.adds.before;
-        seen = commits.adds.begins;
-        state = commits.state;
-        at = commits.at;
+        state = made.enters.commits.state;
         call = _;
-        last = commits.adds.last;
+        ends = ends_with _ _ _ _ made.enters.commits;
         timer = taken.0;
         is = taken.1;
         pending = taken.2;
@@ -87,17 +90,13 @@ module _ (x : ObjectsOf) (o : Opening) (old new : Caller) (id : ℕ) (reading : 
   takes_count : MakesRearming x o old new id rearmings.Reading reading (replies.Fd (fd_replies.Read (reads.Count n)))
       → TakesCount old.objects new.objects id reading n
   takes_count made =
-      let commits = made.enters.commits in
-      let taken = count_of reading made.arm n commits.state.object (ap number_in made.enters.reply) in
+      let taken = count_of reading made.arm n made.enters.commits.state.object (ap number_in made.enters.reply) in
       record {
-        before = commits.adds.before;
-        seen = commits.adds.begins;
-        state = commits.state;
-        at = commits.at;
-        arm = made.arm;
+        state = made.enters.commits.state;
         call = _;
+        ends = ends_with _ _ _ _ made.enters.commits;
+        arm = made.arm;
         is_read = refl;
-        last = commits.adds.last;
         descriptor = taken.0;
         is = taken.1;
         total = taken.2;

@@ -1,10 +1,13 @@
 -- What callers are told of objects, by all that their passes have seen.
-use Rattle.std.specs.Prelude.{ℕ, ◌≡◌, ◌+◌, List, [], ◌∷◌, ◌++◌, length, true}
+use Rattle.std.specs.Prelude.{ℕ, ◌≡◌, ◌+◌, ◌≤◌, ◌<◌, List, [], ◌∷◌, ◌++◌, length, true}
 use Rattle.ktime.specs.Readings.{ClockReading}
 use Rattle.pass_names.specs.declared.Pass.{Pass}
 use Rattle.pass_names.specs.Names.{after_retire}
 use Rattle.pass_names.specs.Passes.{Begins, GoesOn}
+use Rattle.base_row.specs.Calls as rows
+use Rattle.hr_timers.specs.Known.{IsPassOf, PassOf}
 use Rattle.expire_pass.specs.Handlers.{KeepsPass}
+use Rattle.expire_pass.specs.Logs.{LogOf}
 use Rattle.timer_setting.specs.declared.arming.Arm.{Arm}
 use Rattle.timer_setting.specs.Phases.{periods_in}
 use Rattle.posix_timer.specs.States.{PosixTimer}
@@ -23,15 +26,45 @@ use Rattle.timer_objects.specs.declared.cell.SpannedCall.{SpannedCall}
 use Rattle.timer_objects.specs.declared.object.Object.TheVariants as objects
 use Rattle.timer_objects.specs.declared.object.ObjectCall.TheVariants as calls
 use Rattle.timer_objects.specs.declared.object.ObjectReply.{ObjectReply}
+use Rattle.timer_objects.specs.declared.callback.Callback.{Callback}
+use Rattle.timer_objects.specs.Callbacks.{bases_of}
 use Rattle.timer_objects.specs.Cells.{cell_meaning}
 use Rattle.timer_objects.specs.Calls.{Caller}
-use Rattle.timer_objects.specs.Known.{ObjectsPass, seen_of}
+use Rattle.timer_objects.specs.Known.{IsObjectsPass, ObjectsOf, ObjectsPass, Suits, seen_of}
+use Rattle.timer_objects.specs.Logs.{ObjectLogOf}
 
 -- the pass's name is as it was, and what it has seen and made goes on
 pub record KeepsObjectsPass (p q : ObjectsPass) : Type 0 where
   pub id : q.knows.pass.id ≡ p.knows.pass.id
   pub seen : GoesOn p.knows.pass.seen q.knows.pass.seen
   pub mine : Begins p.knows.pass.mine q.knows.pass.mine
+
+-- a thread has a pass of the timers and one of the objects, which stand over these timers
+pub record HasPasses (timers : rows.BaseRowOf) (objects : ObjectsOf) (pass : PassOf) (objects_pass : ObjectsPass) : Type 0 where
+  pub of_timers : IsPassOf timers pass
+  pub of_objects : IsObjectsPass objects objects_pass
+  pub suits : Suits objects timers.about
+
+-- a thread may call an object by its passes, and its logs have room for the receipts
+pub record MayCall (timers : rows.BaseRowOf) (objects : ObjectsOf) (pass : PassOf) (objects_pass : ObjectsPass) (log : LogOf) (object_log : ObjectLogOf) (id : ℕ)
+    : Type 0 where
+  pub passes : HasPasses timers objects pass objects_pass
+  pub within : id < length objects.decls
+  pub room : 4 ≤ log.spare
+  pub object_room : 0 < object_log.spare
+
+-- functions may be run on a base, with a callback for each timer
+pub record MayRun (timers : rows.BaseRowOf) (objects : ObjectsOf) (callbacks : List Callback) (base : ℕ) : Type 0 where
+  pub many : length callbacks ≡ length objects.decls
+  pub bases : bases_of callbacks ≤ timers.about.bases
+  pub is_base : base < timers.about.bases
+
+-- the passes are still of these timers and objects, their names are as they were, and what they have seen and made goes on
+pub record KeepsPasses (timers : rows.BaseRowOf) (objects : ObjectsOf) (pass pass' : PassOf) (objects_pass objects_pass' : ObjectsPass) : Type 0 where
+  pub of_timers : IsPassOf timers pass'
+  pub keeps : KeepsPass pass.known pass'.known
+  pub of_objects : IsObjectsPass objects objects_pass'
+  pub goes_on : KeepsObjectsPass objects_pass objects_pass'
 
 -- a pass has taken in another: it has seen all that either had seen, and has as its own what either had made
 pub record HasHeard {E : Type 0} (first second new : Pass E) : Type 0 where
@@ -44,14 +77,18 @@ pub record HasHeard {E : Type 0} (first second new : Pass E) : Type 0 where
 abbrev pub KeepsBoth : Caller → Caller → Type 0
 KeepsBoth old new = KeepsPass old.timers new.timers × KeepsObjectsPass old.objects new.objects
 
--- a signal was accepted at this reading: it was pending, and the overrun is by the periods that had passed
-pub record TakesSignal (p q : ObjectsPass) (id : ℕ) (reading : ClockReading) (n : ℕ) : Type 0 where
+-- an object was in this state when this entry was made, which then stands last among those that the pass has seen
+pub record EndsWith (p q : ObjectsPass) (id : ℕ) (state : ObjectCell) (entry : Entry SpannedCall ObjectReply) : Type 0 where
   pub before : List (Entry SpannedCall ObjectReply)
   pub seen : Begins (seen_of p id) before
-  pub state : ObjectCell
   pub at : StateAfter cell_meaning p.knows.opening id before state
+  pub last : seen_of q id ≡ before ++ entry ∷ []
+
+-- a signal was accepted at this reading: it was pending, and the overrun is by the periods that had passed
+pub record TakesSignal (p q : ObjectsPass) (id : ℕ) (reading : ClockReading) (n : ℕ) : Type 0 where
+  pub state : ObjectCell
   pub call : Entry SpannedCall ObjectReply
-  pub last : seen_of q id ≡ before ++ call ∷ []
+  pub ends : EndsWith p q id state call
   pub timer : PosixTimer
   pub is : state.object ≡ objects.Posix timer
   pub pending : timer.pending ≡ true
@@ -59,14 +96,11 @@ pub record TakesSignal (p q : ObjectsPass) (id : ℕ) (reading : ClockReading) (
 
 -- A count was read at this reading: it is all that the descriptor had counted, and the periods that had passed. None is left in the state after it.
 pub record TakesCount (p q : ObjectsPass) (id : ℕ) (reading : ClockReading) (n : ℕ) : Type 0 where
-  pub before : List (Entry SpannedCall ObjectReply)
-  pub seen : Begins (seen_of p id) before
   pub state : ObjectCell
-  pub at : StateAfter cell_meaning p.knows.opening id before state
-  pub arm : Arm
   pub call : Entry SpannedCall ObjectReply
+  pub ends : EndsWith p q id state call
+  pub arm : Arm
   pub is_read : call.call.call ≡ calls.Fd (fd_calls.Read reading arm)
-  pub last : seen_of q id ≡ before ++ call ∷ []
   pub descriptor : Descriptor
   pub is : state.object ≡ objects.Fd descriptor
   pub total : n ≡ total_in descriptor reading

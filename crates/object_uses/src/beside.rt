@@ -1,12 +1,10 @@
 //! A thread that reads a descriptor, beside another that runs the functions of timers.
-ghost use Rattle.std.specs.Prelude.{◌≡◌, ◌≤◌, ◌<◌, ◌+◌, ◌*◌, [], length};
+ghost use Rattle.std.specs.Prelude.{◌≡◌, ◌≤◌, ◌*◌, []};
 ghost use Rattle.pass_names.specs.Names.{IsLast};
 ghost use Rattle.hr_timers.specs.Known.{IsPassOf};
-ghost use Rattle.expire_pass.specs.Handlers.{KeepsPass};
 ghost use Rattle.timer_objects.specs.declared.object.Kind.TheVariants as kinds;
-ghost use Rattle.timer_objects.specs.Callbacks.{bases_of};
-ghost use Rattle.timer_objects.specs.Known.{IsObjectsPass, Suits, decl_at};
-ghost use Rattle.object_uses.specs.Callers.{KeepsObjectsPass, ReadBeside, ReadFits};
+ghost use Rattle.timer_objects.specs.Known.{IsObjectsPass, decl_at};
+ghost use Rattle.object_uses.specs.Callers.{HasPasses, KeepsPasses, MayCall, MayRun, ReadBeside, ReadFits};
 
 use crate::counts::read_count;
 use crate::expiring::{Expired, expire_objects};
@@ -25,32 +23,27 @@ fn expire_and_read<R: Threads + Wait + Sync>(
     rt: &R,
     alloc: Global,
     timers: &Timers,
-    runner: &mut Pass,
-    reader: &mut Pass,
     objects: &Objects,
-    objects_runner: &mut RowPass<ObjectCell>,
-    objects_reader: &mut RowPass<ObjectCell>,
     callbacks: &[Callback],
     base: u32,
     budget: u32,
     id: u32,
     reading: Reading,
+    runner: &mut Pass,
+    objects_runner: &mut RowPass<ObjectCell>,
     runner_log: &mut Log,
+    reader: &mut Pass,
+    objects_reader: &mut RowPass<ObjectCell>,
     log: &mut Log,
     object_log: &mut ObjectLog,
 ) -> (Result<Expired, AllocError>, ReadAnswer)
-    requires timers { IsPassOf timers.now runner.old × IsPassOf timers.now reader.old }
-    requires objects { IsObjectsPass objects.now objects_runner.old × IsObjectsPass objects.now objects_reader.old }
-    requires suits { Suits objects.now timers.now.about }
-    requires within { id < length objects.now.decls }
+    requires runner { HasPasses timers.now objects.now runner.old objects_runner.old }
+    requires reader { MayCall timers.now objects.now reader.old objects_reader.old log.old object_log.old id }
     requires kind { (decl_at objects.now id).kind ≡ kinds.Fd }
-    requires callbacks { (length callbacks.now ≡ length objects.now.decls) × (bases_of callbacks.now ≤ timers.now.about.bases) }
-    requires base { base < timers.now.about.bases }
-    requires room { (2 * budget ≤ runner_log.old.spare) × (4 ≤ log.old.spare) × (0 < object_log.old.spare) }
-    ensures timers { IsPassOf timers.now runner.new × IsPassOf timers.now reader.new }
-    ensures keeps { KeepsPass runner.old.known runner.new.known × KeepsPass reader.old.known reader.new.known }
-    ensures objects { IsObjectsPass objects.now objects_runner.new × IsObjectsPass objects.now objects_reader.new }
-    ensures goes_on { KeepsObjectsPass objects_runner.old objects_runner.new × KeepsObjectsPass objects_reader.old objects_reader.new }
+    requires run { MayRun timers.now objects.now callbacks.now base }
+    requires room { 2 * budget ≤ runner_log.old.spare }
+    ensures runner { KeepsPasses timers.now objects.now runner.old runner.new objects_runner.old objects_runner.new }
+    ensures reader { KeepsPasses timers.now objects.now reader.old reader.new objects_reader.old objects_reader.new }
     ensures reads { ReadFits objects_reader.old objects_reader.new id reading result.1 }
 {
     join_mut(
@@ -104,15 +97,11 @@ pub fn read_beside<R: Threads + Wait + Sync>(
     log: &mut Log,
     object_log: &mut ObjectLog,
 ) -> (Result<Expired, AllocError>, ReadAnswer)
-    requires timers { IsPassOf timers.now main.old }
+    requires may { MayCall timers.now objects.now main.old objects_main.old log.old object_log.old id }
     requires unclaimed { main.old.known.claims ≡ [] }
-    requires objects { IsObjectsPass objects.now objects_main.old }
-    requires suits { Suits objects.now timers.now.about }
-    requires within { id < length objects.now.decls }
     requires kind { (decl_at objects.now id).kind ≡ kinds.Fd }
-    requires callbacks { (length callbacks.now ≡ length objects.now.decls) × (bases_of callbacks.now ≤ timers.now.about.bases) }
-    requires base { base < timers.now.about.bases }
-    requires room { (2 * budget ≤ main_log.old.spare) × (4 ≤ log.old.spare) × (0 < object_log.old.spare) }
+    requires run { MayRun timers.now objects.now callbacks.now base }
+    requires room { 2 * budget ≤ main_log.old.spare }
     ensures timers { IsPassOf timers.now main.new }
     ensures unclaimed { main.new.known.claims ≡ [] }
     ensures objects { IsObjectsPass objects.now objects_main.new }
@@ -126,17 +115,17 @@ pub fn read_beside<R: Threads + Wait + Sync>(
         rt,
         alloc,
         timers,
-        main,
-        &mut other,
         objects,
-        objects_main,
-        &mut objects_other,
         callbacks,
         base,
         budget,
         id,
         reading,
+        main,
+        objects_main,
         main_log,
+        &mut other,
+        &mut objects_other,
         log,
         object_log,
     );

@@ -1,10 +1,8 @@
 //! An expiry run whose functions trigger objects, with a pass of theirs that is lent to it.
-ghost use Rattle.std.specs.Prelude.{◌≡◌, ◌≤◌, ◌<◌, ◌+◌, ◌*◌, length, OnErr};
+ghost use Rattle.std.specs.Prelude.{◌≡◌, ◌≤◌, ◌+◌, ◌*◌, length, OnErr};
 ghost use Rattle.hr_timers.specs.Known.{IsPassOf};
-ghost use Rattle.expire_pass.specs.Handlers.{KeepsPass};
-ghost use Rattle.timer_objects.specs.Callbacks.{bases_of};
 ghost use Rattle.timer_objects.specs.Known.{IsObjectsPass};
-ghost use Rattle.object_uses.specs.Callers.{KeepsObjectsPass};
+ghost use Rattle.object_uses.specs.Callers.{KeepsPasses, MayRun};
 
 use counted_row::RowPass;
 use expire_pass::{ExpireAnswer, Log, expire};
@@ -40,13 +38,9 @@ pub fn expire_objects<R: Wait>(
     requires timers { IsPassOf timers.now pass.old }
     requires objects { IsObjectsPass objects.now objects_pass.old }
     requires many { length timers.now.about.timers ≤ length objects.now.decls }
-    requires callbacks { (length callbacks.now ≡ length objects.now.decls) × (bases_of callbacks.now ≤ timers.now.about.bases) }
-    requires base { base < timers.now.about.bases }
+    requires run { MayRun timers.now objects.now callbacks.now base }
     requires room { 2 * budget ≤ log.old.spare }
-    ensures timers { IsPassOf timers.now pass.new }
-    ensures keeps { KeepsPass pass.old.known pass.new.known }
-    ensures objects { IsObjectsPass objects.now objects_pass.new }
-    ensures goes_on { KeepsObjectsPass objects_pass.old objects_pass.new }
+    ensures keeps { KeepsPasses timers.now objects.now pass.old pass.new objects_pass.old objects_pass.new }
     ensures room { log.old.spare ≤ log.new.spare + 2 * budget }
     ensures err { OnErr result ((pass.new ≡ pass.old) × (objects_pass.new ≡ objects_pass.old) × (log.new ≡ log.old)) }
 {

@@ -1,12 +1,10 @@
 //! A settime, and what it leaves of the passes by which it is made.
-ghost use Rattle.std.specs.Prelude.{◌≡◌, ◌≢◌, ◌≤◌, ◌<◌, ◌+◌, length};
-ghost use Rattle.hr_timers.specs.Known.{IsPassOf};
-ghost use Rattle.expire_pass.specs.Handlers.{KeepsPass};
+ghost use Rattle.std.specs.Prelude.{◌≢◌, ◌≤◌, ◌+◌};
 ghost use Rattle.timer_objects.specs.declared.object.Kind.TheVariants as kinds;
-ghost use Rattle.timer_objects.specs.Known.{IsObjectsPass, Suits, decl_at};
+ghost use Rattle.timer_objects.specs.Known.{decl_at};
 ghost use Rattle.timer_objects.specs.Calls.{Settimes};
 ghost use Rattle.timer_objects.specs.Rearming.{caller_of};
-ghost use Rattle.object_uses.specs.Callers.{KeepsObjectsPass};
+ghost use Rattle.object_uses.specs.Callers.{KeepsPasses, MayCall};
 
 use counted_row::RowPass;
 use expire_pass::Log;
@@ -31,16 +29,9 @@ pub fn set_timer<R: Wait>(
     interval: u64,
     reading: Reading,
 ) -> SettimeAnswer
-    requires timers { IsPassOf timers.now pass.old }
-    requires objects { IsObjectsPass objects.now objects_pass.old }
-    requires suits { Suits objects.now timers.now.about }
-    requires within { id < length objects.now.decls }
+    requires may { MayCall timers.now objects.now pass.old objects_pass.old log.old object_log.old id }
     requires kind { (decl_at objects.now id).kind ≢ kinds.Raw }
-    requires room { (4 ≤ log.old.spare) × (0 < object_log.old.spare) }
-    ensures timers { IsPassOf timers.now pass.new }
-    ensures keeps { KeepsPass pass.old.known pass.new.known }
-    ensures objects { IsObjectsPass objects.now objects_pass.new }
-    ensures goes_on { KeepsObjectsPass objects_pass.old objects_pass.new }
+    ensures keeps { KeepsPasses timers.now objects.now pass.old pass.new objects_pass.old objects_pass.new }
     ensures settimes { Settimes objects.now timers.now.about (caller_of pass.old objects_pass.old log.old object_log.old) (caller_of pass.new objects_pass.new log.new object_log.new) id flags (record { sec = 0; nsec = ns }) (record { sec = 0; nsec = interval }) reading result }
     ensures room { (log.old.spare ≤ log.new.spare + 4) × (object_log.old.spare ≤ object_log.new.spare + 1) }
 {

@@ -1,10 +1,8 @@
 //! The signals of a periodic POSIX timer, and their overruns.
-ghost use Rattle.std.specs.Prelude.{◌≡◌, ◌≤◌, ◌<◌, ◌+◌, length};
-ghost use Rattle.hr_timers.specs.Known.{IsPassOf};
-ghost use Rattle.expire_pass.specs.Handlers.{KeepsPass};
+ghost use Rattle.std.specs.Prelude.{◌≡◌, ◌≤◌, ◌+◌};
 ghost use Rattle.timer_objects.specs.declared.object.Kind.TheVariants as kinds;
-ghost use Rattle.timer_objects.specs.Known.{IsObjectsPass, Suits, decl_at};
-ghost use Rattle.object_uses.specs.Callers.{AcceptFits, KeepsObjectsPass};
+ghost use Rattle.timer_objects.specs.Known.{decl_at};
+ghost use Rattle.object_uses.specs.Callers.{AcceptFits, KeepsPasses, MayCall};
 
 use counted_row::RowPass;
 use expire_pass::Log;
@@ -27,16 +25,9 @@ pub fn accept_signal<R: Wait>(
     id: u32,
     reading: Reading,
 ) -> AcceptAnswer
-    requires timers { IsPassOf timers.now pass.old }
-    requires objects { IsObjectsPass objects.now objects_pass.old }
-    requires suits { Suits objects.now timers.now.about }
-    requires within { id < length objects.now.decls }
+    requires may { MayCall timers.now objects.now pass.old objects_pass.old log.old object_log.old id }
     requires kind { (decl_at objects.now id).kind ≡ kinds.Posix }
-    requires room { (4 ≤ log.old.spare) × (0 < object_log.old.spare) }
-    ensures timers { IsPassOf timers.now pass.new }
-    ensures keeps { KeepsPass pass.old.known pass.new.known }
-    ensures objects { IsObjectsPass objects.now objects_pass.new }
-    ensures goes_on { KeepsObjectsPass objects_pass.old objects_pass.new }
+    ensures keeps { KeepsPasses timers.now objects.now pass.old pass.new objects_pass.old objects_pass.new }
     ensures accepts { AcceptFits objects_pass.old objects_pass.new id reading result }
     ensures room { (log.old.spare ≤ log.new.spare + 4) × (object_log.old.spare ≤ object_log.new.spare + 1) }
 {

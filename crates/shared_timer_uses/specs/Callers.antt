@@ -1,5 +1,5 @@
 -- What callers are told, by all that their pass has seen.
-use Rattle.std.specs.Prelude.{ℕ, ◌≡◌, ◌+◌, ◌⊎◌, ◌≢◌, List, [], ◌∷◌, ◌++◌, length, Some, None, false}
+use Rattle.std.specs.Prelude.{ℕ, ◌≡◌, ◌+◌, ◌⊎◌, ◌≢◌, ◌<◌, ◌≤◌, List, [], ◌∷◌, ◌++◌, length, Some, None, false}
 use Rattle.ktime.specs.Readings.{ClockReading}
 use Rattle.ktime.specs.Times.{next_after, passed}
 use Rattle.pass_names.specs.Counts.{count}
@@ -13,11 +13,13 @@ use Rattle.seq_timer.specs.Steps.{Timer, now_of}
 use Rattle.seq_timer.specs.Tables.{IsNextDue}
 use Rattle.seq_timer.specs.Contents.{running_on}
 use Rattle.base_row.specs.declared.view.Opening.{Opening}
-use Rattle.hr_timers.specs.Known.{KnownOfTimers, timer_then}
+use Rattle.base_row.specs.Calls as rows
+use Rattle.hr_timers.specs.Known.{IsPassOf, KnownOfTimers, PassOf, timer_then}
 use Rattle.hr_timers.specs.Calls.{HasNoneDue}
 use Rattle.expire_pass.specs.declared.log.Noted.TheVariants as noteds
 use Rattle.expire_pass.specs.declared.log.Receipt.{Receipt}
 use Rattle.expire_pass.specs.Handlers.{KeepsPass}
+use Rattle.expire_pass.specs.Logs.{LogOf}
 use Rattle.shared_timer_uses.specs.declared.cancelling.Stopped.{Stopped}
 use Rattle.shared_timer_uses.specs.declared.cancelling.Stopped.TheVariants as stops
 use Rattle.shared_timer_uses.specs.declared.periodic.Tick.{Tick}
@@ -29,6 +31,19 @@ known_timer o k t = timer_then o k.seen t
 -- by all that a pass has seen nothing is due on a base, or a function runs there
 abbrev pub HasNothingToRun : Opening → KnownOfTimers → ℕ → ClockReading → Type 0
 HasNothingToRun o k base reading = HasNoneDue o k.seen base reading ⊎ ((t : ℕ) × (g : ℕ) × (running_on base (known_timer o k t) ≡ Some g))
+
+-- a thread may run the function of one timer on a base by its pass, and its log has room for the receipts
+pub record MayRunOne (timers : rows.BaseRowOf) (pass : PassOf) (log : LogOf) (base : ℕ) : Type 0 where
+  pub of_timers : IsPassOf timers pass
+  pub is_base : base < timers.about.bases
+  pub few : length timers.about.timers ≤ 65536
+  pub room : 2 ≤ log.spare
+
+-- its pass is still one of the timers, and goes on; at most two receipts were noted
+pub record KeepsRunner (timers : rows.BaseRowOf) (pass pass' : PassOf) (log log' : LogOf) : Type 0 where
+  pub of_timers : IsPassOf timers pass'
+  pub keeps : KeepsPass pass.known pass'.known
+  pub room : log.spare ≤ log'.spare + 2
 
 -- the timer was the next to expire on its base when it was claimed, its function has ended, and that armed nothing
 pub record RanOnce (o : Opening) (base : ℕ) (reading : ClockReading) (k k' : KnownOfTimers) (t : ℕ) (log log' : List Receipt) : Type 0 where

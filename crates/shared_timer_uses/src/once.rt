@@ -4,7 +4,7 @@ ghost use Rattle.ktime.specs.Times.{sat};
 ghost use Rattle.seq_timer.specs.Steps.{now_of};
 ghost use Rattle.hr_timers.specs.Known.{IsPassOf};
 ghost use Rattle.expire_pass.specs.Handlers.{KeepsPass};
-ghost use Rattle.shared_timer_uses.specs.Callers.{HasNothingToRun, RanOnce, known_timer};
+ghost use Rattle.shared_timer_uses.specs.Callers.{HasNothingToRun, KeepsRunner, MayRunOne, RanOnce, known_timer};
 
 use expire_pass::{Handler, Log, Restart, expire};
 use hr_timers::{Claim, Pass, StartAnswer, Timers};
@@ -71,13 +71,8 @@ pub fn expire_once<R: Wait>(
     reading: Reading,
     log: &mut Log,
 ) -> Option<u32>
-    requires pass { IsPassOf timers.now pass.old }
-    requires base { base < timers.now.about.bases }
-    requires few { length timers.now.about.timers ≤ 65536 }
-    requires room { 2 ≤ log.old.spare }
-    ensures pass { IsPassOf timers.now pass.new }
-    ensures keeps { KeepsPass pass.old.known pass.new.known }
-    ensures room { log.old.spare ≤ log.new.spare + 2 }
+    requires may { MayRunOne timers.now pass.old log.old base }
+    ensures keeps { KeepsRunner timers.now pass.old pass.new log.old log.new }
     ensures ran { IfSome result (λ timer. RanOnce timers.now.about base reading pass.old.known pass.new.known timer log.old.receipts log.new.receipts) }
     ensures none { IfNone result (HasNothingToRun timers.now.about pass.new.known base reading × (log.new.receipts ≡ log.old.receipts)) }
 {

@@ -1,8 +1,6 @@
 //! A timer that expires at every interval.
-ghost use Rattle.std.specs.Prelude.{◌≡◌, ◌+◌, ◌<◌, ◌≤◌, IfSome, length};
-ghost use Rattle.hr_timers.specs.Known.{IsPassOf};
-ghost use Rattle.expire_pass.specs.Handlers.{KeepsPass};
-ghost use Rattle.shared_timer_uses.specs.Callers.{Ticked};
+ghost use Rattle.std.specs.Prelude.{IfSome};
+ghost use Rattle.shared_timer_uses.specs.Callers.{KeepsRunner, MayRunOne, Ticked};
 
 use expire_pass::{Handler, Log, Restart, expire};
 use hr_timers::{Claim, Pass, Timers};
@@ -68,13 +66,8 @@ pub fn expire_periodic<R: Wait>(
     interval: u64,
     log: &mut Log,
 ) -> Option<Tick>
-    requires pass { IsPassOf timers.now pass.old }
-    requires base { base < timers.now.about.bases }
-    requires few { length timers.now.about.timers ≤ 65536 }
-    requires room { 2 ≤ log.old.spare }
-    ensures pass { IsPassOf timers.now pass.new }
-    ensures keeps { KeepsPass pass.old.known pass.new.known }
-    ensures room { log.old.spare ≤ log.new.spare + 2 }
+    requires may { MayRunOne timers.now pass.old log.old base }
+    ensures keeps { KeepsRunner timers.now pass.old pass.new log.old log.new }
     ensures ticked { IfSome result (λ tick. Ticked timers.now.about base reading interval pass.old.known pass.new.known tick) }
 {
     let mut function = Periodic {

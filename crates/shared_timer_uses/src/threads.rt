@@ -6,7 +6,7 @@ ghost use Rattle.pass_names.specs.Passes.{is_place};
 ghost use Rattle.seq_timer.specs.Histories.{IsIdle};
 ghost use Rattle.hr_timers.specs.Known.{IsPassOf};
 ghost use Rattle.expire_pass.specs.Handlers.{KeepsPass};
-ghost use Rattle.shared_timer_uses.specs.Callers.{MakesEntries, RanOnce, known_timer};
+ghost use Rattle.shared_timer_uses.specs.Callers.{KeepsRunner, MakesEntries, MayRunOne, RanOnce, known_timer};
 
 use crate::cancelling::stop_and_wait;
 use crate::once::expire_once;
@@ -150,14 +150,11 @@ pub fn expire_and_stop<R: Threads + Wait + Sync>(
     reading: Reading,
     log: &mut Log,
 ) -> (Option<u32>, bool)
-    requires pass { IsPassOf timers.now runner.old × IsPassOf timers.now stopper.old }
+    requires runner { MayRunOne timers.now runner.old log.old base }
+    requires stopper { IsPassOf timers.now stopper.old }
     requires timer { timer < length timers.now.about.timers }
-    requires base { base < timers.now.about.bases }
-    requires few { length timers.now.about.timers ≤ 65536 }
-    requires room { 2 ≤ log.old.spare }
-    ensures pass { IsPassOf timers.now runner.new × IsPassOf timers.now stopper.new }
-    ensures keeps { KeepsPass runner.old.known runner.new.known × KeepsPass stopper.old.known stopper.new.known }
-    ensures room { log.old.spare ≤ log.new.spare + 2 }
+    ensures runner { KeepsRunner timers.now runner.old runner.new log.old log.new }
+    ensures stopper { IsPassOf timers.now stopper.new × KeepsPass stopper.old.known stopper.new.known }
     ensures ran { IfSome result.0 (λ t. RanOnce timers.now.about base reading runner.old.known runner.new.known t log.old.receipts log.new.receipts) }
     ensures idle { IsIdle (known_timer timers.now.about stopper.new.known timer) }
 {

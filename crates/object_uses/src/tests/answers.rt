@@ -1,22 +1,18 @@
 //! What the calls of one thread answer, and the receipts of their entries.
 ghost use Rattle.std.specs.Prelude.{◌≤◌};
-ghost use Rattle.object_uses.specs.Stands.{IsStand};
 
 use super::expected::{
-    cancel, entry, fd, fd_read, fd_set, old, posix, posix_set, ran, settime, start, taken,
+    NONE, cancel, fd_read, fd_set, fired, old, posix, posix_old, posix_set, ran, settime, start,
+    taken,
 };
 use super::stand::{FD, POSIX, Stand, Step, Told};
-use expire_pass::{ExpireAnswer, Noted, Receipt};
 use ktime::{ClockId, Mode, Reading};
 use posix_timer::AcceptAnswer;
-use seq_timer::{Event, Rearmed, Reply};
 use std::sync::Wait;
 use std::test::Fail;
 use timer_fd::{ReadAnswer, SettimeAnswer};
-use timer_objects::{
-    Gettime, ObjectCall, ObjectReceipt, ObjectReply, Overrun, Readable, SpannedCall,
-};
-use timer_setting::{Arm, SettimeCall, TriggerAnswer};
+use timer_objects::{Gettime, Overrun, Readable};
+use timer_setting::{Arm, TriggerAnswer};
 
 /// The reading of a clock whose real time alone was set, so often.
 fn set_at(real: u64, changes: u64) -> Reading
@@ -36,10 +32,7 @@ fn first_other<R: Wait>(
     rt: &R,
     stand: &mut Stand,
     cases: &[(Step, Reading, Told)],
-) -> Option<(Step, Told)>
-    requires stand { IsStand stand.old.timers stand.old.pass stand.old.objects stand.old.objects_pass }
-    ensures stand { IsStand stand.new.timers stand.new.pass stand.new.objects stand.new.objects_pass }
-{
+) -> Option<(Step, Told)> {
     for case in cases {
         let (step, reading, told) = *case;
         let answer = stand.take(rt, step, reading);
@@ -58,18 +51,11 @@ fn a_periodic_timer_tells_its_overrun(rt: HostRuntime) -> Result<(), Fail> {
         overrun: 3,
         stamp: 4,
     };
+    let accepted = AcceptAnswer::Accepted { overrun: 3 };
     let cases = [
         (Step::Settime(POSIX, 1, 100, 10), zero, old(0, 0)),
-        (
-            Step::Expire,
-            due,
-            Told::Expire(ExpireAnswer::Done { fired: 1 }),
-        ),
-        (
-            Step::Accept,
-            late,
-            Told::Accept(AcceptAnswer::Accepted { overrun: 3 }),
-        ),
+        (Step::Expire, due, fired(1)),
+        (Step::Accept, late, Told::Accept(accepted)),
         (Step::Accept, late, Told::Accept(AcceptAnswer::NoSignal)),
         (Step::Overrun, late, Told::Overrun(overrun)),
     ];
@@ -83,40 +69,24 @@ fn a_periodic_timer_tells_its_overrun(rt: HostRuntime) -> Result<(), Fail> {
     ];
     assert_eq!(rt; stand.log.receipts(), entries.as_slice());
     let set = posix_timer::Call::Settime(settime(1, 100, 10, zero, Arm::Armed(1)));
-    let was = posix_timer::Reply::Settime(posix_timer::SettimeAnswer::Old {
-        left: 0,
-        interval: 0,
-    });
+    let was = posix_timer::Reply::Settime(posix_old(0));
+    let took = posix_timer::Reply::Accept(accepted);
+    let none = posix_timer::Reply::Accept(AcceptAnswer::NoSignal);
     let calls = [
         posix(1, set, 0, 1, was),
-        posix(
-            3,
-            taken(late, Arm::Armed(4)),
-            3,
-            4,
-            posix_timer::Reply::Accept(AcceptAnswer::Accepted { overrun: 3 }),
-        ),
-        posix(
-            4,
-            taken(late, Arm::NotAsked),
-            4,
-            4,
-            posix_timer::Reply::Accept(AcceptAnswer::NoSignal),
-        ),
+        posix(3, taken(late, Arm::Armed(4)), 3, 4, took),
+        posix(4, taken(late, Arm::NotAsked), 4, 4, none),
     ];
     assert_eq!(rt; stand.calls.receipts(), calls.as_slice());
     let trigger = posix_timer::Call::Trigger {
         generation: 1,
         reading: due,
     };
-    let triggers = [posix(
-        2,
-        trigger,
-        1,
-        2,
-        posix_timer::Reply::Trigger(TriggerAnswer::Counted),
-    )];
-    assert_eq!(rt; stand.triggers.receipts(), triggers.as_slice());
+    let counted = posix_timer::Reply::Trigger(TriggerAnswer::Counted);
+    assert_eq!(rt;
+        stand.triggers.receipts(),
+        [posix(2, trigger, 1, 2, counted)].as_slice()
+    );
     stand.close();
     Ok(())
 }
@@ -128,11 +98,7 @@ fn a_descriptor_counts_its_expiries(rt: HostRuntime) -> Result<(), Fail> {
     let count = ReadAnswer::Count { total: 4 };
     let cases = [
         (Step::Settime(FD, 1, 100, 10), zero, old(0, 0)),
-        (
-            Step::Expire,
-            due,
-            Told::Expire(ExpireAnswer::Done { fired: 1 }),
-        ),
+        (Step::Expire, due, fired(1)),
         (Step::Read(8), late, Told::Read(count)),
         (Step::Read(8), late, Told::Read(ReadAnswer::Again)),
         (Step::Read(7), late, Told::Read(ReadAnswer::ShortBuffer)),
@@ -141,16 +107,7 @@ fn a_descriptor_counts_its_expiries(rt: HostRuntime) -> Result<(), Fail> {
     assert_eq!(rt; count.bytes(), Some([4, 0, 0, 0, 0, 0, 0, 0]));
     let set = settime(1, 100, 10, zero, Arm::Armed(1));
     let calls = [
-        fd_set(
-            1,
-            set,
-            0,
-            1,
-            SettimeAnswer::Old {
-                left: 0,
-                interval: 0,
-            },
-        ),
+        fd_set(1, set, 0, 1, NONE),
         fd_read(3, late, Arm::Armed(4), 3, 4, count),
         fd_read(4, late, Arm::NotAsked, 4, 4, ReadAnswer::Again),
     ];
@@ -223,30 +180,16 @@ fn a_set_clock_cancels_a_setting(rt: HostRuntime) -> Result<(), Fail> {
     let first = settime(3, 100, 0, zero, Arm::Armed(1));
     let second = settime(3, 200, 0, sixty, Arm::Armed(3));
     let third = settime(2, 10, 0, sixty, Arm::Armed(5));
+    let left = SettimeAnswer::Old {
+        left: 140,
+        interval: 0,
+    };
     let calls = [
-        fd_set(
-            1,
-            first,
-            0,
-            1,
-            SettimeAnswer::Old {
-                left: 0,
-                interval: 0,
-            },
-        ),
+        fd_set(1, first, 0, 1, NONE),
         fd_read(2, fifty, Arm::NotAsked, 1, 1, ReadAnswer::Canceled),
         fd_read(3, fifty, Arm::NotAsked, 1, 1, ReadAnswer::Again),
         fd_set(4, second, 1, 3, SettimeAnswer::Canceled),
-        fd_set(
-            5,
-            third,
-            3,
-            5,
-            SettimeAnswer::Old {
-                left: 140,
-                interval: 0,
-            },
-        ),
+        fd_set(5, third, 3, 5, left),
         fd_read(6, seventy, Arm::NotAsked, 5, 5, ReadAnswer::Again),
     ];
     assert_eq!(rt; stand.calls.receipts(), calls.as_slice());
@@ -260,11 +203,7 @@ fn a_clock_set_back_before_the_expiry_leaves_none_to_read(rt: HostRuntime) -> Re
     let (due, back) = (set_at(1000, 1), set_at(500, 2));
     let cases = [
         (Step::Settime(FD, 1, 1000, 100), due, old(0, 0)),
-        (
-            Step::Expire,
-            due,
-            Told::Expire(ExpireAnswer::Done { fired: 1 }),
-        ),
+        (Step::Expire, due, fired(1)),
         (Step::Read(8), back, Told::Read(ReadAnswer::Again)),
     ];
     assert_eq!(rt; first_other(&rt, &mut stand, &cases), None);
@@ -278,16 +217,7 @@ fn a_clock_set_back_before_the_expiry_leaves_none_to_read(rt: HostRuntime) -> Re
     assert_eq!(rt; stand.log.receipts(), entries.as_slice());
     let set = settime(1, 1000, 100, due, Arm::Armed(1));
     let calls = [
-        fd_set(
-            1,
-            set,
-            0,
-            1,
-            SettimeAnswer::Old {
-                left: 0,
-                interval: 0,
-            },
-        ),
+        fd_set(1, set, 0, 1, NONE),
         fd_read(3, back, Arm::Armed(4), 3, 4, ReadAnswer::Again),
     ];
     assert_eq!(rt; stand.calls.receipts(), calls.as_slice());
@@ -318,37 +248,11 @@ fn a_full_history_refuses_a_settime(rt: HostRuntime) -> Result<(), Fail> {
         cancel(POSIX, 4, 3),
     ];
     assert_eq!(rt; stand.log.receipts(), entries.as_slice());
+    let unarmed = posix_timer::SettimeAnswer::Unarmed { stamp: 4 };
     let calls = [
-        posix_set(
-            1,
-            zero,
-            Arm::Armed(1),
-            0,
-            1,
-            posix_timer::SettimeAnswer::Old {
-                left: 0,
-                interval: 0,
-            },
-        ),
-        posix_set(
-            2,
-            zero,
-            Arm::Armed(3),
-            1,
-            3,
-            posix_timer::SettimeAnswer::Old {
-                left: 100,
-                interval: 0,
-            },
-        ),
-        posix_set(
-            3,
-            zero,
-            Arm::Unarmed(4),
-            3,
-            4,
-            posix_timer::SettimeAnswer::Unarmed { stamp: 4 },
-        ),
+        posix_set(1, zero, Arm::Armed(1), 0, 1, posix_old(0)),
+        posix_set(2, zero, Arm::Armed(3), 1, 3, posix_old(100)),
+        posix_set(3, zero, Arm::Unarmed(4), 3, 4, unarmed),
     ];
     assert_eq!(rt; stand.calls.receipts(), calls.as_slice());
     stand.close();

@@ -1,7 +1,7 @@
 //! A read of a descriptor beside the run that expires its timer, by two threads: whichever comes first, no expiry is lost and none counted twice.
 ghost use Rattle.std.specs.Prelude.{◌≤◌, ◌<◌};
-ghost use Rattle.object_uses.specs.Stands.{IsStand};
 
+use super::expected::old;
 use super::stand::{FD, Stand, Step, Told};
 use crate::{Expired, read_beside};
 use expire_pass::{ExpireAnswer, Log};
@@ -10,7 +10,7 @@ use std::alloc::{AllocError, Global};
 use std::sync::Wait;
 use std::test::Fail;
 use std::thread::Threads;
-use timer_fd::{ReadAnswer, SettimeAnswer};
+use timer_fd::ReadAnswer;
 use timer_objects::{Callback, ObjectReceipt};
 
 impl Stand {
@@ -22,21 +22,16 @@ impl Stand {
         reading: Reading,
         runs: &mut Log,
     ) -> (Result<Expired, AllocError>, ReadAnswer)
-        requires stand { IsStand self.old.timers self.old.pass self.old.objects self.old.objects_pass }
-        requires room { (4 ≤ self.old.log.spare) × (0 < self.old.calls.spare) × (4 ≤ runs.old.spare) }
-        ensures stand { IsStand self.new.timers self.new.pass self.new.objects self.new.objects_pass }
+        requires room { (4 ≤ self.old.0) × (0 < self.old.1) × (4 ≤ runs.old.spare) }
     {
-        let timers = &self.timers;
-        let objects = &self.objects;
-        let callbacks = [Callback::Once, Callback::Once];
         read_beside(
             rt,
             alloc,
-            timers,
+            &self.timers,
             &mut self.pass,
-            objects,
+            &self.objects,
             &mut self.objects_pass,
-            &callbacks,
+            &[Callback::Once, Callback::Once],
             0,
             2,
             FD,
@@ -60,13 +55,9 @@ fn a_read_beside_a_run_loses_no_expiry(rt: HostRuntime) -> Result<(), Fail> {
     runs.reserve(4)?;
     let mut stand = Stand::make(rt.alloc(), ClockId::Monotonic, 100)?;
     let late = Reading::at(135);
-    let none = SettimeAnswer::Old {
-        left: 0,
-        interval: 0,
-    };
     let step = Step::Settime(FD, 1, 100, 10);
-    assert_eq!(rt; stand.take(&rt, step, Reading::at(0)), Told::Settime(none));
-    assert!(rt; stand.log.reserve(8).is_ok() && stand.calls.reserve(2).is_ok());
+    assert_eq!(rt; stand.take(&rt, step, Reading::at(0)), old(0, 0));
+    assert!(rt; stand.reserve(8, 2).is_ok());
     let (ran, first) = stand.read_beside(&rt, rt.alloc(), late, &mut runs);
     let Ok(
         Expired {

@@ -1,12 +1,17 @@
 //! The entries that tests expect.
 use super::stand::{FD, POSIX, Told};
-use expire_pass::{Noted, Receipt};
+use expire_pass::{ExpireAnswer, Noted, Receipt};
 use ktime::{ClockId, Mode, Reading};
-use posix_timer::AcceptAnswer;
 use seq_timer::{Event, Rearmed, Reply};
 use timer_fd::{ReadAnswer, SettimeAnswer};
-use timer_objects::{ObjectCall, ObjectReceipt, ObjectReply, Span, SpannedCall};
-use timer_setting::{Arm, SettimeCall, TriggerAnswer};
+use timer_objects::{ObjectCall, ObjectReceipt, ObjectReply, SpannedCall};
+use timer_setting::{Arm, SettimeCall};
+
+/// What a settime of the descriptor tells that replaces no setting.
+pub(super) const NONE: SettimeAnswer = SettimeAnswer::Old {
+    left: 0,
+    interval: 0,
+};
 
 /// An entry of a timer.
 pub(super) fn entry(timer: u32, number: u64, event: Event, reply: Reply) -> Receipt {
@@ -64,7 +69,24 @@ pub(super) fn cancel(timer: u32, number: u64, generation: u64) -> Receipt {
     entry(timer, number, Event::Cancel, Reply::Cancel { generation })
 }
 
-/// The entry of a call of the POSIX timer, over these entries of its timer.
+/// The entry of a call of an object, over these entries of its timer.
+fn call_of(
+    object: u32,
+    number: u64,
+    call: ObjectCall,
+    from: u64,
+    to: u64,
+    reply: ObjectReply,
+) -> ObjectReceipt {
+    ObjectReceipt {
+        object,
+        number,
+        call: SpannedCall { call, from, to },
+        reply,
+    }
+}
+
+/// The entry of a call of the POSIX timer.
 pub(super) fn posix(
     number: u64,
     call: posix_timer::Call,
@@ -72,16 +94,8 @@ pub(super) fn posix(
     to: u64,
     reply: posix_timer::Reply,
 ) -> ObjectReceipt {
-    ObjectReceipt {
-        object: POSIX,
-        number,
-        call: SpannedCall {
-            call: ObjectCall::Posix(call),
-            from,
-            to,
-        },
-        reply: ObjectReply::Posix(reply),
-    }
+    let (call, reply) = (ObjectCall::Posix(call), ObjectReply::Posix(reply));
+    call_of(POSIX, number, call, from, to, reply)
 }
 
 /// The entry of a call of the descriptor.
@@ -92,16 +106,14 @@ pub(super) fn fd(
     to: u64,
     reply: timer_fd::Reply,
 ) -> ObjectReceipt {
-    ObjectReceipt {
-        object: FD,
+    call_of(
+        FD,
         number,
-        call: SpannedCall {
-            call: ObjectCall::Fd(call),
-            from,
-            to,
-        },
-        reply: ObjectReply::Fd(reply),
-    }
+        ObjectCall::Fd(call),
+        from,
+        to,
+        ObjectReply::Fd(reply),
+    )
 }
 
 /// A settime with these arguments.
@@ -139,6 +151,11 @@ pub(super) fn posix_set(
     posix(number, call, from, to, posix_timer::Reply::Settime(answer))
 }
 
+/// What a settime of the POSIX timer tells that replaces a setting without an interval.
+pub(super) fn posix_old(left: u64) -> posix_timer::SettimeAnswer {
+    posix_timer::SettimeAnswer::Old { left, interval: 0 }
+}
+
 /// The entry of a settime of the descriptor.
 pub(super) fn fd_set(
     number: u64,
@@ -162,6 +179,11 @@ pub(super) fn fd_read(
 ) -> ObjectReceipt {
     let call = timer_fd::Call::Read { reading, arm };
     fd(number, call, from, to, timer_fd::Reply::Read(answer))
+}
+
+/// What a run tells that found so many timers due and no more.
+pub(super) fn fired(fired: u64) -> Told {
+    Told::Expire(ExpireAnswer::Done { fired })
 }
 
 /// What a settime tells that replaces this setting.

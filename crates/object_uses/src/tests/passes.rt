@@ -1,8 +1,8 @@
 //! A pass that was split off, and what the first one hears of it.
 ghost use Rattle.std.specs.Prelude.{◌≤◌, ◌<◌};
-ghost use Rattle.object_uses.specs.Stands.{IsStand};
 
-use super::stand::{FD, POSIX, Stand, Step, Told};
+use super::expected::{NONE, old};
+use super::stand::{FD, POSIX, Stand, Step};
 use crate::{hear_all, set_timer};
 use ktime::{ClockId, Reading};
 use std::sync::Wait;
@@ -20,20 +20,16 @@ fn seen_at(receipts: &[ObjectReceipt], i: usize) -> Option<(u32, u64, u64, u64)>
 impl Stand {
     /// A pass that is split off sets an object to 100, and the first pass hears of it and takes it in.
     fn set_by_another<R: Wait>(&mut self, rt: &R, id: u32) -> SettimeAnswer
-        requires stand { IsStand self.old.timers self.old.pass self.old.objects self.old.objects_pass }
         requires within { id < 2 }
-        requires room { (4 ≤ self.old.log.spare) × (0 < self.old.calls.spare) }
-        ensures stand { IsStand self.new.timers self.new.pass self.new.objects self.new.objects_pass }
+        requires room { (4 ≤ self.old.0) × (0 < self.old.1) }
     {
-        let timers = &self.timers;
-        let objects = &self.objects;
-        let mut other = timers.split(&mut self.pass);
-        let mut objects_other = objects.split(&mut self.objects_pass);
+        let mut other = self.timers.split(&mut self.pass);
+        let mut objects_other = self.objects.split(&mut self.objects_pass);
         let answer = set_timer(
             rt,
-            timers,
+            &self.timers,
             &mut other,
-            objects,
+            &self.objects,
             &mut objects_other,
             &mut self.log,
             &mut self.calls,
@@ -43,8 +39,8 @@ impl Stand {
             0,
             Reading::at(0),
         );
-        hear_all(objects, &mut self.objects_pass, objects_other);
-        timers.retire(&mut self.pass, other);
+        hear_all(&self.objects, &mut self.objects_pass, objects_other);
+        self.timers.retire(&mut self.pass, other);
         answer
     }
 }
@@ -53,20 +49,16 @@ impl Stand {
 fn a_pass_hears_all(rt: HostRuntime) -> Result<(), Fail> {
     let mut stand = Stand::make(rt.alloc(), ClockId::Monotonic, 100)?;
     let zero = Reading::at(0);
-    let fresh = SettimeAnswer::Old {
-        left: 0,
-        interval: 0,
-    };
-    let step = Step::Settime(POSIX, 1, 100, 0);
-    assert_eq!(rt; stand.take(&rt, step, zero), Told::Settime(fresh));
-    assert!(rt; stand.log.reserve(16).is_ok() && stand.calls.reserve(4).is_ok());
-    assert_eq!(rt; stand.set_by_another(&rt, FD), fresh);
-    let step = Step::Settime(FD, 1, 200, 0);
-    let set = SettimeAnswer::Old {
-        left: 100,
-        interval: 0,
-    };
-    assert_eq!(rt; stand.take(&rt, step, zero), Told::Settime(set));
+    assert_eq!(rt;
+        stand.take(&rt, Step::Settime(POSIX, 1, 100, 0), zero),
+        old(0, 0)
+    );
+    assert!(rt; stand.reserve(16, 4).is_ok());
+    assert_eq!(rt; stand.set_by_another(&rt, FD), NONE);
+    assert_eq!(rt;
+        stand.take(&rt, Step::Settime(FD, 1, 200, 0), zero),
+        old(100, 0)
+    );
     let calls = stand.calls.receipts();
     assert_eq!(rt; seen_at(calls, 0), Some((POSIX, 1, 0, 1)));
     assert_eq!(rt; seen_at(calls, 1), Some((FD, 1, 0, 1)));

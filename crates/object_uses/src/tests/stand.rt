@@ -1,6 +1,5 @@
 //! A POSIX timer and a descriptor on one base, with the passes and the logs of one thread.
-ghost use Rattle.std.specs.Prelude.{◌≡◌, ◌≤◌, ◌<◌, IfOk};
-ghost use Rattle.object_uses.specs.Stands.{IsStand};
+ghost use Rattle.std.specs.Prelude.{◌≡◌, ◌≤◌, ◌<◌, OnOk};
 
 use crate::{accept_signal, expire_objects, read_count, set_timer};
 use counted_row::RowPass;
@@ -9,6 +8,7 @@ use hr_timers::{Pass, Timers};
 use ktime::{ClockId, Reading};
 use posix_timer::AcceptAnswer;
 use std::alloc::{AllocError, Global};
+use std::marker::Model;
 use std::sync::Wait;
 use timer_fd::{ReadAnswer, SettimeAnswer};
 use timer_objects::{
@@ -64,6 +64,18 @@ pub struct Stand {
     alloc: Global,
 }
 
+impl Model for Stand {
+    ghost use Rattle.std.specs.Prelude.{ℕ};
+    ghost use Rattle.object_uses.specs.Stands.{IsStand};
+
+    /// For how many receipts of timers' entries there is room, and for how many of calls.
+    ghost Value = { ℕ × ℕ };
+
+    ghost view = { λ s. (s.log.spare, s.calls.spare) };
+
+    ghost invariant = { λ s. IsStand s.timers s.pass s.objects s.objects_pass };
+}
+
 /// An object of this kind over a timer on this clock.
 fn decl_of(kind: Kind, clock: ClockId) -> Decl
     ensures { result ≡ record { kind = kind; clock = clock; base = 0 } }
@@ -79,7 +91,6 @@ impl Stand {
     /// Both objects over timers on this clock, with a limit on the entries of each.
     pub fn make(alloc: Global, clock: ClockId, limit: u64) -> Result<Stand, AllocError>
         requires limit { (0 < limit) × (limit ≤ 1000) }
-        ensures stand { IfOk result (λ s. IsStand s.timers s.pass s.objects s.objects_pass) }
     {
         let decls = [decl_of(Kind::Posix, clock), decl_of(Kind::Fd, clock)];
         let (timers, pass) = Timers::make(alloc, 1, &[clock, clock], limit)?;
@@ -99,26 +110,28 @@ impl Stand {
         })
     }
 
-    /// Makes a call at a reading, and answers what the caller is told.
-    pub fn take<R: Wait>(&mut self, rt: &R, step: Step, reading: Reading) -> Told
-        requires stand { IsStand self.old.timers self.old.pass self.old.objects self.old.objects_pass }
-        ensures stand { IsStand self.new.timers self.new.pass self.new.objects self.new.objects_pass }
+    /// Makes room for so many receipts of either kind.
+    pub fn reserve(&mut self, receipts: usize, calls: usize) -> Result<(), AllocError>
+        ensures { OnOk result ((receipts ≤ self.new.0) × (calls ≤ self.new.1)) }
     {
-        if self.log.reserve(8).is_err() || self.calls.reserve(1).is_err() {
+        self.log.reserve(receipts)?;
+        self.calls.reserve(calls)?;
+        Ok(())
+    }
+
+    /// Makes a call at a reading, and answers what the caller is told.
+    pub fn take<R: Wait>(&mut self, rt: &R, step: Step, reading: Reading) -> Told {
+        if self.reserve(8, 1).is_err() {
             return Told::NoMemory;
         }
         match step {
             Step::Settime(id, flags, value, interval) => {
-                let id = if id == POSIX { POSIX } else { FD };
-                Told::Settime(self.settime(rt, id, flags, value, interval, reading))
+                Told::Settime(self.settime(rt, id.min(FD), flags, value, interval, reading))
             }
             Step::Expire => self.expire(rt, reading),
             Step::Accept => Told::Accept(self.accept(rt, reading)),
             Step::Read(len) => Told::Read(self.read(rt, len, reading)),
-            Step::Gettime(id) => {
-                let id = if id == POSIX { POSIX } else { FD };
-                Told::Gettime(self.gettime(rt, id, reading))
-            }
+            Step::Gettime(id) => Told::Gettime(self.gettime(rt, id.min(FD), reading)),
             Step::Readable => Told::Readable(self.readable(rt, reading)),
             Step::Overrun => Told::Overrun(self.overrun(rt)),
         }
@@ -133,18 +146,14 @@ impl Stand {
         interval: u64,
         reading: Reading,
     ) -> SettimeAnswer
-        requires stand { IsStand self.old.timers self.old.pass self.old.objects self.old.objects_pass }
+        requires room { (4 ≤ self.old.0) × (0 < self.old.1) }
         requires within { id < 2 }
-        requires room { (4 ≤ self.old.log.spare) × (0 < self.old.calls.spare) }
-        ensures stand { IsStand self.new.timers self.new.pass self.new.objects self.new.objects_pass }
     {
-        let timers = &self.timers;
-        let objects = &self.objects;
         set_timer(
             rt,
-            timers,
+            &self.timers,
             &mut self.pass,
-            objects,
+            &self.objects,
             &mut self.objects_pass,
             &mut self.log,
             &mut self.calls,
@@ -157,18 +166,14 @@ impl Stand {
     }
 
     fn expire<R: Wait>(&mut self, rt: &R, reading: Reading) -> Told
-        requires stand { IsStand self.old.timers self.old.pass self.old.objects self.old.objects_pass }
-        requires room { 8 ≤ self.old.log.spare }
-        ensures stand { IsStand self.new.timers self.new.pass self.new.objects self.new.objects_pass }
+        requires room { 8 ≤ self.old.0 }
     {
-        let timers = &self.timers;
-        let objects = &self.objects;
         let ran = expire_objects(
             rt,
             self.alloc,
-            timers,
+            &self.timers,
             &mut self.pass,
-            objects,
+            &self.objects,
             &mut self.objects_pass,
             &[Callback::Once, Callback::Once],
             0,
@@ -186,17 +191,13 @@ impl Stand {
     }
 
     fn accept<R: Wait>(&mut self, rt: &R, reading: Reading) -> AcceptAnswer
-        requires stand { IsStand self.old.timers self.old.pass self.old.objects self.old.objects_pass }
-        requires room { (4 ≤ self.old.log.spare) × (0 < self.old.calls.spare) }
-        ensures stand { IsStand self.new.timers self.new.pass self.new.objects self.new.objects_pass }
+        requires room { (4 ≤ self.old.0) × (0 < self.old.1) }
     {
-        let timers = &self.timers;
-        let objects = &self.objects;
         accept_signal(
             rt,
-            timers,
+            &self.timers,
             &mut self.pass,
-            objects,
+            &self.objects,
             &mut self.objects_pass,
             &mut self.log,
             &mut self.calls,
@@ -206,17 +207,13 @@ impl Stand {
     }
 
     fn read<R: Wait>(&mut self, rt: &R, len: u64, reading: Reading) -> ReadAnswer
-        requires stand { IsStand self.old.timers self.old.pass self.old.objects self.old.objects_pass }
-        requires room { (4 ≤ self.old.log.spare) × (0 < self.old.calls.spare) }
-        ensures stand { IsStand self.new.timers self.new.pass self.new.objects self.new.objects_pass }
+        requires room { (4 ≤ self.old.0) × (0 < self.old.1) }
     {
-        let timers = &self.timers;
-        let objects = &self.objects;
         read_count(
             rt,
-            timers,
+            &self.timers,
             &mut self.pass,
-            objects,
+            &self.objects,
             &mut self.objects_pass,
             &mut self.log,
             &mut self.calls,
@@ -227,16 +224,12 @@ impl Stand {
     }
 
     fn gettime<R: Wait>(&mut self, rt: &R, id: u32, reading: Reading) -> Gettime
-        requires stand { IsStand self.old.timers self.old.pass self.old.objects self.old.objects_pass }
+        requires room { (4 ≤ self.old.0) × (0 < self.old.1) }
         requires within { id < 2 }
-        requires room { (4 ≤ self.old.log.spare) × (0 < self.old.calls.spare) }
-        ensures stand { IsStand self.new.timers self.new.pass self.new.objects self.new.objects_pass }
     {
-        let timers = &self.timers;
-        let objects = &self.objects;
-        objects.gettime(
+        self.objects.gettime(
             rt,
-            timers,
+            &self.timers,
             &mut self.pass,
             &mut self.objects_pass,
             &mut self.log,
@@ -246,15 +239,10 @@ impl Stand {
         )
     }
 
-    fn readable<R: Wait>(&mut self, rt: &R, reading: Reading) -> Readable
-        requires stand { IsStand self.old.timers self.old.pass self.old.objects self.old.objects_pass }
-        ensures stand { IsStand self.new.timers self.new.pass self.new.objects self.new.objects_pass }
-    {
-        let timers = &self.timers;
-        let objects = &self.objects;
-        objects.readable(
+    fn readable<R: Wait>(&mut self, rt: &R, reading: Reading) -> Readable {
+        self.objects.readable(
             rt,
-            timers,
+            &self.timers,
             &mut self.pass,
             &mut self.objects_pass,
             &mut self.log,
@@ -264,15 +252,10 @@ impl Stand {
         )
     }
 
-    fn overrun<R: Wait>(&mut self, rt: &R) -> Overrun
-        requires stand { IsStand self.old.timers self.old.pass self.old.objects self.old.objects_pass }
-        ensures stand { IsStand self.new.timers self.new.pass self.new.objects self.new.objects_pass }
-    {
-        let timers = &self.timers;
-        let objects = &self.objects;
-        objects.getoverrun(
+    fn overrun<R: Wait>(&mut self, rt: &R) -> Overrun {
+        self.objects.getoverrun(
             rt,
-            timers,
+            &self.timers,
             &mut self.pass,
             &mut self.objects_pass,
             &mut self.log,
@@ -282,9 +265,7 @@ impl Stand {
     }
 
     /// Ends the timers and the objects.
-    pub fn close(self)
-        requires stand { IsStand self.timers self.pass self.objects self.objects_pass }
-    {
+    pub fn close(self) {
         let Stand {
             timers,
             pass,

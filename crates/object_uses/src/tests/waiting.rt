@@ -4,12 +4,11 @@ ghost use Rattle.std.specs.Prelude.{◌≡◌, ◌≢◌, ◌+◌, ◌≤◌, �
 ghost use Rattle.hr_timers.specs.Known.{IsPassOf};
 ghost use Rattle.expire_pass.specs.Handlers.{KeepsPass};
 ghost use Rattle.timer_objects.specs.declared.object.Kind.TheVariants as kinds;
-ghost use Rattle.timer_objects.specs.Known.{IsObjectsPass, Suits, decl_at};
-ghost use Rattle.object_uses.specs.Callers.{KeepsObjectsPass};
-ghost use Rattle.object_uses.specs.Stands.{IsStand};
+ghost use Rattle.timer_objects.specs.Known.{IsObjectsPass, decl_at};
+ghost use Rattle.object_uses.specs.Callers.{HasPasses, KeepsPasses, MayCall};
 
-use super::expected::{fd, fd_set, ran, settime, start};
-use super::stand::{FD, POSIX, Stand, Step, Told};
+use super::expected::{NONE, fd, fd_set, old, ran, settime, start};
+use super::stand::{FD, POSIX, Stand, Step};
 use crate::set_timer;
 use counted_row::RowPass;
 use expire_pass::{ExpireAnswer, Handler, Log, Restart, expire};
@@ -103,16 +102,11 @@ fn run_one<R: Wait>(
     objects_pass: &mut RowPass<ObjectCell>,
     log: &mut Log,
 ) -> Result<Ran, AllocError>
-    requires timers { IsPassOf timers.now pass.old }
-    requires objects { IsObjectsPass objects.now objects_pass.old }
-    requires suits { Suits objects.now timers.now.about }
+    requires passes { HasPasses timers.now objects.now pass.old objects_pass.old }
     requires two { length objects.now.decls ≡ 2 }
     requires base { 0 < timers.now.about.bases }
     requires room { 2 ≤ log.old.spare }
-    ensures timers { IsPassOf timers.now pass.new }
-    ensures keeps { KeepsPass pass.old.known pass.new.known }
-    ensures objects { IsObjectsPass objects.now objects_pass.new }
-    ensures goes_on { KeepsObjectsPass objects_pass.old objects_pass.new }
+    ensures keeps { KeepsPasses timers.now objects.now pass.old pass.new objects_pass.old objects_pass.new }
 {
     let callbacks = [Callback::Once, Callback::Once];
     let mut firing = Firing::make(alloc, objects, objects_pass, &callbacks);
@@ -145,16 +139,9 @@ fn set_one<R: Wait>(
     calls: &mut ObjectLog,
     id: u32,
 ) -> SettimeAnswer
-    requires timers { IsPassOf timers.now pass.old }
-    requires objects { IsObjectsPass objects.now objects_pass.old }
-    requires suits { Suits objects.now timers.now.about }
-    requires within { id < length objects.now.decls }
+    requires may { MayCall timers.now objects.now pass.old objects_pass.old log.old calls.old id }
     requires kind { (decl_at objects.now id).kind ≢ kinds.Raw }
-    requires room { (4 ≤ log.old.spare) × (0 < calls.old.spare) }
-    ensures timers { IsPassOf timers.now pass.new }
-    ensures keeps { KeepsPass pass.old.known pass.new.known }
-    ensures objects { IsObjectsPass objects.now objects_pass.new }
-    ensures goes_on { KeepsObjectsPass objects_pass.old objects_pass.new }
+    ensures keeps { KeepsPasses timers.now objects.now pass.old pass.new objects_pass.old objects_pass.new }
     ensures room { (log.old.spare ≤ log.new.spare + 4) × (calls.old.spare ≤ calls.new.spare + 1) }
 {
     let now = Reading::at(100);
@@ -184,9 +171,7 @@ fn set_running<R: Wait>(
     log: &mut Log,
     calls: &mut ObjectLog,
 ) -> Option<SettimeAnswer>
-    requires timers { IsPassOf timers.now pass.old }
-    requires objects { IsObjectsPass objects.now objects_pass.old }
-    requires suits { Suits objects.now timers.now.about }
+    requires passes { HasPasses timers.now objects.now pass.old objects_pass.old }
     requires two { length objects.now.decls ≡ 2 }
     requires kinds { ((decl_at objects.now 0).kind ≡ kinds.Posix) × ((decl_at objects.now 1).kind ≡ kinds.Fd) }
     requires room { (8 ≤ log.old.spare) × (2 ≤ calls.old.spare) }
@@ -231,17 +216,16 @@ fn run_and_set<R: Threads + Wait + Sync>(
     log: &mut Log,
     calls: &mut ObjectLog,
 ) -> (Result<Ran, AllocError>, Option<SettimeAnswer>)
-    requires timers { IsPassOf timers.now runner.old × IsPassOf timers.now setter.old }
+    requires runner { HasPasses timers.now objects.now runner.old objects_runner.old }
+    requires setter { HasPasses timers.now objects.now setter.old objects_setter.old }
     requires base { 0 < timers.now.about.bases }
-    requires objects { IsObjectsPass objects.now objects_runner.old × IsObjectsPass objects.now objects_setter.old }
-    requires suits { Suits objects.now timers.now.about }
     requires two { length objects.now.decls ≡ 2 }
     requires kinds { ((decl_at objects.now 0).kind ≡ kinds.Posix) × ((decl_at objects.now 1).kind ≡ kinds.Fd) }
     requires room { (2 ≤ runs.old.spare) × (8 ≤ log.old.spare) × (2 ≤ calls.old.spare) }
-    ensures timers { IsPassOf timers.now runner.new × IsPassOf timers.now setter.new }
-    ensures keeps { KeepsPass runner.old.known runner.new.known × KeepsPass setter.old.known setter.new.known }
-    ensures objects { IsObjectsPass objects.now objects_runner.new × IsObjectsPass objects.now objects_setter.new }
-    ensures goes_on { KeepsObjectsPass objects_runner.old objects_runner.new }
+    ensures runner { KeepsPasses timers.now objects.now runner.old runner.new objects_runner.old objects_runner.new }
+    ensures timers { IsPassOf timers.now setter.new }
+    ensures keeps { KeepsPass setter.old.known setter.new.known }
+    ensures objects { IsObjectsPass objects.now objects_setter.new }
     ensures name { objects_setter.new.knows.pass.id ≡ objects_setter.old.knows.pass.id }
 {
     join_mut(
@@ -259,29 +243,25 @@ impl Stand {
         alloc: Global,
         runs: &mut Log,
     ) -> (Result<Ran, AllocError>, Option<SettimeAnswer>)
-        requires stand { IsStand self.old.timers self.old.pass self.old.objects self.old.objects_pass }
-        requires room { (8 ≤ self.old.log.spare) × (2 ≤ self.old.calls.spare) × (2 ≤ runs.old.spare) }
-        ensures stand { IsStand self.new.timers self.new.pass self.new.objects self.new.objects_pass }
+        requires room { (8 ≤ self.old.0) × (2 ≤ self.old.1) × (2 ≤ runs.old.spare) }
     {
-        let timers = &self.timers;
-        let objects = &self.objects;
-        let mut other = timers.split(&mut self.pass);
-        let mut objects_other = objects.split(&mut self.objects_pass);
+        let mut other = self.timers.split(&mut self.pass);
+        let mut objects_other = self.objects.split(&mut self.objects_pass);
         let told = run_and_set(
             rt,
             alloc,
-            timers,
+            &self.timers,
             &mut self.pass,
             &mut other,
-            objects,
+            &self.objects,
             &mut self.objects_pass,
             &mut objects_other,
             runs,
             &mut self.log,
             &mut self.calls,
         );
-        timers.retire(&mut self.pass, other);
-        objects.join(&mut self.objects_pass, objects_other);
+        self.timers.retire(&mut self.pass, other);
+        self.objects.join(&mut self.objects_pass, objects_other);
         told
     }
 }
@@ -292,13 +272,11 @@ fn settime_waits_for_the_trigger(rt: HostRuntime) -> Result<(), Fail> {
     runs.reserve(2)?;
     let mut stand = Stand::make(rt.alloc(), ClockId::Monotonic, 100)?;
     let (zero, due) = (Reading::at(0), Reading::at(100));
-    let none = SettimeAnswer::Old {
-        left: 0,
-        interval: 0,
-    };
-    let step = Step::Settime(FD, 1, 100, 0);
-    assert_eq!(rt; stand.take(&rt, step, zero), Told::Settime(none));
-    assert!(rt; stand.log.reserve(8).is_ok() && stand.calls.reserve(2).is_ok());
+    assert_eq!(rt;
+        stand.take(&rt, Step::Settime(FD, 1, 100, 0), zero),
+        old(0, 0)
+    );
+    assert!(rt; stand.reserve(8, 2).is_ok());
     let (function, told) = stand.set_beside(&rt, rt.alloc(), &mut runs);
     let Ok(
         Ran {
@@ -313,7 +291,7 @@ fn settime_waits_for_the_trigger(rt: HostRuntime) -> Result<(), Fail> {
     };
     assert!(rt; met);
     assert_eq!(rt; answer, ExpireAnswer::More { fired: 1 });
-    assert_eq!(rt; told, Some(none));
+    assert_eq!(rt; told, Some(NONE));
     assert_eq!(rt; runs.receipts(), ran(FD, due).as_slice());
     let entries = [
         start(FD, 1, Mode::Abs, 100, zero, ClockId::Monotonic, 100),
@@ -334,11 +312,11 @@ fn settime_waits_for_the_trigger(rt: HostRuntime) -> Result<(), Fail> {
     let late = settime(1, 500, 0, due, Arm::Armed(4));
     assert_eq!(rt;
         stand.calls.receipts().get(0).copied(),
-        Some(fd_set(1, first, 0, 1, none))
+        Some(fd_set(1, first, 0, 1, NONE))
     );
     assert_eq!(rt;
         stand.calls.receipts().get(2).copied(),
-        Some(fd_set(3, late, 3, 4, none))
+        Some(fd_set(3, late, 3, 4, NONE))
     );
     stand.close();
     Ok(())

@@ -6,8 +6,40 @@ use expire_pass::{ExpireAnswer, Log, Noted, Restart, expire};
 use hr_timers::StartAnswer;
 use ktime::{ClockId, Mode, Reading};
 use seq_timer::{Peek, Rearmed, Reply};
+use std::alloc::{AllocError, Global};
+use std::sync::Wait;
 use std::test::Fail;
 use timer_core::CancelAnswer;
+
+/// What a run and the function that it ran were told, the timer after that, and the receipts.
+#[derive(Drop)]
+struct Ran {
+    answer: ExpireAnswer,
+    told: Told,
+    peek: Peek,
+    log: Log,
+}
+
+/// Runs the function of a timer that is due at once, the only one of its base.
+fn run_one<R: Wait>(
+    rt: &R,
+    alloc: Global,
+    mut function: Acting,
+    now: Reading,
+) -> Result<Ran, AllocError> {
+    let (timers, mut pass, mut log) = some_timers(alloc, 1, 1)?;
+    timers.start(rt, &mut pass, 0, Mode::Rel, 0, 0, now);
+    let answer = expire(rt, &timers, &mut pass, 0, now, 1, &mut function, &mut log);
+    let peek = timers.peek(&mut pass, 0);
+    timers.close(pass);
+    let told = function.told;
+    Ok(Ran {
+        answer,
+        told,
+        peek,
+        log,
+    })
+}
 
 /// Timer 0 armed on base 0 in the way that it is left by the function of generation 1, of which it was the third entry.
 fn armed_again() -> Peek {
@@ -80,12 +112,9 @@ fn periodic_functions_are_armed_again(rt: HostRuntime) -> Result<(), Fail> {
 
 #[test]
 fn a_function_starts_its_own_timer_again(rt: HostRuntime) -> Result<(), Fail> {
-    let (timers, mut pass, mut log) = some_timers(rt.alloc(), 1, 1)?;
-    let now = Reading::at(1000);
-    timers.start(&rt, &mut pass, 0, Mode::Rel, 0, 0, now);
-    let mut function = Acting::of(Act::StartAgain(50), Restart::Again);
-    let ran = expire(&rt, &timers, &mut pass, 0, now, 1, &mut function, &mut log);
-    assert_eq!(rt; ran, ExpireAnswer::More { fired: 1 });
+    let function = Acting::of(Act::StartAgain(50), Restart::Again);
+    let ran = run_one(&rt, rt.alloc(), function, Reading::at(1000))?;
+    assert_eq!(rt; ran.answer, ExpireAnswer::More { fired: 1 });
     let started = StartAnswer::Started {
         was_armed: false,
         generation: 3,
@@ -94,15 +123,14 @@ fn a_function_starts_its_own_timer_again(rt: HostRuntime) -> Result<(), Fail> {
         clock: ClockId::Monotonic,
         expires: 1050,
     };
-    assert_eq!(rt; function.told, Told::Start(started));
+    assert_eq!(rt; ran.told, Told::Start(started));
     let finished = Reply::Finish {
         generation: 1,
         rearmed: Rearmed::No,
     };
-    assert_eq!(rt; log.receipts().len(), 2);
-    assert_eq!(rt; log.receipts()[1].reply, Noted::Entry(finished));
-    assert_eq!(rt; timers.peek(&mut pass, 0), armed_again());
-    timers.close(pass);
+    assert_eq!(rt; ran.log.receipts().len(), 2);
+    assert_eq!(rt; ran.log.receipts()[1].reply, Noted::Entry(finished));
+    assert_eq!(rt; ran.peek, armed_again());
     Ok(())
 }
 
@@ -128,29 +156,21 @@ fn a_function_cancels_another_timer(rt: HostRuntime) -> Result<(), Fail> {
 
 #[test]
 fn a_function_cannot_cancel_its_own_timer(rt: HostRuntime) -> Result<(), Fail> {
-    let (timers, mut pass, mut log) = some_timers(rt.alloc(), 1, 1)?;
-    let now = Reading::at(0);
-    timers.start(&rt, &mut pass, 0, Mode::Rel, 0, 0, now);
-    let mut function = Acting::of(Act::Cancel, Restart::Stop);
-    let ran = expire(&rt, &timers, &mut pass, 0, now, 1, &mut function, &mut log);
-    assert_eq!(rt; ran, ExpireAnswer::More { fired: 1 });
-    assert_eq!(rt; function.told, told_running(2));
-    assert!(rt; !timers.peek(&mut pass, 0).enqueued);
-    timers.close(pass);
+    let function = Acting::of(Act::Cancel, Restart::Stop);
+    let ran = run_one(&rt, rt.alloc(), function, Reading::at(0))?;
+    assert_eq!(rt; ran.answer, ExpireAnswer::More { fired: 1 });
+    assert_eq!(rt; ran.told, told_running(2));
+    assert!(rt; !ran.peek.enqueued);
     Ok(())
 }
 
 #[test]
 fn a_start_in_the_function_outlives_its_cancel(rt: HostRuntime) -> Result<(), Fail> {
-    let (timers, mut pass, mut log) = some_timers(rt.alloc(), 1, 1)?;
-    let now = Reading::at(0);
-    timers.start(&rt, &mut pass, 0, Mode::Rel, 0, 0, now);
-    let mut function = Acting::of(Act::StartAndCancel, Restart::Stop);
-    let ran = expire(&rt, &timers, &mut pass, 0, now, 1, &mut function, &mut log);
-    assert_eq!(rt; ran, ExpireAnswer::More { fired: 1 });
-    assert_eq!(rt; function.told, told_running(3));
-    assert_eq!(rt; timers.peek(&mut pass, 0), armed_again());
-    timers.close(pass);
+    let function = Acting::of(Act::StartAndCancel, Restart::Stop);
+    let ran = run_one(&rt, rt.alloc(), function, Reading::at(0))?;
+    assert_eq!(rt; ran.answer, ExpireAnswer::More { fired: 1 });
+    assert_eq!(rt; ran.told, told_running(3));
+    assert_eq!(rt; ran.peek, armed_again());
     Ok(())
 }
 

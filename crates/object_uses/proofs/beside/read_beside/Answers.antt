@@ -6,17 +6,17 @@ use Rattle.object_uses.proofs.beside.read_beside.Goals as goal
 
 pub retire-requires-clause-answers : goal.retire-requires-clause-answers
 retire-requires-clause-answers g c =
-    let kept = c.expire_and_read-told.ensures.keeps in
+    let told = c.expire_and_read-told.ensures in
     let split = c.split-other.ensures in
-    answers_split c.args.main.now.known.id _ _ (kept.0.id ∙ ap (λ (k : KnownOfTimers). k.id) split.splitter)
-    (kept.1.id ∙ ap (λ (k : KnownOfTimers). k.id) split.new)
+    answers_split c.args.main.now.known.id _ _ (told.runner.keeps.id ∙ ap (λ (k : KnownOfTimers). k.id) split.splitter)
+    (told.reader.keeps.id ∙ ap (λ (k : KnownOfTimers). k.id) split.new)
 
 pub join-requires-clause-answers : goal.join-requires-clause-answers
 join-requires-clause-answers g c =
-    let kept = c.expire_and_read-told.ensures.goes_on in
+    let told = c.expire_and_read-told.ensures in
     let split = c.split-objects_other.ensures in
-    answers_split c.args.objects_main.now.knows.pass.id _ _ (kept.0.id ∙ ap (λ (v : View _ _ _). v.pass.id) split.splitter)
-    (kept.1.id ∙ ap (λ (v : View _ _ _). v.pass.id) split.new)
+    answers_split c.args.objects_main.now.knows.pass.id _ _ (told.runner.goes_on.id ∙ ap (λ (v : View _ _ _). v.pass.id) split.splitter)
+    (told.reader.goes_on.id ∙ ap (λ (v : View _ _ _). v.pass.id) split.new)
 
 pub returns-clause-reads : goal.returns-clause-reads
 returns-clause-reads g c = record {

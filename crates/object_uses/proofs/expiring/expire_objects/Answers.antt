@@ -6,21 +6,18 @@ use Rattle.object_uses.specs.Callers.{KeepsObjectsPass}
 use Rattle.object_uses.proofs.Lending.{leaves_pass, pass_after}
 use Rattle.object_uses.proofs.expiring.expire_objects.Goals as goal
 
-pub returns-clause-objects : goal.returns-clause-objects
-returns-clause-objects g c =
+pub returns-clause-keeps : goal.returns-clause-keeps
+returns-clause-keeps g c =
     let ran = c.expire-answer in
     let ready = c.reserve.new.self in
     let was : ready.objects_pass.now ≡ c.args.objects_pass.now = c.reserve.ensures.pass ∙ c.make-firing.ensures.pass in
     let left = leaves_pass c.args.timers.now.about c.args.reading c.args.base _ c.args.pass.now.known ready c.args.log.now.receipts ran.new.pass.known ran.new.handler ran.new.log.receipts ran.result ran.ensures.expires in
     let knows = subst (λ (p : ObjectsPass). Knows cell_meaning p.knows) (sym was) c.requires.objects.knows in
-    subst (λ (p : ObjectsPass). IsObjectsPass c.args.objects.now p) (search rules)
-    (pass_after c.args.objects.now ready ran.new.handler (c.reserve.ensures.loan.objects ∙ c.make-firing.ensures.objects) left knows)
-
-pub returns-clause-goes_on : goal.returns-clause-goes_on
-returns-clause-goes_on g c =
-    let ran = c.expire-answer in
-    let ready = c.reserve.new.self in
-    let was : ready.objects_pass.now ≡ c.args.objects_pass.now = c.reserve.ensures.pass ∙ c.make-firing.ensures.pass in
-    let left = leaves_pass c.args.timers.now.about c.args.reading c.args.base _ c.args.pass.now.known ready c.args.log.now.receipts ran.new.pass.known ran.new.handler ran.new.log.receipts ran.result ran.ensures.expires in
-    subst (λ (p : ObjectsPass). KeepsObjectsPass c.args.objects_pass.now p) (search rules)
-    (subst (λ (p : ObjectsPass). KeepsObjectsPass p ran.new.handler.objects_pass.now) was left.keeps)
+    let objects = pass_after c.args.objects.now ready ran.new.handler (c.reserve.ensures.loan.objects ∙ c.make-firing.ensures.objects) left knows in
+    let goes_on = subst (λ (p : ObjectsPass). KeepsObjectsPass p ran.new.handler.objects_pass.now) was left.keeps in
+    record {
+      of_timers = search rules;
+      keeps = search rules;
+      of_objects = subst (λ (p : ObjectsPass). IsObjectsPass c.args.objects.now p) (search rules) objects;
+      goes_on = subst (λ (p : ObjectsPass). KeepsObjectsPass c.args.objects_pass.now p) (search rules) goes_on;
+    }

@@ -18,25 +18,22 @@ gated_same h = record { lent = refl; leaves = leaves_same h.firing.now }
 gated_trans : (h i j : Gated) → LeavesGated h i → LeavesGated i j → LeavesGated h j
 gated_trans h i j a b = record { lent = b.lent ∙ a.lent; leaves = leaves_trans h.firing.now i.firing.now j.firing.now a.leaves b.leaves }
 
-pub returns-clause-objects : goal.returns-clause-objects
-returns-clause-objects g c =
+pub returns : goal.returns
+returns g c =
     let ran = c.expire-answer in
     let ready = c.reserve.new.self in
     let was : ready.objects_pass.now ≡ c.args.objects_pass.now = c.reserve.ensures.pass ∙ c.make-firing.ensures.pass in
     let left = leaves_run _ c.args.timers.now.about _ LeavesGated gated_same gated_trans
     (λ h h' v w n restart later. record { lent = later.0; leaves = leaves_fired _ h.firing.now h'.firing.now later.1.0 w n _ restart later.1.1 })
     0 _ c.args.pass.now.known _ c.args.log.now.receipts ran.new.pass.known ran.new.handler ran.new.log.receipts ran.result ran.ensures.expires in
-    let knows = subst (λ (p : ObjectsPass). Knows cell_meaning p.knows) (sym was) c.requires.objects.knows in
-    subst (λ (p : ObjectsPass). IsObjectsPass c.args.objects.now p) (search rules)
-    (pass_after c.args.objects.now ready ran.new.handler.firing.now (c.reserve.ensures.loan.objects ∙ c.make-firing.ensures.objects) left.leaves knows)
-
-pub returns-clause-goes_on : goal.returns-clause-goes_on
-returns-clause-goes_on g c =
-    let ran = c.expire-answer in
-    let ready = c.reserve.new.self in
-    let was : ready.objects_pass.now ≡ c.args.objects_pass.now = c.reserve.ensures.pass ∙ c.make-firing.ensures.pass in
-    let left = leaves_run _ c.args.timers.now.about _ LeavesGated gated_same gated_trans
-    (λ h h' v w n restart later. record { lent = later.0; leaves = leaves_fired _ h.firing.now h'.firing.now later.1.0 w n _ restart later.1.1 })
-    0 _ c.args.pass.now.known _ c.args.log.now.receipts ran.new.pass.known ran.new.handler ran.new.log.receipts ran.result ran.ensures.expires in
-    subst (λ (p : ObjectsPass). KeepsObjectsPass c.args.objects_pass.now p) (search rules)
-    (subst (λ (p : ObjectsPass). KeepsObjectsPass p ran.new.handler.firing.now.objects_pass.now) was left.leaves.keeps)
+    let knows = subst (λ (p : ObjectsPass). Knows cell_meaning p.knows) (sym was) c.requires.passes.of_objects.knows in
+    let objects = pass_after c.args.objects.now ready ran.new.handler.firing.now (c.reserve.ensures.loan.objects ∙ c.make-firing.ensures.objects) left.leaves knows in
+    let goes_on = subst (λ (p : ObjectsPass). KeepsObjectsPass p ran.new.handler.firing.now.objects_pass.now) was left.leaves.keeps in
+    record {
+      keeps = record {
+        of_timers = search rules;
+        keeps = search rules;
+        of_objects = subst (λ (p : ObjectsPass). IsObjectsPass c.args.objects.now p) (search rules) objects;
+        goes_on = subst (λ (p : ObjectsPass). KeepsObjectsPass c.args.objects_pass.now p) (search rules) goes_on;
+      };
+    }

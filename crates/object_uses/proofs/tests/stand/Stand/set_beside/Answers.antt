@@ -5,7 +5,7 @@ use Rattle.object_uses.proofs.tests.stand.Stand.set_beside.Goals as goal
 
 pub retire-requires-clause-answers : goal.retire-requires-clause-answers
 retire-requires-clause-answers g c =
-    let kept = c.run_and_set-told.ensures.keeps in
+    let told = c.run_and_set-told.ensures in
     let split = c.split-other.ensures in
-    answers_split c.args.self.now.pass.known.id _ _ (kept.0.id ∙ ap (λ (k : KnownOfTimers). k.id) split.splitter)
-    (kept.1.id ∙ ap (λ (k : KnownOfTimers). k.id) split.new)
+    answers_split c.self.inside.pass.known.id _ _ (told.runner.keeps.id ∙ ap (λ (k : KnownOfTimers). k.id) split.splitter)
+    (told.keeps.id ∙ ap (λ (k : KnownOfTimers). k.id) split.new)
