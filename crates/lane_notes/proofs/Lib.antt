@@ -9,6 +9,7 @@ pub mod Rising
 pub mod UnderLines
 pub mod Lists
 pub mod ArmsAgain
+pub mod Telling
 pub mod PosixAgain
 pub mod FdAgain
 pub mod ObjectsAgain

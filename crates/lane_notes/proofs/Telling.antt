@@ -1,0 +1,37 @@
+-- How lines tell of the calls of one kind of object, and what has to hold so that they give the calls back.
+use Rattle.std.proofs.Common.{◌≡◌, ℕ, Option, Some, List, ap, ◌∙◌}
+use Rattle.ktime.specs.Readings.{ClockReading}
+use Rattle.timer_setting.specs.declared.arming.Arm.{Arm}
+use Rattle.timer_setting.specs.declared.settime_call.SettimeCall.{SettimeCall}
+use Rattle.timer_setting.specs.StepTables.{AnsweredCall, StepTable}
+use Rattle.record_text.specs.declared.record.ClockLine.{ClockLine}
+use Rattle.record_text.specs.declared.record.ObjectEntry.{ObjectEntry}
+
+-- of a kind of object: its steps, the entry that a call is noted as, the call that an entry shows, a call as its line tells it, and that a
+-- call's reading is the one that its stamp names
+pub record Telling (S C R : Type 0) : Type 1 where
+  pub table : StepTable S C R
+  pub noted : C → R → Option ObjectEntry
+  pub shown : List ClockLine → ObjectEntry → Option (AnsweredCall C R)
+  pub told : C → C
+  pub is_read : List ClockLine → C → Type 0
+
+-- a line that a call's entry is noted as, which gives the call back
+pub record Gives {S C R : Type 0} (k : Telling S C R) (clock : List ClockLine) (c : C) (reply : R) : Type 0 where
+  pub entry : ObjectEntry
+  pub noted : k.noted c reply ≡ Some entry
+  pub shown : k.shown clock entry ≡ Some (record { call = k.told c; reply = reply })
+
+-- a call as its line tells it has the same step and the same answer, and may be made where the call may; each call with its answer is noted,
+-- and its line gives it back
+pub record TellsAgain {S C R : Type 0} (k : Telling S C R) : Type 0 where
+  pub step : (t : S) (c : C) → k.table.next t (k.told c) ≡ k.table.next t c
+  pub answer : (t : S) (c : C) → k.table.answer t (k.told c) ≡ k.table.answer t c
+  pub may : (t : S) (c : C) → k.table.allows t c → k.table.allows t (k.told c)
+  pub gives : (clock : List ClockLine) (t : S) (c : C) → k.is_read clock c → Gives k clock c (k.table.answer t c)
+
+abbrev pub settime_of : ℕ → ℕ → ℕ → ClockReading → Arm → SettimeCall
+settime_of flags value interval reading arm = record { flags = flags; value = value; interval = interval; reading = reading; arm = arm }
+
+pub alike : {A B X : Type 0} (f : A → B → X) {a c : A} {b d : B} → a ≡ c → b ≡ d → f a b ≡ f c d
+alike f {a = a} {d = d} first second = ap (f a) second ∙ ap (λ x. f x d) first
