@@ -1,7 +1,6 @@
 pub mod Receipts
 pub mod Orders
 pub mod Shelves
-pub mod Lines
 pub mod InTurn
 pub mod Again
 pub mod Standing
