@@ -6,8 +6,8 @@ use Rattle.expire_pass.specs.declared.log.Receipt.{Receipt}
 use Rattle.timer_objects.specs.declared.log.ObjectReceipt.{ObjectReceipt}
 use Rattle.record_text.specs.declared.record.Label.{Label}
 use Rattle.lane_notes.specs.Notes.{NotesOf}
-use Rattle.lane_notes.specs.Entries.{entry_note, entry_notes, look_note, look_notes, with_receipt, with_receipts}
-use Rattle.lane_notes.specs.Objects.{object_note, object_notes, skip_note, skip_notes, with_object_receipt, with_object_receipts}
+use Rattle.lane_notes.specs.Entries.{entry_note, entry_notes, look_note, look_notes, with_receipts}
+use Rattle.lane_notes.specs.Objects.{object_note, object_notes, skip_note, skip_notes, with_object_receipts}
 
 pub present-append : {A : Type 0} (xs ys : List (Option A)) → present (xs ++ ys) ≡ present xs ++ present ys
 present-append [] ys = refl
@@ -32,12 +32,12 @@ with_object_receipts-append notes label xs ys =
     ∙ ap (λ ls. record notes { objects = notes.objects ++ object_notes label xs ++ object_notes label ys; skips = ls }) (noted-append (skip_note label) notes.skips xs ys)
 
 -- a loop's step
-pub with_receipts-step : (notes now new : NotesOf) (label : Label) (rs : List Receipt) (i : ℕ) (r : Receipt) → i < length rs → r ≡ get_or rs i r → now ≡ with_receipts notes label (take i rs) → new ≡ with_receipt now label r → new ≡ with_receipts notes label (take (i + 1) rs)
+pub with_receipts-step : (notes now new : NotesOf) (label : Label) (rs : List Receipt) (i : ℕ) (r : Receipt) → i < length rs → r ≡ get_or rs i r → now ≡ with_receipts notes label (take i rs) → new ≡ with_receipts now label (r ∷ []) → new ≡ with_receipts notes label (take (i + 1) rs)
 with_receipts-step notes now new label rs i r less is so_far step =
-    step ∙ ap (λ (n : NotesOf). with_receipt n label r) so_far ∙ ap (λ x. with_receipts (with_receipts notes label (take i rs)) label (x ∷ [])) is
+    step ∙ ap (λ (n : NotesOf). with_receipts n label (r ∷ [])) so_far ∙ ap (λ x. with_receipts (with_receipts notes label (take i rs)) label (x ∷ [])) is
     ∙ sym (with_receipts-append notes label (take i rs) (get_or rs i r ∷ [])) ∙ ap (with_receipts notes label) (sym (take_more rs i r less))
 
-pub with_object_receipts-step : (notes now new : NotesOf) (label : Label) (rs : List ObjectReceipt) (i : ℕ) (r : ObjectReceipt) → i < length rs → r ≡ get_or rs i r → now ≡ with_object_receipts notes label (take i rs) → new ≡ with_object_receipt now label r → new ≡ with_object_receipts notes label (take (i + 1) rs)
+pub with_object_receipts-step : (notes now new : NotesOf) (label : Label) (rs : List ObjectReceipt) (i : ℕ) (r : ObjectReceipt) → i < length rs → r ≡ get_or rs i r → now ≡ with_object_receipts notes label (take i rs) → new ≡ with_object_receipts now label (r ∷ []) → new ≡ with_object_receipts notes label (take (i + 1) rs)
 with_object_receipts-step notes now new label rs i r less is so_far step =
-    step ∙ ap (λ (n : NotesOf). with_object_receipt n label r) so_far ∙ ap (λ x. with_object_receipts (with_object_receipts notes label (take i rs)) label (x ∷ [])) is
+    step ∙ ap (λ (n : NotesOf). with_object_receipts n label (r ∷ [])) so_far ∙ ap (λ x. with_object_receipts (with_object_receipts notes label (take i rs)) label (x ∷ [])) is
     ∙ sym (with_object_receipts-append notes label (take i rs) (get_or rs i r ∷ [])) ∙ ap (with_object_receipts notes label) (sym (take_more rs i r less))

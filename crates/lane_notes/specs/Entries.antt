@@ -1,5 +1,5 @@
 -- The notes of receipts of timers.
-use Rattle.std.specs.Prelude.{Option, Some, None, List, [], ◌∷◌, ◌++◌, map, option_map}
+use Rattle.std.specs.Prelude.{Option, Some, None, List, ◌++◌, map, option_map}
 use Rattle.seq_timer.specs.declared.event.Event.{Event}
 use Rattle.seq_timer.specs.declared.event.Event.TheVariants as events
 use Rattle.seq_timer.specs.declared.event.Reply.{Reply}
@@ -76,7 +76,3 @@ look_notes label receipts = present (map (look_note label) receipts)
 abbrev pub with_receipts : NotesOf → Label → List Receipt → NotesOf
 with_receipts notes label receipts =
     record notes { entries = notes.entries ++ entry_notes label receipts; looks = notes.looks ++ look_notes label receipts }
-
--- with those of one receipt
-abbrev pub with_receipt : NotesOf → Label → Receipt → NotesOf
-with_receipt notes label receipt = with_receipts notes label (receipt ∷ [])

@@ -1,5 +1,5 @@
 -- The notes of receipts of objects.
-use Rattle.std.specs.Prelude.{ℕ, Option, None, List, [], ◌∷◌, ◌++◌, map, option_map}
+use Rattle.std.specs.Prelude.{ℕ, Option, None, List, ◌++◌, map, option_map}
 use Rattle.timer_objects.specs.declared.object.ObjectCall.{ObjectCall}
 use Rattle.timer_objects.specs.declared.object.ObjectCall.TheVariants as calls
 use Rattle.timer_objects.specs.declared.object.ObjectReply.{ObjectReply}
@@ -47,7 +47,3 @@ skip_notes label receipts = present (map (skip_note label) receipts)
 abbrev pub with_object_receipts : NotesOf → Label → List ObjectReceipt → NotesOf
 with_object_receipts notes label receipts =
     record notes { objects = notes.objects ++ object_notes label receipts; skips = notes.skips ++ skip_notes label receipts }
-
--- with those of one receipt
-abbrev pub with_object_receipt : NotesOf → Label → ObjectReceipt → NotesOf
-with_object_receipt notes label receipt = with_object_receipts notes label (receipt ∷ [])
