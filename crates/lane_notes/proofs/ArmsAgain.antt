@@ -19,7 +19,8 @@ outcome_told arms.NotAsked wanted is = is
 outcome_told (arms.Armed generation) wanted is = is
 outcome_told (arms.Unarmed stamp) wanted is = (λ e. absurd (asked 0 e), λ none. absurd (asked stamp (is.1 none)))
 
-pub rearmed_told : (phase : Phase) (interval : ℕ) (reading : ClockReading) (arm : Arm) → rearmed phase interval reading (arm_told arm) ≡ rearmed phase interval reading arm
+pub rearmed_told : (phase : Phase) (interval : ℕ) (reading : ClockReading) (arm : Arm)
+    → rearmed phase interval reading (arm_told arm) ≡ rearmed phase interval reading arm
 rearmed_told phase interval reading arms.NotAsked = refl
 rearmed_told phase interval reading (arms.Armed generation) = refl
 rearmed_told phases.Idle interval reading (arms.Unarmed stamp) = refl

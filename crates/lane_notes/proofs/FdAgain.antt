@@ -14,7 +14,19 @@ use Rattle.timer_fd.specs.declared.calls.Call.TheVariants as calls
 use Rattle.timer_fd.specs.declared.calls.Reply.{Reply}
 use Rattle.timer_fd.specs.declared.calls.Reply.TheVariants as replies
 use Rattle.timer_fd.specs.States.{Descriptor, fd_left, is_canceled}
-use Rattle.timer_fd.specs.Steps.{FdAllows, answers_canceled, canceled, counted, fd_answer, fd_settime_answer, fd_step, fd_table, left_by, next_to_read, total_in}
+use Rattle.timer_fd.specs.Steps.{
+  FdAllows,
+  answers_canceled,
+  canceled,
+  counted,
+  fd_answer,
+  fd_settime_answer,
+  fd_step,
+  fd_table,
+  left_by,
+  next_to_read,
+  total_in,
+}
 use Rattle.record_text.specs.declared.record.ClockLine.{ClockLine}
 use Rattle.record_text.specs.declared.record.ObjectEntry.TheVariants as entries
 use Rattle.record_text.specs.declared.record.ReadReply.{ReadReply}
@@ -23,11 +35,11 @@ use Rattle.record_text.specs.declared.record.SettimeReply.{SettimeReply}
 use Rattle.record_text.specs.declared.record.SettimeReply.TheVariants as settings
 use Rattle.script_text.specs.FdHistories.{fd_arm, fd_entry, fd_set_answer, read_answer_of}
 use Rattle.script_text.specs.PosixHistories.{refused_at}
-use Rattle.lane_notes.specs.Arms.{arm_noted, arm_told}
+use Rattle.lane_notes.specs.Arms.{arm_noted, arm_told, settime_entry}
 use Rattle.lane_notes.specs.FdNotes.{fd_as_told, fd_noted, fd_set_noted, read_noted}
 use Rattle.lane_notes.specs.Shown.{IsFdRead, IsNamedReading}
 use Rattle.lane_notes.proofs.ArmsAgain.{outcome_told, rearmed_told, trigger_is_noted}
-use Rattle.lane_notes.proofs.Telling.{Gives, Telling, TellsAgain, alike, settime_of}
+use Rattle.lane_notes.proofs.Telling.{Gives, Telling, TellsAgain, gives_call, settime_of}
 
 -- how lines tell of a descriptor's calls
 abbrev pub fd_telling : Telling Descriptor Call Reply
@@ -69,12 +81,9 @@ arm_back (arms.Unarmed stamp) = refl
 module _ (clock : List ClockLine) where
   set_back : (c : SettimeCall) (reply : SettimeReply) → IsNamedReading clock c.reading → fd_set_noted (fd_set_answer reply) ≡ Some reply
       → fd_arm (arm_noted c.arm) (refused_at reply) ≡ c.arm → Gives fd_telling clock (calls.Settime c) (replies.Settime (fd_set_answer reply))
-  set_back c reply read noted arm = record {
-    entry = entries.Settime c.flags c.value c.interval c.reading.stamp (arm_noted c.arm) reply;
-    noted = ap (option_map (entries.Settime c.flags c.value c.interval c.reading.stamp (arm_noted c.arm))) noted;
-    shown = alike (λ r a. Some (record { call = calls.Settime (settime_of c.flags c.value c.interval r a); reply = replies.Settime (fd_set_answer reply) }))
-        read arm;
-  }
+  set_back c reply read noted arm =
+      gives_call fd_telling clock _ _ (settime_entry c reply) (λ r a. calls.Settime (settime_of c.flags c.value c.interval r a)) c.reading _ _
+      (ap (option_map (settime_entry c)) noted) refl read arm refl
 
   -- where no limit refused a start
   old_back : (c : SettimeCall) (was_set : Bool) (left interval : ℕ) → IsNamedReading clock c.reading → fd_arm (arm_noted c.arm) 0 ≡ c.arm
@@ -90,21 +99,11 @@ module _ (clock : List ClockLine) where
       old_back _ (answers_canceled t flags value reading) (fd_left t reading) t.interval read refl
   settime_back t flags value interval reading (arms.Unarmed stamp) read = set_back _ (settings.Unarmed stamp) read refl refl
 
-  trigger_back : (generation : ℕ) (reading : ClockReading) (counted : Bool) → IsNamedReading clock reading
-      → Gives fd_telling clock (calls.Trigger generation reading) (replies.Trigger (if counted then triggers.Counted else triggers.Stale))
-  trigger_back generation reading counted read = record {
-    entry = entries.Trigger generation reading.stamp counted;
-    noted = trigger_is_noted generation reading counted;
-    shown = ap (λ r. Some (record { call = calls.Trigger generation r; reply = replies.Trigger (if counted then triggers.Counted else triggers.Stale) })) read;
-  }
-
   read_back : (reading : ClockReading) (arm : Arm) (reply : ReadReply) → IsNamedReading clock reading → read_noted (read_answer_of reply) ≡ Some reply
       → Gives fd_telling clock (calls.Read reading arm) (replies.Read (read_answer_of reply))
-  read_back reading arm reply read noted = record {
-    entry = entries.Read reading.stamp (arm_noted arm) reply;
-    noted = ap (option_map (entries.Read reading.stamp (arm_noted arm))) noted;
-    shown = alike (λ r a. Some (record { call = calls.Read r a; reply = replies.Read (read_answer_of reply) })) read (arm_back arm);
-  }
+  read_back reading arm reply read noted =
+      gives_call fd_telling clock _ _ (entries.Read reading.stamp (arm_noted arm) reply) calls.Read reading _ _
+      (ap (option_map (entries.Read reading.stamp (arm_noted arm))) noted) refl read (arm_back arm) refl
 
   total_back : (reading : ClockReading) (arm : Arm) (canceled none empty : Bool) (total : ℕ) → IsNamedReading clock reading
       → Gives fd_telling clock (calls.Read reading arm)
@@ -114,21 +113,18 @@ module _ (clock : List ClockLine) where
   total_back reading arm false false true total read = read_back reading arm reads.Again read refl
   total_back reading arm false false false total read = read_back reading arm (reads.Count total) read refl
 
-  gettime_back : (reading : ClockReading) (arm : Arm) (left interval : ℕ) → IsNamedReading clock reading
-      → Gives fd_telling clock (calls.Gettime reading arm) (replies.Gettime (lefts.Left left interval))
-  gettime_back reading arm left interval read = record {
-    entry = entries.Gettime reading.stamp (arm_noted arm) left interval;
-    noted = refl;
-    shown = alike (λ r a. Some (record { call = calls.Gettime r a; reply = replies.Gettime (lefts.Left left interval) })) read (arm_back arm);
-  }
-
   -- law: a call with its answer is noted, and its line gives the call back as it tells it, with the answer
   pub fd_entry-noted : (t : Descriptor) (c : Call) → IsFdRead clock c → Gives fd_telling clock c (fd_answer t c)
   fd_entry-noted t (calls.Settime c) read = settime_back t c.flags c.value c.interval c.reading c.arm read
-  fd_entry-noted t (calls.Trigger generation reading) read = trigger_back generation reading (is_expiry_of t.phase generation reading) read
+  fd_entry-noted t (calls.Trigger generation reading) read =
+      let counted = is_expiry_of t.phase generation reading in
+      gives_call fd_telling clock _ _ (entries.Trigger generation reading.stamp counted) (λ r arm. calls.Trigger generation r) reading arms.NotAsked _
+      (trigger_is_noted generation reading counted) refl read refl refl
   fd_entry-noted t (calls.Read reading arm) read =
       total_back reading arm (is_canceled t reading) (nat_eq t.count 0) (nat_eq (total_in t reading) 0) (total_in t reading) read
-  fd_entry-noted t (calls.Gettime reading arm) read = gettime_back reading arm (left_by arm t reading) t.interval read
+  fd_entry-noted t (calls.Gettime reading arm) read =
+      gives_call fd_telling clock _ _ (entries.Gettime reading.stamp (arm_noted arm) (left_by arm t reading) t.interval) calls.Gettime reading _ _
+      refl refl read (arm_back arm) refl
 
 pub fd_again : TellsAgain fd_telling
 fd_again = record { step = fd_step-told; answer = fd_answer-told; may = FdAllows-told; gives = fd_entry-noted }

@@ -91,7 +91,8 @@ module _ {N U L : Type 0} (under : U → Place) (line : N → List U → L) (pla
 
   -- law: under line k, from 0, stands what was noted at number k + 1, in its order
   pub noted_lines-under : {A : Type 0} (of : L → A) (told : List U → A) → ((n : N) (us : List U) → of (line n us) ≡ told us) → (k : ℕ) (x : L)
-      → slice_get (noted_lines under line place l notes unders) k ≡ Some x → of x ≡ told (filter (is_of_number under (k + 1)) (filter (is_of_list under l) unders))
+      → slice_get (noted_lines under line place l notes unders) k ≡ Some x
+      → of x ≡ told (filter (is_of_number under (k + 1)) (filter (is_of_list under l) unders))
   noted_lines-under of told same k x at =
       let r = line_at (line_at_number under line (filter (is_of_list under l) unders)) 1 (filter (is_of_list place l) notes) k x at in
       ap of r.is ∙ same r.note (filter (is_of_number under (1 + k)) (filter (is_of_list under l) unders))

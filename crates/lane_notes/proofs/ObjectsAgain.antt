@@ -54,7 +54,8 @@ pub record GiveBack {S C R : Type 0} (k : Telling S C R) (clock : List ClockLine
   pub after : after_calls k.table from (present (map (k.shown clock) lines)) ≡ to
 
 -- one line more, in front
-gives_more : {S C R : Type 0} (k : Telling S C R) → TellsAgain k → (clock : List ClockLine) (from to : S) (c : C) (line : ObjectEntry) (lines : List ObjectEntry)
+gives_more : {S C R : Type 0} (k : Telling S C R) → TellsAgain k
+    → (clock : List ClockLine) (from to : S) (c : C) (line : ObjectEntry) (lines : List ObjectEntry)
     → k.table.allows from c → k.is_read clock c → k.noted c (k.table.answer from c) ≡ Some line → GiveBack k clock (k.table.next from c) lines to
     → GiveBack k clock from (line ∷ lines) to
 gives_more {C = C} {R = R} k again clock from to c line lines may read noted rest =
@@ -83,11 +84,13 @@ one_more : (clock : List ClockLine) (o : Object) (call : ObjectCall) (reply : Ob
     → GivesBack clock (object_step o call) lines to → GivesBack clock o (line ∷ lines) to
 one_more clock objects.Raw call reply line lines to may is read noted rest = absurd may
 one_more clock (objects.Posix t) (calls.Posix c) reply line lines to may is read noted rest =
-    (rest.0, rest.1, gives_more posix_telling posix_again clock t rest.0 c line lines may read (ap (object_entry_noted (calls.Posix c)) (sym is) ∙ noted) rest.2)
+    let noted_so = ap (object_entry_noted (calls.Posix c)) (sym is) ∙ noted in
+    (rest.0, rest.1, gives_more posix_telling posix_again clock t rest.0 c line lines may read noted_so rest.2)
 one_more clock (objects.Posix t) (calls.Fd c) reply line lines to may is read noted rest = absurd may
 one_more clock (objects.Fd t) (calls.Posix c) reply line lines to may is read noted rest = absurd may
 one_more clock (objects.Fd t) (calls.Fd c) reply line lines to may is read noted rest =
-    (rest.0, rest.1, gives_more fd_telling fd_again clock t rest.0 c line lines may read (ap (object_entry_noted (calls.Fd c)) (sym is) ∙ noted) rest.2)
+    let noted_so = ap (object_entry_noted (calls.Fd c)) (sym is) ∙ noted in
+    (rest.0, rest.1, gives_more fd_telling fd_again clock t rest.0 c line lines may read noted_so rest.2)
 
 nothing : (clock : List ClockLine) (o to : Object) → to ≡ o → GivesBack clock o [] to
 nothing clock objects.Raw to is = (refl, is)

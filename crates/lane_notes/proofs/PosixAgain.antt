@@ -23,11 +23,11 @@ use Rattle.record_text.specs.declared.record.ClockLine.{ClockLine}
 use Rattle.record_text.specs.declared.record.ObjectEntry.TheVariants as entries
 use Rattle.script_text.specs.PosixHistories.{accept_answer_of, posix_arm, posix_entry, posix_set_answer, refused_at}
 use Rattle.script_text.specs.Histories.{reading_at}
-use Rattle.lane_notes.specs.Arms.{arm_noted, arm_told}
+use Rattle.lane_notes.specs.Arms.{arm_noted, arm_told, settime_entry}
 use Rattle.lane_notes.specs.PosixNotes.{accept_noted, posix_as_told, posix_noted, posix_set_noted}
 use Rattle.lane_notes.specs.Shown.{IsPosixRead, IsNamedReading}
 use Rattle.lane_notes.proofs.ArmsAgain.{outcome_told, rearmed_told, trigger_is_noted}
-use Rattle.lane_notes.proofs.Telling.{Gives, Telling, TellsAgain, alike, settime_of}
+use Rattle.lane_notes.proofs.Telling.{Gives, Telling, TellsAgain, alike, gives_call, settime_of}
 
 -- how lines tell of a POSIX timer's calls
 abbrev pub posix_telling : Telling PosixTimer Call Reply
@@ -76,15 +76,13 @@ module _ (clock : List ClockLine) where
   set_back : (c : SettimeCall) (answer : SettimeAnswer) (reply : SettimeReply) → IsNamedReading clock c.reading → posix_set_noted answer ≡ Some reply
       → posix_set_answer reply ≡ Some answer → posix_arm (arm_noted c.arm) (refused_at reply) ≡ c.arm
       → Gives posix_telling clock (calls.Settime c) (replies.Settime answer)
-  set_back c answer reply read noted shown arm = record {
-    entry = entries.Settime c.flags c.value c.interval c.reading.stamp (arm_noted c.arm) reply;
-    noted = ap (option_map (entries.Settime c.flags c.value c.interval c.reading.stamp (arm_noted c.arm))) noted;
-    shown = ap (option_map (λ a. record {
-      call = calls.Settime (settime_of c.flags c.value c.interval (reading_at clock c.reading.stamp) (posix_arm (arm_noted c.arm) (refused_at reply)));
-      reply = replies.Settime a;
-    })) shown
-        ∙ alike (λ r a. Some (record { call = calls.Settime (settime_of c.flags c.value c.interval r a); reply = replies.Settime answer })) read arm;
-  }
+  set_back c answer reply read noted shown arm =
+      gives_call posix_telling clock _ _ (settime_entry c reply) (λ r a. calls.Settime (settime_of c.flags c.value c.interval r a)) c.reading _ _
+      (ap (option_map (settime_entry c)) noted)
+      (ap (option_map (λ a. record {
+        call = calls.Settime (settime_of c.flags c.value c.interval (reading_at clock c.reading.stamp) (posix_arm (arm_noted c.arm) (refused_at reply)));
+        reply = replies.Settime a;
+      })) shown) read arm refl
 
   settime_back : (t : PosixTimer) (flags value interval : ℕ) (reading : ClockReading) (arm : Arm) → IsNamedReading clock reading
       → Gives posix_telling clock (calls.Settime (settime_of flags value interval reading arm)) (replies.Settime (posix_settime_answer t reading arm))
@@ -93,21 +91,11 @@ module _ (clock : List ClockLine) where
       set_back _ _ (settings.Old (posix_left t reading) t.interval) read refl refl refl
   settime_back t flags value interval reading (arms.Unarmed stamp) read = set_back _ _ (settings.Unarmed stamp) read refl refl refl
 
-  trigger_back : (generation : ℕ) (reading : ClockReading) (counted : Bool) → IsNamedReading clock reading
-      → Gives posix_telling clock (calls.Trigger generation reading) (replies.Trigger (if counted then triggers.Counted else triggers.Stale))
-  trigger_back generation reading counted read = record {
-    entry = entries.Trigger generation reading.stamp counted;
-    noted = trigger_is_noted generation reading counted;
-    shown = ap (λ r. Some (record { call = calls.Trigger generation r; reply = replies.Trigger (if counted then triggers.Counted else triggers.Stale) })) read;
-  }
-
   accept_back : (reading : ClockReading) (arm : Arm) (reply : AcceptReply) → IsNamedReading clock reading → accept_noted (accept_answer_of reply) ≡ Some reply
       → Gives posix_telling clock (calls.Accept reading arm) (replies.Accept (accept_answer_of reply))
-  accept_back reading arm reply read noted = record {
-    entry = entries.Accept reading.stamp (arm_noted arm) reply;
-    noted = ap (option_map (entries.Accept reading.stamp (arm_noted arm))) noted;
-    shown = alike (λ r a. Some (record { call = calls.Accept r a; reply = replies.Accept (accept_answer_of reply) })) read (arm_back arm);
-  }
+  accept_back reading arm reply read noted =
+      gives_call posix_telling clock _ _ (entries.Accept reading.stamp (arm_noted arm) reply) calls.Accept reading _ _
+      (ap (option_map (entries.Accept reading.stamp (arm_noted arm))) noted) refl read (arm_back arm) refl
 
   accepted_back : (reading : ClockReading) (arm : Arm) (pending : Bool) (overrun : ℕ) → IsNamedReading clock reading
       → Gives posix_telling clock (calls.Accept reading arm) (replies.Accept (if pending then answers.Accepted overrun else answers.NoSignal))
@@ -117,7 +105,10 @@ module _ (clock : List ClockLine) where
   -- law: a call with its answer is noted, and its line gives the call back as it tells it, with the answer
   pub posix_entry-noted : (t : PosixTimer) (c : Call) → IsPosixRead clock c → Gives posix_telling clock c (posix_answer t c)
   posix_entry-noted t (calls.Settime c) read = settime_back t c.flags c.value c.interval c.reading c.arm read
-  posix_entry-noted t (calls.Trigger generation reading) read = trigger_back generation reading (is_expiry_of t.phase generation reading) read
+  posix_entry-noted t (calls.Trigger generation reading) read =
+      let counted = is_expiry_of t.phase generation reading in
+      gives_call posix_telling clock _ _ (entries.Trigger generation reading.stamp counted) (λ r arm. calls.Trigger generation r) reading arms.NotAsked _
+      (trigger_is_noted generation reading counted) refl read refl refl
   posix_entry-noted t (calls.Accept reading arm) read = accepted_back reading arm t.pending (overrun_of (periods_in t.phase t.interval reading)) read
 
 pub posix_again : TellsAgain posix_telling

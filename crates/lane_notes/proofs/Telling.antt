@@ -1,11 +1,12 @@
 -- How lines tell of the calls of one kind of object, and what has to hold so that they give the calls back.
-use Rattle.std.proofs.Common.{◌≡◌, ℕ, Option, Some, List, ap, ◌∙◌}
+use Rattle.std.proofs.Common.{◌≡◌, ℕ, Option, Some, List, sym, ap, ◌∙◌}
 use Rattle.ktime.specs.Readings.{ClockReading}
 use Rattle.timer_setting.specs.declared.arming.Arm.{Arm}
 use Rattle.timer_setting.specs.declared.settime_call.SettimeCall.{SettimeCall}
 use Rattle.timer_setting.specs.StepTables.{AnsweredCall, StepTable}
 use Rattle.record_text.specs.declared.record.ClockLine.{ClockLine}
 use Rattle.record_text.specs.declared.record.ObjectEntry.{ObjectEntry}
+use Rattle.script_text.specs.Histories.{reading_at}
 
 -- of a kind of object: its steps, the entry that a call is noted as, the call that an entry shows, a call as its line tells it, and that a
 -- call's reading is the one that its stamp names
@@ -35,3 +36,17 @@ settime_of flags value interval reading arm = record { flags = flags; value = va
 
 pub alike : {A B X : Type 0} (f : A → B → X) {a c : A} {b d : B} → a ≡ c → b ≡ d → f a b ≡ f c d
 alike f {a = a} {d = d} first second = ap (f a) second ∙ ap (λ x. f x d) first
+
+-- a call gives itself back whose entry shows it at the reading of its stamp, and with the start as a line tells it
+pub gives_call : {S C R : Type 0} (k : Telling S C R) (clock : List ClockLine) (c : C) (reply : R) (entry : ObjectEntry) (call : ClockReading → Arm → C)
+    (reading : ClockReading) (from to : Arm) → k.noted c reply ≡ Some entry
+    → k.shown clock entry ≡ Some (record { call = call (reading_at clock reading.stamp) from; reply = reply }) → reading_at clock reading.stamp ≡ reading
+    → from ≡ to → k.told c ≡ call reading to → Gives k clock c reply
+gives_call {C = C} {R = R} k clock c reply entry call reading from to noted shown read arm told = record {
+  entry = entry;
+  noted = noted;
+  shown = shown ∙ alike (λ r a. given (call r a)) read arm ∙ ap given (sym told);
+}
+  where
+    given : C → Option (AnsweredCall C R)
+    given d = Some (record { call = d; reply = reply })

@@ -20,17 +20,30 @@ use Rattle.lane_notes.specs.declared.notes.SkipNote.{SkipNote}
 use Rattle.lane_notes.specs.Notes.{NotesOf}
 use Rattle.lane_notes.specs.Sorted.{IsSortedOf, Place, place_of_entry, is_of_list, is_of_number, place_of_look, place_of_object, place_of_skip}
 use Rattle.lane_notes.specs.Records.{look_of, noted_lines, noted_object_lines, noted_timer_lines, object_line, record_from, skip_of, timer_line}
-use Rattle.lane_notes.proofs.Lists.{entry_note_shape, lines_of_object-none, lines_of_object-record_from, lines_of_timer-none, lines_of_timer-record_from, noted_lines-shown, noted_lines-under, object_line_shape, object_note_shape, timer_line_shape}
+use Rattle.lane_notes.proofs.Lists.{
+  entry_note_shape,
+  lines_of_object-none,
+  lines_of_object-record_from,
+  lines_of_timer-none,
+  lines_of_timer-record_from,
+  noted_lines-shown,
+  noted_lines-under,
+  object_line_shape,
+  object_note_shape,
+  timer_line_shape,
+}
 use Rattle.lane_notes.proofs.Standing.{AtMostOne, HasPlace, filter_stands_in, map_stands_in, stands_in_filter, stands_in_map}
 use Rattle.lane_notes.proofs.UnderLines.{AreSorted-labels_at, is_of_call, labels_at}
 
 -- notes of lists below a number are none of a list from there on
-none_past : {X : Type 0} (place : X → Place) (count l : ℕ) (xs : List X) → count ≤ l → AllByRecursion (λ x. (place x).list < count) xs → filter (is_of_list place l) xs ≡ []
+none_past : {X : Type 0} (place : X → Place) (count l : ℕ) (xs : List X) → count ≤ l → AllByRecursion (λ x. (place x).list < count) xs
+    → filter (is_of_list place l) xs ≡ []
 none_past place count l [] past below = refl
-none_past place count l (x ∷ xs) past below = elim (nat_eq (place x).list l) as (λ b. nat_eq (place x).list l ≡ b → cond b (x ∷ filter (is_of_list place l) xs) (filter (is_of_list place l) xs) ≡ []) [
-  | true ↦ λ is. absurd (omega (arith, past, below.0, eqb-true (place x).list l is))
-  | false ↦ λ not. none_past place count l xs past below.1
-] refl
+none_past place count l (x ∷ xs) past below =
+    elim (nat_eq (place x).list l) as (λ b. nat_eq (place x).list l ≡ b → cond b (x ∷ filter (is_of_list place l) xs) (filter (is_of_list place l) xs) ≡ []) [
+      | true ↦ λ is. absurd (omega (arith, past, below.0, eqb-true (place x).list l is))
+      | false ↦ λ not. none_past place count l xs past below.1
+    ] refl
 
 -- law: lines of a list show its sorted notes, where all are of lists that are there and there are no others
 shown_by : {N U L A : Type 0} (under : U → Place) (line : N → List U → L) (place : N → Place) (shown : L → A) (told : N → A)

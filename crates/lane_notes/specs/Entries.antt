@@ -61,13 +61,13 @@ receipt_look (noteds.Look observation) = look_noted observation
 abbrev pub entry_note : Label → Receipt → Option EntryNote
 entry_note label r = option_map (λ entry. record { label = label; timer = r.timer; number = r.number; entry = entry }) (receipt_entry r.event r.reply)
 
--- the note of a receipt, where it is one of a look
-abbrev pub look_note : Label → Receipt → Option LookNote
-look_note label r = option_map (λ reply. record { label = label; timer = r.timer; number = r.number; reply = reply }) (receipt_look r.reply)
-
 -- the notes of a call's receipts, in their order
 abbrev pub entry_notes : Label → List Receipt → List EntryNote
 entry_notes label receipts = present (map (entry_note label) receipts)
+
+-- the note of a receipt, where it is one of a look
+abbrev pub look_note : Label → Receipt → Option LookNote
+look_note label r = option_map (λ reply. record { label = label; timer = r.timer; number = r.number; reply = reply }) (receipt_look r.reply)
 
 abbrev pub look_notes : Label → List Receipt → List LookNote
 look_notes label receipts = present (map (look_note label) receipts)

@@ -33,9 +33,10 @@ pub(crate) fn filed<T: Placed>(
 fn place_by<T: Placed>(note: &T, by: By) -> usize
     ensures { result ≡ filed_at by (T.place note.now) }
 {
+    let (list, number, _) = note.place();
     match by {
-        By::List => note.list() as usize,
-        By::Number => note.number() as usize,
+        By::List => list as usize,
+        By::Number => number as usize,
     }
 }
 
