@@ -39,7 +39,7 @@ use Rattle.lane_notes.specs.Arms.{arm_noted, arm_told, settime_entry}
 use Rattle.lane_notes.specs.FdNotes.{fd_as_told, fd_noted, fd_set_noted, read_noted}
 use Rattle.lane_notes.specs.Shown.{IsFdRead, IsNamedReading}
 use Rattle.lane_notes.proofs.ArmsAgain.{outcome_told, rearmed_told, trigger_is_noted}
-use Rattle.lane_notes.proofs.Telling.{Gives, Telling, TellsAgain, gives_call, settime_of}
+use Rattle.lane_notes.proofs.Telling.{Gives, Telling, TellsAgain, gives_call, gives_expiry, settime_of}
 
 -- how lines tell of a descriptor's calls
 abbrev pub fd_telling : Telling Descriptor Call Reply
@@ -117,9 +117,8 @@ module _ (clock : List ClockLine) where
   pub fd_entry-noted : (t : Descriptor) (c : Call) → IsFdRead clock c → Gives fd_telling clock c (fd_answer t c)
   fd_entry-noted t (calls.Settime c) read = settime_back t c.flags c.value c.interval c.reading c.arm read
   fd_entry-noted t (calls.Trigger generation reading) read =
-      let counted = is_expiry_of t.phase generation reading in
-      gives_call fd_telling clock _ _ (entries.Trigger generation reading.stamp counted) (λ r arm. calls.Trigger generation r) reading arms.NotAsked _
-      (trigger_is_noted generation reading counted) refl read refl refl
+      gives_expiry fd_telling clock (calls.Trigger generation) _ generation reading (is_expiry_of t.phase generation reading)
+      (trigger_is_noted generation reading (is_expiry_of t.phase generation reading)) refl read refl
   fd_entry-noted t (calls.Read reading arm) read =
       total_back reading arm (is_canceled t reading) (nat_eq t.count 0) (nat_eq (total_in t reading) 0) (total_in t reading) read
   fd_entry-noted t (calls.Gettime reading arm) read =

@@ -27,7 +27,7 @@ use Rattle.lane_notes.specs.Arms.{arm_noted, arm_told, settime_entry}
 use Rattle.lane_notes.specs.PosixNotes.{accept_noted, posix_as_told, posix_noted, posix_set_noted}
 use Rattle.lane_notes.specs.Shown.{IsPosixRead, IsNamedReading}
 use Rattle.lane_notes.proofs.ArmsAgain.{outcome_told, rearmed_told, trigger_is_noted}
-use Rattle.lane_notes.proofs.Telling.{Gives, Telling, TellsAgain, alike, gives_call, settime_of}
+use Rattle.lane_notes.proofs.Telling.{Gives, Telling, TellsAgain, alike, gives_call, gives_expiry, settime_of}
 
 -- how lines tell of a POSIX timer's calls
 abbrev pub posix_telling : Telling PosixTimer Call Reply
@@ -106,9 +106,8 @@ module _ (clock : List ClockLine) where
   pub posix_entry-noted : (t : PosixTimer) (c : Call) → IsPosixRead clock c → Gives posix_telling clock c (posix_answer t c)
   posix_entry-noted t (calls.Settime c) read = settime_back t c.flags c.value c.interval c.reading c.arm read
   posix_entry-noted t (calls.Trigger generation reading) read =
-      let counted = is_expiry_of t.phase generation reading in
-      gives_call posix_telling clock _ _ (entries.Trigger generation reading.stamp counted) (λ r arm. calls.Trigger generation r) reading arms.NotAsked _
-      (trigger_is_noted generation reading counted) refl read refl refl
+      gives_expiry posix_telling clock (calls.Trigger generation) _ generation reading (is_expiry_of t.phase generation reading)
+      (trigger_is_noted generation reading (is_expiry_of t.phase generation reading)) refl read refl
   posix_entry-noted t (calls.Accept reading arm) read = accepted_back reading arm t.pending (overrun_of (periods_in t.phase t.interval reading)) read
 
 pub posix_again : TellsAgain posix_telling

@@ -1,11 +1,13 @@
 -- How lines tell of the calls of one kind of object, and what has to hold so that they give the calls back.
-use Rattle.std.proofs.Common.{◌≡◌, ℕ, Option, Some, List, sym, ap, ◌∙◌}
+use Rattle.std.proofs.Common.{◌≡◌, ℕ, Bool, Option, Some, List, refl, sym, ap, ◌∙◌}
 use Rattle.ktime.specs.Readings.{ClockReading}
 use Rattle.timer_setting.specs.declared.arming.Arm.{Arm}
+use Rattle.timer_setting.specs.declared.arming.Arm.TheVariants as arms
 use Rattle.timer_setting.specs.declared.settime_call.SettimeCall.{SettimeCall}
 use Rattle.timer_setting.specs.StepTables.{AnsweredCall, StepTable}
 use Rattle.record_text.specs.declared.record.ClockLine.{ClockLine}
 use Rattle.record_text.specs.declared.record.ObjectEntry.{ObjectEntry}
+use Rattle.record_text.specs.declared.record.ObjectEntry.TheVariants as entries
 use Rattle.script_text.specs.Histories.{reading_at}
 
 -- of a kind of object: its steps, the entry that a call is noted as, the call that an entry shows, a call as its line tells it, and that a
@@ -50,3 +52,12 @@ gives_call {C = C} {R = R} k clock c reply entry call reading from to noted show
   where
     given : C → Option (AnsweredCall C R)
     given d = Some (record { call = d; reply = reply })
+
+-- so of an expiry that was not refused
+pub gives_expiry : {S C R : Type 0} (k : Telling S C R) (clock : List ClockLine) (call : ClockReading → C) (reply : R) (generation : ℕ)
+    (reading : ClockReading) (counted : Bool) → k.noted (call reading) reply ≡ Some (entries.Trigger generation reading.stamp counted)
+    → k.shown clock (entries.Trigger generation reading.stamp counted) ≡ Some (record { call = call (reading_at clock reading.stamp); reply = reply })
+    → reading_at clock reading.stamp ≡ reading → k.told (call reading) ≡ call reading → Gives k clock (call reading) reply
+gives_expiry k clock call reply generation reading counted noted shown read told =
+    gives_call k clock (call reading) reply (entries.Trigger generation reading.stamp counted) (λ r arm. call r) reading arms.NotAsked arms.NotAsked
+    noted shown read refl told
