@@ -89,11 +89,11 @@ number_at place l n xs x s is_list is_number =
     stands_in_filter (is_of_number place n) (filter (is_of_list place l) xs) x (eq-eqb (place x).number n is_number)
     (stands_in_filter (is_of_list place l) xs x (eq-eqb (place x).list l is_list) s)
 
--- a note that stands, as it is told, under line k of a list
+-- a note that stands, as it is told, under line k of a timer or of its object, which has the same number
 pub record IsUnder {U S : Type 0} (place : U → Place) (told : U → S) (l k : ℕ) (notes : List U) (s : S) : Type 0 where
   pub note : U
   pub noted : HasPlace notes note
-  pub list : (place note).list ≡ l
+  pub timer : (place note).list ≡ l
   pub number : (place note).number ≡ k + 1
   pub is : told note ≡ s
 
@@ -111,7 +111,7 @@ module _ {N U L S : Type 0} (under : U → Place) (line : N → List U → L) (p
   is_noted s stands =
       let m = map_stands_in told here s (subst (λ ss. HasPlace ss s) told_here stands) in
       let n = at_number under l (k + 1) unders m.0 m.1 in
-      record { note = m.0; noted = n.0; list = n.1; number = n.2; is = m.2 }
+      record { note = m.0; noted = n.0; timer = n.1; number = n.2; is = m.2 }
 
   noted_stands : (u : U) → HasPlace unders u → (under u).list ≡ l → (under u).number ≡ k + 1 → HasPlace (of x) (told u)
   noted_stands u s list number =

@@ -139,7 +139,7 @@ module _ {s : Script} {x : WorldOf} {q : WorldPass} {notes sorted : NotesOf} {lo
           (subst (λ e. Among e (map told (own_on place_of_look t c notes.looks)))
           (ap (λ k. (k, m.note.reply)) (m.number ∙ turned p) ∙ ap (λ (y : Look). (1 + p, y.reply)) m.is)
           (among_made told (own_on place_of_look t c notes.looks) m.note
-          (own_on_from place_of_look t c notes.looks m.note st m.list (ap (λ (y : Look). is_label c y.label) m.is ∙ own_look))))
+          (own_on_from place_of_look t c notes.looks m.note st m.timer (ap (λ (y : Look). is_label c y.label) m.is ∙ own_look))))
         where
           turned : (b : ℕ) → b + 1 ≡ 1 + b
           turned b = omega arith
