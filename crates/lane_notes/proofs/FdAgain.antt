@@ -4,7 +4,6 @@ use Rattle.ktime.specs.Readings.{ClockReading}
 use Rattle.timer_setting.specs.declared.arming.Arm.{Arm}
 use Rattle.timer_setting.specs.declared.arming.Arm.TheVariants as arms
 use Rattle.timer_setting.specs.declared.settime_call.SettimeCall.{SettimeCall}
-use Rattle.timer_setting.specs.declared.trigger_answer.TriggerAnswer.TheVariants as triggers
 use Rattle.timer_setting.specs.Phases.{is_expiry_of, next_start}
 use Rattle.timer_fd.specs.declared.answers.GettimeAnswer.TheVariants as lefts
 use Rattle.timer_fd.specs.declared.answers.ReadAnswer.TheVariants as answers
@@ -14,19 +13,7 @@ use Rattle.timer_fd.specs.declared.calls.Call.TheVariants as calls
 use Rattle.timer_fd.specs.declared.calls.Reply.{Reply}
 use Rattle.timer_fd.specs.declared.calls.Reply.TheVariants as replies
 use Rattle.timer_fd.specs.States.{Descriptor, fd_left, is_canceled}
-use Rattle.timer_fd.specs.Steps.{
-  FdAllows,
-  answers_canceled,
-  canceled,
-  counted,
-  fd_answer,
-  fd_settime_answer,
-  fd_step,
-  fd_table,
-  left_by,
-  next_to_read,
-  total_in,
-}
+use Rattle.timer_fd.specs.Steps.{FdAllows, answers_canceled, canceled, fd_answer, fd_settime_answer, fd_step, fd_table, left_by, next_to_read, total_in}
 use Rattle.record_text.specs.declared.record.ClockLine.{ClockLine}
 use Rattle.record_text.specs.declared.record.ObjectEntry.TheVariants as entries
 use Rattle.record_text.specs.declared.record.ReadReply.{ReadReply}

@@ -1,11 +1,10 @@
 -- From a POSIX timer's line back to the call and its answer.
-use Rattle.std.proofs.Common.{◌≡◌, ℕ, ◌+◌, Bool, true, false, if◌then◌else◌, Option, Some, None, option_map, List, refl, ap, ◌∙◌}
+use Rattle.std.proofs.Common.{◌≡◌, ℕ, ◌+◌, Bool, true, false, if◌then◌else◌, Option, Some, None, option_map, List, refl, ap}
 use Rattle.ktime.specs.Readings.{ClockReading}
 use Rattle.timer_setting.specs.declared.arming.Arm.{Arm}
 use Rattle.timer_setting.specs.declared.arming.Arm.TheVariants as arms
 use Rattle.timer_setting.specs.declared.phase.Phase.{Phase}
 use Rattle.timer_setting.specs.declared.settime_call.SettimeCall.{SettimeCall}
-use Rattle.timer_setting.specs.declared.trigger_answer.TriggerAnswer.TheVariants as triggers
 use Rattle.timer_setting.specs.Phases.{is_expiry_of, periods_in}
 use Rattle.posix_timer.specs.declared.answers.AcceptAnswer.TheVariants as answers
 use Rattle.posix_timer.specs.declared.answers.SettimeAnswer.{SettimeAnswer}
