@@ -32,7 +32,20 @@ use Rattle.std.proofs.Common.{
 }
 use Rattle.std.proofs.Math.Logic.{⊎_elim}
 use Rattle.std.proofs.lemmas.List as lists
-use Rattle.std.proofs.lemmas.List.{append-nil, get_or-set_other, get_or-set_same, get_or_append_left, get_or_past, get_or_push, length-set, length-take-le, length_push, map_more, same_lists, take_more}
+use Rattle.std.proofs.lemmas.List.{
+  append-nil,
+  get_or-set_other,
+  get_or-set_same,
+  get_or_append_left,
+  get_or_past,
+  get_or_push,
+  length-set,
+  length-take-le,
+  length_push,
+  map_more,
+  same_lists,
+  take_more,
+}
 use Rattle.std.proofs.lemmas.List.Elements.{filter-append}
 use Rattle.std.proofs.lemmas.Bool.{cases_lt, eqb-false, eqb-true}
 use Rattle.lane_notes.specs.Sorted.{Place, is_of_number}
