@@ -1,7 +1,6 @@
 pub mod Receipts
 pub mod Orders
 pub mod Shelves
-pub mod Lines
 pub mod InTurn
 pub mod Again
 pub mod Standing
@@ -9,6 +8,7 @@ pub mod Rising
 pub mod UnderLines
 pub mod Lists
 pub mod ArmsAgain
+pub mod Telling
 pub mod PosixAgain
 pub mod FdAgain
 pub mod ObjectsAgain

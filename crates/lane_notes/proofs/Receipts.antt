@@ -6,8 +6,9 @@ use Rattle.expire_pass.specs.declared.log.Receipt.{Receipt}
 use Rattle.timer_objects.specs.declared.log.ObjectReceipt.{ObjectReceipt}
 use Rattle.record_text.specs.declared.record.Label.{Label}
 use Rattle.lane_notes.specs.Notes.{NotesOf}
-use Rattle.lane_notes.specs.Entries.{entry_note, entry_notes, look_note, look_notes, with_receipt, with_receipts}
-use Rattle.lane_notes.specs.Objects.{object_note, object_notes, skip_note, skip_notes, with_object_receipt, with_object_receipts}
+use Rattle.lane_notes.specs.Entries.{entry_note, look_note, with_receipts}
+use Rattle.lane_notes.specs.Objects.{object_note, skip_note, with_object_receipts}
+use Rattle.lane_notes.proofs.Telling.{alike}
 
 pub present-append : {A : Type 0} (xs ys : List (Option A)) → present (xs ++ ys) ≡ present xs ++ present ys
 present-append [] ys = refl
@@ -15,29 +16,27 @@ present-append (None ∷ xs) ys = present-append xs ys
 present-append (Some x ∷ xs) ys = ap (λ zs. x ∷ zs) (present-append xs ys)
 
 -- the notes of items that are noted one by one
-noted-append : {X A : Type 0} (note : X → Option A) (before : List A) (xs ys : List X) → before ++ present (map note (xs ++ ys)) ≡ before ++ present (map note xs) ++ present (map note ys)
+noted-append : {X A : Type 0} (note : X → Option A) (before : List A) (xs ys : List X)
+    → before ++ present (map note (xs ++ ys)) ≡ before ++ present (map note xs) ++ present (map note ys)
 noted-append note before xs ys =
     ap (λ zs. before ++ present zs) (map-append note xs ys) ∙ ap (λ zs. before ++ zs) (present-append (map note xs) (map note ys))
     ∙ sym (append_assoc before (present (map note xs)) (present (map note ys)))
 
 -- of receipts in two parts, the notes of the second stand behind those of the first
-pub with_receipts-append : (notes : NotesOf) (label : Label) (xs ys : List Receipt) → with_receipts notes label (xs ++ ys) ≡ with_receipts (with_receipts notes label xs) label ys
-with_receipts-append notes label xs ys =
-    ap (λ es. record notes { entries = es; looks = notes.looks ++ look_notes label (xs ++ ys) }) (noted-append (entry_note label) notes.entries xs ys)
-    ∙ ap (λ ls. record notes { entries = notes.entries ++ entry_notes label xs ++ entry_notes label ys; looks = ls }) (noted-append (look_note label) notes.looks xs ys)
+pub with_receipts-append : (notes : NotesOf) (label : Label) (xs ys : List Receipt)
+    → with_receipts notes label (xs ++ ys) ≡ with_receipts (with_receipts notes label xs) label ys
+with_receipts-append notes label xs ys = alike (λ es ls. record notes { entries = es; looks = ls })
+    (noted-append (entry_note label) notes.entries xs ys) (noted-append (look_note label) notes.looks xs ys)
 
-pub with_object_receipts-append : (notes : NotesOf) (label : Label) (xs ys : List ObjectReceipt) → with_object_receipts notes label (xs ++ ys) ≡ with_object_receipts (with_object_receipts notes label xs) label ys
-with_object_receipts-append notes label xs ys =
-    ap (λ es. record notes { objects = es; skips = notes.skips ++ skip_notes label (xs ++ ys) }) (noted-append (object_note label) notes.objects xs ys)
-    ∙ ap (λ ls. record notes { objects = notes.objects ++ object_notes label xs ++ object_notes label ys; skips = ls }) (noted-append (skip_note label) notes.skips xs ys)
+pub with_object_receipts-append : (notes : NotesOf) (label : Label) (xs ys : List ObjectReceipt)
+    → with_object_receipts notes label (xs ++ ys) ≡ with_object_receipts (with_object_receipts notes label xs) label ys
+with_object_receipts-append notes label xs ys = alike (λ es ls. record notes { objects = es; skips = ls })
+    (noted-append (object_note label) notes.objects xs ys) (noted-append (skip_note label) notes.skips xs ys)
 
--- a loop's step
-pub with_receipts-step : (notes now new : NotesOf) (label : Label) (rs : List Receipt) (i : ℕ) (r : Receipt) → i < length rs → r ≡ get_or rs i r → now ≡ with_receipts notes label (take i rs) → new ≡ with_receipt now label r → new ≡ with_receipts notes label (take (i + 1) rs)
-with_receipts-step notes now new label rs i r less is so_far step =
-    step ∙ ap (λ (n : NotesOf). with_receipt n label r) so_far ∙ ap (λ x. with_receipts (with_receipts notes label (take i rs)) label (x ∷ [])) is
-    ∙ sym (with_receipts-append notes label (take i rs) (get_or rs i r ∷ [])) ∙ ap (with_receipts notes label) (sym (take_more rs i r less))
-
-pub with_object_receipts-step : (notes now new : NotesOf) (label : Label) (rs : List ObjectReceipt) (i : ℕ) (r : ObjectReceipt) → i < length rs → r ≡ get_or rs i r → now ≡ with_object_receipts notes label (take i rs) → new ≡ with_object_receipt now label r → new ≡ with_object_receipts notes label (take (i + 1) rs)
-with_object_receipts-step notes now new label rs i r less is so_far step =
-    step ∙ ap (λ (n : NotesOf). with_object_receipt n label r) so_far ∙ ap (λ x. with_object_receipts (with_object_receipts notes label (take i rs)) label (x ∷ [])) is
-    ∙ sym (with_object_receipts-append notes label (take i rs) (get_or rs i r ∷ [])) ∙ ap (with_object_receipts notes label) (sym (take_more rs i r less))
+-- a loop's step, where receipts are added one behind the other
+pub receipts-step : {R : Type 0} (add : NotesOf → List R → NotesOf) → ((n : NotesOf) (xs ys : List R) → add n (xs ++ ys) ≡ add (add n xs) ys)
+    → (notes now new : NotesOf) (rs : List R) (i : ℕ) (r : R) → i < length rs → r ≡ get_or rs i r → now ≡ add notes (take i rs)
+    → new ≡ add now (r ∷ []) → new ≡ add notes (take (i + 1) rs)
+receipts-step add append notes now new rs i r less is so_far step =
+    step ∙ ap (λ (n : NotesOf). add n (r ∷ [])) so_far ∙ ap (λ x. add (add notes (take i rs)) (x ∷ [])) is
+    ∙ sym (append notes (take i rs) (get_or rs i r ∷ [])) ∙ ap (add notes) (sym (take_more rs i r less))

@@ -41,10 +41,12 @@ abbrev pub AtMostOne : {X : Type 0} → (X → Bool) → List X → Type 0
 AtMostOne p xs = length (filter p xs) ≤ 1
 
 pub AtMostOne-permuted : {X : Type 0} (p : X → Bool) (xs ys : List X) → IsPermutation xs ys → AtMostOne p xs → AtMostOne p ys
-AtMostOne-permuted p xs ys same one = subst (λ n. n ≤ 1) (length-filter p xs ∙ sym (sum_by-IsPermutation (λ x. cond (p x) 1 0) xs ys same) ∙ sym (length-filter p ys)) one
+AtMostOne-permuted p xs ys same one =
+    subst (λ n. n ≤ 1) (length-filter p xs ∙ sym (sum_by-IsPermutation (λ x. cond (p x) 1 0) xs ys same) ∙ sym (length-filter p ys)) one
 
 -- law: so it is where two places of items that pass are one place
-pub AtMostOne-from_places : {X : Type 0} (p : X → Bool) (xs : List X) → ((i j : ℕ) (x y : X) → slice_get xs i ≡ Some x → slice_get xs j ≡ Some y → p x ≡ true → p y ≡ true → i ≡ j) → AtMostOne p xs
+pub AtMostOne-from_places : {X : Type 0} (p : X → Bool) (xs : List X)
+    → ((i j : ℕ) (x y : X) → slice_get xs i ≡ Some x → slice_get xs j ≡ Some y → p x ≡ true → p y ≡ true → i ≡ j) → AtMostOne p xs
 AtMostOne-from_places p [] same = omega arith
 AtMostOne-from_places {X = X} p (x ∷ xs) same =
     elim (p x) as (λ b. p x ≡ b → length (cond b (x ∷ filter p xs) (filter p xs)) ≤ 1) [
@@ -77,10 +79,11 @@ AtMostOne-head {X = X} p x xs is one = none xs (less (length (filter p xs)) (sub
 
     none : (ys : List X) → length (filter p ys) ≡ 0 → AllByRecursion (λ y. p y ≡ false) ys
     none [] zero_is = tt
-    none (y ∷ ys) zero_is = elim (p y) as (λ b. p y ≡ b → length (cond b (y ∷ filter p ys) (filter p ys)) ≡ 0 → (p y ≡ false) × AllByRecursion (λ z. p z ≡ false) ys) [
-      | true ↦ λ passes e. absurd (omega (arith, e))
-      | false ↦ λ not e. (not, none ys e)
-    ] refl zero_is
+    none (y ∷ ys) zero_is =
+        elim (p y) as (λ b. p y ≡ b → length (cond b (y ∷ filter p ys) (filter p ys)) ≡ 0 → (p y ≡ false) × AllByRecursion (λ z. p z ≡ false) ys) [
+          | true ↦ λ passes e. absurd (omega (arith, e))
+          | false ↦ λ not e. (not, none ys e)
+        ] refl zero_is
 
 -- ---- what a filter and a map keep
 
@@ -102,7 +105,8 @@ filter_stands_in {X = X} p xs x s = at xs s.0 s.1
     next : (y : X) (ys : List X) → HasPlace ys x × (p x ≡ true) → HasPlace (y ∷ ys) x × (p x ≡ true)
     next y ys r = ((suc r.0.0, r.0.1), r.1)
 
-    first : (y : X) (ys : List X) (i : ℕ) → p y ≡ true → slice_get (y ∷ filter p ys) i ≡ Some x → ((j : ℕ) → slice_get (filter p ys) j ≡ Some x → HasPlace ys x × (p x ≡ true)) → HasPlace (y ∷ ys) x × (p x ≡ true)
+    first : (y : X) (ys : List X) (i : ℕ) → p y ≡ true → slice_get (y ∷ filter p ys) i ≡ Some x
+        → ((j : ℕ) → slice_get (filter p ys) j ≡ Some x → HasPlace ys x × (p x ≡ true)) → HasPlace (y ∷ ys) x × (p x ≡ true)
     first y ys zero passes is rest = ((0, is), ap p (sym (same_Some y x is)) ∙ passes)
     first y ys (suc i) passes is rest = next y ys (rest i is)
 

@@ -8,7 +8,7 @@ use Rattle.record_text.specs.declared.record.Label.{Label}
 use Rattle.script_text.specs.Order.{AreSorted, is_label, is_lower}
 use Rattle.lane_notes.specs.Sorted.{StandInOrder, IsSortedOf, Place, comes_before, is_of_list, is_of_number}
 use Rattle.lane_notes.proofs.Standing.{AtMostOne, AtMostOne-head, AtMostOne-permuted, AtMostOne-tail}
-use Rattle.lane_notes.proofs.Rising.{is_at}
+use Rattle.lane_notes.proofs.Rising.{both, is_at, strictly}
 
 -- whether a note of this label stands at this number of this list
 abbrev pub is_of_call : {X : Type 0} → (X → Place) → ℕ → ℕ → Label → X → Bool
@@ -30,19 +30,14 @@ lower a b not_lower other =
     let differ : nat_eq a.call b.call ≡ false = subst (λ t. (t && nat_eq a.call b.call) ≡ false) at other in
     or_right _ _ (and_from _ _ at (lt-ltb a.call b.call (strictly (ltb-false b.call a.call calls) (eqb-false a.call b.call differ)))))
     (cases_lt a.lane b.lane)
-  where
-    both : {m n : ℕ} → n ≤ m → m ≤ n → m ≡ n
-    both le ge = omega (arith, le, ge)
-
-    strictly : {m n : ℕ} → m ≤ n → (m ≡ n → ⊥) → m < n
-    strictly {m = m} {n = n} le differ = ⊎_elim (λ (less : m < n). less) (λ (ge : n ≤ m). absurd (differ (omega (arith, le, ge)))) (cases_lt m n)
 
 -- of two notes at one number the labels are in order
 labels_before : (a b : Place) → a.list ≡ b.list → a.number ≡ b.number → comes_before b a ≡ false → is_lower b.label a.label ≡ false
 labels_before a b lists numbers order =
     let is_list : nat_eq b.list a.list ≡ true = eq-eqb b.list a.list (sym lists) in
     let is_number : nat_eq b.number a.number ≡ true = eq-eqb b.number a.number (sym numbers) in
-    let at_list = subst (λ t. (t && (nat_lt b.number a.number || (nat_eq b.number a.number && is_lower b.label a.label))) ≡ false) is_list (or_parts _ _ order).1 in
+    let at_list =
+    subst (λ t. (t && (nat_lt b.number a.number || (nat_eq b.number a.number && is_lower b.label a.label))) ≡ false) is_list (or_parts _ _ order).1 in
     subst (λ t. (t && is_lower b.label a.label) ≡ false) is_number (or_parts _ _ at_list).1
 
 -- the labels of the notes at a number of a list, in their order
@@ -51,24 +46,31 @@ labels_at place l n xs = map (λ x. (place x).label) (filter (is_of_number place
 
 module _ {X : Type 0} (place : X → Place) (l n : ℕ) where
   -- with one more note, which is at that number of that list or not
-  labels_with : (x : X) (xs : List X) (P : List Label → Type 0) → ((place x).list ≡ l → (place x).number ≡ n → P ((place x).label ∷ labels_at place l n xs)) → P (labels_at place l n xs) → P (labels_at place l n (x ∷ xs))
+  labels_with : (x : X) (xs : List X) (P : List Label → Type 0) → ((place x).list ≡ l → (place x).number ≡ n → P ((place x).label ∷ labels_at place l n xs))
+      → P (labels_at place l n xs) → P (labels_at place l n (x ∷ xs))
   labels_with x xs P here elsewhere =
-      elim (nat_eq (place x).list l) as (λ b. nat_eq (place x).list l ≡ b → P (map (λ y. (place y).label) (filter (is_of_number place n) (cond b (x ∷ filter (is_of_list place l) xs) (filter (is_of_list place l) xs))))) [
-        | true ↦ λ is_list. elim (nat_eq (place x).number n) as (λ b. nat_eq (place x).number n ≡ b → P (map (λ y. (place y).label) (cond b (x ∷ filter (is_of_number place n) (filter (is_of_list place l) xs)) (filter (is_of_number place n) (filter (is_of_list place l) xs))))) [
-          | true ↦ λ is_number. here (eqb-true (place x).list l is_list) (eqb-true (place x).number n is_number)
-          | false ↦ λ not. elsewhere
-        ] refl
+      let of_list = filter (is_of_list place l) xs in
+      let of_number = filter (is_of_number place n) of_list in
+      elim (nat_eq (place x).list l) as
+      (λ b. nat_eq (place x).list l ≡ b → P (map (λ y. (place y).label) (filter (is_of_number place n) (cond b (x ∷ of_list) of_list)))) [
+        | true ↦ λ is_list. elim (nat_eq (place x).number n) as
+            (λ b. nat_eq (place x).number n ≡ b → P (map (λ y. (place y).label) (cond b (x ∷ of_number) of_number))) [
+              | true ↦ λ is_number. here (eqb-true (place x).list l is_list) (eqb-true (place x).number n is_number)
+              | false ↦ λ not. elsewhere
+            ] refl
         | false ↦ λ not. elsewhere
       ] refl
 
-  above : (x : X) (xs : List X) → (place x).list ≡ l → (place x).number ≡ n → AllByRecursion (λ y. comes_before (place y) (place x) ≡ false) xs → AllByRecursion (λ y. is_of_call place l n (place x).label y ≡ false) xs
+  above : (x : X) (xs : List X) → (place x).list ≡ l → (place x).number ≡ n → AllByRecursion (λ y. comes_before (place y) (place x) ≡ false) xs
+      → AllByRecursion (λ y. is_of_call place l n (place x).label y ≡ false) xs
       → AllByRecursion (λ other. is_lower (place x).label other ≡ true) (labels_at place l n xs)
   above x [] lists numbers order others = tt
   above x (y ∷ ys) lists numbers order others =
       labels_with y ys (AllByRecursion (λ other. is_lower (place x).label other ≡ true))
       (λ is_list is_number. (
         lower (place x).label (place y).label (labels_before (place x) (place y) (lists ∙ sym is_list) (numbers ∙ sym is_number) order.0)
-            (subst (λ t. (t && is_label (place x).label (place y).label) ≡ false) (and_from _ _ (eq-eqb (place y).list l is_list) (eq-eqb (place y).number n is_number)) others.0),
+            (subst (λ t. (t && is_label (place x).label (place y).label) ≡ false)
+            (and_from _ _ (eq-eqb (place y).list l is_list) (eq-eqb (place y).number n is_number)) others.0),
         above x ys lists numbers order.1 others.1,
       ))
       (above x ys lists numbers order.1 others.1)
@@ -80,7 +82,8 @@ module _ {X : Type 0} (place : X → Place) (l n : ℕ) where
       labels_with x xs AreSorted
       (λ is_list is_number. (
         above x xs is_list is_number order.0 (AtMostOne-head (is_of_call place l n (place x).label) x xs
-            (and_from _ _ (and_from _ _ (eq-eqb (place x).list l is_list) (eq-eqb (place x).number n is_number)) (same_label (place x).label)) (once (place x).label)),
+            (and_from _ _ (and_from _ _ (eq-eqb (place x).list l is_list) (eq-eqb (place x).number n is_number)) (same_label (place x).label))
+            (once (place x).label)),
         rest,
       ))
       rest
@@ -103,5 +106,7 @@ module _ {X : Type 0} (place : X → Place) (l n : ℕ) where
       labels_with x xs P (λ is_list is_number. more (place x).label (labels_at place l n xs) (none_lower x xs is_list is_number order.0) rest) rest
 
 -- law: the labels of the sorted notes at a number of a list stand in order, each once, where each label is noted once there
-pub AreSorted-labels_at : {X : Type 0} (place : X → Place) (l n : ℕ) (xs sorted : List X) → IsSortedOf place xs sorted → ((label : Label) → AtMostOne (is_of_call place l n label) xs) → AreSorted (labels_at place l n sorted)
-AreSorted-labels_at place l n xs sorted is once = labels_sorted place l n sorted is.order (λ label. AtMostOne-permuted (is_of_call place l n label) xs sorted is.same (once label))
+pub AreSorted-labels_at : {X : Type 0} (place : X → Place) (l n : ℕ) (xs sorted : List X) → IsSortedOf place xs sorted
+    → ((label : Label) → AtMostOne (is_of_call place l n label) xs) → AreSorted (labels_at place l n sorted)
+AreSorted-labels_at place l n xs sorted is once =
+    labels_sorted place l n sorted is.order (λ label. AtMostOne-permuted (is_of_call place l n label) xs sorted is.same (once label))

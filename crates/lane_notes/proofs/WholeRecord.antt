@@ -19,32 +19,55 @@ use Rattle.lane_notes.specs.declared.notes.ObjectNote.{ObjectNote}
 use Rattle.lane_notes.specs.declared.notes.SkipNote.{SkipNote}
 use Rattle.lane_notes.specs.Notes.{NotesOf}
 use Rattle.lane_notes.specs.Sorted.{IsSortedOf, Place, place_of_entry, is_of_list, is_of_number, place_of_look, place_of_object, place_of_skip}
-use Rattle.lane_notes.specs.Records.{look_of, noted_object_lines, record_from, skip_of, noted_timer_lines}
-use Rattle.lane_notes.proofs.Lists.{timer_line_shape, lines_of_object-none, lines_of_object-record_from, lines_of_timer-none, lines_of_timer-record_from, entry_note_shape, object_line_shape, noted_object_lines-entries, noted_object_lines-skips, object_note_shape, noted_timer_lines-entries, noted_timer_lines-looks}
+use Rattle.lane_notes.specs.Records.{look_of, noted_lines, noted_object_lines, noted_timer_lines, object_line, record_from, skip_of, timer_line}
+use Rattle.lane_notes.proofs.Lists.{
+  entry_note_shape,
+  lines_of_object-none,
+  lines_of_object-record_from,
+  lines_of_timer-none,
+  lines_of_timer-record_from,
+  noted_lines-shown,
+  noted_lines-under,
+  object_line_shape,
+  object_note_shape,
+  timer_line_shape,
+}
 use Rattle.lane_notes.proofs.Standing.{AtMostOne, HasPlace, filter_stands_in, map_stands_in, stands_in_filter, stands_in_map}
 use Rattle.lane_notes.proofs.UnderLines.{AreSorted-labels_at, is_of_call, labels_at}
 
 -- notes of lists below a number are none of a list from there on
-none_past : {X : Type 0} (place : X → Place) (count l : ℕ) (xs : List X) → count ≤ l → AllByRecursion (λ x. (place x).list < count) xs → filter (is_of_list place l) xs ≡ []
+none_past : {X : Type 0} (place : X → Place) (count l : ℕ) (xs : List X) → count ≤ l → AllByRecursion (λ x. (place x).list < count) xs
+    → filter (is_of_list place l) xs ≡ []
 none_past place count l [] past below = refl
-none_past place count l (x ∷ xs) past below = elim (nat_eq (place x).list l) as (λ b. nat_eq (place x).list l ≡ b → cond b (x ∷ filter (is_of_list place l) xs) (filter (is_of_list place l) xs) ≡ []) [
-  | true ↦ λ is. absurd (omega (arith, past, below.0, eqb-true (place x).list l is))
-  | false ↦ λ not. none_past place count l xs past below.1
-] refl
+none_past place count l (x ∷ xs) past below =
+    elim (nat_eq (place x).list l) as (λ b. nat_eq (place x).list l ≡ b → cond b (x ∷ filter (is_of_list place l) xs) (filter (is_of_list place l) xs) ≡ []) [
+      | true ↦ λ is. absurd (omega (arith, past, below.0, eqb-true (place x).list l is))
+      | false ↦ λ not. none_past place count l xs past below.1
+    ] refl
+
+-- law: lines of a list show its sorted notes, where all are of lists that are there and there are no others
+shown_by : {N U L A : Type 0} (under : U → Place) (line : N → List U → L) (place : N → Place) (shown : L → A) (told : N → A)
+    → ((n : N) (us : List U) → shown (line n us) ≡ told n) → (count l : ℕ) (notes : List N) (unders : List U) (lines : List L)
+    → (l < count → lines ≡ noted_lines under line place l notes unders) → (count ≤ l → lines ≡ []) → AllByRecursion (λ n. (place n).list < count) notes
+    → map shown lines ≡ map told (filter (is_of_list place l) notes)
+shown_by under line place shown told same count l notes unders lines there none below =
+    ⊎_elim (λ (less : l < count). ap (map shown) (there less) ∙ noted_lines-shown under line place l notes unders shown told same)
+    (λ (past : count ≤ l). ap (map shown) (none past) ∙ ap (map told) (sym (none_past place count l notes past below)))
+    (cases_lt l count)
 
 -- law: each timer's lines show its sorted notes, where all are of timers that are there
-pub lines_shape : (s : NotesOf) (timers : ℕ) (answers : List (List Answer)) (t : ℕ) → AllByRecursion (λ n. n.timer < timers) s.entries → map timer_line_shape (lines_of_timer (record_from s timers answers) t) ≡ map entry_note_shape (filter (is_of_list place_of_entry t) s.entries)
+pub lines_shape : (s : NotesOf) (timers : ℕ) (answers : List (List Answer)) (t : ℕ) → AllByRecursion (λ n. n.timer < timers) s.entries
+    → map timer_line_shape (lines_of_timer (record_from s timers answers) t) ≡ map entry_note_shape (filter (is_of_list place_of_entry t) s.entries)
 lines_shape s timers answers t below =
-    ⊎_elim (λ (less : t < timers). ap (map timer_line_shape) (lines_of_timer-record_from s timers answers t less) ∙ noted_timer_lines-entries t s.entries s.looks)
-    (λ (past : timers ≤ t). ap (map timer_line_shape) (lines_of_timer-none s timers answers t past) ∙ ap (map entry_note_shape) (sym (none_past place_of_entry timers t s.entries past below)))
-    (cases_lt t timers)
+    shown_by place_of_look timer_line place_of_entry timer_line_shape entry_note_shape (λ n us. refl) timers t s.entries s.looks _
+    (lines_of_timer-record_from s timers answers t) (lines_of_timer-none s timers answers t) below
 
 -- law: each object's lines do
-pub object_lines_shape : (s : NotesOf) (timers : ℕ) (answers : List (List Answer)) (i : ℕ) → AllByRecursion (λ n. n.object < timers) s.objects → map object_line_shape (lines_of_object (record_from s timers answers) i) ≡ map object_note_shape (filter (is_of_list place_of_object i) s.objects)
+pub object_lines_shape : (s : NotesOf) (timers : ℕ) (answers : List (List Answer)) (i : ℕ) → AllByRecursion (λ n. n.object < timers) s.objects
+    → map object_line_shape (lines_of_object (record_from s timers answers) i) ≡ map object_note_shape (filter (is_of_list place_of_object i) s.objects)
 object_lines_shape s timers answers i below =
-    ⊎_elim (λ (less : i < timers). ap (map object_line_shape) (lines_of_object-record_from s timers answers i less) ∙ noted_object_lines-entries i s.objects s.skips)
-    (λ (past : timers ≤ i). ap (map object_line_shape) (lines_of_object-none s timers answers i past) ∙ ap (map object_note_shape) (sym (none_past place_of_object timers i s.objects past below)))
-    (cases_lt i timers)
+    shown_by place_of_skip object_line place_of_object object_line_shape object_note_shape (λ n us. refl) timers i s.objects s.skips _
+    (lines_of_object-record_from s timers answers i) (lines_of_object-none s timers answers i) below
 
 -- ---- what stands under a line
 
@@ -52,73 +75,93 @@ each : {X : Type 0} (P : X → Type 0) (xs : List X) → ((p : ℕ) (x : X) → 
 each P [] at = tt
 each P (x ∷ xs) at = (at 0 x refl, each P xs (λ p. at (suc p)))
 
-map-map : {X Y Z : Type 0} (f : X → Y) (g : Y → Z) (xs : List X) → map g (map f xs) ≡ map (λ x. g (f x)) xs
-map-map f g [] = refl
-map-map f g (x ∷ xs) = ap (λ zs. g (f x) ∷ zs) (map-map f g xs)
-
--- law: under each line of a timer the labels stand in order, where each one looked once at most after each entry
-pub looks_sorted : (t : ℕ) (entries : List EntryNote) (noted looks : List LookNote) → IsSortedOf place_of_look noted looks → ((n : ℕ) (label : Label) → AtMostOne (is_of_call place_of_look t n label) noted)
-    → AllByRecursion (λ line. AreSorted (map (λ l. l.label) line.looks)) (noted_timer_lines t entries looks)
-looks_sorted t entries noted looks is once =
-    each (λ line. AreSorted (map (λ l. l.label) line.looks)) (noted_timer_lines t entries looks) (λ k line at.
-    let under = filter (is_of_number place_of_look (k + 1)) (filter (is_of_list place_of_look t) looks) in
-    subst AreSorted (sym (ap (map (λ (l : Look). l.label)) (noted_timer_lines-looks t entries looks k line at) ∙ map-map look_of (λ l. l.label) under)) (AreSorted-labels_at place_of_look t (k + 1) noted looks is (once (k + 1))))
-
--- law: the labels under a line of an object are those of the sorted notes at its number, of which none is lower than one ahead of it (`labels_never_fall`)
-pub skips_labels : (i : ℕ) (entries : List ObjectNote) (skips : List SkipNote) (k : ℕ) (line : ObjectLine)
-    → slice_get (noted_object_lines i entries skips) k ≡ Some line
-    → map (λ l. l.label) line.skips ≡ labels_at place_of_skip i (k + 1) skips
-skips_labels i entries skips k line at =
-    ap (map (λ (l : Skip). l.label)) (noted_object_lines-skips i entries skips k line at)
-    ∙ map-map skip_of (λ l. l.label) (filter (is_of_number place_of_skip (k + 1)) (filter (is_of_list place_of_skip i) skips))
-
 -- the notes at a number of a list
-at_number : {X : Type 0} (place : X → Place) (l n : ℕ) (xs : List X) (x : X) → HasPlace (filter (is_of_number place n) (filter (is_of_list place l) xs)) x → HasPlace xs x × ((place x).list ≡ l) × ((place x).number ≡ n)
+at_number : {X : Type 0} (place : X → Place) (l n : ℕ) (xs : List X) (x : X)
+    → HasPlace (filter (is_of_number place n) (filter (is_of_list place l) xs)) x → HasPlace xs x × ((place x).list ≡ l) × ((place x).number ≡ n)
 at_number place l n xs x s =
     let outer = filter_stands_in (is_of_number place n) (filter (is_of_list place l) xs) x s in
     let inner = filter_stands_in (is_of_list place l) xs x outer.0 in
     (inner.0, eqb-true (place x).list l inner.1, eqb-true (place x).number n outer.1)
 
-number_at : {X : Type 0} (place : X → Place) (l n : ℕ) (xs : List X) (x : X) → HasPlace xs x → (place x).list ≡ l → (place x).number ≡ n → HasPlace (filter (is_of_number place n) (filter (is_of_list place l) xs)) x
+number_at : {X : Type 0} (place : X → Place) (l n : ℕ) (xs : List X) (x : X) → HasPlace xs x → (place x).list ≡ l → (place x).number ≡ n
+    → HasPlace (filter (is_of_number place n) (filter (is_of_list place l) xs)) x
 number_at place l n xs x s is_list is_number =
-    stands_in_filter (is_of_number place n) (filter (is_of_list place l) xs) x (eq-eqb (place x).number n is_number) (stands_in_filter (is_of_list place l) xs x (eq-eqb (place x).list l is_list) s)
+    stands_in_filter (is_of_number place n) (filter (is_of_list place l) xs) x (eq-eqb (place x).number n is_number)
+    (stands_in_filter (is_of_list place l) xs x (eq-eqb (place x).list l is_list) s)
 
--- a note of a look that stands under line k of a timer
-pub record IsLookOf (t k : ℕ) (looks : List LookNote) (l : Look) : Type 0 where
-  pub note : LookNote
-  pub noted : HasPlace looks note
-  pub timer : note.timer ≡ t
-  pub number : note.number ≡ k + 1
-  pub is : look_of note ≡ l
+-- a note that stands, as it is told, under line k of a timer or of its object, which has the same number
+pub record IsUnder {U S : Type 0} (place : U → Place) (told : U → S) (l k : ℕ) (notes : List U) (s : S) : Type 0 where
+  pub note : U
+  pub noted : HasPlace notes note
+  pub timer : (place note).list ≡ l
+  pub number : (place note).number ≡ k + 1
+  pub is : told note ≡ s
 
--- law: a look under a line is a note, and each note of a line that is there stands under it
-pub look_is_noted : (t : ℕ) (entries : List EntryNote) (looks : List LookNote) (k : ℕ) (line : TimerLine) (l : Look) → slice_get (noted_timer_lines t entries looks) k ≡ Some line → HasPlace line.looks l → IsLookOf t k looks l
-look_is_noted t entries looks k line l at s =
-    let m = map_stands_in look_of (filter (is_of_number place_of_look (k + 1)) (filter (is_of_list place_of_look t) looks)) l (subst (λ ls. HasPlace ls l) (noted_timer_lines-looks t entries looks k line at) s) in
-    let n = at_number place_of_look t (k + 1) looks m.0 m.1 in
-    record { note = m.0; noted = n.0; timer = n.1; number = n.2; is = m.2 }
+-- what the lines of a list have under them, which is told of the notes at their numbers
+module _ {N U L S : Type 0} (under : U → Place) (line : N → List U → L) (place : N → Place) (of : L → List S) (told : U → S)
+    (are : (n : N) (us : List U) → of (line n us) ≡ map told us) (l : ℕ) (notes : List N) (unders : List U) (k : ℕ) (x : L)
+    (at : slice_get (noted_lines under line place l notes unders) k ≡ Some x) where
+  abbrev here : List U
+  here = filter (is_of_number under (k + 1)) (filter (is_of_list under l) unders)
 
-pub noted_look_stands : (t : ℕ) (entries : List EntryNote) (looks : List LookNote) (k : ℕ) (line : TimerLine) (note : LookNote) → slice_get (noted_timer_lines t entries looks) k ≡ Some line → HasPlace looks note → note.timer ≡ t → note.number ≡ k + 1 → HasPlace line.looks (look_of note)
-noted_look_stands t entries looks k line note at s timer number =
-    subst (λ ls. HasPlace ls (look_of note)) (sym (noted_timer_lines-looks t entries looks k line at))
-    (stands_in_map look_of (filter (is_of_number place_of_look (k + 1)) (filter (is_of_list place_of_look t) looks)) note (number_at place_of_look t (k + 1) looks note s timer number))
+  told_here : of x ≡ map told here
+  told_here = noted_lines-under under line place l notes unders of (map told) are k x at
 
--- a note of a skip that stands under line k of an object
-pub record IsSkipOf (i k : ℕ) (skips : List SkipNote) (s : Skip) : Type 0 where
-  pub note : SkipNote
-  pub noted : HasPlace skips note
-  pub object : note.object ≡ i
-  pub number : note.number ≡ k + 1
-  pub is : skip_of note ≡ s
+  is_noted : (s : S) → HasPlace (of x) s → IsUnder under told l k unders s
+  is_noted s stands =
+      let m = map_stands_in told here s (subst (λ ss. HasPlace ss s) told_here stands) in
+      let n = at_number under l (k + 1) unders m.0 m.1 in
+      record { note = m.0; noted = n.0; timer = n.1; number = n.2; is = m.2 }
 
--- law: so for skips
-pub skip_is_noted : (i : ℕ) (entries : List ObjectNote) (skips : List SkipNote) (k : ℕ) (line : ObjectLine) (x : Skip) → slice_get (noted_object_lines i entries skips) k ≡ Some line → HasPlace line.skips x → IsSkipOf i k skips x
-skip_is_noted i entries skips k line x at s =
-    let m = map_stands_in skip_of (filter (is_of_number place_of_skip (k + 1)) (filter (is_of_list place_of_skip i) skips)) x (subst (λ ls. HasPlace ls x) (noted_object_lines-skips i entries skips k line at) s) in
-    let n = at_number place_of_skip i (k + 1) skips m.0 m.1 in
-    record { note = m.0; noted = n.0; object = n.1; number = n.2; is = m.2 }
+  noted_stands : (u : U) → HasPlace unders u → (under u).list ≡ l → (under u).number ≡ k + 1 → HasPlace (of x) (told u)
+  noted_stands u s list number =
+      subst (λ ss. HasPlace ss (told u)) (sym told_here) (stands_in_map told here u (number_at under l (k + 1) unders u s list number))
 
-pub noted_skip_stands : (i : ℕ) (entries : List ObjectNote) (skips : List SkipNote) (k : ℕ) (line : ObjectLine) (note : SkipNote) → slice_get (noted_object_lines i entries skips) k ≡ Some line → HasPlace skips note → note.object ≡ i → note.number ≡ k + 1 → HasPlace line.skips (skip_of note)
-noted_skip_stands i entries skips k line note at s object number =
-    subst (λ ls. HasPlace ls (skip_of note)) (sym (noted_object_lines-skips i entries skips k line at))
-    (stands_in_map skip_of (filter (is_of_number place_of_skip (k + 1)) (filter (is_of_list place_of_skip i) skips)) note (number_at place_of_skip i (k + 1) skips note s object number))
+  labels_under : (label : S → Label) → ((u : U) → label (told u) ≡ (under u).label) → map label (of x) ≡ labels_at under l (k + 1) unders
+  labels_under label same = ap (map label) told_here ∙ labels here
+    where
+      labels : (us : List U) → map label (map told us) ≡ map (λ u. (under u).label) us
+      labels [] = refl
+      labels (u ∷ us) = ap (λ c. c ∷ map label (map told us)) (same u) ∙ ap (λ cs. (under u).label ∷ cs) (labels us)
+
+-- law: a look under a line is a note, and so is a skip
+pub look_is_noted : (t : ℕ) (entries : List EntryNote) (looks : List LookNote) (k : ℕ) (line : TimerLine) (l : Look)
+    → slice_get (noted_timer_lines t entries looks) k ≡ Some line → HasPlace line.looks l → IsUnder place_of_look look_of t k looks l
+look_is_noted t entries looks k line l at =
+    is_noted place_of_look timer_line place_of_entry (λ x. x.looks) look_of (λ n us. refl) t entries looks k line at l
+
+pub skip_is_noted : (i : ℕ) (entries : List ObjectNote) (skips : List SkipNote) (k : ℕ) (line : ObjectLine) (x : Skip)
+    → slice_get (noted_object_lines i entries skips) k ≡ Some line → HasPlace line.skips x → IsUnder place_of_skip skip_of i k skips x
+skip_is_noted i entries skips k line x at =
+    is_noted place_of_skip object_line place_of_object (λ y. y.skips) skip_of (λ n us. refl) i entries skips k line at x
+
+-- law: each note of a line that is there stands under it
+pub noted_look_stands : (t : ℕ) (entries : List EntryNote) (looks : List LookNote) (k : ℕ) (line : TimerLine) (note : LookNote)
+    → slice_get (noted_timer_lines t entries looks) k ≡ Some line → HasPlace looks note → note.timer ≡ t → note.number ≡ k + 1
+    → HasPlace line.looks (look_of note)
+noted_look_stands t entries looks k line note at =
+    noted_stands place_of_look timer_line place_of_entry (λ x. x.looks) look_of (λ n us. refl) t entries looks k line at note
+
+pub noted_skip_stands : (i : ℕ) (entries : List ObjectNote) (skips : List SkipNote) (k : ℕ) (line : ObjectLine) (note : SkipNote)
+    → slice_get (noted_object_lines i entries skips) k ≡ Some line → HasPlace skips note → note.object ≡ i → note.number ≡ k + 1
+    → HasPlace line.skips (skip_of note)
+noted_skip_stands i entries skips k line note at =
+    noted_stands place_of_skip object_line place_of_object (λ x. x.skips) skip_of (λ n us. refl) i entries skips k line at note
+
+-- law: under each line of a timer the labels stand in order, where each one looked once at most after each entry
+pub looks_sorted : (t : ℕ) (entries : List EntryNote) (noted looks : List LookNote) → IsSortedOf place_of_look noted looks
+    → ((n : ℕ) (label : Label) → AtMostOne (is_of_call place_of_look t n label) noted)
+    → AllByRecursion (λ line. AreSorted (map (λ l. l.label) line.looks)) (noted_timer_lines t entries looks)
+looks_sorted t entries noted looks is once =
+    each (λ line. AreSorted (map (λ l. l.label) line.looks)) (noted_timer_lines t entries looks) (λ k line at.
+    subst AreSorted
+    (sym (labels_under place_of_look timer_line place_of_entry (λ x. x.looks) look_of (λ n us. refl) t entries looks k line at (λ l. l.label) (λ n. refl)))
+    (AreSorted-labels_at place_of_look t (k + 1) noted looks is (once (k + 1))))
+
+-- law: the labels under a line of an object are those of the sorted notes at its number, of which none is lower than one ahead of it
+-- (`labels_never_fall`)
+pub skips_labels : (i : ℕ) (entries : List ObjectNote) (skips : List SkipNote) (k : ℕ) (line : ObjectLine)
+    → slice_get (noted_object_lines i entries skips) k ≡ Some line
+    → map (λ l. l.label) line.skips ≡ labels_at place_of_skip i (k + 1) skips
+skips_labels i entries skips k line at =
+    labels_under place_of_skip object_line place_of_object (λ x. x.skips) skip_of (λ n us. refl) i entries skips k line at (λ s. s.label) (λ n. refl)

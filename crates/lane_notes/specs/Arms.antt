@@ -1,12 +1,14 @@
--- How an object's line tells of the start that a call wanted, and of an expiry.
+-- How an object's line tells of the start that a call wanted, of a settime and of an expiry.
 use Rattle.std.specs.Prelude.{ℕ, true, false, Option, Some, None}
 use Rattle.ktime.specs.Readings.{ClockReading}
 use Rattle.timer_setting.specs.declared.arming.Arm.{Arm}
 use Rattle.timer_setting.specs.declared.arming.Arm.TheVariants as arms
+use Rattle.timer_setting.specs.declared.settime_call.SettimeCall.{SettimeCall}
 use Rattle.timer_setting.specs.declared.trigger_answer.TriggerAnswer.{TriggerAnswer}
 use Rattle.timer_setting.specs.declared.trigger_answer.TriggerAnswer.TheVariants as triggers
 use Rattle.record_text.specs.declared.record.Armed.{Armed}
 use Rattle.record_text.specs.declared.record.Armed.TheVariants as armings
+use Rattle.record_text.specs.declared.record.SettimeReply.{SettimeReply}
 use Rattle.record_text.specs.declared.record.ObjectEntry.{ObjectEntry}
 use Rattle.record_text.specs.declared.record.ObjectEntry.TheVariants as entries
 
@@ -21,6 +23,10 @@ abbrev pub arm_told : Arm → Arm
 arm_told arms.NotAsked = arms.NotAsked
 arm_told (arms.Armed generation) = arms.Armed generation
 arm_told (arms.Unarmed stamp) = arms.Unarmed 0
+
+-- the entry of a settime with this answer; a reading is named by its stamp
+abbrev pub settime_entry : SettimeCall → SettimeReply → ObjectEntry
+settime_entry c reply = entries.Settime c.flags c.value c.interval c.reading.stamp (arm_noted c.arm) reply
 
 -- the entry of an expiry; none where it was refused
 abbrev pub trigger_noted : ℕ → ClockReading → TriggerAnswer → Option ObjectEntry

@@ -1,5 +1,5 @@
 -- The notes of receipts of timers.
-use Rattle.std.specs.Prelude.{Option, Some, None, List, [], ◌∷◌, ◌++◌, map, option_map}
+use Rattle.std.specs.Prelude.{Option, Some, None, List, ◌++◌, map, option_map}
 use Rattle.seq_timer.specs.declared.event.Event.{Event}
 use Rattle.seq_timer.specs.declared.event.Event.TheVariants as events
 use Rattle.seq_timer.specs.declared.event.Reply.{Reply}
@@ -61,13 +61,13 @@ receipt_look (noteds.Look observation) = look_noted observation
 abbrev pub entry_note : Label → Receipt → Option EntryNote
 entry_note label r = option_map (λ entry. record { label = label; timer = r.timer; number = r.number; entry = entry }) (receipt_entry r.event r.reply)
 
--- the note of a receipt, where it is one of a look
-abbrev pub look_note : Label → Receipt → Option LookNote
-look_note label r = option_map (λ reply. record { label = label; timer = r.timer; number = r.number; reply = reply }) (receipt_look r.reply)
-
 -- the notes of a call's receipts, in their order
 abbrev pub entry_notes : Label → List Receipt → List EntryNote
 entry_notes label receipts = present (map (entry_note label) receipts)
+
+-- the note of a receipt, where it is one of a look
+abbrev pub look_note : Label → Receipt → Option LookNote
+look_note label r = option_map (λ reply. record { label = label; timer = r.timer; number = r.number; reply = reply }) (receipt_look r.reply)
 
 abbrev pub look_notes : Label → List Receipt → List LookNote
 look_notes label receipts = present (map (look_note label) receipts)
@@ -76,7 +76,3 @@ look_notes label receipts = present (map (look_note label) receipts)
 abbrev pub with_receipts : NotesOf → Label → List Receipt → NotesOf
 with_receipts notes label receipts =
     record notes { entries = notes.entries ++ entry_notes label receipts; looks = notes.looks ++ look_notes label receipts }
-
--- with those of one receipt
-abbrev pub with_receipt : NotesOf → Label → Receipt → NotesOf
-with_receipt notes label receipt = with_receipts notes label (receipt ∷ [])

@@ -15,7 +15,7 @@ use Rattle.record_text.specs.declared.record.ReadReply.{ReadReply}
 use Rattle.record_text.specs.declared.record.ReadReply.TheVariants as reads
 use Rattle.record_text.specs.declared.record.ObjectEntry.{ObjectEntry}
 use Rattle.record_text.specs.declared.record.ObjectEntry.TheVariants as entries
-use Rattle.lane_notes.specs.Arms.{arm_noted, arm_told, trigger_noted, trigger_skip}
+use Rattle.lane_notes.specs.Arms.{arm_noted, arm_told, settime_entry, trigger_noted, trigger_skip}
 
 -- what a settime was answered that made an entry
 abbrev pub fd_set_noted : SettimeAnswer → Option SettimeReply
@@ -33,8 +33,7 @@ read_noted answer = None
 
 -- the entry of a call and its reply, where they belong together and the call made one; a reading is named by its stamp
 abbrev pub fd_noted : Call → Reply → Option ObjectEntry
-fd_noted (calls.Settime c) (replies.Settime answer) =
-    option_map (λ reply. entries.Settime c.flags c.value c.interval c.reading.stamp (arm_noted c.arm) reply) (fd_set_noted answer)
+fd_noted (calls.Settime c) (replies.Settime answer) = option_map (settime_entry c) (fd_set_noted answer)
 fd_noted (calls.Trigger generation reading) (replies.Trigger answer) = trigger_noted generation reading answer
 fd_noted (calls.Read reading arm) (replies.Read answer) =
     option_map (λ reply. entries.Read reading.stamp (arm_noted arm) reply) (read_noted answer)

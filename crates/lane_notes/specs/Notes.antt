@@ -15,6 +15,9 @@ pub record NotesOf : Type 0 where
   pub skips : List SkipNote
   pub writes : List WriteNote
 
+abbrev pub notes_of : List EntryNote → List LookNote → List ObjectNote → List SkipNote → List WriteNote → NotesOf
+notes_of entries looks objects skips writes = record { entries = entries; looks = looks; objects = objects; skips = skips; writes = writes }
+
 -- nothing is noted yet
 abbrev pub no_notes : NotesOf
 no_notes = record { entries = []; looks = []; objects = []; skips = []; writes = [] }

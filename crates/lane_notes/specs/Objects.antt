@@ -1,5 +1,5 @@
 -- The notes of receipts of objects.
-use Rattle.std.specs.Prelude.{ℕ, Option, None, List, [], ◌∷◌, ◌++◌, map, option_map}
+use Rattle.std.specs.Prelude.{ℕ, Option, None, List, ◌++◌, map, option_map}
 use Rattle.timer_objects.specs.declared.object.ObjectCall.{ObjectCall}
 use Rattle.timer_objects.specs.declared.object.ObjectCall.TheVariants as calls
 use Rattle.timer_objects.specs.declared.object.ObjectReply.{ObjectReply}
@@ -31,14 +31,14 @@ abbrev pub object_note : Label → ObjectReceipt → Option ObjectNote
 object_note label r =
     option_map (λ entry. record { label = label; object = r.object; number = r.number; entry = entry }) (object_entry_noted r.call.call r.reply)
 
+-- the notes of a call's receipts, in their order
+abbrev pub object_notes : Label → List ObjectReceipt → List ObjectNote
+object_notes label receipts = present (map (object_note label) receipts)
+
 -- the note of a receipt, where it is one of an expiry that was refused
 abbrev pub skip_note : Label → ObjectReceipt → Option SkipNote
 skip_note label r =
     option_map (λ generation. record { label = label; object = r.object; number = r.number; generation = generation }) (skip_generation r.call.call r.reply)
-
--- the notes of a call's receipts, in their order
-abbrev pub object_notes : Label → List ObjectReceipt → List ObjectNote
-object_notes label receipts = present (map (object_note label) receipts)
 
 abbrev pub skip_notes : Label → List ObjectReceipt → List SkipNote
 skip_notes label receipts = present (map (skip_note label) receipts)
@@ -47,7 +47,3 @@ skip_notes label receipts = present (map (skip_note label) receipts)
 abbrev pub with_object_receipts : NotesOf → Label → List ObjectReceipt → NotesOf
 with_object_receipts notes label receipts =
     record notes { objects = notes.objects ++ object_notes label receipts; skips = notes.skips ++ skip_notes label receipts }
-
--- with those of one receipt
-abbrev pub with_object_receipt : NotesOf → Label → ObjectReceipt → NotesOf
-with_object_receipt notes label receipt = with_object_receipts notes label (receipt ∷ [])

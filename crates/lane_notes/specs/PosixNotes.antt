@@ -14,7 +14,7 @@ use Rattle.record_text.specs.declared.record.AcceptReply.{AcceptReply}
 use Rattle.record_text.specs.declared.record.AcceptReply.TheVariants as acceptances
 use Rattle.record_text.specs.declared.record.ObjectEntry.{ObjectEntry}
 use Rattle.record_text.specs.declared.record.ObjectEntry.TheVariants as entries
-use Rattle.lane_notes.specs.Arms.{arm_noted, arm_told, trigger_noted, trigger_skip}
+use Rattle.lane_notes.specs.Arms.{arm_noted, arm_told, settime_entry, trigger_noted, trigger_skip}
 
 -- what a settime was answered that made an entry
 abbrev pub posix_set_noted : SettimeAnswer → Option SettimeReply
@@ -30,8 +30,7 @@ accept_noted (accept_answers.Spent stamp) = None
 
 -- the entry of a call and its reply, where they belong together and the call made one; a reading is named by its stamp
 abbrev pub posix_noted : Call → Reply → Option ObjectEntry
-posix_noted (calls.Settime c) (replies.Settime answer) =
-    option_map (λ reply. entries.Settime c.flags c.value c.interval c.reading.stamp (arm_noted c.arm) reply) (posix_set_noted answer)
+posix_noted (calls.Settime c) (replies.Settime answer) = option_map (settime_entry c) (posix_set_noted answer)
 posix_noted (calls.Trigger generation reading) (replies.Trigger answer) = trigger_noted generation reading answer
 posix_noted (calls.Accept reading arm) (replies.Accept answer) =
     option_map (λ reply. entries.Accept reading.stamp (arm_noted arm) reply) (accept_noted answer)

@@ -1,5 +1,5 @@
 -- The record that is made of notes in their order.
-use Rattle.std.specs.Prelude.{ℕ, zero, suc, ◌+◌, List, [], ◌∷◌, ◌++◌, map, filter, get_or, slice_set}
+use Rattle.std.specs.Prelude.{ℕ, zero, suc, ◌+◌, Bool, nat_eq, List, [], ◌∷◌, ◌++◌, map, filter, get_or, slice_set}
 use Rattle.record_text.specs.declared.record.Look.{Look}
 use Rattle.record_text.specs.declared.record.Skip.{Skip}
 use Rattle.record_text.specs.declared.record.TimerLine.{TimerLine}
@@ -10,8 +10,10 @@ use Rattle.lane_notes.specs.declared.notes.EntryNote.{EntryNote}
 use Rattle.lane_notes.specs.declared.notes.LookNote.{LookNote}
 use Rattle.lane_notes.specs.declared.notes.ObjectNote.{ObjectNote}
 use Rattle.lane_notes.specs.declared.notes.SkipNote.{SkipNote}
+use Rattle.lane_notes.specs.declared.filing.By.{By}
+use Rattle.lane_notes.specs.declared.filing.By.TheVariants as shelves
 use Rattle.lane_notes.specs.Notes.{NotesOf}
-use Rattle.lane_notes.specs.Sorted.{place_of_entry, is_of_list, is_of_number, place_of_look, place_of_object, place_of_skip}
+use Rattle.lane_notes.specs.Sorted.{Place, is_of_list, is_of_number, place_of_entry, place_of_look, place_of_object, place_of_skip}
 
 -- the value at each number below this one, from 0
 abbrev pub each_below : {A : Type 0} → (ℕ → A) → ℕ → List A
@@ -21,6 +23,15 @@ each_below f (suc n) = each_below f n ++ f n ∷ []
 -- lists with one more item in the one at this place, if there is one
 abbrev pub put_in_list : {A : Type 0} → ℕ → A → List (List A) → List (List A)
 put_in_list place x lists = slice_set lists place (get_or lists place [] ++ x ∷ [])
+
+-- the number by which a note is put into a list
+abbrev pub filed_at : By → Place → ℕ
+filed_at shelves.List place = place.list
+filed_at shelves.Number place = place.number
+
+-- whether a note is put into the list of this number
+abbrev pub is_filed_at : {A : Type 0} → (A → Place) → By → ℕ → A → Bool
+is_filed_at place by number note = nat_eq (filed_at by (place note)) number
 
 -- the lines of notes, which are numbered from here
 abbrev pub numbered_from : {N L : Type 0} → (ℕ → N → L) → ℕ → List N → List L
@@ -35,24 +46,38 @@ look_of note = record { label = note.label; reply = note.reply }
 abbrev pub skip_of : SkipNote → Skip
 skip_of note = record { label = note.label; generation = note.generation }
 
+module _ {N U L : Type 0} (under : U → Place) (line : N → List U → L) where
+  -- the line of a note that is its list's note of this number, with what was noted at that number
+  abbrev pub line_at_number : List U → ℕ → N → L
+  line_at_number unders number note = line note (filter (is_of_number under number) unders)
+
+  -- the lines of a list
+  abbrev pub noted_lines : (N → Place) → ℕ → List N → List U → List L
+  noted_lines place list notes unders = numbered_from (line_at_number (filter (is_of_list under list) unders)) 1 (filter (is_of_list place list) notes)
+
+-- an entry of a timer as a line, with these looks
+abbrev pub timer_line : EntryNote → List LookNote → TimerLine
+timer_line note looks = record { label = note.label; entry = note.entry; looks = map look_of looks }
+
+-- an entry of an object as a line, with these skips
+abbrev pub object_line : ObjectNote → List SkipNote → ObjectLine
+object_line note skips = record { label = note.label; entry = note.entry; skips = map skip_of skips }
+
 -- the line of an entry that is the timer's entry of this number, with the looks at that number
 abbrev pub line_of_entry_note : List LookNote → ℕ → EntryNote → TimerLine
-line_of_entry_note looks number note =
-    record { label = note.label; entry = note.entry; looks = map look_of (filter (is_of_number place_of_look number) looks) }
-
--- the lines of a timer
-abbrev pub noted_timer_lines : ℕ → List EntryNote → List LookNote → List TimerLine
-noted_timer_lines timer entries looks = numbered_from (line_of_entry_note (filter (is_of_list place_of_look timer) looks)) 1 (filter (is_of_list place_of_entry timer) entries)
+line_of_entry_note looks number note = line_at_number place_of_look timer_line looks number note
 
 -- the line of an entry that is the object's entry of this number, with the skips at that number
 abbrev pub line_of_object_note : List SkipNote → ℕ → ObjectNote → ObjectLine
-line_of_object_note skips number note =
-    record { label = note.label; entry = note.entry; skips = map skip_of (filter (is_of_number place_of_skip number) skips) }
+line_of_object_note skips number note = line_at_number place_of_skip object_line skips number note
+
+-- the lines of a timer
+abbrev pub noted_timer_lines : ℕ → List EntryNote → List LookNote → List TimerLine
+noted_timer_lines timer entries looks = noted_lines place_of_look timer_line place_of_entry timer entries looks
 
 -- the lines of an object
 abbrev pub noted_object_lines : ℕ → List ObjectNote → List SkipNote → List ObjectLine
-noted_object_lines object entries skips =
-    numbered_from (line_of_object_note (filter (is_of_list place_of_skip object) skips)) 1 (filter (is_of_list place_of_object object) entries)
+noted_object_lines object entries skips = noted_lines place_of_skip object_line place_of_object object entries skips
 
 -- the record of notes in their order, with so many timers and with each lane's answers
 abbrev pub record_from : NotesOf → ℕ → List (List Answer) → RunRecord

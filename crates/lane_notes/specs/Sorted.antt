@@ -17,6 +17,9 @@ pub record Place : Type 0 where
   pub number : ℕ
   pub label : Label
 
+abbrev pub place_parts : Place → ℕ × ℕ × Label
+place_parts p = (p.list, p.number, p.label)
+
 -- whether one place comes before another
 abbrev pub comes_before : Place → Place → Bool
 comes_before a b =

@@ -1,10 +1,13 @@
-//! How an object's line tells of the start that a call wanted, and of an expiry.
+//! How an object's line tells of the start that a call wanted, of a settime and of an expiry.
 ghost use Rattle.std.specs.Prelude.{◌≡◌};
-ghost use Rattle.lane_notes.specs.Arms.{arm_noted, trigger_noted, trigger_skip};
+ghost use Rattle.lane_notes.specs.Arms.{arm_noted, settime_entry, trigger_noted, trigger_skip};
 
 use ktime::Reading;
-use record_text::{Armed, ObjectEntry};
-use timer_setting::{Arm, TriggerAnswer};
+use record_text::{Armed, ObjectEntry, SettimeReply};
+use timer_setting::{Arm, SettimeCall, TriggerAnswer};
+
+/// What is noted of a call on an object: its entry, or the generation of an expiry that a full history refused.
+pub(crate) type Told = (Option<ObjectEntry>, Option<u64>);
 
 /// What became of the start that a call wanted.
 pub(crate) fn arm_noted(arm: Arm) -> Armed
@@ -17,32 +20,33 @@ pub(crate) fn arm_noted(arm: Arm) -> Armed
     }
 }
 
-/// The entry of an expiry; none where it was refused.
-pub(crate) fn trigger_noted(
-    generation: u64,
-    reading: Reading,
-    answer: TriggerAnswer,
-) -> Option<ObjectEntry>
-    ensures { result ≡ trigger_noted generation reading answer }
+/// The entry of a settime with this answer.
+pub(crate) fn settime_entry(call: SettimeCall, reply: SettimeReply) -> ObjectEntry
+    ensures { result ≡ settime_entry call reply }
+{
+    ObjectEntry::Settime {
+        flags: call.flags,
+        value: call.value,
+        interval: call.interval,
+        reading: call.reading.stamp,
+        arm: arm_noted(call.arm),
+        reply,
+    }
+}
+
+/// What is noted of an expiry: its entry, or its generation where it was refused.
+pub(crate) fn trigger_noted(generation: u64, reading: Reading, answer: TriggerAnswer) -> Told
+    ensures { result ≡ (trigger_noted generation reading answer, trigger_skip generation answer) }
 {
     let counted = match answer {
         TriggerAnswer::Counted => true,
         TriggerAnswer::Stale => false,
-        TriggerAnswer::Spent { .. } => return None,
+        TriggerAnswer::Spent { .. } => return (None, Some(generation)),
     };
-    Some(ObjectEntry::Trigger {
+    let entry = ObjectEntry::Trigger {
         generation,
         reading: reading.stamp,
         counted,
-    })
-}
-
-/// The generation of an expiry, where it was refused.
-pub(crate) fn trigger_skip(generation: u64, answer: TriggerAnswer) -> Option<u64>
-    ensures { result ≡ trigger_skip generation answer }
-{
-    match answer {
-        TriggerAnswer::Counted | TriggerAnswer::Stale => None,
-        TriggerAnswer::Spent { .. } => Some(generation),
-    }
+    };
+    (Some(entry), None)
 }

@@ -1,6 +1,6 @@
 //! The notes of a lane's receipts of timers: an entry's receipt becomes an entry's note, a look's one a look's note.
-ghost use Rattle.std.specs.Prelude.{◌≡◌, OnOk};
-ghost use Rattle.lane_notes.specs.Entries.{entry_note, entry_noted, look_note, look_noted, restart_noted, with_receipt, with_receipts};
+ghost use Rattle.std.specs.Prelude.{◌≡◌, ◌∷◌, [], OnOk};
+ghost use Rattle.lane_notes.specs.Entries.{entry_noted, look_noted, restart_noted, with_receipts};
 ghost use Rattle.seq_timer.specs.declared.event.Event.TheVariants as events;
 
 use crate::notes::{EntryNote, LookNote, Notes};
@@ -26,47 +26,35 @@ pub fn note_receipts(
 
 /// Adds the note of one receipt.
 fn note_receipt(notes: &mut Notes, label: Label, receipt: &Receipt) -> Result<(), AllocError>
-    ensures { OnOk result (notes.new ≡ with_receipt notes.old label receipt.now) }
+    ensures { OnOk result (notes.new ≡ with_receipts notes.old label (receipt.now ∷ [])) }
 {
-    if let Some(note) = entry_note(label, receipt) {
-        notes.entries.push(note)?;
-    }
-    if let Some(note) = look_note(label, receipt) {
-        notes.looks.push(note)?;
+    let timer = receipt.timer;
+    let number = receipt.number;
+    match receipt.reply {
+        Noted::Entry(reply) => {
+            let Some(entry) = entry_noted(receipt.event, reply) else {
+                return Ok(());
+            };
+            notes.entries.push(EntryNote {
+                label,
+                timer,
+                number,
+                entry,
+            })?;
+        }
+        Noted::Look(observation) => {
+            let Some(reply) = look_noted(observation) else {
+                return Ok(());
+            };
+            notes.looks.push(LookNote {
+                label,
+                timer,
+                number,
+                reply,
+            })?;
+        }
     }
     Ok(())
-}
-
-/// The note of a receipt, where it is one of an entry.
-fn entry_note(label: Label, receipt: &Receipt) -> Option<EntryNote>
-    ensures { result ≡ entry_note label receipt.now }
-{
-    let Noted::Entry(reply) = receipt.reply else {
-        return None;
-    };
-    let entry = entry_noted(receipt.event, reply)?;
-    Some(EntryNote {
-        label,
-        timer: receipt.timer,
-        number: receipt.number,
-        entry,
-    })
-}
-
-/// The note of a receipt, where it is one of a look.
-fn look_note(label: Label, receipt: &Receipt) -> Option<LookNote>
-    ensures { result ≡ look_note label receipt.now }
-{
-    let Noted::Look(observation) = receipt.reply else {
-        return None;
-    };
-    let reply = look_noted(observation)?;
-    Some(LookNote {
-        label,
-        timer: receipt.timer,
-        number: receipt.number,
-        reply,
-    })
 }
 
 /// The entry of an event and its reply, where they belong together. A reading is named by its stamp.

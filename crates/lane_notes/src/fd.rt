@@ -3,61 +3,40 @@ ghost use Rattle.std.specs.Prelude.{◌≡◌};
 ghost use Rattle.timer_fd.specs.declared.calls.Call.TheVariants as calls;
 ghost use Rattle.lane_notes.specs.FdNotes.{fd_noted, fd_set_noted, fd_skip, read_noted};
 
-use crate::arm::{arm_noted, trigger_noted, trigger_skip};
+use crate::arm::{Told, arm_noted, settime_entry, trigger_noted};
 use ktime::Reading;
 use record_text::{ObjectEntry, ReadReply, SettimeReply};
 use timer_fd::{Arm, Call, GettimeAnswer, ReadAnswer, Reply, SettimeAnswer, SettimeCall};
 
-/// The entry of a call and its reply, where they belong together and the call made one.
-pub(crate) fn fd_noted(call: Call, reply: Reply) -> Option<ObjectEntry>
-    ensures { result ≡ fd_noted call reply }
+/// What is noted of a call and its reply, where they belong together.
+pub(crate) fn fd_noted(call: Call, reply: Reply) -> Told
+    ensures { result ≡ (fd_noted call reply, fd_skip call reply) }
 {
     match call {
-        Call::Settime(call) => settime(call, reply),
+        Call::Read { reading, arm } => (read(reading, arm, reply), None),
+        Call::Gettime { reading, arm } => (gettime(reading, arm, reply), None),
+        Call::Settime(call) => (settime(call, reply), None),
         Call::Trigger {
             generation,
             reading,
         } => match reply {
             Reply::Trigger(answer) => trigger_noted(generation, reading, answer),
-            Reply::Settime(_) | Reply::Read(_) | Reply::Gettime(_) => None,
+            Reply::Settime(_) | Reply::Read(_) | Reply::Gettime(_) => (None, None),
         },
-        Call::Read { reading, arm } => read(reading, arm, reply),
-        Call::Gettime { reading, arm } => gettime(reading, arm, reply),
     }
 }
 
-/// The generation of an expiry that was refused.
-pub(crate) fn fd_skip(call: Call, reply: Reply) -> Option<u64>
-    ensures { result ≡ fd_skip call reply }
-{
-    let Call::Trigger { generation, .. } = call else {
-        return None;
-    };
-    let Reply::Trigger(answer) = reply else {
-        return None;
-    };
-    trigger_skip(generation, answer)
-}
-
-/// The entry of a settime.
+/// The entry of a settime that made one.
 fn settime(call: SettimeCall, reply: Reply) -> Option<ObjectEntry>
     ensures { result ≡ fd_noted (calls.Settime call) reply }
 {
     let Reply::Settime(answer) = reply else {
         return None;
     };
-    let reply = set_noted(answer)?;
-    Some(ObjectEntry::Settime {
-        flags: call.flags,
-        value: call.value,
-        interval: call.interval,
-        reading: call.reading.stamp,
-        arm: arm_noted(call.arm),
-        reply,
-    })
+    Some(settime_entry(call, set_noted(answer)?))
 }
 
-/// The entry of a read.
+/// The entry of a read that made one.
 fn read(reading: Reading, arm: Arm, reply: Reply) -> Option<ObjectEntry>
     ensures { result ≡ fd_noted (calls.Read reading arm) reply }
 {
@@ -72,14 +51,11 @@ fn read(reading: Reading, arm: Arm, reply: Reply) -> Option<ObjectEntry>
     })
 }
 
-/// The entry of a look at the setting.
+/// The entry of a look at the setting that made one.
 fn gettime(reading: Reading, arm: Arm, reply: Reply) -> Option<ObjectEntry>
     ensures { result ≡ fd_noted (calls.Gettime reading arm) reply }
 {
-    let Reply::Gettime(answer) = reply else {
-        return None;
-    };
-    let GettimeAnswer::Left { left, interval } = answer else {
+    let Reply::Gettime(GettimeAnswer::Left { left, interval }) = reply else {
         return None;
     };
     Some(ObjectEntry::Gettime {

@@ -1,40 +1,43 @@
-//! Notes put into as many lists as there are, by the number of the list or by the number in it.
-ghost use Rattle.std.specs.Prelude.{◌≡◌, filter, replicate, [], IfOk, OnOk};
-ghost use Rattle.lane_notes.specs.Records.{each_below, put_in_list};
-ghost use Rattle.lane_notes.specs.Sorted.{is_of_list, is_of_number};
+//! Notes put into lists, by the number of the list that they belong to or by the number in it.
+ghost use Rattle.std.specs.Prelude.{◌≡◌, ◌+◌, filter, replicate, [], IfOk, OnOk};
+ghost use Rattle.lane_notes.specs.Records.{each_below, filed_at, is_filed_at, put_in_list};
 
 use crate::placed::Placed;
 use record_text::ItemList;
 use std::alloc::{AllocError, Global};
 
-/// The notes of each list, for so many lists. A note of a list past them is left out.
-pub(crate) fn by_list<T: Placed>(
+/// By what notes are put into lists.
+#[derive(Clone, Copy)]
+pub(crate) enum By {
+    List,
+    Number,
+}
+
+/// The notes of each list, or of each number, from 0 to `last`. A note past them is left out.
+pub(crate) fn filed<T: Placed>(
     alloc: Global,
     notes: &[T],
-    count: usize,
+    last: usize,
+    by: By,
 ) -> Result<Vec<ItemList<T>>, AllocError>
-    ensures { IfOk result (λ lists. lists.items ≡ each_below (λ j. filter (is_of_list T.place j) notes.now) count) }
+    ensures { IfOk result (λ lists. lists.items ≡ each_below (λ j. filter (is_filed_at T.place by j) notes.now) (last + 1)) }
 {
-    let mut lists = empty_lists(alloc, count)?;
+    let mut lists = empty_lists(alloc, last)?;
     for note in notes {
-        put(&mut lists, note.list() as usize, *note)?;
+        put(&mut lists, place_by(note, by), *note)?;
     }
     Ok(lists)
 }
 
-/// The notes of each number, for the numbers below `count`. A note of a number past them is left out.
-pub(crate) fn by_number<T: Placed>(
-    alloc: Global,
-    notes: &[T],
-    count: usize,
-) -> Result<Vec<ItemList<T>>, AllocError>
-    ensures { IfOk result (λ lists. lists.items ≡ each_below (λ j. filter (is_of_number T.place j) notes.now) count) }
+/// Where a note is put.
+fn place_by<T: Placed>(note: &T, by: By) -> usize
+    ensures { result ≡ filed_at by (T.place note.now) }
 {
-    let mut lists = empty_lists(alloc, count)?;
-    for note in notes {
-        put(&mut lists, note.number() as usize, *note)?;
+    let (list, number, _) = note.place();
+    match by {
+        By::List => list as usize,
+        By::Number => number as usize,
     }
-    Ok(lists)
 }
 
 /// Adds an item to the list at this place, if there is one.
@@ -48,13 +51,14 @@ fn put<T: Drop>(lists: &mut Vec<ItemList<T>>, place: usize, item: T) -> Result<(
     Ok(())
 }
 
-/// So many empty lists.
-fn empty_lists<T: Drop>(alloc: Global, count: usize) -> Result<Vec<ItemList<T>>, AllocError>
-    ensures { IfOk result (λ lists. lists.items ≡ replicate count []) }
+/// Empty lists at the places from 0 to `last`.
+fn empty_lists<T: Drop>(alloc: Global, last: usize) -> Result<Vec<ItemList<T>>, AllocError>
+    ensures { IfOk result (λ lists. lists.items ≡ replicate (last + 1) []) }
 {
     let mut lists = Vec::new(alloc);
-    for _made in 0..count {
+    for _made in 0..last {
         lists.push(ItemList::new(alloc))?;
     }
+    lists.push(ItemList::new(alloc))?;
     Ok(lists)
 }

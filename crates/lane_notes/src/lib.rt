@@ -10,6 +10,7 @@ mod arm;
 mod entries;
 mod fd;
 mod filing;
+mod lines;
 mod notes;
 mod objects;
 mod placed;

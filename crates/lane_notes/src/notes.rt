@@ -60,11 +60,11 @@ pub struct Notes {
 }
 
 impl Model for Notes {
-    ghost use Rattle.lane_notes.specs.Notes.{NotesOf};
+    ghost use Rattle.lane_notes.specs.Notes.{NotesOf, notes_of};
 
     ghost Value = { NotesOf };
 
-    ghost view = { λ n. record { entries = n.entries.items; looks = n.looks.items; objects = n.objects.items; skips = n.skips.items; writes = n.writes.items } };
+    ghost view = { λ n. notes_of n.entries.items n.looks.items n.objects.items n.skips.items n.writes.items };
 }
 
 impl Notes {

@@ -1,74 +1,57 @@
 //! The lines of a POSIX timer's entries.
 ghost use Rattle.std.specs.Prelude.{◌≡◌};
 ghost use Rattle.posix_timer.specs.declared.calls.Call.TheVariants as calls;
-ghost use Rattle.lane_notes.specs.PosixNotes.{accept_noted, posix_noted, posix_set_noted, posix_skip};
+ghost use Rattle.lane_notes.specs.PosixNotes.{posix_noted, posix_set_noted, posix_skip};
 
-use crate::arm::{arm_noted, trigger_noted, trigger_skip};
+use crate::arm::{Told, arm_noted, settime_entry, trigger_noted};
 use ktime::Reading;
 use posix_timer::{AcceptAnswer, Arm, Call, Reply, SettimeAnswer, SettimeCall};
 use record_text::{AcceptReply, ObjectEntry, SettimeReply};
 
-/// The entry of a call and its reply, where they belong together and the call made one.
-pub(crate) fn posix_noted(call: Call, reply: Reply) -> Option<ObjectEntry>
-    ensures { result ≡ posix_noted call reply }
+/// What is noted of a call and its reply, where they belong together.
+pub(crate) fn posix_noted(call: Call, reply: Reply) -> Told
+    ensures { result ≡ (posix_noted call reply, posix_skip call reply) }
 {
     match call {
-        Call::Settime(call) => settime(call, reply),
+        Call::Settime(call) => (settime(call, reply), None),
         Call::Trigger {
             generation,
             reading,
         } => match reply {
             Reply::Trigger(answer) => trigger_noted(generation, reading, answer),
-            Reply::Settime(_) | Reply::Accept(_) => None,
+            Reply::Settime(_) | Reply::Accept(_) => (None, None),
         },
-        Call::Accept { reading, arm } => accept(reading, arm, reply),
+        Call::Accept { reading, arm } => (accept(reading, arm, reply), None),
     }
 }
 
-/// The generation of an expiry that was refused.
-pub(crate) fn posix_skip(call: Call, reply: Reply) -> Option<u64>
-    ensures { result ≡ posix_skip call reply }
-{
-    let Call::Trigger { generation, .. } = call else {
-        return None;
-    };
-    let Reply::Trigger(answer) = reply else {
-        return None;
-    };
-    trigger_skip(generation, answer)
-}
-
-/// The entry of a settime.
-fn settime(call: SettimeCall, reply: Reply) -> Option<ObjectEntry>
-    ensures { result ≡ posix_noted (calls.Settime call) reply }
-{
-    let Reply::Settime(answer) = reply else {
-        return None;
-    };
-    let reply = set_noted(answer)?;
-    Some(ObjectEntry::Settime {
-        flags: call.flags,
-        value: call.value,
-        interval: call.interval,
-        reading: call.reading.stamp,
-        arm: arm_noted(call.arm),
-        reply,
-    })
-}
-
-/// The entry of an acceptance.
+/// The entry of an acceptance that made one.
 fn accept(reading: Reading, arm: Arm, reply: Reply) -> Option<ObjectEntry>
     ensures { result ≡ posix_noted (calls.Accept reading arm) reply }
 {
     let Reply::Accept(answer) = reply else {
         return None;
     };
-    let reply = accept_noted(answer)?;
+    let reply = match answer {
+        AcceptAnswer::Accepted { overrun } => AcceptReply::Accepted { overrun },
+        AcceptAnswer::NoSignal => AcceptReply::NoSignal,
+        AcceptAnswer::Spent { .. } => return None,
+    };
     Some(ObjectEntry::Accept {
         reading: reading.stamp,
         arm: arm_noted(arm),
         reply,
     })
+}
+
+/// The entry of a settime that made one.
+fn settime(call: SettimeCall, reply: Reply) -> Option<ObjectEntry>
+    ensures { result ≡ posix_noted (calls.Settime call) reply }
+{
+    let Reply::Settime(answer) = reply else {
+        return None;
+    };
+    Some(settime_entry(call, set_noted(answer)?))
 }
 
 /// What a settime that made an entry was answered.
@@ -79,16 +62,5 @@ fn set_noted(answer: SettimeAnswer) -> Option<SettimeReply>
         SettimeAnswer::Old { left, interval } => Some(SettimeReply::Old { left, interval }),
         SettimeAnswer::Unarmed { stamp } => Some(SettimeReply::Unarmed { stamp }),
         SettimeAnswer::BadFlags | SettimeAnswer::BadTime | SettimeAnswer::Spent { .. } => None,
-    }
-}
-
-/// What an acceptance that made an entry was answered.
-fn accept_noted(answer: AcceptAnswer) -> Option<AcceptReply>
-    ensures { result ≡ accept_noted answer }
-{
-    match answer {
-        AcceptAnswer::Accepted { overrun } => Some(AcceptReply::Accepted { overrun }),
-        AcceptAnswer::NoSignal => Some(AcceptReply::NoSignal),
-        AcceptAnswer::Spent { .. } => None,
     }
 }

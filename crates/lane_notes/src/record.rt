@@ -1,10 +1,10 @@
 //! The record that is made of all lanes' notes.
-ghost use Rattle.std.specs.Prelude.{◌≡◌, map, IfOk};
+ghost use Rattle.std.specs.Prelude.{◌≡◌, IfOk};
 ghost use Rattle.lane_notes.specs.Notes.{NotesOf};
 ghost use Rattle.lane_notes.specs.Sorted.{IsSortedFrom};
-ghost use Rattle.lane_notes.specs.Records.{each_below, look_of, numbered_from, line_of_object_note, noted_object_lines, record_from, skip_of, line_of_entry_note, noted_timer_lines};
+ghost use Rattle.lane_notes.specs.Records.{look_of, object_line, record_from, skip_of, timer_line};
 
-use crate::filing::{by_list, by_number};
+use crate::lines::{Lined, Shown, items_of, lines_of_lists};
 use crate::notes::{EntryNote, LookNote, Notes, ObjectNote, SkipNote, WriteNote};
 use crate::placed::sort;
 use record_text::{Answer, ClockLine, ItemList, Look, ObjectLine, RunRecord, Skip, TimerLine};
@@ -22,9 +22,9 @@ pub fn record_of(
 {
     let notes = sorted(notes);
     Ok(RunRecord {
-        clock: clock_lines(alloc, &notes.writes)?,
-        timers: timer_lists(alloc, &notes.entries, &notes.looks, timers)?,
-        objects: object_lists(alloc, &notes.objects, &notes.skips, timers)?,
+        clock: items_of(alloc, &notes.writes)?,
+        timers: lines_of_lists(alloc, &notes.entries, &notes.looks, timers)?,
+        objects: lines_of_lists(alloc, &notes.objects, &notes.skips, timers)?,
         answers: ItemList::from_vec(answers),
     })
 }
@@ -42,167 +42,72 @@ fn sorted(notes: Notes) -> Notes
     notes
 }
 
-/// The clock's lines.
-fn clock_lines(alloc: Global, writes: &[WriteNote]) -> Result<ItemList<ClockLine>, AllocError>
-    ensures { IfOk result (λ lines. lines ≡ map (λ note. note.line) writes.now) }
-{
-    let mut lines = ItemList::new(alloc);
-    for note in writes {
-        lines.push(note.line)?;
-    }
-    Ok(lines)
-}
+impl Lined for EntryNote {
+    type Under = LookNote;
 
-/// The lines of each timer.
-fn timer_lists(
-    alloc: Global,
-    entries: &[EntryNote],
-    looks: &[LookNote],
-    timers: usize,
-) -> Result<ItemList<ItemList<TimerLine>>, AllocError>
-    ensures { IfOk result (λ lists. lists ≡ each_below (λ t. noted_timer_lines t entries.now looks.now) timers) }
-{
-    let entries_of = by_list(alloc, entries, timers)?;
-    let looks_of = by_list(alloc, looks, timers)?;
-    let mut lists = ItemList::new(alloc);
-    for timer in 0..timers {
-        let lines = timer_list(
-            alloc,
-            entries_of[timer].as_slice(),
-            looks_of[timer].as_slice(),
-        )?;
-        lists.push(lines)?;
-    }
-    Ok(lists)
-}
+    type Line = TimerLine;
 
-/// The lines of one timer.
-fn timer_list(
-    alloc: Global,
-    entries: &[EntryNote],
-    looks: &[LookNote],
-) -> Result<ItemList<TimerLine>, AllocError>
-    ensures { IfOk result (λ lines. lines ≡ numbered_from (line_of_entry_note looks.now) 1 entries.now) }
-{
-    let under = by_number(alloc, looks, entries.len() + 1)?;
-    let mut lines = ItemList::new(alloc);
-    for index in 0..entries.len() {
-        let line = line_of_entry_note(alloc, &entries[index], under[index + 1].as_slice())?;
-        lines.push(line)?;
-    }
-    Ok(lines)
-}
+    ghost line = { timer_line };
 
-/// The line of an entry with these looks.
-fn line_of_entry_note(
-    alloc: Global,
-    note: &EntryNote,
-    looks: &[LookNote],
-) -> Result<TimerLine, AllocError>
-    ensures { IfOk result (λ line. line ≡ record { label = note.now.label; entry = note.now.entry; looks = map look_of looks.now }) }
-{
-    let looks = looks_of(alloc, looks)?;
-    Ok(TimerLine {
-        label: note.label,
-        entry: note.entry,
-        looks,
-    })
-}
-
-/// Looks as they stand under a line.
-fn looks_of(alloc: Global, notes: &[LookNote]) -> Result<ItemList<Look>, AllocError>
-    ensures { IfOk result (λ looks. looks ≡ map look_of notes.now) }
-{
-    let mut looks = ItemList::new(alloc);
-    for note in notes {
-        looks.push(look_of(note))?;
-    }
-    Ok(looks)
-}
-
-/// A look as it stands under a line.
-fn look_of(note: &LookNote) -> Look
-    ensures { result ≡ look_of note.now }
-{
-    Look {
-        label: note.label,
-        reply: note.reply,
+    fn line(&self, alloc: Global, looks: &[LookNote]) -> Result<TimerLine, AllocError> {
+        let looks = items_of(alloc, looks)?;
+        Ok(TimerLine {
+            label: self.label,
+            entry: self.entry,
+            looks,
+        })
     }
 }
 
-/// The lines of each object.
-fn object_lists(
-    alloc: Global,
-    entries: &[ObjectNote],
-    skips: &[SkipNote],
-    objects: usize,
-) -> Result<ItemList<ItemList<ObjectLine>>, AllocError>
-    ensures { IfOk result (λ lists. lists ≡ each_below (λ i. noted_object_lines i entries.now skips.now) objects) }
-{
-    let entries_of = by_list(alloc, entries, objects)?;
-    let skips_of = by_list(alloc, skips, objects)?;
-    let mut lists = ItemList::new(alloc);
-    for object in 0..objects {
-        let lines = object_list(
-            alloc,
-            entries_of[object].as_slice(),
-            skips_of[object].as_slice(),
-        )?;
-        lists.push(lines)?;
+impl Lined for ObjectNote {
+    type Under = SkipNote;
+
+    type Line = ObjectLine;
+
+    ghost line = { object_line };
+
+    fn line(&self, alloc: Global, skips: &[SkipNote]) -> Result<ObjectLine, AllocError> {
+        let skips = items_of(alloc, skips)?;
+        Ok(ObjectLine {
+            label: self.label,
+            entry: self.entry,
+            skips,
+        })
     }
-    Ok(lists)
 }
 
-/// The lines of one object.
-fn object_list(
-    alloc: Global,
-    entries: &[ObjectNote],
-    skips: &[SkipNote],
-) -> Result<ItemList<ObjectLine>, AllocError>
-    ensures { IfOk result (λ lines. lines ≡ numbered_from (line_of_object_note skips.now) 1 entries.now) }
-{
-    let under = by_number(alloc, skips, entries.len() + 1)?;
-    let mut lines = ItemList::new(alloc);
-    for index in 0..entries.len() {
-        let line = line_of_object_note(alloc, &entries[index], under[index + 1].as_slice())?;
-        lines.push(line)?;
+impl Shown for LookNote {
+    type Item = Look;
+
+    ghost item = { look_of };
+
+    fn item(&self) -> Look {
+        Look {
+            label: self.label,
+            reply: self.reply,
+        }
     }
-    Ok(lines)
 }
 
-/// The line of an entry with these skips.
-fn line_of_object_note(
-    alloc: Global,
-    note: &ObjectNote,
-    skips: &[SkipNote],
-) -> Result<ObjectLine, AllocError>
-    ensures { IfOk result (λ line. line ≡ record { label = note.now.label; entry = note.now.entry; skips = map skip_of skips.now }) }
-{
-    let skips = skips_of(alloc, skips)?;
-    Ok(ObjectLine {
-        label: note.label,
-        entry: note.entry,
-        skips,
-    })
-}
+impl Shown for SkipNote {
+    type Item = Skip;
 
-/// Skips as they stand under a line.
-fn skips_of(alloc: Global, notes: &[SkipNote]) -> Result<ItemList<Skip>, AllocError>
-    ensures { IfOk result (λ skips. skips ≡ map skip_of notes.now) }
-{
-    let mut skips = ItemList::new(alloc);
-    for note in notes {
-        skips.push(skip_of(note))?;
+    ghost item = { skip_of };
+
+    fn item(&self) -> Skip {
+        Skip {
+            label: self.label,
+            generation: self.generation,
+        }
     }
-    Ok(skips)
 }
 
-/// A skip as it stands under a line.
-fn skip_of(note: &SkipNote) -> Skip
-    ensures { result ≡ skip_of note.now }
-{
-    Skip {
-        label: note.label,
-        generation: note.generation,
+impl Shown for WriteNote {
+    type Item = ClockLine;
+
+    ghost item = { λ note. note.line };
+
+    fn item(&self) -> ClockLine {
+        self.line
     }
 }

@@ -85,28 +85,29 @@ fn look(timer: u32, number: u64, observation: Observation) -> Receipt {
 }
 
 fn posix(number: u64, call: posix_timer::Call, reply: posix_timer::Reply) -> ObjectReceipt {
-    ObjectReceipt {
-        object: 1,
+    of_object(
+        1,
         number,
-        call: SpannedCall {
-            call: ObjectCall::Posix(call),
-            from: 0,
-            to: 0,
-        },
-        reply: ObjectReply::Posix(reply),
-    }
+        ObjectCall::Posix(call),
+        ObjectReply::Posix(reply),
+    )
 }
 
 fn fd(number: u64, call: timer_fd::Call, reply: timer_fd::Reply) -> ObjectReceipt {
+    of_object(0, number, ObjectCall::Fd(call), ObjectReply::Fd(reply))
+}
+
+fn of_object(object: u32, number: u64, call: ObjectCall, reply: ObjectReply) -> ObjectReceipt {
+    let call = SpannedCall {
+        call,
+        from: 0,
+        to: 0,
+    };
     ObjectReceipt {
-        object: 0,
+        object,
         number,
-        call: SpannedCall {
-            call: ObjectCall::Fd(call),
-            from: 0,
-            to: 0,
-        },
-        reply: ObjectReply::Fd(reply),
+        call,
+        reply,
     }
 }
 
@@ -250,19 +251,19 @@ fn notes_out_of_order_make_the_record(rt: HostRuntime) -> Result<(), AllocError>
     let mut notes = Notes::new(rt.alloc());
     notes.append(first_lane(rt.alloc())?)?;
     notes.append(second_lane(rt.alloc())?)?;
-    let want = concat!(
-        "record 1\n",
-        "clock 1 3 0 advance 5 5 5 5 0\n",
-        "clock 2 0 0 advance 5 10 10 10 0\n",
-        "timer 0 1 0 5 start abs 100 0 2 2 monotonic 100 0\n",
-        "timer 0 2 1 0 claim 2 0 1\n",
-        "look 0 2 0 5 spent\n",
-        "look 0 2 1 0 running 1\n",
-        "timer 0 3 0 5 forward 0 50 1 150\n",
-        "timer 0 4 1 0 finish again 1 4\n",
-        "timer 1 1 0 5 start abs 100 0 2 2 monotonic 100 1\n",
-        "end\n",
-    );
+    let want = "\
+record 1
+clock 1 3 0 advance 5 5 5 5 0
+clock 2 0 0 advance 5 10 10 10 0
+timer 0 1 0 5 start abs 100 0 2 2 monotonic 100 0
+timer 0 2 1 0 claim 2 0 1
+look 0 2 0 5 spent
+look 0 2 1 0 running 1
+timer 0 3 0 5 forward 0 50 1 150
+timer 0 4 1 0 finish again 1 4
+timer 1 1 0 5 start abs 100 0 2 2 monotonic 100 1
+end
+";
     shows(&rt, rt.alloc(), notes, 2, want)
 }
 
@@ -271,17 +272,17 @@ fn receipts_of_objects_make_lines_and_skips(rt: HostRuntime) -> Result<(), Alloc
     let mut notes = Notes::new(rt.alloc());
     note_object_receipts(&mut notes, label(2, 1), &fd_receipts())?;
     note_object_receipts(&mut notes, label(1, 4), &posix_receipts())?;
-    let want = concat!(
-        "record 1\n",
-        "object 0 1 2 1 settime 1 100 10 0 unarmed unarmed 9\n",
-        "object 0 2 2 1 read 0 none again\n",
-        "object 0 3 2 1 gettime 0 5 60 10\n",
-        "object 1 1 1 4 settime 1 100 10 0 3 old 0 0\n",
-        "object 1 2 1 4 trigger 3 0 counted\n",
-        "object 1 3 1 4 accept 0 5 accepted 2\n",
-        "skip 1 3 1 4 5\n",
-        "end\n",
-    );
+    let want = "\
+record 1
+object 0 1 2 1 settime 1 100 10 0 unarmed unarmed 9
+object 0 2 2 1 read 0 none again
+object 0 3 2 1 gettime 0 5 60 10
+object 1 1 1 4 settime 1 100 10 0 3 old 0 0
+object 1 2 1 4 trigger 3 0 counted
+object 1 3 1 4 accept 0 5 accepted 2
+skip 1 3 1 4 5
+end
+";
     shows(&rt, rt.alloc(), notes, 2, want)
 }
 
