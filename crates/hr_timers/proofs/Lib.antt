@@ -6,3 +6,5 @@ pub mod TriedNow
 pub mod OneClaim
 pub mod Last
 pub mod Moments
+pub mod Ends
+pub mod Answered

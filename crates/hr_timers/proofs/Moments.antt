@@ -40,7 +40,7 @@ pub stamp_made : (o : Opening) (v w : KnownOfTimers) (t : ℕ) (x : List TimerEn
 stamp_made o v w t x es made = ap (λ (s : Timer). s.stamp) (timer_after o v w t x es made) ∙ stamp-after_all (timer_then o x t) es
 
 -- it is the number of the timer's entries, behind that which it began with
-stamp_then : (o : Opening) (x : List TimerEntry) (t : ℕ) → (timer_then o x t).stamp ≡ (timer_at o.timers t).stamp + length (entries_of t x)
+pub stamp_then : (o : Opening) (x : List TimerEntry) (t : ℕ) → (timer_then o x t).stamp ≡ (timer_at o.timers t).stamp + length (entries_of t x)
 stamp_then o x t = ap (λ (s : Timer). s.stamp) (timer_own o x t) ∙ stamp-after_all (timer_at o.timers t) (entries_of t x)
 
 -- so it never falls

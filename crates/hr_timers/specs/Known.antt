@@ -8,6 +8,7 @@ use Rattle.pass_names.specs.SharedHistory as shared
 use Rattle.seq_timer.specs.declared.system.TimerEntry.{TimerEntry}
 use Rattle.seq_timer.specs.Histories as seq
 use Rattle.seq_timer.specs.Steps.{Timer}
+use Rattle.seq_timer.specs.Tables.{timer_at}
 use Rattle.seq_timer.specs.Systems.{BaseContent, AreSystemSteps, IsOn, entries_of, first_system, system_after}
 use Rattle.base_row.specs.declared.view.Claimed.{Claimed}
 use Rattle.base_row.specs.declared.view.Opening.{Opening}
@@ -40,6 +41,10 @@ pass_of p = record { row = p.row; opening = p.knows.opening; known = rows.known_
 abbrev pub timer_then : Opening → List TimerEntry → ℕ → Timer
 timer_then o x t = (system_after o.timers x).timers t
 
+-- the limit on a timer's entries
+abbrev pub limit_of : Opening → ℕ → ℕ
+limit_of o t = (timer_at o.timers t).limit
+
 -- a claim as it stands among a pass's
 abbrev pub claimed_as : ClaimNumbers → Claimed
 claimed_as c = record { timer = c.timer; generation = c.generation; base = c.base }
@@ -52,9 +57,12 @@ count_of c claims = count (is_base_claim c.timer c.generation c.base) claims
 abbrev pub HasEachPlace : Opening → KnownOfTimers → Type 0
 HasEachPlace o k = shared.HasAll entries_of (length o.timers) k
 
--- what is known is true: a history of all timers was seen, whose claims run; and the last pass has made each entry, and no timer is on the move
+-- what is known is true: a history of all timers was seen, which has few entries of a timer past its limit, and whose claims run; and the last
+-- pass has made each entry, and no timer is on the move
 pub record KnowsTimers (o : Opening) (k : KnownOfTimers) : Type 0 where
   pub history : AreSystemSteps o.bases (length o.timers) (first_system o.timers) k.seen
+  pub few : (t : ℕ) → (timer_then o k.seen t).stamp ≤ limit_of o t + 3
+  pub small : (t : ℕ) → (timer_then o k.seen t).stamp < 2 ^ 48
   pub claims : (t g b : ℕ) → t < length o.timers → 0 < count (is_base_claim t g b) k.claims
       → ((timer_then o k.seen t).running ≡ Some g) × ((timer_then o k.seen t).base ≡ b)
   pub whole : IsLast k.id → HasEachPlace o k

@@ -5,6 +5,7 @@ mod answer;
 mod asked;
 mod cancelling;
 mod claiming;
+mod laws;
 mod moving;
 mod numbers;
 mod starting;
@@ -16,6 +17,7 @@ mod trying_now;
 mod under_lock;
 
 pub use answer::{ClaimAnswer, NowAnswer, StartAnswer};
+pub use laws::{a_call_answers_the_stamp, no_answer_is_far_past_the_limit};
 pub use numbers::ClaimNumbers;
 pub use timers::Timers;
 pub use tokens::{Claim, Pass};

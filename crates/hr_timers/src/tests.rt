@@ -5,6 +5,7 @@ ghost use Rattle.hr_timers.specs.Known.{IsPassOf};
 
 mod callers;
 mod claims;
+mod limits;
 mod passes;
 mod threads;
 

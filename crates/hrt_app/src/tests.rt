@@ -1,6 +1,7 @@
 //! Whole runs over streams in memory: a record from a source of single bytes, and the points of the gate that a run passes.
 mod generated;
 mod lanes;
+mod limits;
 
 use crate::memory::{BytesSink, BytesSource};
 use crate::status::Status;

@@ -115,30 +115,3 @@ fn a_periodic_timer_goes_past_the_reading(rt: HostRuntime) -> Result<(), Fail> {
     timers.close(pass);
     Ok(())
 }
-
-#[test]
-fn a_start_while_the_function_runs_stands(rt: HostRuntime) -> Result<(), Fail> {
-    let (timers, mut pass, claim) = claimed_timer(&rt, rt.alloc())?;
-    timers.start(&rt, &mut pass, 0, Mode::Rel, 7, 1, Reading::at(1030));
-    let armed = ForwardAnswer::Armed {
-        generation: 3,
-        stamp: 3,
-    };
-    assert_eq!(rt;
-        forward(&rt, &timers, &mut pass, &claim, Reading::at(1030), 10),
-        armed
-    );
-    let finished = Finished {
-        number: 4,
-        rearmed: Rearmed::No,
-    };
-    assert_eq!(rt; finish(&rt, &timers, &mut pass, claim, true), finished);
-    assert_eq!(rt; timers.peek(&mut pass, 0).base, 0);
-    let cancelled = CancelAnswer::Cancelled {
-        generation: 3,
-        number: 5,
-    };
-    assert_eq!(rt; timers.try_to_cancel(&rt, &mut pass, 0), cancelled);
-    timers.close(pass);
-    Ok(())
-}

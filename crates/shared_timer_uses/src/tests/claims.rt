@@ -3,71 +3,126 @@ ghost use Rattle.std.specs.Prelude.{◌≡◌, ◌<◌, ◌≤◌, [], length};
 ghost use Rattle.hr_timers.specs.Known.{IsPassOf};
 
 use super::some_timers;
-use crate::{OneShot, Stopped, start_once, stop_now};
-use expire_pass::{ExpireAnswer, Log, expire};
-use hr_timers::{ClaimAnswer, Pass, Timers};
-use ktime::{Mode, Reading};
+use hr_timers::{ClaimAnswer, Pass, StartAnswer, Timers};
+use ktime::{ClockId, Mode, Reading};
 use seq_timer::Peek;
 use std::sync::Wait;
 use std::test::Fail;
+use timer_core::CancelAnswer;
 
-/// What the ninth pass was told.
+/// What the ninth pass was told on a base; the base is busy with the function of this timer, at this generation.
 #[derive(Clone, Copy, Debug, PartialEq, Eq)]
 struct Ninth {
-    busy: ExpireAnswer,
-    started: Option<u64>,
+    started: StartAnswer,
+    busy: Option<(u32, u64)>,
     peek: Peek,
-    stopped: Stopped,
+    cancelled: CancelAnswer,
 }
 
-/// Starts, peeks at and stops timer 8 on base 5, and tries to run a function there.
-fn call_ninth<R: Wait>(rt: &R, timers: &Timers, pass: &mut Pass, log: &mut Log) -> Ninth
+/// Asks for a claim on a base, and answers whose function runs there. A claim that is got in its place is finished at once.
+fn busy_with<R: Wait>(rt: &R, timers: &Timers, pass: &mut Pass, base: u32) -> Option<(u32, u64)>
     requires pass { IsPassOf timers.now pass.old }
-    requires size { (length timers.now.about.timers ≡ 9) × (timers.now.about.bases ≡ 8) }
-    requires room { 2 ≤ log.old.spare }
+    requires base { base < timers.now.about.bases }
+    requires unclaimed { pass.old.known.claims ≡ [] }
     ensures pass { IsPassOf timers.now pass.new }
-    ensures same { (pass.new.known.claims ≡ pass.old.known.claims) × (pass.new.known.id ≡ pass.old.known.id) }
+    ensures same { (pass.new.known.claims ≡ []) × (pass.new.known.id ≡ pass.old.known.id) }
 {
-    let now = Reading::at(0);
-    let mut function = OneShot { ran: None };
-    let started = start_once(rt, timers, pass, 8, 0, 5, now);
-    let busy = expire(rt, timers, pass, 5, now, 1, &mut function, log);
-    let peek = timers.peek(pass, 8);
-    let stopped = stop_now(timers, pass, 8);
-    Ninth {
-        busy,
-        started,
-        peek,
-        stopped,
+    match timers.claim_next(rt, pass, base, Reading::at(0)) {
+        ClaimAnswer::Claimed(claim) => {
+            timers.finish(rt, pass, claim, false);
+            None
+        }
+        ClaimAnswer::NoneDue => None,
+        ClaimAnswer::BaseBusy { timer, generation } => Some((timer, generation)),
     }
 }
 
+/// Starts timer 8 on a base, asks for a claim there, peeks at the timer and cancels it.
+fn call_on<R: Wait>(rt: &R, timers: &Timers, pass: &mut Pass, base: u32) -> Ninth
+    requires pass { IsPassOf timers.now pass.old }
+    requires size { (length timers.now.about.timers ≡ 9) × (timers.now.about.bases ≡ 8) }
+    requires base { base < 8 }
+    requires unclaimed { pass.old.known.claims ≡ [] }
+    ensures pass { IsPassOf timers.now pass.new }
+    ensures same { (pass.new.known.claims ≡ []) × (pass.new.known.id ≡ pass.old.known.id) }
+{
+    let started = timers.start(rt, pass, 8, Mode::Abs, 0, base, Reading::at(0));
+    let busy = busy_with(rt, timers, pass, base);
+    let peek = timers.peek(pass, 8);
+    let cancelled = timers.try_to_cancel(rt, pass, 8);
+    Ninth {
+        started,
+        busy,
+        peek,
+        cancelled,
+    }
+}
+
+/// What the ninth pass is told on a base, once its timer was started and cancelled on each base before it.
+fn expected(base: u32) -> Ninth
+    requires { base < 8 }
+{
+    let number = 3 * base as u64 + 1;
+    Ninth {
+        started: StartAnswer::Started {
+            was_armed: false,
+            generation: number,
+            base,
+            outs: if base == 0 { 0 } else { 1 << base },
+            clock: ClockId::Monotonic,
+            expires: 0,
+        },
+        busy: Some((base, if base == 0 { 1 } else { 2 })),
+        peek: Peek {
+            stamp: number,
+            base,
+            enqueued: true,
+            running: false,
+            moving: false,
+        },
+        cancelled: CancelAnswer::Cancelled {
+            generation: number,
+            number: number + 1,
+        },
+    }
+}
+
+/// Calls on each base in turn, and answers on how many it was told what is expected.
+fn call_ninth<R: Wait>(rt: &R, timers: &Timers, pass: &mut Pass) -> u32
+    requires pass { IsPassOf timers.now pass.old }
+    requires size { (length timers.now.about.timers ≡ 9) × (timers.now.about.bases ≡ 8) }
+    requires unclaimed { pass.old.known.claims ≡ [] }
+    ensures pass { IsPassOf timers.now pass.new }
+    ensures same { (pass.new.known.claims ≡ []) × (pass.new.known.id ≡ pass.old.known.id) }
+{
+    let mut told = 0;
+    for base in 0..8u32 {
+        if call_on(rt, timers, pass, base) == expected(base) {
+            told += 1;
+        }
+    }
+    told
+}
+
 /// Claims the timer of this number on the base of this number, and those after it by passes of their own; then lets the ninth pass call.
-fn claim_from<R: Wait>(
-    rt: &R,
-    timers: &Timers,
-    pass: &mut Pass,
-    base: u32,
-    log: &mut Log,
-) -> Option<Ninth>
+fn claim_from<R: Wait>(rt: &R, timers: &Timers, pass: &mut Pass, base: u32) -> Option<u32>
     requires pass { IsPassOf timers.now pass.old }
     requires size { (length timers.now.about.timers ≡ 9) × (timers.now.about.bases ≡ 8) }
     requires unclaimed { pass.old.known.claims ≡ [] }
     requires alone { pass.old.known.id.split ≡ [] }
     requires within { base ≤ 8 }
-    requires room { 2 ≤ log.old.spare }
     ensures pass { IsPassOf timers.now pass.new }
     ensures unclaimed { pass.new.known.claims ≡ [] }
     ensures id { (pass.new.known.id.name ≡ pass.old.known.id.name) × (pass.new.known.id.split ≡ []) }
 {
     if base == 8 {
-        return Some(call_ninth(rt, timers, pass, log));
+        return Some(call_ninth(rt, timers, pass));
     }
     timers.start(rt, pass, base, Mode::Abs, 0, base, Reading::at(0));
     match timers.claim_next(rt, pass, base, Reading::at(0)) {
         ClaimAnswer::Claimed(claim) => {
             let mut other = timers.split(pass);
-            let told = claim_from(rt, timers, &mut other, base + 1, log);
+            let told = claim_from(rt, timers, &mut other, base + 1);
             timers.retire(pass, other);
             timers.finish(rt, pass, claim, false);
             told
@@ -81,26 +136,10 @@ fn claim_from<R: Wait>(
 }
 
 #[test]
-fn a_ninth_pass_calls_while_eight_functions_run(rt: HostRuntime) -> Result<(), Fail> {
-    let (timers, mut pass, mut log) = some_timers(rt.alloc(), 8, 9)?;
-    let told = claim_from(&rt, &timers, &mut pass, 0, &mut log);
-    let ninth = Ninth {
-        busy: ExpireAnswer::BaseBusy {
-            fired: 0,
-            timer: 5,
-            generation: 2,
-        },
-        started: Some(2),
-        peek: Peek {
-            stamp: 2,
-            base: 5,
-            enqueued: true,
-            running: false,
-            moving: false,
-        },
-        stopped: Stopped::Disarmed,
-    };
-    assert_eq!(rt; told, Some(ninth));
+fn a_ninth_pass_calls_on_each_base_while_eight_functions_run(rt: HostRuntime) -> Result<(), Fail> {
+    let (timers, mut pass, _log) = some_timers(rt.alloc(), 8, 9)?;
+    let told = claim_from(&rt, &timers, &mut pass, 0);
+    assert_eq!(rt; told, Some(8));
     assert!(rt; !timers.peek(&mut pass, 0).running);
     assert_eq!(rt; timers.peek(&mut pass, 7).stamp, 4);
     timers.close(pass);

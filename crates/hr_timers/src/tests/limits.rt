@@ -1,0 +1,149 @@
+//! A timer whose function runs while it is started again, and histories that come to their limit while it runs.
+ghost use Rattle.std.specs.Prelude.{◌≡◌, ◌≤◌, ◌<◌, [], ◌∷◌, length, IfOk};
+ghost use Rattle.pass_names.specs.Names.{IsLast, first_pass_id};
+ghost use Rattle.seq_timer.specs.Steps.{greatest_limit};
+ghost use Rattle.hr_timers.specs.Known.{IsPassOf, claimed_as};
+
+use super::callers::{claim, finish, forward};
+use crate::{Claim, Pass, StartAnswer, Timers};
+use ktime::{ClockId, Mode, Reading};
+use seq_timer::{Peek, Rearmed};
+use std::alloc::Global;
+use std::sync::Wait;
+use std::test::Fail;
+use timer_core::{CancelAnswer, Finished, ForwardAnswer};
+
+/// One timer on two bases, started to expire at once on one of them, what the start answered, and the timer's claim.
+fn claimed_on<R: Wait>(
+    rt: &R,
+    alloc: Global,
+    limit: u64,
+    mode: Mode,
+    base: u32,
+) -> Result<(Timers, Pass, StartAnswer, Claim), Fail>
+    requires base { base < 2 }
+    requires limit { (0 < limit) × (limit ≤ greatest_limit) }
+    ensures pass { IfOk result (λ r. IsPassOf r.0 r.1 × IsLast r.1.known.id × (r.1.known.claims ≡ claimed_as r.3 ∷ [])) }
+    ensures size { IfOk result (λ r. (length r.0.about.timers ≡ 1) × (r.0.about.bases ≡ 2) × (r.3.timer < 1)) }
+{
+    let (timers, mut pass) = Timers::make(alloc, 2, &[ClockId::Monotonic], limit)?;
+    let now = Reading::at(0);
+    let started = timers.start(rt, &mut pass, 0, mode, 0, base, now);
+    match claim(rt, &timers, &mut pass, base, now) {
+        Some(claim) => Ok((timers, pass, started, claim)),
+        None => {
+            timers.close(pass);
+            Err(Fail::from("a timer was due, and was not claimed"))
+        }
+    }
+}
+
+/// What a start answers that arms generation 3 on base 0, to expire at this time, and doesn't move the timer.
+fn started_again(expires: u64) -> StartAnswer {
+    StartAnswer::Started {
+        was_armed: false,
+        generation: 3,
+        base: 0,
+        outs: 0,
+        clock: ClockId::Monotonic,
+        expires,
+    }
+}
+
+/// The state word of a timer at rest.
+fn at_rest(stamp: u64, base: u32) -> Peek {
+    Peek {
+        stamp,
+        base,
+        enqueued: false,
+        running: false,
+        moving: false,
+    }
+}
+
+#[test]
+fn a_start_of_a_running_timer_is_kept_by_its_finish(rt: HostRuntime) -> Result<(), Fail> {
+    let (timers, mut pass, _, claim) = claimed_on(&rt, rt.alloc(), 100, Mode::Abs, 0)?;
+    let now = Reading::at(0);
+    let started = timers.start(&rt, &mut pass, 0, Mode::Abs, 50, 1, now);
+    assert_eq!(rt; started, started_again(50));
+    let armed = ForwardAnswer::Armed {
+        generation: 3,
+        stamp: 3,
+    };
+    assert_eq!(rt; forward(&rt, &timers, &mut pass, &claim, now, 10), armed);
+    let running = CancelAnswer::Running {
+        generation: 1,
+        stamp: 3,
+    };
+    assert_eq!(rt; timers.try_to_cancel(&rt, &mut pass, 0), running);
+    let finished = Finished {
+        number: 4,
+        rearmed: Rearmed::No,
+    };
+    assert_eq!(rt; finish(&rt, &timers, &mut pass, claim, true), finished);
+    let cancelled = CancelAnswer::Cancelled {
+        generation: 3,
+        number: 5,
+    };
+    assert_eq!(rt; timers.try_to_cancel(&rt, &mut pass, 0), cancelled);
+    assert_eq!(rt; timers.peek(&mut pass, 0), at_rest(5, 0));
+    timers.close(pass);
+    Ok(())
+}
+
+#[test]
+fn a_full_history_refuses_the_rearming(rt: HostRuntime) -> Result<(), Fail> {
+    let (timers, mut pass, _, first) = claimed_on(&rt, rt.alloc(), 3, Mode::Abs, 0)?;
+    let now = Reading::at(0);
+    let started = timers.start(&rt, &mut pass, 0, Mode::Abs, 0, 0, now);
+    assert_eq!(rt; started, started_again(0));
+    let kept = finish(&rt, &timers, &mut pass, first, true);
+    assert_eq!(rt; kept.rearmed, Rearmed::No);
+    let Some(second) = claim(&rt, &timers, &mut pass, 0, now) else {
+        timers.close(pass);
+        return Err(Fail::from("the start while it ran was not claimed"));
+    };
+    assert_eq!(rt; (second.generation(), second.number()), (3, 5));
+    let spent = ForwardAnswer::Spent { stamp: 5 };
+    assert_eq!(rt; forward(&rt, &timers, &mut pass, &second, now, 10), spent);
+    let refused = Finished {
+        number: 6,
+        rearmed: Rearmed::Spent { stamp: 5 },
+    };
+    assert_eq!(rt; finish(&rt, &timers, &mut pass, second, true), refused);
+    let spent = StartAnswer::Spent { stamp: 6 };
+    assert_eq!(rt;
+        timers.start(&rt, &mut pass, 0, Mode::Rel, 0, 0, now),
+        spent
+    );
+    assert_eq!(rt; timers.peek(&mut pass, 0), at_rest(6, 0));
+    timers.close(pass);
+    Ok(())
+}
+
+#[test]
+fn a_start_that_moves_its_timer_is_whole_at_the_limit(rt: HostRuntime) -> Result<(), Fail> {
+    let (timers, mut pass, started, claim) = claimed_on(&rt, rt.alloc(), 1, Mode::Rel, 1)?;
+    let moved = StartAnswer::Started {
+        was_armed: false,
+        generation: 2,
+        base: 1,
+        outs: 2,
+        clock: ClockId::Monotonic,
+        expires: 0,
+    };
+    assert_eq!(rt; started, moved);
+    assert_eq!(rt;
+        (claim.generation(), claim.base(), claim.number()),
+        (2, 1, 3)
+    );
+    let refused = Finished {
+        number: 4,
+        rearmed: Rearmed::Spent { stamp: 3 },
+    };
+    assert_eq!(rt; finish(&rt, &timers, &mut pass, claim, true), refused);
+    assert_eq!(rt; timers.peek(&mut pass, 0), at_rest(4, 1));
+    timers.close(pass);
+    Ok(())
+}
