@@ -1,8 +1,8 @@
 #!/usr/bin/env bash
-# Runs two of the examples, one of a POSIX timer and one of two lanes, again and again: each allocation of the program fails once, and then each
-# with all behind it. A run has to end with status 6 and nothing written, or with a record that stands beside the example. It prints how many
-# allocations were asked for where none failed, and how many runs ended each way. The program is the one handed in, or the proved one that
-# `rt run` left in crates/hrt_app/out. Outside the gate.
+# Runs two of the examples, one of a POSIX timer and one of two lanes, again and again: each allocation of the program fails in its turn, at first
+# it alone (`one`), then it and all the rest (`rest`). A run has to end with status 6 and nothing written, or with a record that stands beside
+# the example. It prints how many allocations were asked for where none failed, and how many runs ended each way. The program is the one
+# handed in, or the proved one that `rt run` left in crates/hrt_app/out. Outside the gate.
 set -eu
 top=$(cd "$(dirname "$0")/.." && pwd)
 program=${1:-$top/crates/hrt_app/out/hrt_app}
@@ -11,7 +11,7 @@ built=$(mktemp -d)
 trap 'rm -rf "$built"' EXIT
 gcc -O2 -Wall -shared -fPIC -o "$built/failing_memory.so" "$top/bench/failing_memory.c"
 
-# Runs a script, allocation $2 failing, and with a third word each one behind it too. Sets `status` and `count`.
+# Runs a script, allocation $2 failing, and with a third word all the rest too. Sets `status` and `count`.
 run() {
     rm -f "$built/count"
     status=0
@@ -37,25 +37,25 @@ ended() {
 }
 
 failed=0
-printf '%-24s %-10s %11s %8s %8s %6s\n' script fails allocations refused record other
+printf '%-24s %-8s %11s %8s %8s %6s\n' script fails allocations refused record other
 for name in overrun cancel_beside_an_expiry; do
     script=$top/examples/$name.hrt
-    for on in "" 1; do
+    for fails in one rest; do
+        run "$script" 0
+        clean=$count most=$count refused=0 record=0 other=0 number=1
         # Lanes may ask for more or less at each run, so the numbers go on to 16 past the most that a run asked for.
-        most=0 refused=0 record=0 other=0 number=0
         while [ "$number" -le $((most + 16)) ]; do
-            run "$script" "$number" $on
-            [ "$number" -eq 0 ] && clean=$count
-            [ "$count" -gt "$most" ] && most=$count
+            if [ "$fails" = one ]; then run "$script" "$number"; else run "$script" "$number" on; fi
+            [ "$count" -le "$most" ] || most=$count
             end=$(ended "$script")
             case $end in
             refused) refused=$((refused + 1)) ;;
             record) record=$((record + 1)) ;;
-            *) other=$((other + 1)); echo "$name, allocation $number fails${on:+ with all behind it}: $end" >&2 ;;
+            *) other=$((other + 1)); echo "$name, allocation $number and $fails: $end" >&2 ;;
             esac
             number=$((number + 1))
         done
-        printf '%-24s %-10s %11s %8s %8s %6s\n' "$name" "${on:+on }from" "$clean" "$refused" "$record" "$other"
+        printf '%-24s %-8s %11s %8s %8s %6s\n' "$name" "$fails" "$clean" "$refused" "$record" "$other"
         failed=$((failed + other))
     done
 done
