@@ -177,19 +177,57 @@ const STREAMS: [Case<'_>; 8] = [
     },
 ];
 
-/// Bytes that are read so many at a time, to their end, and are refused by this line.
-fn refused<'a>(bytes: &'a [u8], most: usize, reads: u64, line: &'a [u8]) -> Case<'a> {
+/// A run over bytes that are read so many at a time, where the listed reads fail.
+fn reading<'a>(
+    bytes: &'a [u8],
+    most: usize,
+    failing: &'a [u64],
+    end: End,
+    taken: &'a [u8],
+) -> Case<'a> {
+    let reads = (most, failing);
     Case {
         bytes,
-        reads: (most, &[]),
+        reads,
         writes: (4096, &[]),
-        end: End {
-            status: Status::Refused,
-            source: (reads, 0),
-            sink: (1, 0),
-        },
-        taken: line,
+        end,
+        taken,
     }
+}
+
+/// The end of a run whose bytes are refused after so many reads.
+fn refused(reads: u64) -> End {
+    End {
+        status: Status::Refused,
+        source: (reads, 0),
+        sink: (1, 0),
+    }
+}
+
+/// The first run that ended otherwise over bytes of the greatest size, or with one more, of which the read behind the last byte fails. It is
+/// made only where no byte is too many.
+fn first_other_at_the_greatest_size<R: Threads + Wait + Sync + AllocGlobal>(
+    rt: &R,
+) -> Result<Option<(usize, End)>, Fail> {
+    let many = vec![in rt.alloc(); b'#'; 1_048_577]?;
+    let most = many.split_last().map_or(b"".as_slice(), |(_, most)| most);
+    let line = b"line 0: TooLong\n";
+    let cut = End {
+        status: Status::ReadFault,
+        source: (257, 1),
+        sink: (0, 0),
+    };
+    let cut_by_one = End {
+        source: (1_048_577, 1),
+        ..cut
+    };
+    let cases = [
+        reading(&many, 4096, &[258], refused(257), line),
+        reading(&many, 1, &[1_048_578], refused(1_048_577), line),
+        reading(most, 4096, &[257], cut, b""),
+        reading(most, 1, &[1_048_577], cut_by_one, b""),
+    ];
+    first_other(rt, &cases)
 }
 
 #[test]
@@ -197,38 +235,11 @@ fn failing_streams_and_refused_scripts(rt: HostRuntime) -> Result<(), Fail> {
     assert_eq!(rt; first_other(&rt, &STREAMS)?, None);
     // One byte a read, and a last read that finds the end.
     for (bytes, line) in REFUSED {
-        let reads = (bytes.len() as u64).saturating_add(1);
-        let case = refused(bytes, 1, reads, line);
+        let end = refused((bytes.len() as u64).saturating_add(1));
+        let case = reading(bytes, 1, &[], end, line);
         assert_eq!(rt; first_other(&rt, &[case])?, None);
     }
-    let many = vec![in rt.alloc(); b'#'; 1_048_577]?;
-    // The read behind the last that is made would fail.
-    let (failing, failing_by_one) = ([258], [1_048_578]);
-    let too_long = refused(&many, 4096, 257, b"line 0: TooLong\n");
-    let by_one = refused(&many, 1, 1_048_577, b"line 0: TooLong\n");
-    let cut = End {
-        status: Status::ReadFault,
-        source: (257, 1),
-        sink: (0, 0),
-    };
-    let cases = [
-        Case {
-            reads: (4096, &failing),
-            ..too_long
-        },
-        Case {
-            reads: (1, &failing_by_one),
-            ..by_one
-        },
-        Case {
-            bytes: &many[1..],
-            reads: (4096, &[257]),
-            end: cut,
-            taken: b"",
-            ..too_long
-        },
-    ];
-    assert_eq!(rt; first_other(&rt, &cases)?, None);
+    assert_eq!(rt; first_other_at_the_greatest_size(&rt)?, None);
     Ok(())
 }
 

@@ -1,5 +1,7 @@
 //! Streams that give or take little: each call that may fail, one byte a call, a read of nothing before the end, and a last line without
 //! its newline.
+ghost use Rattle.std.specs.Prelude.{None};
+
 use super::{ONE_SHOT, ONE_SHOT_RECORD, run_words};
 use crate::memory::{BytesSink, BytesSource};
 use crate::status::Status;
@@ -56,21 +58,23 @@ fn a_last_line_needs_no_newline(rt: HostRuntime) -> Result<(), Fail> {
 /// A source of pieces, one a read, that tells nothing of them.
 #[derive(Drop)]
 struct Pieces<'a> {
-    left: &'a [&'a [u8]],
+    pieces: &'a [&'a [u8]],
+    reads: usize,
 }
 
-impl Source for Pieces<'_> {
+impl<'a> Source for Pieces<'a> {
     ghost left = { λ _. None };
 
     ghost faults = { λ _. 0 };
 
     fn read(&mut self, buf: &mut [u8]) -> Result<usize, Failed> {
-        let Some((piece, rest)) = self.left.split_first() else {
+        let next = self.reads;
+        self.reads = next.saturating_add(1);
+        let Some(piece) = self.pieces.get(next) else {
             return Ok(0);
         };
         let n = piece.len().min(buf.len());
         buf[..n].copy_from_slice(&piece[..n]);
-        self.left = rest;
         Ok(n)
     }
 }
@@ -81,34 +85,31 @@ fn a_read_of_nothing_is_the_end(rt: HostRuntime) -> Result<(), Fail> {
     let empty: &[u8] = b"";
     let head: &[u8] = b"hrt 1\nbases 1\nlanes 1\n";
     let limit: &[u8] = b"limit 100\n";
+    let record: &[u8] = b"record 1\nend\n";
+    // The pieces, the reads that are made, and what comes of them.
     let cases: [(&[&[u8]], usize, Status, &[u8]); 4] = [
-        (
-            &[head, limit, empty, b"0 peek 0\n"],
-            1,
-            Status::Ok,
-            b"record 1\nend\n",
-        ),
+        (&[head, limit, empty, b"0 peek 0\n"], 3, Status::Ok, record),
         (
             &[head, empty, limit],
-            1,
+            2,
             Status::Refused,
             b"line 4: Unfinished\n",
         ),
         (
             &[empty, head, limit],
-            2,
+            1,
             Status::Refused,
             b"line 1: Unfinished\n",
         ),
-        (&[head, limit], 0, Status::Ok, b"record 1\nend\n"),
+        (&[head, limit], 3, Status::Ok, record),
     ];
-    for (pieces, left, status, taken) in cases {
-        let mut source = Pieces { left: pieces };
+    for (pieces, reads, status, taken) in cases {
+        let mut source = Pieces { pieces, reads: 0 };
         let mut sink = BytesSink::new(rt.alloc(), 4096, &[]);
         let found = top(&rt, &words, &mut source, &mut sink, &OpenGate);
         assert_eq!(rt; found, status);
         assert_eq!(rt; sink.kept.bytes(), Some(taken));
-        assert_eq!(rt; source.left.len(), left);
+        assert_eq!(rt; source.reads, reads);
     }
     Ok(())
 }
