@@ -1,7 +1,10 @@
 //! Whole runs over streams in memory: a record from a source of single bytes, and the points of the gate that a run passes.
+mod ends;
 mod generated;
 mod lanes;
 mod limits;
+mod refusals;
+mod streams;
 
 use crate::memory::{BytesSink, BytesSource};
 use crate::status::Status;

@@ -157,11 +157,7 @@ mod tests {
     use std::alloc::AllocError;
     use std::test::Fail;
 
-    const RUN: &[&str] = &["hrt", "run"];
-
     const EMPTY: &[u8] = b"hrt 1\nbases 1\nlanes 1\nlimit 100\n";
-
-    const RECORD: &[u8] = b"record 1\nend\n";
 
     fn outcome<R: Threads + Wait + Sync + AllocGlobal>(
         rt: &R,
@@ -171,77 +167,6 @@ mod tests {
     ) -> Result<Status, AllocError> {
         let words = command(rt.alloc(), words)?;
         Ok(top(rt, &words, source, sink, &OpenGate))
-    }
-
-    #[test]
-    fn a_script_is_answered_by_its_record_however_few_bytes_a_call_moves(
-        rt: HostRuntime,
-    ) -> Result<(), Fail> {
-        for most in [1, 5, 4096] {
-            let mut source = BytesSource::new(EMPTY, most, &[]);
-            let mut sink = BytesSink::new(rt.alloc(), most, &[]);
-            let status = outcome(&rt, RUN, &mut source, &mut sink)?;
-            assert_eq!(rt; status, Status::Ok);
-            assert_eq!(rt; sink.kept.bytes(), Some(RECORD));
-            assert_eq!(rt; source.left.len(), 0);
-        }
-        Ok(())
-    }
-
-    #[test]
-    fn bytes_that_are_no_script_are_refused_by_line_and_cause(rt: HostRuntime) -> Result<(), Fail> {
-        let words = command(rt.alloc(), RUN)?;
-        let cases: [(&[u8], &[u8]); 4] = [
-            (b"", b"line 1: Unfinished\n"),
-            (b"hrt 2\n", b"line 1: Version\n"),
-            (RECORD, b"line 1: UnknownWord\n"),
-            (b"# none\n\xff\x00", b"line 2: BadByte\n"),
-        ];
-        for (bytes, refusal) in cases {
-            let (status, sink) = on_bytes(&rt, &words, bytes, &OpenGate);
-            assert_eq!(rt; status, Status::Refused);
-            assert_eq!(rt; sink.kept.bytes(), Some(refusal));
-        }
-        Ok(())
-    }
-
-    #[test]
-    fn a_fault_leaves_nothing_or_a_prefix_written(rt: HostRuntime) -> Result<(), Fail> {
-        let cases: [(&[u8], &[u64], &[u64], Status, &[u8]); 4] = [
-            (EMPTY, &[2], &[], Status::ReadFault, b""),
-            (EMPTY, &[], &[3], Status::WriteFault, b"record 1\ne"),
-            (EMPTY, &[], &[1], Status::WriteFault, b""),
-            (b"hrt 2\n", &[], &[1], Status::WriteFault, b""),
-        ];
-        for (bytes, reads, writes, status, taken) in cases {
-            let mut source = BytesSource::new(bytes, 5, reads);
-            let mut sink = BytesSink::new(rt.alloc(), 5, writes);
-            let found = outcome(&rt, RUN, &mut source, &mut sink)?;
-            assert_eq!(rt; found, status);
-            assert_eq!(rt; sink.kept.bytes(), Some(taken));
-            assert_eq!(rt; source.plan.faults == 1, !reads.is_empty());
-            assert_eq!(rt; sink.plan.faults == 1, !writes.is_empty());
-        }
-        Ok(())
-    }
-
-    #[test]
-    fn reading_stops_once_more_was_taken_than_a_script_may_have(
-        rt: HostRuntime,
-    ) -> Result<(), Fail> {
-        // The next read would fail in either case.
-        for (len, next, status) in [
-            (1_048_577, 258, Status::Refused),
-            (1_048_576, 257, Status::ReadFault),
-        ] {
-            let bytes = vec![in rt.alloc(); b'#'; len]?;
-            let failing = [next];
-            let mut source = BytesSource::new(&bytes, 4096, &failing);
-            let mut sink = BytesSink::new(rt.alloc(), 4096, &[]);
-            let found = outcome(&rt, RUN, &mut source, &mut sink)?;
-            assert_eq!(rt; found, status);
-        }
-        Ok(())
     }
 
     #[test]

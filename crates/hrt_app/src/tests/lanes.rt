@@ -114,8 +114,8 @@ const RUNNING: &[u8] = b"record 1\n\
     end\n";
 
 #[test]
-fn a_cancel_beside_the_callback_is_told_that_it_is_running(rt: HostRuntime) -> Result<(), Fail> {
-    // The callback has begun before the cancel, and is held until the cancel was answered.
+fn lanes_run_beside(rt: HostRuntime) -> Result<(), Fail> {
+    // The cancel is held until the callback has begun, and the callback until the cancel was answered: `running`.
     let order = [
         (1, 0, Point::Callback),
         (0, 1, Point::Call),
@@ -142,7 +142,7 @@ fn a_cancel_after_the_expiry_finds_the_timer_idle(rt: HostRuntime) -> Result<(),
     Ok(())
 }
 
-/// Lane 0 starts a timer on each base. Then each lane runs what is due on a base of its own.
+/// Each lane starts a timer on a base of its own. Then each runs the one function that is due there.
 const TWO_BASES: &[u8] = b"hrt 1\n\
     bases 2\n\
     lanes 2\n\
@@ -151,32 +151,32 @@ const TWO_BASES: &[u8] = b"hrt 1\n\
     raw 1 monotonic once\n\
     round\n\
     0 start 0 rel 0 0\n\
-    0 start 1 rel 0 1\n\
+    1 start 1 rel 0 1\n\
     round\n\
-    0 expire 0 4\n\
-    1 expire 1 4\n";
+    0 expire 0 1\n\
+    1 expire 1 1\n";
 
 const TWO_BASES_RECORD: &[u8] = b"record 1\n\
     timer 0 1 0 0 start rel 0 0 0 0 monotonic 0 0\n\
-    timer 0 2 0 2 claim 0 0 1\n\
-    timer 0 3 0 2 finish stop 1 none\n\
-    timer 1 1 0 1 out 1 0\n\
-    timer 1 2 0 1 start rel 0 0 1 1 monotonic 0 0\n\
-    timer 1 3 1 0 claim 1 0 2\n\
-    timer 1 4 1 0 finish stop 2 none\n\
+    timer 0 2 0 1 claim 0 0 1\n\
+    timer 0 3 0 1 finish stop 1 none\n\
+    timer 1 1 1 0 out 1 0\n\
+    timer 1 2 1 0 start rel 0 0 1 1 monotonic 0 0\n\
+    timer 1 3 1 1 claim 1 0 2\n\
+    timer 1 4 1 1 finish stop 2 none\n\
     call 0 0 started 1 0 0\n\
-    call 0 1 started 2 1 0\n\
-    call 0 2 done 1 0 0\n\
-    call 1 0 done 1 0 1\n\
+    call 0 1 more 1 0 0\n\
+    call 1 0 started 2 1 0\n\
+    call 1 1 more 1 0 1\n\
     end\n";
 
 #[test]
-fn callbacks_on_two_bases_run_beside_each_other(rt: HostRuntime) -> Result<(), Fail> {
+fn callbacks_meet(rt: HostRuntime) -> Result<(), Fail> {
     // Each callback is held until the other one has begun.
     let order = [
-        (0, 2, Point::Callback),
-        (1, 0, Point::Callback),
-        (0, 2, Point::Callback),
+        (0, 1, Point::Callback),
+        (1, 1, Point::Callback),
+        (0, 1, Point::Callback),
     ];
     assert!(rt; gives(&rt, TWO_BASES, &order, TWO_BASES_RECORD)?);
     Ok(())
@@ -189,35 +189,36 @@ const SET_AND_EXPIRE: &[u8] = b"hrt 1\n\
     limit 100\n\
     posix 0 monotonic 0\n\
     round\n\
-    0 settime 0 1 0 100 0 0\n\
-    0 advance 100\n\
+    0 settime 0 1 0 1 0 0\n\
+    0 advance 1\n\
     round\n\
-    0 settime 0 1 0 500 0 0\n\
-    1 expire 0 4\n";
+    0 settime 0 1 0 50 0 0\n\
+    1 expire 0 1\n";
 
 const SET_AND_EXPIRE_RECORD: &[u8] = b"record 1\n\
-    clock 1 0 1 advance 100 100 100 100 0\n\
-    timer 0 1 0 0 start abs 100 0 0 0 monotonic 100 0\n\
+    clock 1 0 1 advance 1 1 1 1 0\n\
+    timer 0 1 0 0 start abs 1 0 0 0 monotonic 1 0\n\
     timer 0 2 1 0 claim 0 1 1\n\
     timer 0 3 1 0 finish stop 1 none\n\
-    timer 0 4 0 2 start abs 500 1 0 0 monotonic 500 0\n\
-    object 0 1 0 0 settime 1 100 0 0 1 old 0 0\n\
+    timer 0 4 0 2 start abs 50 1 0 0 monotonic 50 0\n\
+    object 0 1 0 0 settime 1 1 0 0 1 old 0 0\n\
     object 0 2 1 0 trigger 1 1 counted\n\
-    object 0 3 0 2 settime 1 500 0 1 4 old 0 0\n\
+    object 0 3 0 2 settime 1 50 0 1 4 old 0 0\n\
     call 0 0 old 0 0\n\
     call 0 1 clock 1\n\
     call 0 2 old 0 0\n\
-    call 1 0 done 1 1 0\n\
+    call 1 0 more 1 1 0\n\
     end\n";
 
 #[test]
 fn a_settime_waits_for_the_function_of_its_timer(rt: HostRuntime) -> Result<(), Fail> {
-    // The function has begun before the settime, and is held until that is about to be called.
+    // The settime is held until the function has begun. That goes on at once, or once the settime is about to be called.
     let order = [
         (1, 0, Point::Callback),
         (0, 2, Point::Call),
         (1, 0, Point::Callback),
     ];
+    assert!(rt; gives(&rt, SET_AND_EXPIRE, &order[..2], SET_AND_EXPIRE_RECORD)?);
     assert!(rt; gives(&rt, SET_AND_EXPIRE, &order, SET_AND_EXPIRE_RECORD)?);
     Ok(())
 }
