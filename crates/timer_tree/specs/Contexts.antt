@@ -1,6 +1,6 @@
 -- A tree with a hole in it: what stands above a subtree, from the nearest node to the root.
 use Rattle.std.specs.Prelude.{ℕ, Bool, true, false, ◌+◌, ◌*◌, ◌<◌, ◌≤◌, min, max, ◌≡◌, List, [], ◌∷◌, ◌++◌, length}
-use Rattle.timer_tree.specs.Nodes.{none, with_links, node_at, far, child_side}
+use Rattle.timer_tree.specs.Nodes.{none, pick, with_links, node_at, far, child_side}
 use Rattle.timer_tree.specs.Trees.{Tree, Leaf, Fork, top, tall, pairs, IsAt, HasRank, IsBalanced, IsTree, Stands, times}
 use Rattle.timer_tree.specs.declared.node.Node.{Node}
 use Rattle.timer_tree.specs.declared.repair.Unbalanced.{Unbalanced}
@@ -9,8 +9,7 @@ use Rattle.timer_tree.specs.declared.node.Side.TheVariants as sides
 
 -- a node between a subtree on a side and one on the other
 abbrev pub fork : Side → Tree → (n e h : ℕ) → Tree → Tree
-fork sides.Left a n e h b = Fork a n e h b
-fork sides.Right a n e h b = Fork b n e h a
+fork s a n e h b = Fork (pick s a b) n e h (pick s b a)
 
 -- the parent of a hole: the hole's side, the node, and the subtree on the other side
 pub record Frame : Type 0 where

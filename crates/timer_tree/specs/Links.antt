@@ -1,14 +1,13 @@
 -- How links are written.
 use Rattle.std.specs.Prelude.{ℕ, List, nat_eq, if◌then◌else◌, slice_set}
-use Rattle.timer_tree.specs.Nodes.{none, node_at}
+use Rattle.timer_tree.specs.Nodes.{none, node_at, pick}
 use Rattle.timer_tree.specs.declared.node.Node.{Node}
 use Rattle.timer_tree.specs.declared.node.Side.{Side}
 use Rattle.timer_tree.specs.declared.node.Side.TheVariants as sides
 
 -- a node with another one below it on a side
 abbrev pub with_child : Node → Side → ℕ → Node
-with_child node sides.Left n = record node { left = n }
-with_child node sides.Right n = record node { right = n }
+with_child node s n = record node { left = pick s n node.left; right = pick s node.right n }
 
 -- a node with another one below it on a side, another parent and another rank
 abbrev pub linked : Side → Node → (child parent rank : ℕ) → Node
