@@ -3,7 +3,6 @@ use Rattle.std.specs.Prelude.{ℕ, List, nat_eq, if◌then◌else◌, slice_set}
 use Rattle.timer_tree.specs.Nodes.{none, node_at, pick}
 use Rattle.timer_tree.specs.declared.node.Node.{Node}
 use Rattle.timer_tree.specs.declared.node.Side.{Side}
-use Rattle.timer_tree.specs.declared.node.Side.TheVariants as sides
 
 -- a node with another one below it on a side
 abbrev pub with_child : Node → Side → ℕ → Node
