@@ -77,7 +77,6 @@ once_rotated xs s a b c n e h m f g p whole balanced_t balanced_c lean low near 
     let outer = IsAt-fork xs p s (fork s a m f g b) c n e h whole.at in
     let inner = IsAt-fork xs n s a b m f g outer.1 in
     let ranks = IsBalanced-fork s a b m f g balanced_t in
-    let rank = ranks.0 in
     let i = next (node_at xs (top b)).rank in
     let is_i : i ≡ tall b + 1 = ap next (rank_at xs m b whole.small inner.2) ∙ next_is (tall b) fits in
     let sum : (k : ℕ) → times k (pairs (fork s (fork s a m f g b) n e h c)) ≡ times k (pairs a) + times k (pairs b) + times k (pairs c) + one k m +
@@ -137,8 +136,6 @@ twice_rotated xs s a b d c n e h m f g k i j p whole balanced_t balanced_c lean 
     let inner = IsAt-fork xs m s b d k i j middle.2 in
     let ranks = IsBalanced-fork s a (fork s b k i j d) m f g balanced_t in
     let ranks_k = IsBalanced-fork s b d k i j ranks.2 in
-    let rank = ranks.0 in
-    let rank_k = ranks_k.0 in
     let sum : (r : ℕ) → times r (pairs (fork s (fork s a m f g (fork s b k i j d)) n e h c)) ≡ times r (pairs a) + times r (pairs b) + times r (pairs d) +
     times r (pairs c) + one r k + one r m + one r n = λ r. omega (
       arith,

@@ -84,8 +84,6 @@ raised_handled : (xs : List Node) (root : ℕ) (s : Side) (t o : Tree) (n e h ol
 unfolding raised
 raised_handled xs root s t o n e h old p Goal is way up handles =
     let parts = IsAt-fork xs p s t o n e h is.whole.at in
-    let has = is.has in
-    let low = is.low in
     let more : next h ≡ h + 1 = next_is h (omega arith) in
     let other_is : next (node_at xs (top o)).rank ≡ tall o + 1 = ap next (rank_at xs n o is.whole.small parts.2) ∙ next_is (tall o) (omega arith) in
     let turned : List Node × ℕ → Repairing = λ new. (new.0, new.1, ended) in
@@ -105,10 +103,9 @@ unfolding risen
 risen_handled xs root s t o n e h old p Goal is way handles =
     let node = with_links s e (top t) (top o) p h in
     let d = child_side node (top t) in
-    let has = is.has in
     by_lt (λ x. Goal (if x then (xs, root, ended) else raised xs root d (rest_at n t) (far d node) p h)) (tall t) h
     (λ over. handles.stop (fork-IsBalanced s t o n e h
-    (record { below_a = over; below_b = has.below_b; near_a = omega arith; near_b = has.near_b; near_both = omega arith }, is.balanced_t, is.balanced_o)))
+    (record { below_a = over; below_b = is.has.below_b; near_a = omega arith; near_b = is.has.near_b; near_both = omega arith }, is.balanced_t, is.balanced_o)))
     (λ high. at_side xs s t o n e h old p (λ d k. Goal (raised xs root d (rest_at n t) k p h)) is (omega arith)
     (raised_handled xs root s t o n e h old p Goal is way high handles))
 
@@ -143,9 +140,9 @@ risen_leaf xs root at child small above =
 sunk_rotated : (xs : List Node) (s : Side) (t o : Tree) (n e h old p : ℕ) → Changed xs p s t o n e h old → tall o ≡ tall t + 2 → tall o + 1 ≡ h →
     IsTilted o h →
     Remade xs p (fork s t n e h o) h (rotated xs (other_side s) n (with_links s e (top t) (top o) p h) (top o) (node_at xs (top o)))
-sunk_rotated xs sides.Left t o n e h old p is lean high tilted = let low = is.low in
+sunk_rotated xs sides.Left t o n e h old p is lean high tilted =
     lean_rotated xs sides.Right o t n e h p is.whole is.balanced_o is.balanced_t lean (omega arith) (omega arith) (omega arith) tilted
-sunk_rotated xs sides.Right t o n e h old p is lean high tilted = let low = is.low in
+sunk_rotated xs sides.Right t o n e h old p is lean high tilted =
     lean_rotated xs sides.Left o t n e h p is.whole is.balanced_o is.balanced_t lean (omega arith) (omega arith) (omega arith) tilted
 
 sunk_ranked : (xs : List Node) (s : Side) (t l q : Tree) (n e h m f g old p : ℕ) → Changed xs p s t (Fork l m f g q) n e h old → HasRank (tall l) (tall q) (h - 2) →
@@ -163,8 +160,7 @@ sunk_handled xs root s t Leaf n e h old p Goal is way down handles = let never :
 sunk_handled xs root s t (Fork l m f g q) n e h old p Goal is way down handles =
     let o = Fork l m f g q in
     let parts = IsAt-fork xs p s t o n e h is.whole.at in
-    let has = is.has in
-    let rank = is.balanced_o.0 in
+    
     let r = rest_at n t in
     let rank_m : (node_at xs m).rank ≡ g = ap (λ (x : Node). x.rank) parts.2.0.is in
     let turned : List Node × ℕ → Repairing = λ new. (new.0, new.1, ended) in
@@ -210,7 +206,6 @@ settled_handled : (xs : List Node) (root : ℕ) (s : Side) (t o : Tree) (n e h o
     Goal (if is_high_leaf (with_links s e (top t) (top o) p h) then (ranked xs n 1, root, gone_on (rest_at n t) p 1) else (xs, root, ended))
 settled_handled xs root s t o n e h old p Goal is over near handles =
     let parts = IsAt-fork xs p s t o n e h is.whole.at in
-    let has = is.has in
     by_leaf (λ x. Goal (if x then (ranked xs n 1, root, gone_on (rest_at n t) p 1) else (xs, root, ended))) s e (top t) (top o) p h (λ leaf.
     let two = leaf.0 in
     let flat_t = ap tall (no_top xs n t is.whole.small parts.1 leaf.1) in
@@ -227,7 +222,7 @@ settled_handled xs root s t o n e h old p Goal is over near handles =
       ]
     ] in
     handles.stop (fork-IsBalanced s t o n e h
-    (record { below_a = over; below_b = has.below_b; near_a = near; near_b = has.near_b; near_both = both }, is.balanced_t, is.balanced_o)))
+    (record { below_a = over; below_b = is.has.below_b; near_a = near; near_b = is.has.near_b; near_both = both }, is.balanced_t, is.balanced_o)))
 
 lowered_handled : (xs : List Node) (root : ℕ) (s : Side) (t o : Tree) (n e h old p : ℕ) (Goal : Repairing → Type 0) → Changed xs p s t o n e h old →
     Way false old t → Handles false xs p (fork s t n e h o) h root (rest_at n t) Goal → Goal (lowered xs root (rest_at n t) (with_links s e (top t) (top o) p h))
@@ -235,7 +230,6 @@ unfolding lowered
 lowered_handled xs root s t o n e h old p Goal is way handles =
     let node = with_links s e (top t) (top o) p h in
     let d = child_side node (top t) in
-    let has = is.has in
     let r = rest_at n t in
     by_lt (λ x. Goal (if x then sunk xs root d r (far d node) p h else (if is_high_leaf node then (ranked xs n 1, root, gone_on r p 1) else (xs, root, ended))))
     (tall t + 2) h (λ down. at_side xs s t o n e h old p (λ d k. Goal (sunk xs root d r k p h)) is (omega arith)
