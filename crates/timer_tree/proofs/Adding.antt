@@ -1,19 +1,18 @@
 -- What hanging a timer into its place makes of the tree.
 use Rattle.std.proofs.Common.{◌≡◌, ℕ, Bool, true, false, ◌&&◌, inl, inr, ◌+◌, ◌<◌, ◌≤◌, List, [], ◌∷◌, ◌++◌, length, nat_eq, if◌then◌else◌, arith}
 use Rattle.std.proofs.Common.{refl, ap, ◌∙◌, sym, subst, slice_set, append-nil}
-use Rattle.std.proofs.lemmas.Bool.{eq-eqb, ne_eqb, eqb-true, eqb-false, cases_eq}
+use Rattle.std.proofs.lemmas.Bool.{eq-eqb, ne_eqb, cases_eq}
 use Rattle.timer_queue.specs.Pairs.{put, has_id, IsQueue}
 use Rattle.timer_queue.proofs.Pairs.{IsQueue-put, length-le_room}
-use Rattle.timer_tree.specs.Nodes.{none, node_at, with_links, far, is_leaf}
+use Rattle.timer_tree.specs.Nodes.{none, node_at, with_links, is_leaf}
 use Rattle.timer_tree.specs.Moves.{inserted}
 use Rattle.timer_tree.specs.Links.{with_child}
-use Rattle.timer_tree.specs.Trees.{Tree, Leaf, Fork, top, tall, pairs, Stands, IsAt, IsBalanced, HasRank, one, times, first_id, Keeps}
-use Rattle.timer_tree.specs.Contexts.{Frame, parent_of, root_of, IsAround, around, before, after, ahead, behind, IsAbove, Cut, IsStored, IsUnbalanced}
-use Rattle.timer_tree.specs.Contexts.{IsRepaired}
+use Rattle.timer_tree.specs.Trees.{Tree, Leaf, Fork, top, pairs, Stands, one, times, first_id, Keeps}
+use Rattle.timer_tree.specs.Contexts.{Frame, parent_of, root_of, IsAround, around, before, after, ahead, behind, Cut, IsStored, IsUnbalanced}
+use Rattle.timer_tree.specs.Contexts.{IsRepaired, IsOver}
 use Rattle.timer_tree.specs.Places.{side_of, first_on, IsOnSide, IsPlace}
 use Rattle.timer_tree.proofs.Trees.{times-append, one_same, one_le, apart_one, Keeps-then, Keeps-for, set_keeps, set_stands, Stands-kept, IsAt-kept, IsAround-kept}
-use Rattle.timer_tree.proofs.Trees.{no_top, pairs-plug, cut_times}
-use Rattle.timer_tree.proofs.Stepping.{child_side_is, far-with_links, no_tree}
+use Rattle.timer_tree.proofs.Trees.{pairs-plug, cut_times}
 use Rattle.timer_tree.proofs.Puts.{times-put}
 use Rattle.timer_tree.proofs.Counts.{cut_low}
 use Rattle.timer_tree.proofs.Stores.{Gives, times-absent, times-le, queue_again, queue_at-is}
@@ -84,26 +83,12 @@ leaf_is : (s : Side) (e b p h : ℕ) → is_leaf (with_links s e none b p h) ≡
 leaf_is sides.Left e b p h = refl
 leaf_is sides.Right e b p h = elim (nat_eq b none) as (λ x. x && nat_eq none none ≡ x) [ true ↦ refl | false ↦ refl ]
 
-above_at : (xs : List Node) (f : Frame) (p id : ℕ) → length xs ≤ none → id < none → IsAt xs f.n f.other → IsBalanced f.other → HasRank 0 (tall f.other) f.h →
-    (leaf : Bool) → leaf ≡ nat_eq (top f.other) none → IsAbove (with_links f.side f.e id (top f.other) p f.h) id leaf
-above_at xs f p id small low at balanced has true is =
-    let end : top f.other ≡ none = eqb-true _ _ (sym is) in
-    let side = child_side_is f.side f.e id (top f.other) p f.h (λ same. omega (arith, end, same, low)) in (
-      omega (arith, ap tall (no_top xs f.n f.other small at end)),
-      ap (λ s. far s (with_links f.side f.e id (top f.other) p f.h)) side ∙ far-with_links f.side f.e id (top f.other) p f.h ∙ end,
-    )
-above_at xs f p id small low at balanced has false is =
-    elim (cases_eq (tall f.other) 0) [
-      | inl flat ↦ absurd (eqb-false _ _ (sym is) (ap top (no_tree f.other balanced flat)))
-      | inr high ↦ omega arith
-    ]
-
-above_in : (xs ys : List Node) (root : ℕ) (c : List Frame) (id : ℕ) (leaf : Bool) (ps : List (ℕ × ℕ)) → id < none → Cut xs root c Leaf 0 ps →
-    IsAround ys id c → (parent_of c ≡ none → ⊥) → leaf ≡ is_leaf (node_at xs (parent_of c)) → IsAbove (node_at ys (parent_of c)) id leaf
-above_in xs ys root [] id leaf ps low old new some is = absurd (some refl)
-above_in xs ys root (f ∷ c) id leaf ps low old new some is =
-    subst (λ (x : Node). IsAbove x id leaf) (sym new.0.is) (above_at xs f (parent_of c) id old.fit.small low old.linked.1 old.fits.1 old.fits.0 leaf
-    (is ∙ ap is_leaf old.linked.0.is ∙ leaf_is f.side f.e (top f.other) (parent_of c) f.h))
+over_in : (xs : List Node) (root : ℕ) (c : List Frame) (leaf : Bool) (ps : List (ℕ × ℕ)) → Cut xs root c Leaf 0 ps →
+    ((parent_of c ≡ none → ⊥) → leaf ≡ is_leaf (node_at xs (parent_of c))) → IsOver c leaf
+over_in xs root [] leaf ps cut known = tt
+over_in xs root (f ∷ c) leaf ps cut known =
+    known (λ end. omega (arith, end, cut.linked.0.inside, cut.fit.small)) ∙ ap is_leaf cut.linked.0.is
+    ∙ leaf_is f.side f.e (top f.other) (parent_of c) f.h
 
 -- ---- the first timer
 
@@ -167,9 +152,10 @@ module _ (xs : List Node) (root first parent expires id : ℕ) (ps : List (ℕ �
       (inserted_at xs root expires id c cut.fit.small inside once_or found.side cut.linked cut.root_is))
 
   -- what a repair is asked for
-  pub inserted_can : IsUnbalanced true new.0 new.1 (record { at = parent; child = id; rank = 1 }) (put expires id ps) (length found.context) ×
-      Keeps (λ k. times k (put expires id ps)) xs new.0
-  inserted_can =
+  pub inserted_can : (leaf : Bool) → ((parent ≡ none → ⊥) → leaf ≡ is_leaf (node_at xs parent)) →
+      (b : IsUnbalanced true new.0 new.1 (record { at = parent; child = id; rank = 1 }) (put expires id ps)) × IsOver b.context leaf ×
+      (length b.context ≡ length found.context) × Keeps (λ k. times k (put expires id ps)) xs new.0
+  inserted_can leaf known =
       let c = found.context in
       let done = inserted_new in
       let queue = IsQueue-put (length xs) expires id ps absent inside stored.queue in (
@@ -192,26 +178,22 @@ module _ (xs : List Node) (root first parent expires id : ℕ) (ps : List (ℕ �
           };
           at_is = found.parent_is;
           changed = λ some. (refl, refl, (omega arith, omega arith, λ up more. let never : ⊥ = omega (arith, more) in absurd never));
-          levels_are = refl;
         },
+        over_in xs root c leaf ps found.cut (subst (λ k. (k ≡ none → ⊥) → leaf ≡ is_leaf (node_at xs k)) found.parent_is known),
+        refl,
         Keeps-for (λ k gone. omega (arith, gone, times-put k expires id ps, cut_times found.cut k)) done.kept,
       )
 
-  pub inserted_above : (leaf : Bool) → ((parent ≡ none → ⊥) → leaf ≡ is_leaf (node_at xs parent)) → (parent ≡ none → ⊥) → IsAbove (node_at new.0 parent) id leaf
-  inserted_above leaf leaf_known some =
-      subst (λ k. IsAbove (node_at new.0 k) id leaf) (sym found.parent_is)
-      (above_in xs new.0 root found.context id leaf ps (omega (arith, inside, found.cut.fit.small)) found.cut inserted_new.at
-      (λ end. some (found.parent_is ∙ end)) (subst (λ k. leaf ≡ is_leaf (node_at xs k)) found.parent_is (leaf_known some)))
-
   -- the queue after a timer was added
-  pub added : (inserted_steps : ℕ) (zs : List Node) (new_root new_first new_steps : ℕ) → inserted_steps ≤ steps + 3 →
-      ((qs : List (ℕ × ℕ)) (levels : ℕ) → IsUnbalanced true new.0 new.1 (record { at = parent; child = id; rank = 1 }) qs levels →
-      IsRepaired new.0 zs new_root qs levels inserted_steps new_steps) → new_first ≡ first_on new.2 parent first id →
+  pub added : (leaf : Bool) (inserted_steps : ℕ) (zs : List Node) (new_root new_first new_steps : ℕ) → ((parent ≡ none → ⊥) → leaf ≡ is_leaf (node_at xs parent)) →
+      inserted_steps ≤ steps + 3 → ((qs : List (ℕ × ℕ)) (b : IsUnbalanced true new.0 new.1 (record { at = parent; child = id; rank = 1 }) qs) →
+      IsOver b.context leaf → IsRepaired new.0 zs new_root qs (length b.context) inserted_steps new_steps) → new_first ≡ first_on new.2 parent first id →
       Gives ps (put expires id ps) (length xs) zs new_root new_first old new_steps
-  added inserted_steps zs new_root new_first new_steps few repairs first_is =
+  added leaf inserted_steps zs new_root new_first new_steps known few repairs first_is =
       let c = found.context in
-      let repaired = repairs (put expires id ps) (length c) inserted_can.0 in
-      let kept = Keeps-then inserted_can.1 repaired.kept in
+      let can = inserted_can leaf known in
+      let repaired = repairs (put expires id ps) can.0 can.1 in
+      let kept = Keeps-then can.3 repaired.kept in
       let whole : ps ≡ before c ++ after c = sym found.cut.pairs_are ∙ pairs-plug c Leaf in
       let done : IsStored zs new_root new_first (put expires id ps) = record {
         is_tree = repaired.tree;
@@ -225,5 +207,5 @@ module _ (xs : List Node) (root first parent expires id : ℕ) (ps : List (ℕ �
         stored = queue_again zs new_root new_first (put expires id ps) done;
         pairs = queue_at-is zs new_root (put expires id ps) done.is_tree;
         size = kept.size;
-        count = λ d fits. omega (arith, found.count, few, repaired.count, cut_low xs root c Leaf ps found.cut d fits);
+        count = λ d fits. omega (arith, found.count, few, can.2, repaired.count, cut_low xs root c Leaf ps found.cut d fits);
       }

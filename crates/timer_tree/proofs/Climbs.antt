@@ -8,20 +8,19 @@ use Rattle.timer_tree.specs.Rotate.{ranked}
 use Rattle.timer_tree.specs.Moves.{Repairing, ended, stepped}
 use Rattle.timer_tree.specs.Trees.{Tree, Leaf, Fork, top, tall, pairs, IsAt, one, times, Keeps}
 use Rattle.timer_tree.specs.Contexts.{Frame, filled, plug, parent_of, root_of, IsAround, around, before, after, Fits, Cut, IsTree, Way}
-use Rattle.timer_tree.specs.Contexts.{IsUnbalanced, IsRepairing, IsRepaired, IsAbove}
+use Rattle.timer_tree.specs.Contexts.{IsUnbalanced, IsRepairing, IsRepaired, IsOver}
 use Rattle.timer_tree.proofs.Trees.{by_eq, times-fork, times-plug, Keeps-then, Keeps-for, IsAt-kept, IsAround-kept, length-fork, fork-IsAt}
 use Rattle.timer_tree.proofs.Trees.{Linked, relinked_linked, length-plug, pairs-plug, tall-le, cut_whole}
 use Rattle.timer_tree.proofs.Counts.{tall-lt}
 use Rattle.timer_tree.proofs.Rotations.{Remade}
-use Rattle.timer_tree.proofs.Stepping.{Changed, stepped_handled, risen_over, risen_leaf, rest_at}
+use Rattle.timer_tree.proofs.Stepping.{Changed, Handles, stepped_handled, leaf_handled, rest_at}
 use Rattle.timer_tree.specs.declared.node.Node.{Node}
 use Rattle.timer_tree.specs.declared.repair.Unbalanced.{Unbalanced}
 
 -- what a step gives: fewer nodes are left, and the next one is higher up
 pub record Climbed (rising : Bool) (xs : List Node) (r : Unbalanced) (ps : List (ℕ × ℕ)) (levels : ℕ) (new : Repairing) : Type 0 where
-  pub left : ℕ
-  pub fewer : left < levels
-  pub unbalanced : IsUnbalanced rising new.0 new.1 new.2 ps left
+  pub unbalanced : IsUnbalanced rising new.0 new.1 new.2 ps
+  pub fewer : length unbalanced.context < levels
   pub kept : Keeps (λ k. times k ps) xs new.0
   pub rises : (new.2.at ≡ none → ⊥) → (node_at xs r.at).rank < (node_at new.0 new.2.at).rank
 
@@ -60,17 +59,8 @@ climbs_on : (rising : Bool) (xs : List Node) (k : ℕ) (f : Frame) (c : List Fra
     Relinked xs c u f.h ps new → k ≡ top u → Way rising f.h u → (node_at xs r.at).rank ≡ f.h →
     Climbed rising xs r ps (length c + 1) (new.0, new.1, record { at = parent_of c; child = k; rank = tall u })
 climbs_on rising xs k f c u ps r new link top_is way stored = record {
-  left = length c;
+  unbalanced = record { context = c; subtree = u; old_rank = f.h; cut = link.cut; at_is = refl; changed = λ some. (top_is, refl, way) };
   fewer = omega arith;
-  unbalanced = record {
-    context = c;
-    subtree = u;
-    old_rank = f.h;
-    cut = link.cut;
-    at_is = refl;
-    changed = λ some. (top_is, refl, way);
-    levels_are = refl;
-  };
   kept = link.kept;
   rises = λ some. omega (arith, stored, rises_above new.0 (top u) f.h c link.cut.linked link.cut.fits some);
 }
@@ -78,8 +68,6 @@ climbs_on rising xs k f c u ps r new link top_is way stored = record {
 climbs_out : (rising : Bool) (xs : List Node) (c : List Frame) (u : Tree) (ps : List (ℕ × ℕ)) (r : Unbalanced) (new : List Node × ℕ) →
     Relinked xs c u (tall u) ps new → Climbed rising xs r ps (length c + 1) (new.0, new.1, ended)
 climbs_out rising xs c u ps r new link = record {
-  left = 0;
-  fewer = omega arith;
   unbalanced = record {
     context = [];
     subtree = plug c u;
@@ -87,16 +75,17 @@ climbs_out rising xs c u ps r new link = record {
     cut = cut_whole new.0 new.1 c u ps link.cut;
     at_is = refl;
     changed = λ some. absurd (some refl);
-    levels_are = refl;
   };
+  fewer = omega arith;
   kept = link.kept;
   rises = λ some. absurd (some refl);
 }
 
-climbed_at : (rising : Bool) (xs : List Node) (root : ℕ) (c : List Frame) (t : Tree) (old : ℕ) (ps : List (ℕ × ℕ)) → (parent_of c ≡ none → ⊥) →
-    Cut xs root c t old ps → Way rising old t → Climbed rising xs (rest_at (parent_of c) t) ps (length c) (stepped rising xs root (rest_at (parent_of c) t))
-climbed_at rising xs root [] t old ps some cut way = absurd (some refl)
-climbed_at rising xs root (f ∷ c) t old ps some cut way =
+-- a step at a node, by what it gives of each goal that its results have
+climbed_at : (rising : Bool) (xs : List Node) (root : ℕ) (f : Frame) (c : List Frame) (t : Tree) (old : ℕ) (ps : List (ℕ × ℕ)) (new : Repairing) →
+    Cut xs root (f ∷ c) t old ps → ((Goal : Repairing → Type 0) → Changed xs (parent_of c) f.side t f.other f.n f.e f.h old →
+    Handles rising xs (parent_of c) (filled f t) f.h root (rest_at f.n t) Goal → Goal new) → Climbed rising xs (rest_at f.n t) ps (length c + 1) new
+climbed_at rising xs root f c t old ps new cut step =
     let x = filled f t in
     let sum : (k : ℕ) → times k ps ≡ times k (pairs x) + times k (around c) = λ k. subst (λ qs. times k qs ≡ times k (pairs x) + times k (around c))
     cut.pairs_are (times-plug k c x) in
@@ -124,8 +113,7 @@ climbed_at rising xs root (f ∷ c) t old ps some cut way =
     }) in
     let r = rest_at f.n t in
     let Goal : Repairing → Type 0 = λ new. Climbed rising xs r ps (length c + 1) new in
-    subst (λ k. Climbed rising xs r ps k (stepped rising xs root r)) (omega arith)
-    (stepped_handled rising xs root f.side t f.other f.n f.e f.h old (parent_of c) Goal changed way (record {
+    step Goal changed (record {
       on = λ ys rank new way. subst (λ h. Goal (ys, root, record { at = parent_of c; child = f.n; rank = h })) new.rank_is
           (climbs_on rising xs f.n f c new.u ps r (ys, root) (as_before ys rank new) new.root_is way stored);
       moved = λ new remade. let last = relinked new.0 root (parent_of c) f.n new.1 in
@@ -139,22 +127,46 @@ climbed_at rising xs root (f ∷ c) t old ps some cut way =
         root_is = refl;
         rank_is = refl;
       }));
-    }))
+    })
+
+climbed_next : (rising : Bool) (xs : List Node) (root : ℕ) (c : List Frame) (t : Tree) (old : ℕ) (ps : List (ℕ × ℕ)) → (parent_of c ≡ none → ⊥) →
+    Cut xs root c t old ps → Way rising old t → Climbed rising xs (rest_at (parent_of c) t) ps (length c) (stepped rising xs root (rest_at (parent_of c) t))
+climbed_next rising xs root [] t old ps some cut way = absurd (some refl)
+climbed_next rising xs root (f ∷ c) t old ps some cut way = subst (λ k. Climbed rising xs (rest_at f.n t) ps k (stepped rising xs root (rest_at f.n t))) (omega arith)
+    (climbed_at rising xs root f c t old ps (stepped rising xs root (rest_at f.n t)) cut
+    (λ Goal changed handles. stepped_handled xs root f.side t f.other f.n f.e f.h old (parent_of c) Goal changed rising way handles))
+
+-- the first step above a timer that was inserted
+abbrev first_step : Bool → List Node → (root n : ℕ) → Repairing
+first_step leaf xs root n = if leaf then (ranked xs n 2, root, record { at = (node_at xs n).parent; child = n; rank = 2 }) else (xs, root, ended)
+
+climbed_first : (leaf : Bool) (xs : List Node) (root : ℕ) (c : List Frame) (t : Tree) (old : ℕ) (ps : List (ℕ × ℕ)) → (parent_of c ≡ none → ⊥) →
+    Cut xs root c t old ps → tall t ≡ 1 → Way true old t → IsOver c leaf →
+    Climbed true xs (rest_at (parent_of c) t) ps (length c) (first_step leaf xs root (parent_of c))
+climbed_first leaf xs root [] t old ps some cut one way over = absurd (some refl)
+climbed_first leaf xs root (f ∷ c) t old ps some cut one way over =
+    subst (λ k. Climbed true xs (rest_at f.n t) ps k (first_step leaf xs root f.n)) (omega arith)
+    (subst (λ x. Climbed true xs (rest_at f.n t) ps (length c + 1) (first_step x xs root f.n)) (sym over)
+    (subst (λ (y : Node). Climbed true xs (rest_at f.n t) ps (length c + 1)
+    (if nat_eq (top f.other) none then (ranked xs f.n 2, root, record { at = y.parent; child = f.n; rank = 2 }) else (xs, root, ended)))
+    (sym cut.linked.0.is) (climbed_at true xs root f c t old ps _ cut
+    (λ Goal changed handles. leaf_handled xs root f.side t f.other f.n f.e f.h old (parent_of c) Goal changed one way handles))))
 
 -- where a repair goes on is known by the context
-rest_is : {rising : Bool} {xs : List Node} {root levels : ℕ} {r : Unbalanced} {ps : List (ℕ × ℕ)} → (r.at ≡ none → ⊥) →
-    (b : IsUnbalanced rising xs root r ps levels) → rest_at (parent_of b.context) b.subtree ≡ r
+rest_is : {rising : Bool} {xs : List Node} {root : ℕ} {r : Unbalanced} {ps : List (ℕ × ℕ)} → (r.at ≡ none → ⊥) →
+    (b : IsUnbalanced rising xs root r ps) → rest_at (parent_of b.context) b.subtree ≡ r
 rest_is {r = r} some b =
     let changed = b.changed some in
     let at : ℕ → ℕ → ℕ → Unbalanced = λ n k h. record { at = n; child = k; rank = h } in
-    sym (ap (λ n. at n r.child r.rank) b.at_is ∙ ap (λ k. at (parent_of b.context) k r.rank) changed.0 ∙ ap (λ h. at (parent_of b.context) (top b.subtree) h) changed.1)
+    sym (ap (λ n. at n r.child r.rank) b.at_is ∙ ap (λ k. at (parent_of b.context) k r.rank) changed.0
+    ∙ ap (λ h. at (parent_of b.context) (top b.subtree) h) changed.1)
 
-climbed : (rising : Bool) (xs : List Node) (root : ℕ) (r : Unbalanced) (ps : List (ℕ × ℕ)) (levels : ℕ) (new : Repairing) → (r.at ≡ none → ⊥) →
-    IsUnbalanced rising xs root r ps levels → new ≡ stepped rising xs root r → Climbed rising xs r ps levels new
-climbed rising xs root r ps levels new some b is =
-    subst (λ x. Climbed rising xs r ps levels x) (sym is) (subst (λ k. Climbed rising xs r ps k (stepped rising xs root r)) b.levels_are
+climbed : (rising : Bool) (xs : List Node) (root : ℕ) (r : Unbalanced) (ps : List (ℕ × ℕ)) (new : Repairing) → (r.at ≡ none → ⊥) →
+    (b : IsUnbalanced rising xs root r ps) → new ≡ stepped rising xs root r → Climbed rising xs r ps (length b.context) new
+climbed rising xs root r ps new some b is =
+    subst (λ x. Climbed rising xs r ps (length b.context) x) (sym is)
     (subst (λ q. Climbed rising xs q ps (length b.context) (stepped rising xs root q)) (rest_is some b)
-    (climbed_at rising xs root b.context b.subtree b.old_rank ps (λ same. some (b.at_is ∙ same)) b.cut (b.changed some).2)))
+    (climbed_next rising xs root b.context b.subtree b.old_rank ps (λ same. some (b.at_is ∙ same)) b.cut (b.changed some).2))
 
 -- ---- what a step is asked for
 
@@ -189,34 +201,37 @@ can_step_at rising xs root (f ∷ c) t old ps some cut way =
       low_at = omega (arith, stored, cut.fits.0.near_a, way_low rising old t way);
     }
 
-pub can_step : (rising : Bool) (xs : List Node) (root : ℕ) (r : Unbalanced) (ps : List (ℕ × ℕ)) (levels : ℕ) → (r.at ≡ none → ⊥) →
-    IsUnbalanced rising xs root r ps levels → CanStep xs r
-can_step rising xs root r ps levels some b = subst (λ q. CanStep xs q) (rest_is some b)
+pub can_step : (rising : Bool) (xs : List Node) (root : ℕ) (r : Unbalanced) (ps : List (ℕ × ℕ)) → (r.at ≡ none → ⊥) →
+    IsUnbalanced rising xs root r ps → CanStep xs r
+can_step rising xs root r ps some b = subst (λ q. CanStep xs q) (rest_is some b)
     (can_step_at rising xs root b.context b.subtree b.old_rank ps (λ same. some (b.at_is ∙ same)) b.cut (b.changed some).2)
 
 -- ---- the loop of a repair
+
+repairing_on : {rising : Bool} {xs ys zs : List Node} {root new_root : ℕ} {r r' : Unbalanced} {ps : List (ℕ × ℕ)} {levels old steps : ℕ} (new : ℕ) →
+    (so_far : IsRepairing rising xs ys root r ps levels old steps) → Climbed rising ys r ps (length so_far.unbalanced.context) (zs, new_root, r') →
+    new ≤ steps + 15 → IsRepairing rising xs zs new_root r' ps levels old new
+repairing_on new so_far done few = record {
+  unbalanced = done.unbalanced;
+  kept = Keeps-for (λ k gone. omega (arith, gone)) (Keeps-then so_far.kept done.kept);
+  count = omega (arith, so_far.count, few, done.fewer);
+}
 
 pub repairing_step : (rising : Bool) (xs ys zs : List Node) (root new_root : ℕ) (r r' : Unbalanced) (ps : List (ℕ × ℕ))
     (levels old_steps steps new_steps : ℕ) → IsRepairing rising xs ys root r ps levels old_steps steps → (r.at ≡ none → ⊥) →
     (zs, new_root, r') ≡ stepped rising ys root r → new_steps ≤ steps + 15 → IsRepairing rising xs zs new_root r' ps levels old_steps new_steps
 repairing_step rising xs ys zs root new_root r r' ps levels old_steps steps new_steps so_far some is few =
-    let done = climbed rising ys root r ps so_far.left (zs, new_root, r') some so_far.unbalanced is in
-    record {
-      left = done.left;
-      unbalanced = done.unbalanced;
-      kept = Keeps-for (λ k gone. omega (arith, gone)) (Keeps-then so_far.kept done.kept);
-      count = omega (arith, so_far.count, few, done.fewer);
-    }
+    repairing_on new_steps so_far (climbed rising ys root r ps (zs, new_root, r') some so_far.unbalanced is) few
 
 -- what is left of the way up, by the rank of the next node
 abbrev pub way_left : List Node → ℕ → ℕ
 way_left xs at = if nat_eq at none then 0 else 100 - (node_at xs at).rank
 
-pub repairing_smaller : (rising : Bool) (ys zs : List Node) (root new_root : ℕ) (r r' : Unbalanced) (ps : List (ℕ × ℕ)) (levels : ℕ) →
-    IsUnbalanced rising ys root r ps levels → (r.at ≡ none → ⊥) → (zs, new_root, r') ≡ stepped rising ys root r → way_left zs r'.at < way_left ys r.at
-repairing_smaller rising ys zs root new_root r r' ps levels b some is =
-    let done = climbed rising ys root r ps levels (zs, new_root, r') some b is in
-    let can = can_step rising ys root r ps levels some b in
+pub repairing_smaller : (rising : Bool) (ys zs : List Node) (root new_root : ℕ) (r r' : Unbalanced) (ps : List (ℕ × ℕ)) →
+    IsUnbalanced rising ys root r ps → (r.at ≡ none → ⊥) → (zs, new_root, r') ≡ stepped rising ys root r → way_left zs r'.at < way_left ys r.at
+repairing_smaller rising ys zs root new_root r r' ps b some is =
+    let done = climbed rising ys root r ps (zs, new_root, r') some b is in
+    let can = can_step rising ys root r ps some b in
     subst (λ x. way_left zs r'.at < (if x then 0 else 100 - (node_at ys r.at).rank)) (sym (ne_eqb r.at none some))
     (by_eq (λ x. (if x then 0 else 100 - (node_at zs r'.at).rank) < 100 - (node_at ys r.at).rank) r'.at none (λ end. omega arith)
     (λ on. omega (arith, done.rises on)))
@@ -248,33 +263,16 @@ repairing_end rising xs ys root r ps levels old_steps steps so_far end =
       count = omega (arith, so_far.count);
     }
 
-pub repairing_start : {rising : Bool} {xs : List Node} {root levels : ℕ} {r : Unbalanced} {ps : List (ℕ × ℕ)} (steps : ℕ) →
-    IsUnbalanced rising xs root r ps levels → IsRepairing rising xs xs root r ps levels steps steps
-repairing_start {levels = levels} steps b = record { left = levels; unbalanced = b; kept = record { size = refl; rest = λ k gone. refl }; count = omega arith }
+abbrev pub repairing_start : {rising : Bool} {xs : List Node} {root : ℕ} {r : Unbalanced} {ps : List (ℕ × ℕ)} (steps : ℕ) →
+    (b : IsUnbalanced rising xs root r ps) → IsRepairing rising xs xs root r ps (length b.context) steps steps
+repairing_start steps b = record { unbalanced = b; kept = record { size = refl; rest = λ k gone. refl }; count = omega arith }
 
--- a repair that is made after another one
-pub repaired_on : (rising : Bool) (xs ys zs : List Node) (root new_root : ℕ) (r : Unbalanced) (ps : List (ℕ × ℕ)) (levels old_steps steps new_steps : ℕ) →
-    (so_far : IsRepairing rising xs ys root r ps levels old_steps steps) → IsRepaired ys zs new_root ps so_far.left steps new_steps →
-    IsRepaired xs zs new_root ps levels old_steps new_steps
-repaired_on rising xs ys zs root new_root r ps levels old_steps steps new_steps so_far done = record {
-  tree = done.tree;
-  kept = Keeps-for (λ k gone. omega (arith, gone)) (Keeps-then so_far.kept done.kept);
-  count = omega (arith, done.count, so_far.count);
-}
-
--- ---- above a timer that was inserted
-
-pub settled_over : (xs : List Node) (root p id : ℕ) (ps : List (ℕ × ℕ)) (levels steps : ℕ) → (p ≡ none → ⊥) → IsAbove (node_at xs p) id false →
-    IsUnbalanced true xs root (record { at = p; child = id; rank = 1 }) ps levels → IsRepaired xs xs root ps levels steps steps
-settled_over xs root p id ps levels steps some above b =
-    let r : Unbalanced = record { at = p; child = id; rank = 1 } in
-    repairing_end true xs xs root ended ps levels steps steps
-    (repairing_step true xs xs xs root root r ended ps levels steps steps steps (repairing_start steps b) some (risen_over xs root r above) (omega arith)) refl
-
-pub settled_leaf : (xs ys : List Node) (root p id : ℕ) (r' : Unbalanced) (ps : List (ℕ × ℕ)) (levels steps new_steps : ℕ) → (p ≡ none → ⊥) →
-    IsAbove (node_at xs p) id true → ys ≡ ranked xs p 2 → r' ≡ record { at = (node_at xs p).parent; child = p; rank = 2 } → new_steps ≡ steps + 2 →
-    IsUnbalanced true xs root (record { at = p; child = id; rank = 1 }) ps levels → IsRepairing true xs ys root r' ps levels steps new_steps
-settled_leaf xs ys root p id r' ps levels steps new_steps some above ys_is r_is two b =
-    let on : List Node → Unbalanced → Repairing = λ zs q. (zs, root, q) in
-    repairing_step true xs xs ys root root (record { at = p; child = id; rank = 1 }) r' ps levels steps steps new_steps (repairing_start steps b) some
-    (ap (λ zs. on zs r') ys_is ∙ ap (λ q. on (ranked xs p 2) q) r_is ∙ risen_leaf xs root p id b.cut.fit.small above) (omega (arith, two))
+-- the first step above a timer that was inserted
+pub settling : (leaf : Bool) (xs ys : List Node) (root n id : ℕ) (r' : Unbalanced) (ps : List (ℕ × ℕ)) (steps new_steps : ℕ) → (n ≡ none → ⊥) →
+    (b : IsUnbalanced true xs root (record { at = n; child = id; rank = 1 }) ps) → IsOver b.context leaf → (ys, root, r') ≡ first_step leaf xs root n →
+    new_steps ≤ steps + 15 → IsRepairing true xs ys root r' ps (length b.context) steps new_steps
+settling leaf xs ys root n id r' ps steps new_steps some b over is few =
+    let changed = b.changed some in
+    repairing_on new_steps (repairing_start steps b) (subst (λ x. Climbed true xs (record { at = n; child = id; rank = 1 }) ps (length b.context) x) (sym is)
+    (subst (λ q. Climbed true xs q ps (length b.context) (first_step leaf xs root q.at)) (rest_is some b)
+    (climbed_first leaf xs root b.context b.subtree b.old_rank ps (λ same. some (b.at_is ∙ same)) b.cut (sym changed.1) changed.2 over))) few

@@ -7,12 +7,13 @@ use Rattle.timer_queue.proofs.Pairs.{IsQueue-without}
 use Rattle.timer_tree.specs.Nodes.{none, node_at}
 use Rattle.timer_tree.specs.Rotate.{ranked}
 use Rattle.timer_tree.specs.Trees.{Tree, Leaf, Fork, top, tall, pairs, IsAt, IsBalanced, one, times, first_id, Keeps}
-use Rattle.timer_tree.specs.Contexts.{Frame, parent_of, before, after, ahead, behind, IsStored, IsUnbalanced, IsRepaired}
+use Rattle.timer_tree.specs.Contexts.{Frame, parent_of, before, after, ahead, behind, IsStored, IsRepairing, IsRepaired, Cut}
 use Rattle.timer_tree.specs.Places.{first_off}
 use Rattle.timer_tree.specs.Takes.{IsTaking, IsTaken}
 use Rattle.timer_tree.proofs.Trees.{by_eq, times-append, one_same, one_le, apart_one, Keeps-then, set_keeps, set_stands, IsAt-kept, IsAround-kept, pairs-plug}
 use Rattle.timer_tree.proofs.Trees.{tall-le, cut_times}
 use Rattle.timer_tree.proofs.Stores.{Gives, queue_again, queue_at-is, present_times}
+use Rattle.timer_tree.proofs.Climbs.{repairing_start}
 use Rattle.timer_tree.proofs.Taking.{place_of, without_part, gone_times, other_times}
 use Rattle.timer_tree.specs.declared.node.Node.{Node}
 use Rattle.timer_tree.specs.declared.node.Side.{Side}
@@ -82,53 +83,53 @@ erased_first xs root first id node ps new_first taking first_is node_is new_is =
 
 -- ---- the node that was taken out is written
 
-unbalanced_kept : (xs ys : List Node) (root : ℕ) (r : Unbalanced) (ps : List (ℕ × ℕ)) (levels n : ℕ) → times n ps ≡ 0 → Keeps (λ k. one k n) xs ys →
-    IsUnbalanced false xs root r ps levels → IsUnbalanced false ys root r ps levels
-unbalanced_kept xs ys root r ps levels n gone kept b =
-    let c = b.context in
-    let cut = b.cut in
+cut_kept : {xs ys : List Node} {root h : ℕ} {c : List Frame} {t : Tree} {ps : List (ℕ × ℕ)} (n : ℕ) → times n ps ≡ 0 → Keeps (λ k. one k n) xs ys →
+    Cut xs root c t h ps → Cut ys root c t h ps
+cut_kept {c = c} {t = t} {ps = ps} n gone kept cut =
     let apart : (k : ℕ) → one k n + times k ps ≤ 1 = λ k. elim (cases_eq k n) [
       | inl same ↦ omega (arith, one_le k n, subst (λ j. times j ps ≡ 0) (sym same) gone)
       | inr other ↦ omega (arith, apart_one k n other, cut.fit.once k)
     ] in
     record {
-      context = c;
-      subtree = b.subtree;
-      old_rank = b.old_rank;
-      cut = record {
-        fit = record { small = omega (arith, kept.size, cut.fit.small); few = cut.fit.few; once = cut.fit.once };
-        linked = IsAround-kept (top b.subtree) c kept (λ k. omega (arith, apart k, cut_times cut k)) cut.linked;
-        under = IsAt-kept (parent_of c) b.subtree kept (λ k. omega (arith, apart k, cut_times cut k)) cut.under;
-        root_is = cut.root_is;
-        balanced = cut.balanced;
-        fits = cut.fits;
-        pairs_are = cut.pairs_are;
-      };
-      at_is = b.at_is;
-      changed = b.changed;
-      levels_are = b.levels_are;
+      fit = record { small = omega (arith, kept.size, cut.fit.small); few = cut.fit.few; once = cut.fit.once };
+      linked = IsAround-kept (top t) c kept (λ k. omega (arith, apart k, cut_times cut k)) cut.linked;
+      under = IsAt-kept (parent_of c) t kept (λ k. omega (arith, apart k, cut_times cut k)) cut.under;
+      root_is = cut.root_is;
+      balanced = cut.balanced;
+      fits = cut.fits;
+      pairs_are = cut.pairs_are;
     }
 
 pub takes : (xs : List Node) (root first id : ℕ) (ps : List (ℕ × ℕ)) → IsStored xs root first ps → has_id id ps ≡ true → IsTaking xs root id ps
 takes xs root first id ps stored present = record { tree = stored.is_tree; present = present_times id ps present }
 
 -- what a repair is asked for
-pub taken_can : (xs : List Node) (id : ℕ) (ps : List (ℕ × ℕ)) (ys : List Node) (mid_root : ℕ) (r : Unbalanced) (old steps : ℕ) (zs : List Node) →
-    (taken : IsTaken xs id ps ys mid_root r old steps) → zs ≡ ranked ys id 0 → IsUnbalanced false zs mid_root r (without id ps) taken.levels
-taken_can xs id ps ys mid_root r old steps zs taken is =
-    subst (λ x. IsUnbalanced false x mid_root r (without id ps) taken.levels) (sym is) (unbalanced_kept ys (ranked ys id 0) mid_root r (without id ps)
-    taken.levels id (gone_times id ps) (set_keeps ys id (record (node_at ys id) { rank = 0 })) taken.unbalanced)
+pub taken_can : (xs : List Node) (id : ℕ) (ps : List (ℕ × ℕ)) (ys : List Node) (mid_root : ℕ) (r : Unbalanced) (old steps : ℕ) (zs : List Node) (new : ℕ) →
+    (taken : IsTaken xs id ps ys mid_root r old steps) → zs ≡ ranked ys id 0 →
+    IsRepairing false zs zs mid_root r (without id ps) (length taken.unbalanced.context) new new
+taken_can xs id ps ys mid_root r old steps zs new taken is =
+    let b = taken.unbalanced in
+    let kept = subst (λ us. Keeps (λ k. one k id) ys us) (sym is) (set_keeps ys id (record (node_at ys id) { rank = 0 })) in
+    repairing_start new (record {
+      context = b.context;
+      subtree = b.subtree;
+      old_rank = b.old_rank;
+      cut = cut_kept id (gone_times id ps) kept b.cut;
+      at_is = b.at_is;
+      changed = b.changed;
+    })
 
 -- the queue after a timer was taken out
 pub erased : (xs : List Node) (root first id : ℕ) (node : Node) (ps : List (ℕ × ℕ)) (ys : List Node) (mid_root : ℕ) (r : Unbalanced)
     (old read_steps taken_steps : ℕ) (zs : List Node) (written_steps : ℕ) (ws : List Node) (new_root new_first new_steps : ℕ) → IsStored xs root first ps →
     IsTaking xs root id ps → node ≡ node_at xs id → new_first ≡ first_off node first id → read_steps ≡ old + 1 →
     IsTaken xs id ps ys mid_root r read_steps taken_steps → zs ≡ ranked ys id 0 → written_steps ≡ taken_steps + 1 →
-    ((qs : List (ℕ × ℕ)) (levels : ℕ) → IsUnbalanced false zs mid_root r qs levels → IsRepaired zs ws new_root qs levels written_steps new_steps) →
+    ((us : List Node) (qs : List (ℕ × ℕ)) (levels start : ℕ) → IsRepairing false us zs mid_root r qs levels start written_steps →
+    IsRepaired us ws new_root qs levels start new_steps) →
     Gives ps (without id ps) (length xs) ws new_root new_first old new_steps
 erased xs root first id node ps ys mid_root r old read_steps taken_steps zs written_steps ws new_root new_first new_steps stored taking node_is first_is
     one_read taken zs_is one_write repairs =
-    let repaired = repairs (without id ps) taken.levels (taken_can xs id ps ys mid_root r read_steps taken_steps zs taken zs_is) in
+    let repaired = repairs zs (without id ps) _ _ (taken_can xs id ps ys mid_root r read_steps taken_steps zs written_steps taken zs_is) in
     let unlinked = record (node_at ys id) { rank = 0 } in
     let set = set_keeps ys id unlinked in
     let kept = Keeps-then taken.kept (Keeps-then (subst (λ us. Keeps (λ k. one k id) ys us) (sym zs_is) set) repaired.kept) in

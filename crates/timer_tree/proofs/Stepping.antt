@@ -1,14 +1,14 @@
 -- What a step of a repair makes of a node.
 use Rattle.std.proofs.Common.{◌≡◌, ℕ, Bool, true, false, ◌+◌, ◌-◌, ◌<◌, ◌≤◌, List, length, nat_eq, nat_lt, ◌||◌, ◌&&◌, if◌then◌else◌, arith, refl, ap, ◌∙◌, sym}
 use Rattle.std.proofs.Common.{subst, max, inl, inr}
-use Rattle.std.proofs.lemmas.Bool.{lt-ltb, le-ltb, eq-eqb, ne_eqb, cases_lt, cases_eq}
+use Rattle.std.proofs.lemmas.Bool.{eq-eqb, ne_eqb, cases_lt, cases_eq}
 use Rattle.timer_tree.specs.Nodes.{none, node_at, far, with_links, next, other_side, child_side, is_high_leaf}
 use Rattle.timer_tree.specs.Links.{relinked}
 use Rattle.timer_tree.specs.Rotate.{rotated, rotated_up, ranked}
 use Rattle.timer_tree.specs.Moves.{Repairing, gone_on, ended, raised, risen, has_higher, sunk, lowered, stepped}
 use Rattle.timer_tree.specs.declared.repair.Unbalanced.{Unbalanced}
 use Rattle.timer_tree.specs.Trees.{Tree, Leaf, Fork, top, tall, pairs, IsAt, HasRank, IsBalanced, times}
-use Rattle.timer_tree.specs.Contexts.{fork, IsTilted, IsAbove, Way}
+use Rattle.timer_tree.specs.Contexts.{fork, IsTilted, Way}
 use Rattle.timer_tree.proofs.Trees.{by_eq, by_lt, times-fork, one_same, top_apart, rank_at, no_top, IsAt-fork, fork-IsBalanced, turned}
 use Rattle.timer_tree.specs.declared.node.Node.{Node}
 use Rattle.timer_tree.specs.declared.node.Side.{Side}
@@ -77,64 +77,6 @@ at_side xs s t o n e h old p P is some holds =
     let side = child_side_is s e (top t) (top o) p h (roots_apart xs s t o n e h is.whole.small is.whole.once parts.1 parts.2 some) in
     subst (λ d. P d (far d node)) (sym side) (subst (λ k. P s k) (sym (far-with_links s e (top t) (top o) p h)) holds)
 
--- ---- a subtree that has risen
-
-raised_handled : (xs : List Node) (root : ℕ) (s : Side) (t o : Tree) (n e h old p : ℕ) (Goal : Repairing → Type 0) → Changed xs p s t o n e h old →
-    Way true old t → h ≤ tall t → Handles true xs p (fork s t n e h o) h root (rest_at n t) Goal → Goal (raised xs root s (rest_at n t) (top o) p h)
-unfolding raised
-raised_handled xs root s t o n e h old p Goal is way up handles =
-    let parts = IsAt-fork xs p s t o n e h is.whole.at in
-    let more : next h ≡ h + 1 = next_is h (omega arith) in
-    let other_is : next (node_at xs (top o)).rank ≡ tall o + 1 = ap next (rank_at xs n o is.whole.small parts.2) ∙ next_is (tall o) (omega arith) in
-    let turned : List Node × ℕ → Repairing = λ new. (new.0, new.1, ended) in
-    by_eq (λ x. Goal (if x then (ranked xs n (next h), root, gone_on (rest_at n t) p (next h)) else turned (rotated_up xs root s n (top t))))
-    (next (node_at xs (top o)).rank) h (λ same.
-    let new = reranked xs s t o n e h old p (next h) is
-    (record { below_a = omega arith; below_b = omega arith; near_a = omega arith; near_b = omega arith; near_both = omega arith }) in
-    handles.on _ (next h) new
-    (omega arith, omega arith, λ rises tall. fork-tilted s t o n e (next h) (next h) (omega arith) (omega arith)))
-    (λ apart. subst (λ x. Goal (turned x)) (sym (up_rotated xs root s n (top t) (with_links s e (top t) (top o) p h) parts.0.is))
-    (handles.moved _ (lean_rotated xs s t o n e h p is.whole is.balanced_t is.balanced_o (omega arith) (omega arith) (omega arith) (omega arith)
-    (let same : tall t ≡ h = omega arith in subst (λ k. IsTilted t k) same (way.2 (omega arith) (omega arith))))))
-
-risen_handled : (xs : List Node) (root : ℕ) (s : Side) (t o : Tree) (n e h old p : ℕ) (Goal : Repairing → Type 0) → Changed xs p s t o n e h old →
-    Way true old t → Handles true xs p (fork s t n e h o) h root (rest_at n t) Goal → Goal (risen xs root (rest_at n t) (with_links s e (top t) (top o) p h))
-unfolding risen
-risen_handled xs root s t o n e h old p Goal is way handles =
-    let node = with_links s e (top t) (top o) p h in
-    let d = child_side node (top t) in
-    by_lt (λ x. Goal (if x then (xs, root, ended) else raised xs root d (rest_at n t) (far d node) p h)) (tall t) h
-    (λ over. handles.stop (fork-IsBalanced s t o n e h
-    (record { below_a = over; below_b = is.has.below_b; near_a = omega arith; near_b = is.has.near_b; near_both = omega arith }, is.balanced_t, is.balanced_o)))
-    (λ high. at_side xs s t o n e h old p (λ d k. Goal (raised xs root d (rest_at n t) k p h)) is (omega arith)
-    (raised_handled xs root s t o n e h old p Goal is way high handles))
-
--- a node that is high enough already
-pub risen_over : (xs : List Node) (root : ℕ) (r : Unbalanced) → r.rank < (node_at xs r.at).rank → (xs, root, ended) ≡ stepped true xs root r
-unfolding risen
-risen_over xs root r over =
-    let node = node_at xs r.at in
-    let side = child_side node r.child in
-    sym (ap (λ x. if x then (xs, root, ended) else raised xs root side r (far side node) node.parent node.rank) (lt-ltb r.rank node.rank over))
-
--- a leaf that has got a subtree
-pub risen_leaf : (xs : List Node) (root at child : ℕ) → length xs ≤ none → IsAbove (node_at xs at) child true →
-    (ranked xs at 2, root, record { at = (node_at xs at).parent; child = at; rank = 2 }) ≡ stepped true xs root (record { at = at; child = child; rank = 1 })
-unfolding risen raised
-risen_leaf xs root at child small above =
-    let node = node_at xs at in
-    let side = child_side node child in
-    let r : Unbalanced = record { at = at; child = child; rank = 1 } in
-    let up : ℕ → Repairing = λ h. (ranked xs at h, root, gone_on r node.parent h) in
-    let turned = rotated_up xs root side at child in
-    sym (
-    ap (λ x. if x then (xs, root, ended) else raised xs root side r (far side node) node.parent node.rank) (le-ltb 1 node.rank (omega (arith, above.0)))
-    ∙ ap (λ k. raised xs root side r k node.parent node.rank) above.1
-    ∙ ap (λ h. raised xs root side r none node.parent h) above.0
-    ∙ ap (λ h. if nat_eq h 1 then up (next 1) else (turned.0, turned.1, ended)) (ap next (rank_at xs none Leaf small tt) ∙ next_is 0 (omega arith))
-    ∙ ap up (next_is 1 (omega arith))
-    )
-
 -- ---- a subtree that has sunk
 
 sunk_rotated : (xs : List Node) (s : Side) (t o : Tree) (n e h old p : ℕ) → Changed xs p s t o n e h old → tall o ≡ tall t + 2 → tall o + 1 ≡ h →
@@ -160,7 +102,6 @@ sunk_handled xs root s t Leaf n e h old p Goal is way down handles = let never :
 sunk_handled xs root s t (Fork l m f g q) n e h old p Goal is way down handles =
     let o = Fork l m f g q in
     let parts = IsAt-fork xs p s t o n e h is.whole.at in
-    
     let r = rest_at n t in
     let rank_m : (node_at xs m).rank ≡ g = ap (λ (x : Node). x.rank) parts.2.0.is in
     let turned : List Node × ℕ → Repairing = λ new. (new.0, new.1, ended) in
@@ -201,47 +142,87 @@ pub no_tree : (t : Tree) → IsBalanced t → tall t ≡ 0 → t ≡ Leaf
 no_tree Leaf balanced flat = refl
 no_tree (Fork l n e h r) balanced flat = let never : ⊥ = omega (arith, balanced.0.below_a, flat) in absurd never
 
-settled_handled : (xs : List Node) (root : ℕ) (s : Side) (t o : Tree) (n e h old p : ℕ) (Goal : Repairing → Type 0) → Changed xs p s t o n e h old →
-    tall t < h → h ≤ tall t + 2 → Handles false xs p (fork s t n e h o) h root (rest_at n t) Goal →
-    Goal (if is_high_leaf (with_links s e (top t) (top o) p h) then (ranked xs n 1, root, gone_on (rest_at n t) p 1) else (xs, root, ended))
-settled_handled xs root s t o n e h old p Goal is over near handles =
-    let parts = IsAt-fork xs p s t o n e h is.whole.at in
-    by_leaf (λ x. Goal (if x then (ranked xs n 1, root, gone_on (rest_at n t) p 1) else (xs, root, ended))) s e (top t) (top o) p h (λ leaf.
-    let two = leaf.0 in
-    let flat_t = ap tall (no_top xs n t is.whole.small parts.1 leaf.1) in
-    let flat_o = ap tall (no_top xs n o is.whole.small parts.2 leaf.2) in
-    let new = reranked xs s t o n e h old p 1 is
-    (record { below_a = omega arith; below_b = omega arith; near_a = omega arith; near_b = omega arith; near_both = omega arith }) in
-    handles.on _ 1 new (omega arith, omega arith))
-    (λ other.
-    let both : h ≤ tall t + tall o + 1 = elim (cases_lt 0 (tall t + tall o)) [
-      | inl some ↦ omega arith
-      | inr nothing ↦ elim (cases_eq h 2) [
-        | inl two ↦ absurd (other (two, ap top (no_tree t is.balanced_t (omega arith)), ap top (no_tree o is.balanced_o (omega arith))))
-        | inr one ↦ omega arith
-      ]
-    ] in
-    handles.stop (fork-IsBalanced s t o n e h
-    (record { below_a = over; below_b = is.has.below_b; near_a = near; near_b = is.has.near_b; near_both = both }, is.balanced_t, is.balanced_o)))
+-- ---- a step at a node
 
-lowered_handled : (xs : List Node) (root : ℕ) (s : Side) (t o : Tree) (n e h old p : ℕ) (Goal : Repairing → Type 0) → Changed xs p s t o n e h old →
-    Way false old t → Handles false xs p (fork s t n e h o) h root (rest_at n t) Goal → Goal (lowered xs root (rest_at n t) (with_links s e (top t) (top o) p h))
-unfolding lowered
-lowered_handled xs root s t o n e h old p Goal is way handles =
-    let node = with_links s e (top t) (top o) p h in
-    let d = child_side node (top t) in
-    let r = rest_at n t in
-    by_lt (λ x. Goal (if x then sunk xs root d r (far d node) p h else (if is_high_leaf node then (ranked xs n 1, root, gone_on r p 1) else (xs, root, ended))))
-    (tall t + 2) h (λ down. at_side xs s t o n e h old p (λ d k. Goal (sunk xs root d r k p h)) is (omega arith)
-    (sunk_handled xs root s t o n e h old p Goal is way down handles)) (λ close. settled_handled xs root s t o n e h old p Goal is (omega arith) close handles)
+module _ (xs : List Node) (root : ℕ) (s : Side) (t o : Tree) (n e h old p : ℕ) (Goal : Repairing → Type 0) (is : Changed xs p s t o n e h old) where
+  raised_handled : Way true old t → h ≤ tall t → Handles true xs p (fork s t n e h o) h root (rest_at n t) Goal →
+      Goal (raised xs root s (rest_at n t) (top o) p h)
+  unfolding raised
+  raised_handled way up handles =
+      let parts = IsAt-fork xs p s t o n e h is.whole.at in
+      let more : next h ≡ h + 1 = next_is h (omega arith) in
+      let other_is : next (node_at xs (top o)).rank ≡ tall o + 1 = ap next (rank_at xs n o is.whole.small parts.2) ∙ next_is (tall o) (omega arith) in
+      let turned : List Node × ℕ → Repairing = λ new. (new.0, new.1, ended) in
+      by_eq (λ x. Goal (if x then (ranked xs n (next h), root, gone_on (rest_at n t) p (next h)) else turned (rotated_up xs root s n (top t))))
+      (next (node_at xs (top o)).rank) h (λ same.
+      let new = reranked xs s t o n e h old p (next h) is
+      (record { below_a = omega arith; below_b = omega arith; near_a = omega arith; near_b = omega arith; near_both = omega arith }) in
+      handles.on _ (next h) new (omega arith, omega arith, λ rises tall. fork-tilted s t o n e (next h) (next h) (omega arith) (omega arith)))
+      (λ apart. subst (λ x. Goal (turned x)) (sym (up_rotated xs root s n (top t) (with_links s e (top t) (top o) p h) parts.0.is))
+      (handles.moved _ (lean_rotated xs s t o n e h p is.whole is.balanced_t is.balanced_o (omega arith) (omega arith) (omega arith) (omega arith)
+      (let same : tall t ≡ h = omega arith in subst (λ k. IsTilted t k) same (way.2 (omega arith) (omega arith))))))
 
--- ---- either step
+  risen_handled : Way true old t → Handles true xs p (fork s t n e h o) h root (rest_at n t) Goal →
+      Goal (risen xs root (rest_at n t) (with_links s e (top t) (top o) p h))
+  unfolding risen
+  risen_handled way handles =
+      let node = with_links s e (top t) (top o) p h in
+      let d = child_side node (top t) in
+      by_lt (λ x. Goal (if x then (xs, root, ended) else raised xs root d (rest_at n t) (far d node) p h)) (tall t) h
+      (λ over. handles.stop (fork-IsBalanced s t o n e h
+      (record { below_a = over; below_b = omega arith; near_a = omega arith; near_b = omega arith; near_both = omega arith }, is.balanced_t, is.balanced_o)))
+      (λ high. at_side xs s t o n e h old p (λ d k. Goal (raised xs root d (rest_at n t) k p h)) is (omega arith) (raised_handled way high handles))
 
-pub stepped_handled : (rising : Bool) (xs : List Node) (root : ℕ) (s : Side) (t o : Tree) (n e h old p : ℕ) (Goal : Repairing → Type 0) →
-    Changed xs p s t o n e h old → Way rising old t → Handles rising xs p (fork s t n e h o) h root (rest_at n t) Goal → Goal (stepped rising xs root (rest_at n t))
-stepped_handled true xs root s t o n e h old p Goal is way handles =
-    subst (λ x. Goal (risen xs root (rest_at n t) x)) (sym (IsAt-fork xs p s t o n e h is.whole.at).0.is)
-    (risen_handled xs root s t o n e h old p Goal is way handles)
-stepped_handled false xs root s t o n e h old p Goal is way handles =
-    subst (λ x. Goal (lowered xs root (rest_at n t) x)) (sym (IsAt-fork xs p s t o n e h is.whole.at).0.is)
-    (lowered_handled xs root s t o n e h old p Goal is way handles)
+  -- a node that has got a timer of the rank 1 below it
+  pub leaf_handled : tall t ≡ 1 → Way true old t → Handles true xs p (fork s t n e h o) h root (rest_at n t) Goal →
+      Goal (if nat_eq (top o) none then (ranked xs n 2, root, gone_on (rest_at n t) p 2) else (xs, root, ended))
+  leaf_handled one way handles =
+      by_eq (λ x. Goal (if x then (ranked xs n 2, root, gone_on (rest_at n t) p 2) else (xs, root, ended))) (top o) none (λ end.
+      let flat = ap tall (no_top xs n o is.whole.small (IsAt-fork xs p s t o n e h is.whole.at).2 end) in
+      let new = reranked xs s t o n e h old p 2 is
+      (record { below_a = omega arith; below_b = omega arith; near_a = omega arith; near_b = omega arith; near_both = omega arith }) in
+      handles.on _ 2 new (omega arith, omega arith, λ rises tall. fork-tilted s t o n e 2 2 (omega arith) (omega arith))) (λ some.
+      let high : 0 < tall o = elim (cases_eq (tall o) 0) [
+        | inl flat ↦ absurd (some (ap top (no_tree o is.balanced_o flat)))
+        | inr high ↦ omega arith
+      ] in
+      handles.stop (fork-IsBalanced s t o n e h
+      (record { below_a = omega arith; below_b = omega arith; near_a = omega arith; near_b = omega arith; near_both = omega arith }, is.balanced_t, is.balanced_o)))
+
+  settled_handled : tall t < h → h ≤ tall t + 2 → Handles false xs p (fork s t n e h o) h root (rest_at n t) Goal →
+      Goal (if is_high_leaf (with_links s e (top t) (top o) p h) then (ranked xs n 1, root, gone_on (rest_at n t) p 1) else (xs, root, ended))
+  settled_handled over near handles =
+      let parts = IsAt-fork xs p s t o n e h is.whole.at in
+      by_leaf (λ x. Goal (if x then (ranked xs n 1, root, gone_on (rest_at n t) p 1) else (xs, root, ended))) s e (top t) (top o) p h (λ leaf.
+      let flat_t = ap tall (no_top xs n t is.whole.small parts.1 leaf.1) in
+      let flat_o = ap tall (no_top xs n o is.whole.small parts.2 leaf.2) in
+      let new = reranked xs s t o n e h old p 1 is
+      (record { below_a = omega arith; below_b = omega arith; near_a = omega arith; near_b = omega arith; near_both = omega arith }) in
+      handles.on _ 1 new (omega (arith, leaf.0), omega (arith, leaf.0))) (λ other.
+      let both : h ≤ tall t + tall o + 1 = elim (cases_lt 0 (tall t + tall o)) [
+        | inl some ↦ omega arith
+        | inr nothing ↦ elim (cases_eq h 2) [
+          | inl two ↦ absurd (other (two, ap top (no_tree t is.balanced_t (omega arith)), ap top (no_tree o is.balanced_o (omega arith))))
+          | inr one ↦ omega arith
+        ]
+      ] in
+      handles.stop (fork-IsBalanced s t o n e h
+      (record { below_a = over; below_b = omega arith; near_a = near; near_b = omega arith; near_both = both }, is.balanced_t, is.balanced_o)))
+
+  lowered_handled : Way false old t → Handles false xs p (fork s t n e h o) h root (rest_at n t) Goal →
+      Goal (lowered xs root (rest_at n t) (with_links s e (top t) (top o) p h))
+  unfolding lowered
+  lowered_handled way handles =
+      let node = with_links s e (top t) (top o) p h in
+      let d = child_side node (top t) in
+      let r = rest_at n t in
+      by_lt (λ x. Goal (if x then sunk xs root d r (far d node) p h else (if is_high_leaf node then (ranked xs n 1, root, gone_on r p 1) else (xs, root, ended))))
+      (tall t + 2) h (λ down. at_side xs s t o n e h old p (λ d k. Goal (sunk xs root d r k p h)) is (omega arith)
+      (sunk_handled xs root s t o n e h old p Goal is way down handles)) (λ close. settled_handled (omega arith) close handles)
+
+  pub stepped_handled : (rising : Bool) → Way rising old t → Handles rising xs p (fork s t n e h o) h root (rest_at n t) Goal →
+      Goal (stepped rising xs root (rest_at n t))
+  stepped_handled true way handles =
+      subst (λ x. Goal (risen xs root (rest_at n t) x)) (sym (IsAt-fork xs p s t o n e h is.whole.at).0.is) (risen_handled way handles)
+  stepped_handled false way handles =
+      subst (λ x. Goal (lowered xs root (rest_at n t) x)) (sym (IsAt-fork xs p s t o n e h is.whole.at).0.is) (lowered_handled way handles)

@@ -175,7 +175,6 @@ one_part xs root id node ps c l e h r u new old steps cut same_times same_pairs 
     let done = subst (λ x. Put xs c u x) (sym is) (spliced_put xs root id node c u cut.fit.small (omega (arith, cut.under.0.inside, cut.fit.small))
     (λ k. omega (arith, once k, sum k)) cut.linked at_u cut.root_is part_is parent_is) in
     record {
-      levels = length c;
       unbalanced = record {
         context = c;
         subtree = u;
@@ -191,7 +190,6 @@ one_part xs root id node ps c l e h r u new old steps cut same_times same_pairs 
         };
         at_is = parent_is;
         changed = λ some. (part_is, omega (arith, rank_stored, rank), (omega (arith, rank), omega (arith, rank)));
-        levels_are = refl;
       };
       kept = Keeps-for (λ k gone. omega (arith, sum k, gone)) done.kept;
       low = λ d less. omega (arith, cut_low xs root c (Fork l id e h r) ps cut d less);
@@ -274,7 +272,6 @@ two_at xs root id ps c l e h low mid new at old steps low_steps d Leaf e' h' res
     let size_c = length-append d (f ∷ c) in
     let size_g = length-append d (g ∷ c) in
     record {
-      levels = length (d ++ g ∷ c);
       unbalanced = record {
         context = d ++ g ∷ c;
         subtree = rest;
@@ -297,7 +294,6 @@ two_at xs root id ps c l e h low mid new at old steps low_steps d Leaf e' h' res
           omega (arith, ap (λ (x : Node). x.rank) here, rank.near_both, rank.below_b),
           (omega (arith, rank.below_b), omega (arith, rank.near_both, rank.below_b)),
         );
-        levels_are = refl;
       };
       kept = kept;
       low = λ digits small. omega (arith, cut_low xs root whole subtree ps cut digits small, size_c, size_g, rank.below_a);

@@ -1,6 +1,6 @@
 -- A tree with a hole in it: what stands above a subtree, from the nearest node to the root.
-use Rattle.std.specs.Prelude.{ℕ, Bool, true, false, ◌+◌, ◌*◌, ◌<◌, ◌≤◌, min, max, ◌≡◌, List, [], ◌∷◌, ◌++◌, length}
-use Rattle.timer_tree.specs.Nodes.{none, pick, with_links, node_at, far, child_side}
+use Rattle.std.specs.Prelude.{ℕ, Bool, true, false, ◌+◌, ◌*◌, ◌<◌, ◌≤◌, min, max, nat_eq, ◌≡◌, List, [], ◌∷◌, ◌++◌, length}
+use Rattle.timer_tree.specs.Nodes.{none, pick, with_links, node_at}
 use Rattle.timer_tree.specs.Trees.{Tree, Leaf, Fork, top, tall, pairs, IsAt, HasRank, IsBalanced, Stands, times, first_id, Keeps}
 use Rattle.timer_queue.specs.Pairs.{IsQueue}
 use Rattle.timer_tree.specs.declared.node.Node.{Node}
@@ -112,22 +112,20 @@ abbrev pub Way : (rising : Bool) → (old : ℕ) → Tree → Type 0
 Way true old t = (old ≤ tall t) × (tall t ≤ old + 1) × (old < tall t → 1 < tall t → IsTilted t (tall t))
 Way false old t = (tall t ≤ old) × (old ≤ tall t + 1)
 
--- the block holds a tree of these pairs that is balanced but for the ranks from one node upwards, with so many nodes from there to the root
-pub record IsUnbalanced (rising : Bool) (xs : List Node) (root : ℕ) (r : Unbalanced) (ps : List (ℕ × ℕ)) (levels : ℕ) : Type 0 where
+-- the block holds a tree of these pairs that is balanced but for the ranks from one node upwards, and the context is what stands from there up
+pub record IsUnbalanced (rising : Bool) (xs : List Node) (root : ℕ) (r : Unbalanced) (ps : List (ℕ × ℕ)) : Type 0 where
   pub context : List Frame
   pub subtree : Tree
   pub old_rank : ℕ
   pub cut : Cut xs root context subtree old_rank ps
   pub at_is : r.at ≡ parent_of context
   pub changed : (r.at ≡ none → ⊥) → (r.child ≡ top subtree) × (r.rank ≡ tall subtree) × Way rising old_rank subtree
-  pub levels_are : length context ≡ levels
 
--- what a repair has done when so many nodes are left, at 15 steps a node
+-- what a repair has done so far, at 15 steps a node
 pub record IsRepairing (rising : Bool) (xs ys : List Node) (root : ℕ) (r : Unbalanced) (ps : List (ℕ × ℕ)) (levels old_steps steps : ℕ) : Type 0 where
-  pub left : ℕ
-  pub unbalanced : IsUnbalanced rising ys root r ps left
+  pub unbalanced : IsUnbalanced rising ys root r ps
   pub kept : Keeps (λ k. times k ps) xs ys
-  pub count : steps + 15 * left ≤ old_steps + 15 * levels
+  pub count : steps + 15 * length unbalanced.context ≤ old_steps + 15 * levels
 
 -- the block holds a balanced tree of the same pairs, after so many steps at most
 pub record IsRepaired (xs ys : List Node) (root : ℕ) (ps : List (ℕ × ℕ)) (levels old_steps steps : ℕ) : Type 0 where
@@ -135,7 +133,7 @@ pub record IsRepaired (xs ys : List Node) (root : ℕ) (ps : List (ℕ × ℕ)) 
   pub kept : Keeps (λ k. times k ps) xs ys
   pub count : steps ≤ old_steps + 15 * levels
 
--- a node above a timer that was inserted: whether it was a leaf says what its rank is, and that it has no other subtree
-abbrev pub IsAbove : Node → (id : ℕ) → (leaf : Bool) → Type 0
-IsAbove node id true = (node.rank ≡ 1) × (far (child_side node id) node ≡ none)
-IsAbove node id false = 1 < node.rank
+-- whether the hole's parent has nothing on the other side
+abbrev pub IsOver : List Frame → (leaf : Bool) → Type 0
+IsOver [] leaf = Unit
+IsOver (f ∷ c) leaf = leaf ≡ nat_eq (top f.other) none

@@ -33,8 +33,7 @@ pub record IsTaking (xs : List Node) (root id : ℕ) (ps : List (ℕ × ℕ)) : 
 
 -- the tree without it, which is balanced but for some ranks; other timers' nodes have not changed
 pub record IsTaken (xs : List Node) (id : ℕ) (ps : List (ℕ × ℕ)) (ys : List Node) (new_root : ℕ) (r : Unbalanced) (old_steps steps : ℕ) : Type 0 where
-  pub levels : ℕ
-  pub unbalanced : IsUnbalanced false ys new_root r (without id ps) levels
+  pub unbalanced : IsUnbalanced false ys new_root r (without id ps)
   pub kept : Keeps (λ k. times k ps) xs ys
-  pub low : (d : ℕ) → length ps + 1 < 2 ^ d → levels + 1 ≤ 2 * d
-  pub count : steps ≤ old_steps + levels + 10
+  pub low : (d : ℕ) → length ps + 1 < 2 ^ d → length unbalanced.context + 1 ≤ 2 * d
+  pub count : steps ≤ old_steps + length unbalanced.context + 10

@@ -1,7 +1,8 @@
 //! How ranks are put right from one node upwards.
 ghost use Rattle.std.specs.Prelude.{◌≡◌, true, ℕ, ◌+◌, ◌≤◌, ◌<◌, List, length};
 ghost use Rattle.timer_tree.specs.Nodes.{node_at, none, far, HasLinks, IsLink};
-ghost use Rattle.timer_tree.specs.Contexts.{IsUnbalanced, IsRepaired, IsAbove};
+ghost use Rattle.timer_tree.specs.Contexts.{IsUnbalanced, IsRepairing, IsRepaired, IsOver};
+ghost use Rattle.timer_tree.specs.declared.node.Node.{Node};
 ghost use Rattle.timer_tree.specs.Moves.{ended, raised, risen, sunk, lowered, stepped};
 ghost use Rattle.timer_tree.specs.Rotate.{ranked};
 
@@ -30,10 +31,10 @@ pub(crate) fn settle<L: Ledger>(
     id: u32,
     steps: &mut Steps<L>,
 )
-    requires can { (ps : List (ℕ × ℕ)) × (levels : ℕ) × IsUnbalanced true block.old root.old (record { at = place.parent; child = id; rank = 1 }) ps levels }
-    requires above { (place.parent ≡ none → ⊥) → IsAbove (node_at block.old place.parent) id place.leaf }
-    ensures { (ps : List (ℕ × ℕ)) (levels : ℕ) → IsUnbalanced true block.old root.old (record { at = place.parent; child = id; rank = 1 }) ps levels →
-        IsRepaired block.old block.new root.new ps levels steps.old steps.new }
+    requires { (ps : List (ℕ × ℕ)) × (b : IsUnbalanced true block.old root.old (record { at = place.parent; child = id; rank = 1 }) ps) ×
+        IsOver b.context place.leaf }
+    ensures { (ps : List (ℕ × ℕ)) (b : IsUnbalanced true block.old root.old (record { at = place.parent; child = id; rank = 1 }) ps) →
+        IsOver b.context place.leaf → IsRepaired block.old block.new root.new ps (length b.context) steps.old steps.new }
 {
     let Place { parent, leaf } = place;
     if parent == NONE {
@@ -67,9 +68,9 @@ pub(crate) fn repair<L: Ledger>(
     broken: Unbalanced,
     steps: &mut Steps<L>,
 )
-    requires { (ps : List (ℕ × ℕ)) × (levels : ℕ) × IsUnbalanced rising block.old root.old broken ps levels }
-    ensures { (ps : List (ℕ × ℕ)) (levels : ℕ) → IsUnbalanced rising block.old root.old broken ps levels →
-        IsRepaired block.old block.new root.new ps levels steps.old steps.new }
+    requires { (xs : List Node) × (ps : List (ℕ × ℕ)) × (levels : ℕ) × (old : ℕ) × IsRepairing rising xs block.old root.old broken ps levels old steps.old }
+    ensures { (xs : List Node) (ps : List (ℕ × ℕ)) (levels old : ℕ) → IsRepairing rising xs block.old root.old broken ps levels old steps.old →
+        IsRepaired xs block.new root.new ps levels old steps.new }
 {
     let Unbalanced {
         mut at,

@@ -1,26 +1,32 @@
-use Rattle.std.proofs.Common.{subst, true}
-use Rattle.timer_tree.specs.Nodes.{node_at}
-use Rattle.timer_tree.specs.Contexts.{IsAbove}
-use Rattle.timer_tree.proofs.Climbs.{settled_over, settled_leaf, repaired_on}
+use Rattle.std.proofs.Common.{ap, ◌∙◌, subst, true, false, refl, arith, length}
+use Rattle.timer_tree.specs.Contexts.{IsOver}
+use Rattle.timer_tree.specs.Moves.{ended}
+use Rattle.timer_tree.specs.Rotate.{ranked}
+use Rattle.timer_tree.proofs.Climbs.{settling, repairing_end}
 use Rattle.timer_tree.proofs.repair.settle.Goals as goal
 
 pub returns-then-not-leaf : goal.returns-then-not-leaf
-returns-then-not-leaf g c = λ ps levels b.
-    settled_over _ _ _ c.args.id ps levels c.args.steps.now c.if-parent.false
-    (subst (λ x. IsAbove (node_at c.args.block.now c.args.place.parent) c.args.id x) c.if-not-leaf.true (c.requires.above c.if-parent.false)) b
+returns-then-not-leaf g c = λ ps b over.
+    repairing_end true _ _ _ ended ps _ _ _ (settling false _ _ _ _ c.args.id ended ps _ _ c.if-parent.false b
+    (subst (λ x. IsOver b.context x) c.if-not-leaf.true over) refl (omega arith)) refl
 
 pub repair-requires : goal.repair-requires
 repair-requires g c =
-    let ps = c.requires.can.0 in
-    let above = subst (λ x. IsAbove (node_at c.args.block.now c.args.place.parent) c.args.id x) c.if-not-leaf.false (c.requires.above c.if-parent.false) in
-    let rest = c.raise_leaf-rest in
-    let done = settled_leaf _ _ _ _ c.args.id rest.result ps _ _ _ c.if-parent.false above rest.ensures.block rest.ensures.rest rest.ensures.steps
-    c.requires.can.2 in
-    (ps, done.left, done.unbalanced)
+    let b = c.requires.1 in
+    let rest = c.raise_leaf-rest in (
+      c.args.block.now,
+      c.requires.0,
+      length b.context,
+      c.args.steps.now,
+      settling true _ _ _ _ c.args.id rest.result _ _ _ c.if-parent.false b (subst (λ x. IsOver b.context x) c.if-not-leaf.false c.requires.2)
+          (ap (λ zs. (zs, c.args.root.now, rest.result)) rest.ensures.block ∙ ap (λ q. (ranked c.args.block.now c.args.place.parent 2, c.args.root.now, q)) rest.ensures.rest)
+          (omega (arith, rest.ensures.steps)),
+    )
 
 pub returns : goal.returns
-returns g c = λ ps levels b.
-    let above = subst (λ x. IsAbove (node_at c.args.block.now c.args.place.parent) c.args.id x) c.if-not-leaf.false (c.requires.above c.if-parent.false) in
+returns g c = λ ps b over.
     let rest = c.raise_leaf-rest in
-    let done = settled_leaf _ _ _ _ c.args.id rest.result ps levels _ _ c.if-parent.false above rest.ensures.block rest.ensures.rest rest.ensures.steps b in
-    repaired_on true _ _ _ _ _ _ ps levels _ _ _ done (c.repair.ensures ps done.left done.unbalanced)
+    c.repair.ensures _ ps _ _ (settling true _ _ _ _ c.args.id rest.result ps _ _ c.if-parent.false b
+    (subst (λ x. IsOver b.context x) c.if-not-leaf.false over)
+    (ap (λ zs. (zs, c.args.root.now, rest.result)) rest.ensures.block ∙ ap (λ q. (ranked c.args.block.now c.args.place.parent 2, c.args.root.now, q)) rest.ensures.rest)
+    (omega (arith, rest.ensures.steps)))

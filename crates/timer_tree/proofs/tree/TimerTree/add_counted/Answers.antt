@@ -3,7 +3,7 @@ use Rattle.timer_queue.specs.Pairs.{put, has_id}
 use Rattle.timer_tree.specs.declared.node.Node.{Node}
 use Rattle.timer_tree.specs.declared.node.Side.{Side}
 use Rattle.timer_tree.specs.Trees.{queue_at}
-use Rattle.timer_tree.proofs.Adding.{added, inserted_can, inserted_above}
+use Rattle.timer_tree.proofs.Adding.{added, inserted_can}
 use Rattle.timer_tree.proofs.Stores.{Gives, searched}
 use Rattle.timer_tree.proofs.tree.TimerTree.add_counted.Given.{Over}
 use Rattle.timer_tree.proofs.tree.TimerTree.add_counted.Goals as goal
@@ -18,15 +18,8 @@ settle-requires g c =
     let inside = subst (λ v. c.args.id < v.1) (sym c.self.view_is) c.requires.below in
     let found = c.find-place.ensures.place ps (searched _ _ _ _ c.self.invariant) in
     let new : List Node × ℕ × Side = (c.insert-side.new.block, c.insert-side.new.root, c.insert-side.result) in
-    record {
-      can = (
-        put c.args.expires c.args.id ps,
-        length found.context,
-        (inserted_can _ _ _ _ _ _ ps _ _ new c.self.invariant absent inside found
-            c.insert-side.ensures.block).0,
-      );
-      above = inserted_above _ _ _ _ _ _ ps _ _ new c.self.invariant absent inside found c.insert-side.ensures.block _ c.find-place.ensures.leaf;
-    }
+    let can = inserted_can _ _ _ _ _ _ ps _ _ new c.self.invariant absent inside found c.insert-side.ensures.block _ c.find-place.ensures.leaf in
+    (put c.args.expires c.args.id ps, can.0, can.1)
 
 done : (g : Over) (c : goal.After-settle g) → let ps = queue_at c.self.inside.block c.self.inside.root in
     Gives ps (put c.args.expires c.args.id ps) (length c.self.inside.block) c.settle.new.block c.settle.new.root c.put_first.new.first c.args.steps.now
@@ -35,7 +28,8 @@ done g c =
     let ps = queue_at c.self.inside.block c.self.inside.root in
     added _ _ _ _ _ _ ps _ _ (c.insert-side.new.block, c.insert-side.new.root, c.insert-side.result) c.self.invariant
     (subst (λ v. has_id c.args.id v.0 ≡ false) (sym c.self.view_is) c.requires.absent) (subst (λ v. c.args.id < v.1) (sym c.self.view_is) c.requires.below)
-    (c.find-place.ensures.place ps (searched _ _ _ _ c.self.invariant)) c.insert-side.ensures.block _ _ _ _ _ c.insert-side.ensures.steps c.settle.ensures
+    (c.find-place.ensures.place ps (searched _ _ _ _ c.self.invariant)) c.insert-side.ensures.block _ _ _ _ _ _ c.find-place.ensures.leaf
+    c.insert-side.ensures.steps c.settle.ensures
     c.put_first.ensures
 
 pub invariant_of-self : goal.invariant_of-self

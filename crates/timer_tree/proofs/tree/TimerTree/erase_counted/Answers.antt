@@ -30,8 +30,14 @@ pub repair-requires : goal.repair-requires
 repair-requires g c =
     let ps = queue_at c.self.inside.block c.self.inside.root in
     let present = subst (λ v. has_id c.args.id v.0 ≡ true) (sym c.self.view_is) c.requires.present in
-    let taken = c.take_out-broken.ensures ps (takes _ _ _ _ _ c.self.invariant present) in
-    (without c.args.id ps, taken.levels, taken_can _ _ ps _ _ _ _ _ _ taken c.forget.ensures.block)
+    let taken = c.take_out-broken.ensures ps (takes _ _ _ _ _ c.self.invariant present) in (
+      c.forget.new.block,
+      without c.args.id ps,
+      length taken.unbalanced.context,
+      c.forget.new.steps,
+      taken_can _ _ ps _ _ _ _ _ _ _ taken
+          c.forget.ensures.block,
+    )
 
 done : (g : Over) (c : goal.After-repair g) → let ps = queue_at c.self.inside.block c.self.inside.root in
     Gives ps (without c.args.id ps) (length c.self.inside.block) c.repair.new.block c.repair.new.root c.drop_first.new.first c.args.steps.now
