@@ -172,7 +172,7 @@ module _ (xs : List Node) (root first parent expires id : ℕ) (ps : List (ℕ �
             linked = done.at;
             under = (done.stands, tt, tt);
             root_is = done.root_is;
-            balanced = (record { below_a = omega arith; below_b = omega arith; near_a = omega arith; near_b = omega arith; near_both = omega arith }, tt, tt);
+            balanced = (search arith, tt, tt);
             fits = found.cut.fits;
             pairs_are = pairs-plug c (Fork Leaf id expires 1 Leaf) ∙ sym (found.puts id);
           };

@@ -1,6 +1,6 @@
 -- One step of a repair, and its end.
 use Rattle.std.proofs.Common.{◌≡◌, ℕ, Bool, true, false, ◌+◌, ◌-◌, ◌<◌, ◌≤◌, List, [], ◌∷◌, ◌++◌, length, nat_eq, if◌then◌else◌, arith, refl, ap, ◌∙◌, sym}
-use Rattle.std.proofs.Common.{subst}
+use Rattle.std.proofs.Common.{subst, suc}
 use Rattle.std.proofs.lemmas.Bool.{ne_eqb}
 use Rattle.timer_tree.specs.Nodes.{none, node_at}
 use Rattle.timer_tree.specs.Links.{relinked}
@@ -57,7 +57,7 @@ relinks xs root old rank f c t ps ev new cut remade link =
 
 climbs_on : (rising : Bool) (xs : List Node) (k : ℕ) (f : Frame) (c : List Frame) (u : Tree) (ps : List (ℕ × ℕ)) (r : Unbalanced) (new : List Node × ℕ) →
     Relinked xs c u f.h ps new → k ≡ top u → Way rising f.h u → (node_at xs r.at).rank ≡ f.h →
-    Climbed rising xs r ps (length c + 1) (new.0, new.1, record { at = parent_of c; child = k; rank = tall u })
+    Climbed rising xs r ps (length (f ∷ c)) (new.0, new.1, record { at = parent_of c; child = k; rank = tall u })
 climbs_on rising xs k f c u ps r new link top_is way stored = record {
   unbalanced = record { context = c; subtree = u; old_rank = f.h; cut = link.cut; at_is = refl; changed = λ some. (top_is, refl, way) };
   fewer = omega arith;
@@ -66,7 +66,7 @@ climbs_on rising xs k f c u ps r new link top_is way stored = record {
 }
 
 climbs_out : (rising : Bool) (xs : List Node) (c : List Frame) (u : Tree) (ps : List (ℕ × ℕ)) (r : Unbalanced) (new : List Node × ℕ) →
-    Relinked xs c u (tall u) ps new → Climbed rising xs r ps (length c + 1) (new.0, new.1, ended)
+    Relinked xs c u (tall u) ps new → Climbed rising xs r ps (suc (length c)) (new.0, new.1, ended)
 climbs_out rising xs c u ps r new link = record {
   unbalanced = record {
     context = [];
@@ -84,7 +84,7 @@ climbs_out rising xs c u ps r new link = record {
 -- a step at a node, by what it gives of each goal that its results have
 climbed_at : (rising : Bool) (xs : List Node) (root : ℕ) (f : Frame) (c : List Frame) (t : Tree) (old : ℕ) (ps : List (ℕ × ℕ)) (new : Repairing) →
     Cut xs root (f ∷ c) t old ps → ((Goal : Repairing → Type 0) → Changed xs (parent_of c) f.side t f.other f.n f.e f.h old →
-    Handles rising xs (parent_of c) (filled f t) f.h root (rest_at f.n t) Goal → Goal new) → Climbed rising xs (rest_at f.n t) ps (length c + 1) new
+    Handles rising xs (parent_of c) (filled f t) f.h root (rest_at f.n t) Goal → Goal new) → Climbed rising xs (rest_at f.n t) ps (length (f ∷ c)) new
 climbed_at rising xs root f c t old ps new cut step =
     let x = filled f t in
     let sum : (k : ℕ) → times k ps ≡ times k (pairs x) + times k (around c) = λ k. subst (λ qs. times k qs ≡ times k (pairs x) + times k (around c))
@@ -112,7 +112,7 @@ climbed_at rising xs root f c t old ps new cut step =
       kept = record { size = refl; rest = λ k out. refl };
     }) in
     let r = rest_at f.n t in
-    let Goal : Repairing → Type 0 = λ new. Climbed rising xs r ps (length c + 1) new in
+    let Goal : Repairing → Type 0 = λ new. Climbed rising xs r ps (length (f ∷ c)) new in
     step Goal changed (record {
       on = λ ys rank new way. subst (λ h. Goal (ys, root, record { at = parent_of c; child = f.n; rank = h })) new.rank_is
           (climbs_on rising xs f.n f c new.u ps r (ys, root) (as_before ys rank new) new.root_is way stored);
@@ -132,9 +132,9 @@ climbed_at rising xs root f c t old ps new cut step =
 climbed_next : (rising : Bool) (xs : List Node) (root : ℕ) (c : List Frame) (t : Tree) (old : ℕ) (ps : List (ℕ × ℕ)) → (parent_of c ≡ none → ⊥) →
     Cut xs root c t old ps → Way rising old t → Climbed rising xs (rest_at (parent_of c) t) ps (length c) (stepped rising xs root (rest_at (parent_of c) t))
 climbed_next rising xs root [] t old ps some cut way = absurd (some refl)
-climbed_next rising xs root (f ∷ c) t old ps some cut way = subst (λ k. Climbed rising xs (rest_at f.n t) ps k (stepped rising xs root (rest_at f.n t))) (omega arith)
-    (climbed_at rising xs root f c t old ps (stepped rising xs root (rest_at f.n t)) cut
-    (λ Goal changed handles. stepped_handled xs root f.side t f.other f.n f.e f.h old (parent_of c) Goal changed rising way handles))
+climbed_next rising xs root (f ∷ c) t old ps some cut way =
+    climbed_at rising xs root f c t old ps (stepped rising xs root (rest_at f.n t)) cut
+    (λ Goal changed handles. stepped_handled xs root f.side t f.other f.n f.e f.h old (parent_of c) Goal changed rising way handles)
 
 -- the first step above a timer that was inserted
 abbrev first_step : Bool → List Node → (root n : ℕ) → Repairing
@@ -145,12 +145,11 @@ climbed_first : (leaf : Bool) (xs : List Node) (root : ℕ) (c : List Frame) (t 
     Climbed true xs (rest_at (parent_of c) t) ps (length c) (first_step leaf xs root (parent_of c))
 climbed_first leaf xs root [] t old ps some cut one way over = absurd (some refl)
 climbed_first leaf xs root (f ∷ c) t old ps some cut one way over =
-    subst (λ k. Climbed true xs (rest_at f.n t) ps k (first_step leaf xs root f.n)) (omega arith)
-    (subst (λ x. Climbed true xs (rest_at f.n t) ps (length c + 1) (first_step x xs root f.n)) (sym over)
-    (subst (λ (y : Node). Climbed true xs (rest_at f.n t) ps (length c + 1)
+    subst (λ x. Climbed true xs (rest_at f.n t) ps (length (f ∷ c)) (first_step x xs root f.n)) (sym over)
+    (subst (λ (y : Node). Climbed true xs (rest_at f.n t) ps (length (f ∷ c))
     (if nat_eq (top f.other) none then (ranked xs f.n 2, root, record { at = y.parent; child = f.n; rank = 2 }) else (xs, root, ended)))
     (sym cut.linked.0.is) (climbed_at true xs root f c t old ps _ cut
-    (λ Goal changed handles. leaf_handled xs root f.side t f.other f.n f.e f.h old (parent_of c) Goal changed one way handles))))
+    (λ Goal changed handles. leaf_handled xs root f.side t f.other f.n f.e f.h old (parent_of c) Goal changed one way handles)))
 
 -- where a repair goes on is known by the context
 rest_is : {rising : Bool} {xs : List Node} {root : ℕ} {r : Unbalanced} {ps : List (ℕ × ℕ)} → (r.at ≡ none → ⊥) →

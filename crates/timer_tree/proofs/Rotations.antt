@@ -97,17 +97,13 @@ once_rotated xs s a b c n e h m f g p whole balanced_t balanced_c lean low near 
     let final_a = IsAt-kept m a all (λ k. omega (arith, sum k, once k)) inner.1 in
     let final_c = IsAt-kept n c all (λ k. omega (arith, sum k, once k)) outer.2 in
     let final_b = IsAt-kept n b sets (λ k. omega (arith, sum k, once k)) (IsAt-adopted xs m n b (λ k. omega (arith, sum k, once k)) inner.2) in
-    let has : HasRank (tall b) (tall c) i =
-    record { below_a = omega arith; below_b = omega arith; near_a = omega arith; near_b = omega arith; near_both = omega arith } in
-    let has_top : HasRank (tall a) i h =
-    record { below_a = omega arith; below_b = omega arith; near_a = omega arith; near_b = omega arith; near_both = omega arith } in
     record {
       u = fork s a m f h (fork s b n e i c);
       done = record {
         at = fork-IsAt ws p s a (fork s b n e i c) m f h high_stands final_a (fork-IsAt ws m s b c n e i low_stands final_b final_c);
         kept = Keeps-for (λ k gone. omega (arith, sum k, gone)) all;
         balanced = fork-IsBalanced s a (fork s b n e i c) m f h
-            (has_top, ranks.1, fork-IsBalanced s b c n e i (has, ranks.2, balanced_c));
+            (search arith, ranks.1, fork-IsBalanced s b c n e i (search arith, ranks.2, balanced_c));
         same = pairs-once s a b c n e h m f g i;
       };
       root_is = refl;
@@ -164,12 +160,6 @@ twice_rotated xs s a b d c n e h m f g k i j p whole balanced_t balanced_c lean 
     let final_b = IsAt-kept m b sets (λ x. omega (arith, sum x, once x)) adopt.0 in
     let final_d = IsAt-kept n d sets (λ x. omega (arith, sum x, once x)) adopt.1 in
     let final_c = IsAt-kept n c all (λ x. omega (arith, sum x, once x)) outer.2 in
-    let has_a : HasRank (tall a) (tall b) j =
-    record { below_a = omega arith; below_b = omega arith; near_a = omega arith; near_b = omega arith; near_both = omega arith } in
-    let has_c : HasRank (tall d) (tall c) j =
-    record { below_a = omega arith; below_b = omega arith; near_a = omega arith; near_b = omega arith; near_both = omega arith } in
-    let has_top : HasRank j j h =
-    record { below_a = omega arith; below_b = omega arith; near_a = omega arith; near_b = omega arith; near_both = omega arith } in
     record {
       u = fork s (fork s a m f j b) k i h (fork s d n e j c);
       done = record {
@@ -177,7 +167,7 @@ twice_rotated xs s a b d c n e h m f g k i j p whole balanced_t balanced_c lean 
             (fork-IsAt zs k s d c n e j stands_n final_d final_c);
         kept = Keeps-for (λ x gone. omega (arith, sum x, gone)) all;
         balanced = fork-IsBalanced s (fork s a m f j b) (fork s d n e j c) k i h
-            (has_top, fork-IsBalanced s a b m f j (has_a, ranks.1, ranks_k.1), fork-IsBalanced s d c n e j (has_c, ranks_k.2, balanced_c));
+            (search arith, fork-IsBalanced s a b m f j (search arith, ranks.1, ranks_k.1), fork-IsBalanced s d c n e j (search arith, ranks_k.2, balanced_c));
         same = pairs-twice s a b d c n e h m f g k i j;
       };
       root_is = refl;

@@ -119,12 +119,10 @@ sunk_handled xs root s t (Fork l m f g q) n e h old p Goal is way down handles =
     (λ few. by_lt (λ x. Goal (chosen x)) (tall t) (tall q) (λ less. up (omega arith))
     (λ less.
     let new = sunk_ranked xs s t l q n e h m f g old p is
-    (record { below_a = omega arith; below_b = omega arith; near_a = omega arith; near_b = omega arith; near_both = omega arith })
-    (record { below_a = omega arith; below_b = omega arith; near_a = omega arith; near_b = omega arith; near_both = omega arith }) in
+    (search arith) (search arith) in
     handles.on _ (h - 1) new (omega arith, omega arith)))))
     (λ apart.
-    let new = reranked xs s t o n e h old p (h - 1) is
-    (record { below_a = omega arith; below_b = omega arith; near_a = omega arith; near_b = omega arith; near_both = omega arith }) in
+    let new = reranked xs s t o n e h old p (h - 1) is (search arith) in
     handles.on _ (h - 1) new (omega arith, omega arith))
 
 -- a node whose subtree has come one or two lower than it is
@@ -155,8 +153,7 @@ module _ (xs : List Node) (root : ℕ) (s : Side) (t o : Tree) (n e h old p : �
       let turned : List Node × ℕ → Repairing = λ new. (new.0, new.1, ended) in
       by_eq (λ x. Goal (if x then (ranked xs n (next h), root, gone_on (rest_at n t) p (next h)) else turned (rotated_up xs root s n (top t))))
       (next (node_at xs (top o)).rank) h (λ same.
-      let new = reranked xs s t o n e h old p (next h) is
-      (record { below_a = omega arith; below_b = omega arith; near_a = omega arith; near_b = omega arith; near_both = omega arith }) in
+      let new = reranked xs s t o n e h old p (next h) is (search arith) in
       handles.on _ (next h) new (omega arith, omega arith, λ rises tall. fork-tilted s t o n e (next h) (next h) (omega arith) (omega arith)))
       (λ apart. subst (λ x. Goal (turned x)) (sym (up_rotated xs root s n (top t) (with_links s e (top t) (top o) p h) parts.0.is))
       (handles.moved _ (lean_rotated xs s t o n e h p is.whole is.balanced_t is.balanced_o (omega arith) (omega arith) (omega arith) (omega arith)
@@ -169,8 +166,7 @@ module _ (xs : List Node) (root : ℕ) (s : Side) (t o : Tree) (n e h old p : �
       let node = with_links s e (top t) (top o) p h in
       let d = child_side node (top t) in
       by_lt (λ x. Goal (if x then (xs, root, ended) else raised xs root d (rest_at n t) (far d node) p h)) (tall t) h
-      (λ over. handles.stop (fork-IsBalanced s t o n e h
-      (record { below_a = over; below_b = omega arith; near_a = omega arith; near_b = omega arith; near_both = omega arith }, is.balanced_t, is.balanced_o)))
+      (λ over. handles.stop (fork-IsBalanced s t o n e h (search arith, is.balanced_t, is.balanced_o)))
       (λ high. at_side xs s t o n e h old p (λ d k. Goal (raised xs root d (rest_at n t) k p h)) is (omega arith) (raised_handled way high handles))
 
   -- a node that has got a timer of the rank 1 below it
@@ -179,15 +175,13 @@ module _ (xs : List Node) (root : ℕ) (s : Side) (t o : Tree) (n e h old p : �
   leaf_handled one way handles =
       by_eq (λ x. Goal (if x then (ranked xs n 2, root, gone_on (rest_at n t) p 2) else (xs, root, ended))) (top o) none (λ end.
       let flat = ap tall (no_top xs n o is.whole.small (IsAt-fork xs p s t o n e h is.whole.at).2 end) in
-      let new = reranked xs s t o n e h old p 2 is
-      (record { below_a = omega arith; below_b = omega arith; near_a = omega arith; near_b = omega arith; near_both = omega arith }) in
+      let new = reranked xs s t o n e h old p 2 is (search arith) in
       handles.on _ 2 new (omega arith, omega arith, λ rises tall. fork-tilted s t o n e 2 2 (omega arith) (omega arith))) (λ some.
       let high : 0 < tall o = elim (cases_eq (tall o) 0) [
         | inl flat ↦ absurd (some (ap top (no_tree o is.balanced_o flat)))
         | inr high ↦ omega arith
       ] in
-      handles.stop (fork-IsBalanced s t o n e h
-      (record { below_a = omega arith; below_b = omega arith; near_a = omega arith; near_b = omega arith; near_both = omega arith }, is.balanced_t, is.balanced_o)))
+      handles.stop (fork-IsBalanced s t o n e h (search arith, is.balanced_t, is.balanced_o)))
 
   settled_handled : tall t < h → h ≤ tall t + 2 → Handles false xs p (fork s t n e h o) h root (rest_at n t) Goal →
       Goal (if is_high_leaf (with_links s e (top t) (top o) p h) then (ranked xs n 1, root, gone_on (rest_at n t) p 1) else (xs, root, ended))
@@ -196,8 +190,7 @@ module _ (xs : List Node) (root : ℕ) (s : Side) (t o : Tree) (n e h old p : �
       by_leaf (λ x. Goal (if x then (ranked xs n 1, root, gone_on (rest_at n t) p 1) else (xs, root, ended))) s e (top t) (top o) p h (λ leaf.
       let flat_t = ap tall (no_top xs n t is.whole.small parts.1 leaf.1) in
       let flat_o = ap tall (no_top xs n o is.whole.small parts.2 leaf.2) in
-      let new = reranked xs s t o n e h old p 1 is
-      (record { below_a = omega arith; below_b = omega arith; near_a = omega arith; near_b = omega arith; near_both = omega arith }) in
+      let new = reranked xs s t o n e h old p 1 is (search arith) in
       handles.on _ 1 new (omega (arith, leaf.0), omega (arith, leaf.0))) (λ other.
       let both : h ≤ tall t + tall o + 1 = elim (cases_lt 0 (tall t + tall o)) [
         | inl some ↦ omega arith
@@ -206,8 +199,7 @@ module _ (xs : List Node) (root : ℕ) (s : Side) (t o : Tree) (n e h old p : �
           | inr one ↦ omega arith
         ]
       ] in
-      handles.stop (fork-IsBalanced s t o n e h
-      (record { below_a = over; below_b = omega arith; near_a = near; near_b = omega arith; near_both = both }, is.balanced_t, is.balanced_o)))
+      handles.stop (fork-IsBalanced s t o n e h (search arith, is.balanced_t, is.balanced_o)))
 
   lowered_handled : Way false old t → Handles false xs p (fork s t n e h o) h root (rest_at n t) Goal →
       Goal (lowered xs root (rest_at n t) (with_links s e (top t) (top o) p h))
