@@ -4,18 +4,18 @@ use Rattle.std.proofs.Common.{refl, ap, ◌∙◌, sym, subst, slice_set, append
 use Rattle.std.proofs.lemmas.Bool.{eq-eqb, ne_eqb, cases_eq}
 use Rattle.timer_queue.specs.Pairs.{put, has_id, IsQueue}
 use Rattle.timer_queue.proofs.Pairs.{IsQueue-put, length-le_room}
-use Rattle.timer_tree.specs.Nodes.{none, node_at, with_links, is_leaf}
+use Rattle.timer_tree.specs.Nodes.{none, pick, node_at, with_links, is_leaf}
 use Rattle.timer_tree.specs.Moves.{inserted}
 use Rattle.timer_tree.specs.Links.{with_child}
 use Rattle.timer_tree.specs.Trees.{Tree, Leaf, Fork, top, pairs, Stands, one, times, first_id, Keeps}
-use Rattle.timer_tree.specs.Contexts.{Frame, parent_of, root_of, IsAround, around, before, after, ahead, behind, Cut, IsStored, IsUnbalanced}
+use Rattle.timer_tree.specs.Contexts.{Frame, parent_of, root_of, IsAround, around, before, after, Cut, IsStored, IsUnbalanced}
 use Rattle.timer_tree.specs.Contexts.{IsRepaired, IsOver}
 use Rattle.timer_tree.specs.Places.{side_of, first_on, IsOnSide, IsPlace}
-use Rattle.timer_tree.proofs.Trees.{times-append, one_same, one_le, apart_one, Keeps-then, Keeps-for, set_keeps, set_stands, Stands-kept, IsAt-kept, IsAround-kept}
+use Rattle.timer_tree.proofs.Trees.{times-append, one_same, one_le, apart_one, Keeps-then, Keeps-for, Fit-size, set_keeps, set_stands, Stands-kept, IsAt-kept, IsAround-kept}
 use Rattle.timer_tree.proofs.Trees.{pairs-plug, cut_times}
 use Rattle.timer_tree.proofs.Puts.{times-put}
 use Rattle.timer_tree.proofs.Counts.{cut_low}
-use Rattle.timer_tree.proofs.Stores.{Gives, times-absent, times-le, queue_again, queue_at-is}
+use Rattle.timer_tree.proofs.Stores.{Gives, times-absent, fit_of, queue_again, queue_at-is}
 use Rattle.timer_tree.specs.declared.node.Node.{Node}
 use Rattle.timer_tree.specs.declared.node.Side.{Side}
 use Rattle.timer_tree.specs.declared.node.Side.TheVariants as sides
@@ -103,28 +103,12 @@ first_right [] (o ∷ os) qs p q = refl
 first_right (r ∷ ps) os qs p q = refl
 
 -- a timer in the hole of a context is the first where the first one was its parent on the right
-first_frame : (s : Side) (other : Tree) (c : List Frame) (e n first id expires : ℕ) → times n (before c) ≡ 0 →
-    first ≡ first_id ((before c ++ ahead s other (e, n)) ++ (behind s other (e, n) ++ after c)) →
-    first_on s n first id ≡ first_id ((before c ++ ahead s other (e, n)) ++ (expires, id) ∷ (behind s other (e, n) ++ after c))
-first_frame sides.Left other c e n first id expires gone is =
-    let nothing = append-nil (before c) in
-    ap (λ k. if nat_eq n k then id else k) (is ∙ ap (λ qs. first_id (qs ++ (e, n) ∷ (pairs other ++ after c))) nothing) ∙ first_left (before c)
-    (pairs other ++ after c) (expires, id) (e, n) gone ∙ ap (λ qs. first_id (qs ++ (expires, id) ∷ (e, n) ∷ (pairs other ++ after c))) (sym nothing)
-first_frame sides.Right other c e n first id expires gone is = is ∙ first_right (before c) (pairs other) (after c) (expires, id) (e, n)
-
-once_before : (s : Side) (other : Tree) (ps qs : List (ℕ × ℕ)) (e n : ℕ) →
-    times n ((ps ++ ahead s other (e, n)) ++ (behind s other (e, n) ++ qs)) ≤ 1 → times n ps ≡ 0
-once_before sides.Left other ps qs e n once =
-    omega (arith, once, one_same n, times-append n (ps ++ []) ((e, n) ∷ (pairs other ++ qs)), times-append n ps [])
-once_before sides.Right other ps qs e n once =
-    omega (
-      arith,
-      once,
-      one_same n,
-      times-append n (ps ++ (pairs other ++ (e, n) ∷ [])) qs,
-      times-append n ps (pairs other ++ (e, n) ∷ []),
-      times-append n (pairs other) ((e, n) ∷ []),
-    )
+first_frame : (s : Side) (os ps qs : List (ℕ × ℕ)) (e n first id expires : ℕ) →
+    let left = pick s ps (ps ++ (os ++ (e, n) ∷ [])) in let right = pick s ((e, n) ∷ os ++ qs) qs in times n (left ++ right) ≤ 1 →
+    first ≡ first_id (left ++ right) → first_on s n first id ≡ first_id (left ++ (expires, id) ∷ right)
+first_frame sides.Left os ps qs e n first id expires once is = ap (λ k. if nat_eq n k then id else k) is ∙ first_left ps (os ++ qs) (expires, id) (e, n)
+    (omega (arith, once, one_same n, times-append n ps ((e, n) ∷ (os ++ qs))))
+first_frame sides.Right os ps qs e n first id expires once is = is ∙ first_right ps os qs (expires, id) (e, n)
 
 first_placed : (side : Side) (parent : ℕ) (c : List Frame) (first id expires : ℕ) → parent ≡ parent_of c → HasSide side c →
     ((k : ℕ) → times k (before c ++ after c) ≤ 1) →
@@ -132,8 +116,8 @@ first_placed : (side : Side) (parent : ℕ) (c : List Frame) (first id expires :
 first_placed side parent [] first id expires parent_is side_is once is =
     ap (λ s. first_on s parent first id) side_is ∙ ap (λ b. if b then id else first) (eq-eqb parent first (parent_is ∙ sym is))
 first_placed side parent (f ∷ c) first id expires parent_is side_is once is =
-    ap (λ s. first_on s parent first id) side_is ∙ ap (λ k. first_on f.side k first id) parent_is ∙ first_frame f.side f.other c f.e f.n first id expires
-    (once_before f.side f.other (before c) (after c) f.e f.n (once f.n)) is
+    ap (λ s. first_on s parent first id) side_is ∙ ap (λ k. first_on f.side k first id) parent_is
+    ∙ first_frame f.side (pairs f.other) (before c) (after c) f.e f.n first id expires (once f.n) is
 
 -- ---- the whole call
 
@@ -157,18 +141,14 @@ module _ (xs : List Node) (root first parent expires id : ℕ) (ps : List (ℕ �
       (length b.context ≡ length found.context) × Keeps (λ k. times k (put expires id ps)) xs new.0
   inserted_can leaf known =
       let c = found.context in
-      let done = inserted_new in
-      let queue = IsQueue-put (length xs) expires id ps absent inside stored.queue in (
+      let done = inserted_new in (
         record {
           context = c;
           subtree = Fork Leaf id expires 1 Leaf;
           old_rank = 0;
           cut = record {
-            fit = record {
-              small = omega (arith, done.kept.size, found.cut.fit.small);
-              few = omega (arith, length-le_room (length xs) (put expires id ps) queue, found.cut.fit.small);
-              once = λ k. times-le k (put expires id ps) queue.once;
-            };
+            fit = Fit-size done.kept.size
+                (fit_of xs (put expires id ps) found.cut.fit.small (IsQueue-put (length xs) expires id ps absent inside stored.queue));
             linked = done.at;
             under = (done.stands, tt, tt);
             root_is = done.root_is;
@@ -201,7 +181,7 @@ module _ (xs : List Node) (root first parent expires id : ℕ) (ps : List (ℕ �
             (λ k. subst (λ qs. times k qs ≤ 1) whole (found.cut.fit.once k)) (stored.first_is ∙ ap first_id whole) ∙ sym (ap first_id (found.puts id));
         free = λ k gone. ap (λ (x : Node). x.rank) (kept.rest k (omega (arith, gone)))
             ∙ stored.free k (omega (arith, times-put k expires id ps, gone));
-        queue = subst (λ n. IsQueue n (put expires id ps)) (sym kept.size) (IsQueue-put (length xs) expires id ps absent inside stored.queue);
+        queue = repaired.tree.whole.fit.queue;
       } in
       record {
         stored = queue_again zs new_root new_first (put expires id ps) done;

@@ -9,7 +9,7 @@ use Rattle.timer_tree.specs.Moves.{Repairing, ended, stepped}
 use Rattle.timer_tree.specs.Trees.{Tree, Leaf, Fork, top, tall, pairs, IsAt, one, times, Keeps}
 use Rattle.timer_tree.specs.Contexts.{Frame, filled, plug, parent_of, root_of, IsAround, around, before, after, Fits, Cut, IsTree, Way}
 use Rattle.timer_tree.specs.Contexts.{IsUnbalanced, IsRepairing, IsRepaired, IsOver}
-use Rattle.timer_tree.proofs.Trees.{by_eq, times-fork, times-plug, Keeps-then, Keeps-for, IsAt-kept, IsAround-kept, length-fork, fork-IsAt}
+use Rattle.timer_tree.proofs.Trees.{by_eq, times-fork, times-plug, Keeps-then, Keeps-for, Fit-size, IsAt-kept, IsAround-kept, length-fork, fork-IsAt}
 use Rattle.timer_tree.proofs.Trees.{Linked, relinked_linked, length-plug, pairs-plug, tall-le, cut_whole}
 use Rattle.timer_tree.proofs.Counts.{tall-lt}
 use Rattle.timer_tree.proofs.Rotations.{Remade}
@@ -44,7 +44,7 @@ relinks xs root old rank f c t ps ev new cut remade link =
     let kept : Keeps (λ k. times k ps) xs new.0 = Keeps-for (λ k gone. omega (arith, sum k, gone)) (Keeps-then done.kept link.kept) in
     record {
       cut = record {
-        fit = record { small = omega (arith, kept.size, cut.fit.small); few = cut.fit.few; once = once };
+        fit = Fit-size kept.size cut.fit;
         linked = link.at;
         under = IsAt-kept (parent_of c) remade.u link.kept (λ k. omega (arith, sum k, once k, ap (λ qs. times k qs) done.same)) done.at;
         root_is = link.root_is;

@@ -4,13 +4,13 @@ use Rattle.std.proofs.Common.{subst, append_assoc, length-append, inl, inr}
 use Rattle.std.proofs.lemmas.Bool.{ne_eqb, cases_eq}
 use Rattle.timer_queue.specs.Pairs.{without, has_id, IsQueue}
 use Rattle.timer_queue.proofs.Pairs.{IsQueue-without}
-use Rattle.timer_tree.specs.Nodes.{none, node_at}
+use Rattle.timer_tree.specs.Nodes.{none, node_at, pick}
 use Rattle.timer_tree.specs.Rotate.{ranked}
 use Rattle.timer_tree.specs.Trees.{Tree, Leaf, Fork, top, tall, pairs, IsAt, IsBalanced, one, times, first_id, Keeps}
-use Rattle.timer_tree.specs.Contexts.{Frame, parent_of, before, after, ahead, behind, IsStored, IsRepairing, IsRepaired, Cut}
+use Rattle.timer_tree.specs.Contexts.{Frame, parent_of, before, after, IsStored, IsRepairing, IsRepaired, Cut}
 use Rattle.timer_tree.specs.Places.{first_off}
 use Rattle.timer_tree.specs.Takes.{IsTaking, IsTaken}
-use Rattle.timer_tree.proofs.Trees.{by_eq, times-append, one_same, one_le, apart_one, Keeps-then, set_keeps, set_stands, IsAt-kept, IsAround-kept, pairs-plug}
+use Rattle.timer_tree.proofs.Trees.{by_eq, times-append, one_same, one_le, apart_one, Keeps-then, Fit-size, set_keeps, set_stands, IsAt-kept, IsAround-kept, pairs-plug}
 use Rattle.timer_tree.proofs.Trees.{tall-le, cut_times}
 use Rattle.timer_tree.proofs.Stores.{Gives, queue_again, queue_at-is, present_times}
 use Rattle.timer_tree.proofs.Climbs.{repairing_start}
@@ -22,15 +22,14 @@ use Rattle.timer_tree.specs.declared.repair.Unbalanced.{Unbalanced}
 
 -- ---- the first timer
 
-first_behind : (s : Side) (f : Frame) (c : List Frame) → before c ++ ahead s f.other (f.e, f.n) ≡ [] → first_id (behind s f.other (f.e, f.n) ++ after c) ≡ f.n
-first_behind sides.Left f c nothing = refl
-first_behind sides.Right f c nothing =
-    let never : ⊥ = omega
-    (arith, ap length nothing, length-append (before c) (pairs f.other ++ (f.e, f.n) ∷ []), length-append (pairs f.other) ((f.e, f.n) ∷ [])) in absurd never
+first_behind : (s : Side) (os ps qs : List (ℕ × ℕ)) (e n : ℕ) → pick s ps (ps ++ (os ++ (e, n) ∷ [])) ≡ [] → first_id (pick s ((e, n) ∷ os ++ qs) qs) ≡ n
+first_behind sides.Left os ps qs e n nothing = refl
+first_behind sides.Right os ps qs e n nothing =
+    let never : ⊥ = omega (arith, ap length nothing, length-append ps (os ++ (e, n) ∷ []), length-append os ((e, n) ∷ [])) in absurd never
 
 first_after : (c : List Frame) → before c ≡ [] → first_id (after c) ≡ parent_of c
 first_after [] nothing = refl
-first_after (f ∷ c) nothing = first_behind f.side f c nothing
+first_after (f ∷ c) nothing = first_behind f.side (pairs f.other) (before c) (after c) f.e f.n nothing
 
 nothing_both : (ps qs : List (ℕ × ℕ)) → ps ++ qs ≡ [] → (ps ≡ []) × (qs ≡ [])
 nothing_both [] qs nothing = (refl, nothing)
@@ -91,7 +90,7 @@ cut_kept {c = c} {t = t} {ps = ps} n gone kept cut =
       | inr other ↦ omega (arith, apart_one k n other, cut.fit.once k)
     ] in
     record {
-      fit = record { small = omega (arith, kept.size, cut.fit.small); few = cut.fit.few; once = cut.fit.once };
+      fit = Fit-size kept.size cut.fit;
       linked = IsAround-kept (top t) c kept (λ k. omega (arith, apart k, cut_times cut k)) cut.linked;
       under = IsAt-kept (parent_of c) t kept (λ k. omega (arith, apart k, cut_times cut k)) cut.under;
       root_is = cut.root_is;
@@ -144,7 +143,7 @@ erased xs root first id node ps ys mid_root r old read_steps taken_steps zs writ
       is_tree = repaired.tree;
       first_is = erased_first xs root first id node ps new_first taking stored.first_is node_is first_is;
       free = free;
-      queue = subst (λ n. IsQueue n (without id ps)) (sym kept.size) (IsQueue-without (length xs) id ps stored.queue);
+      queue = repaired.tree.whole.fit.queue;
     } in
     record {
       stored = queue_again ws new_root new_first (without id ps) done;

@@ -7,8 +7,8 @@ use Rattle.timer_queue.specs.Pairs.{put, IsByExpiry}
 use Rattle.timer_queue.proofs.Pairs.{AllByRecursion-follows}
 use Rattle.timer_tree.specs.Nodes.{none, node_at, near}
 use Rattle.timer_tree.specs.Trees.{Tree, Leaf, Fork, top, tall, pairs, IsAt}
-use Rattle.timer_tree.specs.Contexts.{Frame, plug, parent_of, before, after, Cut}
-use Rattle.timer_tree.specs.Places.{side_of, IsFinding, IsPlace, IsSearched}
+use Rattle.timer_tree.specs.Contexts.{Frame, plug, parent_of, before, after, Cut, IsTree}
+use Rattle.timer_tree.specs.Places.{side_of, IsFinding, IsPlace}
 use Rattle.timer_tree.proofs.Trees.{by_lt, rank_at, no_top, pairs-plug, cut_down}
 use Rattle.timer_tree.proofs.Puts.{put_left, put_right, up_to, IsByExpiry-behind}
 use Rattle.timer_tree.specs.declared.node.Node.{Node}
@@ -41,11 +41,11 @@ puts_right expires ps c l n e h r more sorted pairs_are puts id =
 abbrev pub Down : List Node → ℕ → ℕ → ℕ → List (ℕ × ℕ) → ℕ → ℕ → ℕ → Type 0
 Down xs root at expires ps old steps to = IsFinding xs root at to expires ps old steps × ((node_at xs to).rank < (node_at xs at).rank)
 
-down_at : (xs : List Node) (root expires : ℕ) (ps : List (ℕ × ℕ)) (old steps : ℕ) (c : List Frame) (t : Tree) → (top t ≡ none → ⊥) → IsByExpiry ps →
+down_at : (xs : List Node) (root expires : ℕ) (ps : List (ℕ × ℕ)) (old steps : ℕ) (c : List Frame) (t : Tree) → (top t ≡ none → ⊥) →
     Cut xs root c t (tall t) ps → Puts expires c t ps → steps ≡ old + length c →
     let node = node_at xs (top t) in Down xs root (top t) expires ps old (steps + 1) (near (side_of expires node.expires) node)
-down_at xs root expires ps old steps c Leaf some sorted cut puts count = absurd (some refl)
-down_at xs root expires ps old steps c (Fork l n e h r) some sorted cut puts count =
+down_at xs root expires ps old steps c Leaf some cut puts count = absurd (some refl)
+down_at xs root expires ps old steps c (Fork l n e h r) some cut puts count =
     let node : Node = record { expires = e; left = top l; right = top r; parent = parent_of c; rank = h } in
     let at = cut.under in
     let stored = ap (λ (x : Node). x.rank) at.0.is in
@@ -68,14 +68,14 @@ down_at xs root expires ps old steps c (Fork l n e h r) some sorted cut puts cou
     (λ less. step sides.Left l r (cut_down sides.Left l r n e h cut) (ap (λ b. if b then sides.Left else sides.Right) (lt-ltb expires e less))
     (puts_left expires ps c l n e h r less puts))
     (λ more. step sides.Right r l (cut_down sides.Right r l n e h cut) (ap (λ b. if b then sides.Left else sides.Right) (le-ltb expires e more))
-    (puts_right expires ps c l n e h r more sorted cut.pairs_are puts)))
+    (puts_right expires ps c l n e h r more cut.fit.queue.by_expiry cut.pairs_are puts)))
 
 pub finding_down : (xs : List Node) (root parent at to expires : ℕ) (ps : List (ℕ × ℕ)) (old steps new : ℕ) (node : Node) (side : Side) →
-    IsSearched xs root ps → (at ≡ none → ⊥) → IsFinding xs root parent at expires ps old steps → node ≡ node_at xs at → new ≡ steps + 1 →
+    (at ≡ none → ⊥) → IsFinding xs root parent at expires ps old steps → node ≡ node_at xs at → new ≡ steps + 1 →
     side ≡ side_of expires node.expires → to ≡ near side node → Down xs root at expires ps old new to
-finding_down xs root parent at to expires ps old steps new node side searched some so_far is one_more side_is to_is =
+finding_down xs root parent at to expires ps old steps new node side some so_far is one_more side_is to_is =
     let below : Node → ℕ = λ x. near (side_of expires x.expires) x in
-    let down = down_at xs root expires ps old steps so_far.context so_far.subtree (λ same. some (so_far.at_is ∙ same)) searched.by_expiry so_far.cut
+    let down = down_at xs root expires ps old steps so_far.context so_far.subtree (λ same. some (so_far.at_is ∙ same)) so_far.cut
     so_far.puts so_far.count in
     subst (λ k. Down xs root at expires ps old new k) (sym (to_is ∙ ap (λ s. near s node) side_is ∙ ap below (is ∙ ap (λ k. node_at xs k) so_far.at_is)))
     (subst (λ k. Down xs root at expires ps old k (below (node_at xs (top so_far.subtree)))) (sym one_more)
@@ -105,17 +105,17 @@ finding_end xs root parent at expires ps old steps end so_far =
       count = so_far.count;
     }
 
-pub finding_start : (xs : List Node) (root expires : ℕ) (ps : List (ℕ × ℕ)) (steps : ℕ) → IsSearched xs root ps →
+pub finding_start : (xs : List Node) (root expires : ℕ) (ps : List (ℕ × ℕ)) (steps : ℕ) → IsTree xs root ps →
     IsFinding xs root none root expires ps steps steps
-finding_start xs root expires ps steps searched =
-    let whole = searched.tree.whole in
+finding_start xs root expires ps steps tree =
+    let whole = tree.whole in
     record {
       context = [];
-      subtree = searched.tree.tree;
+      subtree = tree.tree;
       cut = whole;
       at_is = whole.root_is;
       parent_is = refl;
       side = tt;
-      puts = λ id. ap (λ qs. put expires id qs) (sym whole.pairs_are) ∙ sym (append-nil (put expires id (pairs searched.tree.tree)));
+      puts = λ id. ap (λ qs. put expires id qs) (sym whole.pairs_are) ∙ sym (append-nil (put expires id (pairs tree.tree)));
       count = omega arith;
     }

@@ -5,13 +5,12 @@ use Rattle.std.specs.List.{AllByRecursion, IsDistinct}
 use Rattle.std.proofs.lemmas.Bool.{cases_eq, cases_lt, ne_eqb, false≢true}
 use Rattle.std.proofs.lemmas.Bool.Decides.{nat_tests}
 use Rattle.std.proofs.lemmas.Map.Keys.{IsDistinct-head, IsDistinct-tail}
-use Rattle.timer_queue.specs.Pairs.{has_id, first_of}
-use Rattle.timer_queue.proofs.Pairs.{All-from_ids, apart_from_absent, IsQueue-empty}
+use Rattle.timer_queue.specs.Pairs.{has_id, first_of, IsQueue}
+use Rattle.timer_queue.proofs.Pairs.{All-from_ids, apart_from_absent, IsQueue-empty, length-le_room}
 use Rattle.std.proofs.lemmas.List.{get_or_past, get_or-replicate, length-replicate}
 use Rattle.timer_tree.specs.Nodes.{none, blank, node_at, IsLink}
 use Rattle.timer_tree.specs.Trees.{Tree, Leaf, Fork, top, tall, pairs, IsAt, IsBalanced, one, times, first_id, pairs_below, queue_at}
-use Rattle.timer_tree.specs.Contexts.{IsTree, IsStored}
-use Rattle.timer_tree.specs.Places.{IsSearched}
+use Rattle.timer_tree.specs.Contexts.{IsTree, IsStored, Fit}
 use Rattle.timer_tree.proofs.Trees.{rank_at, located, apart_one, tall-le}
 use Rattle.timer_tree.specs.declared.node.Node.{Node}
 
@@ -32,6 +31,10 @@ times-le k (p ∷ ps) once =
       | inl same ↦ let gone : times k ps ≡ 0 = subst (λ q. times q ps ≡ 0) (sym same) apart in grind (arith, nat_tests)
       | inr other ↦ omega (arith, rest, apart_one k p.1 other)
     ]
+
+pub fit_of : (xs : List Node) (ps : List (ℕ × ℕ)) → length xs ≤ none → IsQueue (length xs) ps → Fit xs ps
+fit_of xs ps small queue =
+    record { small = small; few = omega (arith, length-le_room (length xs) ps queue, small); once = λ k. times-le k ps queue.once; queue = queue }
 
 -- ---- the pairs are read from the block
 
@@ -65,9 +68,6 @@ pub record Gives (ps qs : List (ℕ × ℕ)) (room : ℕ) (zs : List Node) (root
   pub pairs : queue_at zs root ≡ qs
   pub size : length zs ≡ room
   pub count : (d : ℕ) → length ps + 1 < 2 ^ d → steps ≤ old_steps + 32 * (d + 1)
-
-pub searched : (xs : List Node) (root first : ℕ) (ps : List (ℕ × ℕ)) → IsStored xs root first ps → IsSearched xs root ps
-searched xs root first ps stored = record { tree = stored.is_tree; by_expiry = stored.queue.by_expiry }
 
 -- ---- the first pair, and whether a timer is in the tree
 
@@ -130,7 +130,7 @@ empty_stored xs room small is =
     let tree : IsTree xs none [] = record {
       tree = Leaf;
       whole = record {
-        fit = record { small = omega (arith, size, small); few = omega arith; once = λ k. omega arith };
+        fit = fit_of xs [] (omega (arith, size, small)) (IsQueue-empty (length xs));
         linked = tt;
         under = tt;
         root_is = refl;

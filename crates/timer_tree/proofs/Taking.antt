@@ -10,10 +10,12 @@ use Rattle.timer_tree.specs.Moves.{only_child, spliced, substituted}
 use Rattle.timer_tree.specs.Trees.{Tree, Leaf, Fork, top, tall, pairs, IsAt, IsBalanced, one, times, Keeps}
 use Rattle.timer_tree.specs.Contexts.{Frame, plug, parent_of, root_of, IsAround, around, before, after, Fit, Cut}
 use Rattle.timer_tree.specs.Takes.{IsBelow, IsLowering, IsTaking, IsTaken}
-use Rattle.timer_tree.proofs.Trees.{times-append, times-fork, times-plug, one_same, Keeps-then, Keeps-for, set_keeps, set_stands, IsAt-kept}
+use Rattle.timer_tree.proofs.Trees.{times-append, times-fork, times-plug, one_same, Keeps-then, Keeps-for, Fit-size, set_keeps, set_stands, IsAt-kept}
 use Rattle.timer_tree.proofs.Trees.{IsAround-kept, rank_at, adopted_keeps, IsAt-adopted, both_adopted, relinked_linked, pairs-plug, plug-append, IsAt-cut}
 use Rattle.timer_tree.proofs.Trees.{IsAt-join, Located, located, times-frames, root_of-frames, Fits-renamed, cut_down, cut_times}
 use Rattle.timer_tree.proofs.Puts.{without_at}
+use Rattle.timer_tree.proofs.Stores.{fit_of}
+use Rattle.timer_queue.proofs.Pairs.{IsQueue-without}
 use Rattle.timer_tree.proofs.Counts.{cut_low}
 use Rattle.timer_tree.specs.declared.node.Node.{Node}
 use Rattle.timer_tree.specs.declared.node.Side.TheVariants as sides
@@ -32,7 +34,7 @@ lowering_at xs root n old steps above ps c (Fork a m f g b) e h r some cut first
   h = g;
   r = b;
   cut = cut_down sides.Left (Fork a m f g b) r n e h cut;
-  first = append-nil (before c) ∙ first;
+  first = first;
   node_is = refl;
   count = omega (arith, count);
 }
@@ -147,20 +149,10 @@ gone_times id ps = times-without id id ps ∙ ap (λ b. if b then 0 else times i
 pub other_times : (k id : ℕ) (ps : List (ℕ × ℕ)) → (k ≡ id → ⊥) → times k (without id ps) ≡ times k ps
 other_times k id ps apart = times-without k id ps ∙ ap (λ b. if b then 0 else times k ps) (ne_eqb k id apart)
 
-length-without : (id : ℕ) (ps : List (ℕ × ℕ)) → length (without id ps) ≤ length ps
-length-without id [] = omega arith
-length-without id (p ∷ ps) = grind (arith, nat_tests, length-without id ps)
-
 -- what is left fits the block too
 without_fit : {xs ys : List Node} {ps : List (ℕ × ℕ)} (id : ℕ) → length ys ≡ length xs → Fit xs ps → Fit ys (without id ps)
-without_fit {ps = ps} id size fit = record {
-  small = omega (arith, size, fit.small);
-  few = omega (arith, length-without id ps, fit.few);
-  once = λ k. elim (cases_eq k id) [
-    | inl same ↦ omega (arith, subst (λ j. times j (without id ps) ≡ 0) (sym same) (gone_times id ps))
-    | inr apart ↦ omega (arith, other_times k id ps apart, fit.once k)
-  ];
-}
+without_fit {xs = xs} {ps = ps} id size fit =
+    Fit-size size (fit_of xs (without id ps) fit.small (IsQueue-without (length xs) id ps fit.queue))
 
 -- a timer with at most one subtree below it
 one_part : (xs : List Node) (root id : ℕ) (node : Node) (ps : List (ℕ × ℕ)) (c : List Frame) (l : Tree) (e h : ℕ) (r u : Tree) (new : List Node × ℕ)

@@ -4,10 +4,11 @@ use Rattle.std.proofs.Common.{get_or-set_same, get_or-set_other, slice_set, appe
 use Rattle.std.proofs.lemmas.Bool.{cases_eq, eq-eqb, ne_eqb, eqb-true, eqb-false, ltb-true, ltb-false}
 use Rattle.std.proofs.lemmas.Bool.Decides.{nat_tests}
 use Rattle.std.proofs.lemmas.List.{get_or_past, set_past}
-use Rattle.timer_tree.specs.Nodes.{none, blank, node_at, with_links}
+use Rattle.timer_tree.specs.Nodes.{none, blank, node_at, with_links, pick}
+use Rattle.timer_queue.specs.Pairs.{IsQueue}
 use Rattle.timer_tree.specs.Links.{adopted, replaced, relinked}
 use Rattle.timer_tree.specs.Trees.{Tree, Leaf, Fork, top, tall, pairs, Stands, IsAt, HasRank, IsBalanced, one, times, Keeps}
-use Rattle.timer_tree.specs.Contexts.{Frame, fork, filled, plug, parent_of, root_of, IsAround, around, before, after, ahead, behind, Fits, Cut, IsTree}
+use Rattle.timer_tree.specs.Contexts.{Frame, fork, filled, plug, parent_of, root_of, IsAround, around, before, after, Fits, Fit, Cut, IsTree}
 use Rattle.timer_tree.specs.declared.node.Node.{Node}
 use Rattle.timer_tree.specs.declared.node.Side.{Side}
 use Rattle.timer_tree.specs.declared.node.Side.TheVariants as sides
@@ -79,6 +80,10 @@ IsAround-kept hole (f ∷ c) a apart at = (
   IsAt-kept f.n f.other a (λ k. omega (arith, apart k, times-append k (pairs f.other) (around c))) at.1,
   IsAround-kept f.n c a (λ k. omega (arith, apart k, times-append k (pairs f.other) (around c))) at.2,
 )
+
+pub Fit-size : {xs ys : List Node} {ps : List (ℕ × ℕ)} → length ys ≡ length xs → Fit xs ps → Fit ys ps
+Fit-size {ps = ps} size fit =
+    record { small = omega (arith, size, fit.small); few = fit.few; once = fit.once; queue = subst (λ n. IsQueue n ps) (sym size) fit.queue }
 
 -- the rank of a subtree is that of its top node; the blank node past the block has the rank 0
 pub rank_at : (xs : List Node) (p : ℕ) (t : Tree) → length xs ≤ none → IsAt xs p t → (node_at xs (top t)).rank ≡ tall t
@@ -210,14 +215,14 @@ pub length-plug : (c : List Frame) (t : Tree) → length (pairs (plug c t)) ≡ 
 length-plug [] t = omega arith
 length-plug (f ∷ c) t = omega (arith, length-plug c (filled f t), length-fork f.side t f.other f.n f.e f.h, length-append (pairs f.other) (around c))
 
-sides_of : (s : Side) (o t : Tree) (e n h : ℕ) → pairs (fork s t n e h o) ≡ ahead s o (e, n) ++ (pairs t ++ behind s o (e, n))
-sides_of sides.Left o t e n h = refl
-sides_of sides.Right o t e n h = simp (append_assoc, append-nil) refl
+sides_of : (s : Side) (o t : Tree) (e n h : ℕ) (ps qs : List (ℕ × ℕ)) → ps ++ (pairs (fork s t n e h o) ++ qs) ≡
+    pick s ps (ps ++ (pairs o ++ (e, n) ∷ [])) ++ (pairs t ++ pick s ((e, n) ∷ pairs o ++ qs) qs)
+sides_of sides.Left o t e n h ps qs = simp append_assoc refl
+sides_of sides.Right o t e n h ps qs = simp append_assoc refl
 
 pub pairs-plug : (c : List Frame) (t : Tree) → pairs (plug c t) ≡ before c ++ (pairs t ++ after c)
 pairs-plug [] t = sym (append-nil (pairs t))
-pairs-plug (f ∷ c) t =
-    pairs-plug c (filled f t) ∙ ap (λ ps. before c ++ (ps ++ after c)) (sides_of f.side f.other t f.e f.n f.h) ∙ simp append_assoc refl
+pairs-plug (f ∷ c) t = pairs-plug c (filled f t) ∙ sides_of f.side f.other t f.e f.n f.h (before c) (after c)
 
 -- ---- a tree that is cut at a subtree
 

@@ -49,36 +49,27 @@ abbrev pub around : List Frame → List (ℕ × ℕ)
 around [] = []
 around (f ∷ c) = (f.e, f.n) ∷ pairs f.other ++ around c
 
--- the pairs of a node and of its subtree on the other side, where they stand before the hole
-abbrev pub ahead : Side → Tree → (ℕ × ℕ) → List (ℕ × ℕ)
-ahead sides.Left t p = []
-ahead sides.Right t p = pairs t ++ p ∷ []
-
--- the pairs of a node and of its subtree on the other side, where they stand behind the hole
-abbrev pub behind : Side → Tree → (ℕ × ℕ) → List (ℕ × ℕ)
-behind sides.Left t p = p ∷ pairs t
-behind sides.Right t p = []
-
 -- all pairs before the hole
 abbrev pub before : List Frame → List (ℕ × ℕ)
 before [] = []
-before (f ∷ c) = before c ++ ahead f.side f.other (f.e, f.n)
+before (f ∷ c) = pick f.side (before c) (before c ++ (pairs f.other ++ (f.e, f.n) ∷ []))
 
 -- all pairs behind the hole
 abbrev pub after : List Frame → List (ℕ × ℕ)
 after [] = []
-after (f ∷ c) = behind f.side f.other (f.e, f.n) ++ after c
+after (f ∷ c) = pick f.side ((f.e, f.n) ∷ pairs f.other ++ after c) (after c)
 
 -- the context is balanced where its hole holds a subtree of this rank
 abbrev pub Fits : List Frame → ℕ → Type 0
 Fits [] h = Unit
 Fits (f ∷ c) h = HasRank h (tall f.other) f.h × IsBalanced f.other × Fits c f.h
 
--- a tree's pairs fit the block, and each timer stands once
+-- these pairs are a queue that fits the block, and each timer stands once
 pub record Fit (xs : List Node) (ps : List (ℕ × ℕ)) : Type 0 where
   pub small : length xs ≤ none
   pub few : length ps ≤ none
   pub once : (k : ℕ) → times k ps ≤ 1
+  pub queue : IsQueue (length xs) ps
 
 -- the block holds a tree of these pairs, cut at a balanced subtree; all ranks are right where that has this one
 pub record Cut (xs : List Node) (root : ℕ) (c : List Frame) (t : Tree) (h : ℕ) (ps : List (ℕ × ℕ)) : Type 0 where

@@ -1,9 +1,9 @@
 -- A place in the tree where a timer is to be inserted.
 use Rattle.std.specs.Prelude.{ℕ, ◌+◌, ◌≡◌, nat_eq, nat_lt, if◌then◌else◌, List, [], ◌∷◌, ◌++◌, length}
-use Rattle.timer_queue.specs.Pairs.{put, IsByExpiry}
+use Rattle.timer_queue.specs.Pairs.{put}
 use Rattle.timer_tree.specs.Nodes.{none}
 use Rattle.timer_tree.specs.Trees.{Tree, Leaf, top, tall, pairs}
-use Rattle.timer_tree.specs.Contexts.{Frame, parent_of, before, after, Cut, IsTree}
+use Rattle.timer_tree.specs.Contexts.{Frame, parent_of, before, after, Cut}
 use Rattle.timer_tree.specs.declared.node.Node.{Node}
 use Rattle.timer_tree.specs.declared.node.Side.{Side}
 use Rattle.timer_tree.specs.declared.node.Side.TheVariants as sides
@@ -36,11 +36,6 @@ pub record IsPlace (xs : List Node) (root parent expires : ℕ) (ps : List (ℕ 
   pub side : IsOnSide expires context
   pub puts : (id : ℕ) → put expires id ps ≡ before context ++ ((expires, id) ∷ after context)
   pub count : steps ≡ old_steps + length context
-
--- a tree of a queue's pairs
-pub record IsSearched (xs : List Node) (root : ℕ) (ps : List (ℕ × ℕ)) : Type 0 where
-  pub tree : IsTree xs root ps
-  pub by_expiry : IsByExpiry ps
 
 -- the number of the first timer once this one is inserted on a side of this parent
 abbrev pub first_on : Side → (parent first id : ℕ) → ℕ

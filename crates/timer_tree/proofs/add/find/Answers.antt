@@ -5,7 +5,11 @@ use Rattle.timer_tree.specs.declared.node.Node.{Node}
 use Rattle.timer_tree.proofs.add.find.Goals as goal
 
 pub loop-at-init : goal.loop-at-init
-loop-at-init g c = record { finding = λ ps searched. finding_start _ _ c.args.expires ps _ searched; links = λ some. absurd (some refl) }
+loop-at-init g c = record {
+  finding = λ ps tree. finding_start _ _ c.args.expires ps _ tree;
+  link = λ some. absurd (some refl);
+  links = λ some. absurd (some refl);
+}
 
 pub read-node-requires : goal.read-node-requires
 read-node-requires g c =
@@ -13,17 +17,18 @@ read-node-requires g c =
 
 pub loop-at-preserved : goal.loop-at-preserved
 loop-at-preserved g c = record {
-  finding = λ ps searched. (finding_down _ _ _ _ _ _ ps _ _ _ _ _ searched c.loop-at-test.true (c.loop-at.invariant.finding ps searched)
+  finding = λ ps tree. (finding_down _ _ _ _ _ _ ps _ _ _ _ _ c.loop-at-test.true (c.loop-at.invariant.finding ps tree)
       c.read-node.ensures.node c.read-node.ensures.steps c.side_of.ensures c.near-at.ensures).0;
+  link = λ some. finding_inside _ _ _ _ _ _ _ _ c.loop-at-test.true (c.loop-at.invariant.finding c.requires.0 c.requires.1);
   links = λ some. (ap (λ (x : Node). x.left) c.read-node.ensures.node, ap (λ (x : Node). x.right) c.read-node.ensures.node);
 }
 
 pub loop-at-smaller : goal.loop-at-smaller
-loop-at-smaller g c = (finding_down _ _ _ _ _ _ c.requires.0 _ _ _ _ _ c.requires.1 c.loop-at-test.true
+loop-at-smaller g c = (finding_down _ _ _ _ _ _ c.requires.0 _ _ _ _ _ c.loop-at-test.true
     (c.loop-at.invariant.finding c.requires.0 c.requires.1) c.read-node.ensures.node c.read-node.ensures.steps c.side_of.ensures c.near-at.ensures).1
 
 pub returns-clause-place : goal.returns-clause-place
-returns-clause-place g c = λ ps searched. finding_end _ _ _ _ _ _ _ _ c.loop-at-test.false (c.loop-at.invariant.finding ps searched)
+returns-clause-place g c = λ ps tree. finding_end _ _ _ _ _ _ _ _ c.loop-at-test.false (c.loop-at.invariant.finding ps tree)
 
 pub returns-clause-leaf : goal.returns-clause-leaf
 returns-clause-leaf g c = λ some.

@@ -4,19 +4,19 @@ use Rattle.timer_tree.specs.declared.node.Node.{Node}
 use Rattle.timer_tree.specs.declared.node.Side.{Side}
 use Rattle.timer_tree.specs.Trees.{queue_at}
 use Rattle.timer_tree.proofs.Adding.{added, inserted_can}
-use Rattle.timer_tree.proofs.Stores.{Gives, searched}
+use Rattle.timer_tree.proofs.Stores.{Gives}
 use Rattle.timer_tree.proofs.tree.TimerTree.add_counted.Given.{Over}
 use Rattle.timer_tree.proofs.tree.TimerTree.add_counted.Goals as goal
 
 pub find-place-requires : goal.find-place-requires
-find-place-requires g c = (queue_at c.self.inside.block c.self.inside.root, searched _ _ _ _ c.self.invariant)
+find-place-requires g c = (queue_at c.self.inside.block c.self.inside.root, c.self.invariant.is_tree)
 
 pub settle-requires : goal.settle-requires
 settle-requires g c =
     let ps = queue_at c.self.inside.block c.self.inside.root in
     let absent = subst (λ v. has_id c.args.id v.0 ≡ false) (sym c.self.view_is) c.requires.absent in
     let inside = subst (λ v. c.args.id < v.1) (sym c.self.view_is) c.requires.below in
-    let found = c.find-place.ensures.place ps (searched _ _ _ _ c.self.invariant) in
+    let found = c.find-place.ensures.place ps c.self.invariant.is_tree in
     let new : List Node × ℕ × Side = (c.insert-side.new.block, c.insert-side.new.root, c.insert-side.result) in
     let can = inserted_can _ _ _ _ _ _ ps _ _ new c.self.invariant absent inside found c.insert-side.ensures.block _ c.find-place.ensures.leaf in
     (put c.args.expires c.args.id ps, can.0, can.1)
@@ -28,7 +28,7 @@ done g c =
     let ps = queue_at c.self.inside.block c.self.inside.root in
     added _ _ _ _ _ _ ps _ _ (c.insert-side.new.block, c.insert-side.new.root, c.insert-side.result) c.self.invariant
     (subst (λ v. has_id c.args.id v.0 ≡ false) (sym c.self.view_is) c.requires.absent) (subst (λ v. c.args.id < v.1) (sym c.self.view_is) c.requires.below)
-    (c.find-place.ensures.place ps (searched _ _ _ _ c.self.invariant)) c.insert-side.ensures.block _ _ _ _ _ _ c.find-place.ensures.leaf
+    (c.find-place.ensures.place ps c.self.invariant.is_tree) c.insert-side.ensures.block _ _ _ _ _ _ c.find-place.ensures.leaf
     c.insert-side.ensures.steps c.settle.ensures
     c.put_first.ensures
 
