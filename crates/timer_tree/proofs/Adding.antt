@@ -1,17 +1,17 @@
 -- What hanging a timer into its place makes of the tree.
-use Rattle.std.proofs.Common.{◌≡◌, ℕ, Bool, true, false, ◌&&◌, inl, inr, ◌+◌, ◌<◌, ◌≤◌, List, [], ◌∷◌, ◌++◌, length, nat_eq, if◌then◌else◌, arith}
-use Rattle.std.proofs.Common.{refl, ap, ◌∙◌, sym, subst, slice_set, append-nil}
-use Rattle.std.proofs.lemmas.Bool.{eq-eqb, ne_eqb, cases_eq}
-use Rattle.timer_queue.specs.Pairs.{put, has_id, IsQueue}
-use Rattle.timer_queue.proofs.Pairs.{IsQueue-put, length-le_room}
+use Rattle.std.proofs.Common.{◌≡◌, ℕ, Bool, true, false, ◌&&◌, ◌+◌, ◌<◌, ◌≤◌, List, [], ◌∷◌, ◌++◌, length, nat_eq, if◌then◌else◌, arith}
+use Rattle.std.proofs.Common.{refl, ap, ◌∙◌, sym, subst, slice_set}
+use Rattle.std.proofs.lemmas.Bool.{eq-eqb, ne_eqb}
+use Rattle.timer_queue.specs.Pairs.{put, has_id}
+use Rattle.timer_queue.proofs.Pairs.{IsQueue-put}
 use Rattle.timer_tree.specs.Nodes.{none, pick, node_at, with_links, is_leaf}
 use Rattle.timer_tree.specs.Moves.{inserted}
 use Rattle.timer_tree.specs.Links.{with_child}
-use Rattle.timer_tree.specs.Trees.{Tree, Leaf, Fork, top, pairs, Stands, one, times, first_id, Keeps}
+use Rattle.timer_tree.specs.Trees.{Leaf, Fork, top, pairs, Stands, one, times, first_id, Keeps}
 use Rattle.timer_tree.specs.Contexts.{Frame, parent_of, root_of, IsAround, around, before, after, Cut, IsStored, IsUnbalanced}
 use Rattle.timer_tree.specs.Contexts.{IsRepaired, IsOver}
 use Rattle.timer_tree.specs.Places.{side_of, first_on, IsOnSide, IsPlace}
-use Rattle.timer_tree.proofs.Trees.{times-append, one_same, one_le, apart_one, Keeps-then, Keeps-for, Fit-size, set_keeps, set_stands, Stands-kept, IsAt-kept, IsAround-kept}
+use Rattle.timer_tree.proofs.Trees.{with_child-with_links, times-append, one_same, apart_one, once_with, Keeps-then, Keeps-for, Fit-size, set_keeps, set_stands, Stands-kept, IsAt-kept, IsAround-kept}
 use Rattle.timer_tree.proofs.Trees.{pairs-plug, cut_times}
 use Rattle.timer_tree.proofs.Puts.{times-put}
 use Rattle.timer_tree.proofs.Counts.{cut_low}
@@ -19,10 +19,6 @@ use Rattle.timer_tree.proofs.Stores.{Gives, times-absent, fit_of, queue_again, q
 use Rattle.timer_tree.specs.declared.node.Node.{Node}
 use Rattle.timer_tree.specs.declared.node.Side.{Side}
 use Rattle.timer_tree.specs.declared.node.Side.TheVariants as sides
-
-with_child-with_links : (s : Side) (e b p h id : ℕ) → with_child (with_links s e none b p h) s id ≡ with_links s e id b p h
-with_child-with_links sides.Left e b p h id = refl
-with_child-with_links sides.Right e b p h id = refl
 
 -- a timer has come on the hole's side of its parent, and on the left where it has none
 abbrev HasSide : Side → List Frame → Type 0
@@ -60,7 +56,7 @@ inserted_at xs root expires id (f ∷ c) small inside once side linked root_is =
     let new = with_child (node_at ys f.n) (side_of expires (node_at ys f.n).expires) id in
     let zs = slice_set ys f.n new in
     let is : new ≡ with_links f.side f.e id (top f.other) (parent_of c) f.h = ap (λ s. with_child (node_at ys f.n) s id) on
-    ∙ ap (λ x. with_child x f.side id) kept.0.is ∙ with_child-with_links f.side f.e (top f.other) (parent_of c) f.h id in
+    ∙ ap (λ x. with_child x f.side id) kept.0.is ∙ with_child-with_links f.side f.e none (top f.other) (parent_of c) f.h id in
     let some : nat_eq f.n none ≡ false = ne_eqb f.n none (λ same. omega (arith, same, linked.0.inside, small)) in
     let second = set_keeps ys f.n new in
     let stands = set_stands ys f.n new kept.0.inside in
@@ -128,12 +124,9 @@ module _ (xs : List Node) (root first parent expires id : ℕ) (ps : List (ℕ �
   inserted_new =
       let c = found.context in
       let cut = found.cut in
-      let once_or : (k : ℕ) → times k (around c) + one k id ≤ 1 = λ k. elim (cases_eq k id) [
-        | inl same ↦ omega (arith, cut_times cut k, subst (λ j. times j ps ≡ 0) (sym same) (times-absent id ps absent), one_le k id)
-        | inr apart ↦ omega (arith, cut_times cut k, cut.fit.once k, apart_one k id apart)
-      ] in
+      let gone = times-absent id ps absent in
       subst (λ x. Inserted xs c expires id x) (sym is) (subst (λ k. Inserted xs c expires id (inserted xs root k expires id)) (sym found.parent_is)
-      (inserted_at xs root expires id c cut.fit.small inside once_or found.side cut.linked cut.root_is))
+      (inserted_at xs root expires id c cut.fit.small inside (λ k. omega (arith, cut_times cut k, once_with k id ps gone (cut.fit.once k))) found.side cut.linked cut.root_is))
 
   -- what a repair is asked for
   pub inserted_can : (leaf : Bool) → ((parent ≡ none → ⊥) → leaf ≡ is_leaf (node_at xs parent)) →

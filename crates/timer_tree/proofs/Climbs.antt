@@ -238,18 +238,7 @@ repairing_smaller rising ys zs root new_root r r' ps b some is =
 -- where no node is left, the tree is balanced
 all_ended : (xs : List Node) (root : ℕ) (c : List Frame) (t : Tree) (old : ℕ) (ps : List (ℕ × ℕ)) → Cut xs root c t old ps → parent_of c ≡ none →
     IsTree xs root ps
-all_ended xs root [] t old ps cut end = record {
-  tree = t;
-  whole = record {
-    fit = cut.fit;
-    linked = tt;
-    under = cut.under;
-    root_is = cut.root_is;
-    balanced = cut.balanced;
-    fits = tt;
-    pairs_are = cut.pairs_are;
-  };
-}
+all_ended xs root [] t old ps cut end = let whole : Cut xs root [] t (tall t) ps = search arith in record { tree = t; whole = whole }
 all_ended xs root (f ∷ c) t old ps cut end = let never : ⊥ = omega (arith, end, cut.linked.0.inside, cut.fit.small) in absurd never
 
 pub repairing_end : (rising : Bool) (xs ys : List Node) (root : ℕ) (r : Unbalanced) (ps : List (ℕ × ℕ)) (levels old_steps steps : ℕ) →

@@ -2,15 +2,14 @@
 use Rattle.std.proofs.Common.{◌≡◌, ℕ, true, false, ◌+◌, ◌<◌, ◌≤◌, List, [], ◌∷◌, ◌++◌, length, nat_eq, if◌then◌else◌, arith, refl, ap, ◌∙◌, sym}
 use Rattle.std.proofs.Common.{subst, append_assoc, length-append, inl, inr}
 use Rattle.std.proofs.lemmas.Bool.{ne_eqb, cases_eq}
-use Rattle.timer_queue.specs.Pairs.{without, has_id, IsQueue}
-use Rattle.timer_queue.proofs.Pairs.{IsQueue-without}
+use Rattle.timer_queue.specs.Pairs.{without, has_id}
 use Rattle.timer_tree.specs.Nodes.{none, node_at, pick}
 use Rattle.timer_tree.specs.Rotate.{ranked}
 use Rattle.timer_tree.specs.Trees.{Tree, Leaf, Fork, top, tall, pairs, IsAt, IsBalanced, one, times, first_id, Keeps}
 use Rattle.timer_tree.specs.Contexts.{Frame, parent_of, before, after, IsStored, IsRepairing, IsRepaired, Cut}
 use Rattle.timer_tree.specs.Places.{first_off}
 use Rattle.timer_tree.specs.Takes.{IsTaking, IsTaken}
-use Rattle.timer_tree.proofs.Trees.{by_eq, times-append, one_same, one_le, apart_one, Keeps-then, Fit-size, set_keeps, set_stands, IsAt-kept, IsAround-kept, pairs-plug}
+use Rattle.timer_tree.proofs.Trees.{by_eq, times-append, one_same, apart_one, once_with, Keeps-then, Fit-size, set_keeps, set_stands, IsAt-kept, IsAround-kept, pairs-plug}
 use Rattle.timer_tree.proofs.Trees.{tall-le, cut_times}
 use Rattle.timer_tree.proofs.Stores.{Gives, queue_again, queue_at-is, present_times}
 use Rattle.timer_tree.proofs.Climbs.{repairing_start}
@@ -85,10 +84,7 @@ erased_first xs root first id node ps new_first taking first_is node_is new_is =
 cut_kept : {xs ys : List Node} {root h : ℕ} {c : List Frame} {t : Tree} {ps : List (ℕ × ℕ)} (n : ℕ) → times n ps ≡ 0 → Keeps (λ k. one k n) xs ys →
     Cut xs root c t h ps → Cut ys root c t h ps
 cut_kept {c = c} {t = t} {ps = ps} n gone kept cut =
-    let apart : (k : ℕ) → one k n + times k ps ≤ 1 = λ k. elim (cases_eq k n) [
-      | inl same ↦ omega (arith, one_le k n, subst (λ j. times j ps ≡ 0) (sym same) gone)
-      | inr other ↦ omega (arith, apart_one k n other, cut.fit.once k)
-    ] in
+    let apart : (k : ℕ) → one k n + times k ps ≤ 1 = λ k. once_with k n ps gone (cut.fit.once k) in
     record {
       fit = Fit-size kept.size cut.fit;
       linked = IsAround-kept (top t) c kept (λ k. omega (arith, apart k, cut_times cut k)) cut.linked;

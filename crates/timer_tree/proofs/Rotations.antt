@@ -114,13 +114,8 @@ once_rotated xs s a b c n e h m f g p whole balanced_t balanced_c lean low near 
 
 pairs-twice : (s : Side) (a b d c : Tree) (n e h m f g k i j : ℕ) →
     pairs (fork s (fork s a m f j b) k i h (fork s d n e j c)) ≡ pairs (fork s (fork s a m f g (fork s b k i j d)) n e h c)
-pairs-twice sides.Left a b d c n e h m f g k i j =
-    append_assoc (pairs a) ((f, m) ∷ pairs b) ((i, k) ∷ pairs d ++ (e, n) ∷ pairs c)
-    ∙ ap (λ ps. pairs a ++ (f, m) ∷ ps) (sym (append_assoc (pairs b) ((i, k) ∷ pairs d) ((e, n) ∷ pairs c)))
-    ∙ sym (append_assoc (pairs a) ((f, m) ∷ pairs b ++ (i, k) ∷ pairs d) ((e, n) ∷ pairs c))
-pairs-twice sides.Right a b d c n e h m f g k i j =
-    append_assoc (pairs c) ((e, n) ∷ pairs d) ((i, k) ∷ pairs b ++ (f, m) ∷ pairs a)
-    ∙ ap (λ ps. pairs c ++ (e, n) ∷ ps) (sym (append_assoc (pairs d) ((i, k) ∷ pairs b) ((f, m) ∷ pairs a)))
+pairs-twice sides.Left a b d c n e h m f g k i j = simp append_assoc refl
+pairs-twice sides.Right a b d c n e h m f g k i j = simp append_assoc refl
 
 twice_rotated : (xs : List Node) (s : Side) (a b d c : Tree) (n e h m f g k i j p : ℕ) → Whole xs p (fork s (fork s a m f g (fork s b k i j d)) n e h c) →
     IsBalanced (fork s a m f g (fork s b k i j d)) → IsBalanced c → g ≡ tall c + 2 → g ≤ h → h ≤ g + 1 → tall a < j →

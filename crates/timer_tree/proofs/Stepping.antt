@@ -1,7 +1,7 @@
 -- What a step of a repair makes of a node.
 use Rattle.std.proofs.Common.{◌≡◌, ℕ, Bool, true, false, ◌+◌, ◌-◌, ◌<◌, ◌≤◌, List, length, nat_eq, nat_lt, ◌||◌, ◌&&◌, if◌then◌else◌, arith, refl, ap, ◌∙◌, sym}
 use Rattle.std.proofs.Common.{subst, max, inl, inr}
-use Rattle.std.proofs.lemmas.Bool.{eq-eqb, ne_eqb, cases_lt, cases_eq}
+use Rattle.std.proofs.lemmas.Bool.{cases_lt, cases_eq}
 use Rattle.timer_tree.specs.Nodes.{none, node_at, far, with_links, next, other_side, child_side, is_high_leaf}
 use Rattle.timer_tree.specs.Links.{relinked}
 use Rattle.timer_tree.specs.Rotate.{rotated, rotated_up, ranked}
@@ -9,7 +9,7 @@ use Rattle.timer_tree.specs.Moves.{Repairing, gone_on, ended, raised, risen, has
 use Rattle.timer_tree.specs.declared.repair.Unbalanced.{Unbalanced}
 use Rattle.timer_tree.specs.Trees.{Tree, Leaf, Fork, top, tall, pairs, IsAt, HasRank, IsBalanced, times}
 use Rattle.timer_tree.specs.Contexts.{fork, IsTilted, Way}
-use Rattle.timer_tree.proofs.Trees.{by_eq, by_lt, times-fork, one_same, top_apart, rank_at, no_top, IsAt-fork, fork-IsBalanced, turned}
+use Rattle.timer_tree.proofs.Trees.{child_side_is, by_eq, by_lt, times-fork, one_same, top_apart, rank_at, no_top, IsAt-fork, fork-IsBalanced, turned}
 use Rattle.timer_tree.specs.declared.node.Node.{Node}
 use Rattle.timer_tree.specs.declared.node.Side.{Side}
 use Rattle.timer_tree.specs.declared.node.Side.TheVariants as sides
@@ -50,10 +50,6 @@ reranked xs s t o n e h old p i is has = record {
   root_is = refl;
   rank_is = refl;
 }
-
-pub child_side_is : (s : Side) (e a b p h : ℕ) → (b ≡ a → ⊥) → child_side (with_links s e a b p h) a ≡ s
-child_side_is sides.Left e a b p h apart = ap (λ x. if x then sides.Left else sides.Right) (eq-eqb a a refl)
-child_side_is sides.Right e a b p h apart = ap (λ x. if x then sides.Left else sides.Right) (ne_eqb b a apart)
 
 pub far-with_links : (s : Side) (e a b p h : ℕ) → far s (with_links s e a b p h) ≡ b
 far-with_links sides.Left e a b p h = refl

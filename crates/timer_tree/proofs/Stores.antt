@@ -11,7 +11,7 @@ use Rattle.std.proofs.lemmas.List.{get_or_past, get_or-replicate, length-replica
 use Rattle.timer_tree.specs.Nodes.{none, blank, node_at, IsLink}
 use Rattle.timer_tree.specs.Trees.{Tree, Leaf, Fork, top, tall, pairs, IsAt, IsBalanced, one, times, first_id, pairs_below, queue_at}
 use Rattle.timer_tree.specs.Contexts.{IsTree, IsStored, Fit}
-use Rattle.timer_tree.proofs.Trees.{rank_at, located, apart_one, tall-le}
+use Rattle.timer_tree.proofs.Trees.{rank_at, located, once_with, tall-le}
 use Rattle.timer_tree.specs.declared.node.Node.{Node}
 
 times-apart : (k : ℕ) (ps : List (ℕ × ℕ)) → AllByRecursion (λ p. nat_eq k p.1 ≡ false) ps → times k ps ≡ 0
@@ -27,10 +27,7 @@ times-le k [] once = omega arith
 times-le k (p ∷ ps) once =
     let rest = times-le k ps (IsDistinct-tail nat_eq p.1 (map (λ q. q.1) ps) once) in
     let apart = times-apart p.1 ps (All-from_ids (λ q. nat_eq p.1 q ≡ false) ps (IsDistinct-head nat_eq p.1 (map (λ q. q.1) ps) once)) in
-    elim (cases_eq k p.1) [
-      | inl same ↦ let gone : times k ps ≡ 0 = subst (λ q. times q ps ≡ 0) (sym same) apart in grind (arith, nat_tests)
-      | inr other ↦ omega (arith, rest, apart_one k p.1 other)
-    ]
+    once_with k p.1 ps apart rest
 
 pub fit_of : (xs : List Node) (ps : List (ℕ × ℕ)) → length xs ≤ none → IsQueue (length xs) ps → Fit xs ps
 fit_of xs ps small queue =

@@ -4,9 +4,9 @@ use Rattle.std.proofs.Common.{get_or-set_same, get_or-set_other, slice_set, appe
 use Rattle.std.proofs.lemmas.Bool.{cases_eq, eq-eqb, ne_eqb, eqb-true, eqb-false, ltb-true, ltb-false}
 use Rattle.std.proofs.lemmas.Bool.Decides.{nat_tests}
 use Rattle.std.proofs.lemmas.List.{get_or_past, set_past}
-use Rattle.timer_tree.specs.Nodes.{none, blank, node_at, with_links, pick}
+use Rattle.timer_tree.specs.Nodes.{none, blank, child_side, node_at, with_links, pick}
 use Rattle.timer_queue.specs.Pairs.{IsQueue}
-use Rattle.timer_tree.specs.Links.{adopted, replaced, relinked}
+use Rattle.timer_tree.specs.Links.{adopted, with_child, replaced, relinked}
 use Rattle.timer_tree.specs.Trees.{Tree, Leaf, Fork, top, tall, pairs, Stands, IsAt, HasRank, IsBalanced, one, times, Keeps}
 use Rattle.timer_tree.specs.Contexts.{Frame, fork, filled, plug, parent_of, root_of, IsAround, around, before, after, Fits, Fit, Cut, IsTree}
 use Rattle.timer_tree.specs.declared.node.Node.{Node}
@@ -46,6 +46,13 @@ one_apart k n none same = grind (arith, nat_tests)
 
 pub apart_one : (k n : ℕ) → (k ≡ n → ⊥) → one k n ≡ 0
 apart_one k n apart = grind (arith, nat_tests)
+
+-- a timer that isn't in a list stands once with it
+pub once_with : (k n : ℕ) (ps : List (ℕ × ℕ)) → times n ps ≡ 0 → times k ps ≤ 1 → one k n + times k ps ≤ 1
+once_with k n ps gone once = elim (cases_eq k n) [
+  | inl same ↦ omega (arith, subst (λ j. times j ps ≡ 0) (sym same) gone, one_le k n)
+  | inr apart ↦ omega (arith, apart_one k n apart, once)
+]
 
 -- ---- what is kept where some nodes have changed
 
@@ -165,13 +172,17 @@ tall-le (Fork l n e h r) balanced = omega (arith, balanced.0.near_both, tall-le 
 
 -- ---- another number in a hole
 
+pub child_side_is : (s : Side) (e a b p h : ℕ) → (b ≡ a → ⊥) → child_side (with_links s e a b p h) a ≡ s
+child_side_is sides.Left e a b p h apart = ap (λ x. if x then sides.Left else sides.Right) (eq-eqb a a refl)
+child_side_is sides.Right e a b p h apart = ap (λ x. if x then sides.Left else sides.Right) (ne_eqb b a apart)
+
+pub with_child-with_links : (s : Side) (e a b p h to : ℕ) → with_child (with_links s e a b p h) s to ≡ with_links s e to b p h
+with_child-with_links sides.Left e a b p h to = refl
+with_child-with_links sides.Right e a b p h to = refl
+
 replaced_with_links : (s : Side) (e a b p h to : ℕ) → (b ≡ a → ⊥) → replaced (with_links s e a b p h) a to ≡ with_links s e to b p h
-replaced_with_links sides.Left e a b p h to apart =
-    ap (λ x. if x then record { expires = e; left = to; right = b; parent = p; rank = h }
-    else record { expires = e; left = a; right = to; parent = p; rank = h }) (eq-eqb a a refl)
-replaced_with_links sides.Right e a b p h to apart =
-    ap (λ x. if x then record { expires = e; left = to; right = a; parent = p; rank = h }
-    else record { expires = e; left = b; right = to; parent = p; rank = h }) (ne_eqb b a apart)
+replaced_with_links s e a b p h to apart =
+    ap (λ d. with_child (with_links s e a b p h) d to) (child_side_is s e a b p h apart) ∙ with_child-with_links s e a b p h to
 
 -- a subtree that doesn't have a node doesn't have it at the top
 pub top_apart : (n : ℕ) (t : Tree) → n < none → times n (pairs t) ≡ 0 → top t ≡ n → ⊥

@@ -6,7 +6,6 @@ use Rattle.timer_queue.specs.Pairs.{IsQueue}
 use Rattle.timer_tree.specs.declared.node.Node.{Node}
 use Rattle.timer_tree.specs.declared.repair.Unbalanced.{Unbalanced}
 use Rattle.timer_tree.specs.declared.node.Side.{Side}
-use Rattle.timer_tree.specs.declared.node.Side.TheVariants as sides
 
 -- a node between a subtree on a side and one on the other
 abbrev pub fork : Side → Tree → (n e h : ℕ) → Tree → Tree
