@@ -85,15 +85,9 @@ cut_kept : {xs ys : List Node} {root h : ℕ} {c : List Frame} {t : Tree} {ps : 
     Cut xs root c t h ps → Cut ys root c t h ps
 cut_kept {c = c} {t = t} {ps = ps} n gone kept cut =
     let apart : (k : ℕ) → one k n + times k ps ≤ 1 = λ k. once_with k n ps gone (cut.fit.once k) in
-    record {
-      fit = Fit-size kept.size cut.fit;
-      linked = IsAround-kept (top t) c kept (λ k. omega (arith, apart k, cut_times cut k)) cut.linked;
-      under = IsAt-kept (parent_of c) t kept (λ k. omega (arith, apart k, cut_times cut k)) cut.under;
-      root_is = cut.root_is;
-      balanced = cut.balanced;
-      fits = cut.fits;
-      pairs_are = cut.pairs_are;
-    }
+    let fit = Fit-size kept.size cut.fit in
+    let linked = IsAround-kept (top t) c kept (λ k. omega (arith, apart k, cut_times cut k)) cut.linked in
+    let under = IsAt-kept (parent_of c) t kept (λ k. omega (arith, apart k, cut_times cut k)) cut.under in search arith
 
 pub takes : (xs : List Node) (root first id : ℕ) (ps : List (ℕ × ℕ)) → IsStored xs root first ps → has_id id ps ≡ true → IsTaking xs root id ps
 takes xs root first id ps stored present = record { tree = stored.is_tree; present = present_times id ps present }

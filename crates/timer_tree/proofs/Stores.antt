@@ -10,7 +10,7 @@ use Rattle.timer_queue.proofs.Pairs.{All-from_ids, apart_from_absent, IsQueue-em
 use Rattle.std.proofs.lemmas.List.{get_or_past, get_or-replicate, length-replicate}
 use Rattle.timer_tree.specs.Nodes.{none, blank, node_at, IsLink}
 use Rattle.timer_tree.specs.Trees.{Tree, Leaf, Fork, top, tall, pairs, IsAt, IsBalanced, one, times, first_id, pairs_below, queue_at}
-use Rattle.timer_tree.specs.Contexts.{IsTree, IsStored, Fit}
+use Rattle.timer_tree.specs.Contexts.{IsTree, IsStored, Fit, Cut}
 use Rattle.timer_tree.proofs.Trees.{rank_at, located, once_with, tall-le}
 use Rattle.timer_tree.specs.declared.node.Node.{Node}
 
@@ -124,18 +124,9 @@ empty_stored xs room small is =
       | inl inside ↦ get_or-replicate room k blank blank inside
       | inr past ↦ get_or_past (replicate room blank) k blank (omega (arith, past, length-replicate room blank))
     ] in
-    let tree : IsTree xs none [] = record {
-      tree = Leaf;
-      whole = record {
-        fit = fit_of xs [] (omega (arith, size, small)) (IsQueue-empty (length xs));
-        linked = tt;
-        under = tt;
-        root_is = refl;
-        balanced = tt;
-        fits = tt;
-        pairs_are = refl;
-      };
-    } in
+    let fit = fit_of xs [] (omega (arith, size, small)) (IsQueue-empty (length xs)) in
+    let whole : Cut xs none [] Leaf 0 [] = search arith in
+    let tree : IsTree xs none [] = record { tree = Leaf; whole = whole } in
     let stored : IsStored xs none none [] = record {
       is_tree = tree;
       first_is = refl;

@@ -246,30 +246,16 @@ pub cut_down : {xs : List Node} {root : ℕ} {c : List Frame} {ps : List (ℕ ×
     Cut xs root (record { side = s; n = n; e = e; h = h; other = o } ∷ c) t (tall t) ps
 cut_down {xs} {root} {c} {ps} s t o n e h cut =
     let parts = IsAt-fork xs (parent_of c) s t o n e h cut.under in
-    let ranks = IsBalanced-fork s t o n e h cut.balanced in
-    record {
-      fit = cut.fit;
-      linked = (parts.0, parts.2, cut.linked);
-      under = parts.1;
-      root_is = cut.root_is;
-      balanced = ranks.1;
-      fits = (ranks.0, ranks.2, cut.fits);
-      pairs_are = cut.pairs_are;
-    }
+    let ranks = IsBalanced-fork s t o n e h cut.balanced in search arith
 
 -- the whole tree
 pub cut_whole : (xs : List Node) (root : ℕ) (c : List Frame) (t : Tree) (ps : List (ℕ × ℕ)) → Cut xs root c t (tall t) ps →
     Cut xs root [] (plug c t) (tall (plug c t)) ps
 cut_whole xs root [] t ps cut = cut
-cut_whole xs root (f ∷ c) t ps cut = cut_whole xs root c (filled f t) ps (record {
-  fit = cut.fit;
-  linked = cut.linked.2;
-  under = fork-IsAt xs (parent_of c) f.side t f.other f.n f.e f.h cut.linked.0 cut.under cut.linked.1;
-  root_is = cut.root_is;
-  balanced = fork-IsBalanced f.side t f.other f.n f.e f.h (cut.fits.0, cut.balanced, cut.fits.1);
-  fits = cut.fits.2;
-  pairs_are = cut.pairs_are;
-})
+cut_whole xs root (f ∷ c) t ps cut =
+    let under = fork-IsAt xs (parent_of c) f.side t f.other f.n f.e f.h cut.linked.0 cut.under cut.linked.1 in
+    let balanced = fork-IsBalanced f.side t f.other f.n f.e f.h (cut.fits.0, cut.balanced, cut.fits.1) in
+    let up : Cut xs root c (filled f t) f.h ps = search arith in cut_whole xs root c (filled f t) ps up
 
 -- a node that stands in a tree, with what is above it
 pub record Located (xs : List Node) (root k : ℕ) (ps : List (ℕ × ℕ)) : Type 0 where
