@@ -7,7 +7,7 @@ use Rattle.timer_queue.proofs.Pairs.{IsQueue-put}
 use Rattle.timer_tree.specs.Nodes.{none, pick, node_at, with_links, is_leaf}
 use Rattle.timer_tree.specs.Moves.{inserted}
 use Rattle.timer_tree.specs.Links.{with_child}
-use Rattle.timer_tree.specs.Trees.{Leaf, Fork, top, pairs, Stands, one, times, first_id, Keeps}
+use Rattle.timer_tree.specs.Trees.{Leaf, Fork, top, pairs, Stands, IsBalanced, one, times, first_id, Keeps}
 use Rattle.timer_tree.specs.Contexts.{Frame, parent_of, root_of, IsAround, around, before, after, Cut, IsStored, IsUnbalanced}
 use Rattle.timer_tree.specs.Contexts.{IsRepaired, IsOver}
 use Rattle.timer_tree.specs.Places.{side_of, first_on, IsOnSide, IsPlace}
@@ -134,21 +134,17 @@ module _ (xs : List Node) (root first parent expires id : ℕ) (ps : List (ℕ �
       (length b.context ≡ length found.context) × Keeps (λ k. times k (put expires id ps)) xs new.0
   inserted_can leaf known =
       let c = found.context in
-      let done = inserted_new in (
+      let done = inserted_new in
+      let t = Fork Leaf id expires 1 Leaf in
+      let fit = Fit-size done.kept.size (fit_of xs (put expires id ps) found.cut.fit.small (IsQueue-put (length xs) expires id ps absent inside stored.queue)) in
+      let balanced : IsBalanced t = (search arith, tt, tt) in
+      let pairs_are = pairs-plug c t ∙ sym (found.puts id) in
+      let hung : Cut new.0 new.1 c t 0 (put expires id ps) = search arith in (
         record {
           context = c;
-          subtree = Fork Leaf id expires 1 Leaf;
+          subtree = t;
           old_rank = 0;
-          cut = record {
-            fit = Fit-size done.kept.size
-                (fit_of xs (put expires id ps) found.cut.fit.small (IsQueue-put (length xs) expires id ps absent inside stored.queue));
-            linked = done.at;
-            under = (done.stands, tt, tt);
-            root_is = done.root_is;
-            balanced = (search arith, tt, tt);
-            fits = found.cut.fits;
-            pairs_are = pairs-plug c (Fork Leaf id expires 1 Leaf) ∙ sym (found.puts id);
-          };
+          cut = hung;
           at_is = found.parent_is;
           changed = λ some. (refl, refl, (omega arith, omega arith, λ up more. let never : ⊥ = omega (arith, more) in absurd never));
         },

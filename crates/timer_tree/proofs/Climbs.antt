@@ -42,16 +42,13 @@ relinks xs root old rank f c t ps ev new cut remade link =
     subst (λ qs. times k qs ≡ times k (pairs (filled f t)) + times k (around c)) cut.pairs_are (times-plug k c (filled f t)) in
     let once = cut.fit.once in
     let kept : Keeps (λ k. times k ps) xs new.0 = Keeps-for (λ k gone. omega (arith, sum k, gone)) (Keeps-then done.kept link.kept) in
+    let fit = Fit-size kept.size cut.fit in
+    let under = IsAt-kept (parent_of c) remade.u link.kept (λ k. omega (arith, sum k, once k, ap (λ qs. times k qs) done.same)) done.at in
+    let pairs_are : pairs (plug c remade.u) ≡ ps =
+    pairs-plug c remade.u ∙ ap (λ qs. before c ++ (qs ++ after c)) done.same ∙ sym (pairs-plug c (filled f t)) ∙ cut.pairs_are in
+    let up : Cut new.0 new.1 c remade.u f.h ps = search arith in
     record {
-      cut = record {
-        fit = Fit-size kept.size cut.fit;
-        linked = link.at;
-        under = IsAt-kept (parent_of c) remade.u link.kept (λ k. omega (arith, sum k, once k, ap (λ qs. times k qs) done.same)) done.at;
-        root_is = link.root_is;
-        balanced = done.balanced;
-        fits = cut.fits.2;
-        pairs_are = pairs-plug c remade.u ∙ ap (λ qs. before c ++ (qs ++ after c)) done.same ∙ sym (pairs-plug c (filled f t)) ∙ cut.pairs_are;
-      };
+      cut = up;
       kept = kept;
     }
 

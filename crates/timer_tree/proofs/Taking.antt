@@ -156,30 +156,25 @@ without_fit {xs = xs} {ps = ps} id size fit =
 
 -- a timer with at most one subtree below it
 one_part : (xs : List Node) (root id : ℕ) (node : Node) (ps : List (ℕ × ℕ)) (c : List Frame) (l : Tree) (e h : ℕ) (r u : Tree) (new : List Node × ℕ)
-    (old steps : ℕ) → Cut xs root c (Fork l id e h r) h ps → ((k : ℕ) → times k (pairs u) ≡ times k (pairs l) + times k (pairs r)) →
-    pairs l ++ pairs r ≡ pairs u → IsAt xs id u → IsBalanced u → h ≡ tall u + 1 → (only_child node).root ≡ top u → node.parent ≡ parent_of c →
+    (old steps : ℕ) → Cut xs root c (Fork l id e h r) h ps → pairs l ++ pairs r ≡ pairs u → IsAt xs id u → IsBalanced u → h ≡ tall u + 1 → (only_child node).root ≡ top u → node.parent ≡ parent_of c →
     node.rank ≡ h → new ≡ spliced xs root (record { n = id; node = node }) → steps ≤ old + 2 →
     IsTaken xs id ps new.0 new.1 (record { at = node.parent; child = (only_child node).root; rank = (only_child node).rank }) old steps
-one_part xs root id node ps c l e h r u new old steps cut same_times same_pairs at_u balanced_u rank part_is parent_is rank_stored is few =
+one_part xs root id node ps c l e h r u new old steps cut same_pairs at_u balanced_u rank part_is parent_is rank_stored is few =
     let once = cut.fit.once in
     let sum : (k : ℕ) → times k ps ≡ times k (pairs u) + one k id + times k (around c) = λ k.
-    omega (arith, cut_times cut k, times-fork k sides.Left l r id e h, same_times k) in
+    omega (arith, cut_times cut k, times-fork k sides.Left l r id e h, ap (λ qs. times k qs) same_pairs, times-append k (pairs l) (pairs r)) in
     let done = subst (λ x. Put xs c u x) (sym is) (spliced_put xs root id node c u cut.fit.small (omega (arith, cut.under.0.inside, cut.fit.small))
     (λ k. omega (arith, once k, sum k)) cut.linked at_u cut.root_is part_is parent_is) in
+    let fit = without_fit id done.kept.size cut.fit in
+    let pairs_are : pairs (plug c u) ≡ without id ps =
+    pairs-plug c u ∙ ap (λ qs. before c ++ (qs ++ after c)) (sym same_pairs) ∙ without_part c l e id h r ps cut.pairs_are once in
+    let put : Cut new.0 new.1 c u h (without id ps) = search arith in
     record {
       unbalanced = record {
         context = c;
         subtree = u;
         old_rank = h;
-        cut = record {
-          fit = without_fit id (omega (arith, done.kept.size)) cut.fit;
-          linked = done.linked;
-          under = done.under;
-          root_is = done.root_is;
-          balanced = balanced_u;
-          fits = cut.fits;
-          pairs_are = pairs-plug c u ∙ ap (λ qs. before c ++ (qs ++ after c)) (sym same_pairs) ∙ without_part c l e id h r ps cut.pairs_are once;
-        };
+        cut = put;
         at_is = parent_is;
         changed = λ some. (part_is, omega (arith, rank_stored, rank), (omega (arith, rank), omega (arith, rank)));
       };
@@ -194,13 +189,13 @@ one_at : (xs : List Node) (root id : ℕ) (node : Node) (ps : List (ℕ × ℕ))
     new ≡ spliced xs root (record { n = id; node = node }) → steps ≤ old + 2 →
     IsTaken xs id ps new.0 new.1 (record { at = node.parent; child = (only_child node).root; rank = (only_child node).rank }) old steps
 one_at xs root id node ps c Leaf e h r new old steps cut here part_free spliced_is few =
-    one_part xs root id node ps c Leaf e h r r new old steps cut (λ k. omega arith) refl cut.under.2 cut.balanced.2
+    one_part xs root id node ps c Leaf e h r r new old steps cut refl cut.under.2 cut.balanced.2
     (omega (arith, cut.balanced.0.below_b, cut.balanced.0.near_both)) (ap (λ (x : Node). (only_child x).root) here)
     (ap (λ (x : Node). x.parent) here) (ap (λ (x : Node). x.rank) here) spliced_is few
 one_at xs root id node ps c (Fork a m f g b) e h Leaf new old steps cut here part_free spliced_is few =
     let l = Fork a m f g b in
     let some : nat_eq m none ≡ false = ne_eqb m none (λ same. omega (arith, same, cut.under.1.0.inside, cut.fit.small)) in
-    one_part xs root id node ps c l e h Leaf l new old steps cut (λ k. omega arith) (append-nil (pairs l)) cut.under.1 cut.balanced.1
+    one_part xs root id node ps c l e h Leaf l new old steps cut (append-nil (pairs l)) cut.under.1 cut.balanced.1
     (omega (arith, cut.balanced.0.below_a, cut.balanced.0.near_both)) (ap (λ (x : Node). (only_child x).root) here
     ∙ ap (λ x. if x then none else m) some) (ap (λ (x : Node). x.parent) here) (ap (λ (x : Node). x.rank) here) spliced_is few
 one_at xs root id node ps c (Fork a m f g b) e h (Fork a' m' f' g' b') new old steps cut here part_free spliced_is few =
@@ -263,22 +258,20 @@ two_at xs root id ps c l e h low mid new at old steps low_steps d Leaf e' h' res
     (Keeps-then first_put.kept second.kept) in
     let size_c = length-append d (f ∷ c) in
     let size_g = length-append d (g ∷ c) in
+    let fit = without_fit id kept.size cut.fit in
+    let root_is = second.root_is ∙ sym (root_of-frames (top rest) d g c) in
+    let fits = Fits-renamed d f g c h' refl refl cut.fits in
+    let pairs_are : pairs (plug (d ++ g ∷ c) rest) ≡ without id ps = ap pairs (plug-append d (g ∷ c) rest)
+    ∙ pairs-plug c (Fork l y low.node.expires h left)
+    ∙ ap (λ qs. before c ++ ((pairs l ++ qs) ++ after c)) (ap (λ x. (x, y) ∷ pairs left) (ap (λ (x : Node). x.expires) here) ∙ sym old_pairs)
+    ∙ without_part c l e id h (plug d subtree) ps (sym (ap pairs (plug-append d (f ∷ c) subtree)) ∙ cut.pairs_are) once in
+    let put : Cut new.0 new.1 (d ++ g ∷ c) rest h' (without id ps) = search arith in
     record {
       unbalanced = record {
         context = d ++ g ∷ c;
         subtree = rest;
         old_rank = h';
-        cut = record {
-          fit = without_fit id kept.size cut.fit;
-          linked = again.0;
-          under = again.1;
-          root_is = second.root_is ∙ sym (root_of-frames (top rest) d g c);
-          balanced = cut.balanced.2;
-          fits = Fits-renamed d f g c h' refl refl cut.fits;
-          pairs_are = ap pairs (plug-append d (g ∷ c) rest) ∙ pairs-plug c (Fork l y low.node.expires h left)
-              ∙ ap (λ qs. before c ++ ((pairs l ++ qs) ++ after c)) (ap (λ x. (x, y) ∷ pairs left) (ap (λ (x : Node). x.expires) here) ∙ sym old_pairs)
-              ∙ without_part c l e id h (plug d subtree) ps (sym (ap pairs (plug-append d (f ∷ c) subtree)) ∙ cut.pairs_are) once;
-        };
+        cut = put;
         at_is = at_is ∙ ap (λ k. if nat_eq k id then y else k) (ap (λ (x : Node). x.parent) here) ∙ heir_above d f g c
             (omega (arith, once id, sum id, one_same id));
         changed = λ some. (
