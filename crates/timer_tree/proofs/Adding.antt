@@ -117,7 +117,8 @@ first_placed side parent (f ∷ c) first id expires parent_is side_is once is =
 
 -- ---- the whole call
 
-module _ (xs : List Node) (root first parent expires id : ℕ) (ps : List (ℕ × ℕ)) (old steps : ℕ) (new : List Node × ℕ × Side) (stored : IsStored xs root first ps)
+module _ (xs : List Node) (root first parent expires id : ℕ) (ps : List (ℕ × ℕ)) (old steps : ℕ) (new : List Node × ℕ × Side)
+    (stored : IsStored xs root first ps)
     (absent : has_id id ps ≡ false) (inside : id < length xs) (found : IsPlace xs root parent expires ps old steps)
     (is : new ≡ inserted xs root parent expires id) where
   inserted_new : Inserted xs found.context expires id new
@@ -126,7 +127,8 @@ module _ (xs : List Node) (root first parent expires id : ℕ) (ps : List (ℕ �
       let cut = found.cut in
       let gone = times-absent id ps absent in
       subst (λ x. Inserted xs c expires id x) (sym is) (subst (λ k. Inserted xs c expires id (inserted xs root k expires id)) (sym found.parent_is)
-      (inserted_at xs root expires id c cut.fit.small inside (λ k. omega (arith, cut_times cut k, once_with k id ps gone (cut.fit.once k))) found.side cut.linked cut.root_is))
+      (inserted_at xs root expires id c cut.fit.small inside (λ k. omega (arith, cut_times cut k, once_with k id ps gone (cut.fit.once k)))
+      found.side cut.linked cut.root_is))
 
   -- what a repair is asked for
   pub inserted_can : (leaf : Bool) → ((parent ≡ none → ⊥) → leaf ≡ is_leaf (node_at xs parent)) →
@@ -136,7 +138,8 @@ module _ (xs : List Node) (root first parent expires id : ℕ) (ps : List (ℕ �
       let c = found.context in
       let done = inserted_new in
       let t = Fork Leaf id expires 1 Leaf in
-      let fit = Fit-size done.kept.size (fit_of xs (put expires id ps) found.cut.fit.small (IsQueue-put (length xs) expires id ps absent inside stored.queue)) in
+      let queue = IsQueue-put (length xs) expires id ps absent inside stored.queue in
+      let fit = Fit-size done.kept.size (fit_of xs (put expires id ps) found.cut.fit.small queue) in
       let balanced : IsBalanced t = (search arith, tt, tt) in
       let pairs_are = pairs-plug c t ∙ sym (found.puts id) in
       let hung : Cut new.0 new.1 c t 0 (put expires id ps) = search arith in (
@@ -154,7 +157,8 @@ module _ (xs : List Node) (root first parent expires id : ℕ) (ps : List (ℕ �
       )
 
   -- the queue after a timer was added
-  pub added : (leaf : Bool) (inserted_steps : ℕ) (zs : List Node) (new_root new_first new_steps : ℕ) → ((parent ≡ none → ⊥) → leaf ≡ is_leaf (node_at xs parent)) →
+  pub added : (leaf : Bool) (inserted_steps : ℕ) (zs : List Node) (new_root new_first new_steps : ℕ) →
+      ((parent ≡ none → ⊥) → leaf ≡ is_leaf (node_at xs parent)) →
       inserted_steps ≤ steps + 3 → ((qs : List (ℕ × ℕ)) (b : IsUnbalanced true new.0 new.1 (record { at = parent; child = id; rank = 1 }) qs) →
       IsOver b.context leaf → IsRepaired new.0 zs new_root qs (length b.context) inserted_steps new_steps) → new_first ≡ first_on new.2 parent first id →
       Gives ps (put expires id ps) (length xs) zs new_root new_first old new_steps

@@ -83,7 +83,8 @@ sunk_rotated xs sides.Left t o n e h old p is lean high tilted =
 sunk_rotated xs sides.Right t o n e h old p is lean high tilted =
     lean_rotated xs sides.Left o t n e h p is.whole is.balanced_o is.balanced_t lean (omega arith) (omega arith) (omega arith) tilted
 
-sunk_ranked : (xs : List Node) (s : Side) (t l q : Tree) (n e h m f g old p : ℕ) → Changed xs p s t (Fork l m f g q) n e h old → HasRank (tall l) (tall q) (h - 2) →
+sunk_ranked : (xs : List Node) (s : Side) (t l q : Tree) (n e h m f g old p : ℕ) → Changed xs p s t (Fork l m f g q) n e h old →
+    HasRank (tall l) (tall q) (h - 2) →
     HasRank (h - 2) (tall t) (h - 1) → Remade xs p (fork s t n e h (Fork l m f g q)) (h - 1) (ranked (ranked xs m (h - 2)) n (h - 1), n)
 sunk_ranked xs sides.Left t l q n e h m f g old p is has_o has =
     both_ranked xs sides.Right q l t n e h m f g p (h - 1) (h - 2) is.whole (turned (tall l) (tall q) (h - 2) has_o, is.balanced_o.2, is.balanced_o.1) has
@@ -125,7 +126,8 @@ sunk_handled xs root s t (Fork l m f g q) n e h old p Goal is way down handles =
 by_three : (P : Bool → Type 0) (h a b : ℕ) → ((h ≡ 2) × (a ≡ none) × (b ≡ none) → P true) → (((h ≡ 2) × (a ≡ none) × (b ≡ none) → ⊥) → P false) →
     P (nat_eq h 2 && nat_eq a none && nat_eq b none)
 by_three P h a b all some = by_eq (λ x. P (x && nat_eq a none && nat_eq b none)) h 2 (λ two. by_eq (λ x. P (x && nat_eq b none)) a none
-    (λ end. by_eq P b none (λ end'. all (two, end, end')) (λ other. some (λ is. other is.2))) (λ other. some (λ is. other is.1))) (λ other. some (λ is. other is.0))
+    (λ end. by_eq P b none (λ end'. all (two, end, end')) (λ other. some (λ is. other is.2))) (λ other. some (λ is. other is.1)))
+    (λ other. some (λ is. other is.0))
 
 by_leaf : (P : Bool → Type 0) (s : Side) (e a b p h : ℕ) → ((h ≡ 2) × (a ≡ none) × (b ≡ none) → P true) →
     (((h ≡ 2) × (a ≡ none) × (b ≡ none) → ⊥) → P false) → P (is_high_leaf (with_links s e a b p h))
@@ -204,7 +206,8 @@ module _ (xs : List Node) (root : ℕ) (s : Side) (t o : Tree) (n e h old p : �
       let node = with_links s e (top t) (top o) p h in
       let d = child_side node (top t) in
       let r = rest_at n t in
-      by_lt (λ x. Goal (if x then sunk xs root d r (far d node) p h else (if is_high_leaf node then (ranked xs n 1, root, gone_on r p 1) else (xs, root, ended))))
+      let settled : Repairing = if is_high_leaf node then (ranked xs n 1, root, gone_on r p 1) else (xs, root, ended) in
+      by_lt (λ x. Goal (if x then sunk xs root d r (far d node) p h else settled))
       (tall t + 2) h (λ down. at_side xs s t o n e h old p (λ d k. Goal (sunk xs root d r k p h)) is (omega arith)
       (sunk_handled xs root s t o n e h old p Goal is way down handles)) (λ close. settled_handled (omega arith) close handles)
 

@@ -156,7 +156,8 @@ without_fit {xs = xs} {ps = ps} id size fit =
 
 -- a timer with at most one subtree below it
 one_part : (xs : List Node) (root id : ℕ) (node : Node) (ps : List (ℕ × ℕ)) (c : List Frame) (l : Tree) (e h : ℕ) (r u : Tree) (new : List Node × ℕ)
-    (old steps : ℕ) → Cut xs root c (Fork l id e h r) h ps → pairs l ++ pairs r ≡ pairs u → IsAt xs id u → IsBalanced u → h ≡ tall u + 1 → (only_child node).root ≡ top u → node.parent ≡ parent_of c →
+    (old steps : ℕ) → Cut xs root c (Fork l id e h r) h ps → pairs l ++ pairs r ≡ pairs u → IsAt xs id u → IsBalanced u →
+    h ≡ tall u + 1 → (only_child node).root ≡ top u → node.parent ≡ parent_of c →
     node.rank ≡ h → new ≡ spliced xs root (record { n = id; node = node }) → steps ≤ old + 2 →
     IsTaken xs id ps new.0 new.1 (record { at = node.parent; child = (only_child node).root; rank = (only_child node).rank }) old steps
 one_part xs root id node ps c l e h r u new old steps cut same_pairs at_u balanced_u rank part_is parent_is rank_stored is few =
@@ -248,7 +249,8 @@ two_at xs root id ps c l e h low mid new at old steps low_steps d Leaf e' h' res
     let left = plug d rest in
     let sum_left : (k : ℕ) → times k (pairs left) ≡ times k (pairs rest) + times k (around d) = λ k. times-plug k d rest in
     let second = subst (λ x. Put mid.0 c (Fork l y low.node.expires h left) x) (sym new_is) (substituted_put mid.0 mid.1 id low c l e h left
-    (omega (arith, first_put.kept.size, cut.fit.small)) (omega (arith, first_put.kept.size, cut.under.0.inside)) (λ k. omega (arith, once k, sum k, sum_left k))
+    (omega (arith, first_put.kept.size, cut.fit.small)) (omega (arith, first_put.kept.size, cut.under.0.inside))
+    (λ k. omega (arith, once k, sum k, sum_left k))
     joined.0.2 (joined.0.0, joined.0.1, joined.1) (first_put.root_is ∙ root_of-frames (top rest) d f c)) in
     let again = IsAt-cut new.0 d (g ∷ c) rest (second.under.0, second.under.1, second.linked) second.under.2 in
     let old_pairs : pairs (plug d subtree) ≡ (e', y) ∷ pairs left = pairs-plug d subtree ∙ ap (λ qs. qs ++ (((e', y) ∷ pairs rest) ++ after d)) first

@@ -19,7 +19,8 @@ repair-requires g c =
       length b.context,
       c.args.steps.now,
       settling true _ _ _ _ c.args.id rest.result _ _ _ c.if-parent.false b (subst (λ x. IsOver b.context x) c.if-not-leaf.false c.requires.2)
-          (ap (λ zs. (zs, c.args.root.now, rest.result)) rest.ensures.block ∙ ap (λ q. (ranked c.args.block.now c.args.place.parent 2, c.args.root.now, q)) rest.ensures.rest)
+          (ap (λ zs. (zs, c.args.root.now, rest.result)) rest.ensures.block
+          ∙ ap (λ q. (ranked c.args.block.now c.args.place.parent 2, c.args.root.now, q)) rest.ensures.rest)
           (omega (arith, rest.ensures.steps)),
     )
 
@@ -28,5 +29,6 @@ returns g c = λ ps b over.
     let rest = c.raise_leaf-rest in
     c.repair.ensures _ ps _ _ (settling true _ _ _ _ c.args.id rest.result ps _ _ c.if-parent.false b
     (subst (λ x. IsOver b.context x) c.if-not-leaf.false over)
-    (ap (λ zs. (zs, c.args.root.now, rest.result)) rest.ensures.block ∙ ap (λ q. (ranked c.args.block.now c.args.place.parent 2, c.args.root.now, q)) rest.ensures.rest)
+    (ap (λ zs. (zs, c.args.root.now, rest.result)) rest.ensures.block
+    ∙ ap (λ q. (ranked c.args.block.now c.args.place.parent 2, c.args.root.now, q)) rest.ensures.rest)
     (omega (arith, rest.ensures.steps)))
