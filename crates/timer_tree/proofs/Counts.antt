@@ -1,9 +1,10 @@
 -- How high a tree of so many pairs is.
-use Rattle.std.proofs.Common.{◌≡◌, ℕ, ◌+◌, ◌*◌, ◌^◌, ◌<◌, ◌≤◌, List, [], ◌∷◌, length, arith, zero, suc, inl, inr}
+use Rattle.std.proofs.Common.{ℕ, ◌+◌, ◌*◌, ◌^◌, ◌<◌, ◌≤◌, List, [], ◌∷◌, length, arith, zero, suc, inl, inr, subst, sym}
 use Rattle.std.proofs.lemmas.Bool.{cases_lt}
 use Rattle.timer_tree.specs.Trees.{Tree, Leaf, Fork, tall, pairs, IsBalanced}
-use Rattle.timer_tree.specs.Contexts.{Frame, plug, filled, Fits}
-use Rattle.timer_tree.proofs.Trees.{length-fork, tall-fork}
+use Rattle.timer_tree.specs.Contexts.{Frame, plug, filled, Fits, Cut}
+use Rattle.timer_tree.proofs.Trees.{length-fork, cut_whole}
+use Rattle.timer_tree.specs.declared.node.Node.{Node}
 use Rattle.timer_tree.specs.declared.node.Side.TheVariants as sides
 
 enough : (k : ℕ) (t : Tree) → IsBalanced t → 2 * k ≤ tall t → 2 ^ k ≤ length (pairs t) + 1
@@ -23,6 +24,12 @@ tall-lt d t balanced few =
     ]
 
 -- a context has no more nodes than the tree is high
-pub length-context-le : (c : List Frame) (h : ℕ) (t : Tree) → tall t ≡ h → Fits c h → h + length c ≤ tall (plug c t)
-length-context-le [] h t is fits = omega (arith, is)
-length-context-le (f ∷ c) h t is fits = omega (arith, fits.0.below_a, length-context-le c f.h (filled f t) (tall-fork f.side t f.other f.n f.e f.h) fits.2)
+context_low : (c : List Frame) (t : Tree) → Fits c (tall t) → tall t + length c ≤ tall (plug c t)
+context_low [] t fits = omega arith
+context_low (f ∷ c) t fits = omega (arith, fits.0.below_a, context_low c (filled f t) fits.2)
+
+pub cut_low : (xs : List Node) (root : ℕ) (c : List Frame) (t : Tree) (ps : List (ℕ × ℕ)) → Cut xs root c t (tall t) ps → (d : ℕ) → length ps + 1 < 2 ^ d →
+    tall t + length c + 1 ≤ 2 * d
+cut_low xs root c t ps cut d few =
+    let whole = cut_whole xs root c t ps cut in
+    omega (arith, tall-lt d (plug c t) whole.balanced (subst (λ qs. length qs + 1 < 2 ^ d) (sym whole.pairs_are) few), context_low c t cut.fits)

@@ -5,7 +5,6 @@ pub mod Crosses
 pub mod Erasing
 pub mod Finds
 pub mod Puts
-pub mod Rebalances
 pub mod Rotations
 pub mod Stepping
 pub mod Stores

@@ -1,20 +1,18 @@
 -- What adding a pair and taking one out do to a list that is cut in parts.
-use Rattle.std.proofs.Common.{◌≡◌, ℕ, true, false, not, ◌+◌, ◌<◌, ◌≤◌, List, [], ◌∷◌, ◌++◌, nat_eq, nat_lt, if◌then◌else◌, arith, refl, ap, ◌∙◌}
+use Rattle.std.proofs.Common.{◌≡◌, ℕ, false, not, ◌+◌, ◌<◌, ◌≤◌, List, [], ◌∷◌, ◌++◌, nat_eq, if◌then◌else◌, arith, refl, ap, ◌∙◌}
 use Rattle.std.specs.List.{AllByRecursion}
 use Rattle.std.proofs.lemmas.Bool.{lt-ltb, le-ltb, eq-eqb}
 use Rattle.std.proofs.lemmas.Bool.Decides.{nat_tests}
 use Rattle.timer_queue.specs.Pairs.{put, without, IsByExpiry}
 use Rattle.timer_tree.specs.Trees.{one, times}
+use Rattle.timer_tree.proofs.Trees.{by_lt}
 
 -- a pair goes before one that expires later
 pub put_left : (e id : ℕ) (ps qs : List (ℕ × ℕ)) (q : ℕ × ℕ) → e < q.0 → put e id (ps ++ q ∷ qs) ≡ put e id ps ++ q ∷ qs
 put_left e id [] qs q less = ap (λ b. if b then (e, id) ∷ q ∷ qs else q ∷ put e id qs) (lt-ltb e q.0 less)
 put_left e id (p ∷ ps) qs q less =
-    elim (nat_lt e p.0) as (λ b. (if b then (e, id) ∷ p ∷ (ps ++ q ∷ qs) else p ∷ put e id (ps ++ q ∷ qs)) ≡
-    (if b then (e, id) ∷ p ∷ ps else p ∷ put e id ps) ++ q ∷ qs) [
-      | true ↦ refl
-      | false ↦ ap (λ rs. p ∷ rs) (put_left e id ps qs q less)
-    ]
+    by_lt (λ b. (if b then (e, id) ∷ p ∷ (ps ++ q ∷ qs) else p ∷ put e id (ps ++ q ∷ qs)) ≡ (if b then (e, id) ∷ p ∷ ps else p ∷ put e id ps) ++ q ∷ qs)
+    e p.0 (λ before. refl) (λ behind. ap (λ rs. p ∷ rs) (put_left e id ps qs q less))
 
 -- a pair goes behind those that expire as early or earlier
 pub put_right : (e id : ℕ) (ps qs : List (ℕ × ℕ)) → AllByRecursion (λ p. p.0 ≤ e) ps → put e id (ps ++ qs) ≡ ps ++ put e id qs
@@ -52,7 +50,5 @@ without_at id e (p ∷ ps) qs gone_p gone_q =
 pub times-put : (k e id : ℕ) (ps : List (ℕ × ℕ)) → times k (put e id ps) ≡ times k ps + one k id
 times-put k e id [] = omega arith
 times-put k e id (p ∷ ps) =
-    elim (nat_lt e p.0) as (λ b. times k (if b then (e, id) ∷ p ∷ ps else p ∷ put e id ps) ≡ one k p.1 + times k ps + one k id) [
-      | true ↦ omega arith
-      | false ↦ omega (arith, times-put k e id ps)
-    ]
+    by_lt (λ b. times k (if b then (e, id) ∷ p ∷ ps else p ∷ put e id ps) ≡ one k p.1 + times k ps + one k id) e p.0 (λ before. omega arith)
+    (λ behind. omega (arith, times-put k e id ps))

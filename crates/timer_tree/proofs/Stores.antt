@@ -1,18 +1,17 @@
 -- What is known of the block of a queue.
-use Rattle.std.proofs.Common.{◌≡◌, ℕ, true, false, ◌<◌, ◌≤◌, List, [], ◌∷◌, ◌++◌, Option, Some, None, not, length, map, nat_eq, if◌then◌else◌, arith, refl}
+use Rattle.std.proofs.Common.{◌≡◌, ℕ, true, false, ◌+◌, ◌*◌, ◌^◌, ◌<◌, ◌≤◌, List, [], ◌∷◌, ◌++◌, Option, Some, None, not, length, map, nat_eq, if◌then◌else◌, arith, refl}
 use Rattle.std.proofs.Common.{ap, ◌∙◌, sym, subst, zero, suc, inl, inr, replicate}
 use Rattle.std.specs.List.{AllByRecursion, IsDistinct}
 use Rattle.std.proofs.lemmas.Bool.{cases_eq, cases_lt, ne_eqb, false≢true}
 use Rattle.std.proofs.lemmas.Bool.Decides.{nat_tests}
 use Rattle.std.proofs.lemmas.Map.Keys.{IsDistinct-head, IsDistinct-tail}
-use Rattle.timer_queue.specs.Pairs.{has_id, first_of}
-use Rattle.timer_queue.proofs.Pairs.{All-from_ids, apart_from_absent, IsQueue-empty}
+use Rattle.timer_queue.specs.Pairs.{has_id, first_of, IsQueue}
+use Rattle.timer_queue.proofs.Pairs.{All-from_ids, apart_from_absent, IsQueue-empty, length-le_room}
 use Rattle.std.proofs.lemmas.List.{get_or_past, get_or-replicate, length-replicate}
-use Rattle.timer_tree.specs.declared.node.Side.TheVariants as sides
 use Rattle.timer_tree.specs.Nodes.{none, blank, node_at, IsLink}
-use Rattle.timer_tree.specs.Trees.{Tree, Leaf, Fork, top, tall, pairs, IsAt, IsBalanced, IsTree, IsStored, one, times, first_id, pairs_below, queue_at}
-use Rattle.timer_tree.specs.Places.{IsSearched}
-use Rattle.timer_tree.proofs.Trees.{rank_at, inside_at, apart_one, times-fork, tall-le}
+use Rattle.timer_tree.specs.Trees.{Tree, Leaf, Fork, top, tall, pairs, IsAt, IsBalanced, one, times, first_id, pairs_below, queue_at}
+use Rattle.timer_tree.specs.Contexts.{IsTree, IsStored, Fit, Cut}
+use Rattle.timer_tree.proofs.Trees.{rank_at, located, once_with, tall-le}
 use Rattle.timer_tree.specs.declared.node.Node.{Node}
 
 times-apart : (k : ℕ) (ps : List (ℕ × ℕ)) → AllByRecursion (λ p. nat_eq k p.1 ≡ false) ps → times k ps ≡ 0
@@ -28,10 +27,11 @@ times-le k [] once = omega arith
 times-le k (p ∷ ps) once =
     let rest = times-le k ps (IsDistinct-tail nat_eq p.1 (map (λ q. q.1) ps) once) in
     let apart = times-apart p.1 ps (All-from_ids (λ q. nat_eq p.1 q ≡ false) ps (IsDistinct-head nat_eq p.1 (map (λ q. q.1) ps) once)) in
-    elim (cases_eq k p.1) [
-      | inl same ↦ let gone : times k ps ≡ 0 = subst (λ q. times q ps ≡ 0) (sym same) apart in grind (arith, nat_tests)
-      | inr other ↦ omega (arith, rest, apart_one k p.1 other)
-    ]
+    once_with k p.1 ps apart rest
+
+pub fit_of : (xs : List Node) (ps : List (ℕ × ℕ)) → length xs ≤ none → IsQueue (length xs) ps → Fit xs ps
+fit_of xs ps small queue =
+    record { small = small; few = omega (arith, length-le_room (length xs) ps queue, small); once = λ k. times-le k ps queue.once; queue = queue }
 
 -- ---- the pairs are read from the block
 
@@ -48,18 +48,23 @@ pairs_below-is (suc k) xs p (Fork l n e h r) small low balanced at =
     ∙ ap (λ ps. ps ++ (e, n) ∷ pairs_below k xs (top r)) left
     ∙ ap (λ ps. pairs l ++ (e, n) ∷ ps) right
 
-pub queue_at-is : (xs : List Node) (root : ℕ) (ps : List (ℕ × ℕ)) → length xs ≤ none → IsTree xs root ps → queue_at xs root ≡ ps
-queue_at-is xs root ps small tree =
-    subst (λ n. queue_at xs n ≡ ps) (sym tree.root_is)
-    (ap (λ k. pairs_below k xs (top tree.tree)) (rank_at xs none tree.tree small tree.at)
-    ∙ pairs_below-is (tall tree.tree) xs none tree.tree small (omega arith) tree.balanced tree.at
-    ∙ tree.pairs_are)
+pub queue_at-is : (xs : List Node) (root : ℕ) (ps : List (ℕ × ℕ)) → IsTree xs root ps → queue_at xs root ≡ ps
+queue_at-is xs root ps is =
+    let t = is.tree in
+    let cut = is.whole in
+    subst (λ n. queue_at xs n ≡ ps) (sym cut.root_is)
+    (ap (λ k. pairs_below k xs (top t)) (rank_at xs none t cut.fit.small cut.under)
+    ∙ pairs_below-is (tall t) xs none t cut.fit.small (omega arith) cut.balanced cut.under ∙ cut.pairs_are)
 
 pub queue_again : (xs : List Node) (root first : ℕ) (ps : List (ℕ × ℕ)) → IsStored xs root first ps → IsStored xs root first (queue_at xs root)
-queue_again xs root first ps stored = subst (λ qs. IsStored xs root first qs) (sym (queue_at-is xs root ps stored.small stored.is_tree)) stored
+queue_again xs root first ps stored = subst (λ qs. IsStored xs root first qs) (sym (queue_at-is xs root ps stored.is_tree)) stored
 
-pub searched : (xs : List Node) (root first : ℕ) (ps : List (ℕ × ℕ)) → IsStored xs root first ps → IsSearched xs root ps
-searched xs root first ps stored = record { tree = stored.is_tree; small = stored.small; by_expiry = stored.queue.by_expiry }
+-- the queue after a call, and how many steps that took
+pub record Gives (ps qs : List (ℕ × ℕ)) (room : ℕ) (zs : List Node) (root first old_steps steps : ℕ) : Type 0 where
+  pub stored : IsStored zs root first (queue_at zs root)
+  pub pairs : queue_at zs root ≡ qs
+  pub size : length zs ≡ room
+  pub count : (d : ℕ) → length ps + 1 < 2 ^ d → steps ≤ old_steps + 32 * (d + 1)
 
 -- ---- the first pair, and whether a timer is in the tree
 
@@ -88,21 +93,10 @@ first_node xs p (Fork (Fork a m f g b) n e h r) small balanced at =
 pub first_stored : (xs : List Node) (root first : ℕ) (ps : List (ℕ × ℕ)) → IsStored xs root first ps →
     (first_of ps ≡ first_at xs first) × IsLink (length xs) first
 first_stored xs root first ps stored =
-    let tree = stored.is_tree in
-    let done = first_node xs none tree.tree stored.small tree.balanced tree.at in
-    let same : first_id (pairs tree.tree) ≡ first = ap first_id tree.pairs_are ∙ sym stored.first_is in
-    (ap first_of (sym tree.pairs_are) ∙ done.0 ∙ ap (λ k. first_at xs k) same, subst (λ k. IsLink (length xs) k) same done.1)
-
-pub linked_rank : (xs : List Node) (p : ℕ) (t : Tree) (k : ℕ) → IsBalanced t → IsAt xs p t → 0 < times k (pairs t) → 0 < (node_at xs k).rank
-linked_rank xs p Leaf k balanced at some = omega (arith, some)
-linked_rank xs p (Fork l n e h r) k balanced at some =
-    elim (cases_eq k n) [
-      | inl same ↦ subst (λ j. 0 < (node_at xs j).rank) (sym same) (omega (arith, ap (λ (x : Node). x.rank) at.0.is, balanced.0.below_a))
-      | inr apart ↦ elim (cases_eq (times k (pairs l)) 0) [
-        | inl gone ↦ linked_rank xs n r k balanced.2 at.2 (omega (arith, times-fork k sides.Left l r n e h, apart_one k n apart, some, gone))
-        | inr here ↦ linked_rank xs n l k balanced.1 at.1 (omega (arith, here))
-      ]
-    ]
+    let cut = stored.is_tree.whole in
+    let done = first_node xs none stored.is_tree.tree cut.fit.small cut.balanced cut.under in
+    let same : first_id (pairs stored.is_tree.tree) ≡ first = ap first_id cut.pairs_are ∙ sym stored.first_is in
+    (ap first_of (sym cut.pairs_are) ∙ done.0 ∙ ap (λ k. first_at xs k) same, subst (λ k. IsLink (length xs) k) same done.1)
 
 pub present_times : (k : ℕ) (ps : List (ℕ × ℕ)) → has_id k ps ≡ true → 0 < times k ps
 present_times k [] present = absurd (false≢true present)
@@ -116,9 +110,8 @@ pub has_stored : (xs : List Node) (root first : ℕ) (ps : List (ℕ × ℕ)) (k
 has_stored xs root first ps k stored =
     elim (has_id k ps) as (λ b. has_id k ps ≡ b → not (nat_eq (node_at xs k).rank 0) ≡ b) [
       | true ↦ λ present.
-          let some = linked_rank xs none stored.is_tree.tree k stored.is_tree.balanced stored.is_tree.at
-          (subst (λ qs. 0 < times k qs) (sym stored.is_tree.pairs_are) (present_times k ps present)) in
-          ap not (ne_eqb (node_at xs k).rank 0 (λ zero_h. omega (arith, zero_h, some)))
+          let cut = (located xs root k ps stored.is_tree (present_times k ps present)).cut in
+          ap not (ne_eqb (node_at xs k).rank 0 (λ zero_h. omega (arith, zero_h, ap (λ (x : Node). x.rank) cut.under.0.is, cut.balanced.0.below_a)))
       | false ↦ λ absent. ap (λ h. not (nat_eq h 0)) (stored.free k (times-absent k ps absent))
     ] refl
 
@@ -131,19 +124,19 @@ empty_stored xs room small is =
       | inl inside ↦ get_or-replicate room k blank blank inside
       | inr past ↦ get_or_past (replicate room blank) k blank (omega (arith, past, length-replicate room blank))
     ] in
-    let tree : IsTree xs none [] = record { tree = Leaf; at = tt; root_is = refl; balanced = tt; pairs_are = refl } in
+    let fit = fit_of xs [] (omega (arith, size, small)) (IsQueue-empty (length xs)) in
+    let whole : Cut xs none [] Leaf 0 [] = search arith in
+    let tree : IsTree xs none [] = record { tree = Leaf; whole = whole } in
     let stored : IsStored xs none none [] = record {
       is_tree = tree;
       first_is = refl;
       free = λ k gone. ap (λ (x : Node). x.rank) (blank_at k);
       queue = IsQueue-empty (length xs);
-      small = omega (arith, size, small);
-    } in (queue_again xs none none [] stored, queue_at-is xs none [] stored.small tree)
+    } in (queue_again xs none none [] stored, queue_at-is xs none [] tree)
 
 -- a timer's number is below the room
 pub has_inside : (xs : List Node) (root first : ℕ) (ps : List (ℕ × ℕ)) (k : ℕ) → IsStored xs root first ps → has_id k ps ≡ true → k < length xs
-has_inside xs root first ps k stored present = inside_at xs none stored.is_tree.tree k stored.is_tree.at
-    (subst (λ qs. 0 < times k qs) (sym stored.is_tree.pairs_are) (present_times k ps present))
+has_inside xs root first ps k stored present = (located xs root k ps stored.is_tree (present_times k ps present)).cut.under.0.inside
 
 pub has_past : (xs : List Node) (root first : ℕ) (ps : List (ℕ × ℕ)) (k : ℕ) → IsStored xs root first ps → length xs ≤ k → false ≡ has_id k ps
 has_past xs root first ps k stored past = ap (λ (x : Node). not (nat_eq x.rank 0)) (sym (get_or_past xs k blank past)) ∙ has_stored xs root first ps k stored

@@ -1,31 +1,25 @@
 -- What a write leaves of a tree that stands in the block.
-use Rattle.std.proofs.Common.{◌≡◌, ℕ, ◌+◌, ◌<◌, ◌≤◌, false, List, [], ◌∷◌, ◌++◌, length, nat_eq, if◌then◌else◌, arith, refl, ap, ◌∙◌, sym, subst, length-set}
-use Rattle.std.proofs.Common.{get_or-set_same, get_or-set_other, slice_set, append_assoc, append-nil, length-append, inl, inr}
-use Rattle.std.proofs.lemmas.Bool.{cases_eq, eq-eqb, ne_eqb}
+use Rattle.std.proofs.Common.{◌≡◌, ℕ, ◌+◌, ◌<◌, ◌≤◌, Bool, true, false, List, [], ◌∷◌, ◌++◌, length, nat_eq, nat_lt, if◌then◌else◌, arith, refl, ap}
+use Rattle.std.proofs.Common.{get_or-set_same, get_or-set_other, slice_set, append_assoc, append-nil, length-append, inl, inr, ◌∙◌, sym, subst, length-set}
+use Rattle.std.proofs.lemmas.Bool.{cases_eq, eq-eqb, ne_eqb, eqb-true, eqb-false, ltb-true, ltb-false}
 use Rattle.std.proofs.lemmas.Bool.Decides.{nat_tests}
 use Rattle.std.proofs.lemmas.List.{get_or_past, set_past}
-use Rattle.timer_tree.specs.Nodes.{none, blank, node_at, with_links}
-use Rattle.timer_tree.specs.Links.{adopted, replaced, relinked}
-use Rattle.timer_tree.specs.Trees.{Tree, Leaf, Fork, top, tall, pairs, Stands, IsAt, HasRank, IsBalanced, one, times}
-use Rattle.timer_tree.specs.Contexts.{Frame, fork, filled, plug, parent_of, root_of, IsAround, around, before, after, ahead, behind, Fits}
+use Rattle.timer_tree.specs.Nodes.{none, blank, child_side, node_at, with_links, pick}
+use Rattle.timer_queue.specs.Pairs.{IsQueue}
+use Rattle.timer_tree.specs.Links.{adopted, with_child, replaced, relinked}
+use Rattle.timer_tree.specs.Trees.{Tree, Leaf, Fork, top, tall, pairs, Stands, IsAt, HasRank, IsBalanced, one, times, Keeps}
+use Rattle.timer_tree.specs.Contexts.{Frame, fork, filled, plug, parent_of, root_of, IsAround, around, before, after, Fits, Fit, Cut, IsTree}
 use Rattle.timer_tree.specs.declared.node.Node.{Node}
 use Rattle.timer_tree.specs.declared.node.Side.{Side}
 use Rattle.timer_tree.specs.declared.node.Side.TheVariants as sides
 
--- ---- one node
+-- ---- both cases of a test
 
-pub node_at-set_same : (xs : List Node) (n : ℕ) (node : Node) → n < length xs → node_at (slice_set xs n node) n ≡ node
-node_at-set_same xs n node inside = get_or-set_same xs n node blank inside
+pub by_eq : (P : Bool → Type 0) (a b : ℕ) → (a ≡ b → P true) → ((a ≡ b → ⊥) → P false) → P (nat_eq a b)
+by_eq P a b same other = elim (nat_eq a b) as (λ x. nat_eq a b ≡ x → P x) [ true ↦ λ is. same (eqb-true _ _ is) | false ↦ λ is. other (eqb-false _ _ is) ] refl
 
-pub node_at-set_other : (xs : List Node) (n k : ℕ) (node : Node) → (k ≡ n → ⊥) → node_at (slice_set xs n node) k ≡ node_at xs k
-node_at-set_other xs n k node apart = get_or-set_other xs n k node blank apart
-
-pub Stands-set_same : (xs : List Node) (n : ℕ) (node : Node) → n < length xs → Stands (slice_set xs n node) n node
-Stands-set_same xs n node inside = record { inside = omega (arith, length-set xs n node); is = node_at-set_same xs n node inside }
-
-pub Stands-set_other : (xs : List Node) (n k : ℕ) (node other : Node) → (k ≡ n → ⊥) → Stands xs k node → Stands (slice_set xs n other) k node
-Stands-set_other xs n k node other apart stands =
-    record { inside = omega (arith, length-set xs n other, stands.inside); is = node_at-set_other xs n k other apart ∙ stands.is }
+pub by_lt : (P : Bool → Type 0) (a b : ℕ) → (a < b → P true) → (b ≤ a → P false) → P (nat_lt a b)
+by_lt P a b less more = elim (nat_lt a b) as (λ x. nat_lt a b ≡ x → P x) [ true ↦ λ is. less (ltb-true _ _ is) | false ↦ λ is. more (ltb-false _ _ is) ] refl
 
 -- ---- how often a timer stands in a list
 
@@ -44,90 +38,102 @@ times-plug k (f ∷ c) t = omega (arith, times-plug k c (filled f t), times-fork
 pub one_same : (k : ℕ) → one k k ≡ 1
 one_same k = grind (arith, nat_tests)
 
+pub one_le : (k n : ℕ) → one k n ≤ 1
+one_le k n = by_eq (λ x. (if x then 1 else 0) ≤ 1) k n (λ same. omega arith) (λ other. omega arith)
+
 pub one_apart : (k n : ℕ) → one k n ≡ 0 → k ≡ n → ⊥
 one_apart k n none same = grind (arith, nat_tests)
 
 pub apart_one : (k n : ℕ) → (k ≡ n → ⊥) → one k n ≡ 0
 apart_one k n apart = grind (arith, nat_tests)
 
--- ---- a tree is kept where its nodes are
+-- a timer that isn't in a list stands once with it
+pub once_with : (k n : ℕ) (ps : List (ℕ × ℕ)) → times n ps ≡ 0 → times k ps ≤ 1 → one k n + times k ps ≤ 1
+once_with k n ps gone once = elim (cases_eq k n) [
+  | inl same ↦ omega (arith, subst (λ j. times j ps ≡ 0) (sym same) gone, one_le k n)
+  | inr apart ↦ omega (arith, apart_one k n apart, once)
+]
 
-pub IsAt-agree : (xs ys : List Node) (p : ℕ) (t : Tree) → length ys ≡ length xs → ((k : ℕ) → 0 < times k (pairs t) → node_at ys k ≡ node_at xs k) →
-    IsAt xs p t → IsAt ys p t
-IsAt-agree xs ys p Leaf size agree at = tt
-IsAt-agree xs ys p (Fork l n e h r) size agree at =
-    let here : 0 < times n (pairs (Fork l n e h r)) = omega (arith, times-fork n sides.Left l r n e h, one_same n) in (
-      record { inside = omega (arith, size, at.0.inside); is = agree n here ∙ at.0.is },
-      IsAt-agree xs ys n l size (λ k some. agree k (omega (arith, times-fork k sides.Left l r n e h, some))) at.1,
-      IsAt-agree xs ys n r size (λ k some. agree k (omega (arith, times-fork k sides.Left l r n e h, some))) at.2,
-    )
+-- ---- what is kept where some nodes have changed
 
-pub IsAround-agree : (xs ys : List Node) (hole : ℕ) (c : List Frame) → length ys ≡ length xs →
-    ((k : ℕ) → 0 < times k (around c) → node_at ys k ≡ node_at xs k) → IsAround xs hole c → IsAround ys hole c
-IsAround-agree xs ys hole [] size agree at = tt
-IsAround-agree xs ys hole (f ∷ c) size agree at =
-    let here : 0 < times f.n (around (f ∷ c)) = omega (arith, one_same f.n) in (
-      record { inside = omega (arith, size, at.0.inside); is = agree f.n here ∙ at.0.is },
-      IsAt-agree xs ys f.n f.other size (λ k some. agree k (omega (arith, times-append k (pairs f.other) (around c), some))) at.1,
-      IsAround-agree xs ys f.n c size (λ k some. agree k (omega (arith, times-append k (pairs f.other) (around c), some))) at.2,
-    )
+pub Keeps-then : {f g : ℕ → ℕ} {xs ys zs : List Node} → Keeps f xs ys → Keeps g ys zs → Keeps (λ k. f k + g k) xs zs
+Keeps-then a b = record { size = b.size ∙ a.size; rest = λ k gone. b.rest k (omega (arith, gone)) ∙ a.rest k (omega (arith, gone)) }
 
-pub IsAt-set : (xs : List Node) (n : ℕ) (node : Node) (p : ℕ) (t : Tree) → times n (pairs t) ≡ 0 → IsAt xs p t → IsAt (slice_set xs n node) p t
-IsAt-set xs n node p t gone at =
-    IsAt-agree xs (slice_set xs n node) p t (length-set xs n node)
-    (λ k some. node_at-set_other xs n k node (λ same. omega (arith, subst (λ j. 0 < times j (pairs t)) same some, gone))) at
+pub Keeps-for : {f g : ℕ → ℕ} {xs ys : List Node} → ((k : ℕ) → g k ≡ 0 → f k ≡ 0) → Keeps f xs ys → Keeps g xs ys
+Keeps-for out a = record { size = a.size; rest = λ k gone. a.rest k (out k gone) }
 
--- a tree that stands has no node past the block
-pub inside_at : (xs : List Node) (p : ℕ) (t : Tree) (k : ℕ) → IsAt xs p t → 0 < times k (pairs t) → k < length xs
-inside_at xs p Leaf k at some = omega (arith, some)
-inside_at xs p (Fork l n e h r) k at some =
-    elim (cases_eq k n) [
-      | inl same ↦ omega (arith, same, at.0.inside)
-      | inr apart ↦ elim (cases_eq (times k (pairs l)) 0) [
-        | inl zero_l ↦ inside_at xs n r k at.2 (omega (arith, times-fork k sides.Left l r n e h, apart_one k n apart, some, zero_l))
-        | inr some_l ↦ inside_at xs n l k at.1 (omega (arith, some_l))
-      ]
-    ]
+pub set_keeps : (xs : List Node) (n : ℕ) (node : Node) → Keeps (λ k. one k n) xs (slice_set xs n node)
+set_keeps xs n node = record { size = length-set xs n node; rest = λ k gone. get_or-set_other xs n k node blank (one_apart k n gone) }
+
+pub set_stands : (xs : List Node) (n : ℕ) (node : Node) → n < length xs → Stands (slice_set xs n node) n node
+set_stands xs n node inside = record { inside = omega (arith, length-set xs n node); is = get_or-set_same xs n node blank inside }
+
+pub Stands-kept : {f : ℕ → ℕ} {xs ys : List Node} {n : ℕ} {node : Node} → Keeps f xs ys → f n ≡ 0 → Stands xs n node → Stands ys n node
+Stands-kept {n = n} a out stands = record { inside = omega (arith, a.size, stands.inside); is = a.rest n out ∙ stands.is }
+
+pub IsAt-kept : {f : ℕ → ℕ} {xs ys : List Node} (p : ℕ) (t : Tree) → Keeps f xs ys → ((k : ℕ) → f k + times k (pairs t) ≤ 1) → IsAt xs p t → IsAt ys p t
+IsAt-kept p Leaf a apart at = tt
+IsAt-kept p (Fork l n e h r) a apart at = (
+  Stands-kept a (omega (arith, apart n, times-fork n sides.Left l r n e h, one_same n)) at.0,
+  IsAt-kept n l a (λ k. omega (arith, apart k, times-fork k sides.Left l r n e h)) at.1,
+  IsAt-kept n r a (λ k. omega (arith, apart k, times-fork k sides.Left l r n e h)) at.2,
+)
+
+pub IsAround-kept : {f : ℕ → ℕ} {xs ys : List Node} (hole : ℕ) (c : List Frame) → Keeps f xs ys → ((k : ℕ) → f k + times k (around c) ≤ 1) →
+    IsAround xs hole c → IsAround ys hole c
+IsAround-kept hole [] a apart at = tt
+IsAround-kept hole (f ∷ c) a apart at = (
+  Stands-kept a (omega (arith, apart f.n, one_same f.n)) at.0,
+  IsAt-kept f.n f.other a (λ k. omega (arith, apart k, times-append k (pairs f.other) (around c))) at.1,
+  IsAround-kept f.n c a (λ k. omega (arith, apart k, times-append k (pairs f.other) (around c))) at.2,
+)
+
+pub Fit-size : {xs ys : List Node} {ps : List (ℕ × ℕ)} → length ys ≡ length xs → Fit xs ps → Fit ys ps
+Fit-size {ps = ps} size fit =
+    record { small = omega (arith, size, fit.small); few = fit.few; once = fit.once; queue = subst (λ n. IsQueue n ps) (sym size) fit.queue }
 
 -- the rank of a subtree is that of its top node; the blank node past the block has the rank 0
 pub rank_at : (xs : List Node) (p : ℕ) (t : Tree) → length xs ≤ none → IsAt xs p t → (node_at xs (top t)).rank ≡ tall t
 rank_at xs p Leaf small at = ap (λ (x : Node). x.rank) (get_or_past xs none blank small)
 rank_at xs p (Fork l n e h r) small at = ap (λ (x : Node). x.rank) at.0.is
 
+-- a subtree whose top has no number is none
+pub no_top : (xs : List Node) (p : ℕ) (t : Tree) → length xs ≤ none → IsAt xs p t → top t ≡ none → t ≡ Leaf
+no_top xs p Leaf small at is = refl
+no_top xs p (Fork l n e h r) small at is = let never : ⊥ = omega (arith, is, at.0.inside, small) in absurd never
+
 -- ---- a subtree gets another parent
 
-pub length-adopted : (xs : List Node) (n parent : ℕ) → length (adopted xs n parent) ≡ length xs
-length-adopted xs n parent = length-set xs n (record (node_at xs n) { parent = parent })
+pub adopted_keeps : (xs : List Node) (q : ℕ) (t : Tree) → length xs ≤ none → Keeps (λ k. times k (pairs t)) xs (adopted xs (top t) q)
+adopted_keeps xs q Leaf small =
+    subst (λ ys. Keeps (λ k. 0) xs ys) (sym (set_past xs none (record (node_at xs none) { parent = q }) small)) (record { size = refl; rest = λ k gone. refl })
+adopted_keeps xs q (Fork l n e h r) small =
+    Keeps-for (λ k gone. omega (arith, gone, times-fork k sides.Left l r n e h)) (set_keeps xs n (record (node_at xs n) { parent = q }))
 
 pub IsAt-adopted : (xs : List Node) (p q : ℕ) (t : Tree) → ((k : ℕ) → times k (pairs t) ≤ 1) → IsAt xs p t → IsAt (adopted xs (top t) q) q t
 IsAt-adopted xs p q Leaf once at = tt
 IsAt-adopted xs p q (Fork l n e h r) once at =
-    let sum = times-fork n sides.Left l r n e h in
-    let new = record (node_at xs n) { parent = q } in (
-      record {
-        inside = omega (arith, length-set xs n new, at.0.inside);
-        is = node_at-set_same xs n new at.0.inside
-            ∙ ap (λ (x : Node). record x { parent = q }) at.0.is;
-      },
-      IsAt-set xs n new n l (omega (arith, sum, one_same n, once n)) at.1,
-      IsAt-set xs n new n r (omega (arith, sum, one_same n, once n)) at.2,
+    let new = record (node_at xs n) { parent = q } in
+    let stands = set_stands xs n new at.0.inside in (
+      record { inside = stands.inside; is = stands.is ∙ ap (λ (x : Node). record x { parent = q }) at.0.is },
+      IsAt-kept n l (set_keeps xs n new) (λ k. omega (arith, times-fork k sides.Left l r n e h, once k)) at.1,
+      IsAt-kept n r (set_keeps xs n new) (λ k. omega (arith, times-fork k sides.Left l r n e h, once k)) at.2,
     )
 
--- that changes no node outside the subtree
-pub adopted_other : (xs : List Node) (p q : ℕ) (t : Tree) (k : ℕ) → length xs ≤ none → times k (pairs t) ≡ 0 → node_at (adopted xs (top t) q) k ≡ node_at xs k
-adopted_other xs p q Leaf k small gone = ap (λ ys. node_at ys k) (set_past xs none (record (node_at xs none) { parent = q }) small)
-adopted_other xs p q (Fork l n e h r) k small gone = node_at-set_other xs n k (record (node_at xs n) { parent = q })
-    (one_apart k n (omega (arith, times-fork k sides.Left l r n e h, gone)))
+-- two subtrees get other parents
+pub both_adopted : (xs : List Node) (p o q r : ℕ) (a b : Tree) → length xs ≤ none → ((k : ℕ) → times k (pairs a) + times k (pairs b) ≤ 1) → IsAt xs p a →
+    IsAt xs o b → let ys = adopted (adopted xs (top a) q) (top b) r in
+    IsAt ys q a × IsAt ys r b × Keeps (λ k. times k (pairs a) + times k (pairs b)) xs ys
+both_adopted xs p o q r a b small once at_a at_b =
+    let us = adopted xs (top a) q in
+    let first = adopted_keeps xs q a small in
+    let second = adopted_keeps us r b (omega (arith, first.size, small)) in (
+      IsAt-kept q a second (λ k. omega (arith, once k)) (IsAt-adopted xs p q a (λ k. omega (arith, once k)) at_a),
+      IsAt-adopted us o r b (λ k. omega (arith, once k)) (IsAt-kept o b first once at_b),
+      Keeps-then first second,
+    )
 
 -- ---- a node by its sides
-
-pub top-fork : (s : Side) (a b : Tree) (n e h : ℕ) → top (fork s a n e h b) ≡ n
-top-fork sides.Left a b n e h = refl
-top-fork sides.Right a b n e h = refl
-
-pub tall-fork : (s : Side) (a b : Tree) (n e h : ℕ) → tall (fork s a n e h b) ≡ h
-tall-fork sides.Left a b n e h = refl
-tall-fork sides.Right a b n e h = refl
 
 pub length-fork : (s : Side) (a b : Tree) (n e h : ℕ) → length (pairs (fork s a n e h b)) ≡ length (pairs a) + length (pairs b) + 1
 length-fork sides.Left a b n e h = omega (arith, length-append (pairs a) ((e, n) ∷ pairs b))
@@ -143,8 +149,8 @@ pub fork-IsAt : (xs : List Node) (p : ℕ) (s : Side) (a b : Tree) (n e h : ℕ)
 fork-IsAt xs p sides.Left a b n e h stands at_a at_b = (stands, at_a, at_b)
 fork-IsAt xs p sides.Right a b n e h stands at_a at_b = (stands, at_b, at_a)
 
-pub turn_ranks : (a b h : ℕ) → HasRank a b h → HasRank b a h
-turn_ranks a b h has =
+pub turned : (a b h : ℕ) → HasRank a b h → HasRank b a h
+turned a b h has =
     record { below_a = has.below_b; below_b = has.below_a; near_a = has.near_b; near_b = has.near_a; near_both = omega (arith, has.near_both) }
 
 -- the two subtrees of a balanced node, by their sides
@@ -153,11 +159,11 @@ Balances a b h = HasRank (tall a) (tall b) h × IsBalanced a × IsBalanced b
 
 pub IsBalanced-fork : (s : Side) (a b : Tree) (n e h : ℕ) → IsBalanced (fork s a n e h b) → Balances a b h
 IsBalanced-fork sides.Left a b n e h balanced = balanced
-IsBalanced-fork sides.Right a b n e h balanced = (turn_ranks (tall b) (tall a) h balanced.0, balanced.2, balanced.1)
+IsBalanced-fork sides.Right a b n e h balanced = (turned (tall b) (tall a) h balanced.0, balanced.2, balanced.1)
 
 pub fork-IsBalanced : (s : Side) (a b : Tree) (n e h : ℕ) → Balances a b h → IsBalanced (fork s a n e h b)
 fork-IsBalanced sides.Left a b n e h balanced = balanced
-fork-IsBalanced sides.Right a b n e h balanced = (turn_ranks (tall a) (tall b) h balanced.0, balanced.2, balanced.1)
+fork-IsBalanced sides.Right a b n e h balanced = (turned (tall a) (tall b) h balanced.0, balanced.2, balanced.1)
 
 -- a tree has at least as many nodes as it is high
 pub tall-le : (t : Tree) → IsBalanced t → tall t ≤ length (pairs t)
@@ -166,21 +172,17 @@ tall-le (Fork l n e h r) balanced = omega (arith, balanced.0.near_both, tall-le 
 
 -- ---- another number in a hole
 
-pub with_links-parent : (s : Side) (e a b p h : ℕ) → (with_links s e a b p h).parent ≡ p
-with_links-parent sides.Left e a b p h = refl
-with_links-parent sides.Right e a b p h = refl
+pub child_side_is : (s : Side) (e a b p h : ℕ) → (b ≡ a → ⊥) → child_side (with_links s e a b p h) a ≡ s
+child_side_is sides.Left e a b p h apart = ap (λ x. if x then sides.Left else sides.Right) (eq-eqb a a refl)
+child_side_is sides.Right e a b p h apart = ap (λ x. if x then sides.Left else sides.Right) (ne_eqb b a apart)
 
-pub with_links-rank : (s : Side) (e a b p h : ℕ) → (with_links s e a b p h).rank ≡ h
-with_links-rank sides.Left e a b p h = refl
-with_links-rank sides.Right e a b p h = refl
+pub with_child-with_links : (s : Side) (e a b p h to : ℕ) → with_child (with_links s e a b p h) s to ≡ with_links s e to b p h
+with_child-with_links sides.Left e a b p h to = refl
+with_child-with_links sides.Right e a b p h to = refl
 
 replaced_with_links : (s : Side) (e a b p h to : ℕ) → (b ≡ a → ⊥) → replaced (with_links s e a b p h) a to ≡ with_links s e to b p h
-replaced_with_links sides.Left e a b p h to apart =
-    ap (λ x. if x then record { expires = e; left = to; right = b; parent = p; rank = h }
-    else record { expires = e; left = a; right = to; parent = p; rank = h }) (eq-eqb a a refl)
-replaced_with_links sides.Right e a b p h to apart =
-    ap (λ x. if x then record { expires = e; left = to; right = a; parent = p; rank = h }
-    else record { expires = e; left = b; right = to; parent = p; rank = h }) (ne_eqb b a apart)
+replaced_with_links s e a b p h to apart =
+    ap (λ d. with_child (with_links s e a b p h) d to) (child_side_is s e a b p h apart) ∙ with_child-with_links s e a b p h to
 
 -- a subtree that doesn't have a node doesn't have it at the top
 pub top_apart : (n : ℕ) (t : Tree) → n < none → times n (pairs t) ≡ 0 → top t ≡ n → ⊥
@@ -191,31 +193,31 @@ top_apart n (Fork l m e h r) low gone same = omega (arith, times-fork n sides.Le
 pub record Linked (xs : List Node) (hole : ℕ) (c : List Frame) (new : List Node × ℕ) : Type 0 where
   pub at : IsAround new.0 hole c
   pub root_is : new.1 ≡ root_of hole c
-  pub rest : (k : ℕ) → times k (around c) ≡ 0 → node_at new.0 k ≡ node_at xs k
-  pub size : length new.0 ≡ length xs
+  pub kept : Keeps (λ k. times k (around c)) xs new.0
 
-pub relinked_linked : (xs : List Node) (root hole to : ℕ) (c : List Frame) → length xs ≤ none → ((k : ℕ) → times k (around c) ≤ 1) → hole < none →
-    times hole (around c) ≡ 0 → IsAround xs hole c → root ≡ root_of hole c → Linked xs to c (relinked xs root (parent_of c) hole to)
-relinked_linked xs root hole to [] small once low gone at root_is = record { at = tt; root_is = refl; rest = λ k out. refl; size = refl }
-relinked_linked xs root hole to (f ∷ c) small once low gone at root_is =
+pub relinked_linked : (xs : List Node) (root hole to : ℕ) (c : List Frame) → length xs ≤ none → ((k : ℕ) → times k (around c) + one k hole ≤ 1) →
+    hole < none → IsAround xs hole c → root ≡ root_of hole c → Linked xs to c (relinked xs root (parent_of c) hole to)
+relinked_linked xs root hole to [] small once low at root_is = record { at = tt; root_is = refl; kept = record { size = refl; rest = λ k out. refl } }
+relinked_linked xs root hole to (f ∷ c) small once low at root_is =
     let new = replaced (node_at xs f.n) hole to in
     let ys = slice_set xs f.n new in
+    let kept = set_keeps xs f.n new in
+    let stands = set_stands xs f.n new at.0.inside in
     let sum : (k : ℕ) → times k (around (f ∷ c)) ≡ one k f.n + times k (pairs f.other) + times k (around c) = λ k.
     omega (arith, times-append k (pairs f.other) (around c)) in
-    let apart = top_apart hole f.other low (omega (arith, sum hole, gone)) in
-    let is : new ≡ with_links f.side f.e to (top f.other) (parent_of c) f.h = ap (λ x. replaced x hole to) at.0.is ∙ replaced_with_links f.side f.e hole
-    (top f.other) (parent_of c) f.h to apart in
+    let apart = top_apart hole f.other low (omega (arith, sum hole, once hole, one_same hole)) in
     let some : nat_eq f.n none ≡ false = ne_eqb f.n none (λ same. omega (arith, same, at.0.inside, small)) in
     subst (λ x. Linked xs to (f ∷ c) (if x then (xs, to) else (ys, root))) (sym some) (record {
       at = (
-        record { inside = omega (arith, length-set xs f.n new, at.0.inside); is = node_at-set_same xs f.n new at.0.inside ∙ is },
-        IsAt-set xs f.n new f.n f.other (omega (arith, sum f.n, once f.n, one_same f.n)) at.1,
-        IsAround-agree xs ys f.n c (length-set xs f.n new) (λ k some. node_at-set_other xs f.n k new (one_apart k f.n (omega (arith, sum k, once k, some))))
-            at.2,
+        record {
+          inside = stands.inside;
+          is = stands.is ∙ ap (λ x. replaced x hole to) at.0.is ∙ replaced_with_links f.side f.e hole (top f.other) (parent_of c) f.h to apart;
+        },
+        IsAt-kept f.n f.other kept (λ k. omega (arith, sum k, once k)) at.1,
+        IsAround-kept f.n c kept (λ k. omega (arith, sum k, once k)) at.2,
       );
       root_is = root_is;
-      rest = λ k out. node_at-set_other xs f.n k new (one_apart k f.n (omega (arith, sum k, out)));
-      size = length-set xs f.n new;
+      kept = Keeps-for (λ k gone. omega (arith, sum k, gone)) kept;
     })
 
 -- ---- a context and what its hole holds
@@ -224,46 +226,64 @@ pub length-plug : (c : List Frame) (t : Tree) → length (pairs (plug c t)) ≡ 
 length-plug [] t = omega arith
 length-plug (f ∷ c) t = omega (arith, length-plug c (filled f t), length-fork f.side t f.other f.n f.e f.h, length-append (pairs f.other) (around c))
 
-sides_of : (s : Side) (o t : Tree) (e n h : ℕ) → pairs (fork s t n e h o) ≡ ahead s o (e, n) ++ (pairs t ++ behind s o (e, n))
-sides_of sides.Left o t e n h = refl
-sides_of sides.Right o t e n h = simp (append_assoc, append-nil) refl
-
-ahead-behind : (f : Frame) (t : Tree) → pairs (filled f t) ≡ ahead f.side f.other (f.e, f.n) ++ (pairs t ++ behind f.side f.other (f.e, f.n))
-ahead-behind f t = sides_of f.side f.other t (f.e) (f.n) f.h
+sides_of : (s : Side) (o t : Tree) (e n h : ℕ) (ps qs : List (ℕ × ℕ)) → ps ++ (pairs (fork s t n e h o) ++ qs) ≡
+    pick s ps (ps ++ (pairs o ++ (e, n) ∷ [])) ++ (pairs t ++ pick s ((e, n) ∷ pairs o ++ qs) qs)
+sides_of sides.Left o t e n h ps qs = simp append_assoc refl
+sides_of sides.Right o t e n h ps qs = simp append_assoc refl
 
 pub pairs-plug : (c : List Frame) (t : Tree) → pairs (plug c t) ≡ before c ++ (pairs t ++ after c)
 pairs-plug [] t = sym (append-nil (pairs t))
-pairs-plug (f ∷ c) t =
-    pairs-plug c (filled f t)
-    ∙ ap (λ ps. before c ++ (ps ++ after c)) (ahead-behind f t)
-    ∙ simp append_assoc refl
-
--- a balanced context with a balanced subtree of the rank that it was made for
-pub plug-balanced : (c : List Frame) (t : Tree) → Fits c (tall t) → IsBalanced t → IsBalanced (plug c t)
-plug-balanced [] t fits balanced = balanced
-plug-balanced (f ∷ c) t fits balanced =
-    plug-balanced c (filled f t) (subst (λ h. Fits c h) (sym (tall-fork f.side t f.other f.n f.e f.h)) fits.2) (fork-IsBalanced f.side t f.other f.n f.e f.h
-    (fits.0, balanced, fits.1))
-
-pub IsAt-plug : (xs : List Node) (c : List Frame) (t : Tree) → IsAround xs (top t) c → IsAt xs (parent_of c) t → IsAt xs none (plug c t)
-IsAt-plug xs [] t at under = under
-IsAt-plug xs (f ∷ c) t at under =
-    IsAt-plug xs c (filled f t) (subst (λ k. IsAround xs k c) (sym (top-fork f.side t f.other f.n f.e f.h)) at.2)
-    (fork-IsAt xs (parent_of c) f.side t f.other f.n f.e f.h at.0 under at.1)
-
-pub top-plug : (c : List Frame) (t : Tree) → top (plug c t) ≡ root_of (top t) c
-top-plug [] t = refl
-top-plug (f ∷ c) t = top-plug c (filled f t) ∙ ap (λ k. root_of k c) (top-fork f.side t f.other f.n f.e f.h)
-
--- parts of the same pairs make trees of the same pairs
-pub plug_pairs : (c : List Frame) (t u : Tree) → pairs t ≡ pairs u → pairs (plug c t) ≡ pairs (plug c u)
-plug_pairs c t u same = pairs-plug c t ∙ ap (λ ps. before c ++ (ps ++ after c)) same ∙ sym (pairs-plug c u)
+pairs-plug (f ∷ c) t = pairs-plug c (filled f t) ∙ sides_of f.side f.other t f.e f.n f.h (before c) (after c)
 
 -- ---- a tree that is cut at a subtree
 
-pub plug-append : (d c : List Frame) (t : Tree) → plug (d ++ c) t ≡ plug c (plug d t)
-plug-append [] c t = refl
-plug-append (f ∷ d) c t = plug-append d c (filled f t)
+pub cut_times : {xs : List Node} {root h : ℕ} {c : List Frame} {t : Tree} {ps : List (ℕ × ℕ)} → Cut xs root c t h ps → (k : ℕ) →
+    times k ps ≡ times k (pairs t) + times k (around c)
+cut_times {c = c} {t = t} cut k = subst (λ qs. times k qs ≡ times k (pairs t) + times k (around c)) cut.pairs_are (times-plug k c t)
+
+-- a node's subtree on a side
+pub cut_down : {xs : List Node} {root : ℕ} {c : List Frame} {ps : List (ℕ × ℕ)} (s : Side) (t o : Tree) (n e h : ℕ) → Cut xs root c (fork s t n e h o) h ps →
+    Cut xs root (record { side = s; n = n; e = e; h = h; other = o } ∷ c) t (tall t) ps
+cut_down {xs} {root} {c} {ps} s t o n e h cut =
+    let parts = IsAt-fork xs (parent_of c) s t o n e h cut.under in
+    let ranks = IsBalanced-fork s t o n e h cut.balanced in search arith
+
+-- the whole tree
+pub cut_whole : (xs : List Node) (root : ℕ) (c : List Frame) (t : Tree) (ps : List (ℕ × ℕ)) → Cut xs root c t (tall t) ps →
+    Cut xs root [] (plug c t) (tall (plug c t)) ps
+cut_whole xs root [] t ps cut = cut
+cut_whole xs root (f ∷ c) t ps cut =
+    let under = fork-IsAt xs (parent_of c) f.side t f.other f.n f.e f.h cut.linked.0 cut.under cut.linked.1 in
+    let balanced = fork-IsBalanced f.side t f.other f.n f.e f.h (cut.fits.0, cut.balanced, cut.fits.1) in
+    let up : Cut xs root c (filled f t) f.h ps = search arith in cut_whole xs root c (filled f t) ps up
+
+-- a node that stands in a tree, with what is above it
+pub record Located (xs : List Node) (root k : ℕ) (ps : List (ℕ × ℕ)) : Type 0 where
+  pub context : List Frame
+  pub l : Tree
+  pub e : ℕ
+  pub h : ℕ
+  pub r : Tree
+  pub cut : Cut xs root context (Fork l k e h r) h ps
+
+pub locate : (xs : List Node) (root k : ℕ) (ps : List (ℕ × ℕ)) (c : List Frame) (t : Tree) → Cut xs root c t (tall t) ps → 0 < times k (pairs t) →
+    Located xs root k ps
+locate xs root k ps c Leaf cut some = let never : ⊥ = omega (arith, some) in absurd never
+locate xs root k ps c (Fork l n e h r) cut some =
+    elim (cases_eq k n) [
+      | inl same ↦ record { context = c; l = l; e = e; h = h; r = r; cut = subst (λ j. Cut xs root c (Fork l j e h r) h ps) (sym same) cut }
+      | inr apart ↦ elim (cases_eq (times k (pairs l)) 0) [
+        | inl gone ↦ locate xs root k ps _ r (cut_down sides.Right r l n e h cut)
+            (omega (arith, times-fork k sides.Left l r n e h, apart_one k n apart, some, gone))
+        | inr here ↦ locate xs root k ps _ l (cut_down sides.Left l r n e h cut) (omega (arith, here))
+      ]
+    ]
+
+pub located : (xs : List Node) (root k : ℕ) (ps : List (ℕ × ℕ)) → IsTree xs root ps → 0 < times k ps → Located xs root k ps
+located xs root k ps is some =
+    locate xs root k ps [] is.tree is.whole (subst (λ qs. 0 < times k qs) (sym is.whole.pairs_are) some)
+
+-- ---- contexts one behind the other
 
 pub IsAt-cut : (xs : List Node) (d c : List Frame) (t : Tree) → IsAround xs (top (plug d t)) c → IsAt xs (parent_of c) (plug d t) →
     IsAround xs (top t) (d ++ c) × IsAt xs (parent_of (d ++ c)) t
@@ -271,53 +291,21 @@ IsAt-cut xs [] c t at under = (at, under)
 IsAt-cut xs (f ∷ d) c t at under =
     let rest = IsAt-cut xs d c (filled f t) at under in
     let parts = IsAt-fork xs (parent_of (d ++ c)) f.side t f.other f.n f.e f.h rest.1 in
-    ((parts.0, parts.2, subst (λ k. IsAround xs k (d ++ c)) (top-fork f.side t f.other f.n f.e f.h) rest.0), parts.1)
+    ((parts.0, parts.2, rest.0), parts.1)
 
 pub IsAt-join : (xs : List Node) (d c : List Frame) (t : Tree) → IsAround xs (top t) (d ++ c) → IsAt xs (parent_of (d ++ c)) t →
     IsAround xs (top (plug d t)) c × IsAt xs (parent_of c) (plug d t)
 IsAt-join xs [] c t at under = (at, under)
 IsAt-join xs (f ∷ d) c t at under =
-    IsAt-join xs d c (filled f t) (subst (λ k. IsAround xs k (d ++ c)) (sym (top-fork f.side t f.other f.n f.e f.h)) at.2)
-    (fork-IsAt xs (parent_of (d ++ c)) f.side t f.other f.n f.e f.h at.0 under at.1)
+    IsAt-join xs d c (filled f t) at.2 (fork-IsAt xs (parent_of (d ++ c)) f.side t f.other f.n f.e f.h at.0 under at.1)
 
-pub balanced-cut : (c : List Frame) (t : Tree) → IsBalanced (plug c t) → Fits c (tall t) × IsBalanced t
-balanced-cut [] t balanced = (tt, balanced)
-balanced-cut (f ∷ c) t balanced =
-    let rest = balanced-cut c (filled f t) balanced in
-    let here = IsBalanced-fork f.side t f.other f.n f.e f.h rest.1 in
-    ((here.0, here.2, subst (λ h. Fits c h) (tall-fork f.side t f.other f.n f.e f.h) rest.0), here.1)
-
--- a node that stands in a tree, with what is above it
-pub record Located (t : Tree) (k : ℕ) : Type 0 where
-  pub context : List Frame
-  pub l : Tree
-  pub e : ℕ
-  pub h : ℕ
-  pub r : Tree
-  pub is : plug context (Fork l k e h r) ≡ t
-
-locate_in : (c : List Frame) (t : Tree) (k : ℕ) → 0 < times k (pairs t) → Located (plug c t) k
-locate_in c Leaf k some = let never : ⊥ = omega (arith, some) in absurd never
-locate_in c (Fork l n e h r) k some =
-    elim (cases_eq k n) [
-      | inl same ↦ record { context = c; l = l; e = e; h = h; r = r; is = ap (λ j. plug c (Fork l j e h r)) same }
-      | inr apart ↦ elim (cases_eq (times k (pairs l)) 0) [
-        | inl gone ↦ locate_in (record { side = sides.Right; n = n; e = e; h = h; other = l } ∷ c) r k
-            (omega (arith, times-fork k sides.Left l r n e h, apart_one k n apart, some, gone))
-        | inr here ↦ locate_in (record { side = sides.Left; n = n; e = e; h = h; other = r } ∷ c) l k (omega (arith, here))
-      ]
-    ]
-
-pub locate : (t : Tree) (k : ℕ) → 0 < times k (pairs t) → Located t k
-locate t k some = locate_in [] t k some
+pub plug-append : (d c : List Frame) (t : Tree) → plug (d ++ c) t ≡ plug c (plug d t)
+plug-append [] c t = refl
+plug-append (f ∷ d) c t = plug-append d c (filled f t)
 
 pub times-frames : (k : ℕ) (d c : List Frame) → times k (around (d ++ c)) ≡ times k (around d) + times k (around c)
 times-frames k [] c = omega arith
 times-frames k (f ∷ d) c = omega (arith, times-frames k d c, times-append k (pairs f.other) (around (d ++ c)), times-append k (pairs f.other) (around d))
-
--- the whole tree cut at a subtree
-pub cut : (xs : List Node) (c : List Frame) (t : Tree) → IsAt xs none (plug c t) → IsAround xs (top t) c × IsAt xs (parent_of c) t
-cut xs c t at = subst (λ x. IsAround xs (top t) x × IsAt xs (parent_of x) t) (append-nil c) (IsAt-cut xs c [] t tt at)
 
 pub root_of-frames : (hole : ℕ) (d : List Frame) (f : Frame) (c : List Frame) → root_of hole (d ++ f ∷ c) ≡ root_of f.n c
 root_of-frames hole [] f c = refl

@@ -1,16 +1,15 @@
 -- A tree with a hole in it: what stands above a subtree, from the nearest node to the root.
-use Rattle.std.specs.Prelude.{ℕ, Bool, true, false, ◌+◌, ◌*◌, ◌<◌, ◌≤◌, min, max, ◌≡◌, List, [], ◌∷◌, ◌++◌, length}
-use Rattle.timer_tree.specs.Nodes.{none, with_links, node_at, far, child_side}
-use Rattle.timer_tree.specs.Trees.{Tree, Leaf, Fork, top, tall, pairs, IsAt, HasRank, IsBalanced, IsTree, Stands, times}
+use Rattle.std.specs.Prelude.{ℕ, Bool, true, false, ◌+◌, ◌*◌, ◌<◌, ◌≤◌, min, max, nat_eq, ◌≡◌, List, [], ◌∷◌, ◌++◌, length}
+use Rattle.timer_tree.specs.Nodes.{none, pick, with_links, node_at}
+use Rattle.timer_tree.specs.Trees.{Tree, Leaf, Fork, top, tall, pairs, IsAt, HasRank, IsBalanced, Stands, times, first_id, Keeps}
+use Rattle.timer_queue.specs.Pairs.{IsQueue}
 use Rattle.timer_tree.specs.declared.node.Node.{Node}
 use Rattle.timer_tree.specs.declared.repair.Unbalanced.{Unbalanced}
 use Rattle.timer_tree.specs.declared.node.Side.{Side}
-use Rattle.timer_tree.specs.declared.node.Side.TheVariants as sides
 
 -- a node between a subtree on a side and one on the other
 abbrev pub fork : Side → Tree → (n e h : ℕ) → Tree → Tree
-fork sides.Left a n e h b = Fork a n e h b
-fork sides.Right a n e h b = Fork b n e h a
+fork s a n e h b = Fork (pick s a b) n e h (pick s b a)
 
 -- the parent of a hole: the hole's side, the node, and the subtree on the other side
 pub record Frame : Type 0 where
@@ -49,89 +48,82 @@ abbrev pub around : List Frame → List (ℕ × ℕ)
 around [] = []
 around (f ∷ c) = (f.e, f.n) ∷ pairs f.other ++ around c
 
--- the pairs of a node and of its subtree on the other side, where they stand before the hole
-abbrev pub ahead : Side → Tree → (ℕ × ℕ) → List (ℕ × ℕ)
-ahead sides.Left t p = []
-ahead sides.Right t p = pairs t ++ p ∷ []
-
--- the pairs of a node and of its subtree on the other side, where they stand behind the hole
-abbrev pub behind : Side → Tree → (ℕ × ℕ) → List (ℕ × ℕ)
-behind sides.Left t p = p ∷ pairs t
-behind sides.Right t p = []
-
 -- all pairs before the hole
 abbrev pub before : List Frame → List (ℕ × ℕ)
 before [] = []
-before (f ∷ c) = before c ++ ahead f.side f.other (f.e, f.n)
+before (f ∷ c) = pick f.side (before c) (before c ++ (pairs f.other ++ (f.e, f.n) ∷ []))
 
 -- all pairs behind the hole
 abbrev pub after : List Frame → List (ℕ × ℕ)
 after [] = []
-after (f ∷ c) = behind f.side f.other (f.e, f.n) ++ after c
+after (f ∷ c) = pick f.side ((f.e, f.n) ∷ pairs f.other ++ after c) (after c)
 
 -- the context is balanced where its hole holds a subtree of this rank
 abbrev pub Fits : List Frame → ℕ → Type 0
 Fits [] h = Unit
 Fits (f ∷ c) h = HasRank h (tall f.other) f.h × IsBalanced f.other × Fits c f.h
 
--- a subtree has come no lower than it was, or no higher
-abbrev pub Rises : (old now : ℕ) → Type 0
-Rises old now = old ≤ now
+-- these pairs are a queue that fits the block, and each timer stands once
+pub record Fit (xs : List Node) (ps : List (ℕ × ℕ)) : Type 0 where
+  pub small : length xs ≤ none
+  pub few : length ps ≤ none
+  pub once : (k : ℕ) → times k ps ≤ 1
+  pub queue : IsQueue (length xs) ps
 
-abbrev pub Sinks : (old now : ℕ) → Type 0
-Sinks old now = now ≤ old
+-- the block holds a tree of these pairs, cut at a balanced subtree; all ranks are right where that has this one
+pub record Cut (xs : List Node) (root : ℕ) (c : List Frame) (t : Tree) (h : ℕ) (ps : List (ℕ × ℕ)) : Type 0 where
+  pub fit : Fit xs ps
+  pub linked : IsAround xs (top t) c
+  pub under : IsAt xs (parent_of c) t
+  pub root_is : root ≡ root_of (top t) c
+  pub balanced : IsBalanced t
+  pub fits : Fits c h
+  pub pairs_are : pairs (plug c t) ≡ ps
+
+-- the block holds a balanced tree of these pairs
+pub record IsTree (xs : List Node) (root : ℕ) (ps : List (ℕ × ℕ)) : Type 0 where
+  pub tree : Tree
+  pub whole : Cut xs root [] tree (tall tree) ps
+
+-- the block and the numbers of the root and of the first node are those of this queue, and each timer that isn't in it has the rank 0
+pub record IsStored (xs : List Node) (root first : ℕ) (ps : List (ℕ × ℕ)) : Type 0 where
+  pub is_tree : IsTree xs root ps
+  pub first_is : first ≡ first_id ps
+  pub free : (k : ℕ) → times k ps ≡ 0 → (node_at xs k).rank ≡ 0
+  pub queue : IsQueue (length xs) ps
 
 -- a node has a subtree one lower than it is, and one two lower than this rank
 abbrev pub IsTilted : Tree → ℕ → Type 0
 IsTilted Leaf h = Unit
 IsTilted (Fork l n e g r) h = (g ≤ max (tall l) (tall r) + 1) × (min (tall l) (tall r) + 2 ≤ h)
 
--- the block holds a tree of these pairs that is balanced but for the ranks from one node upwards, with so many nodes from there to the root
-pub record IsUnbalanced (Way : ℕ → ℕ → Type 0) (xs : List Node) (root : ℕ) (r : Unbalanced) (ps : List (ℕ × ℕ)) (levels : ℕ) : Type 0 where
+-- a subtree that had a rank has risen, or has sunk, by one at most
+abbrev pub Way : (rising : Bool) → (old : ℕ) → Tree → Type 0
+Way true old t = (old ≤ tall t) × (tall t ≤ old + 1) × (old < tall t → 1 < tall t → IsTilted t (tall t))
+Way false old t = (tall t ≤ old) × (old ≤ tall t + 1)
+
+-- the block holds a tree of these pairs that is balanced but for the ranks from one node upwards, and the context is what stands from there up
+pub record IsUnbalanced (rising : Bool) (xs : List Node) (root : ℕ) (r : Unbalanced) (ps : List (ℕ × ℕ)) : Type 0 where
   pub context : List Frame
   pub subtree : Tree
   pub old_rank : ℕ
-  pub linked : IsAround xs (top subtree) context
-  pub under : IsAt xs (parent_of context) subtree
-  pub root_is : root ≡ root_of (top subtree) context
+  pub cut : Cut xs root context subtree old_rank ps
   pub at_is : r.at ≡ parent_of context
-  pub child_is : (r.at ≡ none → ⊥) → r.child ≡ top subtree
-  pub rank_is : (r.at ≡ none → ⊥) → r.rank ≡ tall subtree
-  pub way : (r.at ≡ none → ⊥) → Way old_rank (tall subtree)
-  pub balanced : IsBalanced subtree
-  pub fits : Fits context old_rank
-  pub lower : old_rank ≤ tall subtree + 1
-  pub higher : tall subtree ≤ old_rank + 1
-  pub tilted : old_rank < tall subtree → 1 < tall subtree → IsTilted subtree (tall subtree)
-  pub pairs_are : pairs (plug context subtree) ≡ ps
-  pub levels_are : length context ≡ levels
+  pub changed : (r.at ≡ none → ⊥) → (r.child ≡ top subtree) × (r.rank ≡ tall subtree) × Way rising old_rank subtree
 
--- no node of other timers has changed
-pub record KeepsOthers (xs ys : List Node) (ps : List (ℕ × ℕ)) : Type 0 where
-  pub size : length ys ≡ length xs
-  pub rest : (k : ℕ) → times k ps ≡ 0 → node_at ys k ≡ node_at xs k
-
--- a tree that a repair makes balanced: its pairs stand once and fit the block
-pub record CanRepair (Way : ℕ → ℕ → Type 0) (xs : List Node) (root : ℕ) (r : Unbalanced) (ps : List (ℕ × ℕ)) (levels : ℕ) : Type 0 where
-  pub unbalanced : IsUnbalanced Way xs root r ps levels
-  pub small : length xs ≤ none
-  pub few : length ps ≤ none
-  pub once : (k : ℕ) → times k ps ≤ 1
-
--- what a repair has done when so many nodes are left, at 15 steps a node
-pub record IsRepairing (Way : ℕ → ℕ → Type 0) (xs ys : List Node) (root : ℕ) (r : Unbalanced) (ps : List (ℕ × ℕ)) (levels old_steps steps : ℕ) : Type 0 where
-  pub left : ℕ
-  pub can : CanRepair Way ys root r ps left
-  pub kept : KeepsOthers xs ys ps
-  pub count : steps + 15 * left ≤ old_steps + 15 * levels
+-- what a repair has done so far, at 15 steps a node
+pub record IsRepairing (rising : Bool) (xs ys : List Node) (root : ℕ) (r : Unbalanced) (ps : List (ℕ × ℕ)) (levels old_steps steps : ℕ) : Type 0 where
+  pub unbalanced : IsUnbalanced rising ys root r ps
+  pub kept : Keeps (λ k. times k ps) xs ys
+  pub count : steps + 15 * length unbalanced.context ≤ old_steps + 15 * levels
 
 -- the block holds a balanced tree of the same pairs, after so many steps at most
 pub record IsRepaired (xs ys : List Node) (root : ℕ) (ps : List (ℕ × ℕ)) (levels old_steps steps : ℕ) : Type 0 where
   pub tree : IsTree ys root ps
-  pub kept : KeepsOthers xs ys ps
+  pub kept : Keeps (λ k. times k ps) xs ys
   pub count : steps ≤ old_steps + 15 * levels
 
--- a node above a timer that was inserted: whether it was a leaf says what its rank is, and that it has no other subtree
-abbrev pub IsAbove : Node → (id : ℕ) → (leaf : Bool) → Type 0
-IsAbove node id true = (node.rank ≡ 1) × (far (child_side node id) node ≡ none)
-IsAbove node id false = 1 < node.rank
+-- whether the hole's parent has nothing on the other side
+abbrev pub IsOver : List Frame → (leaf : Bool) → Type 0
+IsOver [] leaf = Unit
+IsOver (f ∷ c) leaf = leaf ≡ nat_eq (top f.other) none

@@ -1,5 +1,5 @@
 -- How the tree is rebalanced above a subtree that has changed, and how a timer's link is inserted and taken out.
-use Rattle.std.specs.Prelude.{ℕ, ◌+◌, ◌-◌, List, nat_eq, nat_lt, if◌then◌else◌, ◌||◌, Bool, slice_set}
+use Rattle.std.specs.Prelude.{ℕ, ◌+◌, ◌-◌, List, nat_eq, nat_lt, if◌then◌else◌, ◌||◌, Bool, true, false, slice_set}
 use Rattle.timer_tree.specs.Nodes.{none, node_at, far, next, other_side, child_side, is_high_leaf}
 use Rattle.timer_tree.specs.Links.{with_child, adopted, relinked}
 use Rattle.timer_tree.specs.Places.{side_of}
@@ -31,9 +31,8 @@ raised xs root side r sibling parent rank =
     else (rotated.0, rotated.1, ended)
 
 -- a node whose subtree has risen
-unfoldable pub risen_at : List Node → (root : ℕ) → Unbalanced → Repairing
-risen_at xs root r =
-    let node = node_at xs r.at in
+unfoldable pub risen : List Node → (root : ℕ) → Unbalanced → Node → Repairing
+risen xs root r node =
     let side = child_side node r.child in
     if nat_lt r.rank node.rank then (xs, root, ended) else raised xs root side r (far side node) node.parent node.rank
 
@@ -42,21 +41,25 @@ abbrev pub has_higher : List Node → Node → ℕ → Bool
 has_higher xs node rank = nat_lt rank (node_at xs node.left).rank || nat_lt rank (node_at xs node.right).rank
 
 -- a node that has its subtree on a side three lower
-unfoldable pub sunk : List Node → (root : ℕ) → Side → Unbalanced → Node → Repairing
-sunk xs root side r node =
-    let n = far side node in
-    let rotated = rotated_up xs root (other_side side) r.at n in
-    if nat_eq (node_at xs n).rank (node.rank - 1) then (
-    if has_higher xs (node_at xs n) r.rank then (rotated.0, rotated.1, ended)
-    else (ranked (ranked xs n (node.rank - 2)) r.at (node.rank - 1), root, gone_on r node.parent (node.rank - 1))
-    ) else (ranked xs r.at (node.rank - 1), root, gone_on r node.parent (node.rank - 1))
+unfoldable pub sunk : List Node → (root : ℕ) → Side → Unbalanced → (sibling parent rank : ℕ) → Repairing
+sunk xs root side r sibling parent rank =
+    let rotated = rotated_up xs root (other_side side) r.at sibling in
+    let on : List Node → Repairing = λ ys. (ranked ys r.at (rank - 1), root, gone_on r parent (rank - 1)) in
+    if nat_eq (node_at xs sibling).rank (rank - 1) then (
+    if has_higher xs (node_at xs sibling) r.rank then (rotated.0, rotated.1, ended) else on (ranked xs sibling (rank - 2))
+    ) else on xs
 
 -- a node whose subtree has sunk
-unfoldable pub sunk_at : List Node → (root : ℕ) → Unbalanced → Repairing
-sunk_at xs root r =
-    let node = node_at xs r.at in
-    if nat_lt (r.rank + 2) node.rank then sunk xs root (child_side node r.child) r node
+unfoldable pub lowered : List Node → (root : ℕ) → Unbalanced → Node → Repairing
+lowered xs root r node =
+    let side = child_side node r.child in
+    if nat_lt (r.rank + 2) node.rank then sunk xs root side r (far side node) node.parent node.rank
     else (if is_high_leaf node then (ranked xs r.at 1, root, gone_on r node.parent 1) else (xs, root, ended))
+
+-- one step of a repair
+abbrev pub stepped : (rising : Bool) → List Node → (root : ℕ) → Unbalanced → Repairing
+stepped true xs root r = risen xs root r (node_at xs r.at)
+stepped false xs root r = lowered xs root r (node_at xs r.at)
 
 -- a timer inserted into its place
 unfoldable pub inserted : List Node → (root parent expires id : ℕ) → List Node × ℕ × Side

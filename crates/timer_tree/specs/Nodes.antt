@@ -16,20 +16,22 @@ blank = record { expires = 0; left = none; right = none; parent = none; rank = 0
 abbrev pub node_at : List Node → ℕ → Node
 node_at xs n = slice_index_or xs n blank
 
+-- what stands on the left where two stand on a side and on the other
+abbrev pub pick : {A : Type 0} → Side → A → A → A
+pick sides.Left a b = a
+pick sides.Right a b = b
+
 -- the node below on a side
 abbrev pub near : Side → Node → ℕ
-near sides.Left node = node.left
-near sides.Right node = node.right
+near s node = pick s node.left node.right
 
 -- the node below on the other side
 abbrev pub far : Side → Node → ℕ
-far sides.Left node = node.right
-far sides.Right node = node.left
+far s node = pick s node.right node.left
 
 -- the other side
 abbrev pub other_side : Side → Side
-other_side sides.Left = sides.Right
-other_side sides.Right = sides.Left
+other_side s = pick s sides.Right sides.Left
 
 -- the side of one of a node's subtrees
 abbrev pub child_side : Node → ℕ → Side
@@ -45,8 +47,7 @@ is_high_leaf node = nat_eq node.rank 2 && nat_eq node.left none && nat_eq node.r
 
 -- a node from what stands on a side and on the other
 abbrev pub with_links : Side → (expires near far parent rank : ℕ) → Node
-with_links sides.Left e a b p h = record { expires = e; left = a; right = b; parent = p; rank = h }
-with_links sides.Right e a b p h = record { expires = e; left = b; right = a; parent = p; rank = h }
+with_links s e a b p h = record { expires = e; left = pick s a b; right = pick s b a; parent = p; rank = h }
 
 -- one more, within 32 bits
 unfoldable pub next : ℕ → ℕ

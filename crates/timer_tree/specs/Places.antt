@@ -1,9 +1,9 @@
 -- A place in the tree where a timer is to be inserted.
-use Rattle.std.specs.Prelude.{ℕ, ◌+◌, ◌≤◌, ◌≡◌, nat_eq, nat_lt, if◌then◌else◌, List, [], ◌∷◌, ◌++◌, length}
-use Rattle.timer_queue.specs.Pairs.{put, IsByExpiry}
+use Rattle.std.specs.Prelude.{ℕ, ◌+◌, ◌≡◌, nat_eq, nat_lt, if◌then◌else◌, List, [], ◌∷◌, ◌++◌, length}
+use Rattle.timer_queue.specs.Pairs.{put}
 use Rattle.timer_tree.specs.Nodes.{none}
-use Rattle.timer_tree.specs.Trees.{Tree, Leaf, top, tall, pairs, IsAt, IsBalanced, IsTree}
-use Rattle.timer_tree.specs.Contexts.{Frame, plug, parent_of, root_of, IsAround, before, after, Fits}
+use Rattle.timer_tree.specs.Trees.{Tree, Leaf, top, tall, pairs}
+use Rattle.timer_tree.specs.Contexts.{Frame, parent_of, before, after, Cut}
 use Rattle.timer_tree.specs.declared.node.Node.{Node}
 use Rattle.timer_tree.specs.declared.node.Side.{Side}
 use Rattle.timer_tree.specs.declared.node.Side.TheVariants as sides
@@ -21,35 +21,21 @@ IsOnSide expires (f ∷ c) = side_of expires f.e ≡ f.side
 pub record IsFinding (xs : List Node) (root parent at expires : ℕ) (ps : List (ℕ × ℕ)) (old_steps steps : ℕ) : Type 0 where
   pub context : List Frame
   pub subtree : Tree
-  pub linked : IsAround xs (top subtree) context
-  pub under : IsAt xs (parent_of context) subtree
+  pub cut : Cut xs root context subtree (tall subtree) ps
   pub at_is : at ≡ top subtree
-  pub root_is : root ≡ root_of (top subtree) context
   pub parent_is : parent ≡ parent_of context
   pub side : IsOnSide expires context
-  pub balanced : IsBalanced subtree
-  pub fits : Fits context (tall subtree)
-  pub pairs_are : pairs (plug context subtree) ≡ ps
   pub puts : (id : ℕ) → put expires id ps ≡ before context ++ (put expires id (pairs subtree) ++ after context)
   pub count : steps ≡ old_steps + length context
 
 -- the place where a pair of this expiry belongs
 pub record IsPlace (xs : List Node) (root parent expires : ℕ) (ps : List (ℕ × ℕ)) (old_steps steps : ℕ) : Type 0 where
   pub context : List Frame
-  pub linked : IsAround xs none context
-  pub root_is : root ≡ root_of none context
+  pub cut : Cut xs root context Leaf 0 ps
   pub parent_is : parent ≡ parent_of context
   pub side : IsOnSide expires context
-  pub fits : Fits context 0
-  pub pairs_are : pairs (plug context Leaf) ≡ ps
   pub puts : (id : ℕ) → put expires id ps ≡ before context ++ ((expires, id) ∷ after context)
   pub count : steps ≡ old_steps + length context
-
--- a tree of a queue's pairs, in a block that ends before the number of no node
-pub record IsSearched (xs : List Node) (root : ℕ) (ps : List (ℕ × ℕ)) : Type 0 where
-  pub tree : IsTree xs root ps
-  pub small : length xs ≤ none
-  pub by_expiry : IsByExpiry ps
 
 -- the number of the first timer once this one is inserted on a side of this parent
 abbrev pub first_on : Side → (parent first id : ℕ) → ℕ

@@ -9,34 +9,34 @@ use Rattle.timer_tree.specs.declared.node.Side.{Side}
 abbrev pub set_linked : List Node → (n : ℕ) → Side → (child parent rank : ℕ) → List Node
 set_linked xs n side child parent rank = slice_set xs n (linked side (node_at xs n) child parent rank)
 
--- the high node is set above the low one
-unfoldable pub rotated_once : List Node → Side → (n : ℕ) → (low : Node) → (m : ℕ) → (high : Node) → List Node
-rotated_once xs side n low m high =
-    let k = far side high in
-    set_linked (set_linked (adopted xs k n) n side k m (next (node_at xs k).rank)) m (other_side side) n low.parent low.rank
+-- the high node m is set above the low one n, which gets the inner subtree k
+unfoldable pub rotated_once : List Node → Side → (n m k parent rank : ℕ) → List Node
+rotated_once xs side n m k parent rank =
+    set_linked (set_linked (adopted xs k n) n side k m (next (node_at xs k).rank)) m (other_side side) n parent rank
 
--- the inner node is set above both
-unfoldable pub rotated_twice : List Node → Side → (n : ℕ) → (low : Node) → (m : ℕ) → (high : Node) → List Node
-rotated_twice xs side n low m high =
-    let k = far side high in
-    let inner = node_at xs k in
-    let kept = adopted (adopted xs (near side inner) m) (far side inner) n in
-    let lowered = set_linked (set_linked kept n side (far side inner) k inner.rank) m (other_side side) (near side inner) k inner.rank in
-    slice_set lowered k (with_links side inner.expires m n low.parent low.rank)
+-- the inner node k is set above both, which get its two subtrees
+unfoldable pub rotated_twice : List Node → Side → (n m k inner outer expires low parent rank : ℕ) → List Node
+rotated_twice xs side n m k inner outer expires low parent rank =
+    let kept = adopted (adopted xs inner m) outer n in
+    let lowered = set_linked (set_linked kept n side outer k low) m (other_side side) inner k low in
+    slice_set lowered k (with_links side expires m n parent rank)
 
--- a subtree that is too high on a side, and its root
-unfoldable pub rotated : List Node → Side → (n : ℕ) → (low : Node) → (m : ℕ) → List Node × ℕ
-rotated xs side n low m =
-    let high = node_at xs m in
+-- the same by the inner node
+abbrev pub twice_by : List Node → Side → (n m k : ℕ) → (inner : Node) → (parent rank : ℕ) → List Node
+twice_by xs side n m k inner parent rank = rotated_twice xs side n m k (near side inner) (far side inner) inner.expires inner.rank parent rank
+
+-- a subtree that is too high on a side, with the nodes at its root and at the high one's, and its new root
+unfoldable pub rotated : List Node → Side → (n : ℕ) → (low : Node) → (m : ℕ) → (high : Node) → List Node × ℕ
+rotated xs side n low m high =
     let k = far side high in
-    if nat_eq (next (node_at xs (near side high)).rank) high.rank || nat_eq k none then (rotated_once xs side n low m high, m)
-    else (rotated_twice xs side n low m high, k)
+    if nat_eq (next (node_at xs (near side high)).rank) high.rank || nat_eq k none then (rotated_once xs side n m k low.parent low.rank, m)
+    else (twice_by xs side n m k (node_at xs k) low.parent low.rank, k)
 
 -- the tree is rotated at a node
 unfoldable pub rotated_up : List Node → (root : ℕ) → Side → (at high : ℕ) → List Node × ℕ
 rotated_up xs root side at high =
     let low = node_at xs at in
-    let done = rotated xs side at low high in
+    let done = rotated xs side at low high (node_at xs high) in
     relinked done.0 root low.parent at done.1
 
 -- a node with another rank

@@ -1,6 +1,5 @@
 -- The tree that the nodes make, and what a queue of it holds.
 use Rattle.std.specs.Prelude.{ℕ, ◌+◌, ◌≤◌, ◌<◌, ◌≡◌, List, [], ◌∷◌, ◌++◌, length, zero, suc, nat_eq, if◌then◌else◌}
-use Rattle.timer_queue.specs.Pairs.{IsQueue}
 use Rattle.timer_tree.specs.Nodes.{none, node_at}
 use Rattle.timer_tree.specs.declared.node.Node.{Node}
 
@@ -71,18 +70,7 @@ abbrev pub first_id : List (ℕ × ℕ) → ℕ
 first_id [] = none
 first_id (p ∷ ps) = p.1
 
--- the block holds a balanced tree of these pairs
-pub record IsTree (xs : List Node) (root : ℕ) (ps : List (ℕ × ℕ)) : Type 0 where
-  pub tree : Tree
-  pub at : IsAt xs none tree
-  pub root_is : root ≡ top tree
-  pub balanced : IsBalanced tree
-  pub pairs_are : pairs tree ≡ ps
-
--- the block and the numbers of the root and of the first node are those of this queue, and each timer that isn't in it has the rank 0
-pub record IsStored (xs : List Node) (root first : ℕ) (ps : List (ℕ × ℕ)) : Type 0 where
-  pub is_tree : IsTree xs root ps
-  pub first_is : first ≡ first_id ps
-  pub free : (k : ℕ) → times k ps ≡ 0 → (node_at xs k).rank ≡ 0
-  pub queue : IsQueue (length xs) ps
-  pub small : length xs ≤ none
+-- no node has changed but those that this counts
+pub record Keeps (out : ℕ → ℕ) (xs ys : List Node) : Type 0 where
+  pub size : length ys ≡ length xs
+  pub rest : (k : ℕ) → out k ≡ 0 → node_at ys k ≡ node_at xs k

@@ -2,7 +2,8 @@
 ghost use Rattle.std.specs.Prelude.{◌≡◌, ℕ, ◌+◌, ◌≤◌, ◌<◌, List, length, nat_eq, nat_lt, ◌&&◌, if◌then◌else◌};
 ghost use Rattle.timer_tree.specs.Nodes.{none, node_at, is_leaf, IsLink};
 ghost use Rattle.timer_tree.specs.Moves.{inserted};
-ghost use Rattle.timer_tree.specs.Places.{IsSearched, IsPlace, side_of};
+ghost use Rattle.timer_tree.specs.Places.{IsPlace, side_of};
+ghost use Rattle.timer_tree.specs.Contexts.{IsTree};
 
 use crate::block::Block;
 use crate::node::{NONE, Node, Side};
@@ -18,8 +19,9 @@ pub(crate) struct Place {
 
 /// Finds the place behind all timers that expire as early or earlier.
 pub(crate) fn find<L: Ledger>(block: &Block, root: u32, expires: u64, steps: &mut Steps<L>) -> Place
-    requires { (ps : List (ℕ × ℕ)) × IsSearched block.now root ps }
-    ensures place { (ps : List (ℕ × ℕ)) → IsSearched block.now root ps → IsPlace block.now root result.parent expires ps steps.old steps.new }
+    requires { (ps : List (ℕ × ℕ)) × IsTree block.now root ps }
+    ensures place { (ps : List (ℕ × ℕ)) → IsTree block.now root ps → IsPlace block.now root result.parent expires ps steps.old steps.new }
+    ensures link { IsLink (length block.now) result.parent }
     ensures leaf { (result.parent ≡ none → ⊥) → result.leaf ≡ is_leaf (node_at block.now result.parent) }
 {
     let mut parent = NONE;

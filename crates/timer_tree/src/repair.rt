@@ -1,8 +1,9 @@
 //! How ranks are put right from one node upwards.
-ghost use Rattle.std.specs.Prelude.{◌≡◌, ℕ, ◌+◌, ◌≤◌, ◌<◌, List, length};
-ghost use Rattle.timer_tree.specs.Nodes.{node_at, none, HasLinks, IsLink};
-ghost use Rattle.timer_tree.specs.Contexts.{CanRepair, IsRepaired, IsAbove, Rises, Sinks};
-ghost use Rattle.timer_tree.specs.Moves.{ended, raised, risen_at, sunk, sunk_at};
+ghost use Rattle.std.specs.Prelude.{◌≡◌, true, ℕ, ◌+◌, ◌≤◌, ◌<◌, List, length};
+ghost use Rattle.timer_tree.specs.Nodes.{node_at, none, far, HasLinks, IsLink};
+ghost use Rattle.timer_tree.specs.Contexts.{IsUnbalanced, IsRepairing, IsRepaired, IsOver};
+ghost use Rattle.timer_tree.specs.declared.node.Node.{Node};
+ghost use Rattle.timer_tree.specs.Moves.{ended, raised, risen, sunk, lowered, stepped};
 ghost use Rattle.timer_tree.specs.Rotate.{ranked};
 
 use crate::add::Place;
@@ -30,10 +31,10 @@ pub(crate) fn settle<L: Ledger>(
     id: u32,
     steps: &mut Steps<L>,
 )
-    requires can { (ps : List (ℕ × ℕ)) × (levels : ℕ) × CanRepair Rises block.old root.old (record { at = place.parent; child = id; rank = 1 }) ps levels }
-    requires above { (place.parent ≡ none → ⊥) → IsAbove (node_at block.old place.parent) id place.leaf }
-    ensures { (ps : List (ℕ × ℕ)) (levels : ℕ) → CanRepair Rises block.old root.old (record { at = place.parent; child = id; rank = 1 }) ps levels →
-        IsRepaired block.old block.new root.new ps levels steps.old steps.new }
+    requires { (ps : List (ℕ × ℕ)) × (b : IsUnbalanced true block.old root.old (record { at = place.parent; child = id; rank = 1 }) ps) ×
+        IsOver b.context place.leaf }
+    ensures { (ps : List (ℕ × ℕ)) (b : IsUnbalanced true block.old root.old (record { at = place.parent; child = id; rank = 1 }) ps) →
+        IsOver b.context place.leaf → IsRepaired block.old block.new root.new ps (length b.context) steps.old steps.new }
 {
     let Place { parent, leaf } = place;
     if parent == NONE {
@@ -43,7 +44,7 @@ pub(crate) fn settle<L: Ledger>(
         return;
     }
     let rest = raise_leaf(block, parent, steps);
-    rise(block, root, rest, steps);
+    repair(block, root, true, rest, steps);
 }
 
 /// Gives a leaf that has got a subtree the rank 2. The repair goes on at its parent.
@@ -58,12 +59,18 @@ fn raise_leaf<L: Ledger>(block: &mut Block, n: u32, steps: &mut Steps<L>) -> Unb
     go_on(block, n, parent, 2, steps)
 }
 
-/// Rebalances the tree above a subtree that has risen, as far as ranks change.
+/// Rebalances the tree above a subtree that has risen or sunk, as far as ranks change.
 #[inline(always)]
-fn rise<L: Ledger>(block: &mut Block, root: &mut u32, broken: Unbalanced, steps: &mut Steps<L>)
-    requires { (ps : List (ℕ × ℕ)) × (levels : ℕ) × CanRepair Rises block.old root.old broken ps levels }
-    ensures { (ps : List (ℕ × ℕ)) (levels : ℕ) → CanRepair Rises block.old root.old broken ps levels →
-        IsRepaired block.old block.new root.new ps levels steps.old steps.new }
+pub(crate) fn repair<L: Ledger>(
+    block: &mut Block,
+    root: &mut u32,
+    rising: bool,
+    broken: Unbalanced,
+    steps: &mut Steps<L>,
+)
+    requires { (xs : List Node) × (ps : List (ℕ × ℕ)) × (levels : ℕ) × (old : ℕ) × IsRepairing rising xs block.old root.old broken ps levels old steps.old }
+    ensures { (xs : List Node) (ps : List (ℕ × ℕ)) (levels old : ℕ) → IsRepairing rising xs block.old root.old broken ps levels old steps.old →
+        IsRepaired xs block.new root.new ps levels old steps.new }
 {
     let Unbalanced {
         mut at,
@@ -71,17 +78,41 @@ fn rise<L: Ledger>(block: &mut Block, root: &mut u32, broken: Unbalanced, steps:
         mut rank,
     } = broken;
     while at != NONE {
-        let next = rise_at(block, root, Unbalanced { at, child, rank }, steps);
+        let rest = Unbalanced { at, child, rank };
+        let next = step(block, root, rising, rest, steps);
         at = next.at;
         child = next.child;
         rank = next.rank;
     }
 }
 
+/// One step of a repair.
+#[inline(always)]
+fn step<L: Ledger>(
+    block: &mut Block,
+    root: &mut u32,
+    rising: bool,
+    rest: Unbalanced,
+    steps: &mut Steps<L>,
+) -> Unbalanced
+    requires inside { rest.at < length block.old }
+    requires small { length block.old ≤ none }
+    requires child { (node_at block.old rest.at).rank ≤ rest.rank → rest.child < length block.old }
+    requires low { rest.rank ≤ 65 }
+    ensures block { (block.new, root.new, result) ≡ stepped rising block.old root.old rest }
+    ensures steps { steps.new ≤ steps.old + 15 }
+{
+    if rising {
+        rise_at(block, root, rest, steps)
+    } else {
+        sink_at(block, root, rest, steps)
+    }
+}
+
 /// Gives the node above a subtree that has risen one rank more where it needs that and its other subtree allows it. Where that doesn't,
 /// the tree is rotated there.
 #[inline(always)]
-#[tactic(auto, unfolding(crate::specs::Moves::risen_at, crate::specs::Nodes::next))]
+#[tactic(auto, unfolding(crate::specs::Moves::risen, crate::specs::Nodes::next))]
 fn rise_at<L: Ledger>(
     block: &mut Block,
     root: &mut u32,
@@ -91,7 +122,7 @@ fn rise_at<L: Ledger>(
     requires inside { rest.at < length block.old }
     requires small { length block.old ≤ none }
     requires child { (node_at block.old rest.at).rank ≤ rest.rank → rest.child < length block.old }
-    ensures block { (block.new, root.new, result) ≡ risen_at block.old root.old rest }
+    ensures block { (block.new, root.new, result) ≡ risen block.old root.old rest (node_at block.old rest.at) }
     ensures steps { steps.new ≤ steps.old + 15 }
 {
     let node = block.read(rest.at, steps);
@@ -150,34 +181,9 @@ fn raise<L: Ledger>(
     end()
 }
 
-/// Rebalances the tree above a subtree that has sunk, as far as ranks change.
-#[inline(always)]
-pub(crate) fn sink<L: Ledger>(
-    block: &mut Block,
-    root: &mut u32,
-    broken: Unbalanced,
-    steps: &mut Steps<L>,
-)
-    requires { (ps : List (ℕ × ℕ)) × (levels : ℕ) × CanRepair Sinks block.old root.old broken ps levels }
-    ensures { (ps : List (ℕ × ℕ)) (levels : ℕ) → CanRepair Sinks block.old root.old broken ps levels →
-        IsRepaired block.old block.new root.new ps levels steps.old steps.new }
-{
-    let Unbalanced {
-        mut at,
-        mut child,
-        mut rank,
-    } = broken;
-    while at != NONE {
-        let next = sink_at(block, root, Unbalanced { at, child, rank }, steps);
-        at = next.at;
-        child = next.child;
-        rank = next.rank;
-    }
-}
-
 /// Gives the node above a subtree that has sunk the rank that it needs. The repair ends where that is the one that it has.
 #[inline(always)]
-#[tactic(auto, unfolding(crate::specs::Moves::sunk_at))]
+#[tactic(auto, unfolding(crate::specs::Moves::lowered))]
 fn sink_at<L: Ledger>(
     block: &mut Block,
     root: &mut u32,
@@ -187,7 +193,7 @@ fn sink_at<L: Ledger>(
     requires inside { rest.at < length block.old }
     requires small { length block.old ≤ none }
     requires low { rest.rank ≤ 65 }
-    ensures block { (block.new, root.new, result) ≡ sunk_at block.old root.old rest }
+    ensures block { (block.new, root.new, result) ≡ lowered block.old root.old rest (node_at block.old rest.at) }
     ensures steps { steps.new ≤ steps.old + 15 }
 {
     let rank = block.read(rest.at, steps).rank;
@@ -225,7 +231,7 @@ fn lower<L: Ledger>(
     requires small { length block.old ≤ none }
     requires links { HasLinks (length block.old) node }
     requires high { 2 < node.rank }
-    ensures block { (block.new, root.new, result) ≡ sunk block.old root.old side rest node }
+    ensures block { (block.new, root.new, result) ≡ sunk block.old root.old side rest (far side node) node.parent node.rank }
     ensures steps { steps.new ≤ steps.old + 13 }
 {
     let n = node.far(side);

@@ -1,7 +1,7 @@
 //! How the tree is rotated at a node.
 ghost use Rattle.std.specs.Prelude.{◌≡◌, ◌+◌, ◌≤◌, ◌<◌, length};
 ghost use Rattle.timer_tree.specs.Nodes.{node_at, none, far, HasLinks};
-ghost use Rattle.timer_tree.specs.Rotate.{rotated_once, rotated_twice, rotated, rotated_up};
+ghost use Rattle.timer_tree.specs.Rotate.{rotated_once, twice_by, rotated, rotated_up};
 ghost use Rattle.timer_tree.specs.declared.node.Side.TheVariants as sides;
 
 use crate::block::Block;
@@ -119,7 +119,7 @@ fn rotate<L: Ledger>(
     requires low_links { HasLinks (length block.old) low }
     requires high { m < length block.old }
     requires small { length block.old ≤ none }
-    ensures block { (block.new, result) ≡ rotated block.old side n low m }
+    ensures block { (block.new, result) ≡ rotated block.old side n low m (node_at block.old m) }
     ensures room { length block.new ≡ length block.old }
     ensures top { result < length block.old }
     ensures steps { steps.new ≤ steps.old + 8 }
@@ -153,7 +153,7 @@ fn rotate_once<L: Ledger>(
     requires high { m < length block.old }
     requires high_links { HasLinks (length block.old) high }
     requires small { length block.old ≤ none }
-    ensures block { block.new ≡ rotated_once block.old side n low m high }
+    ensures block { block.new ≡ rotated_once block.old side n m (far side high) low.parent low.rank }
     ensures room { length block.new ≡ length block.old }
     ensures steps { steps.new ≤ steps.old + 4 }
 {
@@ -182,7 +182,7 @@ fn rotate_twice<L: Ledger>(
     requires high_links { HasLinks (length block.old) high }
     requires inner { far side high < length block.old }
     requires small { length block.old ≤ none }
-    ensures block { block.new ≡ rotated_twice block.old side n low m high }
+    ensures block { block.new ≡ twice_by block.old side n m (far side high) (node_at block.old (far side high)) low.parent low.rank }
     ensures room { length block.new ≡ length block.old }
     ensures steps { steps.new ≤ steps.old + 6 }
 {

@@ -3,13 +3,14 @@ ghost use Rattle.std.specs.Prelude.{◌≡◌, ℕ, ◌+◌, ◌*◌, ◌^◌, �
 ghost use Rattle.timer_tree.specs.Places.{first_on, first_off};
 ghost use Rattle.timer_queue.specs.Pairs.{put, without, first_of, has_id, IsQueue};
 ghost use Rattle.timer_tree.specs.Rotate.{ranked};
-ghost use Rattle.timer_tree.specs.Trees.{queue_at, IsStored};
+ghost use Rattle.timer_tree.specs.Trees.{queue_at};
+ghost use Rattle.timer_tree.specs.Contexts.{IsStored};
 
 use crate::add::{Place, find, insert};
 use crate::block::Block;
 use crate::erase::take_out;
 use crate::node::{NONE, Node, Side};
-use crate::repair::{settle, sink};
+use crate::repair::{repair, settle};
 use crate::steps::Steps;
 use std::alloc::{AllocError, Global};
 use std::marker::{Brand, Model};
@@ -64,7 +65,7 @@ impl TimerTree {
         drop_first(&mut self.first, node, id);
         let broken = take_out(&mut self.block, &mut self.root, id, node, steps);
         forget(&mut self.block, id, steps);
-        sink(&mut self.block, &mut self.root, broken, steps);
+        repair(&mut self.block, &mut self.root, false, broken, steps);
     }
 
     /// As `first`, counting the links that are read or written.

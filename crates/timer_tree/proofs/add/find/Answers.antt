@@ -1,47 +1,34 @@
-use Rattle.std.proofs.Common.{arith, ap, subst, sym, ◌∙◌, refl, nat_eq, ◌&&◌}
+use Rattle.std.proofs.Common.{ap, ◌∙◌, refl, nat_eq, ◌&&◌}
 use Rattle.timer_tree.specs.Nodes.{none, node_at}
-use Rattle.timer_tree.specs.Places.{IsFinding}
 use Rattle.timer_tree.proofs.Finds.{finding_down, finding_end, finding_start, finding_inside}
 use Rattle.timer_tree.specs.declared.node.Node.{Node}
 use Rattle.timer_tree.proofs.add.find.Goals as goal
 
 pub loop-at-init : goal.loop-at-init
 loop-at-init g c = record {
-  finding = λ ps searched. finding_start c.args.block.now c.args.root c.args.expires ps c.args.steps.now searched;
+  finding = λ ps tree. finding_start _ _ c.args.expires ps _ tree;
+  link = λ some. absurd (some refl);
   links = λ some. absurd (some refl);
 }
 
 pub read-node-requires : goal.read-node-requires
 read-node-requires g c =
-    let start = c.requires in
-    record {
-      inside = finding_inside c.args.block.now c.args.root c.loop-at.parent c.loop-at.at c.args.expires start.0 c.args.steps.now c.loop-at.steps
-          c.loop-at-test.true (c.loop-at.invariant.finding start.0 start.1);
-    }
+    record { inside = finding_inside _ _ _ _ _ _ _ _ c.loop-at-test.true (c.loop-at.invariant.finding c.requires.0 c.requires.1) }
 
 pub loop-at-preserved : goal.loop-at-preserved
 loop-at-preserved g c = record {
-  finding = λ ps searched.
-      let down = finding_down c.args.block.now c.args.root c.loop-at.parent c.loop-at.at c.args.expires ps c.args.steps.now c.loop-at.steps
-      c.read-node.new.steps c.read-node.result c.side_of.result
-      searched c.loop-at-test.true (c.loop-at.invariant.finding ps searched) c.read-node.ensures.node c.read-node.ensures.steps c.side_of.ensures in
-      subst (λ k. IsFinding c.args.block.now c.args.root c.loop-at.at k c.args.expires ps c.args.steps.now c.read-node.new.steps) (sym c.near-at.ensures)
-      down.0;
+  finding = λ ps tree. (finding_down _ _ _ _ _ _ ps _ _ _ _ _ c.loop-at-test.true (c.loop-at.invariant.finding ps tree)
+      c.read-node.ensures.node c.read-node.ensures.steps c.side_of.ensures c.near-at.ensures).0;
+  link = λ some. finding_inside _ _ _ _ _ _ _ _ c.loop-at-test.true (c.loop-at.invariant.finding c.requires.0 c.requires.1);
   links = λ some. (ap (λ (x : Node). x.left) c.read-node.ensures.node, ap (λ (x : Node). x.right) c.read-node.ensures.node);
 }
 
 pub loop-at-smaller : goal.loop-at-smaller
-loop-at-smaller g c =
-    let start = c.requires in
-    let down = finding_down c.args.block.now c.args.root c.loop-at.parent c.loop-at.at c.args.expires start.0 c.args.steps.now c.loop-at.steps
-    c.read-node.new.steps c.read-node.result c.side_of.result start.1 c.loop-at-test.true (c.loop-at.invariant.finding start.0 start.1)
-    c.read-node.ensures.node c.read-node.ensures.steps c.side_of.ensures in
-    omega (arith, down.1, ap (λ k. (node_at c.args.block.now k).rank) c.near-at.ensures, ap (λ (x : Node). x.rank) c.read-node.ensures.node)
+loop-at-smaller g c = (finding_down _ _ _ _ _ _ c.requires.0 _ _ _ _ _ c.loop-at-test.true
+    (c.loop-at.invariant.finding c.requires.0 c.requires.1) c.read-node.ensures.node c.read-node.ensures.steps c.side_of.ensures c.near-at.ensures).1
 
 pub returns-clause-place : goal.returns-clause-place
-returns-clause-place g c = λ ps searched.
-    finding_end c.args.block.now c.args.root c.loop-at.parent c.loop-at.at c.args.expires ps c.args.steps.now c.loop-at.steps searched c.loop-at-test.false
-    (c.loop-at.invariant.finding ps searched)
+returns-clause-place g c = λ ps tree. finding_end _ _ _ _ _ _ _ _ c.loop-at-test.false (c.loop-at.invariant.finding ps tree)
 
 pub returns-clause-leaf : goal.returns-clause-leaf
 returns-clause-leaf g c = λ some.

@@ -1,36 +1,34 @@
 use Rattle.std.proofs.Common.{arith, ap, ◌∙◌}
 use Rattle.timer_tree.specs.declared.node.Node.{Node}
-use Rattle.timer_tree.proofs.Taking.{lowering_start, lowering_step, lowering_end}
+use Rattle.timer_tree.proofs.Taking.{lowering_start, lowering_step}
 use Rattle.timer_tree.proofs.erase.leftmost.Goals as goal
 
 pub loop-node-init : goal.loop-node-init
 loop-node-init g c = record {
-  lowering = λ p t subtree. lowering_start c.args.block.now c.args.from p t c.read-node.result c.args.steps.now c.read-node.new.steps subtree
-      c.read-node.ensures.node c.read-node.ensures.steps;
+  lowering = λ root above ps below. lowering_start _ _ root _ _ _ above ps below c.read-node.ensures.node c.read-node.ensures.steps;
   links = c.read-node.ensures.links;
 }
 
 pub loop-node-preserved : goal.loop-node-preserved
-loop-node-preserved g c = record {
-  lowering = λ p t subtree. (lowering_step c.args.block.now t c.loop-node.n c.loop-node.node c.read-node-in-loop-node.result c.args.steps.now
-      c.loop-node.steps c.read-node-in-loop-node.new.steps subtree.small (c.loop-node.invariant.lowering p t subtree) c.loop-node-test.true
-      c.read-node-in-loop-node.ensures.node c.read-node-in-loop-node.ensures.steps).0;
-  links = c.read-node-in-loop-node.ensures.links;
-}
+loop-node-preserved g c =
+    let read = c.read-node-in-loop-node in
+    record {
+      lowering = λ root above ps below. (lowering_step _ root _ _ _ _ _ _ above ps (c.loop-node.invariant.lowering root above ps below) c.loop-node-test.true
+          read.ensures.node read.ensures.steps).0;
+      links = read.ensures.links;
+    }
 
 pub loop-node-smaller : goal.loop-node-smaller
 loop-node-smaller g c =
-    let start = c.requires in
-    (lowering_step c.args.block.now start.1 c.loop-node.n c.loop-node.node c.read-node-in-loop-node.result c.args.steps.now c.loop-node.steps
-    c.read-node-in-loop-node.new.steps start.2.small (c.loop-node.invariant.lowering start.0 start.1 start.2) c.loop-node-test.true
-    c.read-node-in-loop-node.ensures.node c.read-node-in-loop-node.ensures.steps).1
-
-pub returns-clause-lowest : goal.returns-clause-lowest
-returns-clause-lowest g c = λ p t subtree. lowering_end c.args.block.now t c.loop-node.n c.loop-node.node c.args.steps.now c.loop-node.steps subtree.small
-    (c.loop-node.invariant.lowering p t subtree) c.loop-node-test.false
+    let read = c.read-node-in-loop-node in
+    (lowering_step _ c.requires.0 _ _ _ _ _ _ c.requires.1 c.requires.2 (c.loop-node.invariant.lowering c.requires.0 c.requires.1 c.requires.2 c.requires.3)
+    c.loop-node-test.true read.ensures.node read.ensures.steps).1
 
 pub returns-clause-high : goal.returns-clause-high
 returns-clause-high g c =
-    let start = c.requires in
-    let so_far = c.loop-node.invariant.lowering start.0 start.1 start.2 in
-    omega (arith, ap (λ (x : Node). x.rank) (so_far.node_is ∙ so_far.at.0.is), so_far.balanced.0.below_a)
+    let so_far = c.loop-node.invariant.lowering c.requires.0 c.requires.1 c.requires.2 c.requires.3 in
+    omega (arith, ap (λ (x : Node). x.rank) (so_far.node_is ∙ so_far.cut.under.0.is), so_far.cut.balanced.0.below_a)
+
+pub returns-clause-inside : goal.returns-clause-inside
+returns-clause-inside g c =
+    (c.loop-node.invariant.lowering c.requires.0 c.requires.1 c.requires.2 c.requires.3).cut.under.0.inside
