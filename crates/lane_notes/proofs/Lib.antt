@@ -1,15 +1,11 @@
 pub mod Receipts
 pub mod Orders
 pub mod Shelves
-pub mod InTurn
-pub mod Again
 pub mod Standing
 pub mod Rising
 pub mod UnderLines
 pub mod Lists
 pub mod ArmsAgain
-pub mod Telling
 pub mod PosixAgain
 pub mod FdAgain
-pub mod ObjectsAgain
 pub mod WholeRecord

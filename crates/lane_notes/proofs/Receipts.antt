@@ -8,7 +8,9 @@ use Rattle.record_text.specs.declared.record.Label.{Label}
 use Rattle.lane_notes.specs.Notes.{NotesOf}
 use Rattle.lane_notes.specs.Entries.{entry_note, look_note, with_receipts}
 use Rattle.lane_notes.specs.Objects.{object_note, skip_note, with_object_receipts}
-use Rattle.lane_notes.proofs.Telling.{alike}
+
+pub alike : {A B X : Type 0} (f : A → B → X) {a c : A} {b d : B} → a ≡ c → b ≡ d → f a b ≡ f c d
+alike f {a = a} {d = d} first second = ap (f a) second ∙ ap (λ x. f x d) first
 
 pub present-append : {A : Type 0} (xs ys : List (Option A)) → present (xs ++ ys) ≡ present xs ++ present ys
 present-append [] ys = refl

@@ -6,4 +6,3 @@ pub mod FdNotes
 pub mod Objects
 pub mod Sorted
 pub mod Records
-pub mod Shown
