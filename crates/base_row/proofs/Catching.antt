@@ -7,7 +7,7 @@ use Rattle.base_row.specs.declared.view.HeldContent.{HeldContent}
 use Rattle.base_row.specs.declared.view.Opening.{Opening}
 use Rattle.seq_timer.specs.Systems.{BaseContent}
 use Rattle.base_row.specs.Rules.{number_of, takes_at}
-use Rattle.base_row.specs.Plays.{SameElsewhere, SeatState, Met, FoundTaken, GotBase, Lost, carried_slots}
+use Rattle.base_row.specs.Plays.{SameElsewhere, SeatState, Met, GotBase, Lost, carried_slots}
 
 module _ (o : Opening) (b : ℕ) (me mid : SeatState) (found : ℕ) (met : Met o.bases o.timers number_of b me found mid) where
   mid_met : mid.0.met ≡ set me.0.met b found
@@ -75,16 +75,3 @@ module _ (o : Opening) (b : ℕ) (me mid : SeatState) (found : ℕ) (met : Met o
       → MatchOption r (Lost o b me new) (λ h. GotBase o b me new h)
   told_after new None lost = lost_after new lost
   told_after new (Some h) caught = caught_after new h caught
-
--- a miss from the word that was met last
-pub lost_miss : (o : Opening) (b found : ℕ) (me new : SeatState)
-    → FoundTaken o.bases o.timers number_of b (slice_index me.0.met b) me found new → Lost o b me new
-lost_miss o b found me new miss = record {
-  rest = miss.met.rest ∙ (λ i. (record me.0 { seen = new.0.seen; heard = []; met = ap (λ (m : SeatState). m.0.met) (sym miss.met.rest) i }, me.1));
-  missed = inl (miss.missed.0, miss.missed.1, miss.missed.2, omega (arith, miss.missed.3, miss.met.is));
-  newer = omega (arith, miss.met.newer, miss.met.is);
-  apart = λ c n. ap (λ (m : SeatState). slice_index m.0.met c) miss.met.rest ∙ get_or-set_other me.0.met b c found 0 n;
-  seen = miss.met.seen;
-  steady = miss.met.steady;
-  knows = miss.met.knows;
-}

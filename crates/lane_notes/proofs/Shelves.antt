@@ -1,51 +1,9 @@
 -- Notes put into lists, one more note at a time.
 use mathlib.Core.Bool.{cond}
-use Rattle.std.proofs.Common.{
-  ◌≡◌,
-  ℕ,
-  ◌+◌,
-  ◌<◌,
-  ◌≤◌,
-  zero,
-  suc,
-  Bool,
-  true,
-  false,
-  nat_eq,
-  List,
-  [],
-  ◌∷◌,
-  ◌++◌,
-  length,
-  filter,
-  map,
-  get_or,
-  replicate,
-  take,
-  add-one,
-  arith,
-  refl,
-  sym,
-  ap,
-  ◌∙◌,
-  subst,
-}
+use Rattle.std.proofs.Common.{◌≡◌, ℕ, ◌+◌, ◌<◌, ◌≤◌, zero, suc, Bool, true, false, nat_eq, List, [], ◌∷◌, ◌++◌, length, filter, get_or, replicate, take, add-one, arith, refl, sym, ap, ◌∙◌, subst}
 use Rattle.std.proofs.Math.Logic.{⊎_elim}
 use Rattle.std.proofs.lemmas.List as lists
-use Rattle.std.proofs.lemmas.List.{
-  append-nil,
-  get_or-set_other,
-  get_or-set_same,
-  get_or_append_left,
-  get_or_past,
-  get_or_push,
-  length-set,
-  length-take-le,
-  length_push,
-  map_more,
-  same_lists,
-  take_more,
-}
+use Rattle.std.proofs.lemmas.List.{append-nil, get_or-set_other, get_or-set_same, get_or_append_left, get_or_past, get_or_push, length-set, length-take-le, length_push, same_lists, take_more}
 use Rattle.std.proofs.lemmas.List.Elements.{filter-append}
 use Rattle.std.proofs.lemmas.Bool.{cases_lt, eqb-false, eqb-true}
 use Rattle.lane_notes.specs.Sorted.{Place, is_of_number}
@@ -122,11 +80,6 @@ pub filing-step : {X : Type 0} (number : X → ℕ) (n : ℕ) (xs : List X) (i :
 filing-step number n xs i x now new less is so_far step =
     step ∙ ap (put_in_list (number x) x) so_far ∙ each_below-put number n (take i xs) x
     ∙ ap (λ ys. each_below (λ j. filter (λ y. nat_eq (number y) j) ys) n) (ap (λ y. take i xs ++ y ∷ []) is ∙ sym (take_more xs i x less))
-
-pub map-step : {X Y : Type 0} (f : X → Y) (xs : List X) (i : ℕ) (x : X) (now new : List Y) → i < length xs → x ≡ get_or xs i x → now ≡ map f (take i xs)
-    → new ≡ now ++ f x ∷ [] → new ≡ map f (take (i + 1) xs)
-map-step f xs i x now new less is so_far step =
-    step ∙ ap (λ ys. ys ++ f x ∷ []) so_far ∙ ap (λ y. map f (take i xs) ++ f y ∷ []) is ∙ sym (map_more f xs i x less)
 
 -- ---- lines one behind the other
 

@@ -142,12 +142,6 @@ pub noted_look_stands : (t : ℕ) (entries : List EntryNote) (looks : List LookN
 noted_look_stands t entries looks k line note at =
     noted_stands place_of_look timer_line place_of_entry (λ x. x.looks) look_of (λ n us. refl) t entries looks k line at note
 
-pub noted_skip_stands : (i : ℕ) (entries : List ObjectNote) (skips : List SkipNote) (k : ℕ) (line : ObjectLine) (note : SkipNote)
-    → slice_get (noted_object_lines i entries skips) k ≡ Some line → HasPlace skips note → note.object ≡ i → note.number ≡ k + 1
-    → HasPlace line.skips (skip_of note)
-noted_skip_stands i entries skips k line note at =
-    noted_stands place_of_skip object_line place_of_object (λ x. x.skips) skip_of (λ n us. refl) i entries skips k line at note
-
 -- law: under each line of a timer the labels stand in order, where each one looked once at most after each entry
 pub looks_sorted : (t : ℕ) (entries : List EntryNote) (noted looks : List LookNote) → IsSortedOf place_of_look noted looks
     → ((n : ℕ) (label : Label) → AtMostOne (is_of_call place_of_look t n label) noted)

@@ -63,10 +63,6 @@ timer_line note looks = record { label = note.label; entry = note.entry; looks =
 abbrev pub object_line : ObjectNote → List SkipNote → ObjectLine
 object_line note skips = record { label = note.label; entry = note.entry; skips = map skip_of skips }
 
--- the line of an entry that is the timer's entry of this number, with the looks at that number
-abbrev pub line_of_entry_note : List LookNote → ℕ → EntryNote → TimerLine
-line_of_entry_note looks number note = line_at_number place_of_look timer_line looks number note
-
 -- the line of an entry that is the object's entry of this number, with the skips at that number
 abbrev pub line_of_object_note : List SkipNote → ℕ → ObjectNote → ObjectLine
 line_of_object_note skips number note = line_at_number place_of_skip object_line skips number note

@@ -69,18 +69,6 @@ makes_none t v = record {
   elsewhere = λ i m apart. refl;
 }
 
-pub makes_more : (t a b : ℕ) (u v w : KnownOfTimers) → MakesEntries t a u v → MakesEntries t b v w → MakesEntries t (a + b) u w
-makes_more t a b u v w m n = record {
-  keeps = record {
-    id = n.keeps.id ∙ m.keeps.id;
-    claims = n.keeps.claims ∙ m.keeps.claims;
-    seen = begins_trans m.keeps.seen n.keeps.seen;
-    mine = begins_trans m.keeps.mine n.keeps.mine;
-  };
-  mine = omega (arith, m.mine, n.mine);
-  elsewhere = λ i k apart. n.elsewhere i k apart ∙ m.elsewhere i k apart;
-}
-
 -- ---- starts
 
 abbrev along : Timer → ℕ → ℕ → ClockReading → Bool → List seq.Entry
