@@ -46,11 +46,7 @@ relinks xs root old rank f c t ps ev new cut remade link =
     let under = IsAt-kept (parent_of c) remade.u link.kept (λ k. omega (arith, sum k, once k, ap (λ qs. times k qs) done.same)) done.at in
     let pairs_are : pairs (plug c remade.u) ≡ ps =
     pairs-plug c remade.u ∙ ap (λ qs. before c ++ (qs ++ after c)) done.same ∙ sym (pairs-plug c (filled f t)) ∙ cut.pairs_are in
-    let up : Cut new.0 new.1 c remade.u f.h ps = search arith in
-    record {
-      cut = up;
-      kept = kept;
-    }
+    let up : Cut new.0 new.1 c remade.u f.h ps = search arith in record { cut = up; kept = kept }
 
 climbs_on : (rising : Bool) (xs : List Node) (k : ℕ) (f : Frame) (c : List Frame) (u : Tree) (ps : List (ℕ × ℕ)) (r : Unbalanced) (new : List Node × ℕ) →
     Relinked xs c u f.h ps new → k ≡ top u → Way rising f.h u → (node_at xs r.at).rank ≡ f.h →
