@@ -15,7 +15,7 @@ use Rattle.timer_tree.proofs.Trees.{with_child-with_links, times-append, one_sam
 use Rattle.timer_tree.proofs.Trees.{pairs-plug, cut_times}
 use Rattle.timer_tree.proofs.Puts.{times-put}
 use Rattle.timer_tree.proofs.Counts.{cut_low}
-use Rattle.timer_tree.proofs.Stores.{Gives, times-absent, fit_of, queue_again, queue_at-is}
+use Rattle.timer_tree.proofs.Stores.{Gives, times-absent, fit_of}
 use Rattle.timer_tree.specs.declared.node.Node.{Node}
 use Rattle.timer_tree.specs.declared.node.Side.{Side}
 use Rattle.timer_tree.specs.declared.node.Side.TheVariants as sides
@@ -168,17 +168,15 @@ module _ (xs : List Node) (root first parent expires id : ℕ) (ps : List (ℕ �
       let repaired = repairs (put expires id ps) can.0 can.1 in
       let kept = Keeps-then can.3 repaired.kept in
       let whole : ps ≡ before c ++ after c = sym found.cut.pairs_are ∙ pairs-plug c Leaf in
-      let done : IsStored zs new_root new_first (put expires id ps) = record {
-        is_tree = repaired.tree;
-        first_is = first_is ∙ first_placed new.2 parent c first id expires found.parent_is inserted_new.side_is
-            (λ k. subst (λ qs. times k qs ≤ 1) whole (found.cut.fit.once k)) (stored.first_is ∙ ap first_id whole) ∙ sym (ap first_id (found.puts id));
-        free = λ k gone. ap (λ (x : Node). x.rank) (kept.rest k (omega (arith, gone)))
-            ∙ stored.free k (omega (arith, times-put k expires id ps, gone));
-        queue = repaired.tree.whole.fit.queue;
-      } in
       record {
-        stored = queue_again zs new_root new_first (put expires id ps) done;
-        pairs = queue_at-is zs new_root (put expires id ps) done.is_tree;
+        stored = record {
+          is_tree = repaired.tree;
+          first_is = first_is ∙ first_placed new.2 parent c first id expires found.parent_is inserted_new.side_is
+              (λ k. subst (λ qs. times k qs ≤ 1) whole (found.cut.fit.once k)) (stored.first_is ∙ ap first_id whole) ∙ sym (ap first_id (found.puts id));
+          free = λ k gone. ap (λ (x : Node). x.rank) (kept.rest k (omega (arith, gone)))
+              ∙ stored.free k (omega (arith, times-put k expires id ps, gone));
+          queue = repaired.tree.whole.fit.queue;
+        };
         size = kept.size;
         count = λ d fits. omega (arith, found.count, few, can.2, repaired.count, cut_low xs root c Leaf ps found.cut d fits);
       }

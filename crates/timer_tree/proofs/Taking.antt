@@ -11,7 +11,7 @@ use Rattle.timer_tree.specs.Trees.{Tree, Leaf, Fork, top, tall, pairs, IsAt, IsB
 use Rattle.timer_tree.specs.Contexts.{Frame, plug, parent_of, root_of, IsAround, around, before, after, Fit, Cut}
 use Rattle.timer_tree.specs.Takes.{IsBelow, IsLowering, IsTaking, IsTaken}
 use Rattle.timer_tree.proofs.Trees.{times-append, times-fork, times-plug, one_same, Keeps-then, Keeps-for, Fit-size, set_keeps, set_stands, IsAt-kept}
-use Rattle.timer_tree.proofs.Trees.{IsAround-kept, rank_at, adopted_keeps, IsAt-adopted, both_adopted, relinked_linked, pairs-plug, plug-append, IsAt-cut}
+use Rattle.timer_tree.proofs.Trees.{IsAround-kept, rank_at, no_top, by_eq, adopted_keeps, IsAt-adopted, both_adopted, relinked_linked, pairs-plug, plug-append, IsAt-cut}
 use Rattle.timer_tree.proofs.Trees.{IsAt-join, Located, located, times-frames, root_of-frames, Fits-renamed, cut_down, cut_times}
 use Rattle.timer_tree.proofs.Puts.{without_at}
 use Rattle.timer_tree.proofs.Stores.{fit_of}
@@ -155,20 +155,29 @@ without_fit {xs = xs} {ps = ps} id size fit =
     Fit-size size (fit_of xs (without id ps) fit.small (IsQueue-without (length xs) id ps fit.queue))
 
 -- a timer with at most one subtree below it
-one_part : (xs : List Node) (root id : ℕ) (node : Node) (ps : List (ℕ × ℕ)) (c : List Frame) (l : Tree) (e h : ℕ) (r u : Tree) (new : List Node × ℕ)
-    (old steps : ℕ) → Cut xs root c (Fork l id e h r) h ps → pairs l ++ pairs r ≡ pairs u → IsAt xs id u → IsBalanced u →
-    h ≡ tall u + 1 → (only_child node).root ≡ top u → node.parent ≡ parent_of c →
-    node.rank ≡ h → new ≡ spliced xs root (record { n = id; node = node }) → steps ≤ old + 2 →
+one_part : (xs : List Node) (root id : ℕ) (node : Node) (ps : List (ℕ × ℕ)) (u : Tree) (new : List Node × ℕ) (old steps : ℕ)
+    (place : Located xs root id ps) → node ≡ node_at xs id → pairs place.l ++ pairs place.r ≡ pairs u → IsAt xs id u → IsBalanced u →
+    place.h ≡ tall u + 1 → (only_child node).root ≡ top u → new ≡ spliced xs root (record { n = id; node = node }) → steps ≤ old + 2 →
     IsTaken xs id ps new.0 new.1 (record { at = node.parent; child = (only_child node).root; rank = (only_child node).rank }) old steps
-one_part xs root id node ps c l e h r u new old steps cut same_pairs at_u balanced_u rank part_is parent_is rank_stored is few =
+one_part xs root id node ps u new old steps place node_is same_pairs at_u balanced_u rank part_is is few =
+    let c = place.context in
+    let h = place.h in
+    let cut = place.cut in
+    let here = node_is ∙ cut.under.0.is in
+    let parent_is = ap (λ (x : Node). x.parent) here in
     let once = cut.fit.once in
-    let sum : (k : ℕ) → times k ps ≡ times k (pairs u) + one k id + times k (around c) = λ k.
-    omega (arith, cut_times cut k, times-fork k sides.Left l r id e h, ap (λ qs. times k qs) same_pairs, times-append k (pairs l) (pairs r)) in
+    let sum : (k : ℕ) → times k ps ≡ times k (pairs u) + one k id + times k (around c) = λ k. omega (
+      arith,
+      cut_times cut k,
+      times-fork k sides.Left place.l place.r id place.e h,
+      ap (λ qs. times k qs) same_pairs,
+      times-append k (pairs place.l) (pairs place.r),
+    ) in
     let done = subst (λ x. Put xs c u x) (sym is) (spliced_put xs root id node c u cut.fit.small (omega (arith, cut.under.0.inside, cut.fit.small))
     (λ k. omega (arith, once k, sum k)) cut.linked at_u cut.root_is part_is parent_is) in
     let fit = without_fit id done.kept.size cut.fit in
     let pairs_are : pairs (plug c u) ≡ without id ps =
-    pairs-plug c u ∙ ap (λ qs. before c ++ (qs ++ after c)) (sym same_pairs) ∙ without_part c l e id h r ps cut.pairs_are once in
+    pairs-plug c u ∙ ap (λ qs. before c ++ (qs ++ after c)) (sym same_pairs) ∙ without_part c place.l place.e id h place.r ps cut.pairs_are once in
     let put : Cut new.0 new.1 c u h (without id ps) = search arith in
     record {
       unbalanced = record {
@@ -177,42 +186,33 @@ one_part xs root id node ps c l e h r u new old steps cut same_pairs at_u balanc
         old_rank = h;
         cut = put;
         at_is = parent_is;
-        changed = λ some. (part_is, omega (arith, rank_stored, rank), (omega (arith, rank), omega (arith, rank)));
+        changed = λ some. (part_is, omega (arith, ap (λ (x : Node). x.rank) here, rank), (omega (arith, rank), omega (arith, rank)));
       };
       kept = Keeps-for (λ k gone. omega (arith, sum k, gone)) done.kept;
-      low = λ d less. omega (arith, cut_low xs root c (Fork l id e h r) ps cut d less);
+      low = λ d less. omega (arith, cut_low xs root c (Fork place.l id place.e h place.r) ps cut d less);
       count = omega (arith, few);
     }
-
-one_at : (xs : List Node) (root id : ℕ) (node : Node) (ps : List (ℕ × ℕ)) (c : List Frame) (l : Tree) (e h : ℕ) (r : Tree) (new : List Node × ℕ)
-    (old steps : ℕ) → Cut xs root c (Fork l id e h r) h ps →
-    node ≡ record { expires = e; left = top l; right = top r; parent = parent_of c; rank = h } → ((top l ≡ none) ⊎ (top r ≡ none)) →
-    new ≡ spliced xs root (record { n = id; node = node }) → steps ≤ old + 2 →
-    IsTaken xs id ps new.0 new.1 (record { at = node.parent; child = (only_child node).root; rank = (only_child node).rank }) old steps
-one_at xs root id node ps c Leaf e h r new old steps cut here part_free spliced_is few =
-    one_part xs root id node ps c Leaf e h r r new old steps cut refl cut.under.2 cut.balanced.2
-    (omega (arith, cut.balanced.0.below_b, cut.balanced.0.near_both)) (ap (λ (x : Node). (only_child x).root) here)
-    (ap (λ (x : Node). x.parent) here) (ap (λ (x : Node). x.rank) here) spliced_is few
-one_at xs root id node ps c (Fork a m f g b) e h Leaf new old steps cut here part_free spliced_is few =
-    let l = Fork a m f g b in
-    let some : nat_eq m none ≡ false = ne_eqb m none (λ same. omega (arith, same, cut.under.1.0.inside, cut.fit.small)) in
-    one_part xs root id node ps c l e h Leaf l new old steps cut (append-nil (pairs l)) cut.under.1 cut.balanced.1
-    (omega (arith, cut.balanced.0.below_a, cut.balanced.0.near_both)) (ap (λ (x : Node). (only_child x).root) here
-    ∙ ap (λ x. if x then none else m) some) (ap (λ (x : Node). x.parent) here) (ap (λ (x : Node). x.rank) here) spliced_is few
-one_at xs root id node ps c (Fork a m f g b) e h (Fork a' m' f' g' b') new old steps cut here part_free spliced_is few =
-    elim part_free [
-      | inl end ↦ let never : ⊥ = omega (arith, end, cut.under.1.0.inside, cut.fit.small) in absurd never
-      | inr end ↦ let never : ⊥ = omega (arith, end, cut.under.2.0.inside, cut.fit.small) in absurd never
-    ]
 
 pub taken_one : (xs : List Node) (root id : ℕ) (node : Node) (ps : List (ℕ × ℕ)) (new : List Node × ℕ) (old steps : ℕ) → IsTaking xs root id ps →
     node ≡ node_at xs id → ((node.left ≡ none) ⊎ (node.right ≡ none)) → new ≡ spliced xs root (record { n = id; node = node }) → steps ≤ old + 2 →
     IsTaken xs id ps new.0 new.1 (record { at = node.parent; child = (only_child node).root; rank = (only_child node).rank }) old steps
 taken_one xs root id node ps new old steps taking node_is part_free is few =
     let place = located xs root id ps taking.tree taking.present in
-    let here = node_is ∙ place.cut.under.0.is in
-    one_at xs root id node ps place.context place.l place.e place.h place.r new old steps place.cut here
-    (elim part_free [ inl end ↦ inl (sym (ap (λ (x : Node). x.left) here) ∙ end) | inr end ↦ inr (sym (ap (λ (x : Node). x.right) here) ∙ end) ]) is few
+    let cut = place.cut in
+    let rank = cut.balanced.0 in
+    let left = ap (λ (x : Node). x.left) (node_is ∙ cut.under.0.is) in
+    let right = ap (λ (x : Node). x.right) (node_is ∙ cut.under.0.is) in
+    elim part_free [
+      | inl end ↦
+          let leaf = no_top xs id place.l cut.fit.small cut.under.1 (sym left ∙ end) in
+          one_part xs root id node ps place.r new old steps place node_is (ap (λ t. pairs t ++ pairs place.r) leaf) cut.under.2 cut.balanced.2
+          (omega (arith, rank.below_b, rank.near_both, ap tall leaf)) (ap (λ b. if b then node.right else node.left) (eq-eqb node.left none end) ∙ right) is few
+      | inr end ↦
+          let leaf = no_top xs id place.r cut.fit.small cut.under.2 (sym right ∙ end) in
+          one_part xs root id node ps place.l new old steps place node_is (ap (λ t. pairs place.l ++ pairs t) leaf ∙ append-nil (pairs place.l))
+          cut.under.1 cut.balanced.1 (omega (arith, rank.below_a, rank.near_both, ap tall leaf))
+          (by_eq (λ b. (if b then node.right else node.left) ≡ top place.l) node.left none (λ gone. end ∙ sym gone ∙ left) (λ some. left)) is few
+    ]
 
 -- a timer with two parts: the first node of the right subtree takes its place
 heir_above : (d : List Frame) (f g : Frame) (c : List Frame) → times f.n (around d) ≡ 0 →
