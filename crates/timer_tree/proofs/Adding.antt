@@ -12,7 +12,7 @@ use Rattle.timer_tree.specs.Contexts.{Frame, parent_of, root_of, IsAround, aroun
 use Rattle.timer_tree.specs.Contexts.{IsRepaired, IsOver}
 use Rattle.timer_tree.specs.Places.{side_of, first_on, IsOnSide, IsPlace}
 use Rattle.timer_tree.proofs.Trees.{with_child-with_links, times-append, one_same, apart_one, once_with, Keeps-then, Keeps-for, Fit-size, set_keeps, set_stands, Stands-kept, IsAt-kept, IsAround-kept}
-use Rattle.timer_tree.proofs.Trees.{pairs-plug, cut_times}
+use Rattle.timer_tree.proofs.Trees.{pairs-plug, cut_times, cut_unbalanced}
 use Rattle.timer_tree.proofs.Puts.{times-put}
 use Rattle.timer_tree.proofs.Counts.{cut_low}
 use Rattle.timer_tree.proofs.Stores.{Gives, times-absent, fit_of}
@@ -38,13 +38,8 @@ inserted_at : (xs : List Node) (root expires id : ℕ) (c : List Frame) → leng
 unfolding inserted
 inserted_at xs root expires id [] small inside once side linked root_is =
     let node : Node = record { expires = expires; left = none; right = none; parent = none; rank = 1 } in
-    record {
-      at = tt;
-      stands = set_stands xs id node inside;
-      root_is = refl;
-      side_is = refl;
-      kept = Keeps-for (λ k gone. omega (arith, gone)) (set_keeps xs id node);
-    }
+    let stands = set_stands xs id node inside in
+    record { at = tt; stands = stands; root_is = refl; side_is = refl; kept = Keeps-for (λ k gone. omega (arith, gone)) (set_keeps xs id node) }
 inserted_at xs root expires id (f ∷ c) small inside once side linked root_is =
     let node : Node = record { expires = expires; left = none; right = none; parent = f.n; rank = 1 } in
     let ys = slice_set xs id node in
@@ -143,14 +138,7 @@ module _ (xs : List Node) (root first parent expires id : ℕ) (ps : List (ℕ �
       let balanced : IsBalanced t = (search arith, tt, tt) in
       let pairs_are = pairs-plug c t ∙ sym (found.puts id) in
       let hung : Cut new.0 new.1 c t 0 (put expires id ps) = search arith in (
-        record {
-          context = c;
-          subtree = t;
-          old_rank = 0;
-          cut = hung;
-          at_is = found.parent_is;
-          changed = λ some. (refl, refl, (omega arith, omega arith, λ up more. let never : ⊥ = omega (arith, more) in absurd never));
-        },
+        cut_unbalanced _ hung found.parent_is refl refl (omega arith, omega arith, λ up more. let never : ⊥ = omega (arith, more) in absurd never),
         over_in xs root c leaf ps found.cut (subst (λ k. (k ≡ none → ⊥) → leaf ≡ is_leaf (node_at xs k)) found.parent_is known),
         refl,
         Keeps-for (λ k gone. omega (arith, gone, times-put k expires id ps, cut_times found.cut k)) done.kept,

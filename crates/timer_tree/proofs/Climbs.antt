@@ -60,19 +60,14 @@ climbs_on rising xs k f c u ps r new link top_is way stored = record {
 
 climbs_out : (rising : Bool) (xs : List Node) (c : List Frame) (u : Tree) (ps : List (ℕ × ℕ)) (r : Unbalanced) (new : List Node × ℕ) →
     Relinked xs c u (tall u) ps new → Climbed rising xs r ps (suc (length c)) (new.0, new.1, ended)
-climbs_out rising xs c u ps r new link = record {
-  unbalanced = record {
-    context = [];
-    subtree = plug c u;
-    old_rank = tall (plug c u);
-    cut = cut_whole new.0 new.1 c u ps link.cut;
-    at_is = refl;
-    changed = λ some. absurd (some refl);
-  };
-  fewer = omega arith;
-  kept = link.kept;
-  rises = λ some. absurd (some refl);
-}
+climbs_out rising xs c u ps r new link =
+    let whole = cut_whole new.0 new.1 c u ps link.cut in
+    record {
+      unbalanced = record { context = []; subtree = plug c u; old_rank = tall (plug c u); cut = whole; at_is = refl; changed = λ some. absurd (some refl) };
+      fewer = omega arith;
+      kept = link.kept;
+      rises = λ some. absurd (some refl);
+    }
 
 -- a step at a node, by what it gives of each goal that its results have
 climbed_at : (rising : Bool) (xs : List Node) (root : ℕ) (f : Frame) (c : List Frame) (t : Tree) (old : ℕ) (ps : List (ℕ × ℕ)) (new : Repairing) →

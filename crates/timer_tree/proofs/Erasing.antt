@@ -99,14 +99,9 @@ pub taken_can : (xs : List Node) (id : ℕ) (ps : List (ℕ × ℕ)) (ys : List 
 taken_can xs id ps ys mid_root r old steps zs new taken is =
     let b = taken.unbalanced in
     let kept = subst (λ us. Keeps (λ k. one k id) ys us) (sym is) (set_keeps ys id (record (node_at ys id) { rank = 0 })) in
-    repairing_start new (record {
-      context = b.context;
-      subtree = b.subtree;
-      old_rank = b.old_rank;
-      cut = cut_kept id (gone_times id ps) kept b.cut;
-      at_is = b.at_is;
-      changed = b.changed;
-    })
+    let cut = cut_kept id (gone_times id ps) kept b.cut in
+    repairing_start new
+    (record { context = b.context; subtree = b.subtree; old_rank = b.old_rank; cut = cut; at_is = b.at_is; changed = b.changed })
 
 -- the queue after a timer was taken out
 pub erased : (xs : List Node) (root first id : ℕ) (node : Node) (ps : List (ℕ × ℕ)) (ys : List Node) (mid_root : ℕ) (r : Unbalanced)

@@ -12,7 +12,7 @@ use Rattle.timer_tree.specs.Contexts.{Frame, plug, parent_of, root_of, IsAround,
 use Rattle.timer_tree.specs.Takes.{IsBelow, IsLowering, IsTaking, IsTaken}
 use Rattle.timer_tree.proofs.Trees.{times-append, times-fork, times-plug, one_same, Keeps-then, Keeps-for, Fit-size, set_keeps, set_stands, IsAt-kept}
 use Rattle.timer_tree.proofs.Trees.{IsAround-kept, rank_at, no_top, by_eq, adopted_keeps, IsAt-adopted, both_adopted, relinked_linked, pairs-plug, plug-append, IsAt-cut}
-use Rattle.timer_tree.proofs.Trees.{IsAt-join, Located, located, times-frames, root_of-frames, Fits-renamed, cut_down, cut_times}
+use Rattle.timer_tree.proofs.Trees.{IsAt-join, Located, located, times-frames, root_of-frames, Fits-renamed, cut_down, cut_times, cut_unbalanced}
 use Rattle.timer_tree.proofs.Puts.{without_at}
 use Rattle.timer_tree.proofs.Stores.{fit_of}
 use Rattle.timer_queue.proofs.Pairs.{IsQueue-without}
@@ -27,17 +27,10 @@ lowering_at : (xs : List Node) (root n old steps : ℕ) (above : List Frame) (ps
     (top l ≡ none → ⊥) → Cut xs root (c ++ above) (Fork l n e h r) h ps → before c ≡ [] → steps ≡ old + length c + 1 →
     IsLowering xs root above ps (top l) (node_at xs (top l)) old (steps + 1)
 lowering_at xs root n old steps above ps c Leaf e h r some cut first count = absurd (some refl)
-lowering_at xs root n old steps above ps c (Fork a m f g b) e h r some cut first count = record {
-  context = record { side = sides.Left; n = n; e = e; h = h; other = r } ∷ c;
-  l = a;
-  e = f;
-  h = g;
-  r = b;
-  cut = cut_down sides.Left (Fork a m f g b) r n e h cut;
-  first = first;
-  node_is = refl;
-  count = omega (arith, count);
-}
+lowering_at xs root n old steps above ps c (Fork a m f g b) e h r some cut first count =
+    let passed : Frame = record { side = sides.Left; n = n; e = e; h = h; other = r } in
+    let down = cut_down sides.Left (Fork a m f g b) r n e h cut in
+    record { context = passed ∷ c; l = a; e = f; h = g; r = b; cut = down; first = first; node_is = refl; count = omega (arith, count) }
 
 pub lowering_step : (xs : List Node) (root n : ℕ) (node next : Node) (old steps new : ℕ) (above : List Frame) (ps : List (ℕ × ℕ)) →
     IsLowering xs root above ps n node old steps → (node.left ≡ none → ⊥) → next ≡ node_at xs node.left → new ≡ steps + 1 →
@@ -180,14 +173,7 @@ one_part xs root id node ps u new old steps place node_is same_pairs at_u balanc
     pairs-plug c u ∙ ap (λ qs. before c ++ (qs ++ after c)) (sym same_pairs) ∙ without_part c place.l place.e id h place.r ps cut.pairs_are once in
     let put : Cut new.0 new.1 c u h (without id ps) = search arith in
     record {
-      unbalanced = record {
-        context = c;
-        subtree = u;
-        old_rank = h;
-        cut = put;
-        at_is = parent_is;
-        changed = λ some. (part_is, omega (arith, ap (λ (x : Node). x.rank) here, rank), (omega (arith, rank), omega (arith, rank)));
-      };
+      unbalanced = cut_unbalanced _ put parent_is part_is (omega (arith, ap (λ (x : Node). x.rank) here, rank)) (omega (arith, rank), omega (arith, rank));
       kept = Keeps-for (λ k gone. omega (arith, sum k, gone)) done.kept;
       low = λ d less. omega (arith, cut_low xs root c (Fork place.l id place.e h place.r) ps cut d less);
       count = omega (arith, few);
@@ -269,19 +255,10 @@ two_at xs root id ps c l e h low mid new at old steps low_steps d Leaf e' h' res
     ∙ without_part c l e id h (plug d subtree) ps (sym (ap pairs (plug-append d (f ∷ c) subtree)) ∙ cut.pairs_are) once in
     let put : Cut new.0 new.1 (d ++ g ∷ c) rest h' (without id ps) = search arith in
     record {
-      unbalanced = record {
-        context = d ++ g ∷ c;
-        subtree = rest;
-        old_rank = h';
-        cut = put;
-        at_is = at_is ∙ ap (λ k. if nat_eq k id then y else k) (ap (λ (x : Node). x.parent) here) ∙ heir_above d f g c
-            (omega (arith, once id, sum id, one_same id));
-        changed = λ some. (
-          ap (λ (x : Node). (only_child x).root) here,
-          omega (arith, ap (λ (x : Node). x.rank) here, rank.near_both, rank.below_b),
-          (omega (arith, rank.below_b), omega (arith, rank.near_both, rank.below_b)),
-        );
-      };
+      unbalanced = cut_unbalanced _ put (at_is ∙ ap (λ k. if nat_eq k id then y else k) (ap (λ (x : Node). x.parent) here) ∙ heir_above d f g c
+          (omega (arith, once id, sum id, one_same id))) (ap (λ (x : Node). (only_child x).root) here)
+          (omega (arith, ap (λ (x : Node). x.rank) here, rank.near_both, rank.below_b))
+          (omega (arith, rank.below_b), omega (arith, rank.near_both, rank.below_b));
       kept = kept;
       low = λ digits small. omega (arith, cut_low xs root whole subtree ps cut digits small, size_c, size_g, rank.below_a);
       count = omega (arith, few, lows, size_g);

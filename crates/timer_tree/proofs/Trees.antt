@@ -8,8 +8,9 @@ use Rattle.timer_tree.specs.Nodes.{none, blank, child_side, node_at, with_links,
 use Rattle.timer_queue.specs.Pairs.{IsQueue}
 use Rattle.timer_tree.specs.Links.{adopted, with_child, replaced, relinked}
 use Rattle.timer_tree.specs.Trees.{Tree, Leaf, Fork, top, tall, pairs, Stands, IsAt, HasRank, IsBalanced, one, times, Keeps}
-use Rattle.timer_tree.specs.Contexts.{Frame, fork, filled, plug, parent_of, root_of, IsAround, around, before, after, Fits, Fit, Cut, IsTree}
+use Rattle.timer_tree.specs.Contexts.{Frame, fork, filled, plug, parent_of, root_of, IsAround, around, before, after, Fits, Fit, Cut, IsTree, Way, IsUnbalanced}
 use Rattle.timer_tree.specs.declared.node.Node.{Node}
+use Rattle.timer_tree.specs.declared.repair.Unbalanced.{Unbalanced}
 use Rattle.timer_tree.specs.declared.node.Side.{Side}
 use Rattle.timer_tree.specs.declared.node.Side.TheVariants as sides
 
@@ -256,6 +257,12 @@ cut_whole xs root (f ∷ c) t ps cut =
     let under = fork-IsAt xs (parent_of c) f.side t f.other f.n f.e f.h cut.linked.0 cut.under cut.linked.1 in
     let balanced = fork-IsBalanced f.side t f.other f.n f.e f.h (cut.fits.0, cut.balanced, cut.fits.1) in
     let up : Cut xs root c (filled f t) f.h ps = search arith in cut_whole xs root c (filled f t) ps up
+
+-- the ranks are wrong at most from the parent of this subtree upwards
+abbrev pub cut_unbalanced : {rising : Bool} {xs : List Node} {root h : ℕ} {c : List Frame} {t : Tree} {ps : List (ℕ × ℕ)} (r : Unbalanced) →
+    Cut xs root c t h ps → r.at ≡ parent_of c → r.child ≡ top t → r.rank ≡ tall t → Way rising h t → IsUnbalanced rising xs root r ps
+cut_unbalanced {h = h} {c = c} {t = t} r cut at_is child rank way =
+    record { context = c; subtree = t; old_rank = h; cut = cut; at_is = at_is; changed = λ some. (child, rank, way) }
 
 -- a node that stands in a tree, with what is above it
 pub record Located (xs : List Node) (root k : ℕ) (ps : List (ℕ × ℕ)) : Type 0 where
