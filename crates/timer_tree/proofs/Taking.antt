@@ -9,7 +9,7 @@ use Rattle.timer_tree.specs.Links.{adopted, relinked}
 use Rattle.timer_tree.specs.Moves.{only_child, spliced, substituted}
 use Rattle.timer_tree.specs.Trees.{Tree, Leaf, Fork, top, tall, pairs, IsAt, IsBalanced, one, times, Keeps}
 use Rattle.timer_tree.specs.Contexts.{Frame, plug, parent_of, root_of, IsAround, around, before, after, Fit, Cut}
-use Rattle.timer_tree.specs.Takes.{IsBelow, IsLowering, IsTaking, IsTaken}
+use Rattle.timer_tree.specs.Takes.{IsLowering, IsTaking, IsTaken}
 use Rattle.timer_tree.proofs.Trees.{times-append, times-fork, times-plug, one_same, Keeps-then, Keeps-for, Fit-size, set_keeps, set_stands, IsAt-kept}
 use Rattle.timer_tree.proofs.Trees.{IsAround-kept, rank_at, no_top, by_eq, adopted_keeps, IsAt-adopted, both_adopted, relinked_linked, pairs-plug, plug-append, IsAt-cut}
 use Rattle.timer_tree.proofs.Trees.{IsAt-join, Located, located, times-frames, root_of-frames, Fits-renamed, cut_down, cut_times, cut_unbalanced}
@@ -23,14 +23,11 @@ use Rattle.timer_tree.specs.declared.rotate.Numbered.{Numbered}
 
 -- ---- the way to the first node
 
-lowering_at : (xs : List Node) (root n old steps : ℕ) (above : List Frame) (ps : List (ℕ × ℕ)) (c : List Frame) (l : Tree) (e h : ℕ) (r : Tree) →
-    (top l ≡ none → ⊥) → Cut xs root (c ++ above) (Fork l n e h r) h ps → before c ≡ [] → steps ≡ old + length c + 1 →
-    IsLowering xs root above ps (top l) (node_at xs (top l)) old (steps + 1)
-lowering_at xs root n old steps above ps c Leaf e h r some cut first count = absurd (some refl)
-lowering_at xs root n old steps above ps c (Fork a m f g b) e h r some cut first count =
-    let passed : Frame = record { side = sides.Left; n = n; e = e; h = h; other = r } in
-    let down = cut_down sides.Left (Fork a m f g b) r n e h cut in
-    record { context = passed ∷ c; l = a; e = f; h = g; r = b; cut = down; first = first; node_is = refl; count = omega (arith, count) }
+lowering_at : (xs : List Node) (root old steps : ℕ) (above : List Frame) (ps : List (ℕ × ℕ)) (c : List Frame) (t : Tree) → (top t ≡ none → ⊥) →
+    Cut xs root (c ++ above) t (tall t) ps → before c ≡ [] → steps ≡ old + length c + 1 → IsLowering xs root above ps (top t) (node_at xs (top t)) old steps
+lowering_at xs root old steps above ps c Leaf some cut first count = absurd (some refl)
+lowering_at xs root old steps above ps c (Fork l n e h r) some cut first count =
+    record { context = c; l = l; e = e; h = h; r = r; cut = cut; first = first; node_is = refl; count = count }
 
 pub lowering_step : (xs : List Node) (root n : ℕ) (node next : Node) (old steps new : ℕ) (above : List Frame) (ps : List (ℕ × ℕ)) →
     IsLowering xs root above ps n node old steps → (node.left ≡ none → ⊥) → next ≡ node_at xs node.left → new ≡ steps + 1 →
@@ -38,30 +35,14 @@ pub lowering_step : (xs : List Node) (root n : ℕ) (node next : Node) (old step
 lowering_step xs root n node next old steps new above ps so_far some is one_more =
     let at = so_far.cut.under in
     let left = ap (λ (x : Node). x.left) (so_far.node_is ∙ at.0.is) in
-    let moved = subst (λ k. IsLowering xs root above ps k (node_at xs k) old (steps + 1)) (sym left) (lowering_at xs root n old steps above ps
-    so_far.context so_far.l so_far.e so_far.h so_far.r (λ same. some (left ∙ same)) so_far.cut so_far.first so_far.count) in (
-      subst (λ k. IsLowering xs root above ps node.left next old k) (sym one_more)
-          (subst (λ x. IsLowering xs root above ps node.left x old (steps + 1)) (sym is) moved),
-      omega (
-        arith,
-        ap (λ k. (node_at xs k).rank) left,
-        rank_at xs n so_far.l so_far.cut.fit.small at.1,
-        ap (λ (x : Node). x.rank) at.0.is,
-        so_far.cut.balanced.0.below_a,
-      ),
+    let passed : Frame = record { side = sides.Left; n = n; e = so_far.e; h = so_far.h; other = so_far.r } in
+    let down = cut_down sides.Left so_far.l so_far.r n so_far.e so_far.h so_far.cut in
+    let moved = subst (λ k. IsLowering xs root above ps k (node_at xs k) old new) (sym left) (lowering_at xs root old new above ps
+    (passed ∷ so_far.context) so_far.l (λ same. some (left ∙ same)) down so_far.first (omega (arith, one_more, so_far.count))) in
+    let stored = rank_at xs n so_far.l so_far.cut.fit.small at.1 in (
+      subst (λ x. IsLowering xs root above ps node.left x old new) (sym is) moved,
+      omega (arith, ap (λ k. (node_at xs k).rank) left, stored, ap (λ (x : Node). x.rank) at.0.is, so_far.cut.balanced.0.below_a),
     )
-
-start_at : (xs : List Node) (root : ℕ) (node : Node) (old steps : ℕ) (above : List Frame) (ps : List (ℕ × ℕ)) (t : Tree) → (top t ≡ none → ⊥) →
-    Cut xs root above t (tall t) ps → node ≡ node_at xs (top t) → steps ≡ old + 1 → IsLowering xs root above ps (top t) node old steps
-start_at xs root node old steps above ps Leaf some cut is count = absurd (some refl)
-start_at xs root node old steps above ps (Fork l n e h r) some cut is count =
-    record { context = []; l = l; e = e; h = h; r = r; cut = cut; first = refl; node_is = is; count = omega (arith, count) }
-
-pub lowering_start : (xs : List Node) (from root : ℕ) (node : Node) (old steps : ℕ) (above : List Frame) (ps : List (ℕ × ℕ)) →
-    IsBelow xs root from above ps → node ≡ node_at xs from → steps ≡ old + 1 → IsLowering xs root above ps from node old steps
-lowering_start xs from root node old steps above ps below is count =
-    subst (λ k. IsLowering xs root above ps k node old steps) (sym below.from_is) (start_at xs root node old steps above ps below.subtree
-    (λ same. below.some (below.from_is ∙ same)) below.cut (is ∙ ap (λ k. node_at xs k) below.from_is) count)
 
 -- ---- a node with one subtree is taken out
 
@@ -275,16 +256,15 @@ pub taking_rank : (xs : List Node) (root id : ℕ) (ps : List (ℕ × ℕ)) → 
 taking_rank xs root id ps taking =
     let cut = (place_of xs root id ps taking).cut in omega (arith, ap (λ (x : Node). x.rank) cut.under.0.is, cut.balanced.0.below_a)
 
-pub right_part : (xs : List Node) (root id : ℕ) (node : Node) (ps : List (ℕ × ℕ)) (taking : IsTaking xs root id ps) → node ≡ node_at xs id →
-    (node.right ≡ none → ⊥) → IsBelow xs root node.right (above_right (place_of xs root id ps taking)) ps
-right_part xs root id node ps taking node_is some =
+pub right_part : (xs : List Node) (root id : ℕ) (node : Node) (ps : List (ℕ × ℕ)) (taking : IsTaking xs root id ps) (steps : ℕ) → node ≡ node_at xs id →
+    (node.right ≡ none → ⊥) →
+    IsLowering xs root (above_right (place_of xs root id ps taking)) ps node.right (node_at xs node.right) steps (steps + 1)
+right_part xs root id node ps taking steps node_is some =
     let place = place_of xs root id ps taking in
-    record {
-      subtree = place.r;
-      cut = cut_down sides.Right place.r place.l id place.e place.h place.cut;
-      from_is = ap (λ (x : Node). x.right) (node_is ∙ place.cut.under.0.is);
-      some = some;
-    }
+    let right = ap (λ (x : Node). x.right) (node_is ∙ place.cut.under.0.is) in
+    subst (λ k. IsLowering xs root (above_right place) ps k (node_at xs k) steps (steps + 1)) (sym right)
+    (lowering_at xs root steps (steps + 1) (above_right place) ps [] place.r (λ same. some (right ∙ same))
+    (cut_down sides.Right place.r place.l id place.e place.h place.cut) refl (omega arith))
 
 pub taken_two : (xs : List Node) (root id : ℕ) (ps : List (ℕ × ℕ)) (low : Numbered) (mid new : List Node × ℕ) (at old steps low_steps : ℕ) →
     (taking : IsTaking xs root id ps) → IsLowering xs root (above_right (place_of xs root id ps taking)) ps low.n low.node old low_steps →

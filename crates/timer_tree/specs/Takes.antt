@@ -7,13 +7,6 @@ use Rattle.timer_tree.specs.Contexts.{Frame, before, Cut, IsTree, IsUnbalanced}
 use Rattle.timer_tree.specs.declared.node.Node.{Node}
 use Rattle.timer_tree.specs.declared.repair.Unbalanced.{Unbalanced}
 
--- the tree is cut at a subtree with this number at its top, below the right side of a node
-pub record IsBelow (xs : List Node) (root from : ℕ) (above : List Frame) (ps : List (ℕ × ℕ)) : Type 0 where
-  pub subtree : Tree
-  pub cut : Cut xs root above subtree (tall subtree) ps
-  pub from_is : from ≡ top subtree
-  pub some : from ≡ none → ⊥
-
 -- on the way to the first node of a subtree, with one step for each node
 pub record IsLowering (xs : List Node) (root : ℕ) (above : List Frame) (ps : List (ℕ × ℕ)) (n : ℕ) (node : Node) (old_steps steps : ℕ) : Type 0 where
   pub context : List Frame
