@@ -11,7 +11,8 @@ use Rattle.timer_tree.specs.Trees.{Leaf, Fork, top, pairs, Stands, IsBalanced, o
 use Rattle.timer_tree.specs.Contexts.{Frame, parent_of, root_of, IsAround, around, before, after, Cut, IsStored, IsUnbalanced}
 use Rattle.timer_tree.specs.Contexts.{IsRepaired, IsOver}
 use Rattle.timer_tree.specs.Places.{side_of, first_on, IsOnSide, IsPlace}
-use Rattle.timer_tree.proofs.Trees.{with_child-with_links, times-append, one_same, apart_one, once_with, Keeps-then, Keeps-for, Fit-size, set_keeps, set_stands, Stands-kept, IsAt-kept, IsAround-kept}
+use Rattle.timer_tree.proofs.Trees.{with_child-with_links, times-append, one_same, apart_one, once_with, Keeps-then, Keeps-for, Fit-size}
+use Rattle.timer_tree.proofs.Trees.{set_keeps, set_stands, Stands-kept, IsAt-kept, IsAround-kept}
 use Rattle.timer_tree.proofs.Trees.{pairs-plug, cut_times, cut_unbalanced}
 use Rattle.timer_tree.proofs.Puts.{times-put}
 use Rattle.timer_tree.proofs.Counts.{cut_low}

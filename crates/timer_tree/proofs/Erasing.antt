@@ -9,7 +9,8 @@ use Rattle.timer_tree.specs.Trees.{Tree, Leaf, Fork, top, tall, pairs, IsAt, IsB
 use Rattle.timer_tree.specs.Contexts.{Frame, parent_of, before, after, IsStored, IsRepairing, IsRepaired, Cut}
 use Rattle.timer_tree.specs.Places.{first_off}
 use Rattle.timer_tree.specs.Takes.{IsTaking, IsTaken}
-use Rattle.timer_tree.proofs.Trees.{by_eq, times-append, one_same, apart_one, once_with, Keeps-then, Fit-size, set_keeps, set_stands, IsAt-kept, IsAround-kept, pairs-plug}
+use Rattle.timer_tree.proofs.Trees.{by_eq, times-append, one_same, apart_one, once_with, Keeps-then, Fit-size, set_keeps}
+use Rattle.timer_tree.proofs.Trees.{set_stands, IsAt-kept, IsAround-kept, pairs-plug}
 use Rattle.timer_tree.proofs.Trees.{tall-le, cut_times}
 use Rattle.timer_tree.proofs.Stores.{Gives, present_times}
 use Rattle.timer_tree.proofs.Climbs.{repairing_start}
@@ -76,8 +77,8 @@ erased_first xs root first id node ps new_first taking first_is node_is new_is =
     let low = low_first xs id r c cut.fit.small cut.under.2 cut.balanced.2 (omega (arith, cut.balanced.0.near_a, cut.balanced.0.below_b, flat)) both.0 in
     is ∙ ap (λ (x : Node). if nat_eq x.right none then x.parent else x.right) here
     ∙ sym (ap first_id rest ∙ ap (λ qs. first_id (qs ++ right)) (ap (λ qs. qs ++ pairs l) both.0 ∙ both.1) ∙ low))
-    (λ other is. is ∙ first_is ∙ ap first_id whole ∙ first_stays left right e id (λ same. other (first_is ∙ ap first_id whole ∙ same)) ∙ sym (ap first_id rest))
-    new_is
+    (λ other is. is ∙ first_is ∙ ap first_id whole ∙ first_stays left right e id (λ same. other (first_is ∙ ap first_id whole ∙ same))
+    ∙ sym (ap first_id rest)) new_is
 
 -- ---- the node that was taken out is written
 

@@ -1,5 +1,5 @@
 -- What taking a timer out makes of the tree.
-use Rattle.std.proofs.Common.{◌≡◌, ℕ, false, ◌+◌, ◌<◌, ◌≤◌, List, [], ◌∷◌, ◌++◌, length, nat_eq, if◌then◌else◌, arith, refl, ap, ◌∙◌, sym, subst}
+use Rattle.std.proofs.Common.{◌≡◌, ℕ, ◌+◌, ◌<◌, ◌≤◌, List, [], ◌∷◌, ◌++◌, length, nat_eq, if◌then◌else◌, arith, refl, ap, ◌∙◌, sym, subst}
 use Rattle.std.proofs.Common.{slice_set, append_assoc, append-nil, length-append, ◌⊎◌, inl, inr}
 use Rattle.std.proofs.lemmas.Bool.{eq-eqb, ne_eqb}
 use Rattle.std.proofs.lemmas.Bool.Decides.{nat_tests}
@@ -11,7 +11,8 @@ use Rattle.timer_tree.specs.Trees.{Tree, Leaf, Fork, top, tall, pairs, IsAt, IsB
 use Rattle.timer_tree.specs.Contexts.{Frame, plug, parent_of, root_of, IsAround, around, before, after, Fit, Cut}
 use Rattle.timer_tree.specs.Takes.{IsLowering, IsTaking, IsTaken}
 use Rattle.timer_tree.proofs.Trees.{times-append, times-fork, times-plug, one_same, Keeps-then, Keeps-for, Fit-size, set_keeps, set_stands, IsAt-kept}
-use Rattle.timer_tree.proofs.Trees.{IsAround-kept, rank_at, no_top, by_eq, adopted_keeps, IsAt-adopted, both_adopted, relinked_linked, pairs-plug, plug-append, IsAt-cut}
+use Rattle.timer_tree.proofs.Trees.{IsAround-kept, rank_at, no_top, by_eq, adopted_keeps, IsAt-adopted, both_adopted}
+use Rattle.timer_tree.proofs.Trees.{relinked_linked, pairs-plug, plug-append, IsAt-cut}
 use Rattle.timer_tree.proofs.Trees.{IsAt-join, Located, located, times-frames, root_of-frames, Fits-renamed, cut_down, cut_times, cut_unbalanced}
 use Rattle.timer_tree.proofs.Puts.{without_at}
 use Rattle.timer_tree.proofs.Stores.{fit_of}
@@ -173,7 +174,8 @@ taken_one xs root id node ps new old steps taking node_is part_free is few =
       | inl end ↦
           let leaf = no_top xs id place.l cut.fit.small cut.under.1 (sym left ∙ end) in
           one_part xs root id node ps place.r new old steps place node_is (ap (λ t. pairs t ++ pairs place.r) leaf) cut.under.2 cut.balanced.2
-          (omega (arith, rank.below_b, rank.near_both, ap tall leaf)) (ap (λ b. if b then node.right else node.left) (eq-eqb node.left none end) ∙ right) is few
+          (omega (arith, rank.below_b, rank.near_both, ap tall leaf))
+          (ap (λ b. if b then node.right else node.left) (eq-eqb node.left none end) ∙ right) is few
       | inr end ↦
           let leaf = no_top xs id place.r cut.fit.small cut.under.2 (sym right ∙ end) in
           one_part xs root id node ps place.l new old steps place node_is (ap (λ t. pairs place.l ++ pairs t) leaf ∙ append-nil (pairs place.l))

@@ -1,8 +1,8 @@
 -- How a timer is taken out of the tree.
 use Rattle.std.specs.Prelude.{ℕ, ◌+◌, ◌*◌, ◌^◌, ◌<◌, ◌≤◌, ◌≡◌, List, [], ◌++◌, length, false}
 use Rattle.timer_queue.specs.Pairs.{without}
-use Rattle.timer_tree.specs.Nodes.{none, node_at}
-use Rattle.timer_tree.specs.Trees.{Tree, Fork, top, tall, times, Keeps}
+use Rattle.timer_tree.specs.Nodes.{node_at}
+use Rattle.timer_tree.specs.Trees.{Tree, Fork, times, Keeps}
 use Rattle.timer_tree.specs.Contexts.{Frame, before, Cut, IsTree, IsUnbalanced}
 use Rattle.timer_tree.specs.declared.node.Node.{Node}
 use Rattle.timer_tree.specs.declared.repair.Unbalanced.{Unbalanced}

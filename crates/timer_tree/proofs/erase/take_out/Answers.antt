@@ -8,7 +8,8 @@ use Rattle.timer_tree.proofs.erase.take_out.Goals as goal
 pub leftmost-heir-requires : goal.leftmost-heir-requires
 leftmost-heir-requires g c =
     let taking = c.requires.taking.1 in
-    (c.args.root.now, above_right (place_of _ _ _ _ taking), c.requires.taking.0, right_part _ _ _ _ _ taking c.args.steps.now c.requires.node c.if-node-ne-NONE-2.true)
+    let below = right_part _ _ _ _ _ taking c.args.steps.now c.requires.node c.if-node-ne-NONE-2.true in
+    (c.args.root.now, above_right (place_of _ _ _ _ taking), c.requires.taking.0, below)
 
 pub returns-then-node-ne-NONE-2 : goal.returns-then-node-ne-NONE-2
 returns-then-node-ne-NONE-2 g c = λ ps taking.
