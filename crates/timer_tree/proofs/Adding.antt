@@ -11,9 +11,9 @@ use Rattle.timer_tree.specs.Trees.{Leaf, Fork, top, pairs, Stands, IsBalanced, o
 use Rattle.timer_tree.specs.Contexts.{Frame, parent_of, root_of, IsAround, around, before, after, Cut, IsStored, IsUnbalanced}
 use Rattle.timer_tree.specs.Contexts.{IsRepaired, IsOver}
 use Rattle.timer_tree.specs.Places.{side_of, first_on, IsOnSide, IsPlace}
-use Rattle.timer_tree.proofs.Trees.{with_child-with_links, times-append, one_same, apart_one, once_with, Keeps-then, Keeps-for, Fit-size}
-use Rattle.timer_tree.proofs.Trees.{set_keeps, set_stands, Stands-kept, IsAt-kept, IsAround-kept}
-use Rattle.timer_tree.proofs.Trees.{pairs-plug, cut_times, cut_unbalanced}
+use Rattle.timer_tree.proofs.Trees.{with_child-with_links, times-append, one_same, once_with, Keeps-then, Keeps-for, Fit-size}
+use Rattle.timer_tree.proofs.Trees.{set_keeps, set_stands, Stands-kept, IsAround-kept}
+use Rattle.timer_tree.proofs.Trees.{frame_written, pairs-plug, cut_times, cut_unbalanced}
 use Rattle.timer_tree.proofs.Puts.{times-put}
 use Rattle.timer_tree.proofs.Counts.{cut_low}
 use Rattle.timer_tree.proofs.Stores.{Gives, times-absent, fit_of}
@@ -44,8 +44,6 @@ inserted_at xs root expires id [] small inside once side linked root_is =
 inserted_at xs root expires id (f ∷ c) small inside once side linked root_is =
     let node : Node = record { expires = expires; left = none; right = none; parent = f.n; rank = 1 } in
     let ys = slice_set xs id node in
-    let sum : (k : ℕ) → times k (around (f ∷ c)) ≡ one k f.n + times k (pairs f.other) + times k (around c) = λ k.
-    omega (arith, times-append k (pairs f.other) (around c)) in
     let first = set_keeps xs id node in
     let kept = IsAround-kept none (f ∷ c) first (λ k. omega (arith, once k)) linked in
     let on : side_of expires (node_at ys f.n).expires ≡ f.side = ap (λ (x : Node). side_of expires x.expires) kept.0.is ∙ side in
@@ -54,19 +52,13 @@ inserted_at xs root expires id (f ∷ c) small inside once side linked root_is =
     let is : new ≡ with_links f.side f.e id (top f.other) (parent_of c) f.h = ap (λ s. with_child (node_at ys f.n) s id) on
     ∙ ap (λ x. with_child x f.side id) kept.0.is ∙ with_child-with_links f.side f.e none (top f.other) (parent_of c) f.h id in
     let some : nat_eq f.n none ≡ false = ne_eqb f.n none (λ same. omega (arith, same, linked.0.inside, small)) in
-    let second = set_keeps ys f.n new in
-    let stands = set_stands ys f.n new kept.0.inside in
+    let done = frame_written ys none id f c new (λ k. omega (arith, once k)) kept is in
     subst (λ b. Inserted xs (f ∷ c) expires id (if b then (ys, id, sides.Left) else (zs, root, side_of expires (node_at ys f.n).expires))) (sym some) (record {
-      at = (
-        record { inside = stands.inside; is = stands.is ∙ is },
-        IsAt-kept f.n f.other second (λ k. omega (arith, sum k, once k)) kept.1,
-        IsAround-kept f.n c second (λ k. omega (arith, sum k, once k)) kept.2,
-      );
-      stands = Stands-kept second (apart_one id f.n (λ same. omega (arith, one_same id, sum id, once id, ap (λ k. one id k) same)))
-          (set_stands xs id node inside);
+      at = done.0;
+      stands = Stands-kept done.1 (omega (arith, once id, one_same id)) (set_stands xs id node inside);
       root_is = root_is;
       side_is = on;
-      kept = Keeps-for (λ k gone. omega (arith, sum k, gone)) (Keeps-then first second);
+      kept = Keeps-for (λ k gone. omega (arith, gone)) (Keeps-then first done.1);
     })
 
 -- ---- the parent of the new timer
