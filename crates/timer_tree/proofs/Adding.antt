@@ -11,11 +11,12 @@ use Rattle.timer_tree.specs.Trees.{Leaf, Fork, top, pairs, Stands, IsBalanced, o
 use Rattle.timer_tree.specs.Contexts.{Frame, parent_of, root_of, IsAround, around, before, after, Cut, IsStored, IsUnbalanced}
 use Rattle.timer_tree.specs.Contexts.{IsRepaired, IsOver}
 use Rattle.timer_tree.specs.Places.{side_of, first_on, IsOnSide, IsPlace}
-use Rattle.timer_tree.proofs.Trees.{with_child-with_links, times-append, one_same, apart_one, once_with, Keeps-then, Keeps-for, Fit-size, set_keeps, set_stands, Stands-kept, IsAt-kept, IsAround-kept}
-use Rattle.timer_tree.proofs.Trees.{pairs-plug, cut_times}
+use Rattle.timer_tree.proofs.Trees.{with_child-with_links, times-append, one_same, once_with, Keeps-then, Keeps-for, Fit-size}
+use Rattle.timer_tree.proofs.Trees.{set_keeps, set_stands, Stands-kept, IsAround-kept}
+use Rattle.timer_tree.proofs.Trees.{frame_written, pairs-plug, cut_times, cut_unbalanced}
 use Rattle.timer_tree.proofs.Puts.{times-put}
 use Rattle.timer_tree.proofs.Counts.{cut_low}
-use Rattle.timer_tree.proofs.Stores.{Gives, times-absent, fit_of, queue_again, queue_at-is}
+use Rattle.timer_tree.proofs.Stores.{Gives, times-absent, fit_of}
 use Rattle.timer_tree.specs.declared.node.Node.{Node}
 use Rattle.timer_tree.specs.declared.node.Side.{Side}
 use Rattle.timer_tree.specs.declared.node.Side.TheVariants as sides
@@ -38,18 +39,11 @@ inserted_at : (xs : List Node) (root expires id : ℕ) (c : List Frame) → leng
 unfolding inserted
 inserted_at xs root expires id [] small inside once side linked root_is =
     let node : Node = record { expires = expires; left = none; right = none; parent = none; rank = 1 } in
-    record {
-      at = tt;
-      stands = set_stands xs id node inside;
-      root_is = refl;
-      side_is = refl;
-      kept = Keeps-for (λ k gone. omega (arith, gone)) (set_keeps xs id node);
-    }
+    let stands = set_stands xs id node inside in
+    record { at = tt; stands = stands; root_is = refl; side_is = refl; kept = Keeps-for (λ k gone. omega (arith, gone)) (set_keeps xs id node) }
 inserted_at xs root expires id (f ∷ c) small inside once side linked root_is =
     let node : Node = record { expires = expires; left = none; right = none; parent = f.n; rank = 1 } in
     let ys = slice_set xs id node in
-    let sum : (k : ℕ) → times k (around (f ∷ c)) ≡ one k f.n + times k (pairs f.other) + times k (around c) = λ k.
-    omega (arith, times-append k (pairs f.other) (around c)) in
     let first = set_keeps xs id node in
     let kept = IsAround-kept none (f ∷ c) first (λ k. omega (arith, once k)) linked in
     let on : side_of expires (node_at ys f.n).expires ≡ f.side = ap (λ (x : Node). side_of expires x.expires) kept.0.is ∙ side in
@@ -58,19 +52,13 @@ inserted_at xs root expires id (f ∷ c) small inside once side linked root_is =
     let is : new ≡ with_links f.side f.e id (top f.other) (parent_of c) f.h = ap (λ s. with_child (node_at ys f.n) s id) on
     ∙ ap (λ x. with_child x f.side id) kept.0.is ∙ with_child-with_links f.side f.e none (top f.other) (parent_of c) f.h id in
     let some : nat_eq f.n none ≡ false = ne_eqb f.n none (λ same. omega (arith, same, linked.0.inside, small)) in
-    let second = set_keeps ys f.n new in
-    let stands = set_stands ys f.n new kept.0.inside in
+    let done = frame_written ys none id f c new (λ k. omega (arith, once k)) kept is in
     subst (λ b. Inserted xs (f ∷ c) expires id (if b then (ys, id, sides.Left) else (zs, root, side_of expires (node_at ys f.n).expires))) (sym some) (record {
-      at = (
-        record { inside = stands.inside; is = stands.is ∙ is },
-        IsAt-kept f.n f.other second (λ k. omega (arith, sum k, once k)) kept.1,
-        IsAround-kept f.n c second (λ k. omega (arith, sum k, once k)) kept.2,
-      );
-      stands = Stands-kept second (apart_one id f.n (λ same. omega (arith, one_same id, sum id, once id, ap (λ k. one id k) same)))
-          (set_stands xs id node inside);
+      at = done.0;
+      stands = Stands-kept done.1 (omega (arith, once id, one_same id)) (set_stands xs id node inside);
       root_is = root_is;
       side_is = on;
-      kept = Keeps-for (λ k gone. omega (arith, sum k, gone)) (Keeps-then first second);
+      kept = Keeps-for (λ k gone. omega (arith, gone)) (Keeps-then first done.1);
     })
 
 -- ---- the parent of the new timer
@@ -143,14 +131,7 @@ module _ (xs : List Node) (root first parent expires id : ℕ) (ps : List (ℕ �
       let balanced : IsBalanced t = (search arith, tt, tt) in
       let pairs_are = pairs-plug c t ∙ sym (found.puts id) in
       let hung : Cut new.0 new.1 c t 0 (put expires id ps) = search arith in (
-        record {
-          context = c;
-          subtree = t;
-          old_rank = 0;
-          cut = hung;
-          at_is = found.parent_is;
-          changed = λ some. (refl, refl, (omega arith, omega arith, λ up more. let never : ⊥ = omega (arith, more) in absurd never));
-        },
+        cut_unbalanced _ hung found.parent_is refl refl (omega arith, omega arith, λ up more. let never : ⊥ = omega (arith, more) in absurd never),
         over_in xs root c leaf ps found.cut (subst (λ k. (k ≡ none → ⊥) → leaf ≡ is_leaf (node_at xs k)) found.parent_is known),
         refl,
         Keeps-for (λ k gone. omega (arith, gone, times-put k expires id ps, cut_times found.cut k)) done.kept,
@@ -168,17 +149,15 @@ module _ (xs : List Node) (root first parent expires id : ℕ) (ps : List (ℕ �
       let repaired = repairs (put expires id ps) can.0 can.1 in
       let kept = Keeps-then can.3 repaired.kept in
       let whole : ps ≡ before c ++ after c = sym found.cut.pairs_are ∙ pairs-plug c Leaf in
-      let done : IsStored zs new_root new_first (put expires id ps) = record {
-        is_tree = repaired.tree;
-        first_is = first_is ∙ first_placed new.2 parent c first id expires found.parent_is inserted_new.side_is
-            (λ k. subst (λ qs. times k qs ≤ 1) whole (found.cut.fit.once k)) (stored.first_is ∙ ap first_id whole) ∙ sym (ap first_id (found.puts id));
-        free = λ k gone. ap (λ (x : Node). x.rank) (kept.rest k (omega (arith, gone)))
-            ∙ stored.free k (omega (arith, times-put k expires id ps, gone));
-        queue = repaired.tree.whole.fit.queue;
-      } in
       record {
-        stored = queue_again zs new_root new_first (put expires id ps) done;
-        pairs = queue_at-is zs new_root (put expires id ps) done.is_tree;
+        stored = record {
+          is_tree = repaired.tree;
+          first_is = first_is ∙ first_placed new.2 parent c first id expires found.parent_is inserted_new.side_is
+              (λ k. subst (λ qs. times k qs ≤ 1) whole (found.cut.fit.once k)) (stored.first_is ∙ ap first_id whole) ∙ sym (ap first_id (found.puts id));
+          free = λ k gone. ap (λ (x : Node). x.rank) (kept.rest k (omega (arith, gone)))
+              ∙ stored.free k (omega (arith, times-put k expires id ps, gone));
+          queue = repaired.tree.whole.fit.queue;
+        };
         size = kept.size;
         count = λ d fits. omega (arith, found.count, few, can.2, repaired.count, cut_low xs root c Leaf ps found.cut d fits);
       }

@@ -46,11 +46,7 @@ relinks xs root old rank f c t ps ev new cut remade link =
     let under = IsAt-kept (parent_of c) remade.u link.kept (λ k. omega (arith, sum k, once k, ap (λ qs. times k qs) done.same)) done.at in
     let pairs_are : pairs (plug c remade.u) ≡ ps =
     pairs-plug c remade.u ∙ ap (λ qs. before c ++ (qs ++ after c)) done.same ∙ sym (pairs-plug c (filled f t)) ∙ cut.pairs_are in
-    let up : Cut new.0 new.1 c remade.u f.h ps = search arith in
-    record {
-      cut = up;
-      kept = kept;
-    }
+    let up : Cut new.0 new.1 c remade.u f.h ps = search arith in record { cut = up; kept = kept }
 
 climbs_on : (rising : Bool) (xs : List Node) (k : ℕ) (f : Frame) (c : List Frame) (u : Tree) (ps : List (ℕ × ℕ)) (r : Unbalanced) (new : List Node × ℕ) →
     Relinked xs c u f.h ps new → k ≡ top u → Way rising f.h u → (node_at xs r.at).rank ≡ f.h →
@@ -64,19 +60,14 @@ climbs_on rising xs k f c u ps r new link top_is way stored = record {
 
 climbs_out : (rising : Bool) (xs : List Node) (c : List Frame) (u : Tree) (ps : List (ℕ × ℕ)) (r : Unbalanced) (new : List Node × ℕ) →
     Relinked xs c u (tall u) ps new → Climbed rising xs r ps (suc (length c)) (new.0, new.1, ended)
-climbs_out rising xs c u ps r new link = record {
-  unbalanced = record {
-    context = [];
-    subtree = plug c u;
-    old_rank = tall (plug c u);
-    cut = cut_whole new.0 new.1 c u ps link.cut;
-    at_is = refl;
-    changed = λ some. absurd (some refl);
-  };
-  fewer = omega arith;
-  kept = link.kept;
-  rises = λ some. absurd (some refl);
-}
+climbs_out rising xs c u ps r new link =
+    let whole = cut_whole new.0 new.1 c u ps link.cut in
+    record {
+      unbalanced = record { context = []; subtree = plug c u; old_rank = tall (plug c u); cut = whole; at_is = refl; changed = λ some. absurd (some refl) };
+      fewer = omega arith;
+      kept = link.kept;
+      rises = λ some. absurd (some refl);
+    }
 
 -- a step at a node, by what it gives of each goal that its results have
 climbed_at : (rising : Bool) (xs : List Node) (root : ℕ) (f : Frame) (c : List Frame) (t : Tree) (old : ℕ) (ps : List (ℕ × ℕ)) (new : Repairing) →

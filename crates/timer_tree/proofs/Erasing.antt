@@ -9,9 +9,10 @@ use Rattle.timer_tree.specs.Trees.{Tree, Leaf, Fork, top, tall, pairs, IsAt, IsB
 use Rattle.timer_tree.specs.Contexts.{Frame, parent_of, before, after, IsStored, IsRepairing, IsRepaired, Cut}
 use Rattle.timer_tree.specs.Places.{first_off}
 use Rattle.timer_tree.specs.Takes.{IsTaking, IsTaken}
-use Rattle.timer_tree.proofs.Trees.{by_eq, times-append, one_same, apart_one, once_with, Keeps-then, Fit-size, set_keeps, set_stands, IsAt-kept, IsAround-kept, pairs-plug}
+use Rattle.timer_tree.proofs.Trees.{by_eq, times-append, one_same, apart_one, once_with, Keeps-then, Fit-size, set_keeps}
+use Rattle.timer_tree.proofs.Trees.{set_stands, IsAt-kept, IsAround-kept, pairs-plug}
 use Rattle.timer_tree.proofs.Trees.{tall-le, cut_times}
-use Rattle.timer_tree.proofs.Stores.{Gives, queue_again, queue_at-is, present_times}
+use Rattle.timer_tree.proofs.Stores.{Gives, present_times}
 use Rattle.timer_tree.proofs.Climbs.{repairing_start}
 use Rattle.timer_tree.proofs.Taking.{place_of, without_part, gone_times, other_times}
 use Rattle.timer_tree.specs.declared.node.Node.{Node}
@@ -76,8 +77,8 @@ erased_first xs root first id node ps new_first taking first_is node_is new_is =
     let low = low_first xs id r c cut.fit.small cut.under.2 cut.balanced.2 (omega (arith, cut.balanced.0.near_a, cut.balanced.0.below_b, flat)) both.0 in
     is ∙ ap (λ (x : Node). if nat_eq x.right none then x.parent else x.right) here
     ∙ sym (ap first_id rest ∙ ap (λ qs. first_id (qs ++ right)) (ap (λ qs. qs ++ pairs l) both.0 ∙ both.1) ∙ low))
-    (λ other is. is ∙ first_is ∙ ap first_id whole ∙ first_stays left right e id (λ same. other (first_is ∙ ap first_id whole ∙ same)) ∙ sym (ap first_id rest))
-    new_is
+    (λ other is. is ∙ first_is ∙ ap first_id whole ∙ first_stays left right e id (λ same. other (first_is ∙ ap first_id whole ∙ same))
+    ∙ sym (ap first_id rest)) new_is
 
 -- ---- the node that was taken out is written
 
@@ -99,14 +100,9 @@ pub taken_can : (xs : List Node) (id : ℕ) (ps : List (ℕ × ℕ)) (ys : List 
 taken_can xs id ps ys mid_root r old steps zs new taken is =
     let b = taken.unbalanced in
     let kept = subst (λ us. Keeps (λ k. one k id) ys us) (sym is) (set_keeps ys id (record (node_at ys id) { rank = 0 })) in
-    repairing_start new (record {
-      context = b.context;
-      subtree = b.subtree;
-      old_rank = b.old_rank;
-      cut = cut_kept id (gone_times id ps) kept b.cut;
-      at_is = b.at_is;
-      changed = b.changed;
-    })
+    let cut = cut_kept id (gone_times id ps) kept b.cut in
+    repairing_start new
+    (record { context = b.context; subtree = b.subtree; old_rank = b.old_rank; cut = cut; at_is = b.at_is; changed = b.changed })
 
 -- the queue after a timer was taken out
 pub erased : (xs : List Node) (root first id : ℕ) (node : Node) (ps : List (ℕ × ℕ)) (ys : List Node) (mid_root : ℕ) (r : Unbalanced)
@@ -123,21 +119,18 @@ erased xs root first id node ps ys mid_root r old read_steps taken_steps zs writ
     let set = set_keeps ys id unlinked in
     let kept = Keeps-then taken.kept (Keeps-then (subst (λ us. Keeps (λ k. one k id) ys us) (sym zs_is) set) repaired.kept) in
     let inside : id < length ys = omega (arith, taken.kept.size, (place_of xs root id ps taking).cut.under.0.inside) in
-    let free : (k : ℕ) → times k (without id ps) ≡ 0 → (node_at ws k).rank ≡ 0 = λ k gone. elim (cases_eq k id) [
-      | inl same ↦ ap (λ (x : Node). x.rank) (repaired.kept.rest k gone ∙ ap (λ us. node_at us k) zs_is ∙ ap (λ j. node_at (ranked ys id 0) j) same
-          ∙ (set_stands ys id unlinked inside).is)
-      | inr apart ↦ ap (λ (x : Node). x.rank) (kept.rest k (omega (arith, other_times k id ps apart, gone, apart_one k id apart)))
-          ∙ stored.free k (omega (arith, other_times k id ps apart, gone))
-    ] in
-    let done : IsStored ws new_root new_first (without id ps) = record {
-      is_tree = repaired.tree;
-      first_is = erased_first xs root first id node ps new_first taking stored.first_is node_is first_is;
-      free = free;
-      queue = repaired.tree.whole.fit.queue;
-    } in
     record {
-      stored = queue_again ws new_root new_first (without id ps) done;
-      pairs = queue_at-is ws new_root (without id ps) done.is_tree;
+      stored = record {
+        is_tree = repaired.tree;
+        first_is = erased_first xs root first id node ps new_first taking stored.first_is node_is first_is;
+        free = λ k gone. elim (cases_eq k id) [
+          | inl same ↦ ap (λ (x : Node). x.rank) (repaired.kept.rest k gone ∙ ap (λ us. node_at us k) zs_is ∙ ap (λ j. node_at (ranked ys id 0) j) same
+              ∙ (set_stands ys id unlinked inside).is)
+          | inr apart ↦ ap (λ (x : Node). x.rank) (kept.rest k (omega (arith, other_times k id ps apart, gone, apart_one k id apart)))
+              ∙ stored.free k (omega (arith, other_times k id ps apart, gone))
+        ];
+        queue = repaired.tree.whole.fit.queue;
+      };
       size = kept.size;
       count = λ d few. omega (arith, one_read, taken.count, one_write, repaired.count, taken.low d few);
     }

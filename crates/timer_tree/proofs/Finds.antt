@@ -22,7 +22,7 @@ Puts expires c t ps = (id : ℕ) → put expires id ps ≡ before c ++ (put expi
 puts_left : (expires : ℕ) (ps : List (ℕ × ℕ)) (c : List Frame) (l : Tree) (n e h : ℕ) (r : Tree) → expires < e → Puts expires c (Fork l n e h r) ps →
     Puts expires (record { side = sides.Left; n = n; e = e; h = h; other = r } ∷ c) l ps
 puts_left expires ps c l n e h r less puts id =
-    puts id ∙ ap (λ qs. before c ++ (qs ++ after c)) (put_left expires id (pairs l) (pairs r) (e, n) less) ∙ simp (append_assoc, append-nil) refl
+    puts id ∙ ap (λ qs. before c ++ (qs ++ after c)) (put_left expires id (pairs l) (pairs r) (e, n) less) ∙ simp append_assoc refl
 
 puts_right : (expires : ℕ) (ps : List (ℕ × ℕ)) (c : List Frame) (l : Tree) (n e h : ℕ) (r : Tree) → e ≤ expires → IsByExpiry ps →
     pairs (plug c (Fork l n e h r)) ≡ ps → Puts expires c (Fork l n e h r) ps →
@@ -35,7 +35,7 @@ puts_right expires ps c l n e h r more sorted pairs_are puts id =
     let earlier : AllByRecursion (λ p. p.0 ≤ expires) (pairs l) = AllByRecursion-follows (λ p. p.0 ≤ e) (λ p. p.0 ≤ expires)
     (λ p at_most. omega (arith, at_most, more)) (pairs l) (up_to (pairs l) (pairs r ++ after c) (e, n) behind) in
     puts id ∙ ap (λ qs. before c ++ (qs ++ after c)) (put_right expires id (pairs l) ((e, n) ∷ pairs r) earlier
-    ∙ ap (λ qs. pairs l ++ qs) (put_right expires id ((e, n) ∷ []) (pairs r) (more, tt))) ∙ simp (append_assoc, append-nil) refl
+    ∙ ap (λ qs. pairs l ++ qs) (put_right expires id ((e, n) ∷ []) (pairs r) (more, tt))) ∙ simp append_assoc refl
 
 -- what holds below a node that was read
 abbrev pub Down : List Node → ℕ → ℕ → ℕ → List (ℕ × ℕ) → ℕ → ℕ → ℕ → Type 0
@@ -49,18 +49,10 @@ down_at xs root expires ps old steps c (Fork l n e h r) some cut puts count =
     let node : Node = record { expires = e; left = top l; right = top r; parent = parent_of c; rank = h } in
     let at = cut.under in
     let stored = ap (λ (x : Node). x.rank) at.0.is in
-    let step : (s : Side) (t o : Tree) → Cut xs root (record { side = s; n = n; e = e; h = h; other = o } ∷ c) t (tall t) ps → side_of expires e ≡ s →
-    Puts expires (record { side = s; n = n; e = e; h = h; other = o } ∷ c) t ps → Down xs root n expires ps old (steps + 1) (top t) = λ s t o cut side puts. (
-      record {
-        context = record { side = s; n = n; e = e; h = h; other = o } ∷ c;
-        subtree = t;
-        cut = cut;
-        at_is = refl;
-        parent_is = refl;
-        side = side;
-        puts = puts;
-        count = omega (arith, count);
-      },
+    let step : (s : Side) (t o : Tree) → let f : Frame = record { side = s; n = n; e = e; h = h; other = o } in Cut xs root (f ∷ c) t (tall t) ps →
+    side_of expires e ≡ s → Puts expires (f ∷ c) t ps → Down xs root n expires ps old (steps + 1) (top t) = λ s t o cut side puts.
+    let f : Frame = record { side = s; n = n; e = e; h = h; other = o } in (
+      record { context = f ∷ c; subtree = t; cut = cut; at_is = refl; parent_is = refl; side = side; puts = puts; count = omega (arith, count) },
       omega (arith, rank_at xs n t cut.fit.small cut.under, cut.fits.0.below_a, stored),
     ) in
     subst (λ (x : Node). Down xs root n expires ps old (steps + 1) (near (side_of expires x.expires) x)) (sym at.0.is)
@@ -96,26 +88,13 @@ pub finding_end : (xs : List Node) (root parent at expires : ℕ) (ps : List (�
 finding_end xs root parent at expires ps old steps end so_far =
     let c = so_far.context in
     let leaf = no_top xs (parent_of c) so_far.subtree so_far.cut.fit.small so_far.cut.under (sym so_far.at_is ∙ end) in
-    record {
-      context = c;
-      cut = subst (λ t. Cut xs root c t (tall t) ps) leaf so_far.cut;
-      parent_is = so_far.parent_is;
-      side = so_far.side;
-      puts = subst (λ t. Puts expires c t ps) leaf so_far.puts;
-      count = so_far.count;
-    }
+    let cut = subst (λ t. Cut xs root c t (tall t) ps) leaf so_far.cut in
+    let puts = subst (λ t. Puts expires c t ps) leaf so_far.puts in
+    record { context = c; cut = cut; parent_is = so_far.parent_is; side = so_far.side; puts = puts; count = so_far.count }
 
 pub finding_start : (xs : List Node) (root expires : ℕ) (ps : List (ℕ × ℕ)) (steps : ℕ) → IsTree xs root ps →
     IsFinding xs root none root expires ps steps steps
 finding_start xs root expires ps steps tree =
     let whole = tree.whole in
-    record {
-      context = [];
-      subtree = tree.tree;
-      cut = whole;
-      at_is = whole.root_is;
-      parent_is = refl;
-      side = tt;
-      puts = λ id. ap (λ qs. put expires id qs) (sym whole.pairs_are) ∙ sym (append-nil (put expires id (pairs tree.tree)));
-      count = omega arith;
-    }
+    let puts : Puts expires [] tree.tree ps = λ id. ap (λ qs. put expires id qs) (sym whole.pairs_are) ∙ sym (append-nil (put expires id (pairs tree.tree))) in
+    record { context = []; subtree = tree.tree; cut = whole; at_is = whole.root_is; parent_is = refl; side = tt; puts = puts; count = omega arith }

@@ -33,6 +33,10 @@ pub record Remade (xs : List Node) (p : ℕ) (t : Tree) (h : ℕ) (new : List No
   pub root_is : new.1 ≡ top u
   pub rank_is : tall u ≡ h
 
+remade : {xs ys : List Node} {p : ℕ} {t : Tree} (u : Tree) → IsAt ys p u → Keeps (λ k. times k (pairs t)) xs ys → IsBalanced u → pairs u ≡ pairs t →
+    Remade xs p t (tall u) (ys, top u)
+remade u at kept balanced same = record { u = u; done = record { at = at; kept = kept; balanced = balanced; same = same }; root_is = refl; rank_is = refl }
+
 pub next_is : (h : ℕ) → h < none → next h ≡ h + 1
 unfolding next
 next_is h fits = mod-eq_of_lt (omega (arith, fits))
@@ -97,18 +101,11 @@ once_rotated xs s a b c n e h m f g p whole balanced_t balanced_c lean low near 
     let final_a = IsAt-kept m a all (λ k. omega (arith, sum k, once k)) inner.1 in
     let final_c = IsAt-kept n c all (λ k. omega (arith, sum k, once k)) outer.2 in
     let final_b = IsAt-kept n b sets (λ k. omega (arith, sum k, once k)) (IsAt-adopted xs m n b (λ k. omega (arith, sum k, once k)) inner.2) in
-    record {
-      u = fork s a m f h (fork s b n e i c);
-      done = record {
-        at = fork-IsAt ws p s a (fork s b n e i c) m f h high_stands final_a (fork-IsAt ws m s b c n e i low_stands final_b final_c);
-        kept = Keeps-for (λ k gone. omega (arith, sum k, gone)) all;
-        balanced = fork-IsBalanced s a (fork s b n e i c) m f h
-            (search arith, ranks.1, fork-IsBalanced s b c n e i (search arith, ranks.2, balanced_c));
-        same = pairs-once s a b c n e h m f g i;
-      };
-      root_is = refl;
-      rank_is = refl;
-    }
+    remade (fork s a m f h (fork s b n e i c))
+    (fork-IsAt ws p s a (fork s b n e i c) m f h high_stands final_a (fork-IsAt ws m s b c n e i low_stands final_b final_c))
+    (Keeps-for (λ k gone. omega (arith, sum k, gone)) all)
+    (fork-IsBalanced s a (fork s b n e i c) m f h (search arith, ranks.1, fork-IsBalanced s b c n e i (search arith, ranks.2, balanced_c)))
+    (pairs-once s a b c n e h m f g i)
 
 -- ---- a double rotation
 
@@ -155,19 +152,17 @@ twice_rotated xs s a b d c n e h m f g k i j p whole balanced_t balanced_c lean 
     let final_b = IsAt-kept m b sets (λ x. omega (arith, sum x, once x)) adopt.0 in
     let final_d = IsAt-kept n d sets (λ x. omega (arith, sum x, once x)) adopt.1 in
     let final_c = IsAt-kept n c all (λ x. omega (arith, sum x, once x)) outer.2 in
-    record {
-      u = fork s (fork s a m f j b) k i h (fork s d n e j c);
-      done = record {
-        at = fork-IsAt zs p s (fork s a m f j b) (fork s d n e j c) k i h stands_k (fork-IsAt zs k s a b m f j stands_m final_a final_b)
-            (fork-IsAt zs k s d c n e j stands_n final_d final_c);
-        kept = Keeps-for (λ x gone. omega (arith, sum x, gone)) all;
-        balanced = fork-IsBalanced s (fork s a m f j b) (fork s d n e j c) k i h
-            (search arith, fork-IsBalanced s a b m f j (search arith, ranks.1, ranks_k.1), fork-IsBalanced s d c n e j (search arith, ranks_k.2, balanced_c));
-        same = pairs-twice s a b d c n e h m f g k i j;
-      };
-      root_is = refl;
-      rank_is = refl;
-    }
+    let left = fork s a m f j b in
+    let right = fork s d n e j c in
+    remade (fork s left k i h right)
+    (fork-IsAt zs p s left right k i h stands_k (fork-IsAt zs k s a b m f j stands_m final_a final_b) (fork-IsAt zs k s d c n e j stands_n final_d final_c))
+    (Keeps-for (λ x gone. omega (arith, sum x, gone)) all)
+    (fork-IsBalanced s left right k i h (
+      search arith,
+      fork-IsBalanced s a b m f j (search arith, ranks.1, ranks_k.1),
+      fork-IsBalanced s d c n e j (search arith, ranks_k.2, balanced_c),
+    ))
+    (pairs-twice s a b d c n e h m f g k i j)
 
 -- ---- another rank at a node
 
@@ -216,17 +211,8 @@ both_ranked xs s a t c n e h m f g p i j whole ranks has balanced_c =
       at = fork-IsAt ys p s mid c n e h (Stands-kept below.kept (omega (arith, sum n, once n, one_same n)) outer.0) below.at
           (IsAt-kept n c below.kept (λ k. omega (arith, sum k, once k)) outer.2);
     }) (has, below.balanced, balanced_c) in
-    record {
-      u = fork s mid n e i c;
-      done = record {
-        at = last.at;
-        kept = Keeps-for (λ k gone. omega (arith, sum k, gone, ap (λ ps. times k ps) same)) (Keeps-then below.kept last.kept);
-        balanced = last.balanced;
-        same = last.same ∙ same;
-      };
-      root_is = refl;
-      rank_is = refl;
-    }
+    remade (fork s mid n e i c) last.at (Keeps-for (λ k gone. omega (arith, sum k, gone, ap (λ ps. times k ps) same)) (Keeps-then below.kept last.kept))
+    last.balanced (last.same ∙ same)
 
 -- ---- the choice of the rotation
 

@@ -1,5 +1,6 @@
 -- What a step of a repair makes of a node.
-use Rattle.std.proofs.Common.{◌≡◌, ℕ, Bool, true, false, ◌+◌, ◌-◌, ◌<◌, ◌≤◌, List, length, nat_eq, nat_lt, ◌||◌, ◌&&◌, if◌then◌else◌, arith, refl, ap, ◌∙◌, sym}
+use Rattle.std.proofs.Common.{◌≡◌, ℕ, Bool, true, false, ◌+◌, ◌-◌, ◌<◌, ◌≤◌, List, length, nat_eq, nat_lt, ◌||◌}
+use Rattle.std.proofs.Common.{◌&&◌, if◌then◌else◌, arith, refl, ap, ◌∙◌, sym}
 use Rattle.std.proofs.Common.{subst, max, inl, inr}
 use Rattle.std.proofs.lemmas.Bool.{cases_lt, cases_eq}
 use Rattle.timer_tree.specs.Nodes.{none, node_at, far, with_links, next, other_side, child_side, is_high_leaf}

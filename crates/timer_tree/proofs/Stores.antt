@@ -1,5 +1,6 @@
 -- What is known of the block of a queue.
-use Rattle.std.proofs.Common.{◌≡◌, ℕ, true, false, ◌+◌, ◌*◌, ◌^◌, ◌<◌, ◌≤◌, List, [], ◌∷◌, ◌++◌, Option, Some, None, not, length, map, nat_eq, if◌then◌else◌, arith, refl}
+use Rattle.std.proofs.Common.{◌≡◌, ℕ, true, false, ◌+◌, ◌*◌, ◌^◌, ◌<◌, ◌≤◌, List, [], ◌∷◌, ◌++◌, Option, Some}
+use Rattle.std.proofs.Common.{None, not, length, map, nat_eq, if◌then◌else◌, arith, refl}
 use Rattle.std.proofs.Common.{ap, ◌∙◌, sym, subst, zero, suc, inl, inr, replicate}
 use Rattle.std.specs.List.{AllByRecursion, IsDistinct}
 use Rattle.std.proofs.lemmas.Bool.{cases_eq, cases_lt, ne_eqb, false≢true}
@@ -61,8 +62,7 @@ queue_again xs root first ps stored = subst (λ qs. IsStored xs root first qs) (
 
 -- the queue after a call, and how many steps that took
 pub record Gives (ps qs : List (ℕ × ℕ)) (room : ℕ) (zs : List Node) (root first old_steps steps : ℕ) : Type 0 where
-  pub stored : IsStored zs root first (queue_at zs root)
-  pub pairs : queue_at zs root ≡ qs
+  pub stored : IsStored zs root first qs
   pub size : length zs ≡ room
   pub count : (d : ℕ) → length ps + 1 < 2 ^ d → steps ≤ old_steps + 32 * (d + 1)
 

@@ -1,5 +1,5 @@
 -- What taking a timer out makes of the tree.
-use Rattle.std.proofs.Common.{◌≡◌, ℕ, false, ◌+◌, ◌<◌, ◌≤◌, List, [], ◌∷◌, ◌++◌, length, nat_eq, if◌then◌else◌, arith, refl, ap, ◌∙◌, sym, subst}
+use Rattle.std.proofs.Common.{◌≡◌, ℕ, ◌+◌, ◌<◌, ◌≤◌, List, [], ◌∷◌, ◌++◌, length, nat_eq, if◌then◌else◌, arith, refl, ap, ◌∙◌, sym, subst}
 use Rattle.std.proofs.Common.{slice_set, append_assoc, append-nil, length-append, ◌⊎◌, inl, inr}
 use Rattle.std.proofs.lemmas.Bool.{eq-eqb, ne_eqb}
 use Rattle.std.proofs.lemmas.Bool.Decides.{nat_tests}
@@ -9,10 +9,11 @@ use Rattle.timer_tree.specs.Links.{adopted, relinked}
 use Rattle.timer_tree.specs.Moves.{only_child, spliced, substituted}
 use Rattle.timer_tree.specs.Trees.{Tree, Leaf, Fork, top, tall, pairs, IsAt, IsBalanced, one, times, Keeps}
 use Rattle.timer_tree.specs.Contexts.{Frame, plug, parent_of, root_of, IsAround, around, before, after, Fit, Cut}
-use Rattle.timer_tree.specs.Takes.{IsBelow, IsLowering, IsTaking, IsTaken}
+use Rattle.timer_tree.specs.Takes.{IsLowering, IsTaking, IsTaken}
 use Rattle.timer_tree.proofs.Trees.{times-append, times-fork, times-plug, one_same, Keeps-then, Keeps-for, Fit-size, set_keeps, set_stands, IsAt-kept}
-use Rattle.timer_tree.proofs.Trees.{IsAround-kept, rank_at, adopted_keeps, IsAt-adopted, both_adopted, relinked_linked, pairs-plug, plug-append, IsAt-cut}
-use Rattle.timer_tree.proofs.Trees.{IsAt-join, Located, located, times-frames, root_of-frames, Fits-renamed, cut_down, cut_times}
+use Rattle.timer_tree.proofs.Trees.{IsAround-kept, rank_at, no_top, by_eq, adopted_keeps, IsAt-adopted, both_adopted}
+use Rattle.timer_tree.proofs.Trees.{relinked_linked, pairs-plug, plug-append, IsAt-cut}
+use Rattle.timer_tree.proofs.Trees.{IsAt-join, Located, located, times-frames, root_of-frames, Fits-renamed, cut_down, cut_times, cut_unbalanced}
 use Rattle.timer_tree.proofs.Puts.{without_at}
 use Rattle.timer_tree.proofs.Stores.{fit_of}
 use Rattle.timer_queue.proofs.Pairs.{IsQueue-without}
@@ -23,21 +24,11 @@ use Rattle.timer_tree.specs.declared.rotate.Numbered.{Numbered}
 
 -- ---- the way to the first node
 
-lowering_at : (xs : List Node) (root n old steps : ℕ) (above : List Frame) (ps : List (ℕ × ℕ)) (c : List Frame) (l : Tree) (e h : ℕ) (r : Tree) →
-    (top l ≡ none → ⊥) → Cut xs root (c ++ above) (Fork l n e h r) h ps → before c ≡ [] → steps ≡ old + length c + 1 →
-    IsLowering xs root above ps (top l) (node_at xs (top l)) old (steps + 1)
-lowering_at xs root n old steps above ps c Leaf e h r some cut first count = absurd (some refl)
-lowering_at xs root n old steps above ps c (Fork a m f g b) e h r some cut first count = record {
-  context = record { side = sides.Left; n = n; e = e; h = h; other = r } ∷ c;
-  l = a;
-  e = f;
-  h = g;
-  r = b;
-  cut = cut_down sides.Left (Fork a m f g b) r n e h cut;
-  first = first;
-  node_is = refl;
-  count = omega (arith, count);
-}
+lowering_at : (xs : List Node) (root old steps : ℕ) (above : List Frame) (ps : List (ℕ × ℕ)) (c : List Frame) (t : Tree) → (top t ≡ none → ⊥) →
+    Cut xs root (c ++ above) t (tall t) ps → before c ≡ [] → steps ≡ old + length c + 1 → IsLowering xs root above ps (top t) (node_at xs (top t)) old steps
+lowering_at xs root old steps above ps c Leaf some cut first count = absurd (some refl)
+lowering_at xs root old steps above ps c (Fork l n e h r) some cut first count =
+    record { context = c; l = l; e = e; h = h; r = r; cut = cut; first = first; node_is = refl; count = count }
 
 pub lowering_step : (xs : List Node) (root n : ℕ) (node next : Node) (old steps new : ℕ) (above : List Frame) (ps : List (ℕ × ℕ)) →
     IsLowering xs root above ps n node old steps → (node.left ≡ none → ⊥) → next ≡ node_at xs node.left → new ≡ steps + 1 →
@@ -45,30 +36,14 @@ pub lowering_step : (xs : List Node) (root n : ℕ) (node next : Node) (old step
 lowering_step xs root n node next old steps new above ps so_far some is one_more =
     let at = so_far.cut.under in
     let left = ap (λ (x : Node). x.left) (so_far.node_is ∙ at.0.is) in
-    let moved = subst (λ k. IsLowering xs root above ps k (node_at xs k) old (steps + 1)) (sym left) (lowering_at xs root n old steps above ps
-    so_far.context so_far.l so_far.e so_far.h so_far.r (λ same. some (left ∙ same)) so_far.cut so_far.first so_far.count) in (
-      subst (λ k. IsLowering xs root above ps node.left next old k) (sym one_more)
-          (subst (λ x. IsLowering xs root above ps node.left x old (steps + 1)) (sym is) moved),
-      omega (
-        arith,
-        ap (λ k. (node_at xs k).rank) left,
-        rank_at xs n so_far.l so_far.cut.fit.small at.1,
-        ap (λ (x : Node). x.rank) at.0.is,
-        so_far.cut.balanced.0.below_a,
-      ),
+    let passed : Frame = record { side = sides.Left; n = n; e = so_far.e; h = so_far.h; other = so_far.r } in
+    let down = cut_down sides.Left so_far.l so_far.r n so_far.e so_far.h so_far.cut in
+    let moved = subst (λ k. IsLowering xs root above ps k (node_at xs k) old new) (sym left) (lowering_at xs root old new above ps
+    (passed ∷ so_far.context) so_far.l (λ same. some (left ∙ same)) down so_far.first (omega (arith, one_more, so_far.count))) in
+    let stored = rank_at xs n so_far.l so_far.cut.fit.small at.1 in (
+      subst (λ x. IsLowering xs root above ps node.left x old new) (sym is) moved,
+      omega (arith, ap (λ k. (node_at xs k).rank) left, stored, ap (λ (x : Node). x.rank) at.0.is, so_far.cut.balanced.0.below_a),
     )
-
-start_at : (xs : List Node) (root : ℕ) (node : Node) (old steps : ℕ) (above : List Frame) (ps : List (ℕ × ℕ)) (t : Tree) → (top t ≡ none → ⊥) →
-    Cut xs root above t (tall t) ps → node ≡ node_at xs (top t) → steps ≡ old + 1 → IsLowering xs root above ps (top t) node old steps
-start_at xs root node old steps above ps Leaf some cut is count = absurd (some refl)
-start_at xs root node old steps above ps (Fork l n e h r) some cut is count =
-    record { context = []; l = l; e = e; h = h; r = r; cut = cut; first = refl; node_is = is; count = omega (arith, count) }
-
-pub lowering_start : (xs : List Node) (from root : ℕ) (node : Node) (old steps : ℕ) (above : List Frame) (ps : List (ℕ × ℕ)) →
-    IsBelow xs root from above ps → node ≡ node_at xs from → steps ≡ old + 1 → IsLowering xs root above ps from node old steps
-lowering_start xs from root node old steps above ps below is count =
-    subst (λ k. IsLowering xs root above ps k node old steps) (sym below.from_is) (start_at xs root node old steps above ps below.subtree
-    (λ same. below.some (below.from_is ∙ same)) below.cut (is ∙ ap (λ k. node_at xs k) below.from_is) count)
 
 -- ---- a node with one subtree is taken out
 
@@ -155,64 +130,58 @@ without_fit {xs = xs} {ps = ps} id size fit =
     Fit-size size (fit_of xs (without id ps) fit.small (IsQueue-without (length xs) id ps fit.queue))
 
 -- a timer with at most one subtree below it
-one_part : (xs : List Node) (root id : ℕ) (node : Node) (ps : List (ℕ × ℕ)) (c : List Frame) (l : Tree) (e h : ℕ) (r u : Tree) (new : List Node × ℕ)
-    (old steps : ℕ) → Cut xs root c (Fork l id e h r) h ps → pairs l ++ pairs r ≡ pairs u → IsAt xs id u → IsBalanced u →
-    h ≡ tall u + 1 → (only_child node).root ≡ top u → node.parent ≡ parent_of c →
-    node.rank ≡ h → new ≡ spliced xs root (record { n = id; node = node }) → steps ≤ old + 2 →
+one_part : (xs : List Node) (root id : ℕ) (node : Node) (ps : List (ℕ × ℕ)) (u : Tree) (new : List Node × ℕ) (old steps : ℕ)
+    (place : Located xs root id ps) → node ≡ node_at xs id → pairs place.l ++ pairs place.r ≡ pairs u → IsAt xs id u → IsBalanced u →
+    place.h ≡ tall u + 1 → (only_child node).root ≡ top u → new ≡ spliced xs root (record { n = id; node = node }) → steps ≤ old + 2 →
     IsTaken xs id ps new.0 new.1 (record { at = node.parent; child = (only_child node).root; rank = (only_child node).rank }) old steps
-one_part xs root id node ps c l e h r u new old steps cut same_pairs at_u balanced_u rank part_is parent_is rank_stored is few =
+one_part xs root id node ps u new old steps place node_is same_pairs at_u balanced_u rank part_is is few =
+    let c = place.context in
+    let h = place.h in
+    let cut = place.cut in
+    let here = node_is ∙ cut.under.0.is in
+    let parent_is = ap (λ (x : Node). x.parent) here in
     let once = cut.fit.once in
-    let sum : (k : ℕ) → times k ps ≡ times k (pairs u) + one k id + times k (around c) = λ k.
-    omega (arith, cut_times cut k, times-fork k sides.Left l r id e h, ap (λ qs. times k qs) same_pairs, times-append k (pairs l) (pairs r)) in
+    let sum : (k : ℕ) → times k ps ≡ times k (pairs u) + one k id + times k (around c) = λ k. omega (
+      arith,
+      cut_times cut k,
+      times-fork k sides.Left place.l place.r id place.e h,
+      ap (λ qs. times k qs) same_pairs,
+      times-append k (pairs place.l) (pairs place.r),
+    ) in
     let done = subst (λ x. Put xs c u x) (sym is) (spliced_put xs root id node c u cut.fit.small (omega (arith, cut.under.0.inside, cut.fit.small))
     (λ k. omega (arith, once k, sum k)) cut.linked at_u cut.root_is part_is parent_is) in
     let fit = without_fit id done.kept.size cut.fit in
     let pairs_are : pairs (plug c u) ≡ without id ps =
-    pairs-plug c u ∙ ap (λ qs. before c ++ (qs ++ after c)) (sym same_pairs) ∙ without_part c l e id h r ps cut.pairs_are once in
+    pairs-plug c u ∙ ap (λ qs. before c ++ (qs ++ after c)) (sym same_pairs) ∙ without_part c place.l place.e id h place.r ps cut.pairs_are once in
     let put : Cut new.0 new.1 c u h (without id ps) = search arith in
     record {
-      unbalanced = record {
-        context = c;
-        subtree = u;
-        old_rank = h;
-        cut = put;
-        at_is = parent_is;
-        changed = λ some. (part_is, omega (arith, rank_stored, rank), (omega (arith, rank), omega (arith, rank)));
-      };
+      unbalanced = cut_unbalanced _ put parent_is part_is (omega (arith, ap (λ (x : Node). x.rank) here, rank)) (omega (arith, rank), omega (arith, rank));
       kept = Keeps-for (λ k gone. omega (arith, sum k, gone)) done.kept;
-      low = λ d less. omega (arith, cut_low xs root c (Fork l id e h r) ps cut d less);
+      low = λ d less. omega (arith, cut_low xs root c (Fork place.l id place.e h place.r) ps cut d less);
       count = omega (arith, few);
     }
-
-one_at : (xs : List Node) (root id : ℕ) (node : Node) (ps : List (ℕ × ℕ)) (c : List Frame) (l : Tree) (e h : ℕ) (r : Tree) (new : List Node × ℕ)
-    (old steps : ℕ) → Cut xs root c (Fork l id e h r) h ps →
-    node ≡ record { expires = e; left = top l; right = top r; parent = parent_of c; rank = h } → ((top l ≡ none) ⊎ (top r ≡ none)) →
-    new ≡ spliced xs root (record { n = id; node = node }) → steps ≤ old + 2 →
-    IsTaken xs id ps new.0 new.1 (record { at = node.parent; child = (only_child node).root; rank = (only_child node).rank }) old steps
-one_at xs root id node ps c Leaf e h r new old steps cut here part_free spliced_is few =
-    one_part xs root id node ps c Leaf e h r r new old steps cut refl cut.under.2 cut.balanced.2
-    (omega (arith, cut.balanced.0.below_b, cut.balanced.0.near_both)) (ap (λ (x : Node). (only_child x).root) here)
-    (ap (λ (x : Node). x.parent) here) (ap (λ (x : Node). x.rank) here) spliced_is few
-one_at xs root id node ps c (Fork a m f g b) e h Leaf new old steps cut here part_free spliced_is few =
-    let l = Fork a m f g b in
-    let some : nat_eq m none ≡ false = ne_eqb m none (λ same. omega (arith, same, cut.under.1.0.inside, cut.fit.small)) in
-    one_part xs root id node ps c l e h Leaf l new old steps cut (append-nil (pairs l)) cut.under.1 cut.balanced.1
-    (omega (arith, cut.balanced.0.below_a, cut.balanced.0.near_both)) (ap (λ (x : Node). (only_child x).root) here
-    ∙ ap (λ x. if x then none else m) some) (ap (λ (x : Node). x.parent) here) (ap (λ (x : Node). x.rank) here) spliced_is few
-one_at xs root id node ps c (Fork a m f g b) e h (Fork a' m' f' g' b') new old steps cut here part_free spliced_is few =
-    elim part_free [
-      | inl end ↦ let never : ⊥ = omega (arith, end, cut.under.1.0.inside, cut.fit.small) in absurd never
-      | inr end ↦ let never : ⊥ = omega (arith, end, cut.under.2.0.inside, cut.fit.small) in absurd never
-    ]
 
 pub taken_one : (xs : List Node) (root id : ℕ) (node : Node) (ps : List (ℕ × ℕ)) (new : List Node × ℕ) (old steps : ℕ) → IsTaking xs root id ps →
     node ≡ node_at xs id → ((node.left ≡ none) ⊎ (node.right ≡ none)) → new ≡ spliced xs root (record { n = id; node = node }) → steps ≤ old + 2 →
     IsTaken xs id ps new.0 new.1 (record { at = node.parent; child = (only_child node).root; rank = (only_child node).rank }) old steps
 taken_one xs root id node ps new old steps taking node_is part_free is few =
     let place = located xs root id ps taking.tree taking.present in
-    let here = node_is ∙ place.cut.under.0.is in
-    one_at xs root id node ps place.context place.l place.e place.h place.r new old steps place.cut here
-    (elim part_free [ inl end ↦ inl (sym (ap (λ (x : Node). x.left) here) ∙ end) | inr end ↦ inr (sym (ap (λ (x : Node). x.right) here) ∙ end) ]) is few
+    let cut = place.cut in
+    let rank = cut.balanced.0 in
+    let left = ap (λ (x : Node). x.left) (node_is ∙ cut.under.0.is) in
+    let right = ap (λ (x : Node). x.right) (node_is ∙ cut.under.0.is) in
+    elim part_free [
+      | inl end ↦
+          let leaf = no_top xs id place.l cut.fit.small cut.under.1 (sym left ∙ end) in
+          one_part xs root id node ps place.r new old steps place node_is (ap (λ t. pairs t ++ pairs place.r) leaf) cut.under.2 cut.balanced.2
+          (omega (arith, rank.below_b, rank.near_both, ap tall leaf))
+          (ap (λ b. if b then node.right else node.left) (eq-eqb node.left none end) ∙ right) is few
+      | inr end ↦
+          let leaf = no_top xs id place.r cut.fit.small cut.under.2 (sym right ∙ end) in
+          one_part xs root id node ps place.l new old steps place node_is (ap (λ t. pairs place.l ++ pairs t) leaf ∙ append-nil (pairs place.l))
+          cut.under.1 cut.balanced.1 (omega (arith, rank.below_a, rank.near_both, ap tall leaf))
+          (by_eq (λ b. (if b then node.right else node.left) ≡ top place.l) node.left none (λ gone. end ∙ sym gone ∙ left) (λ some. left)) is few
+    ]
 
 -- a timer with two parts: the first node of the right subtree takes its place
 heir_above : (d : List Frame) (f g : Frame) (c : List Frame) → times f.n (around d) ≡ 0 →
@@ -269,19 +238,10 @@ two_at xs root id ps c l e h low mid new at old steps low_steps d Leaf e' h' res
     ∙ without_part c l e id h (plug d subtree) ps (sym (ap pairs (plug-append d (f ∷ c) subtree)) ∙ cut.pairs_are) once in
     let put : Cut new.0 new.1 (d ++ g ∷ c) rest h' (without id ps) = search arith in
     record {
-      unbalanced = record {
-        context = d ++ g ∷ c;
-        subtree = rest;
-        old_rank = h';
-        cut = put;
-        at_is = at_is ∙ ap (λ k. if nat_eq k id then y else k) (ap (λ (x : Node). x.parent) here) ∙ heir_above d f g c
-            (omega (arith, once id, sum id, one_same id));
-        changed = λ some. (
-          ap (λ (x : Node). (only_child x).root) here,
-          omega (arith, ap (λ (x : Node). x.rank) here, rank.near_both, rank.below_b),
-          (omega (arith, rank.below_b), omega (arith, rank.near_both, rank.below_b)),
-        );
-      };
+      unbalanced = cut_unbalanced _ put (at_is ∙ ap (λ k. if nat_eq k id then y else k) (ap (λ (x : Node). x.parent) here) ∙ heir_above d f g c
+          (omega (arith, once id, sum id, one_same id))) (ap (λ (x : Node). (only_child x).root) here)
+          (omega (arith, ap (λ (x : Node). x.rank) here, rank.near_both, rank.below_b))
+          (omega (arith, rank.below_b), omega (arith, rank.near_both, rank.below_b));
       kept = kept;
       low = λ digits small. omega (arith, cut_low xs root whole subtree ps cut digits small, size_c, size_g, rank.below_a);
       count = omega (arith, few, lows, size_g);
@@ -298,16 +258,15 @@ pub taking_rank : (xs : List Node) (root id : ℕ) (ps : List (ℕ × ℕ)) → 
 taking_rank xs root id ps taking =
     let cut = (place_of xs root id ps taking).cut in omega (arith, ap (λ (x : Node). x.rank) cut.under.0.is, cut.balanced.0.below_a)
 
-pub right_part : (xs : List Node) (root id : ℕ) (node : Node) (ps : List (ℕ × ℕ)) (taking : IsTaking xs root id ps) → node ≡ node_at xs id →
-    (node.right ≡ none → ⊥) → IsBelow xs root node.right (above_right (place_of xs root id ps taking)) ps
-right_part xs root id node ps taking node_is some =
+pub right_part : (xs : List Node) (root id : ℕ) (node : Node) (ps : List (ℕ × ℕ)) (taking : IsTaking xs root id ps) (steps : ℕ) → node ≡ node_at xs id →
+    (node.right ≡ none → ⊥) →
+    IsLowering xs root (above_right (place_of xs root id ps taking)) ps node.right (node_at xs node.right) steps (steps + 1)
+right_part xs root id node ps taking steps node_is some =
     let place = place_of xs root id ps taking in
-    record {
-      subtree = place.r;
-      cut = cut_down sides.Right place.r place.l id place.e place.h place.cut;
-      from_is = ap (λ (x : Node). x.right) (node_is ∙ place.cut.under.0.is);
-      some = some;
-    }
+    let right = ap (λ (x : Node). x.right) (node_is ∙ place.cut.under.0.is) in
+    subst (λ k. IsLowering xs root (above_right place) ps k (node_at xs k) steps (steps + 1)) (sym right)
+    (lowering_at xs root steps (steps + 1) (above_right place) ps [] place.r (λ same. some (right ∙ same))
+    (cut_down sides.Right place.r place.l id place.e place.h place.cut) refl (omega arith))
 
 pub taken_two : (xs : List Node) (root id : ℕ) (ps : List (ℕ × ℕ)) (low : Numbered) (mid new : List Node × ℕ) (at old steps low_steps : ℕ) →
     (taking : IsTaking xs root id ps) → IsLowering xs root (above_right (place_of xs root id ps taking)) ps low.n low.node old low_steps →

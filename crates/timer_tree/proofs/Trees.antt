@@ -8,8 +8,10 @@ use Rattle.timer_tree.specs.Nodes.{none, blank, child_side, node_at, with_links,
 use Rattle.timer_queue.specs.Pairs.{IsQueue}
 use Rattle.timer_tree.specs.Links.{adopted, with_child, replaced, relinked}
 use Rattle.timer_tree.specs.Trees.{Tree, Leaf, Fork, top, tall, pairs, Stands, IsAt, HasRank, IsBalanced, one, times, Keeps}
-use Rattle.timer_tree.specs.Contexts.{Frame, fork, filled, plug, parent_of, root_of, IsAround, around, before, after, Fits, Fit, Cut, IsTree}
+use Rattle.timer_tree.specs.Contexts.{Frame, fork, filled, plug, parent_of, root_of, IsAround, around, before, after}
+use Rattle.timer_tree.specs.Contexts.{Fits, Fit, Cut, IsTree, Way, IsUnbalanced}
 use Rattle.timer_tree.specs.declared.node.Node.{Node}
+use Rattle.timer_tree.specs.declared.repair.Unbalanced.{Unbalanced}
 use Rattle.timer_tree.specs.declared.node.Side.{Side}
 use Rattle.timer_tree.specs.declared.node.Side.TheVariants as sides
 
@@ -189,6 +191,18 @@ pub top_apart : (n : ℕ) (t : Tree) → n < none → times n (pairs t) ≡ 0 �
 top_apart n Leaf low gone same = omega (arith, low, same)
 top_apart n (Fork l m e h r) low gone same = omega (arith, times-fork n sides.Left l r m e h, one_same n, ap (λ k. one n k) same, gone)
 
+-- the hole's parent is written with another number in the hole
+pub frame_written : (xs : List Node) (hole to : ℕ) (f : Frame) (c : List Frame) (new : Node) → ((k : ℕ) → times k (around (f ∷ c)) ≤ 1) →
+    IsAround xs hole (f ∷ c) → new ≡ with_links f.side f.e to (top f.other) (parent_of c) f.h →
+    IsAround (slice_set xs f.n new) to (f ∷ c) × Keeps (λ k. times k (around (f ∷ c))) xs (slice_set xs f.n new)
+frame_written xs hole to f c new once at is =
+    let kept = set_keeps xs f.n new in
+    let stands = set_stands xs f.n new at.0.inside in
+    let sum = λ (k : ℕ). times-append k (pairs f.other) (around c) in
+    let other = IsAt-kept f.n f.other kept (λ k. omega (arith, sum k, once k)) at.1 in
+    let above = IsAround-kept f.n c kept (λ k. omega (arith, sum k, once k)) at.2 in
+    ((record { inside = stands.inside; is = stands.is ∙ is }, other, above), Keeps-for (λ k gone. omega (arith, gone)) kept)
+
 -- a context with another number in its hole
 pub record Linked (xs : List Node) (hole : ℕ) (c : List Frame) (new : List Node × ℕ) : Type 0 where
   pub at : IsAround new.0 hole c
@@ -200,25 +214,12 @@ pub relinked_linked : (xs : List Node) (root hole to : ℕ) (c : List Frame) →
 relinked_linked xs root hole to [] small once low at root_is = record { at = tt; root_is = refl; kept = record { size = refl; rest = λ k out. refl } }
 relinked_linked xs root hole to (f ∷ c) small once low at root_is =
     let new = replaced (node_at xs f.n) hole to in
-    let ys = slice_set xs f.n new in
-    let kept = set_keeps xs f.n new in
-    let stands = set_stands xs f.n new at.0.inside in
-    let sum : (k : ℕ) → times k (around (f ∷ c)) ≡ one k f.n + times k (pairs f.other) + times k (around c) = λ k.
-    omega (arith, times-append k (pairs f.other) (around c)) in
-    let apart = top_apart hole f.other low (omega (arith, sum hole, once hole, one_same hole)) in
+    let apart = top_apart hole f.other low (omega (arith, times-append hole (pairs f.other) (around c), once hole, one_same hole)) in
     let some : nat_eq f.n none ≡ false = ne_eqb f.n none (λ same. omega (arith, same, at.0.inside, small)) in
-    subst (λ x. Linked xs to (f ∷ c) (if x then (xs, to) else (ys, root))) (sym some) (record {
-      at = (
-        record {
-          inside = stands.inside;
-          is = stands.is ∙ ap (λ x. replaced x hole to) at.0.is ∙ replaced_with_links f.side f.e hole (top f.other) (parent_of c) f.h to apart;
-        },
-        IsAt-kept f.n f.other kept (λ k. omega (arith, sum k, once k)) at.1,
-        IsAround-kept f.n c kept (λ k. omega (arith, sum k, once k)) at.2,
-      );
-      root_is = root_is;
-      kept = Keeps-for (λ k gone. omega (arith, sum k, gone)) kept;
-    })
+    let done = frame_written xs hole to f c new (λ k. omega (arith, once k)) at
+    (ap (λ x. replaced x hole to) at.0.is ∙ replaced_with_links f.side f.e hole (top f.other) (parent_of c) f.h to apart) in
+    subst (λ x. Linked xs to (f ∷ c) (if x then (xs, to) else (slice_set xs f.n new, root))) (sym some)
+    (record { at = done.0; root_is = root_is; kept = done.1 })
 
 -- ---- a context and what its hole holds
 
@@ -256,6 +257,12 @@ cut_whole xs root (f ∷ c) t ps cut =
     let under = fork-IsAt xs (parent_of c) f.side t f.other f.n f.e f.h cut.linked.0 cut.under cut.linked.1 in
     let balanced = fork-IsBalanced f.side t f.other f.n f.e f.h (cut.fits.0, cut.balanced, cut.fits.1) in
     let up : Cut xs root c (filled f t) f.h ps = search arith in cut_whole xs root c (filled f t) ps up
+
+-- the ranks are wrong at most from the parent of this subtree upwards
+abbrev pub cut_unbalanced : {rising : Bool} {xs : List Node} {root h : ℕ} {c : List Frame} {t : Tree} {ps : List (ℕ × ℕ)} (r : Unbalanced) →
+    Cut xs root c t h ps → r.at ≡ parent_of c → r.child ≡ top t → r.rank ≡ tall t → Way rising h t → IsUnbalanced rising xs root r ps
+cut_unbalanced {h = h} {c = c} {t = t} r cut at_is child rank way =
+    record { context = c; subtree = t; old_rank = h; cut = cut; at_is = at_is; changed = λ some. (child, rank, way) }
 
 -- a node that stands in a tree, with what is above it
 pub record Located (xs : List Node) (root k : ℕ) (ps : List (ℕ × ℕ)) : Type 0 where

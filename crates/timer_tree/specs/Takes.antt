@@ -1,18 +1,11 @@
 -- How a timer is taken out of the tree.
 use Rattle.std.specs.Prelude.{ℕ, ◌+◌, ◌*◌, ◌^◌, ◌<◌, ◌≤◌, ◌≡◌, List, [], ◌++◌, length, false}
 use Rattle.timer_queue.specs.Pairs.{without}
-use Rattle.timer_tree.specs.Nodes.{none, node_at}
-use Rattle.timer_tree.specs.Trees.{Tree, Fork, top, tall, times, Keeps}
+use Rattle.timer_tree.specs.Nodes.{node_at}
+use Rattle.timer_tree.specs.Trees.{Tree, Fork, times, Keeps}
 use Rattle.timer_tree.specs.Contexts.{Frame, before, Cut, IsTree, IsUnbalanced}
 use Rattle.timer_tree.specs.declared.node.Node.{Node}
 use Rattle.timer_tree.specs.declared.repair.Unbalanced.{Unbalanced}
-
--- the tree is cut at a subtree with this number at its top, below the right side of a node
-pub record IsBelow (xs : List Node) (root from : ℕ) (above : List Frame) (ps : List (ℕ × ℕ)) : Type 0 where
-  pub subtree : Tree
-  pub cut : Cut xs root above subtree (tall subtree) ps
-  pub from_is : from ≡ top subtree
-  pub some : from ≡ none → ⊥
 
 -- on the way to the first node of a subtree, with one step for each node
 pub record IsLowering (xs : List Node) (root : ℕ) (above : List Frame) (ps : List (ℕ × ℕ)) (n : ℕ) (node : Node) (old_steps steps : ℕ) : Type 0 where

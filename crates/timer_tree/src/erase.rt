@@ -2,7 +2,7 @@
 ghost use Rattle.std.specs.Prelude.{◌≡◌, ℕ, ◌+◌, ◌≤◌, ◌<◌, List, length, nat_eq, if◌then◌else◌};
 ghost use Rattle.timer_tree.specs.Nodes.{node_at, none, IsLink, HasLinks};
 ghost use Rattle.timer_tree.specs.Contexts.{Frame};
-ghost use Rattle.timer_tree.specs.Takes.{IsBelow, IsLowering, IsTaking, IsTaken};
+ghost use Rattle.timer_tree.specs.Takes.{IsLowering, IsTaking, IsTaken};
 ghost use Rattle.timer_tree.specs.Moves.{only_child, spliced, substituted};
 
 use crate::block::Block;
@@ -119,8 +119,10 @@ fn substitute<L: Ledger>(
 
 /// The node that is due first in a subtree.
 fn leftmost<L: Ledger>(block: &Block, from: u32, steps: &mut Steps<L>) -> Numbered
-    requires { (root : ℕ) × (above : List Frame) × (ps : List (ℕ × ℕ)) × IsBelow block.now root from above ps }
-    ensures lowest { (root : ℕ) (above : List Frame) (ps : List (ℕ × ℕ)) → IsBelow block.now root from above ps →
+    requires { (root : ℕ) × (above : List Frame) × (ps : List (ℕ × ℕ)) ×
+        IsLowering block.now root above ps from (node_at block.now from) steps.old (steps.old + 1) }
+    ensures lowest { (root : ℕ) (above : List Frame) (ps : List (ℕ × ℕ)) →
+        IsLowering block.now root above ps from (node_at block.now from) steps.old (steps.old + 1) →
         IsLowering block.now root above ps result.n result.node steps.old steps.new }
     ensures last { result.node.left ≡ none }
     ensures inside { result.n < length block.now }

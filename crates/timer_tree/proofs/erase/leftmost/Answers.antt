@@ -1,11 +1,14 @@
-use Rattle.std.proofs.Common.{arith, ap, ◌∙◌}
+use Rattle.std.proofs.Common.{arith, ap, ◌+◌, ◌∙◌, sym, subst}
 use Rattle.timer_tree.specs.declared.node.Node.{Node}
-use Rattle.timer_tree.proofs.Taking.{lowering_start, lowering_step}
+use Rattle.timer_tree.specs.Takes.{IsLowering}
+use Rattle.timer_tree.proofs.Taking.{lowering_step}
 use Rattle.timer_tree.proofs.erase.leftmost.Goals as goal
 
 pub loop-node-init : goal.loop-node-init
 loop-node-init g c = record {
-  lowering = λ root above ps below. lowering_start _ _ root _ _ _ above ps below c.read-node.ensures.node c.read-node.ensures.steps;
+  lowering = λ root above ps start. subst (λ k. IsLowering c.args.block.now root above ps c.args.from c.read-node.result c.args.steps.now k)
+      (sym c.read-node.ensures.steps) (subst (λ x. IsLowering c.args.block.now root above ps c.args.from x c.args.steps.now (c.args.steps.now + 1))
+      (sym c.read-node.ensures.node) start);
   links = c.read-node.ensures.links;
 }
 

@@ -8,12 +8,13 @@ use Rattle.timer_tree.proofs.erase.take_out.Goals as goal
 pub leftmost-heir-requires : goal.leftmost-heir-requires
 leftmost-heir-requires g c =
     let taking = c.requires.taking.1 in
-    (c.args.root.now, above_right (place_of _ _ _ _ taking), c.requires.taking.0, right_part _ _ _ _ _ taking c.requires.node c.if-node-ne-NONE-2.true)
+    let below = right_part _ _ _ _ _ taking c.args.steps.now c.requires.node c.if-node-ne-NONE-2.true in
+    (c.args.root.now, above_right (place_of _ _ _ _ taking), c.requires.taking.0, below)
 
 pub returns-then-node-ne-NONE-2 : goal.returns-then-node-ne-NONE-2
 returns-then-node-ne-NONE-2 g c = λ ps taking.
     let lowest = c.leftmost-heir.ensures.lowest c.args.root.now (above_right (place_of _ _ _ _ taking)) ps
-    (right_part _ _ _ _ ps taking c.requires.node c.if-node-ne-NONE-2.true) in
+    (right_part _ _ _ _ ps taking c.args.steps.now c.requires.node c.if-node-ne-NONE-2.true) in
     subst (λ child. IsTaken c.args.block.now c.args.id ps c.substitute.new.block c.substitute.new.root
     (record { at = c.parent_of_gap-at.result; child = child.root; rank = child.rank }) c.args.steps.now c.substitute.new.steps)
     (sym c.only_child-child.ensures)

@@ -4,7 +4,7 @@ use Rattle.timer_tree.specs.declared.node.Node.{Node}
 use Rattle.timer_tree.specs.declared.node.Side.{Side}
 use Rattle.timer_tree.specs.Trees.{queue_at}
 use Rattle.timer_tree.proofs.Adding.{added, inserted_can}
-use Rattle.timer_tree.proofs.Stores.{Gives}
+use Rattle.timer_tree.proofs.Stores.{Gives, queue_again, queue_at-is}
 use Rattle.timer_tree.proofs.tree.TimerTree.add_counted.Given.{Over}
 use Rattle.timer_tree.proofs.tree.TimerTree.add_counted.Goals as goal
 
@@ -33,12 +33,12 @@ done g c =
     c.put_first.ensures
 
 pub invariant_of-self : goal.invariant_of-self
-invariant_of-self g c = (done g c).stored
+invariant_of-self g c = queue_again _ _ _ _ (done g c).stored
 
 pub returns : goal.returns
 returns g c = record {
-  pairs = (done g c).pairs ∙ ap (λ v. put c.args.expires c.args.id v.0) c.self.view_is;
+  pairs = queue_at-is _ _ _ (done g c).stored.is_tree ∙ ap (λ v. put c.args.expires c.args.id v.0) c.self.view_is;
   bound = (done g c).size ∙ ap (λ v. v.1) c.self.view_is;
-  kept = (done g c).stored.queue;
+  kept = (invariant_of-self g c).queue;
   steps = subst (λ v. (d : ℕ) → length v.0 + 1 < 2 ^ d → c.settle.new.steps ≤ c.args.steps.now + 32 * (d + 1)) c.self.view_is (done g c).count;
 }

@@ -2,7 +2,7 @@ use Rattle.std.proofs.Common.{arith, ◌≡◌, ℕ, ◌+◌, ◌*◌, ◌^◌, 
 use Rattle.timer_queue.specs.Pairs.{without, has_id}
 use Rattle.timer_tree.specs.Trees.{queue_at}
 use Rattle.timer_tree.proofs.Erasing.{erased, takes, taken_can}
-use Rattle.timer_tree.proofs.Stores.{Gives, has_inside}
+use Rattle.timer_tree.proofs.Stores.{Gives, has_inside, queue_again, queue_at-is}
 use Rattle.timer_tree.proofs.tree.TimerTree.erase_counted.Given.{Over}
 use Rattle.timer_tree.proofs.tree.TimerTree.erase_counted.Goals as goal
 
@@ -49,12 +49,12 @@ done g c =
     (c.take_out-broken.ensures ps taking) c.forget.ensures.block c.forget.ensures.steps c.repair.ensures
 
 pub invariant_of-self : goal.invariant_of-self
-invariant_of-self g c = (done g c).stored
+invariant_of-self g c = queue_again _ _ _ _ (done g c).stored
 
 pub returns : goal.returns
 returns g c = record {
-  pairs = (done g c).pairs ∙ ap (λ v. without c.args.id v.0) c.self.view_is;
+  pairs = queue_at-is _ _ _ (done g c).stored.is_tree ∙ ap (λ v. without c.args.id v.0) c.self.view_is;
   bound = (done g c).size ∙ ap (λ v. v.1) c.self.view_is;
-  kept = (done g c).stored.queue;
+  kept = (invariant_of-self g c).queue;
   steps = subst (λ v. (d : ℕ) → length v.0 + 1 < 2 ^ d → c.repair.new.steps ≤ c.args.steps.now + 32 * (d + 1)) c.self.view_is (done g c).count;
 }
