@@ -2,6 +2,7 @@
 use Rattle.std.proofs.Common.{◌≡◌, ◌≤◌, ℕ, ◌+◌, suc, is_some, unwrap_or, Bool, true, false, ◌&&◌, not, nat_lt, if◌then◌else◌, List, [], ◌∷◌, ◌++◌, length, map, arith, refl, sym, ap, ◌∙◌, subst, length-append}
 use Rattle.std.specs.List.{AllByRecursion}
 use Rattle.std.proofs.lemmas.List.{append_assoc, append-nil, map-append}
+use Rattle.ktime.specs.Times.{next_after, passed}
 use Rattle.ktime.specs.declared.clock_id.ClockId.{ClockId}
 use Rattle.pass_names.specs.Passes.{Begins, places}
 use Rattle.seq_timer.specs.declared.event.Event.TheVariants as events
@@ -10,7 +11,7 @@ use Rattle.seq_timer.specs.declared.event.Rearmed.TheVariants as rearmings
 use Rattle.seq_timer.specs.declared.event.Reply.TheVariants as replies
 use Rattle.seq_timer.specs.declared.system.TimerEntry.{TimerEntry}
 use Rattle.seq_timer.specs.Histories as histories
-use Rattle.seq_timer.specs.Steps.{Timer, after, rearmed_by, reply_to}
+use Rattle.seq_timer.specs.Steps.{Timer, after, now_of, rearmed_by, reply_to, started}
 use Rattle.seq_timer.specs.Systems.{entries_of, openings}
 use Rattle.seq_timer.specs.Tables.{timer_at}
 use Rattle.seq_timer.proofs.Agreement.{first_stamp}
@@ -30,6 +31,18 @@ use Rattle.run_history.proofs.Known.{adds_made, AreEntries, AreMade, AreShown, m
 use Rattle.record_text.proofs.Lists.{All-append}
 
 -- ---- the record's entries of events
+
+-- the record's entry of an event of a timer
+abbrev pub line_entry : Timer → Event → Entry
+line_entry t (events.Out base) = entries.Out base (is_some t.armed)
+line_entry t (events.Start mode ns reading asked) =
+    entries.Start mode ns reading.stamp asked (started t mode ns reading).base (started t mode ns reading).clock (started t mode ns reading).expires
+    (is_some t.armed)
+line_entry t events.Cancel = entries.Cancel (unwrap_or t.armed 0)
+line_entry t (events.Claim base reading) = entries.Claim base reading.stamp (unwrap_or t.armed 0)
+line_entry t (events.Forward reading interval) =
+    entries.Forward reading.stamp interval (passed t.expires (now_of t reading) interval) (next_after t.expires (now_of t reading) interval)
+line_entry t (events.Finish restart) = entries.Finish restart (unwrap_or t.running 0) (restart_noted (rearmed_by t restart))
 
 -- the same of events in turn
 abbrev pub lines_along : Timer → List Event → List Entry
