@@ -60,7 +60,7 @@ const REFUSED: [(&str, &str, &str); 27] = [
     ),
     (
         "",
-        "hrt 1\nbases 1\nlanes 1\nlimit 1099511627773\n",
+        "hrt 1\nbases 1\nlanes 1\nlimit 281474976710641\n",
         "line 4: EventLimit\n",
     ),
     (HEADER, "raw 1 monotonic starts 5 1\n", "line 5: BadId\n"),
