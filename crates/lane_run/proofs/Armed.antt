@@ -48,9 +48,11 @@ use Rattle.run_history.proofs.ObjectsMade.{refused_seen}
 use Rattle.run_history.proofs.PassState.{state_seen, timer_seen}
 use Rattle.lane_run.specs.Kept.{entry_in_note}
 use Rattle.lane_run.proofs.CallKept.{inside_of}
-use Rattle.lane_run.proofs.Entering.{enters_along, EntersNotes, HasReading, line_entry, lines_along, begins_same}
-use Rattle.lane_run.proofs.Parts.{IsPart, part_none, IsEntered, part_entered}
-use Rattle.lane_run.proofs.Quiet.{looks_made}
+use Rattle.lane_run.proofs.Entering.{enters_along, EntersNotes, HasReading, line_entry, lines_along}
+use Rattle.lane_run.proofs.SeenMore.{begins_same}
+use Rattle.lane_run.proofs.Parts.{IsPart, part_none, part_entered}
+use Rattle.lane_run.proofs.PartLists.{IsEntered}
+use Rattle.lane_run.proofs.Entering.{looks_made}
 use Rattle.lane_run.proofs.TimerCalls.{start_reads, started_so}
 
 -- ---- receipts of entries

@@ -67,10 +67,13 @@ use Rattle.run_history.proofs.PassState.{saw_from, state_seen}
 use Rattle.run_history.proofs.Promise.{seen_first}
 use Rattle.lane_run.specs.Kept.{entry_in_note, FollowsObject, looks_on}
 use Rattle.lane_run.specs.Worlds.{callback_of}
-use Rattle.lane_run.proofs.Entering.{begins_same, enters_along, enters_none, EntersNotes, stamp_counts}
-use Rattle.lane_run.proofs.Parts.{count_begins, IsEntered, no_other, IsObjectsPart, objects_alone}
+use Rattle.lane_run.proofs.Entering.{enters_along, enters_none, EntersNotes, stamp_counts}
+use Rattle.lane_run.proofs.SeenMore.{begins_same}
+use Rattle.lane_run.proofs.Parts.{IsObjectsPart, objects_alone}
+use Rattle.lane_run.proofs.PartLists.{IsEntered, no_other}
+use Rattle.lane_run.proofs.SeenMore.{count_begins}
 use Rattle.lane_run.proofs.PartLists.{RisesTo, one_rises}
-use Rattle.lane_run.proofs.Quiet.{looks_made}
+use Rattle.lane_run.proofs.Entering.{looks_made}
 
 -- ---- what callbacks do of timers
 

@@ -42,7 +42,17 @@ use Rattle.lane_run.specs.Called.{LaneOf, LeavesClock, Reads, with_done}
 use Rattle.lane_run.specs.Kept.{BearLabel, entry_in_note, Follows, IsNextCall, log_of, seen_by, SeesOn, StandIn}
 use Rattle.lane_run.specs.Worlds.{WorldOf}
 use Rattle.lane_run.specs.declared.world.WorldPass.{WorldPass}
-use Rattle.lane_run.proofs.Entering.{begins_length, begins_same, EntersNotes, place_of}
+use Rattle.lane_run.proofs.Entering.{begins_length, EntersNotes, place_of}
+use Rattle.lane_run.proofs.SeenMore.{begins_same}
+use Rattle.std.proofs.Common.{true, false, nat_eq, if◌then◌else◌}
+use Rattle.script_text.specs.Actions.{Action, numbers_of_object}
+use Rattle.script_text.specs.Told.{object_called, object_stamp_in, stamps_on}
+use Rattle.clock_model.specs.declared.write.Write.{Write}
+use Rattle.clock_cell.specs.Views.{reading_after}
+use Rattle.std.proofs.Common.{◌-◌}
+use Rattle.seq_timer.specs.Systems.{openings}
+use Rattle.base_row.specs.declared.view.Opening.{Opening}
+use Rattle.run_history.specs.Courses.{clocks_of}
 
 -- ---- notes
 
@@ -56,26 +66,11 @@ notes_of label log object_log = record {
   writes = [];
 }
 
--- notes are the same where each list of them is
-pub notes_same : (a b : NotesOf) → a.entries ≡ b.entries → a.looks ≡ b.looks → a.objects ≡ b.objects → a.skips ≡ b.skips → a.writes ≡ b.writes → a ≡ b
-notes_same a b entries looks objects skips writes =
-    ap (λ es. record { entries = es; looks = a.looks; objects = a.objects; skips = a.skips; writes = a.writes }) entries
-    ∙ ap (λ ls. record { entries = b.entries; looks = ls; objects = a.objects; skips = a.skips; writes = a.writes }) looks
-    ∙ ap (λ os. record { entries = b.entries; looks = b.looks; objects = os; skips = a.skips; writes = a.writes }) objects
-    ∙ ap (λ ks. record { entries = b.entries; looks = b.looks; objects = b.objects; skips = ks; writes = a.writes }) skips
-    ∙ ap (λ ws. record { entries = b.entries; looks = b.looks; objects = b.objects; skips = b.skips; writes = ws }) writes
-
 -- law: a lane adds them behind its own
 pub with_done-joins : (notes : NotesOf) (label : Label) (log : List Receipt) (object_log : List ObjectReceipt)
     → with_done notes label log object_log ≡ both_noted notes (notes_of label log object_log)
 with_done-joins notes label log object_log =
     notes_same (with_done notes label log object_log) (both_noted notes (notes_of label log object_log)) refl refl refl refl (sym (append-nil notes.writes))
-
--- law: no receipts, no notes
-pub no_notes-joins : (notes : NotesOf) → notes ≡ both_noted notes no_notes
-no_notes-joins notes =
-    notes_same notes (both_noted notes no_notes) (sym (append-nil notes.entries)) (sym (append-nil notes.looks)) (sym (append-nil notes.objects))
-    (sym (append-nil notes.skips)) (sym (append-nil notes.writes))
 
 -- what is made of items that are there has what each that is made has
 present_all : {X Y Z : Type 0} (P : Z → Type 0) (make : X → Y → Z) (found : X → Option Y) (xs : List X) → ((x : X) (y : Y) → P (make x y))
@@ -144,10 +139,6 @@ places_added mine new notes es is same t n =
 -- where none were added
 pub no_places : {A : Type 0} (p : A → Bool) (mine new : List A) → new ≡ mine → count p new ≡ count p mine + 0
 no_places p mine new is = let same = ap (count p) is in omega (arith, same)
-
--- a permutation that is none
-pub same_order : {A : Type 0} (xs ys : List A) → xs ≡ ys → IsPermutation xs ys
-same_order xs ys is = subst (IsPermutation xs) is (IsPermutation-refl xs)
 
 -- ---- what the passes saw
 
@@ -232,3 +223,22 @@ pub promised_from : {s : Script} {x : WorldOf} {l : LaneOf} {call : Call} (next 
 promised_from {s = s} {l = l} next q notes t a logged fits e follows has joined =
     let is : IsLabel s l.label = slice_get_within (calls_of s l.label.lane) l.label.call next.at next.there in
     fits e follows joined has (kept_from joined is has logged) (sym (ap (λ (g : CallLog). g.moves.0) has.kept))
+
+pub none_either : (b : Bool) (xs : List ℕ) → xs ≡ [] → (if b then xs else []) ≡ []
+none_either true xs none = none
+none_either false xs none = refl
+
+-- law: an answer that tells no stamp of an object adds no number to those of what its call did
+pub unstamped : (i : ℕ) (call : Call) (a : Answer) (timer : ℕ) (ds : List Action) → object_called call ≡ Some timer → object_stamp_in a ≡ []
+    → object_steps_on i call a ds ≡ numbers_of_object i ds
+unstamped i call a timer ds on none =
+    ap (λ o. numbers_of_object i ds ++ stamps_on i o (object_stamp_in a)) on
+    ∙ ap (λ ns. numbers_of_object i ds ++ ns) (none_either (nat_eq timer i) (object_stamp_in a) none) ∙ append-nil (numbers_of_object i ds)
+
+-- law: the reading after all writes that a pass has seen is the record's, in every run that goes on from there
+pub reading_of_seen : (e : Ending) (ws : List Write) → GoesOnClock ws e → reading_at e.run.clock (length ws) ≡ reading_after ws
+reading_of_seen e ws on = reading_seen e ws (length ws) on (omega arith) ∙ ap (clock_after (at_stamp 0)) (take_whole ws)
+
+-- the timers of a script's world are on its clocks
+pub opened_timers : {s : Script} {x : WorldOf} {l : LaneOf} {call : Call} → IsNextCall s x l call → x.timers.about.timers ≡ openings (clocks_of s) s.limit
+opened_timers next = ap (λ (o : Opening). o.timers) next.world.timers

@@ -25,7 +25,8 @@ use Rattle.record_text.specs.declared.record.Entry.TheVariants as entries
 use Rattle.record_text.specs.declared.record.Label.{Label}
 use Rattle.script_text.specs.ObjectCalls.{cancels}
 use Rattle.run_history.specs.Receipts.{Noted, receipt}
-use Rattle.lane_run.proofs.Entering.{begins_same, enters_along}
+use Rattle.lane_run.proofs.Entering.{enters_along}
+use Rattle.lane_run.proofs.SeenMore.{begins_same}
 use Rattle.lane_run.proofs.Parts.{IsPart, part_none, part_entered}
 
 -- a pass as it stood at a moment of a call

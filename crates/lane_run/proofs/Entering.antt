@@ -29,6 +29,7 @@ use Rattle.lane_notes.specs.Entries.{restart_noted}
 use Rattle.run_history.specs.Receipts.{count, Noted, receipt, ShowsEntry}
 use Rattle.run_history.proofs.Known.{adds_made, AreEntries, AreMade, AreShown, made-append, made_goes_on, made_wider, none_made, numbered, shows_made}
 use Rattle.record_text.proofs.Lists.{All-append}
+use Rattle.script_text.specs.Actions.{made}
 
 -- ---- the record's entries of events
 
@@ -113,10 +114,6 @@ begins_trans xs ys zs one two = record {
   whole = two.whole ∙ ap (λ us. us ++ two.rest) one.whole ∙ append_assoc xs one.rest two.rest;
 }
 
--- an equal list begins with it
-pub begins_same : {A : Type 0} (xs ys : List A) → ys ≡ xs → Begins xs ys
-begins_same xs ys same = record { rest = []; whole = same ∙ sym (append-nil xs) }
-
 -- what begins a list is no longer than the list
 pub begins_length : {A : Type 0} (xs ys : List A) → Begins xs ys → length xs ≤ length ys
 begins_length xs ys begins = omega (arith, ap length begins.whole, length-append xs begins.rest)
@@ -196,3 +193,7 @@ enters_along IsSo o clocks limit v w t x es is made reads =
       };
       are = are;
     }
+
+-- law: a call that made no entry of its timer saw more, and made none
+pub looks_made : (v w : KnownOfTimers) (t : ℕ) (at : List TimerEntry) → MadeAt v w t at [] → Begins v.seen w.seen × (w.mine ≡ v.mine)
+looks_made v w t at made = (begins_trans v.seen at w.seen made.from made.seen, made.mine ∙ append-nil v.mine)

@@ -44,10 +44,12 @@ use Rattle.run_history.proofs.Promise.{object_point_from, seen_first}
 use Rattle.lane_run.specs.Called.{CallsExpire, claimed_in, expire_told, LaneOf, Reads, with_done}
 use Rattle.lane_run.specs.Kept.{Follows, IsNextCall, KeepsCall, seen_by}
 use Rattle.lane_run.specs.Worlds.{WorldOf}
-use Rattle.lane_run.proofs.Entering.{begins_length, begins_same}
+use Rattle.lane_run.proofs.Entering.{begins_length}
+use Rattle.lane_run.proofs.SeenMore.{begins_same}
 use Rattle.lane_run.proofs.FiredAll.{RunKept, turns_kept}
-use Rattle.lane_run.proofs.FiredOnce.{goes_before}
-use Rattle.lane_run.proofs.CallKept.{logged_from, reading_followed, reading_goes_on, reads_begins, same_order}
+use Rattle.lane_run.proofs.SeenMore.{goes_before}
+use Rattle.lane_run.proofs.CallKept.{logged_from, reading_followed, reading_goes_on, reads_begins}
+use Rattle.lane_run.proofs.PartLists.{same_order}
 use Rattle.lane_run.proofs.PartKept.{keeps_part, sees_part}
 use Rattle.lane_run.proofs.Parts.{IsPart, part-append, part_none}
 

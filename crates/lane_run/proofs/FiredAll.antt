@@ -30,8 +30,10 @@ use Rattle.run_history.proofs.Expires.{claim_of, finish_of, HaveRun, run_push, w
 use Rattle.lane_run.specs.Called.{claimed_in, is_claim}
 use Rattle.lane_run.specs.Kept.{FollowsObject}
 use Rattle.lane_run.specs.Worlds.{IsWorldOf, WorldOf}
-use Rattle.lane_run.proofs.Entering.{begins_length, begins_same, begins_trans}
-use Rattle.lane_run.proofs.FiredOnce.{goes_before, turn_kept, TurnKept}
+use Rattle.lane_run.proofs.Entering.{begins_length, begins_trans}
+use Rattle.lane_run.proofs.SeenMore.{begins_same}
+use Rattle.lane_run.proofs.FiredOnce.{turn_kept, TurnKept}
+use Rattle.lane_run.proofs.SeenMore.{goes_before}
 use Rattle.lane_run.proofs.Parts.{IsPart, part-append, part_none}
 use Rattle.lane_run.proofs.PartLists.{entry_notes-append, look_notes-append, RisesTo, also-append, each_weaker, each_joined}
 

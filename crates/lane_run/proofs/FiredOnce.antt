@@ -56,7 +56,8 @@ use Rattle.lane_run.specs.Worlds.{callback_of, IsWorldOf, WorldOf}
 use Rattle.lane_run.proofs.Declared.{declared_callback, declared_over, over_of}
 use Rattle.lane_run.proofs.Bodies.{BodyKept, callback_kept, fired_of}
 use Rattle.lane_run.proofs.Entering.{begins_length, begins_trans, enters-append, enters_along, EntersNotes}
-use Rattle.lane_run.proofs.Parts.{count_begins, IsObjectsPart, IsPart, objects-append, objects_alone}
+use Rattle.lane_run.proofs.Parts.{IsObjectsPart, IsPart, objects-append, objects_alone}
+use Rattle.lane_run.proofs.SeenMore.{count_begins}
 use Rattle.lane_run.proofs.PartLists.{each_weaker, looked-append, RisesTo, wrote-append}
 use Rattle.lane_run.proofs.Triggered.{fd_noted, posix_noted, trigger_kept}
 
@@ -86,11 +87,6 @@ pub record TurnKept (IsSo : List ClockLine → Type 0) (s : Script) (label : Lab
       → ((i : ℕ) → ((j : ℕ) → made j fired.body ≡ [])
       → IsObjectPoint (course_of s e) label (with_claim base at fired before) i (length (seen_of p' i)))
       → (ran : expires.Ran (course_of s e) label e.order base at before fired (length k.seen) (length k'.seen)) × (notes ≡ expires.notes_of ran)
-
--- law: a run that goes on from what was seen goes on from what was seen before
-pub goes_before : (xs ys : List TimerEntry) (e : Ending) → Begins xs ys → promises.GoesOn ys e → promises.GoesOn xs e
-goes_before xs ys e begins on =
-    (begins.rest ++ on.0, on.1 ∙ ap (λ zs. zs ++ on.0) begins.whole ∙ append_assoc xs begins.rest on.0)
 
 looks_to : (low high : ℕ) (w : KnownOfTimers) (ns : List LookNote) (timer : ℕ) → 0 < low → high ≤ count timer w.seen
     → AllByRecursion (λ n. (n.timer ≡ timer) × (low ≤ n.number) × (n.number ≤ high)) ns

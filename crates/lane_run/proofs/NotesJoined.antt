@@ -20,7 +20,7 @@ use Rattle.lane_run.specs.Called.{LaneOf}
 use Rattle.lane_run.specs.Kept.{IsLookNote, IsSkipNote, KeepsCall, log_of}
 use Rattle.lane_run.specs.Left.{IsObjectLeft, IsWriteLeft, own_notes, TellLog}
 use Rattle.lane_run.specs.declared.world.WorldPass.{WorldPass}
-use Rattle.lane_run.proofs.CallKept.{no_notes-joins, notes_same}
+use Rattle.lane_run.proofs.PartLists.{no_notes-joins, notes_same}
 use Rattle.lane_run.proofs.SeenMore.{look_later, object_called, object_later, SeesMore, skip_later, write_called, write_later}
 use Rattle.lane_run.proofs.PartLists.{each_weaker, each_joined}
 

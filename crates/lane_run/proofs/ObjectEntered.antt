@@ -34,7 +34,7 @@ use Rattle.lane_run.specs.Worlds.{IsWorldOf, WorldOf}
 use Rattle.lane_run.proofs.Declared.{declared_over, over_of}
 use Rattle.lane_run.proofs.ObjectSeen.{fd_seen, posix_seen}
 use Rattle.lane_run.proofs.Parts.{IsPart, part_made, part_then, IsNotedAs}
-use Rattle.lane_run.proofs.Triggered.{span_made}
+use Rattle.lane_run.proofs.ObjectSeen.{span_made}
 
 -- ---- the part
 

@@ -34,11 +34,12 @@ use Rattle.lane_run.specs.Called.{Called, caller_of, CallsOverrun, gettime_told,
 use Rattle.lane_run.specs.Kept.{Follows, IsNextCall, KeepsCall}
 use Rattle.lane_run.specs.Worlds.{WorldOf}
 use Rattle.lane_run.proofs.Declared.{fd_declared, posix_declared}
-use Rattle.lane_run.proofs.CallKept.{leaves_begins, no_notes-joins, reads_begins, with_done-joins}
+use Rattle.lane_run.proofs.CallKept.{leaves_begins, reads_begins, with_done-joins}
+use Rattle.lane_run.proofs.PartLists.{no_notes-joins}
 use Rattle.lane_run.proofs.ObjectSeen.{fd_seen, posix_seen}
 use Rattle.lane_run.proofs.Sights.{keeps_sight, LooksOnly, point_seen, stamped}
-use Rattle.lane_run.proofs.Writing.{reading_of_seen}
-use Rattle.lane_run.proofs.Entering.{begins_same}
+use Rattle.lane_run.proofs.CallKept.{reading_of_seen}
+use Rattle.lane_run.proofs.SeenMore.{begins_same}
 
 -- ---- the call
 

@@ -41,6 +41,12 @@ use Rattle.timer_fd.specs.declared.calls.Reply as fd_reply
 use Rattle.std.specs.List.{AllByRecursion}
 use Rattle.lane_run.specs.Worlds.{decl_as, IsWorldOf, WorldOf}
 use Rattle.lane_run.proofs.Declared.{declared_in, no_decl}
+use Rattle.std.proofs.Common.{◌-◌, arith}
+use Rattle.std.specs.List.{slice_get}
+use Rattle.std.proofs.lemmas.Option.{same_Some}
+use Rattle.timer_objects.specs.Known.{ObjectsPass, seen_of}
+use Rattle.run_history.proofs.Lists.{at_left}
+use Rattle.lane_run.proofs.OwnLines.{turned}
 
 take_none : {A : Type 0} (xs : List A) → take 0 xs ≡ []
 take_none [] = refl
@@ -161,3 +167,25 @@ module _ (s : Script) (x : WorldOf) (world : IsWorldOf s x) (i : ℕ) (seen : Li
     fd_seen base is =
         leads_to fd_kind e.run.clock (e.spans i) 1 (fd_opening (clock_of s i) base s.limit) 0 seen follows.goes_on.rest (lines_of_object e.run i) cell
         (leads_from (kinds.Fd base) is) shown
+
+-- law: the span that a run has of an object's entry is that of its call
+pub span_at : (clock : List ClockLine) (spans : ℕ → ℕ × ℕ) (k n : ℕ) (history : List ObjectMove) (lines : List ObjectLine) (h : ObjectMove)
+    → AreObjectLines clock spans k history lines → slice_get history n ≡ Some h → spans (k + n) ≡ (h.call.from, h.call.to)
+span_at clock spans k n [] lines h are there = absurd (cc)
+span_at clock spans k n (x ∷ xs) [] h are there = absurd are
+span_at clock spans k zero (x ∷ xs) (line ∷ lines) h are there =
+    ap spans (none k) ∙ are.1 ∙ ap (λ (m : ObjectMove). (m.call.from, m.call.to)) (same_Some x h there)
+  where
+    none : (n : ℕ) → n + 0 ≡ n
+    none n = omega arith
+span_at clock spans k (suc n) (x ∷ xs) (line ∷ lines) h are there = ap spans (further k n) ∙ span_at clock spans (k + 1) n xs lines h are.2 there
+  where
+    further : (k n : ℕ) → k + suc n ≡ k + 1 + n
+    further k n = omega arith
+
+-- law: a run has the span of an object's entry that was made
+pub span_made : (q : ObjectsPass) (e : Ending) (i many : ℕ) (step : ObjectMove) → FollowsObject e i (seen_of q i) → slice_get (seen_of q i) many ≡ Some step
+    → e.spans i (many + 1) ≡ (step.call.from, step.call.to)
+span_made q e i many step follows there =
+    ap (e.spans i) (turned many) ∙ span_at e.run.clock (e.spans i) 1 many follows.history (lines_of_object e.run i) step follows.lines
+    (subst (λ ys. slice_get ys many ≡ Some step) (sym follows.goes_on.whole) (at_left (seen_of q i) follows.goes_on.rest many step there))

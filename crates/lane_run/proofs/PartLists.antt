@@ -17,6 +17,14 @@ use Rattle.lane_notes.specs.declared.notes.SkipNote.{SkipNote}
 use Rattle.run_history.specs.Receipts.{Rises}
 use Rattle.lane_run.specs.Kept.{looks_on, made_on, skips_on}
 use Rattle.record_text.proofs.Lists.{All-append}
+use Rattle.std.proofs.Common.{subst}
+use Rattle.std.specs.List.Sorted.{IsPermutation}
+use Rattle.std.proofs.lemmas.List.Sorted.{IsPermutation-refl}
+use Rattle.std.proofs.Common.{sym}
+use Rattle.std.proofs.lemmas.List.{append-nil}
+use Rattle.clock_cell.specs.Views.{writes}
+use Rattle.lane_notes.specs.Notes.{both_noted, no_notes, NotesOf}
+use Rattle.script_text.specs.Actions.{made}
 
 -- ---- numbers that rise
 
@@ -151,3 +159,48 @@ pub each_joined : {X : Type 0} (P Q R : X → Type 0) (xs ys : List X) → ((x :
     → AllByRecursion Q ys → AllByRecursion R (xs ++ ys)
 each_joined P Q R xs ys left right one two =
     All-append R xs ys (each_weaker P R xs left one) (each_weaker Q R ys right two)
+
+-- a permutation that is none
+pub same_order : {A : Type 0} (xs ys : List A) → xs ≡ ys → IsPermutation xs ys
+same_order xs ys is = subst (IsPermutation xs) is (IsPermutation-refl xs)
+
+-- notes are the same where each list of them is
+pub notes_same : (a b : NotesOf) → a.entries ≡ b.entries → a.looks ≡ b.looks → a.objects ≡ b.objects → a.skips ≡ b.skips → a.writes ≡ b.writes → a ≡ b
+notes_same a b entries looks objects skips writes =
+    ap (λ es. record { entries = es; looks = a.looks; objects = a.objects; skips = a.skips; writes = a.writes }) entries
+    ∙ ap (λ ls. record { entries = b.entries; looks = ls; objects = a.objects; skips = a.skips; writes = a.writes }) looks
+    ∙ ap (λ os. record { entries = b.entries; looks = b.looks; objects = os; skips = a.skips; writes = a.writes }) objects
+    ∙ ap (λ ks. record { entries = b.entries; looks = b.looks; objects = b.objects; skips = ks; writes = a.writes }) skips
+    ∙ ap (λ ws. record { entries = b.entries; looks = b.looks; objects = b.objects; skips = b.skips; writes = ws }) writes
+
+-- law: no receipts, no notes
+pub no_notes-joins : (notes : NotesOf) → notes ≡ both_noted notes no_notes
+no_notes-joins notes =
+    notes_same notes (both_noted notes no_notes) (sym (append-nil notes.entries)) (sym (append-nil notes.looks)) (sym (append-nil notes.objects))
+    (sym (append-nil notes.skips)) (sym (append-nil notes.writes))
+
+abbrev pub IsEntered : Action → Type 0
+IsEntered (Entered timer number entry) = Unit
+IsEntered (Wrote number write) = ⊥
+IsEntered (Looked timer number reply) = ⊥
+IsEntered (Made i number entry) = ⊥
+IsEntered (Skipped i number generation) = ⊥
+
+-- there is nothing else among them
+pub record HasNoOther (ds : List Action) : Type 0 where
+  pub wrote : wrote ds ≡ []
+  pub looked : (t : ℕ) → looked t ds ≡ []
+  pub made : (i : ℕ) → made i ds ≡ []
+  pub skipped : (i : ℕ) → skipped i ds ≡ []
+  pub numbers : (i : ℕ) → numbers_of_object i ds ≡ []
+
+-- law: entries of timers are no writes, looks or entries of objects
+pub no_other : (ds : List Action) → AllByRecursion IsEntered ds → HasNoOther ds
+no_other [] all = record { wrote = refl; looked = λ t. refl; made = λ i. refl; skipped = λ i. refl; numbers = λ i. refl }
+no_other (Entered timer number entry ∷ ds) all =
+    let rest = no_other ds all.1 in
+    record { wrote = rest.wrote; looked = rest.looked; made = rest.made; skipped = rest.skipped; numbers = rest.numbers }
+no_other (Wrote number write ∷ ds) all = absurd all.0
+no_other (Looked timer number reply ∷ ds) all = absurd all.0
+no_other (Made i number entry ∷ ds) all = absurd all.0
+no_other (Skipped i number generation ∷ ds) all = absurd all.0

@@ -27,45 +27,16 @@ use Rattle.run_history.specs.Traces.{all_entered}
 use Rattle.run_history.proofs.Actions.{all_entered-append, made-append}
 use Rattle.run_history.proofs.Lists.{at_left, at_seam}
 use Rattle.lane_run.specs.Kept.{entry_in_note, looks_on, made_on, ObjectMove, ShowsObjectCall, skips_on}
-use Rattle.lane_run.proofs.Entering.{begins_length, begins_same, begins_trans, enters-append, enters_none, EntersNotes}
+use Rattle.lane_run.proofs.Entering.{begins_length, begins_trans, enters-append, enters_none, EntersNotes}
+use Rattle.lane_run.proofs.SeenMore.{begins_same}
 use Rattle.std.proofs.lemmas.Bool.{eqb-true}
 use Rattle.record_text.specs.declared.record.ObjectEntry.{ObjectEntry}
-use Rattle.lane_run.proofs.CallKept.{same_order}
+use Rattle.lane_run.proofs.PartLists.{same_order}
 use Rattle.timer_objects.specs.declared.object.ObjectCall.{ObjectCall}
 use Rattle.timer_objects.specs.declared.object.ObjectReply.{ObjectReply}
 use Rattle.lane_run.proofs.PartLists.{each_joined, entry_notes-append, falls_on, look_notes-append, looked-append, looks_on-append, made_on-append, numbers-append, object_notes-append, one_falls, one_rises, rises_on, RisesTo, skip_notes-append, skipped-append, skips_on-append, wrote-append}
 
--- a timer has no fewer entries where more was seen
-pub count_begins : (t : ℕ) (xs ys : List TimerEntry) → Begins xs ys → count t xs ≤ count t ys
-count_begins t xs ys begins = begins_length (entries_of t xs) (entries_of t ys) (entries_of-begins t xs ys begins)
-
 -- ---- actions that are entries of timers
-
-abbrev pub IsEntered : Action → Type 0
-IsEntered (Entered timer number entry) = Unit
-IsEntered (Wrote number write) = ⊥
-IsEntered (Looked timer number reply) = ⊥
-IsEntered (Made i number entry) = ⊥
-IsEntered (Skipped i number generation) = ⊥
-
--- there is nothing else among them
-pub record HasNoOther (ds : List Action) : Type 0 where
-  pub wrote : wrote ds ≡ []
-  pub looked : (t : ℕ) → looked t ds ≡ []
-  pub made : (i : ℕ) → made i ds ≡ []
-  pub skipped : (i : ℕ) → skipped i ds ≡ []
-  pub numbers : (i : ℕ) → numbers_of_object i ds ≡ []
-
--- law: entries of timers are no writes, looks or entries of objects
-pub no_other : (ds : List Action) → AllByRecursion IsEntered ds → HasNoOther ds
-no_other [] all = record { wrote = refl; looked = λ t. refl; made = λ i. refl; skipped = λ i. refl; numbers = λ i. refl }
-no_other (Entered timer number entry ∷ ds) all =
-    let rest = no_other ds all.1 in
-    record { wrote = rest.wrote; looked = rest.looked; made = rest.made; skipped = rest.skipped; numbers = rest.numbers }
-no_other (Wrote number write ∷ ds) all = absurd all.0
-no_other (Looked timer number reply ∷ ds) all = absurd all.0
-no_other (Made i number entry ∷ ds) all = absurd all.0
-no_other (Skipped i number generation ∷ ds) all = absurd all.0
 
 -- ---- notes of objects
 

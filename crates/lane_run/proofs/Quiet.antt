@@ -42,7 +42,8 @@ use Rattle.lane_run.specs.Worlds.{WorldOf}
 use Rattle.lane_run.specs.declared.world.WorldPass.{WorldPass}
 use Rattle.lane_run.proofs.Entering.{begins_length, begins_trans, EntersNotes}
 use Rattle.lane_run.proofs.CallKept.{leaves_begins, logged_from}
-use Rattle.lane_run.proofs.Parts.{IsEntered, no_other, part_entered}
+use Rattle.lane_run.proofs.Parts.{part_entered}
+use Rattle.lane_run.proofs.PartLists.{IsEntered, no_other}
 use Rattle.lane_run.proofs.Sights.{LooksOnly, looks_alone, keeps_sight}
 use Rattle.lane_run.proofs.PartKept.{keeps_part, sees_part}
 
@@ -114,10 +115,6 @@ still_quiet {s = s} {x = x} next q v t at made still e follows joined =
     ap (λ (u : Timer). u.moving)
     (timer_seen (course_of s e) q.timers.known.seen follows.timers.0 (seen_first q.timers.known.seen joined follows.timers) t
     ∙ sym (state_quiet next q v t at made)) ∙ still
-
--- law: a call that made no entry of its timer saw more, and made none
-pub looks_made : (v w : KnownOfTimers) (t : ℕ) (at : List TimerEntry) → MadeAt v w t at [] → Begins v.seen w.seen × (w.mine ≡ v.mine)
-looks_made v w t at made = (begins_trans v.seen at w.seen made.from made.seen, made.mine ∙ append-nil v.mine)
 
 -- law: it only looked, where it left objects alone
 pub looks_at : (l m : LaneOf) (t : ℕ) (at : List TimerEntry) → MadeAt l.pass.timers.known m.pass.timers.known t at []

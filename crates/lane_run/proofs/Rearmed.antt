@@ -62,13 +62,13 @@ use Rattle.lane_run.specs.Worlds.{WorldOf}
 use Rattle.lane_run.proofs.Armed.{IsArmedSo, places_inside, seen_state, start_none, start_part, start_true, StartPart}
 use Rattle.lane_run.proofs.CallKept.{logged_from, reading_goes_on, reads_begins}
 use Rattle.lane_run.proofs.Entering.{begins_length}
-use Rattle.lane_run.proofs.FiredOnce.{goes_before}
+use Rattle.lane_run.proofs.SeenMore.{goes_before}
 use Rattle.lane_run.proofs.Declared.{declared_base}
 use Rattle.lane_run.proofs.ObjectEntered.{entered_phase, entered_span, part_entry}
 use Rattle.lane_run.proofs.PartKept.{keeps_part, sees_part}
 use Rattle.lane_run.proofs.Parts.{IsPart, part_none, part_then, IsNotedAs}
-use Rattle.lane_run.proofs.Sights.{unstamped}
-use Rattle.lane_run.proofs.TimerCalls.{opened_timers}
+use Rattle.lane_run.proofs.CallKept.{unstamped}
+use Rattle.lane_run.proofs.CallKept.{opened_timers}
 
 -- ---- the start that is wanted
 

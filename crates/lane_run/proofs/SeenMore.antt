@@ -24,11 +24,33 @@ use Rattle.lane_run.specs.Left.{IsObjectLeft, IsWriteLeft, StandAt}
 use Rattle.lane_run.specs.Rounds.{BeginsRound, HasSplit, LeftOf, TakesInPass}
 use Rattle.lane_run.specs.declared.lane.Lane.{Lane}
 use Rattle.lane_run.specs.declared.world.WorldPass.{WorldPass}
-use Rattle.lane_run.proofs.Entering.{begins_length, begins_same, begins_trans}
-use Rattle.lane_run.proofs.FiredOnce.{goes_before}
-use Rattle.lane_run.proofs.Parts.{count_begins}
+use Rattle.lane_run.proofs.Entering.{begins_length, begins_trans}
+
+
 use Rattle.run_history.specs.Fits.{Seen}
 use Rattle.seq_timer.specs.declared.system.TimerEntry.{TimerEntry}
+use Rattle.std.proofs.Common.{[]}
+use Rattle.std.proofs.lemmas.List.{append-nil}
+use Rattle.std.proofs.Common.{◌≤◌}
+use Rattle.seq_timer.specs.Systems.{entries_of}
+use Rattle.base_row.proofs.Begun.{entries_of-begins}
+use Rattle.run_history.specs.Receipts.{count}
+use Rattle.std.proofs.Common.{◌+◌, ◌++◌}
+use Rattle.std.proofs.lemmas.List.{append_assoc}
+use Rattle.run_history.specs.Promises as promises
+
+-- law: a run that goes on from what was seen goes on from what was seen before
+pub goes_before : (xs ys : List TimerEntry) (e : Ending) → Begins xs ys → promises.GoesOn ys e → promises.GoesOn xs e
+goes_before xs ys e begins on =
+    (begins.rest ++ on.0, on.1 ∙ ap (λ zs. zs ++ on.0) begins.whole ∙ append_assoc xs begins.rest on.0)
+
+-- a timer has no fewer entries where more was seen
+pub count_begins : (t : ℕ) (xs ys : List TimerEntry) → Begins xs ys → count t xs ≤ count t ys
+count_begins t xs ys begins = begins_length (entries_of t xs) (entries_of t ys) (entries_of-begins t xs ys begins)
+
+-- an equal list begins with it
+pub begins_same : {A : Type 0} (xs ys : List A) → ys ≡ xs → Begins xs ys
+begins_same xs ys same = record { rest = []; whole = same ∙ sym (append-nil xs) }
 
 -- of each list what was seen goes on
 pub record SeesMore (p q : WorldPass) : Type 0 where

@@ -57,15 +57,16 @@ use Rattle.lane_run.proofs.CallKept.{logged_from, reading_goes_on, reads_begins}
 use Rattle.lane_run.proofs.Armed.{IsArmedSo, places_inside, seen_state, start_true, StartPart}
 use Rattle.lane_run.proofs.Disarmed.{disarmed_part, DisarmedPart, IsIdleOr, moment}
 use Rattle.lane_run.proofs.Entering.{begins_length}
-use Rattle.lane_run.proofs.FiredOnce.{goes_before}
+use Rattle.lane_run.proofs.SeenMore.{goes_before}
 use Rattle.lane_run.proofs.ObjectEntered.{entered_phase, entered_span, part_entry}
 use Rattle.lane_run.proofs.Declared.{declared_base, declared_over, over_of}
 use Rattle.lane_run.proofs.PartKept.{keeps_part, sees_part}
 use Rattle.lane_run.proofs.Parts.{IsPart, part_none, part_then}
-use Rattle.lane_run.proofs.Sights.{keeps_full, keeps_same, unstamped}
+use Rattle.lane_run.proofs.Sights.{keeps_full, keeps_same}
+use Rattle.lane_run.proofs.CallKept.{unstamped}
 use Rattle.lane_run.proofs.SettimeNoted.{settime_noted, SettimeNoted}
 use Rattle.lane_run.proofs.SettimeParts.{allowing_object, checked_for, entered_object, IsRefusal, mode_of, settime_start, valid_for}
-use Rattle.lane_run.proofs.TimerCalls.{opened_timers}
+use Rattle.lane_run.proofs.CallKept.{opened_timers}
 
 -- ---- a settime that made an entry, by what its lane knows of it
 

@@ -25,8 +25,10 @@ use Rattle.run_history.proofs.Promise.{object_point_from}
 use Rattle.lane_run.specs.Called.{caller_of, LaneOf, with_done}
 use Rattle.lane_run.specs.Kept.{Follows, IsNextCall, KeepsCall, log_of, seen_by}
 use Rattle.lane_run.specs.Worlds.{WorldOf}
-use Rattle.lane_run.proofs.Entering.{begins_length, begins_same}
-use Rattle.lane_run.proofs.CallKept.{logged_from, no_notes-joins, same_objects, with_done-joins}
+use Rattle.lane_run.proofs.Entering.{begins_length}
+use Rattle.lane_run.proofs.SeenMore.{begins_same}
+use Rattle.lane_run.proofs.CallKept.{logged_from, same_objects, with_done-joins}
+use Rattle.lane_run.proofs.PartLists.{no_notes-joins}
 use Rattle.lane_run.proofs.PartKept.{keeps_part, sees_part}
 use Rattle.lane_run.proofs.Parts.{part_seen}
 use Rattle.run_history.proofs.Kept.{IsKept}
@@ -130,17 +132,6 @@ pub keeps_sight : {s : Script} {x : WorldOf} {l m : LaneOf} {call : Call} (next 
     → KeepsCall s l call a m
 keeps_sight next a only steps does seen =
     keeps_looking next a only steps (λ e follows joined has kept low. quiet_made kept does (seen e follows joined has))
-
-none_either : (b : Bool) (xs : List ℕ) → xs ≡ [] → (if b then xs else []) ≡ []
-none_either true xs none = none
-none_either false xs none = refl
-
--- law: an answer that tells no stamp of an object adds no number to those of what its call did
-pub unstamped : (i : ℕ) (call : Call) (a : Answer) (timer : ℕ) (ds : List Action) → object_called call ≡ Some timer → object_stamp_in a ≡ []
-    → object_steps_on i call a ds ≡ numbers_of_object i ds
-unstamped i call a timer ds on none =
-    ap (λ o. numbers_of_object i ds ++ stamps_on i o (object_stamp_in a)) on
-    ∙ ap (λ ns. numbers_of_object i ds ++ ns) (none_either (nat_eq timer i) (object_stamp_in a) none) ∙ append-nil (numbers_of_object i ds)
 
 -- law: the same of a call whose answer tells no stamp of an object
 pub keeps_unstamped : {s : Script} {x : WorldOf} {l m : LaneOf} {call : Call} (next : IsNextCall s x l call) (a : Answer) (i : ℕ) → LooksOnly l m

@@ -44,13 +44,9 @@ use Rattle.lane_run.specs.Kept.{entry_in_note, IsNextCall, KeepsCall}
 use Rattle.lane_run.specs.Worlds.{WorldOf}
 use Rattle.lane_run.proofs.Entering.{enters_along, HasReading, lines_along}
 use Rattle.lane_run.proofs.CallKept.{leaves_begins, reads_begins, reading_goes_on}
-use Rattle.lane_run.proofs.Parts.{IsEntered}
+use Rattle.lane_run.proofs.PartLists.{IsEntered}
 use Rattle.lane_run.proofs.Quiet.{keeps_entered, keeps_quiet, saw_quiet, still_quiet, looks_at}
 use Rattle.lane_run.proofs.Sights.{notes_alone}
-
--- the timers of a script's world are on its clocks
-pub opened_timers : {s : Script} {x : WorldOf} {l : LaneOf} {call : Call} → IsNextCall s x l call → x.timers.about.timers ≡ openings (clocks_of s) s.limit
-opened_timers next = ap (λ (o : Opening). o.timers) next.world.timers
 
 -- ---- cancel
 

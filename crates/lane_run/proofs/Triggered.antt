@@ -53,28 +53,6 @@ use Rattle.lane_run.proofs.OwnLines.{turned}
 
 -- ---- the record's spans
 
--- law: the span that a run has of an object's entry is that of its call
-pub span_at : (clock : List ClockLine) (spans : ℕ → ℕ × ℕ) (k n : ℕ) (history : List ObjectMove) (lines : List ObjectLine) (h : ObjectMove)
-    → AreObjectLines clock spans k history lines → slice_get history n ≡ Some h → spans (k + n) ≡ (h.call.from, h.call.to)
-span_at clock spans k n [] lines h are there = absurd (cc)
-span_at clock spans k n (x ∷ xs) [] h are there = absurd are
-span_at clock spans k zero (x ∷ xs) (line ∷ lines) h are there =
-    ap spans (none k) ∙ are.1 ∙ ap (λ (m : ObjectMove). (m.call.from, m.call.to)) (same_Some x h there)
-  where
-    none : (n : ℕ) → n + 0 ≡ n
-    none n = omega arith
-span_at clock spans k (suc n) (x ∷ xs) (line ∷ lines) h are there = ap spans (further k n) ∙ span_at clock spans (k + 1) n xs lines h are.2 there
-  where
-    further : (k n : ℕ) → k + suc n ≡ k + 1 + n
-    further k n = omega arith
-
--- law: a run has the span of an object's entry that was made
-pub span_made : (q : ObjectsPass) (e : Ending) (i many : ℕ) (step : ObjectMove) → FollowsObject e i (seen_of q i) → slice_get (seen_of q i) many ≡ Some step
-    → e.spans i (many + 1) ≡ (step.call.from, step.call.to)
-span_made q e i many step follows there =
-    ap (e.spans i) (turned many) ∙ span_at e.run.clock (e.spans i) 1 many follows.history (lines_of_object e.run i) step follows.lines
-    (subst (λ ys. slice_get ys many ≡ Some step) (sym follows.goes_on.whole) (at_left (seen_of q i) follows.goes_on.rest many step there))
-
 -- ---- the note of a trigger
 
 -- a trigger that made an entry: the record's entry of it

@@ -29,8 +29,10 @@ use Rattle.timer_objects.specs.Known.{seen_of}
 use Rattle.lane_run.specs.Called.{CallsWrite, LaneOf, line_of_write, with_write_told, write_told}
 use Rattle.lane_run.specs.Kept.{IsNextCall, KeepsCall, log_of, seen_by, SeesOn}
 use Rattle.lane_run.specs.Worlds.{WorldOf}
-use Rattle.lane_run.proofs.Entering.{begins_length, begins_same, enters_none}
-use Rattle.lane_run.proofs.CallKept.{no_places, promised_from, reads_begins, same_objects, same_order, stand_from, take_whole}
+use Rattle.lane_run.proofs.Entering.{begins_length, enters_none}
+use Rattle.lane_run.proofs.SeenMore.{begins_same}
+use Rattle.lane_run.proofs.CallKept.{no_places, promised_from, reads_begins, same_objects, stand_from, take_whole}
+use Rattle.lane_run.proofs.PartLists.{same_order}
 use Rattle.lane_run.proofs.Quiet.{keeps_quiet, no_object_steps}
 use Rattle.lane_run.proofs.Sights.{LooksOnly, looks_alone, keeps_looking}
 
@@ -48,10 +50,6 @@ write_joins notes stamp line =
     (sym (append-nil notes.objects))
     ∙ ap (λ ks. record { entries = notes.entries ++ []; looks = notes.looks ++ []; objects = notes.objects ++ []; skips = ks; writes = all })
     (sym (append-nil notes.skips))
-
--- law: the reading after all writes that a pass has seen is the record's, in every run that goes on from there
-pub reading_of_seen : (e : Ending) (ws : List Write) → GoesOnClock ws e → reading_at e.run.clock (length ws) ≡ reading_after ws
-reading_of_seen e ws on = reading_seen e ws (length ws) on (omega arith) ∙ ap (clock_after (at_stamp 0)) (take_whole ws)
 
 -- such a run has no fewer writes
 writes_within : (e : Ending) (ws : List Write) → GoesOnClock ws e → length ws ≤ length e.run.clock
