@@ -53,7 +53,7 @@ use Rattle.lane_run.proofs.SeenMore.{begins_same}
 use Rattle.lane_run.proofs.Parts.{IsPart, part_none, part_entered}
 use Rattle.lane_run.proofs.PartLists.{IsEntered}
 use Rattle.lane_run.proofs.Entering.{looks_made}
-use Rattle.lane_run.proofs.TimerCalls.{start_reads, started_so}
+use Rattle.lane_run.proofs.Starts.{start_reads, started_so}
 
 -- ---- receipts of entries
 
@@ -134,7 +134,7 @@ start_none IsSo label o v w p t mode ns base reading log log' alone same = recor
   more = [];
   adds = same ∙ sym (append-nil log);
   arms = refl;
-  part = part_none IsSo label v p w (begins_same v.seen w.seen (ap (λ k. k.seen) alone)) (ap (λ k. k.mine) alone);
+  part = part_none IsSo label v p w (begins_same (ap (λ k. k.seen) alone)) (ap (λ k. k.mine) alone);
   armed = tt;
 }
 
@@ -151,7 +151,7 @@ module _ (IsSo : List ClockLine → Type 0) (label : Label) (o : Opening) (clock
       → StartPart IsSo label o v w p t wanted.mode wanted.ns base reading (arm_of a) log log'
   start_by (starts.Spent n) s receipts =
       let u = timer_then o s.at t in
-      let looks = looks_made v w t s.at s.made in
+      let looks = looks_made s.made in
       let same : u ≡ timer_then o w.seen t = sym (timer_after o v w t s.at [] s.made) in
       record {
         start = [];

@@ -140,7 +140,7 @@ timers_still IsSo label timer v w log log' body same logs none no_write no_look 
   notes = [];
   log = [];
   adds = logs ∙ sym (append-nil log);
-  enters = enters_none IsSo v w (begins_same v.seen w.seen (ap (λ k. k.seen) same)) (ap (λ k. k.mine) same);
+  enters = enters_none IsSo v w (begins_same (ap (λ k. k.seen) same)) (ap (λ k. k.mine) same);
   are = sym none;
   told = refl;
   no_write = no_write;
@@ -257,9 +257,9 @@ module _ (IsSo : List ClockLine → Type 0) (s : Script) (o : Opening) (is : o �
       → BodyKept IsSo s label c reading.stamp restart v w p q log log' object_log object_log'
   looked_kept restart at number event observation reply made noted observes logs stamp holds below kind =
       let counted : number ≡ count c.timer at = stamp ∙ stamp_counts o (clocks_of s) s.limit at c.timer on in
-      let low = count_begins c.timer v.seen at made.from in
-      let high = count_begins c.timer at w.seen made.seen in
-      let looks = looks_made v w c.timer at made in
+      let low = count_begins c.timer made.from in
+      let high = count_begins c.timer made.seen in
+      let looks = looks_made made in
       let state : timer_then o at c.timer ≡ state_seen s w.seen c.timer =
       sym (timer_after o v w c.timer at [] made) ∙ ap (λ (x : Opening). timer_then x w.seen c.timer) is in
       record {

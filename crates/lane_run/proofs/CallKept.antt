@@ -42,7 +42,8 @@ use Rattle.lane_run.specs.Called.{LaneOf, LeavesClock, Reads, with_done}
 use Rattle.lane_run.specs.Kept.{BearLabel, entry_in_note, Follows, IsNextCall, log_of, seen_by, SeesOn, StandIn}
 use Rattle.lane_run.specs.Worlds.{WorldOf}
 use Rattle.lane_run.specs.declared.world.WorldPass.{WorldPass}
-use Rattle.lane_run.proofs.Entering.{begins_length, EntersNotes, place_of}
+use Rattle.lane_run.proofs.Entering.{EntersNotes, place_of}
+use Rattle.pass_names.proofs.Passes.{begins_length}
 use Rattle.lane_run.proofs.SeenMore.{begins_same}
 use Rattle.std.proofs.Common.{true, false, nat_eq, if◌then◌else◌}
 use Rattle.script_text.specs.Actions.{Action, numbers_of_object}
@@ -144,7 +145,7 @@ no_places p mine new is = let same = ap (count p) is in omega (arith, same)
 
 -- the clock was left alone
 pub leaves_begins : (p q : WorldPass) → LeavesClock p q → Begins (writes p.clock.knows) (writes q.clock.knows)
-leaves_begins p q leaves = begins_same (writes p.clock.knows) (writes q.clock.knows) (ap (λ c. writes c.knows) leaves)
+leaves_begins p q leaves = begins_same (ap (λ c. writes c.knows) leaves)
 
 -- the clock was read
 pub reads_begins : (p q : WorldPass) → GoesOn p.clock.knows.pass.seen q.clock.knows.pass.seen → Begins (writes p.clock.knows) (writes q.clock.knows)
@@ -152,7 +153,7 @@ reads_begins p q goes_on = goes_on.each 0
 
 -- the objects were left alone
 pub same_objects : (p q : WorldPass) → q.objects ≡ p.objects → GoesOn p.objects.knows.pass.seen q.objects.knows.pass.seen
-same_objects p q is = record { each = λ i. begins_same (seen_of p.objects i) (seen_of q.objects i) (ap (λ o. seen_of o i) is) }
+same_objects p q is = record { each = λ i. begins_same (ap (λ o. seen_of o i) is) }
 
 -- all of a list
 pub take_whole : {A : Type 0} (xs : List A) → take (length xs) xs ≡ xs
@@ -197,8 +198,8 @@ pub logged_from : (p q : WorldPass) (notes : List Noted) (t : Trace) (call : Cal
     → ((i : ℕ) → NeverFall (length (seen_of p.objects i)) (object_steps_on i call a t.actions) (length (seen_of q.objects i)))
     → IsLogged (log_of p q notes t) call a (seen_by p) (seen_by q)
 logged_from p q notes t call a sees last made are at none objects =
-    let forward = begins_length p.timers.known.seen q.timers.known.seen sees.timers in
-    let clock = begins_length (writes p.clock.knows) (writes q.clock.knows) sees.clock in
+    let forward = begins_length sees.timers in
+    let clock = begins_length sees.clock in
     record {
       forward = omega (arith, forward, last);
       last = omega (arith, last);

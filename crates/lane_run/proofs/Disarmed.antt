@@ -35,7 +35,7 @@ moment v at = record v { seen = at }
 
 -- law: entries that a call made at a moment it made from that moment on
 pub made_from : (v w : KnownOfTimers) (t : ℕ) (at : List TimerEntry) (es : List histories.Entry) → MadeAt v w t at es → MadeAt (moment v at) w t at es
-made_from v w t at es made = record { from = begins_same at at refl; seen = made.seen; own = made.own; mine = made.mine; id = made.id }
+made_from v w t at es made = record { from = begins_same refl; seen = made.seen; own = made.own; mine = made.mine; id = made.id }
 
 -- a timer that nobody cancelled was idle
 abbrev pub IsIdleOr : Timer → Option (ℕ × ℕ) → Type 0

@@ -31,6 +31,8 @@ use Rattle.run_history.proofs.Known.{adds_made, AreEntries, AreMade, AreShown, m
 use Rattle.record_text.proofs.Lists.{All-append}
 use Rattle.script_text.specs.Actions.{made}
 
+use Rattle.pass_names.proofs.Passes.{begins_trans, begins_length}
+
 -- ---- the record's entries of events
 
 -- the record's entry of an event of a timer
@@ -107,25 +109,14 @@ pub record EntersNotes (IsSo : List ClockLine → Type 0) (v w : KnownOfTimers) 
   pub mine : w.mine ≡ v.mine ++ map place_of notes
   pub shows : (r : RunRecord) (order later : List TimerEntry) → order ≡ w.seen ++ later → IsSo r.clock → AllByRecursion (ShowsEntry r order) notes
 
--- a list that goes on twice goes on
-pub begins_trans : {A : Type 0} (xs ys zs : List A) → Begins xs ys → Begins ys zs → Begins xs zs
-begins_trans xs ys zs one two = record {
-  rest = one.rest ++ two.rest;
-  whole = two.whole ∙ ap (λ us. us ++ two.rest) one.whole ∙ append_assoc xs one.rest two.rest;
-}
-
--- what begins a list is no longer than the list
-pub begins_length : {A : Type 0} (xs ys : List A) → Begins xs ys → length xs ≤ length ys
-begins_length xs ys begins = omega (arith, ap length begins.whole, length-append xs begins.rest)
-
 -- law: receipts of two parts of a call are those of both
 pub enters-append : (IsSo : List ClockLine → Type 0) (u v w : KnownOfTimers) (xs ys : List Noted) → EntersNotes IsSo u v xs → EntersNotes IsSo v w ys
     → EntersNotes IsSo u w (xs ++ ys)
 enters-append IsSo u v w xs ys one two = record {
-  seen = begins_trans u.seen v.seen w.seen one.seen two.seen;
+  seen = begins_trans one.seen two.seen;
   made = made-append w.seen (length u.seen) (length v.seen) (length w.seen) xs ys
       (made_goes_on w.seen v.seen two.seen.rest (length u.seen) (length v.seen) xs two.seen.whole one.made) two.made
-      (begins_length u.seen v.seen one.seen) (begins_length v.seen w.seen two.seen);
+      (begins_length one.seen) (begins_length two.seen);
   mine = two.mine ∙ ap (λ ps. ps ++ map place_of ys) one.mine ∙ append_assoc u.mine (map place_of xs) (map place_of ys)
       ∙ ap (λ ps. u.mine ++ ps) (sym (map-append place_of xs ys));
   shows = λ r order later is so. All-append (ShowsEntry r order) xs ys
@@ -185,8 +176,8 @@ enters_along IsSo o clocks limit v w t x es is made reads =
     record {
       notes = adds.0;
       enters = record {
-        seen = begins_trans v.seen x w.seen made.from made.seen;
-        made = made_wider w.seen (length v.seen) (length x) (length w.seen) (length w.seen) adds.0 (begins_length v.seen x made.from) (omega arith) there;
+        seen = begins_trans made.from made.seen;
+        made = made_wider w.seen (length v.seen) (length x) (length w.seen) (length w.seen) adds.0 (begins_length made.from) (omega arith) there;
         mine = made.mine ∙ ap (λ ps. v.mine ++ ps) (numbered_places t (count t x) adds.0 (entries_along s es) (lines_along s es) adds.2 (lines_as_many s es));
         shows = λ r order later whole so. shows_made r order w.seen later t s.stamp adds.0 (entries_along s es) (lines_along s es) whole
             (subst (λ xs. AreEntries xs adds.0 (entries_along s es)) (sym made.seen.whole) adds.3) are (along_shown r.clock s es (reads r.clock so));
@@ -195,5 +186,5 @@ enters_along IsSo o clocks limit v w t x es is made reads =
     }
 
 -- law: a call that made no entry of its timer saw more, and made none
-pub looks_made : (v w : KnownOfTimers) (t : ℕ) (at : List TimerEntry) → MadeAt v w t at [] → Begins v.seen w.seen × (w.mine ≡ v.mine)
-looks_made v w t at made = (begins_trans v.seen at w.seen made.from made.seen, made.mine ∙ append-nil v.mine)
+pub looks_made : {v w : KnownOfTimers} {t : ℕ} {at : List TimerEntry} → MadeAt v w t at [] → Begins v.seen w.seen × (w.mine ≡ v.mine)
+looks_made {v = v} made = (begins_trans made.from made.seen, made.mine ∙ append-nil v.mine)

@@ -44,7 +44,7 @@ use Rattle.run_history.proofs.Promise.{object_point_from, seen_first}
 use Rattle.lane_run.specs.Called.{CallsExpire, claimed_in, expire_told, LaneOf, Reads, with_done}
 use Rattle.lane_run.specs.Kept.{Follows, IsNextCall, KeepsCall, seen_by}
 use Rattle.lane_run.specs.Worlds.{WorldOf}
-use Rattle.lane_run.proofs.Entering.{begins_length}
+use Rattle.pass_names.proofs.Passes.{begins_length}
 use Rattle.lane_run.proofs.SeenMore.{begins_same}
 use Rattle.lane_run.proofs.FiredAll.{RunKept, turns_kept}
 use Rattle.lane_run.proofs.SeenMore.{goes_before}
@@ -120,8 +120,8 @@ keeps_run {s = s} {l = l} {m = m} {base = base} {budget = budget} next a reading
     let is : IsLabel s label = slice_get_within (calls_of s label.lane) label.call next.at next.there in
     fits e follows joined kept low
     (have_later (course_of s e) label e.order base reading.stamp [] (length p.timers.known.seen) run.fired run.notes (length w.seen)
-    (length q.timers.known.seen) (begins_length w.seen q.timers.known.seen seen)
-    (run.have e joined (goes_before w.seen q.timers.known.seen e seen follows.timers) follows.objects [] (λ i. tt)
+    (length q.timers.known.seen) (begins_length seen)
+    (run.have e joined (goes_before seen follows.timers) follows.objects [] (λ i. tt)
     (λ i k before rest parts low high below behind. object_point_from joined is has i k before rest (sym (append-nil actions) ∙ parts) low high below
     behind))))
 
@@ -171,7 +171,7 @@ module _ (s : Script) (x : WorldOf) (l m : LaneOf) (base budget : ℕ) (next : I
       let ran = callbacks_kept n w run.1 in
       subst (λ ts. KeepsCall s l (calls.Expire base budget) (answers.More reading.stamp ts) m) (sym ran.claimed)
       (keeps_run next (answers.More reading.stamp (map (λ f. f.timer) ran.fired)) reading reads n w log callback_log object_log ran
-      (begins_same w.seen w.seen refl) refl notes
+      (begins_same refl) refl notes
       (λ e follows joined kept low have. expire_more e.order kept low have (ran.many ∙ run.0)))
   expiry_kept (expiries.Done n) run =
       let k1 = run.1.0 in

@@ -30,7 +30,7 @@ use Rattle.run_history.proofs.Expires.{claim_of, finish_of, HaveRun, run_push, w
 use Rattle.lane_run.specs.Called.{claimed_in, is_claim}
 use Rattle.lane_run.specs.Kept.{FollowsObject}
 use Rattle.lane_run.specs.Worlds.{IsWorldOf, WorldOf}
-use Rattle.lane_run.proofs.Entering.{begins_length, begins_trans}
+use Rattle.pass_names.proofs.Passes.{begins_length, begins_trans}
 use Rattle.lane_run.proofs.SeenMore.{begins_same}
 use Rattle.lane_run.proofs.FiredOnce.{turn_kept, TurnKept}
 use Rattle.lane_run.proofs.SeenMore.{goes_before}
@@ -98,7 +98,7 @@ follows_before : (p q : ObjectsPass) (e : Ending) → GoesOn p.knows.pass.seen q
     → FollowsObject e i (seen_of p i)
 follows_before p q e goes_on follows i = record {
   history = (follows i).history;
-  goes_on = begins_trans (seen_of p i) (seen_of q i) (follows i).history (goes_on.each i) (follows i).goes_on;
+  goes_on = begins_trans (goes_on.each i) (follows i).goes_on;
   lines = (follows i).lines;
 }
 
@@ -111,7 +111,7 @@ module _ (IsSo : List ClockLine → Type 0) (s : Script) (label : Label) (base a
     notes = [];
     no_looks = refl;
     claimed = refl;
-    part = part_none IsSo label k p k (begins_same k.seen k.seen refl) refl;
+    part = part_none IsSo label k p k (begins_same refl) refl;
     have = λ e joined goes follows later behind points. (refl, omega arith);
   }
 
@@ -166,11 +166,11 @@ module _ (IsSo : List ClockLine → Type 0) (s : Script) (label : Label) (base a
             let whole : flat_map (fires base at) (run.fired ++ f ∷ []) ++ later ≡ done ++ (one ++ later) =
             ap (λ ds. ds ++ later) all ∙ append_assoc done one later in
             let grows : (i : ℕ) → length (seen_of p1 i) ≤ length (seen_of p' i) =
-            λ i. begins_length (seen_of p1 i) (seen_of p' i) (turn.part.objects.goes_on.each i) in
+            λ i. begins_length (turn.part.objects.goes_on.each i) in
             let earlier : HasPoints s e label p p1 (done ++ (one ++ later)) =
             λ i m before rest parts low high below above.
             points i m before rest (whole ∙ parts) low (let le = grows i in omega (arith, high, le)) below above in
-            let before_run = run.have e joined (goes_before k1.seen k'.seen e turn.part.timers.enters.seen goes)
+            let before_run = run.have e joined (goes_before turn.part.timers.enters.seen goes)
             (follows_before p1 p' e turn.part.objects.goes_on follows)
             (one ++ later)
             (λ i. subst (AllByRecursion (λ x. length (seen_of p1 i) < x.0)) (sym (made-append i one later))
@@ -180,7 +180,7 @@ module _ (IsSo : List ClockLine → Type 0) (s : Script) (label : Label) (base a
             let one_run = turn.ran e joined goes follows done
             (λ i none. points i (length (seen_of p' i)) (with_claim base at f done) ((f.body ++ finishing) ++ later)
             (whole ∙ sym (append_assoc done (Entered f.timer f.claim (claim_of base at f) ∷ []) ((f.body ++ finishing) ++ later)))
-            (let le = grows i in let first = begins_length (seen_of p i) (seen_of p1 i) (run.part.objects.goes_on.each i) in omega (arith, le, first))
+            (let le = grows i in let first = begins_length (run.part.objects.goes_on.each i) in omega (arith, le, first))
             (omega arith)
             (subst (AllByRecursion (λ x. x.0 ≤ length (seen_of p' i)))
             (sym (made-append i done (Entered f.timer f.claim (claim_of base at f) ∷ []) ∙ append-nil (made i done)))

@@ -55,7 +55,8 @@ use Rattle.lane_run.specs.Kept.{entry_in_note, FollowsObject}
 use Rattle.lane_run.specs.Worlds.{callback_of, IsWorldOf, WorldOf}
 use Rattle.lane_run.proofs.Declared.{declared_callback, declared_over, over_of}
 use Rattle.lane_run.proofs.Bodies.{BodyKept, callback_kept, fired_of}
-use Rattle.lane_run.proofs.Entering.{begins_length, begins_trans, enters-append, enters_along, EntersNotes}
+use Rattle.lane_run.proofs.Entering.{enters-append, enters_along, EntersNotes}
+use Rattle.pass_names.proofs.Passes.{begins_length, begins_trans}
 use Rattle.lane_run.proofs.Parts.{IsObjectsPart, IsPart, objects-append, objects_alone}
 use Rattle.lane_run.proofs.SeenMore.{count_begins}
 use Rattle.lane_run.proofs.PartLists.{each_weaker, looked-append, RisesTo, wrote-append}
@@ -193,9 +194,9 @@ module _ (IsSo : List ClockLine → Type 0) (s : Script) (x : WorldOf) (is : IsW
       let source : map receipt (one.0 ∷ two ++ three.0 ∷ []) ≡ C_noted ∷ (told ++ F ∷ []) =
       ap (λ r. r ∷ map receipt (two ++ three.0 ∷ [])) (one.2 ∙ ap (λ on. (c.timer, (c.number, entries.Claim on at c.generation))) (sym claims.there))
       ∙ ap (λ rs. C_noted ∷ rs) (tail ∙ ap (λ rs. rs ++ F ∷ []) b.timers.told) in
-      let first_seen = begins_length k.seen claimed.seen one.1.seen in
+      let first_seen = begins_length one.1.seen in
       let more_seen : count c.timer k.seen + 1 ≤ count c.timer claimed.seen =
-      let le = count_begins c.timer k.seen claims.at claims.made.from in
+      let le = count_begins c.timer claims.made.from in
       omega (
         arith,
         le,
@@ -203,8 +204,8 @@ module _ (IsSo : List ClockLine → Type 0) (s : Script) (x : WorldOf) (is : IsW
         length-append (entries_of c.timer claims.at)
             (record { event = events.Claim base reading; reply = reply_to (timer_then x.timers.about claims.at c.timer) (events.Claim base reading) } ∷ []),
       ) in
-      let last_seen = count_begins c.timer done.seen k'.seen three.1.seen in
-      let whole = begins_trans k.seen claimed.seen k'.seen one.1.seen (begins_trans claimed.seen done.seen k'.seen b.timers.enters.seen three.1.seen) in
+      let last_seen = count_begins c.timer three.1.seen in
+      let whole = begins_trans one.1.seen (begins_trans b.timers.enters.seen three.1.seen) in
       let looks_are : (t : ℕ) → looked t body ≡ looked t (fires base at f) = λ t. sym (looked-append t body finishing ∙ append-nil (looked t body)) in
       let nothing : IsObjectsPart IsSo label p' p' finishing [] = objects_alone IsSo label p' p' finishing refl (λ i. refl) (λ i. refl) (λ i. refl) in
       let before : IsObjectsPart IsSo label p p (Entered f.timer f.claim (claim_of base at f) ∷ []) [] =
@@ -233,7 +234,7 @@ module _ (IsSo : List ClockLine → Type 0) (s : Script) (x : WorldOf) (is : IsW
             looks = λ t. b.timers.looks t ∙ looks_are t;
             looks_rise = λ t. subst (λ ns. RisesTo (count t k.seen + 1) (map (λ n. n.0) ns) (count t k'.seen + 1)) (looks_are t)
                 (b.timers.looks_rise t (count t k.seen + 1) (count t k'.seen + 1)
-                (let le = count_begins t k.seen k'.seen whole in omega (arith, le))
+                (let le = count_begins t whole in omega (arith, le))
                 (λ same. subst (λ u. (count u k.seen + 1 ≤ count u claimed.seen) × (count u done.seen < count u k'.seen + 1)) (sym same)
                 (more_seen, omega (arith, last_seen))));
             looks_seen = looks_to (count c.timer claimed.seen) (count c.timer done.seen) k' (look_notes label more) c.timer (omega (arith, more_seen)) last_seen
@@ -251,18 +252,18 @@ module _ (IsSo : List ClockLine → Type 0) (s : Script) (x : WorldOf) (is : IsW
             body = two;
             finish = three.0;
             rise = first_seen;
-            goes_on = begins_length claimed.seen done.seen b.timers.enters.seen;
-            ends = begins_length done.seen k'.seen three.1.seen;
-            claim_made = let on = goes_before claimed.seen k'.seen e (begins_trans claimed.seen done.seen k'.seen b.timers.enters.seen three.1.seen) goes in
+            goes_on = begins_length b.timers.enters.seen;
+            ends = begins_length three.1.seen;
+            claim_made = let on = goes_before (begins_trans b.timers.enters.seen three.1.seen) goes in
                 made_goes_on e.order claimed.seen on.0 (length k.seen) (length claimed.seen) (one.0 ∷ []) on.1 one.1.made;
             claim_is = one.2;
-            body_made = let on = goes_before done.seen k'.seen e three.1.seen goes in
+            body_made = let on = goes_before three.1.seen goes in
                 made_goes_on e.order done.seen on.0 (length claimed.seen) (length done.seen) two on.1 b.timers.enters.made;
             body_is = b.timers.are;
             finish_made = made_goes_on e.order k'.seen goes.0 (length done.seen) (length k'.seen) (three.0 ∷ []) goes.1 three.1.made;
             finish_is = three.2;
             kind = b.kind finished.number (restart_noted finished.rearmed);
-            holds = b.holds e joined (goes_before done.seen k'.seen e three.1.seen goes) (with_claim base at f before) points;
+            holds = b.holds e joined (goes_before three.1.seen goes) (with_claim base at f before) points;
             span = b.span e follows finished.number (restart_noted finished.rearmed);
           },
           refl,

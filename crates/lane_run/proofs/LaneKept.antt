@@ -27,8 +27,9 @@ use Rattle.lane_run.specs.declared.world.WorldPass.{WorldPass}
 use Rattle.lane_run.proofs.Expired.{keeps_expire}
 use Rattle.lane_run.proofs.ObjectLooks.{keeps_overrun, keeps_readable}
 use Rattle.lane_run.proofs.PartLists.{falls_lower}
-use Rattle.lane_run.proofs.Quiet.{keeps_peek}
-use Rattle.lane_run.proofs.RearmedCalls.{keeps_accept, keeps_gettime, keeps_read}
+use Rattle.lane_run.proofs.Sights.{keeps_peek}
+use Rattle.lane_run.proofs.RearmedCalls.{keeps_accept, keeps_read}
+use Rattle.lane_run.proofs.EachCall.{keeps_gettime}
 use Rattle.lane_run.proofs.SeenMore.{follows_less, more_called}
 use Rattle.lane_run.proofs.Settimes.{keeps_settime}
 use Rattle.lane_run.proofs.TimerCalls.{keeps_cancel, keeps_start}
@@ -36,20 +37,9 @@ use Rattle.lane_run.proofs.Writing.{keeps_write}
 
 -- ---- one call
 
--- law: a lane keeps each call
-pub keeps_call : {s : Script} {x : WorldOf} {l m : LaneOf} {a : Answer} (call : Call) → IsNextCall s x l call → Called x l call a m
-    → KeepsCall s l call a m
-keeps_call (calls.Start timer mode ns base) next c = keeps_start next c
-keeps_call (calls.Cancel timer) next c = keeps_cancel next c
-keeps_call (calls.Peek timer) next c = keeps_peek next c
-keeps_call (calls.Expire base budget) next c = keeps_expire next c
-keeps_call (calls.Clock write) next c = keeps_write next c
-keeps_call (calls.Settime timer flags value interval) next c = keeps_settime next c
-keeps_call (calls.Gettime timer) next c = keeps_gettime next c
-keeps_call (calls.Accept timer) next c = keeps_accept next c
-keeps_call (calls.Overrun timer) next c = keeps_overrun next c
-keeps_call (calls.Read timer len) next c = keeps_read next c
-keeps_call (calls.Readable timer) next c = keeps_readable next c
+-- each call that a lane makes it keeps
+abbrev pub KeepsEach : Script → WorldOf → Type 0
+KeepsEach s x = (l m : LaneOf) (call : Call) (a : Answer) → IsNextCall s x l call → Called x l call a m → KeepsCall s l call a m
 
 -- law: a run that goes on from what a lane has seen goes on from what it had seen before
 pub follows_earlier : (p q : WorldPass) (e : Ending) → SeesOn p q → Follows q e → Follows p e
@@ -107,13 +97,13 @@ module _ (s : Script) (lane : ℕ) (bound : length (calls_of s lane) < 2 ^ 32) w
   next_index index number is = ap (λ n. as_index (n + 1)) is
 
   -- law: a lane keeps the calls that it makes in turn
-  pub keeps_calls : (x : WorldOf) → IsWorldOf s x → IsInRange s → IsWhole x
+  pub keeps_calls : (x : WorldOf) → KeepsEach s x → IsWorldOf s x → IsInRange s → IsWhole x
       → (l : LaneOf) (index : ℕ) (cs : List Call) (given : List Answer) (m : LaneOf) → l.label.lane ≡ lane → l.label.call ≡ as_index index
       → AreNextCalls s lane index cs → l.pass.objects.knows.opening ≡ (row_of x.objects).made → CalledAll x l cs given m → KeepsCalls s l cs given m
-  keeps_calls x world range whole l index [] [] m is number next opening called = called
-  keeps_calls x world range whole l index [] (a ∷ given) m is number next opening called = absurd called
-  keeps_calls x world range whole l index (c ∷ cs) [] m is number next opening called = absurd called
-  keeps_calls x world range whole l index (c ∷ cs) (a ∷ given) m is number next opening called =
+  keeps_calls x each world range whole l index [] [] m is number next opening called = called
+  keeps_calls x each world range whole l index [] (a ∷ given) m is number next opening called = absurd called
+  keeps_calls x each world range whole l index (c ∷ cs) [] m is number next opening called = absurd called
+  keeps_calls x each world range whole l index (c ∷ cs) (a ∷ given) m is number next opening called =
       let n = called.0 in
       let at = this_index index c cs l.label.call number next in
       let this : IsNextCall s x l c = record {
@@ -126,11 +116,11 @@ module _ (s : Script) (lane : ℕ) (bound : length (calls_of s lane) < 2 ^ 32) w
             (subst (λ j. slice_get (calls_of s lane) j ≡ Some next.0.0) (sym at) next.0.1);
         is = next.0.2;
       } in
-      let kept = keeps_call c this called.2 in (
+      let kept = each l n c a this called.2 in (
         n,
         called.1,
         kept,
-        keeps_calls x world range whole (next_of n) (index + 1) cs given m (ap (λ (d : Label). d.lane) called.1 ∙ is)
+        keeps_calls x each world range whole (next_of n) (index + 1) cs given m (ap (λ (d : Label). d.lane) called.1 ∙ is)
             (next_index index n.label.call (ap (λ (d : Label). d.call) called.1 ∙ at)) next.1 (kept.sees.opening ∙ opening) called.3,
       )
 

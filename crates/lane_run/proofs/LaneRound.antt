@@ -23,7 +23,7 @@ use Rattle.lane_run.specs.declared.lane.Lane.{Lane}
 use Rattle.lane_run.specs.declared.world.WorldPass.{WorldPass}
 use Rattle.lane_run.proofs.CallingLanes.{calls_bound, calls_in_round, in_round, next_calls}
 use Rattle.lane_run.proofs.Chains.{Chain, chain_calls, chain_higher, Lies, lies_later, lies_pushed, ListOf}
-use Rattle.lane_run.proofs.LaneKept.{keeps_calls, next_index, promised_calls, promised_later, this_index}
+use Rattle.lane_run.proofs.LaneKept.{KeepsEach, keeps_calls, next_index, promised_calls, promised_later, this_index}
 use Rattle.lane_run.proofs.NotesJoined.{AreOf, call_notes, joined}
 use Rattle.lane_run.proofs.PartLists.{each_weaker}
 use Rattle.lane_run.proofs.SeenMore.{follows_less, more_begun, more_called, more_same, more_trans, no_less, seen_begun, SeesMore, stand_called, stand_later}
@@ -215,7 +215,7 @@ pub record LeavesRound (s : Script) (p : WorldPass) (lane : ℕ) (d : LaneSoFar)
   pub chain : (x : ListOf) → Chain x (x.seen (seen_by p)) new (x.seen (seen_by m))
   pub promised : IsPromisedSoFar s lane (length (d.logs ++ new)) (d.logs ++ new) (Follows m) (seen_by m) rest (d.given ++ given)
 
-module _ (s : Script) (x : WorldOf) (world : IsWorldOf s x) (range : IsInRange s) (whole : IsWhole x) where
+module _ (s : Script) (x : WorldOf) (each : KeepsEach s x) (world : IsWorldOf s x) (range : IsInRange s) (whole : IsWhole x) where
   -- law: a lane that made its calls leaves this
   pub leaves_round : (past : List Seen) (p : WorldPass) (left : LeftOf) (round : ℕ) (r : Round) (rest : List CallInRound) (d : LaneSoFar) (old new : Lane)
       → IsKeptOf s past p old.label.lane d → d.rest ≡ in_round round (lane_calls old.label.lane r) ++ rest
@@ -234,7 +234,7 @@ module _ (s : Script) (x : WorldOf) (world : IsWorldOf s x) (range : IsInRange s
       let next : AreNextCalls s lane index cs =
       subst (λ n. AreNextCalls s lane n cs) (sym so_far.counted)
       (next_calls s lane round d.done cs rest (so_far.parts ∙ ap (λ qs. d.done ++ qs) left_calls)) in
-      let kept = keeps_calls s lane bound x world range whole l index cs makes.calls.given m refl number next of.pass.objects.row.made
+      let kept = keeps_calls s lane bound x each world range whole l index cs makes.calls.given m refl number next of.pass.objects.row.made
       makes.calls.calls in
       let many = are_called s l cs makes.calls.given m kept in
       let logs = logs_of s l cs makes.calls.given m kept in

@@ -34,6 +34,8 @@ use Rattle.lane_run.proofs.NotesJoined.{own_notes-none}
 use Rattle.lane_run.proofs.PartLists.{each_weaker}
 use Rattle.lane_run.proofs.RoundsLeft.{lane_first, left_first, rounds_left}
 
+use Rattle.lane_run.proofs.LaneKept.{KeepsEach}
+
 -- a run has of a lane's calls what it kept of each
 has_from : (e : Ending) (lane index : ℕ) (gs : List CallLog)
     → ((j : ℕ) (g : CallLog) → slice_get gs j ≡ Some g → HasLog e (label_at lane (index + j)) g) → HasLogs e lane index gs
@@ -203,11 +205,11 @@ module _ (s : Script) (past : List Seen) (q : WorldPass) (left : LeftOf) (of : �
 
 -- law: rounds in turn, from the first passes on, leave notes of calls that their lanes kept, and calls that stand by rounds
 pub left_by_rounds : (s : Script) (x : WorldOf) (p q : WorldPass) (left : LeftOf)
-    → IsWorldOf s x → IsInRange s → IsWhole x → AreFirst x p
+    → KeepsEach s x → IsWorldOf s x → IsInRange s → IsWhole x → AreFirst x p
     → MakesRounds x s.rounds p (none_left s.lanes) q left
     → (logs : Label → CallLog) × (starts : Starts) × AreLeft s q left.notes logs × AreByRounds s q logs starts left.answers
-left_by_rounds s x p q left world range whole first makes =
-    let all = rounds_left s x world range whole s.rounds [] p (none_left s.lanes) (lane_first s) q left (left_first s x p first) (λ j. refl)
+left_by_rounds s x p q left each world range whole first makes =
+    let all = rounds_left s x each world range whole s.rounds [] p (none_left s.lanes) (lane_first s) q left (left_first s x p first) (λ j. refl)
     range.callers makes in (
       logs_in all.of,
       all_starts s all.past q left all.of all.all all.rest,

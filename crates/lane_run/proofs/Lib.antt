@@ -10,7 +10,6 @@ pub mod Splitting
 pub mod Ranges
 pub mod Entering
 pub mod CallKept
-pub mod Quiet
 pub mod TimerCalls
 pub mod Writing
 pub mod Parts
@@ -55,3 +54,5 @@ pub mod HungLines
 pub mod Recorded
 pub mod Ended
 pub mod RunFits
+pub mod Starts
+pub mod EachCall

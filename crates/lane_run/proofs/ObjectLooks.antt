@@ -48,7 +48,7 @@ looks_only : (l m : LaneOf) (i : ℕ) (object : Object) (stamp : ℕ) → LooksA
     → Begins (writes l.pass.clock.knows) (writes m.pass.clock.knows) → m.pass.clock.knows.pass.mine ≡ l.pass.clock.knows.pass.mine → m.notes ≡ l.notes
     → LooksOnly l m
 looks_only l m i object stamp looks clock clock_mine notes = record {
-  timers = begins_same l.pass.timers.known.seen m.pass.timers.known.seen (ap (λ k. k.seen) looks.timers);
+  timers = begins_same (ap (λ k. k.seen) looks.timers);
   timers_mine = ap (λ k. k.mine) looks.timers;
   objects = looks.reads.pass.seen;
   mine = looks.reads.pass.mine;

@@ -46,7 +46,8 @@ use Rattle.std.specs.List.{slice_get}
 use Rattle.std.proofs.lemmas.Option.{same_Some}
 use Rattle.timer_objects.specs.Known.{ObjectsPass, seen_of}
 use Rattle.run_history.proofs.Lists.{at_left}
-use Rattle.lane_run.proofs.OwnLines.{turned}
+
+use Rattle.std.proofs.Math.Nat.{add_comm}
 
 take_none : {A : Type 0} (xs : List A) → take 0 xs ≡ []
 take_none [] = refl
@@ -187,5 +188,5 @@ span_at clock spans k (suc n) (x ∷ xs) (line ∷ lines) h are there = ap spans
 pub span_made : (q : ObjectsPass) (e : Ending) (i many : ℕ) (step : ObjectMove) → FollowsObject e i (seen_of q i) → slice_get (seen_of q i) many ≡ Some step
     → e.spans i (many + 1) ≡ (step.call.from, step.call.to)
 span_made q e i many step follows there =
-    ap (e.spans i) (turned many) ∙ span_at e.run.clock (e.spans i) 1 many follows.history (lines_of_object e.run i) step follows.lines
+    ap (e.spans i) (add_comm many 1) ∙ span_at e.run.clock (e.spans i) 1 many follows.history (lines_of_object e.run i) step follows.lines
     (subst (λ ys. slice_get ys many ≡ Some step) (sym follows.goes_on.whole) (at_left (seen_of q i) follows.goes_on.rest many step there))

@@ -27,7 +27,8 @@ use Rattle.run_history.specs.Traces.{all_entered}
 use Rattle.run_history.proofs.Actions.{all_entered-append, made-append}
 use Rattle.run_history.proofs.Lists.{at_left, at_seam}
 use Rattle.lane_run.specs.Kept.{entry_in_note, looks_on, made_on, ObjectMove, ShowsObjectCall, skips_on}
-use Rattle.lane_run.proofs.Entering.{begins_length, begins_trans, enters-append, enters_none, EntersNotes}
+use Rattle.lane_run.proofs.Entering.{enters-append, enters_none, EntersNotes}
+use Rattle.pass_names.proofs.Passes.{begins_length, begins_trans}
 use Rattle.lane_run.proofs.SeenMore.{begins_same}
 use Rattle.std.proofs.lemmas.Bool.{eqb-true}
 use Rattle.record_text.specs.declared.record.ObjectEntry.{ObjectEntry}
@@ -96,7 +97,7 @@ timers_idle IsSo label v w actions none no_write no_look seen mine = record {
   told = IsPermutation-refl [];
   no_write = no_write;
   looks = λ t. sym (no_look t);
-  looks_rise = λ t. let le = count_begins t v.seen w.seen seen in
+  looks_rise = λ t. let le = count_begins t seen in
       subst (λ ns. RisesTo (count t v.seen + 1) (map (λ n. n.0) ns) (count t w.seen + 1)) (sym (no_look t)) (omega (arith, le));
   looks_seen = tt;
 }
@@ -107,7 +108,7 @@ objects_idle : (IsSo : List ClockLine → Type 0) (label : Label) (p q : Objects
     → GoesOn p.knows.pass.seen q.knows.pass.seen → q.knows.pass.mine ≡ p.knows.pass.mine → q.knows.opening ≡ p.knows.opening
     → IsObjectsPart IsSo label p q actions []
 objects_idle IsSo label p q actions none no_skip no_step goes_on mine opening =
-    let grows : (i : ℕ) → length (seen_of p i) ≤ length (seen_of q i) = λ i. begins_length (seen_of p i) (seen_of q i) (goes_on.each i) in
+    let grows : (i : ℕ) → length (seen_of p i) ≤ length (seen_of q i) = λ i. begins_length (goes_on.each i) in
     record {
       makes = λ i. sym (none i);
       rise = λ i. let le = grows i in
@@ -127,7 +128,7 @@ pub objects_alone : (IsSo : List ClockLine → Type 0) (label : Label) (p q : Ob
     → IsObjectsPart IsSo label p q actions []
 objects_alone IsSo label p q actions same none no_skip no_step =
     objects_idle IsSo label p q actions none no_skip no_step
-    (record { each = λ i. begins_same (seen_of p i) (seen_of q i) (ap (λ o. seen_of o i) same) }) (ap (λ o. o.knows.pass.mine) same)
+    (record { each = λ i. begins_same (ap (λ o. seen_of o i) same) }) (ap (λ o. o.knows.pass.mine) same)
     (ap (λ o. o.knows.opening) same)
 
 -- law: a part in which timers and objects were looked at and nothing was done
@@ -163,7 +164,7 @@ part_entered IsSo label v p w q actions notes log enters same only are told no_l
         told = same_order (map receipt notes) (map entry_in_note (entry_notes label log)) told;
         no_write = none.wrote;
         looks = λ t. ap (looks_on t) no_look ∙ sym (none.looked t);
-        looks_rise = λ t. let le = count_begins t v.seen w.seen enters.seen in
+        looks_rise = λ t. let le = count_begins t enters.seen in
             subst (λ ns. RisesTo (count t v.seen + 1) (map (λ n. n.0) ns) (count t w.seen + 1)) (sym (none.looked t)) (omega (arith, le));
         looks_seen = subst (AllByRecursion (λ n. (0 < n.number) × (n.number ≤ count n.timer w.seen))) (sym no_look) tt;
       };
@@ -201,8 +202,8 @@ objects_made IsSo label p q id step entry adds opening as_noted =
     let no_skips : skip_notes label (r ∷ []) ≡ [] =
     ap (λ o. present (option_map (λ (y : ℕ). record { label = label; object = id; number = many + 1; generation = y }) o ∷ [])) as_noted.no_skip in
     let now : length (seen_of q id) ≡ many + 1 = omega (arith, ap length adds.last, length-append adds.before (step ∷ [])) in
-    let behind = begins_length (seen_of p id) adds.before adds.begins in
-    let grows : (i : ℕ) → length (seen_of p i) ≤ length (seen_of q i) = λ i. begins_length (seen_of p i) (seen_of q i) (adds.seen.each i) in
+    let behind = begins_length adds.begins in
+    let grows : (i : ℕ) → length (seen_of p i) ≤ length (seen_of q i) = λ i. begins_length (adds.seen.each i) in
     let low : (i : ℕ) → nat_eq id i ≡ true → length (seen_of p i) ≤ many =
     λ i is. subst (λ j. length (seen_of p j) ≤ many) (eqb-true id i is) behind in
     let high : (i : ℕ) → nat_eq id i ≡ true → length (seen_of q i) ≡ many + 1 =
@@ -237,7 +238,7 @@ pub part_made : (IsSo : List ClockLine → Type 0) (label : Label) (v : KnownOfT
     → IsPart IsSo label v p v q (Made id (length adds.before + 1) entry ∷ []) [] []
     (record { object = id; number = length adds.before + 1; call = step.call; reply = step.reply } ∷ [])
 part_made IsSo label v p q id step entry adds opening as_noted = record {
-  timers = timers_idle IsSo label v v (Made id (length adds.before + 1) entry ∷ []) refl refl (λ t. refl) (begins_same v.seen v.seen refl) refl;
+  timers = timers_idle IsSo label v v (Made id (length adds.before + 1) entry ∷ []) refl refl (λ t. refl) (begins_same refl) refl;
   objects = objects_made IsSo label p q id step entry adds opening as_noted;
 }
 
@@ -264,7 +265,7 @@ objects-append IsSo label o p q ds es log more one two = record {
             (at_left (seen_of p n.object) later.rest is.before is.step is.there);
         shows = is.shows;
       })
-      (λ n is. let le = begins_length (seen_of o n.object) (seen_of p n.object) (one.goes_on.each n.object) in record {
+      (λ n is. let le = begins_length (one.goes_on.each n.object) in record {
         before = is.before;
         number = is.number;
         behind = omega (arith, le, is.behind);
@@ -278,12 +279,12 @@ objects-append IsSo label o p q ds es log more one two = record {
   skips_seen = subst (AllByRecursion (λ n. (0 < n.number) × (n.number ≤ length (seen_of q n.object)))) (sym (skip_notes-append label log more))
       (each_joined (λ n. (0 < n.number) × (n.number ≤ length (seen_of p n.object))) (λ n. (0 < n.number) × (n.number ≤ length (seen_of q n.object)))
       (λ n. (0 < n.number) × (n.number ≤ length (seen_of q n.object))) (skip_notes label log) (skip_notes label more)
-      (λ n is. let le = begins_length (seen_of p n.object) (seen_of q n.object) (two.goes_on.each n.object) in (is.0, omega (arith, is.1, le)))
+      (λ n is. let le = begins_length (two.goes_on.each n.object) in (is.0, omega (arith, is.1, le)))
       (λ n is. is) one.skips_seen two.skips_seen);
   steps = λ i. subst (λ ns. NeverFall (length (seen_of o i)) ns (length (seen_of q i))) (sym (numbers-append i ds es))
       (falls_on (length (seen_of o i)) (numbers_of_object i ds) (length (seen_of p i)) (numbers_of_object i es) (length (seen_of q i)) (one.steps i)
       (two.steps i));
-  goes_on = record { each = λ i. begins_trans (seen_of o i) (seen_of p i) (seen_of q i) (one.goes_on.each i) (two.goes_on.each i) };
+  goes_on = record { each = λ i. begins_trans (one.goes_on.each i) (two.goes_on.each i) };
   opening = two.opening ∙ one.opening;
   mine = two.mine ∙ ap (λ ps. ps ++ map object_place (object_notes label more)) one.mine
       ∙ append_assoc o.knows.pass.mine (map object_place (object_notes label log)) (map object_place (object_notes label more))
@@ -323,7 +324,7 @@ part-append IsSo label u o v p w q ds es xs ys log more all object_log object_mo
         looks_seen = subst (AllByRecursion (λ n. (0 < n.number) × (n.number ≤ count n.timer w.seen))) (sym (looks ∙ look_notes-append label log more))
             (each_joined (λ n. (0 < n.number) × (n.number ≤ count n.timer v.seen)) (λ n. (0 < n.number) × (n.number ≤ count n.timer w.seen))
             (λ n. (0 < n.number) × (n.number ≤ count n.timer w.seen)) (look_notes label log) (look_notes label more)
-            (λ n is. let le = count_begins n.timer v.seen w.seen two.enters.seen in (is.0, omega (arith, is.1, le))) (λ n is. is) one.looks_seen
+            (λ n is. let le = count_begins n.timer two.enters.seen in (is.0, omega (arith, is.1, le))) (λ n is. is) one.looks_seen
             two.looks_seen);
       };
       objects = objects-append IsSo label o p q ds es object_log object_more left.objects right.objects;

@@ -61,7 +61,7 @@ use Rattle.lane_run.specs.Kept.{Follows, IsNextCall, KeepsCall, seen_by}
 use Rattle.lane_run.specs.Worlds.{WorldOf}
 use Rattle.lane_run.proofs.Armed.{IsArmedSo, places_inside, seen_state, start_none, start_part, start_true, StartPart}
 use Rattle.lane_run.proofs.CallKept.{logged_from, reading_goes_on, reads_begins}
-use Rattle.lane_run.proofs.Entering.{begins_length}
+use Rattle.pass_names.proofs.Passes.{begins_length}
 use Rattle.lane_run.proofs.SeenMore.{goes_before}
 use Rattle.lane_run.proofs.Declared.{declared_base}
 use Rattle.lane_run.proofs.ObjectEntered.{entered_phase, entered_span, part_entry}
@@ -237,7 +237,7 @@ module _ (s : Script) (x : WorldOf) (l m : LaneOf) (call : Call) (timer : ℕ) (
       let seen = m.pass.timers.known.seen in
       let early = k.begin.seen in
       let begins = k.does.part.timers.enters.seen in
-      let goes = goes_before early seen e begins follows.timers in
+      let goes = goes_before begins follows.timers in
       let is = seen_first seen joined follows.timers in
       let opened = opened_timers next in
       let now = seen_state s o opened seen timer in
@@ -253,7 +253,7 @@ module _ (s : Script) (x : WorldOf) (l m : LaneOf) (call : Call) (timer : ℕ) (
         timely = k.timely;
         arms = subst (λ b. Arms timer modes.Keep k.ns reading.stamp b (arm_noted c.arm) k.does.start) (declared_base s x timer next.world) k.does.arms;
         ends = length seen;
-        between = begins_length early seen begins;
+        between = begins_length begins;
         high = omega arith;
         part = places_inside IsRead k.begin m.pass.timers.known k.does.notes k.does.part.timers.enters;
         holds = start_true w seen follows.timers.0 is timer number false c.arm (subst (IsArmedSo c.arm) now k.does.armed)
@@ -291,7 +291,7 @@ module _ (s : Script) (x : WorldOf) (l m : LaneOf) (call : Call) (timer : ℕ) (
       (notes ∙ ap (λ rs. with_done l.notes l.label rs object_log) k.does.adds
       ∙ ap (λ rs. with_done l.notes l.label k.does.more rs) c.enters.object_log) logged
       (λ e follows joined has kept low.
-      let le = begins_length p.timers.known.seen k.begin.seen k.looks.seen in
+      let le = begins_length k.looks.seen in
       fits e begin last (arm_noted c.arm) k.does.start k.does.notes kept (omega (arith, low, le)) (rearmed k e follows joined))
 
   -- law: a lane keeps a call on an object that may arm the object's timer again and made an entry, where such calls fit

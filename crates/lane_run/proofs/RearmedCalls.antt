@@ -201,15 +201,3 @@ gettime_kept {s = s} {x = x} {l = l} {m = m} {a = a} {timer = timer} next fd cal
         (λ arm. object_entries.Gettime c.reading.stamp arm left interval)
         (gettime_as c.reading left interval)
         (λ e begin last arm start notes kept low rearmed. gettime_made kind.0 left interval kept low rearmed kind.1))
-
--- law: a lane keeps a gettime
-pub keeps_gettime : {s : Script} {x : WorldOf} {l m : LaneOf} {a : Answer} {timer : ℕ} → IsNextCall s x l (calls.Gettime timer)
-    → Called x l (calls.Gettime timer) a m → KeepsCall s l (calls.Gettime timer) a m
-keeps_gettime {s = s} {x = x} {l = l} {m = m} {a = a} {timer = timer} next called = by_kind (decl_at x.objects timer).kind refl
-  where
-    by_kind : (k : object_kind.Kind) → (decl_at x.objects timer).kind ≡ k → KeepsCall s l (calls.Gettime timer) a m
-    by_kind over.Raw is =
-        absurd (subst (λ k. Gettimes x.objects x.timers.about (caller_of l.pass [] []) (caller_of m.pass called.1.log called.1.object_log) timer
-        called.1.reading k called.0) is called.1.does.0)
-    by_kind over.Posix is = keeps_gettime-posix next is called
-    by_kind over.Fd is = gettime_kept next is called

@@ -22,7 +22,7 @@ use Rattle.lane_run.specs.declared.lane.Lane.{Lane}
 use Rattle.lane_run.specs.declared.world.WorldPass.{WorldPass}
 use Rattle.lane_run.proofs.CallingLanes.{AreApart, calling_distinct, calling_none, calling_there, calls_within, in_round, IsNoneOf, many_calls, many_together, no_calls, round_first}
 use Rattle.lane_run.proofs.Chains.{up_to_later, up_to_push}
-use Rattle.lane_run.proofs.LaneKept.{promised_later}
+use Rattle.lane_run.proofs.LaneKept.{KeepsEach, promised_later}
 use Rattle.lane_run.proofs.LaneRound.{IsKeptOf, kept_later, kept_pushed, LaneSoFar, leaves_round, LeavesRound}
 use Rattle.lane_run.proofs.LanesTaken.{AreLeftSoFar, after_round, left_taken, put, put_at}
 use Rattle.lane_run.proofs.NotesJoined.{are_later}
@@ -121,7 +121,7 @@ pub record AreAllLeft (s : Script) (left : LeftOf) (calls : ℕ) (q : WorldPass)
   pub rest : (j : ℕ) → (of j).rest ≡ []
   pub few : length now.notes.writes ≤ length left.notes.writes + calls
 
-module _ (s : Script) (x : WorldOf) (world : IsWorldOf s x) (range : IsInRange s) (whole : IsWhole x) where
+module _ (s : Script) (x : WorldOf) (each : KeepsEach s x) (world : IsWorldOf s x) (range : IsInRange s) (whole : IsWhole x) where
   -- each lane of the round leaves this
   each_leaves : (before : List Seen) (p : WorldPass) (left : LeftOf) (of : ℕ → LaneSoFar) (r : Round) (rest : ℕ → List CallInRound)
       → AreLeftSoFar s before p left of → ((j : ℕ) → (of j).rest ≡ in_round (length before) (lane_calls j r) ++ rest j) → (begun ended : List Lane)
@@ -136,7 +136,7 @@ module _ (s : Script) (x : WorldOf) (world : IsWorldOf s x) (range : IsInRange s
       let name = b.label.lane in
       let those = each_leaves before p left of r rest so_far calls begun ended (omega (arith, many)) begins.1 lanes.1
       (λ k d less. made (suc k) d (omega (arith, less))) in
-      let leaves = leaves_round s x world range whole before p left (length before) r (rest name) (of name) b e (so_far.kept name) (calls name)
+      let leaves = leaves_round s x each world range whole before p left (length before) r (rest name) (of name) b e (so_far.kept name) (calls name)
       (so_far.given name) begins.0 lanes.0 makes in (
         (
           record {
@@ -157,14 +157,14 @@ module _ (s : Script) (x : WorldOf) (world : IsWorldOf s x) (range : IsInRange s
       let rest : ℕ → List CallInRound = λ j. calls_from j (length before + 1) rs in
       let firsts : (j : ℕ) → (of j).rest ≡ in_round (length before) (lane_calls j r) ++ rest j =
       λ j. calls j ∙ round_first j (length before) r rs in
-      let each = each_leaves before p left of r rest so_far firsts makes.begun makes.ended makes.as_many
+      let those = each_leaves before p left of r rest so_far firsts makes.begun makes.ended makes.as_many
       (recursion_from_All (BeginsRound p left) makes.begun makes.begins) (recursion_from_All (IsLaneOf x) makes.begun makes.of) makes.made in
-      let names : map name_of makes.ended ≡ calling_from r 0 (length left.answers) = each.1 ∙ makes.lanes in
+      let names : map name_of makes.ended ≡ calling_from r 0 (length left.answers) = those.1 ∙ makes.lanes in
       let distinct = subst AreApart (sym names) (calling_distinct r 0 (length left.answers)) in
       let taken = lanes_taken s before p of r rest (λ j. kept_pushed s before p j (of j) (so_far.kept j)) firsts makes.split left
-      (more_split p makes.split makes.main) (round_begun s before p makes.split left of makes.main so_far) makes.ended q now each.0 distinct makes.taken in
+      (more_split p makes.split makes.main) (round_begun s before p makes.split left of makes.main so_far) makes.ended q now those.0 distinct makes.taken in
       let writes = writes_taken r makes.split left makes.ended q now
-      (each_weaker (LeavesOne s p of r rest) (λ (l : Lane). length l.notes.writes ≤ many_calls r l.label.lane) makes.ended (λ l one. one.leaves.few) each.0)
+      (each_weaker (LeavesOne s p of r rest) (λ (l : Lane). length l.notes.writes ≤ many_calls r l.label.lane) makes.ended (λ l one. one.leaves.few) those.0)
       makes.taken in
       let together = ap (total (many_calls r)) names in
       record {

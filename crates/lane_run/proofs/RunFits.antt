@@ -27,6 +27,8 @@ use Rattle.lane_run.proofs.LeftByRounds.{left_by_rounds}
 use Rattle.lane_run.proofs.Making.{whole_of}
 use Rattle.lane_run.proofs.Recorded.{recorded}
 
+use Rattle.lane_run.proofs.EachCall.{keeps_call}
+
 -- a list that begins with another and is as long is the other
 nothing_more : {A : Type 0} (xs ys : List A) (more : List A) → ys ≡ xs ++ more → length ys ≡ length xs → ys ≡ xs
 nothing_more xs ys [] is long = is ∙ append-nil xs
@@ -71,7 +73,7 @@ pub run_recorded : (s : Script) (x : WorldOf) (p : WorldPass) (r : RunRecord) (q
     → ArePassesOf x q → AreLast q → MakesRun x s p r q → IsWholeRecord s r q
 run_recorded s x p r q range world first passes last run =
     let whole = whole_of s x range world in
-    let left = left_by_rounds s x p q run.left world range whole first run.rounds in
+    let left = left_by_rounds s x p q run.left (keeps_call s x) world range whole first run.rounds in
     let of : AreLastOf s x q = record { range = range; world = world; whole = whole; passes = passes; last = last } in
     let record_is = record_from run.sorted (length s.timers) run.left.answers in
     subst (λ y. IsWholeRecord s y q) (sym run.shows) (record {

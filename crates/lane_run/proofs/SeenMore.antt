@@ -24,7 +24,7 @@ use Rattle.lane_run.specs.Left.{IsObjectLeft, IsWriteLeft, StandAt}
 use Rattle.lane_run.specs.Rounds.{BeginsRound, HasSplit, LeftOf, TakesInPass}
 use Rattle.lane_run.specs.declared.lane.Lane.{Lane}
 use Rattle.lane_run.specs.declared.world.WorldPass.{WorldPass}
-use Rattle.lane_run.proofs.Entering.{begins_length, begins_trans}
+use Rattle.pass_names.proofs.Passes.{begins_length, begins_trans}
 
 
 use Rattle.run_history.specs.Fits.{Seen}
@@ -40,17 +40,16 @@ use Rattle.std.proofs.lemmas.List.{append_assoc}
 use Rattle.run_history.specs.Promises as promises
 
 -- law: a run that goes on from what was seen goes on from what was seen before
-pub goes_before : (xs ys : List TimerEntry) (e : Ending) → Begins xs ys → promises.GoesOn ys e → promises.GoesOn xs e
-goes_before xs ys e begins on =
-    (begins.rest ++ on.0, on.1 ∙ ap (λ zs. zs ++ on.0) begins.whole ∙ append_assoc xs begins.rest on.0)
+pub goes_before : {xs ys : List TimerEntry} {e : Ending} → Begins xs ys → promises.GoesOn ys e → promises.GoesOn xs e
+goes_before {xs} begins on = (begins.rest ++ on.0, on.1 ∙ ap (λ zs. zs ++ on.0) begins.whole ∙ append_assoc xs begins.rest on.0)
 
 -- a timer has no fewer entries where more was seen
-pub count_begins : (t : ℕ) (xs ys : List TimerEntry) → Begins xs ys → count t xs ≤ count t ys
-count_begins t xs ys begins = begins_length (entries_of t xs) (entries_of t ys) (entries_of-begins t xs ys begins)
+pub count_begins : (t : ℕ) {xs ys : List TimerEntry} → Begins xs ys → count t xs ≤ count t ys
+count_begins t {xs} {ys} begins = begins_length (entries_of-begins t xs ys begins)
 
 -- an equal list begins with it
-pub begins_same : {A : Type 0} (xs ys : List A) → ys ≡ xs → Begins xs ys
-begins_same xs ys same = record { rest = []; whole = same ∙ sym (append-nil xs) }
+pub begins_same : {A : Type 0} {xs ys : List A} → ys ≡ xs → Begins xs ys
+begins_same {xs = xs} same = record { rest = []; whole = same ∙ sym (append-nil xs) }
 
 -- of each list what was seen goes on
 pub record SeesMore (p q : WorldPass) : Type 0 where
@@ -64,9 +63,9 @@ pub record SeesMore (p q : WorldPass) : Type 0 where
 more_equal : (p q : WorldPass) → q.timers.known.seen ≡ p.timers.known.seen → q.objects.knows.pass.seen ≡ p.objects.knows.pass.seen
     → q.clock.knows.pass.seen ≡ p.clock.knows.pass.seen → SeesMore p q
 more_equal p q timers objects clock = record {
-  timers = begins_same p.timers.known.seen q.timers.known.seen timers;
-  clock = begins_same (writes p.clock.knows) (writes q.clock.knows) (ap (λ seen. entries 0 seen) clock);
-  objects = λ i. begins_same (seen_of p.objects i) (seen_of q.objects i) (ap (λ seen. entries i seen) objects);
+  timers = begins_same timers;
+  clock = begins_same (ap (λ seen. entries 0 seen) clock);
+  objects = λ i. begins_same (ap (λ seen. entries i seen) objects);
 }
 
 -- the same passes
@@ -76,9 +75,9 @@ more_same p = more_equal p p refl refl refl
 -- twice more
 pub more_trans : (p q r : WorldPass) → SeesMore p q → SeesMore q r → SeesMore p r
 more_trans p q r one two = record {
-  timers = begins_trans p.timers.known.seen q.timers.known.seen r.timers.known.seen one.timers two.timers;
-  clock = begins_trans (writes p.clock.knows) (writes q.clock.knows) (writes r.clock.knows) one.clock two.clock;
-  objects = λ i. begins_trans (seen_of p.objects i) (seen_of q.objects i) (seen_of r.objects i) (one.objects i) (two.objects i);
+  timers = begins_trans one.timers two.timers;
+  clock = begins_trans one.clock two.clock;
+  objects = λ i. begins_trans (one.objects i) (two.objects i);
 }
 
 -- a lane's passes after a call
@@ -115,9 +114,9 @@ more_heard p other q takes = record { timers = takes.timers.heard; clock = takes
 -- law: so they have seen no less
 pub no_less : (p q : WorldPass) → SeesMore p q → IsNoLess (seen_by p) (seen_by q)
 no_less p q more = record {
-  clock = begins_length (writes p.clock.knows) (writes q.clock.knows) more.clock;
-  moves = begins_length p.timers.known.seen q.timers.known.seen more.timers;
-  objects = λ i. begins_length (seen_of p.objects i) (seen_of q.objects i) (more.objects i);
+  clock = begins_length more.clock;
+  moves = begins_length more.timers;
+  objects = λ i. begins_length (more.objects i);
 }
 
 -- a run that goes on from more writes goes on from fewer
@@ -128,11 +127,11 @@ clock_less xs ys e begins on = goes_on_clock_less xs begins.rest e (subst (λ ws
 pub follows_less : (p q : WorldPass) (e : Ending) → SeesMore p q → Follows q e → Follows p e
 follows_less p q e more follows = record {
   few = follows.few;
-  timers = goes_before p.timers.known.seen q.timers.known.seen e more.timers follows.timers;
+  timers = goes_before more.timers follows.timers;
   clock = clock_less (writes p.clock.knows) (writes q.clock.knows) e more.clock follows.clock;
   objects = λ i. record {
     history = (follows.objects i).history;
-    goes_on = begins_trans (seen_of p.objects i) (seen_of q.objects i) (follows.objects i).history (more.objects i) (follows.objects i).goes_on;
+    goes_on = begins_trans (more.objects i) (follows.objects i).goes_on;
     lines = (follows.objects i).lines;
   };
 }
@@ -156,13 +155,13 @@ stand_later p q log more stand = record {
 -- law: the entry that a look is behind
 pub look_later : (p q : WorldPass) (n : LookNote) → SeesMore p q → IsLookNote p n → IsLookNote q n
 look_later p q n more look =
-    let few = count_begins n.timer p.timers.known.seen q.timers.known.seen more.timers in
+    let few = count_begins n.timer more.timers in
     record { some = look.some; seen = omega (arith, look.seen, few) }
 
 -- law: the entry that a refused expiry is behind
 pub skip_later : (p q : WorldPass) (n : SkipNote) → SeesMore p q → IsSkipNote p n → IsSkipNote q n
 skip_later p q n more skip =
-    let few = begins_length (seen_of p.objects n.object) (seen_of q.objects n.object) (more.objects n.object) in
+    let few = begins_length (more.objects n.object) in
     record { some = skip.some; seen = omega (arith, skip.seen, few) }
 
 -- law: an entry of an object

@@ -56,7 +56,7 @@ use Rattle.lane_run.specs.Worlds.{WorldOf}
 use Rattle.lane_run.proofs.CallKept.{logged_from, reading_goes_on, reads_begins}
 use Rattle.lane_run.proofs.Armed.{IsArmedSo, places_inside, seen_state, start_true, StartPart}
 use Rattle.lane_run.proofs.Disarmed.{disarmed_part, DisarmedPart, IsIdleOr, moment}
-use Rattle.lane_run.proofs.Entering.{begins_length}
+use Rattle.pass_names.proofs.Passes.{begins_length}
 use Rattle.lane_run.proofs.SeenMore.{goes_before}
 use Rattle.lane_run.proofs.ObjectEntered.{entered_phase, entered_span, part_entry}
 use Rattle.lane_run.proofs.Declared.{declared_base, declared_over, over_of}
@@ -195,7 +195,7 @@ module _ (s : Script) (x : WorldOf) (l m : LaneOf) (timer flags : ℕ) (value in
     entries_are = seen_first w.seen joined follows.timers
 
     found_on : promises.GoesOn at e
-    found_on = goes_before at w.seen e made.timers.enters.seen follows.timers
+    found_on = goes_before made.timers.enters.seen follows.timers
 
     entries_found : entries_in c ≡ at ++ found_on.0
     entries_found = seen_first at joined found_on
@@ -239,7 +239,7 @@ module _ (s : Script) (x : WorldOf) (l m : LaneOf) (timer flags : ℕ) (value in
           (subst (λ k. Arms timer k (time_of value) reading.stamp (decl_at x.objects timer).base (arm_noted set.arm) armed.start)
           (sym (mode_of (kind_of s timer) flags object)) armed.arms);
       ends = length w.seen;
-      between = begins_length at w.seen made.timers.enters.seen;
+      between = begins_length made.timers.enters.seen;
       high = omega arith;
       part = places_inside IsSo (moment v at) w receipts made.timers.enters;
       idle = found disarmed.cancel disarmed.idle;
@@ -258,7 +258,7 @@ module _ (s : Script) (x : WorldOf) (l m : LaneOf) (timer flags : ℕ) (value in
       (keeps_part next m (answer_of_settime noted.told) IsSo log object_log receipts trace whole (reading_goes_on l.pass m.pass reading reads) clock
       reads.looks.mine notes logged
       (λ e follows joined has kept low.
-      let from = begins_length v.seen at set.disarms.cancelled.made.from in
+      let from = begins_length set.disarms.cancelled.made.from in
       settime_made noted.told kept (omega (arith, from, low)) (is_set e follows joined)
       (noted.refused (course_of s e) timer (length w.seen) (refused e follows joined))))
 

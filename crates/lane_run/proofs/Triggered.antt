@@ -45,7 +45,7 @@ use Rattle.run_history.specs.Courses.{Fired}
 use Rattle.run_history.proofs.Lists.{at_left, at_seam}
 use Rattle.lane_run.specs.Kept.{AreObjectLines, made_on, ObjectMove, skips_on, FollowsObject}
 use Rattle.lane_run.proofs.Bodies.{BodyKept, fired_of, timers_still}
-use Rattle.lane_run.proofs.Entering.{begins_length}
+use Rattle.pass_names.proofs.Passes.{begins_length}
 use Rattle.lane_run.proofs.Parts.{IsNoteIn, object_place, IsNotedAs, objects_made, noted_at}
 use Rattle.lane_run.proofs.PartLists.{one_falls}
 use Rattle.run_history.specs.Runs.{Ending}
@@ -155,7 +155,7 @@ module _ (IsSo : List ClockLine → Type 0) (s : Script) (x : ObjectsOf) (limit 
       ap (λ o. present (option_map (λ (y : ℕ). record { label = label; object = c.timer; number = many; generation = y }) o ∷ [])) (skip many) in
       let body = Skipped c.timer many c.generation ∷ [] in
       let grows : (i : ℕ) → length (seen_of p i) ≤ length (seen_of q i) =
-      λ i. begins_length (seen_of p i) (seen_of q i) (t.reads.pass.seen.each i) in
+      λ i. begins_length (t.reads.pass.seen.each i) in
       let bounds : (i : ℕ) → nat_eq c.timer i ≡ true → (length (seen_of p i) ≤ many) × (many ≤ length (seen_of q i)) =
       λ i is. let here = eqb-true c.timer i is in
       let le = grows i in

@@ -29,11 +29,12 @@ use Rattle.timer_objects.specs.Known.{seen_of}
 use Rattle.lane_run.specs.Called.{CallsWrite, LaneOf, line_of_write, with_write_told, write_told}
 use Rattle.lane_run.specs.Kept.{IsNextCall, KeepsCall, log_of, seen_by, SeesOn}
 use Rattle.lane_run.specs.Worlds.{WorldOf}
-use Rattle.lane_run.proofs.Entering.{begins_length, enters_none}
+use Rattle.lane_run.proofs.Entering.{enters_none}
+use Rattle.pass_names.proofs.Passes.{begins_length}
 use Rattle.lane_run.proofs.SeenMore.{begins_same}
 use Rattle.lane_run.proofs.CallKept.{no_places, promised_from, reads_begins, same_objects, stand_from, take_whole}
 use Rattle.lane_run.proofs.PartLists.{same_order}
-use Rattle.lane_run.proofs.Quiet.{keeps_quiet, no_object_steps}
+use Rattle.lane_run.proofs.Sights.{keeps_quiet, no_object_steps}
 use Rattle.lane_run.proofs.Sights.{LooksOnly, looks_alone, keeps_looking}
 
 -- the notes of a write alone
@@ -58,7 +59,7 @@ writes_within e ws on = omega (arith, length-map e.run.clock (λ (line : ClockLi
 refused : (l m : LaneOf) → Looks l.pass.clock.knows.pass m.pass.clock.knows.pass → m.pass.timers ≡ l.pass.timers → m.pass.objects ≡ l.pass.objects
     → m.notes ≡ l.notes → LooksOnly l m
 refused l m looks timers objects notes =
-    looks_alone l m (begins_same l.pass.timers.known.seen m.pass.timers.known.seen (ap (λ t. t.known.seen) timers)) (ap (λ t. t.known.mine) timers) objects
+    looks_alone l m (begins_same (ap (λ t. t.known.seen) timers)) (ap (λ t. t.known.mine) timers) objects
     (reads_begins l.pass m.pass looks.seen) looks.mine notes
 
 write_kept : {s : Script} {x : WorldOf} {l m : LaneOf} {write : Write} (next : IsNextCall s x l (calls.Clock write)) (answer : Result ClockReading ClockFault)
@@ -88,9 +89,9 @@ write_kept {s = s} {l = l} {m = m} {write = write} next (Ok r) w timers objects 
     let last = length q.timers.known.seen in
     let many = length adds.before in
     let number : many + 1 ≡ r.stamp = omega (arith, w.ok.count, ap length adds.last, length-append adds.before (write ∷ [])) in
-    let behind : length (writes p.clock.knows) ≤ many = begins_length (writes p.clock.knows) adds.before adds.begins in
+    let behind : length (writes p.clock.knows) ≤ many = begins_length adds.begins in
     let same_seen : q.timers.known.seen ≡ p.timers.known.seen = ap (λ t. t.known.seen) timers in
-    let enters = enters_none (λ clock. Unit) p.timers.known q.timers.known (begins_same p.timers.known.seen q.timers.known.seen same_seen)
+    let enters = enters_none (λ clock. Unit) p.timers.known q.timers.known (begins_same same_seen)
     (ap (λ t. t.known.mine) timers) in
     let sees : SeesOn p q = record {
       timers = enters.seen;
@@ -108,7 +109,7 @@ write_kept {s = s} {l = l} {m = m} {write = write} next (Ok r) w timers objects 
       writes = (omega (arith, number), tt);
       clock_steps = (behind, (omega (arith, number), omega (arith, w.ok.count)));
       move_steps = (omega arith, omega arith);
-      object_steps = λ i. begins_length (seen_of p.objects i) (seen_of q.objects i) (sees.objects.each i);
+      object_steps = λ i. begins_length (sees.objects.each i);
     } in
     let whole : reading_after (take r.stamp ws) ≡ r =
     ap (λ n. reading_after (take n ws)) w.ok.count ∙ ap reading_after (take_whole ws) ∙ sym w.ok.shows in

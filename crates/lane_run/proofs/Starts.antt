@@ -1,0 +1,117 @@
+-- What a start of a timer tells: its entries as the record has them, the notes of its receipts, and its answer.
+
+use Rattle.std.proofs.Common.{◌≡◌, ℕ, ◌+◌, ◌-◌, ◌^◌, zero, suc, nat_eq, Bool, true, false, is_some, if◌then◌else◌, None, Some, List, [], ◌∷◌, map, arith, refl, sym, ap, ◌∙◌, subst}
+use Rattle.std.specs.List.{AllByRecursion}
+use Rattle.std.proofs.lemmas.Bool.Decides.{nat_tests}
+use Rattle.ktime.specs.Readings.{ClockReading}
+use Rattle.ktime.specs.declared.mode.Mode.{Mode}
+use Rattle.seq_timer.specs.Steps.{after, Timer}
+use Rattle.seq_timer.specs.declared.event.Event.TheVariants as events
+use Rattle.seq_timer.specs.declared.event.Event.{Event}
+use Rattle.seq_timer.specs.declared.event.Reply.TheVariants as replies
+use Rattle.timer_core.specs.Answers.{moves_first, start_events}
+use Rattle.timer_core.specs.Kept.{step_all}
+use Rattle.expire_pass.specs.declared.log.Receipt.{Receipt}
+use Rattle.hr_timers.specs.Calls.{start_answer}
+use Rattle.hr_timers.specs.declared.answer.StartAnswer.{StartAnswer}
+use Rattle.hr_timers.specs.declared.answer.StartAnswer.TheVariants as starts
+use Rattle.record_text.specs.declared.record.Answer.TheVariants as answers
+use Rattle.record_text.specs.declared.record.Entry.TheVariants as entries
+use Rattle.record_text.specs.declared.record.ClockLine.{ClockLine}
+use Rattle.record_text.specs.declared.record.Label.{Label}
+use Rattle.script_text.specs.Histories.{reading_at}
+use Rattle.script_text.specs.Starts.{Arming, arming_actions, IsJustBefore, was_armed_before}
+use Rattle.lane_notes.specs.Entries.{entry_notes, look_notes}
+use Rattle.run_history.specs.Traces.{all_entered}
+use Rattle.run_history.proofs.Known.{numbered}
+use Rattle.lane_run.specs.Called.{entry_receipt, start_receipt, start_receipts, start_told}
+use Rattle.lane_run.specs.Kept.{entry_in_note}
+use Rattle.lane_run.proofs.Entering.{HasReading, lines_along}
+use Rattle.lane_run.proofs.PartLists.{IsEntered}
+
+-- a start that was made by these events: its entries, by the record's lines, the notes of its receipts and its answer
+pub record StartsAs (s : Timer) (es : List Event) (timer : ℕ) (mode : Mode) (ns asked : ℕ) (reading : ClockReading) (answer : StartAnswer) : Type 0 where
+  pub arming : Arming
+  pub lines : numbered timer s.stamp (lines_along s es) ≡ all_entered (arming_actions timer mode ns reading.stamp asked arming)
+  pub notes : (label : Label) → map entry_in_note (entry_notes label (start_receipts timer mode ns asked reading answer))
+      ≡ all_entered (arming_actions timer mode ns reading.stamp asked arming)
+  pub no_looks : (label : Label) → look_notes label (start_receipts timer mode ns asked reading answer) ≡ []
+  pub told : start_told answer ≡ answers.Started arming.number arming.base (was_armed_before arming.out arming.was_armed)
+  pub just : IsJustBefore arming.out arming.number
+  pub only : AllByRecursion IsEntered (arming_actions timer mode ns reading.stamp asked arming)
+
+pub some_power : (n : ℕ) → nat_eq (2 ^ n) 0 ≡ false
+some_power zero = refl
+some_power (suc n) = grind (arith, nat_tests, some_power n)
+
+-- the events of a start, where it moves the timer first and where it doesn't
+abbrev pub events_by : Bool → Mode → ℕ → ℕ → ClockReading → List Event
+events_by moves mode ns asked reading =
+    if moves then events.Out asked ∷ events.Start mode ns reading asked ∷ [] else events.Start mode ns reading asked ∷ []
+
+-- the answer
+abbrev pub answer_by : Bool → Timer → Timer → ℕ → StartAnswer
+answer_by moves s now asked = starts.Started (is_some s.armed) now.stamp now.base (if moves then 2 ^ asked else 0) now.clock now.expires
+
+pub starts_by : (moves : Bool) (s : Timer) (timer : ℕ) (mode : Mode) (ns asked : ℕ) (reading : ClockReading)
+    → StartsAs s (events_by moves mode ns asked reading) timer mode ns asked reading
+    (answer_by moves s (step_all s (events_by moves mode ns asked reading)) asked)
+starts_by false s timer mode ns asked reading =
+    let now = after s (events.Start mode ns reading asked) in
+    record {
+      arming = record { out = None; number = s.stamp + 1; base = now.base; clock = now.clock; expires = now.expires; was_armed = is_some s.armed };
+      lines = refl;
+      notes = λ label. refl;
+      no_looks = λ label. refl;
+      told = refl;
+      just = tt;
+      only = (tt, tt);
+    }
+starts_by true s timer mode ns asked reading =
+    let moved = after s (events.Out asked) in
+    let now = after moved (events.Start mode ns reading asked) in
+    let answer = answer_by true s now asked in
+    let begun = start_receipt timer mode ns asked reading false answer in
+    let receipts : Bool → ℕ → List Receipt = λ b k. if b
+    then start_receipt timer mode ns asked reading (is_some s.armed) answer
+    else entry_receipt timer k (events.Out asked) (replies.Out (is_some s.armed)) ∷ begun in
+    let are : start_receipts timer mode ns asked reading answer ≡ receipts false (s.stamp + 1) =
+    ap (λ b. receipts b (s.stamp + 1 + 1 - 1)) (some_power asked) ∙ ap (receipts false) (one_less s.stamp) in
+    record {
+      arming = record {
+        out = Some (s.stamp + 1, is_some s.armed);
+        number = s.stamp + 1 + 1;
+        base = asked;
+        clock = now.clock;
+        expires = now.expires;
+        was_armed = false;
+      };
+      lines = refl;
+      notes = λ label. ap (λ rs. map entry_in_note (entry_notes label rs)) are;
+      no_looks = λ label. ap (look_notes label) are;
+      told = refl;
+      just = refl;
+      only = (tt, (tt, tt));
+    }
+  where
+    one_less : (n : ℕ) → n + 1 + 1 - 1 ≡ n + 1
+    one_less n = omega arith
+
+-- law: what a start answers is what its entries say
+pub starts_as : (s : Timer) (timer : ℕ) (mode : Mode) (ns asked : ℕ) (reading : ClockReading)
+    → StartsAs s (start_events s mode ns asked reading) timer mode ns asked reading
+    (start_answer s (step_all s (start_events s mode ns asked reading)) asked)
+starts_as s timer mode ns asked reading = starts_by (moves_first s asked) s timer mode ns asked reading
+
+-- law: the same of a start that answered so
+pub started_so : (s : Timer) (timer : ℕ) (mode : Mode) (ns asked : ℕ) (reading : ClockReading) (answer : StartAnswer)
+    → answer ≡ start_answer s (step_all s (start_events s mode ns asked reading)) asked
+    → StartsAs s (start_events s mode ns asked reading) timer mode ns asked reading answer
+started_so s timer mode ns asked reading answer is =
+    subst (StartsAs s (start_events s mode ns asked reading) timer mode ns asked reading) (sym is) (starts_as s timer mode ns asked reading)
+
+-- a record's clock has the readings of a start's events where it has that of the start
+pub start_reads : (mode : Mode) (ns asked : ℕ) (reading : ClockReading) (clock : List ClockLine) (moves : Bool) → reading_at clock reading.stamp ≡ reading
+    → AllByRecursion (HasReading clock) (events_by moves mode ns asked reading)
+start_reads mode ns asked reading clock true so = (tt, (so, tt))
+start_reads mode ns asked reading clock false so = (so, tt)
