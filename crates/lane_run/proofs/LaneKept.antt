@@ -24,16 +24,8 @@ use Rattle.lane_run.specs.Kept.{AreNextCalls, Follows, IsNextCall, IsNoLess, Kee
 use Rattle.lane_run.specs.Rounds.{as_index, CalledAll, next_of}
 use Rattle.lane_run.specs.Worlds.{IsWhole, IsWorldOf, WorldOf}
 use Rattle.lane_run.specs.declared.world.WorldPass.{WorldPass}
-use Rattle.lane_run.proofs.Expired.{keeps_expire}
-use Rattle.lane_run.proofs.ObjectLooks.{keeps_overrun, keeps_readable}
 use Rattle.lane_run.proofs.PartLists.{falls_lower}
-use Rattle.lane_run.proofs.Sights.{keeps_peek}
-use Rattle.lane_run.proofs.RearmedCalls.{keeps_accept, keeps_read}
-use Rattle.lane_run.proofs.EachCall.{keeps_gettime}
 use Rattle.lane_run.proofs.SeenMore.{follows_less, more_called}
-use Rattle.lane_run.proofs.Settimes.{keeps_settime}
-use Rattle.lane_run.proofs.TimerCalls.{keeps_cancel, keeps_start}
-use Rattle.lane_run.proofs.Writing.{keeps_write}
 
 -- ---- one call
 

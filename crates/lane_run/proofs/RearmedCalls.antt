@@ -50,7 +50,6 @@ use Rattle.lane_run.specs.Worlds.{WorldOf}
 use Rattle.lane_run.proofs.CallKept.{reads_begins}
 use Rattle.lane_run.proofs.Parts.{IsNotedAs, noted_at}
 use Rattle.lane_run.proofs.Declared.{fd_declared}
-use Rattle.lane_run.proofs.ObjectLooks.{keeps_gettime-posix}
 use Rattle.lane_run.proofs.Rearmed.{keeps_rearming}
 use Rattle.lane_run.proofs.Sights.{keeps_full, keeps_same}
 
