@@ -91,28 +91,17 @@ fn note_start(
         reading,
         asked,
     };
-    if outs == 0 {
-        let reply = Reply::Start {
-            base,
-            clock,
-            expires,
-            was_armed,
-        };
-        return note(lane, timer, generation, event, reply);
+    let moved = outs != 0;
+    if moved {
+        let out = Event::Out { base: asked };
+        let number = generation.saturating_sub(1);
+        note(lane, timer, number, out, Reply::Out { was_armed })?;
     }
-    let out = Event::Out { base: asked };
-    note(
-        lane,
-        timer,
-        generation.saturating_sub(1),
-        out,
-        Reply::Out { was_armed },
-    )?;
     let reply = Reply::Start {
         base,
         clock,
         expires,
-        was_armed: false,
+        was_armed: was_armed && !moved,
     };
     note(lane, timer, generation, event, reply)
 }

@@ -23,7 +23,8 @@ use Rattle.run_history.specs.Courses.{Fired}
 -- all that an expiry run did for one callback
 abbrev pub fires : ℕ → ℕ → Fired → List Action
 fires base reading f =
-    Entered f.timer f.claim (entries.Claim base reading f.generation) ∷ f.body ++ Entered f.timer f.finish (entries.Finish f.restart f.generation f.rearmed) ∷ []
+    Entered f.timer f.claim (entries.Claim base reading f.generation)
+    ∷ f.body ++ Entered f.timer f.finish (entries.Finish f.restart f.generation f.rearmed) ∷ []
 
 -- what a raw timer's callback may do, and whether it asks for a restart, by its declaration
 abbrev pub IsCallback : Callback → ℕ → Fired → Type 0
@@ -63,15 +64,20 @@ pub record IsExpiryRun (s : Script) (reading base : ℕ) (fired : List Fired) (s
 -- what a call did is what its arguments and its answer say; the answer that the clock has taken too many writes never comes
 abbrev pub Does : Script → ℕ → Call → Answer → List Fired → List Action → Type 0
 Does s reading (calls.Start timer mode ns base) (answers.Started generation on was_armed) fired actions =
-    (a : Arming) × (actions ≡ arming_actions timer mode ns reading base a) × (generation ≡ a.number) × (on ≡ a.base) × (was_armed ≡ was_armed_before a.out a.was_armed) × IsJustBefore a.out a.number
+    (a : Arming) × (actions ≡ arming_actions timer mode ns reading base a) × (generation ≡ a.number) × (on ≡ a.base)
+    × (was_armed ≡ was_armed_before a.out a.was_armed) × IsJustBefore a.out a.number
 Does s reading (calls.Start timer mode ns base) (answers.Spent stamp) fired actions = actions ≡ []
-Does s reading (calls.Cancel timer) (answers.Cancelled generation) fired actions = (number : ℕ) × (actions ≡ Entered timer number (entries.Cancel generation) ∷ [])
+Does s reading (calls.Cancel timer) (answers.Cancelled generation) fired actions =
+    (number : ℕ) × (actions ≡ Entered timer number (entries.Cancel generation) ∷ [])
 Does s reading (calls.Cancel timer) (answers.Running generation stamp) fired actions = actions ≡ []
 Does s reading (calls.Cancel timer) (answers.Idle stamp) fired actions = actions ≡ []
 Does s reading (calls.Peek timer) (answers.Peek stamp base enqueued running moving) fired actions = actions ≡ []
-Does s reading (calls.Expire base budget) (answers.Done shown timers) fired actions = IsExpiryRun s reading base fired shown timers actions × (length fired < budget)
-Does s reading (calls.Expire base budget) (answers.More shown timers) fired actions = IsExpiryRun s reading base fired shown timers actions × (length fired ≡ budget)
-Does s reading (calls.Expire base budget) (answers.Busy shown timers timer generation) fired actions = IsExpiryRun s reading base fired shown timers actions × (length fired < budget)
+Does s reading (calls.Expire base budget) (answers.Done shown timers) fired actions =
+    IsExpiryRun s reading base fired shown timers actions × (length fired < budget)
+Does s reading (calls.Expire base budget) (answers.More shown timers) fired actions =
+    IsExpiryRun s reading base fired shown timers actions × (length fired ≡ budget)
+Does s reading (calls.Expire base budget) (answers.Busy shown timers timer generation) fired actions =
+    IsExpiryRun s reading base fired shown timers actions × (length fired < budget)
 Does s reading (calls.Clock write) (answers.Clock stamp) fired actions = actions ≡ Wrote stamp write ∷ []
 Does s reading (calls.Clock write) (answers.Range would_be) fired actions = actions ≡ []
 Does s reading (calls.Settime timer flags value interval) answer fired actions = DoesSettime (kind_of s timer) timer flags value interval reading answer actions

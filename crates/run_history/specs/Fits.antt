@@ -56,7 +56,8 @@ FitsLane w lane index before (p ∷ ps) [] = ⊥
 -- the spans of an object's entries, from a number of entry on, follow one another
 abbrev pub AreBehind : (ℕ → ℕ × ℕ) → ℕ → ℕ → List ObjectLine → Type 0
 AreBehind spans number from [] = Unit
-AreBehind spans number from (line ∷ lines) = (from ≤ (spans number).0) × ((spans number).0 ≤ (spans number).1) × AreBehind spans (number + 1) (spans number).1 lines
+AreBehind spans number from (line ∷ lines) =
+    (from ≤ (spans number).0) × ((spans number).0 ≤ (spans number).1) × AreBehind spans (number + 1) (spans number).1 lines
 
 -- no label is lower than one that stands ahead of it
 abbrev pub LabelsNeverFall : List Label → Type 0

@@ -126,19 +126,25 @@ IsSeen w first last c reading actions (calls.Cancel timer) (answers.Idle stamp) 
 IsSeen w first last c reading actions (calls.Peek timer) (answers.Peek stamp base enqueued running moving) =
     Saw w timer stamp (observations.Peek (record { stamp = stamp; base = base; enqueued = enqueued; running = running; moving = moving })) last
 IsSeen w first last c reading actions (calls.Expire base budget) (answers.Done shown timers) = IsDone w reading base last
-IsSeen w first last c reading actions (calls.Expire base budget) (answers.Busy shown timers timer generation) = ((timer_then w last timer).running ≡ Some generation) × ((timer_then w last timer).base ≡ base)
-IsSeen w first last c reading actions (calls.Clock write) (answers.Range would_be) = IsOutOfRange reading would_be (greatest (after_write (reading_at w.run.clock reading) write))
+IsSeen w first last c reading actions (calls.Expire base budget) (answers.Busy shown timers timer generation) =
+    ((timer_then w last timer).running ≡ Some generation) × ((timer_then w last timer).base ≡ base)
+IsSeen w first last c reading actions (calls.Clock write) (answers.Range would_be) =
+    IsOutOfRange reading would_be (greatest (after_write (reading_at w.run.clock reading) write))
 IsSeen w first last c reading actions (calls.Settime timer flags value interval) (answers.Spent stamp) = SawFull w c actions timer stamp
 IsSeen w first last c reading actions (calls.Settime timer flags value interval) (answers.Old left old) = DisarmedFirst w timer actions first
 IsSeen w first last c reading actions (calls.Settime timer flags value interval) answers.Canceled = DisarmedFirst w timer actions first
-IsSeen w first last c reading actions (calls.Settime timer flags value interval) (answers.Unarmed stamp) = DisarmedFirst w timer actions first × SawRefusal w timer stamp last
+IsSeen w first last c reading actions (calls.Settime timer flags value interval) (answers.Unarmed stamp) =
+    DisarmedFirst w timer actions first × SawRefusal w timer stamp last
 IsSeen w first last c reading actions (calls.Gettime timer) (answers.Spent stamp) = SawFull w c actions timer stamp
 IsSeen w first last c reading actions (calls.Gettime timer) (answers.LeftAt left interval shown stamp) =
-    IsObjectPoint w c actions timer stamp × (setting_of (posix_after w.script w.run timer (base_of (kind_of w.script timer)) stamp) (reading_at w.run.clock reading) ≡ record { left = left; interval = interval })
+    IsObjectPoint w c actions timer stamp
+    × (setting_of (posix_after w.script w.run timer (base_of (kind_of w.script timer)) stamp) (reading_at w.run.clock reading)
+    ≡ record { left = left; interval = interval })
 IsSeen w first last c reading actions (calls.Accept timer) (answers.Spent stamp) = SawFull w c actions timer stamp
 IsSeen w first last c reading actions (calls.Overrun timer) (answers.Overrun overrun stamp) =
     IsObjectPoint w c actions timer stamp × ((posix_after w.script w.run timer (base_of (kind_of w.script timer)) stamp).overrun ≡ overrun)
 IsSeen w first last c reading actions (calls.Read timer len) (answers.Spent stamp) = SawFull w c actions timer stamp
 IsSeen w first last c reading actions (calls.Readable timer) (answers.Readable ready shown stamp) =
-    IsObjectPoint w c actions timer stamp × (is_readable (fd_after w.script w.run timer (base_of (kind_of w.script timer)) stamp) (reading_at w.run.clock reading) ≡ ready)
+    IsObjectPoint w c actions timer stamp
+    × (is_readable (fd_after w.script w.run timer (base_of (kind_of w.script timer)) stamp) (reading_at w.run.clock reading) ≡ ready)
 IsSeen w first last c reading actions call answer = Unit
