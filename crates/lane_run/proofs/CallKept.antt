@@ -54,6 +54,7 @@ use Rattle.std.proofs.Common.{◌-◌}
 use Rattle.seq_timer.specs.Systems.{openings}
 use Rattle.base_row.specs.declared.view.Opening.{Opening}
 use Rattle.run_history.specs.Courses.{clocks_of}
+use Rattle.lane_run.proofs.PartLists.{notes_same}
 
 -- ---- notes
 

@@ -57,7 +57,7 @@ kept_later s past p q lane d more kept = record {
   answered = kept.answered;
   promised = promised_later s lane (length d.logs) d.logs (Follows p) (Follows q) (seen_by p) (seen_by q) d.rest d.given
       (λ e follows. follows_less p q e more follows) (no_less p q more) kept.promised;
-  stand = each_weaker (StandAt p) (StandAt q) d.logs (λ g stand. stand_later p q g more stand) kept.stand;
+  stand = each_weaker d.logs (λ g stand. stand_later p q g more stand) kept.stand;
   chain = λ x. chain_higher x 0 d.logs (x.seen (seen_by p)) (x.seen (seen_by q)) (x.rises (seen_by p) (seen_by q) (no_less p q more)) (kept.chain x);
   lies = λ x. lies_later x past (seen_by p) (seen_by q) d.done d.logs (no_less p q more) (kept.lies x);
 }

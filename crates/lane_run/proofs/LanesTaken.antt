@@ -89,8 +89,8 @@ kept_taken s before base lane d cs rest m q notes given kept left leaves more he
       promised = promised_later s lane (length logs) logs (Follows m) (Follows q) (seen_by m) (seen_by q) rest (d.given ++ given)
           (λ e follows. follows_less m q e heard follows) further leaves.promised;
       stand = All-append (StandAt q) d.logs leaves.new
-          (each_weaker (StandAt base) (StandAt q) d.logs (λ g stand. stand_later base q g more stand) kept.stand)
-          (each_weaker (StandAt m) (StandAt q) leaves.new (λ g stand. stand_later m q g heard stand) leaves.stand);
+          (each_weaker d.logs (λ g stand. stand_later base q g more stand) kept.stand)
+          (each_weaker leaves.new (λ g stand. stand_later m q g heard stand) leaves.stand);
       chain = λ x. chain_higher x 0 logs (x.seen (seen_by m)) (x.seen (seen_by q)) (x.rises (seen_by m) (seen_by q) further)
           (chain-append x 0 d.logs leaves.new (x.seen (seen_by base)) (x.seen (seen_by m)) (kept.chain x) (leaves.chain x));
       lies = λ x. lies-append x past (seen_by q) d.done (in_round round cs) d.logs leaves.new

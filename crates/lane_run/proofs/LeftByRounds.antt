@@ -33,7 +33,6 @@ use Rattle.lane_run.proofs.LanesTaken.{AreLeftSoFar, IsIn, logs_in}
 use Rattle.lane_run.proofs.NotesJoined.{own_notes-none}
 use Rattle.lane_run.proofs.PartLists.{each_weaker}
 use Rattle.lane_run.proofs.RoundsLeft.{lane_first, left_first, rounds_left}
-
 use Rattle.lane_run.proofs.LaneKept.{KeepsEach}
 
 -- a run has of a lane's calls what it kept of each
@@ -105,14 +104,14 @@ module _ (s : Script) (past : List Seen) (q : WorldPass) (left : LeftOf) (of : �
         ⊎_elim (λ (less : c.call < length (of c.lane).logs). all_at (StandAt q) (of c.lane).logs c.call (logs_in of c) (so_far.kept c.lane).stand
         (log_there c less)) (λ (more : length (of c.lane).logs ≤ c.call). subst (StandAt q) (sym (none_kept c more)) (stand_none q))
         (cases_lt c.call (length (of c.lane).logs));
-    entries = each_weaker _ (λ (n : EntryNote). IsLabel s n.label) left.notes.entries (λ n has. in_is n.label has) so_far.are.entries;
-    looks = each_weaker _ (λ (n : LookNote). IsLabel s n.label × IsLookNote q n) left.notes.looks (λ n has. (in_is n.label has.0, has.1))
+    entries = each_weaker left.notes.entries (λ n has. in_is n.label has) so_far.are.entries;
+    looks = each_weaker left.notes.looks (λ n has. (in_is n.label has.0, has.1))
         so_far.are.looks;
-    objects = each_weaker _ (λ (n : ObjectNote). IsLabel s n.label × IsObjectLeft q (logs_in of n.label) n) left.notes.objects
+    objects = each_weaker left.notes.objects
         (λ n has. (in_is n.label has.0, has.1)) so_far.are.objects;
-    skips = each_weaker _ (λ (n : SkipNote). IsLabel s n.label × IsSkipNote q n) left.notes.skips (λ n has. (in_is n.label has.0, has.1))
+    skips = each_weaker left.notes.skips (λ n has. (in_is n.label has.0, has.1))
         so_far.are.skips;
-    writes = each_weaker _ (λ (n : WriteNote). IsLabel s n.line.label × IsWriteLeft q (logs_in of n.line.label) n) left.notes.writes
+    writes = each_weaker left.notes.writes
         (λ n has. (in_is n.line.label has.0, has.1)) so_far.are.writes;
     few = omega (arith, few, range.count);
     timers_places = so_far.tallies.timers;

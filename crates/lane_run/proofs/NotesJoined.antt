@@ -69,11 +69,11 @@ pub own_notes-none : (p : WorldPass) (notes : NotesOf) (logs : Label → CallLog
     → (Has c → ⊥) → own_notes c notes ≡ no_notes
 own_notes-none p notes logs Has c are never = notes_same (own_notes c notes) no_notes
     (filter_none (λ (n : EntryNote). n.label) Has c notes.entries never are.entries)
-    (filter_none (λ (n : LookNote). n.label) Has c notes.looks never (each_weaker _ (λ n. Has n.label) notes.looks (λ n is. is.0) are.looks))
-    (filter_none (λ (n : ObjectNote). n.label) Has c notes.objects never (each_weaker _ (λ n. Has n.label) notes.objects (λ n is. is.0) are.objects))
-    (filter_none (λ (n : SkipNote). n.label) Has c notes.skips never (each_weaker _ (λ n. Has n.label) notes.skips (λ n is. is.0) are.skips))
+    (filter_none (λ (n : LookNote). n.label) Has c notes.looks never (each_weaker notes.looks (λ n is. is.0) are.looks))
+    (filter_none (λ (n : ObjectNote). n.label) Has c notes.objects never (each_weaker notes.objects (λ n is. is.0) are.objects))
+    (filter_none (λ (n : SkipNote). n.label) Has c notes.skips never (each_weaker notes.skips (λ n is. is.0) are.skips))
     (filter_none (λ (n : WriteNote). n.line.label) Has c notes.writes never
-    (each_weaker _ (λ n. Has n.line.label) notes.writes (λ n is. is.0) are.writes))
+    (each_weaker notes.writes (λ n is. is.0) are.writes))
 
 -- law: when more was seen they still are
 pub are_later : (p q : WorldPass) (notes : NotesOf) (logs : Label → CallLog) (Has : Label → Type 0) → SeesMore p q → AreOf p notes logs Has
@@ -81,11 +81,11 @@ pub are_later : (p q : WorldPass) (notes : NotesOf) (logs : Label → CallLog) (
 are_later p q notes logs Has more are = record {
   tell = are.tell;
   entries = are.entries;
-  looks = each_weaker _ (λ n. Has n.label × IsLookNote q n) notes.looks (λ n is. (is.0, look_later p q n more is.1)) are.looks;
-  objects = each_weaker _ (λ n. Has n.label × IsObjectLeft q (logs n.label) n) notes.objects
+  looks = each_weaker notes.looks (λ n is. (is.0, look_later p q n more is.1)) are.looks;
+  objects = each_weaker notes.objects
       (λ n is. (is.0, object_later p q (logs n.label) n more is.1)) are.objects;
-  skips = each_weaker _ (λ n. Has n.label × IsSkipNote q n) notes.skips (λ n is. (is.0, skip_later p q n more is.1)) are.skips;
-  writes = each_weaker _ (λ n. Has n.line.label × IsWriteLeft q (logs n.line.label) n) notes.writes
+  skips = each_weaker notes.skips (λ n is. (is.0, skip_later p q n more is.1)) are.skips;
+  writes = each_weaker notes.writes
       (λ n is. (is.0, write_later p q (logs n.line.label) n more is.1)) are.writes;
 }
 
@@ -111,13 +111,12 @@ module _ (p q m : WorldPass) (a b : NotesOf) (logs more all : Label → CallLog)
   pub joined : AreOf m (both_noted a b) all Both
   joined = record {
     tell = λ c both. ⊎_elim (tell_left c) (tell_right c) (parts c both);
-    entries = each_joined (λ (n : EntryNote). Has n.label) (λ n. Also n.label) (λ n. Both n.label) a.entries b.entries (λ n is. (left n.label is).0)
+    entries = each_joined a.entries b.entries (λ n is. (left n.label is).0)
         (λ n is. (right n.label is).0) one.entries two.entries;
-    looks = each_joined (λ (n : LookNote). Has n.label × IsLookNote p n) (λ n. Also n.label × IsLookNote q n) (λ n. Both n.label × IsLookNote m n)
+    looks = each_joined
         a.looks b.looks (λ n is. ((left n.label is.0).0, look_later p m n first is.1)) (λ n is. ((right n.label is.0).0, look_later q m n second is.1))
         one.looks two.looks;
-    objects = each_joined (λ (n : ObjectNote). Has n.label × IsObjectLeft p (logs n.label) n) (λ n. Also n.label × IsObjectLeft q (more n.label) n)
-        (λ n. Both n.label × IsObjectLeft m (all n.label) n) a.objects b.objects
+    objects = each_joined a.objects b.objects
         (λ n is. (
           (left n.label is.0).0,
           object_later p m (all n.label) n first
@@ -128,11 +127,10 @@ module _ (p q m : WorldPass) (a b : NotesOf) (logs more all : Label → CallLog)
           object_later q m (all n.label) n second
               (subst (λ g. IsObjectLeft q g n) (sym (right n.label is.0).1) is.1),
         )) one.objects two.objects;
-    skips = each_joined (λ (n : SkipNote). Has n.label × IsSkipNote p n) (λ n. Also n.label × IsSkipNote q n) (λ n. Both n.label × IsSkipNote m n)
+    skips = each_joined
         a.skips b.skips (λ n is. ((left n.label is.0).0, skip_later p m n first is.1)) (λ n is. ((right n.label is.0).0, skip_later q m n second is.1))
         one.skips two.skips;
-    writes = each_joined (λ (n : WriteNote). Has n.line.label × IsWriteLeft p (logs n.line.label) n)
-        (λ n. Also n.line.label × IsWriteLeft q (more n.line.label) n) (λ n. Both n.line.label × IsWriteLeft m (all n.line.label) n) a.writes b.writes
+    writes = each_joined a.writes b.writes
         (λ n is. (
           (left n.line.label is.0).0,
           write_later p m (all n.line.label) n first
@@ -165,8 +163,8 @@ call_notes s l call a m kept =
       entries = kept.bears.entries;
       looks = each_two (λ (n : LookNote). n.label ≡ l.label) (IsLookNote m.pass) added.looks kept.bears.looks kept.seen.looks;
       objects = each_two (λ (n : ObjectNote). n.label ≡ l.label) (IsObjectLeft m.pass log) added.objects kept.bears.objects
-          (each_weaker _ (IsObjectLeft m.pass log) added.objects (λ n. object_called l.pass m.pass kept.notes kept.trace n) kept.seen.objects);
+          (each_weaker added.objects (λ n. object_called l.pass m.pass kept.notes kept.trace n) kept.seen.objects);
       skips = each_two (λ (n : SkipNote). n.label ≡ l.label) (IsSkipNote m.pass) added.skips kept.bears.skips kept.seen.skips;
       writes = each_two (λ (n : WriteNote). n.line.label ≡ l.label) (IsWriteLeft m.pass log) added.writes kept.bears.writes
-          (each_weaker _ (IsWriteLeft m.pass log) added.writes (λ n. write_called l.pass m.pass kept.notes kept.trace n) kept.seen.writes);
+          (each_weaker added.writes (λ n. write_called l.pass m.pass kept.notes kept.trace n) kept.seen.writes);
     }

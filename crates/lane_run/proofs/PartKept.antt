@@ -84,8 +84,8 @@ keeps_part {l = l} next m a IsSo log object_log notes t part so clock clock_mine
       };
       seen = record {
         writes = tt;
-        looks = each_weaker _ (IsLookNote q) (look_notes label log) (λ n its. record { some = its.0; seen = its.1 }) part.timers.looks_seen;
-        objects = each_weaker (IsNoteIn IsSo p.objects q.objects) (IsObjectNote p q) (object_notes label object_log) (λ n its. record {
+        looks = each_weaker (look_notes label log) (λ n its. record { some = its.0; seen = its.1 }) part.timers.looks_seen;
+        objects = each_weaker (object_notes label object_log) (λ n its. record {
           before = its.before;
           number = its.number;
           behind = its.behind;
@@ -93,7 +93,7 @@ keeps_part {l = l} next m a IsSo log object_log notes t part so clock clock_mine
           there = its.there;
           shows = λ e goes. its.shows e.run.clock (so e goes);
         }) part.objects.seen;
-        skips = each_weaker _ (IsSkipNote q) (skip_notes label object_log) (λ n its. record { some = its.0; seen = its.1 }) part.objects.skips_seen;
+        skips = each_weaker (skip_notes label object_log) (λ n its. record { some = its.0; seen = its.1 }) part.objects.skips_seen;
       };
       stand = stand_from IsSo p q notes part.timers.enters (λ e follows. so e follows.clock);
       logged = logged;

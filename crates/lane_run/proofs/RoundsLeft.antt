@@ -164,7 +164,7 @@ module _ (s : Script) (x : WorldOf) (each : KeepsEach s x) (world : IsWorldOf s 
       let taken = lanes_taken s before p of r rest (λ j. kept_pushed s before p j (of j) (so_far.kept j)) firsts makes.split left
       (more_split p makes.split makes.main) (round_begun s before p makes.split left of makes.main so_far) makes.ended q now those.0 distinct makes.taken in
       let writes = writes_taken r makes.split left makes.ended q now
-      (each_weaker (LeavesOne s p of r rest) (λ (l : Lane). length l.notes.writes ≤ many_calls r l.label.lane) makes.ended (λ l one. one.leaves.few) those.0)
+      (each_weaker makes.ended (λ l one. one.leaves.few) those.0)
       makes.taken in
       let together = ap (total (many_calls r)) names in
       record {

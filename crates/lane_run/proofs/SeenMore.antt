@@ -25,8 +25,6 @@ use Rattle.lane_run.specs.Rounds.{BeginsRound, HasSplit, LeftOf, TakesInPass}
 use Rattle.lane_run.specs.declared.lane.Lane.{Lane}
 use Rattle.lane_run.specs.declared.world.WorldPass.{WorldPass}
 use Rattle.pass_names.proofs.Passes.{begins_length, begins_trans}
-
-
 use Rattle.run_history.specs.Fits.{Seen}
 use Rattle.seq_timer.specs.declared.system.TimerEntry.{TimerEntry}
 use Rattle.std.proofs.Common.{[]}
@@ -40,7 +38,8 @@ use Rattle.std.proofs.lemmas.List.{append_assoc}
 use Rattle.run_history.specs.Promises as promises
 
 -- law: a run that goes on from what was seen goes on from what was seen before
-pub goes_before : {xs ys : List TimerEntry} {e : Ending} → Begins xs ys → promises.GoesOn ys e → promises.GoesOn xs e
+pub goes_before : {xs ys all : List TimerEntry} → Begins xs ys → (later : List TimerEntry) × (all ≡ ys ++ later)
+    → (later : List TimerEntry) × (all ≡ xs ++ later)
 goes_before {xs} begins on = (begins.rest ++ on.0, on.1 ∙ ap (λ zs. zs ++ on.0) begins.whole ∙ append_assoc xs begins.rest on.0)
 
 -- a timer has no fewer entries where more was seen

@@ -32,10 +32,11 @@ use Rattle.lane_run.specs.Worlds.{WorldOf}
 use Rattle.lane_run.proofs.Entering.{enters_none}
 use Rattle.pass_names.proofs.Passes.{begins_length}
 use Rattle.lane_run.proofs.SeenMore.{begins_same}
-use Rattle.lane_run.proofs.CallKept.{no_places, promised_from, reads_begins, same_objects, stand_from, take_whole}
+use Rattle.lane_run.proofs.CallKept.{no_places, promised_from, reads_begins, same_objects, stand_from, take_whole, reading_of_seen}
 use Rattle.lane_run.proofs.PartLists.{same_order}
 use Rattle.lane_run.proofs.Sights.{keeps_quiet, no_object_steps}
 use Rattle.lane_run.proofs.Sights.{LooksOnly, looks_alone, keeps_looking}
+use Rattle.lane_run.proofs.Entering.{EntersNotes}
 
 -- the notes of a write alone
 abbrev pub write_notes : ℕ → ClockLine → NotesOf
@@ -91,8 +92,8 @@ write_kept {s = s} {l = l} {m = m} {write = write} next (Ok r) w timers objects 
     let number : many + 1 ≡ r.stamp = omega (arith, w.ok.count, ap length adds.last, length-append adds.before (write ∷ [])) in
     let behind : length (writes p.clock.knows) ≤ many = begins_length adds.begins in
     let same_seen : q.timers.known.seen ≡ p.timers.known.seen = ap (λ t. t.known.seen) timers in
-    let enters = enters_none (λ clock. Unit) p.timers.known q.timers.known (begins_same same_seen)
-    (ap (λ t. t.known.mine) timers) in
+    let enters : EntersNotes (λ clock. Unit) p.timers.known q.timers.known [] =
+    enters_none (begins_same same_seen) (ap (λ t. t.known.mine) timers) in
     let sees : SeesOn p q = record {
       timers = enters.seen;
       clock = reads_begins p q adds.seen;
