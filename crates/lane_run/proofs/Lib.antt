@@ -47,7 +47,6 @@ pub mod OwnLines
 pub mod LastSeen
 pub mod FiledNotes
 pub mod ClockLines
-pub mod ObjectHistories
 pub mod ObjectLines
 pub mod HungNotes
 pub mod HungLines

@@ -1,23 +1,34 @@
 -- A call's lines in a list of the record are what it did there, by the notes that were made of it and stand sorted.
 use mathlib.Core.Bool.{cond}
-use Rattle.std.proofs.Common.{◌≡◌, ℕ, ◌+◌, zero, suc, true, false, nat_eq, Some, List, [], ◌∷◌, filter, map, arith, refl, sym, ap, ◌∙◌, subst, inl, inr, Bool}
+use Rattle.std.proofs.Common.{◌≡◌, ◌&&◌, ℕ, ◌+◌, zero, suc, true, false, nat_eq, Some, List, [], ◌∷◌, filter, length, map, arith, refl, sym, ap, ◌∙◌, subst, inl, inr, Bool}
 use Rattle.std.specs.List.{slice_get}
+use Rattle.std.specs.List.Sorted.{IsPermutation}
+use Rattle.std.proofs.Math.Bool.{and_comm}
 use Rattle.std.proofs.Math.Logic.{⊎_elim}
 use Rattle.std.proofs.lemmas.Bool.{eq-eqb, eqb-true}
-use Rattle.std.proofs.lemmas.Option.{same_Some}
+use Rattle.std.proofs.lemmas.List.{length-map}
+use Rattle.std.proofs.lemmas.List.Elements.{filter_agree}
+use Rattle.std.proofs.lemmas.List.Sorted.{IsPermutation-map, IsPermutation-sym}
 use Rattle.lane_notes.specs.Sorted.{is_of_list, IsSortedOf, Place, place_of_look, place_of_object, place_of_skip}
 use Rattle.lane_notes.specs.declared.notes.LookNote.{LookNote}
 use Rattle.lane_notes.specs.declared.notes.ObjectNote.{ObjectNote}
 use Rattle.lane_notes.specs.declared.notes.SkipNote.{SkipNote}
-use Rattle.lane_notes.proofs.Standing.{filter_stands_in, HasPlace, stands_in_filter}
+use Rattle.lane_notes.proofs.Standing.{filter_stands_in, HasPlace, stands_in_filter, stands_permuted}
 use Rattle.record_text.specs.declared.record.Label.{Label}
 use Rattle.script_text.specs.Actions.{also, own}
-use Rattle.script_text.specs.Order.{is_label}
+use Rattle.script_text.specs.Order.{is_label, IsLabel}
+use Rattle.script_text.specs.declared.script.Script.{Script}
 use Rattle.run_history.specs.Receipts.{Rises}
-use Rattle.run_history.proofs.Items.{Among, own_items, RiseIn, StandsIn}
+use Rattle.run_history.proofs.Items.{Among, own_rises, RiseIn, same_items}
 use Rattle.run_history.proofs.Lists.{at_map, map_get}
+use Rattle.run_history.proofs.Permuted.{filter_permuted}
 use Rattle.lane_run.specs.Kept.{looks_on, made_on, skips_on}
-use Rattle.lane_run.proofs.Numbered.{AreEachOnce, number_at, stands_at, was_noted}
+use Rattle.lane_run.proofs.Numbered.{are_numbered, AreEachOnce, AreNumbered, as_many, nobody, noted_at}
+use Rattle.lane_notes.specs.Records.{each_below, line_at_number, noted_lines, numbered_from}
+use Rattle.lane_notes.proofs.Shelves.{each_below-past, get_or-each_below}
+use Rattle.std.proofs.lemmas.Bool.{cases_lt}
+use Rattle.std.proofs.lemmas.Option.{same_Some, slice_get_within}
+use Rattle.std.proofs.Common.{◌<◌, ◌≤◌, get_or}
 
 -- ---- members
 
@@ -34,53 +45,48 @@ pub place_among : {X : Type 0} (xs : List X) (x : X) → Among x xs → HasPlace
 place_among [] x here = absurd here
 place_among (y ∷ xs) x here = ⊎_elim (λ is. (0, ap Some (sym is))) (λ more. let s = place_among xs x more in (suc s.0, s.1)) here
 
--- law: so for what is made of each item
-pub among_made : {X Y : Type 0} (f : X → Y) (xs : List X) (x : X) → HasPlace xs x → Among (f x) (map f xs)
-among_made {X = X} f xs x s = at xs s.0 s.1
-  where
-    at : (ys : List X) (i : ℕ) → slice_get ys i ≡ Some x → Among (f x) (map f ys)
-    at [] i is = absurd (cc)
-    at (y ∷ ys) zero is = inl (ap f (sym (same_Some y x is)))
-    at (y ∷ ys) (suc i) is = inr (at ys i is)
+among_permuted : {X : Type 0} (xs ys : List X) (x : X) → IsPermutation xs ys → Among x xs → Among x ys
+among_permuted xs ys x same here = let s = place_among xs x here in among_at ys x (stands_permuted xs ys s.0 x same s.1)
 
-pub made_among : {X Y : Type 0} (f : X → Y) (xs : List X) (e : Y) → Among e (map f xs) → (x : X) × HasPlace xs x × (e ≡ f x)
-made_among f [] e here = absurd here
-made_among f (y ∷ xs) e here =
-    ⊎_elim (λ is. (y, (0, refl), is)) (λ more. let s = made_among f xs e more in (s.0, (suc s.1.0, s.1.1), s.2)) here
+pub rise_in : {A : Type 0} (k : ℕ) (xs : List (ℕ × A)) → Rises k (map (λ x. x.0) xs) → RiseIn k xs
+rise_in k [] rise = tt
+rise_in k (x ∷ xs) rise = (rise.0, rise_in (x.0 + 1) xs rise.1)
+
+-- things whose numbers rise in either order stand in one order
+same_risen : {A : Type 0} (xs ys : List (ℕ × A)) → IsPermutation xs ys → RiseIn 1 xs → RiseIn 1 ys → xs ≡ ys
+same_risen xs ys same one two =
+    same_items 1 1 xs ys one two (λ e. among_permuted xs ys e same) (λ e. among_permuted ys xs e (IsPermutation-sym xs ys same))
 
 -- ---- the notes of a call
+
+-- law: one test behind another is both, in either order
+pub filter_both : {X : Type 0} (p o : X → Bool) (xs : List X) → filter p (filter o xs) ≡ filter (λ x. o x && p x) xs
+filter_both p o [] = refl
+filter_both p o (x ∷ xs) =
+    let both = filter (λ y. o y && p y) xs in
+    elim (o x) as (λ b. filter p (cond b (x ∷ filter o xs) (filter o xs)) ≡ cond (b && p x) (x ∷ both) both) [
+      | true ↦ ap (λ ys. cond (p x) (x ∷ ys) ys) (filter_both p o xs)
+      | false ↦ filter_both p o xs
+    ]
+
+turn_filters : {X : Type 0} (p o : X → Bool) (xs : List X) → filter p (filter o xs) ≡ filter o (filter p xs)
+turn_filters p o xs =
+    filter_both p o xs ∙ filter_agree (λ x. o x && p x) (λ x. p x && o x) (λ x. and_comm (o x) (p x)) xs ∙ sym (filter_both o p xs)
 
 -- what is made of an item that passes a test, in front of what is made of others
 also-map : {X Y : Type 0} (b : Bool) (f : X → Y) (x : X) (xs : List X) {ys : List Y} → ys ≡ map f xs → also b (f x) ys ≡ map f (cond b (x ∷ xs) xs)
 also-map true f x xs is = ap (λ ys. f x ∷ ys) is
 also-map false f x xs is = is
 
--- law: notes of a list as what is told of each
-pub made_on-filter : (i : ℕ) (ns : List ObjectNote) → made_on i ns ≡ map (λ n. (n.number, n.entry)) (filter (is_of_list place_of_object i) ns)
-made_on-filter i [] = refl
-made_on-filter i (n ∷ ns) =
-    also-map (nat_eq n.object i) (λ (m : ObjectNote). (m.number, m.entry)) n (filter (is_of_list place_of_object i) ns) (made_on-filter i ns)
-
-pub looks_on-filter : (t : ℕ) (ns : List LookNote) → looks_on t ns ≡ map (λ n. (n.number, n.reply)) (filter (is_of_list place_of_look t) ns)
-looks_on-filter t [] = refl
-looks_on-filter t (n ∷ ns) =
-    also-map (nat_eq n.timer t) (λ (m : LookNote). (m.number, m.reply)) n (filter (is_of_list place_of_look t) ns) (looks_on-filter t ns)
-
-pub skips_on-filter : (i : ℕ) (ns : List SkipNote) → skips_on i ns ≡ map (λ n. (n.number, n.generation)) (filter (is_of_list place_of_skip i) ns)
-skips_on-filter i [] = refl
-skips_on-filter i (n ∷ ns) =
-    also-map (nat_eq n.object i) (λ (m : SkipNote). (m.number, m.generation)) n (filter (is_of_list place_of_skip i) ns) (skips_on-filter i ns)
+-- law: what is told of the notes that pass a test, as a list that is given head by head
+pub told_of : {X Y : Type 0} (g : List X → List Y) (p : X → Bool) (f : X → Y) → g [] ≡ [] → ((x : X) (xs : List X) → g (x ∷ xs) ≡ also (p x) (f x) (g xs))
+    → (xs : List X) → g xs ≡ map f (filter p xs)
+told_of g p f none more [] = none
+told_of g p f none more (x ∷ xs) = more x xs ∙ also-map (p x) f x (filter p xs) (told_of g p f none more xs)
 
 -- the notes of a call on one list
 abbrev pub own_on : {X : Type 0} → (X → Place) → ℕ → Label → List X → List X
 own_on place l c xs = filter (is_of_list place l) (filter (λ n. is_label c (place n).label) xs)
-
--- law: they are the notes of the list that bear its label
-pub own_on_from : {X : Type 0} (place : X → Place) (l : ℕ) (c : Label) (xs : List X) (x : X) → HasPlace xs x → (place x).list ≡ l
-    → is_label c (place x).label ≡ true
-    → HasPlace (own_on place l c xs) x
-own_on_from place l c xs x s lists own = stands_in_filter (is_of_list place l) (filter (λ n. is_label c (place n).label) xs) x (eq-eqb (place x).list l lists)
-    (stands_in_filter (λ n. is_label c (place n).label) xs x own s)
 
 -- a note of a call on one list
 pub record IsOwn {X : Type 0} (place : X → Place) (l : ℕ) (c : Label) (xs : List X) (x : X) : Type 0 where
@@ -88,66 +94,86 @@ pub record IsOwn {X : Type 0} (place : X → Place) (l : ℕ) (c : Label) (xs : 
   pub list : (place x).list ≡ l
   pub own : is_label c (place x).label ≡ true
 
+-- law: they are the notes of the list that bear its label
+pub own_on_from : {X : Type 0} (place : X → Place) (l : ℕ) (c : Label) (xs : List X) (x : X) → IsOwn place l c xs x → HasPlace (own_on place l c xs) x
+own_on_from place l c xs x is =
+    stands_in_filter (is_of_list place l) (filter (λ n. is_label c (place n).label) xs) x (eq-eqb (place x).list l is.list)
+    (stands_in_filter (λ n. is_label c (place n).label) xs x is.own is.noted)
+
 pub own_on_parts : {X : Type 0} (place : X → Place) (l : ℕ) (c : Label) (xs : List X) (x : X) → HasPlace (own_on place l c xs) x → IsOwn place l c xs x
 own_on_parts place l c xs x s =
     let outer = filter_stands_in (is_of_list place l) (filter (λ n. is_label c (place n).label) xs) x s in
     let inner = filter_stands_in (λ n. is_label c (place n).label) xs x outer.0 in
     record { noted = inner.0; list = eqb-true (place x).list l outer.1; own = inner.1 }
 
-pub rise_in : {A : Type 0} (k : ℕ) (xs : List (ℕ × A)) → Rises k (map (λ x. x.0) xs) → RiseIn k xs
-rise_in k [] rise = tt
-rise_in k (x ∷ xs) rise = (rise.0, rise_in (x.0 + 1) xs rise.1)
+-- law: the sorted notes of a list that bear a call's label are its own, in some order
+pub own_sorted : {X Y : Type 0} {place : X → Place} (l : ℕ) (c : Label) (told : X → Y) {xs sorted : List X} → IsSortedOf place xs sorted
+    → IsPermutation (map told (filter (λ n. is_label c (place n).label) (filter (is_of_list place l) sorted))) (map told (own_on place l c xs))
+own_sorted {X = X} {place = place} l c told {xs = xs} {sorted = sorted} is =
+    let own : X → Bool = λ n. is_label c (place n).label in
+    IsPermutation-map told (filter own (filter (is_of_list place l) sorted)) (own_on place l c xs)
+    (subst (λ ys. IsPermutation ys (own_on place l c xs)) (sym (turn_filters own (is_of_list place l) sorted))
+    (filter_permuted (is_of_list place l) (filter own sorted) (filter own xs) (filter_permuted own sorted xs (IsPermutation-sym xs sorted is.same))))
 
--- one more on either side
-pub turned : (n : ℕ) → n + 1 ≡ 1 + n
-turned n = omega arith
+-- ---- lines that show the sorted notes of a list
 
--- ---- its lines
+-- a place is that of a call of the script, in the call's span
+abbrev pub InSpan : Script → (Label → ℕ × ℕ) → Label → ℕ → Type 0
+InSpan s span c n = IsLabel s c × ((span c).0 ≤ n) × (n < (span c).1)
 
-module _ {X L A : Type 0} (place : X → Place) (many : ℕ → ℕ) (xs sorted : List X) (is : IsSortedOf place xs sorted) (once : AreEachOnce place many xs)
-    (l : ℕ) (c : Label) (lines : List L) (label : L → Label) (thing : L → A) (told : X → A)
-    (shape : map {B = Label × A} (λ y. (label y, thing y)) lines ≡ map {B = Label × A} (λ n. ((place n).label, told n))
-    (filter (is_of_list place l) sorted)) where
-  -- law: the line at a place is that of the note there
-  pub line_of_note : (j : ℕ) (n : X) → slice_get (filter (is_of_list place l) sorted) j ≡ Some n
-      → (y : L) × (slice_get lines j ≡ Some y) × ◌≡◌ {A = Label × A} (label y, thing y) ((place n).label, told n)
-  line_of_note j n at = map_get {Y = Label × A} (λ (y : L). (label y, thing y)) lines j ((place n).label, told n)
-      (ap (λ zs. slice_get zs j) shape ∙ at_map {Y = Label × A} (λ (m : X). ((place m).label, told m)) (filter (is_of_list place l) sorted) j n at)
+-- law: a list's lines are made of its notes, also where there is no such list, and so no note
+pub lines_are : {N U L : Type 0} (under : U → Place) (line : N → List U → L) (place : N → Place) (notes : List N) (unders : List U) (lists l : ℕ) {many : ℕ}
+    → length (filter (is_of_list place l) notes) ≡ many → (lists ≤ l → many ≡ 0)
+    → get_or (each_below (λ i. noted_lines under line place i notes unders) lists) l [] ≡ noted_lines under line place l notes unders
+lines_are under line place notes unders lists l long past = ⊎_elim
+    (λ (less : l < lists). get_or-each_below (λ i. noted_lines under line place i notes unders) lists l [] less)
+    (λ (le : lists ≤ l). each_below-past (λ i. noted_lines under line place i notes unders) lists l [] le
+    ∙ sym (ap (numbered_from (line_at_number under line (filter (is_of_list under l) unders)) 1) (nobody (filter (is_of_list place l) notes)
+    (λ n st. absurd (omega (arith, slice_get_within (filter (is_of_list place l) notes) st.0 n st.1, long, past le))))))
+    (cases_lt l lists)
 
-  -- law: and the other way round
-  pub note_of_line : (j : ℕ) (y : L) → slice_get lines j ≡ Some y
-      → (n : X) × (slice_get (filter (is_of_list place l) sorted) j ≡ Some n) × ◌≡◌ {A = Label × A} ((place n).label, told n) (label y, thing y)
-  note_of_line j y at = map_get {Y = Label × A} (λ (m : X). ((place m).label, told m)) (filter (is_of_list place l) sorted) j (label y, thing y)
-      (ap (λ zs. slice_get zs j) (sym shape) ∙ at_map {Y = Label × A} (λ (z : L). (label z, thing z)) lines j y at)
+module _ {X L A : Type 0} {place : X → Place} {l many : ℕ} {xs sorted : List X} (is : IsSortedOf place xs sorted) (once : AreEachOnce place l many xs)
+    (label : L → Label) (thing : L → A) (told : X → A) (lines : List L)
+    (shape : map {B = Label × A} (λ y. (label y, thing y)) lines ≡ map {B = Label × A} (λ n. ((place n).label, told n)) (filter (is_of_list place l) sorted)) where
+  -- law: there are as many as numbers
+  pub lines_long : length lines ≡ many
+  lines_long = sym (length-map {B = Label × A} lines (λ y. (label y, thing y))) ∙ ap length shape
+      ∙ length-map {B = Label × A} (filter (is_of_list place l) sorted) (λ n. ((place n).label, told n)) ∙ as_many is once
 
-  -- law: a call's lines are what it did, by its notes
-  pub own_lines : (items : List (ℕ × A)) → Rises 1 (map (λ n. n.0) items) → map {B = ℕ × A} (λ n. ((place n).number, told n)) (own_on place l c xs) ≡ items
-      → own label thing c 1 lines ≡ items
-  own_lines items rise noted = own_items label thing c 1 lines items (rise_in 1 items rise) stand all
+  -- law: what holds of what each note tells, and of how many stand before it, holds of the line at each place
+  pub at_line : (P : Label × A → ℕ → Type 0)
+      → ((n : X) → HasPlace xs n → (place n).list ≡ l → (b : ℕ) × (b + 1 ≡ (place n).number) × P ((place n).label, told n) b)
+      → (j : ℕ) (y : L) → slice_get lines j ≡ Some y → P (label y, thing y) j
+  at_line P holds j y at =
+      let m = map_get {Y = Label × A} (λ (n : X). ((place n).label, told n)) (filter (is_of_list place l) sorted) j (label y, thing y)
+      (ap (λ zs. slice_get zs j) (sym shape) ∙ at_map {Y = Label × A} (λ (z : L). (label z, thing z)) lines j y at) in
+      let n = noted_at is once j m.0 m.1 in
+      let b = holds m.0 n.noted n.list in
+      subst (λ q. P q j) m.2 (subst (P ((place m.0).label, told m.0)) (less_one b.0 j (place m.0).number b.1 n.number) b.2)
     where
-      stand : (e : ℕ × A) → Among e items → StandsIn L A label thing c 1 lines e
-      stand e here =
-          let m = made_among (λ (n : X). ((place n).number, told n)) (own_on place l c xs) e (subst (Among e) (sym noted) here) in
-          let n = m.0 in
-          let o = own_on_parts place l c xs n m.1 in
-          let s = stands_at place many xs sorted is once n o.noted in
-          let y = line_of_note s.0 n (subst (λ k. slice_get (filter (is_of_list place k) sorted) s.0 ≡ Some n) o.list s.1) in
-          record {
-            before = s.0;
-            line = y.0;
-            there = y.1;
-            own = ap (λ (p : Label × A). is_label c p.0) y.2 ∙ o.own;
-            is = m.2 ∙ ap (λ k. (k, told n)) (s.2 ∙ turned s.0) ∙ ap (λ (p : Label × A). (1 + s.0, p.1)) (sym y.2);
-          }
+      less_one : (b j n : ℕ) → b + 1 ≡ n → n ≡ 1 + j → b ≡ j
+      less_one b j n e f = omega (arith, e, f)
 
-      all : (p : ℕ) (y : L) → slice_get lines p ≡ Some y → is_label c (label y) ≡ true → Among (1 + p, thing y) items
-      all p y at own_line =
-          let m = note_of_line p y at in
-          let n = m.0 in
-          let w = was_noted place many xs sorted is once l p n m.1 in
-          let number = number_at place many xs sorted is once l p n m.1 in
-          let is_own = ap (λ (q : Label × A). is_label c q.0) m.2 ∙ own_line in
-          subst (Among (1 + p, thing y)) noted
-          (subst (λ e. Among e (map {B = ℕ × A} (λ n. ((place n).number, told n)) (own_on place l c xs)))
-          (ap (λ k. (k, told n)) (number ∙ turned p) ∙ ap (λ (q : Label × A). (1 + p, q.1)) m.2)
-          (among_made (λ (n : X). ((place n).number, told n)) (own_on place l c xs) n (own_on_from place l c xs n w.0 w.1 is_own)))
+  module _ {B : Type 0} (f : A → B) (c : Label) where
+    own_numbered : (k : ℕ) (ys : List L) (ns : List X) → AreNumbered place k ns
+        → map {B = Label × A} (λ y. (label y, thing y)) ys ≡ map {B = Label × A} (λ n. ((place n).label, told n)) ns
+        → own label (λ y. f (thing y)) c k ys ≡ map (λ n. ((place n).number, f (told n))) (filter (λ n. is_label c (place n).label) ns)
+    own_numbered k [] [] are same = refl
+    own_numbered k [] (n ∷ ns) are same = absurd (cc)
+    own_numbered k (y ∷ ys) [] are same = absurd (cc)
+    own_numbered k (y ∷ ys) (n ∷ ns) are same =
+        let head : ◌≡◌ {A = Label × A} (label y, thing y) ((place n).label, told n) = cc in
+        ap (λ (p : Label × A). also (is_label c p.0) (k, f p.1) (own label (λ z. f (thing z)) c (k + 1) ys)) head
+        ∙ ap (λ m. also (is_label c (place n).label) (m, f (told n)) (own label (λ z. f (thing z)) c (k + 1) ys)) (sym are.0)
+        ∙ also-map (is_label c (place n).label) (λ (m : X). ((place m).number, f (told m))) n (filter (λ m. is_label c (place m).label) ns)
+        (own_numbered (k + 1) ys ns are.1 (cc))
+
+    -- law: a call's lines are what it did, by its notes
+    pub own_lines : (items : List (ℕ × B)) → Rises 1 (map (λ n. n.0) items)
+        → map {B = ℕ × B} (λ n. ((place n).number, f (told n))) (own_on place l c xs) ≡ items → own label (λ y. f (thing y)) c 1 lines ≡ items
+    own_lines items rise noted =
+        same_risen (own label (λ y. f (thing y)) c 1 lines) items
+        (subst (λ ys. IsPermutation ys items) (sym (own_numbered 1 lines (filter (is_of_list place l) sorted) (are_numbered is once) shape))
+        (subst (IsPermutation (map (λ (n : X). ((place n).number, f (told n))) (filter (λ n. is_label c (place n).label) (filter (is_of_list place l) sorted)))) noted
+        (own_sorted l c (λ (n : X). ((place n).number, f (told n))) is)))
+        (own_rises label (λ y. f (thing y)) c 1 lines) (rise_in 1 items rise)

@@ -10,7 +10,7 @@ use Rattle.script_text.specs.declared.script.Script.{Script}
 use Rattle.lane_notes.specs.Notes.{NotesOf}
 use Rattle.lane_notes.specs.Records.{record_from}
 use Rattle.lane_notes.specs.Sorted.{IsSortedFrom}
-use Rattle.run_history.specs.Runs.{CallLog, Starts}
+use Rattle.run_history.specs.Runs.{CallLog, Starts, Ending}
 use Rattle.lane_run.specs.Kept.{Follows}
 use Rattle.lane_run.specs.Left.{AreLastOf, AreLeft, ending_of, IsRecorded}
 use Rattle.lane_run.specs.Worlds.{WorldOf}
@@ -18,40 +18,42 @@ use Rattle.lane_run.specs.declared.world.WorldPass.{WorldPass}
 use Rattle.lane_run.proofs.ClockLines.{clock_accepted, clock_few, clock_goes_on, clock_in_span, clock_lines, clock_lines_long, clock_own}
 use Rattle.lane_run.proofs.FiledNotes.{are_filed, filed_notes, receipts_inside}
 use Rattle.lane_run.proofs.HungLines.{looks_own, skips_own}
-use Rattle.lane_run.proofs.ObjectLines.{object_goes_on, object_in_span, object_lines_long, object_own, object_spans_follow, objects_legal}
+use Rattle.lane_run.proofs.ObjectLines.{object_goes_on, object_histories, object_in_span, object_lines_long, object_own}
 
-module _ (s : Script) (x : WorldOf) (q : WorldPass) (notes sorted : NotesOf) (logs : Label → CallLog) (starts : Starts) (answers : List (List Answer))
-    (last : AreLastOf s x q) (left : AreLeft s q notes logs) (is : IsSortedFrom notes sorted) where
-  -- law: a run with this record goes on from what the last passes have seen, which is all
-  pub record_follows : Follows q (ending_of (record_from sorted (length s.timers) answers) q logs starts)
-  record_follows = record {
+module _ {s : Script} {x : WorldOf} {q : WorldPass} {notes sorted : NotesOf} {logs : Label → CallLog} (last : AreLastOf s x q) (left : AreLeft s q notes logs)
+    (is : IsSortedFrom notes sorted) (answers : List (List Answer)) (starts : Starts) where
+  abbrev e : Ending
+  e = ending_of (record_from sorted (length s.timers) answers) q logs starts
+
+  -- a run with this record goes on from what the last passes have seen, which is all
+  follows : Follows q e
+  follows = record {
     few = clock_few last left is;
     timers = ([], sym (append-nil q.timers.known.seen));
-    clock = clock_goes_on last left is (ending_of (record_from sorted (length s.timers) answers) q logs starts) refl;
-    objects = λ i. object_goes_on last left is starts answers i;
+    clock = clock_goes_on last left is e refl;
+    objects = object_goes_on last left is answers starts;
   }
 
   -- law: the record of the sorted notes has what the lanes have left
-  pub recorded : IsRecorded s q (ending_of (record_from sorted (length s.timers) answers) q logs starts)
+  pub recorded : IsRecorded s q e
   recorded = record {
     sorted = filed_notes last left is answers;
     filed = are_filed last left is answers;
-    entries = λ c. (left.stand c).shows (ending_of (record_from sorted (length s.timers) answers) q logs starts) record_follows;
+    entries = λ c. (left.stand c).shows e follows;
     inside = receipts_inside last left is answers;
-    follows = record_follows;
+    follows = follows;
     has = λ c. record {
       kept = refl;
       clock = clock_own last left is c;
       looks = looks_own last left is answers c;
-      objects = object_own last left is starts answers c;
+      objects = object_own last left is answers c;
       skips = skips_own last left is answers c;
     };
     clock_inside = clock_in_span last left is;
     clock_length = length-map (clock_lines last left is) (λ (line : ClockLine). line.label) ∙ clock_lines_long last left is;
     writes = clock_accepted last left is;
-    objects_inside = object_in_span last left is starts answers;
-    objects_length = λ i. length-map (lines_of_object (record_from sorted (length s.timers) answers) i) (λ (line : ObjectLine). line.label)
-        ∙ object_lines_long last left is starts answers i;
-    object_histories = objects_legal last left is starts answers;
-    spans = object_spans_follow last left is starts answers;
+    objects_inside = object_in_span last left is answers;
+    objects_length = λ i. length-map (lines_of_object e.run i) (λ (line : ObjectLine). line.label) ∙ object_lines_long last left is answers i;
+    object_histories = λ i. (object_histories last left is answers starts i).0;
+    spans = λ i. (object_histories last left is answers starts i).1;
   }

@@ -49,7 +49,6 @@ use Rattle.pass_names.proofs.Passes.{begins_length}
 use Rattle.lane_run.proofs.Parts.{IsNoteIn, object_place, IsNotedAs, objects_made, noted_at}
 use Rattle.lane_run.proofs.PartLists.{one_falls}
 use Rattle.run_history.specs.Runs.{Ending}
-use Rattle.lane_run.proofs.OwnLines.{turned}
 use Rattle.lane_run.proofs.ObjectSeen.{span_made}
 
 -- ---- the record's spans
