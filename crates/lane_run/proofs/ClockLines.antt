@@ -21,7 +21,8 @@ use Rattle.run_history.specs.Promises.{GoesOnClock}
 use Rattle.run_history.specs.Runs.{CallLog, Ending}
 use Rattle.run_history.proofs.Lists.{all_at, map_get}
 use Rattle.run_history.proofs.Shown.{same_items as same_places}
-use Rattle.lane_run.specs.Left.{AreLastOf, AreLeft, IsWriteLeft}
+use Rattle.lane_run.specs.Kept.{IsWriteLeft, WriteNotes}
+use Rattle.lane_run.specs.Left.{AreLastOf, AreLeft}
 use Rattle.lane_run.specs.Worlds.{WorldOf}
 use Rattle.lane_run.specs.declared.world.WorldPass.{WorldPass}
 use Rattle.lane_run.proofs.LastSeen.{many_writes, writes_once}
@@ -64,7 +65,7 @@ module _ {s : Script} {x : WorldOf} {q : WorldPass} {notes sorted : NotesOf} {lo
       let at_list : slice_get (filter (is_of_list place_of_write 0) sorted.writes) k ≡ Some n = ap (λ ns. slice_get ns k) (all_of_clock sorted.writes) ∙ at in
       let w = was_noted place_of_write (many_writes last left) notes.writes sorted.writes is.writes (writes_once last left) 0 k n at_list in
       let number = number_at place_of_write (many_writes last left) notes.writes sorted.writes is.writes (writes_once last left) 0 k n at_list in
-      let its = all_at (λ m. IsLabel s m.line.label × IsWriteLeft q (logs m.line.label) m) notes.writes w.0.0 n left.writes w.0.1 in
+      let its = all_at (λ m. IsLabel s m.line.label × IsWriteLeft q (logs m.line.label) m) notes.writes w.0.0 n (left.seen WriteNotes) w.0.1 in
       let before : its.1.before ≡ k = less_one its.1.before k n.stamp its.1.number number in
       record {
         noted = w.0;

@@ -22,7 +22,6 @@ use Rattle.timer_objects.specs.declared.object.Kind.TheVariants as over
 use Rattle.lane_run.specs.Called.{caller_of}
 use Rattle.lane_run.proofs.ObjectLooks.{keeps_gettime-posix}
 use Rattle.lane_run.proofs.RearmedCalls.{gettime_kept}
-
 use Rattle.lane_run.proofs.LaneKept.{KeepsEach}
 
 -- law: a lane keeps a gettime

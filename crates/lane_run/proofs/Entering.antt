@@ -30,7 +30,6 @@ use Rattle.run_history.specs.Receipts.{count, Noted, receipt, ShowsEntry}
 use Rattle.run_history.proofs.Known.{adds_made, AreEntries, AreMade, AreShown, made-append, made_goes_on, made_wider, none_made, numbered, shows_made}
 use Rattle.record_text.proofs.Lists.{All-append}
 use Rattle.script_text.specs.Actions.{made}
-
 use Rattle.pass_names.proofs.Passes.{begins_trans, begins_length}
 
 -- ---- the record's entries of events

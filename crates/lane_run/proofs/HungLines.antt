@@ -36,6 +36,7 @@ use Rattle.run_history.proofs.Items.{Among}
 use Rattle.run_history.proofs.Lists.{all_at, each, map_get}
 use Rattle.run_history.proofs.Looks.{all_skips, LooksIn, of_call, own_looks_are, own_skips_are}
 use Rattle.lane_run.specs.Kept.{IsLookNote, IsSkipNote}
+use Rattle.lane_run.specs.Kept.{LookNotes, SkipNotes}
 use Rattle.lane_run.specs.Left.{AreLastOf, AreLeft}
 use Rattle.lane_run.specs.Worlds.{WorldOf}
 use Rattle.lane_run.specs.declared.world.WorldPass.{WorldPass}
@@ -89,7 +90,7 @@ module _ {s : Script} {x : WorldOf} {q : WorldPass} {notes sorted : NotesOf} {lo
       (λ none. subst (AllByRecursion (λ (line : TimerLine). AreSorted (map (λ (l : Look). l.label) line.looks))) (sym none) tt) (line_either t)
 
   look_noted : (n : LookNote) → HasPlace notes.looks n → IsLabel s n.label × IsLookNote q n
-  look_noted n st = all_at (λ m. IsLabel s m.label × IsLookNote q m) notes.looks st.0 n left.looks st.1
+  look_noted n st = all_at (λ m. IsLabel s m.label × IsLookNote q m) notes.looks st.0 n (left.seen LookNotes) st.1
 
   -- law: a call's looks under the record's lines are what it was told
   pub looks_own : (c : Label) (t : ℕ) → own_looks c 1 (lines_of_timer (record_from sorted (length s.timers) answers) t) ≡ looked t (logs c).trace.actions
@@ -163,7 +164,7 @@ module _ {s : Script} {x : WorldOf} {q : WorldPass} {notes sorted : NotesOf} {lo
   skip_line i k line at = in_either k line (hung_either i) at
 
   skip_noted : (n : SkipNote) → HasPlace notes.skips n → IsLabel s n.label × IsSkipNote q n
-  skip_noted n st = all_at (λ m. IsLabel s m.label × IsSkipNote q m) notes.skips st.0 n left.skips st.1
+  skip_noted n st = all_at (λ m. IsLabel s m.label × IsSkipNote q m) notes.skips st.0 n (left.seen SkipNotes) st.1
 
   -- each sorted one has a number of one of its object's entries
   skip_number : (i p : ℕ) (n : SkipNote) → slice_get (filter (is_of_list place_of_skip i) sorted.skips) p ≡ Some n → (1 ≤ n.number)

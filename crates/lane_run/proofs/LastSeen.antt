@@ -144,7 +144,7 @@ module _ {s : Script} {x : WorldOf} {q : WorldPass} (last : AreLastOf s x q) whe
     -- law: each entry of each timer is noted once
     pub entries_once : AreEachOnce place_of_entry (λ t. receipts.count t q.timers.known.seen) notes.entries
     entries_once t n = ⊎_elim
-        (λ (less : t < length s.timers). sym (count_places place_of_entry t n notes.entries) ∙ sym (left.timers_places t n)
+        (λ (less : t < length s.timers). sym (count_places place_of_entry t n notes.entries) ∙ sym (left.places.timers t n)
         ∙ (last.passes.timers.knows.whole last.last.timers).once t n (subst (λ m. t < m) (sym many_timers) less))
         (λ (past : length s.timers ≤ t). none_at t n notes.entries
         (each (λ e. e.timer < t) notes.entries (λ p e at. below e.timer (length s.timers) t (note_within e (p, at)) past))
@@ -153,7 +153,7 @@ module _ {s : Script} {x : WorldOf} {q : WorldPass} (last : AreLastOf s x q) whe
 
     -- law: each entry of each object is
     pub objects_once : AreEachOnce place_of_object (λ i. length (seen_of q.objects i)) notes.objects
-    objects_once i n = sym (count_places place_of_object i n notes.objects) ∙ sym (left.objects_places i n)
+    objects_once i n = sym (count_places place_of_object i n notes.objects) ∙ sym (left.places.objects i n)
         ∙ (last.passes.objects.knows.all_entries last.last.objects).once i n
 
     -- how many writes the clock's one list has
@@ -163,7 +163,7 @@ module _ {s : Script} {x : WorldOf} {q : WorldPass} (last : AreLastOf s x q) whe
 
     -- law: each write is
     pub writes_once : AreEachOnce place_of_write many_writes notes.writes
-    writes_once zero n = sym (count_places place_of_write 0 n notes.writes) ∙ sym (left.clock_places n)
+    writes_once zero n = sym (count_places place_of_write 0 n notes.writes) ∙ sym (left.places.clock n)
         ∙ (last.passes.known.all_entries last.last.clock).once 0 n
     writes_once (suc l) n = none_there notes.writes ∙ sym (no_number n)
       where

@@ -31,7 +31,8 @@ use Rattle.run_history.specs.Promises.{GoesOnClock}
 use Rattle.run_history.specs.Runs.{CallLog, Ending, Starts}
 use Rattle.run_history.proofs.Lists.{all_at, each, map_get}
 use Rattle.lane_run.specs.Kept.{AreObjectLines, FollowsObject, ObjectMove, ShowsObjectCall}
-use Rattle.lane_run.specs.Left.{AreLastOf, AreLeft, ending_of, IsObjectLeft, span_of}
+use Rattle.lane_run.specs.Kept.{IsObjectLeft, ObjectNotes}
+use Rattle.lane_run.specs.Left.{AreLastOf, AreLeft, ending_of, span_of}
 use Rattle.lane_run.specs.Worlds.{WorldOf}
 use Rattle.lane_run.specs.declared.world.WorldPass.{WorldPass}
 use Rattle.lane_run.proofs.ClockLines.{clock_goes_on}
@@ -44,7 +45,7 @@ module _ {s : Script} {x : WorldOf} {q : WorldPass} {notes sorted : NotesOf} {lo
     (is : IsSortedFrom notes sorted) (starts : Starts) (answers : List (List Answer)) where
   note_within : (n : ObjectNote) → HasPlace notes.objects n → n.object < length s.timers
   note_within n st =
-      let its = all_at (λ m. IsLabel s m.label × IsObjectLeft q (logs m.label) m) notes.objects st.0 n left.objects st.1 in
+      let its = all_at (λ m. IsLabel s m.label × IsObjectLeft q (logs m.label) m) notes.objects st.0 n (left.seen ObjectNotes) st.1 in
       object_within last n.object its.1.before its.1.step its.1.there
 
   -- law: the lines show the sorted notes
@@ -76,7 +77,7 @@ module _ {s : Script} {x : WorldOf} {q : WorldPass} {notes sorted : NotesOf} {lo
       let n = m.0 in
       let w = was_noted place_of_object (λ k. length (seen_of q.objects k)) notes.objects sorted.objects is.objects (objects_once last left) i j n m.1 in
       let number = number_at place_of_object (λ k. length (seen_of q.objects k)) notes.objects sorted.objects is.objects (objects_once last left) i j n m.1 in
-      let its = all_at (λ o. IsLabel s o.label × IsObjectLeft q (logs o.label) o) notes.objects w.0.0 n left.objects w.0.1 in
+      let its = all_at (λ o. IsLabel s o.label × IsObjectLeft q (logs o.label) o) notes.objects w.0.0 n (left.seen ObjectNotes) w.0.1 in
       let before : its.1.before ≡ j = less_one its.1.before j n.number its.1.number number in
       let label : n.label ≡ line.label = ap (λ (p : Label × ObjectEntry). p.0) m.2 in
       let entry : n.entry ≡ line.entry = ap (λ (p : Label × ObjectEntry). p.1) m.2 in

@@ -46,7 +46,6 @@ use Rattle.std.specs.List.{slice_get}
 use Rattle.std.proofs.lemmas.Option.{same_Some}
 use Rattle.timer_objects.specs.Known.{ObjectsPass, seen_of}
 use Rattle.run_history.proofs.Lists.{at_left}
-
 use Rattle.std.proofs.Math.Nat.{add_comm}
 
 take_none : {A : Type 0} (xs : List A) → take 0 xs ≡ []

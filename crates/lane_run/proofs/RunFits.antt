@@ -26,7 +26,6 @@ use Rattle.lane_run.proofs.Ended.{is_ending, is_run}
 use Rattle.lane_run.proofs.LeftByRounds.{left_by_rounds}
 use Rattle.lane_run.proofs.Making.{whole_of}
 use Rattle.lane_run.proofs.Recorded.{recorded}
-
 use Rattle.lane_run.proofs.EachCall.{keeps_call}
 
 -- a list that begins with another and is as long is the other

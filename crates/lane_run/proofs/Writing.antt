@@ -119,16 +119,24 @@ write_kept {s = s} {l = l} {m = m} {write = write} next (Ok r) w timers objects 
       added = added;
       sees = sees;
       joins = notes ∙ write_joins l.notes r.stamp line;
-      bears = record { entries = tt; looks = tt; objects = tt; skips = tt; writes = (refl, tt) };
-      receipts = same_order [] [] refl;
+      bears = λ k. elim k as (λ j. AllByRecursion (λ n. label_of j n ≡ l.label) (list_of j added)) [
+        | EntryNotes ↦ tt
+        | LookNotes ↦ tt
+        | ObjectNotes ↦ tt
+        | SkipNotes ↦ tt
+        | WriteNotes ↦ (refl, tt)
+      ];
       tells = record {
-        writes = refl;
-        looks = λ i. refl;
-        objects = λ i. refl;
-        skips = λ i. refl;
-        writes_rise = (omega (arith, number), tt);
-        looks_rise = λ i. tt;
-        objects_rise = λ i. tt;
+        receipts = same_order [] [] refl;
+        tells = record {
+          writes = refl;
+          looks = λ i. refl;
+          objects = λ i. refl;
+          skips = λ i. refl;
+          writes_rise = (omega (arith, number), tt);
+          looks_rise = λ i. tt;
+          objects_rise = λ i. tt;
+        };
       };
       few = omega arith;
       places = record {
@@ -136,22 +144,23 @@ write_kept {s = s} {l = l} {m = m} {write = write} next (Ok r) w timers objects 
         objects = λ i n. no_places (is_place i n) p.objects.knows.pass.mine q.objects.knows.pass.mine (ap (λ o. o.knows.pass.mine) objects);
         clock = λ n. ap (count (is_place 0 n)) w.ok.place ∙ total-append (λ k. one_if (is_place 0 n k)) p.clock.knows.pass.mine ((0, r.stamp) ∷ []);
       };
-      seen = record {
-        writes = (
+      seen = λ k. elim k as (λ j. AllByRecursion (IsSeen j q (log_of p q [] t)) (list_of j added)) [
+        | EntryNotes ↦ tt
+        | LookNotes ↦ tt
+        | ObjectNotes ↦ tt
+        | SkipNotes ↦ tt
+        | WriteNotes ↦ (
           record {
             before = many;
             number = number;
-            behind = behind;
+            inside = (behind, omega (arith, number, w.ok.count));
             there = subst (λ xs. slice_get xs many ≡ Some write) (sym adds.last) (at_seam adds.before [] write);
             shows = subst (ShowsReading line) (sym whole) (record { mono = refl; real = refl; boot = refl; changes = refl });
           },
           tt,
-        );
-        looks = tt;
-        objects = tt;
-        skips = tt;
-      };
-      stand = stand_from (λ clock. Unit) p q [] enters (λ e follows. tt);
+        )
+      ];
+      stand = stand_from (λ clock. Unit) p q [] enters t (λ e follows. tt);
       logged = logged;
       promised = promised_from next q [] t (answers.Clock r.stamp) logged
           (λ e follows joined has kept low. wrote_made r.stamp write kept (ap length same_seen ∙ low));
