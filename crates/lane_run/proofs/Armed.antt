@@ -99,9 +99,9 @@ pub part_along : (IsSo : List ClockLine → Type 0) (label : Label) (o : Opening
 part_along IsSo label o clocks limit v w p t x es actions is made reads only lines =
     let s = timer_then o x t in
     let log = receipts_of t s.stamp (entries_along s es) in
-    let along = enters_along IsSo o clocks limit v w t x es is made reads in (
+    let along = enters_along IsSo o clocks limit es is made reads in (
       along.notes,
-      part_entered IsSo label v p w p actions along.notes log along.enters refl only (along.are ∙ lines)
+      part_entered along.enters refl only (along.are ∙ lines)
           (along.are ∙ sym (receipts_of-noted label t s.stamp s es)) (receipts_of-no_looks label t s.stamp (entries_along s es)),
     )
 
@@ -134,7 +134,7 @@ start_none IsSo label o v w p t mode ns base reading log log' alone same = recor
   more = [];
   adds = same ∙ sym (append-nil log);
   arms = refl;
-  part = part_none IsSo label v p w (begins_same (ap (λ k. k.seen) alone)) (ap (λ k. k.mine) alone);
+  part = part_none (begins_same (ap (λ k. k.seen) alone)) (ap (λ k. k.mine) alone);
   armed = tt;
 }
 
@@ -159,7 +159,7 @@ module _ (IsSo : List ClockLine → Type 0) (label : Label) (o : Opening) (clock
         more = [];
         adds = receipts;
         arms = refl;
-        part = part_none IsSo label v p w looks.0 looks.1;
+        part = part_none looks.0 looks.1;
         armed = subst (IsArmedSo (arms.Unarmed n)) same (sym s.fits.2, s.fits.1, s.fits.0);
       }
   start_by (starts.Started was generation on outs clock expires) s receipts =

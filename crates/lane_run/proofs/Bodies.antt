@@ -140,7 +140,7 @@ timers_still IsSo label timer v w log log' body same logs none no_write no_look 
   notes = [];
   log = [];
   adds = logs ∙ sym (append-nil log);
-  enters = enters_none IsSo v w (begins_same (ap (λ k. k.seen) same)) (ap (λ k. k.mine) same);
+  enters = enters_none (begins_same (ap (λ k. k.seen) same)) (ap (λ k. k.mine) same);
   are = sym none;
   told = refl;
   no_write = no_write;
@@ -183,7 +183,7 @@ timers_looked IsSo label timer v w log log' number event observation reply seen 
       notes = [];
       log = r ∷ [];
       adds = logs;
-      enters = enters_none IsSo v w seen mine;
+      enters = enters_none seen mine;
       are = refl;
       told = refl;
       no_write = refl;
@@ -340,7 +340,7 @@ module _ (IsSo : List ClockLine → Type 0) (s : Script) (o : Opening) (is : o �
           (inr (inl (n, g, refl)), refl))
       forwards_kept (forwards.Forwarded number passed_by expires) f logs =
           let u = timer_then o f.at c.timer in
-          let along = enters_along IsSo o (clocks_of s) s.limit v w c.timer f.at (events.Forward reading interval ∷ []) on f.made
+          let along = enters_along IsSo o (clocks_of s) s.limit (events.Forward reading interval ∷ []) on f.made
           (λ clock has. (so clock has, tt)) in
           let are = along.are ∙ ap (forward_in_receipt c.timer reading.stamp interval) (sym f.fits.2) in
           entered_kept restart (Entered c.timer number (entries.Forward reading.stamp interval passed_by expires) ∷ [])
@@ -376,7 +376,7 @@ module _ (IsSo : List ClockLine → Type 0) (s : Script) (o : Opening) (is : o �
           (step_all u (es false)).expires =
           f.fits.2 ∙ ap (λ b. starts.Started (is_some u.armed) (step_all u (es b)).stamp (step_all u (es b)).base (if b then 2 ^ asked else 0)
           (step_all u (es b)).clock (step_all u (es b)).expires) stays in
-          let along = enters_along IsSo o (clocks_of s) s.limit v w c.timer f.at (es false) on made (λ clock has. (so clock has, tt)) in
+          let along = enters_along IsSo o (clocks_of s) s.limit (es false) on made (λ clock has. (so clock has, tt)) in
           let arming : Arming = record { out = None; number = generation; base = base; clock = clock; expires = expires; was_armed = was } in
           let are = along.are ∙ ap (start_in_receipt c.timer reading.stamp ns asked) (sym fits) in
           entered_kept restart (arming_actions c.timer modes.Rel ns reading.stamp asked arming)

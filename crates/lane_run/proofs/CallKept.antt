@@ -3,7 +3,7 @@ use Rattle.std.proofs.Common.{◌≡◌, ◌≤◌, ◌<◌, ℕ, ◌+◌, Bool,
 use Rattle.std.specs.List.{AllByRecursion, fold}
 use Rattle.std.specs.List.Sorted.{IsPermutation}
 use Rattle.std.proofs.lemmas.List.{append-nil}
-use Rattle.std.proofs.lemmas.List.Sorted.{IsPermutation-map, IsPermutation-refl, sum_by-IsPermutation}
+use Rattle.std.proofs.lemmas.List.Sorted.{IsPermutation-map, sum_by-IsPermutation}
 use Rattle.std.proofs.lemmas.Option.{slice_get_within}
 use Rattle.ktime.specs.Readings.{ClockReading}
 use Rattle.clock_model.specs.Clocks.{at_stamp, clock_after}
@@ -26,7 +26,7 @@ use Rattle.script_text.specs.Order.{calls_of, IsLabel, NeverFall}
 use Rattle.script_text.specs.declared.script.Call.{Call}
 use Rattle.script_text.specs.declared.script.Script.{Script}
 use Rattle.lane_notes.specs.Entries.{entry_notes, look_notes, receipt_entry, receipt_look}
-use Rattle.lane_notes.specs.Notes.{both_noted, no_notes, NotesOf}
+use Rattle.lane_notes.specs.Notes.{both_noted, NotesOf}
 use Rattle.lane_notes.specs.Objects.{object_entry_noted, object_notes, skip_generation, skip_notes}
 use Rattle.lane_notes.specs.declared.notes.EntryNote.{EntryNote}
 use Rattle.run_history.specs.Courses.{Trace}
@@ -50,10 +50,10 @@ use Rattle.script_text.specs.Actions.{Action, numbers_of_object}
 use Rattle.script_text.specs.Told.{object_called, object_stamp_in, stamps_on}
 use Rattle.clock_model.specs.declared.write.Write.{Write}
 use Rattle.clock_cell.specs.Views.{reading_after}
-use Rattle.std.proofs.Common.{◌-◌}
 use Rattle.seq_timer.specs.Systems.{openings}
 use Rattle.base_row.specs.declared.view.Opening.{Opening}
 use Rattle.run_history.specs.Courses.{clocks_of}
+use Rattle.lane_run.proofs.PartLists.{notes_same}
 
 -- ---- notes
 

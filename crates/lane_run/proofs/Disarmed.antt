@@ -62,7 +62,7 @@ module _ (IsSo : List ClockLine → Type 0) (label : Label) (o : Opening) (clock
     notes = [];
     more = [];
     adds = adds;
-    part = part_none IsSo label (moment v c.at) p w c.made.seen (c.made.mine ∙ append-nil v.mine);
+    part = part_none c.made.seen (c.made.mine ∙ append-nil v.mine);
     idle = c.fits.0;
   }
   by_answer from (cancelled.Running g n) c ended number adds = absurd (ended g n refl)
@@ -72,7 +72,7 @@ module _ (IsSo : List ClockLine → Type 0) (label : Label) (o : Opening) (clock
       let generation : unwrap_or u.armed 0 ≡ g = ap (λ a. unwrap_or a 0) c.fits.0 in
       let made : MadeAt v w timer c.at (entries_along u es) =
       subst (λ k. MadeAt v w timer c.at (record { event = events.Cancel; reply = replies.Cancel k } ∷ [])) (sym generation) c.made in
-      let along = enters_along IsSo o clocks limit (moment v c.at) w timer c.at es is (made_from v w timer c.at (entries_along u es) made)
+      let along = enters_along IsSo o clocks limit es is (made_from v w timer c.at (entries_along u es) made)
       (λ clock so. (tt, tt)) in
       let are : map receipt along.notes ≡ (timer, (from + 1, entries.Cancel g)) ∷ [] =
       along.are ∙ ap (λ k. (timer, (u.stamp + 1, entries.Cancel k)) ∷ []) generation
@@ -82,8 +82,7 @@ module _ (IsSo : List ClockLine → Type 0) (label : Label) (o : Opening) (clock
         notes = along.notes;
         more = receipts_of timer from (cancel_entries (cancelled.Cancelled g n));
         adds = adds;
-        part = part_entered IsSo label (moment v c.at) p w p (cancels timer (Some (from + 1, g))) along.notes
-            (receipts_of timer from (cancel_entries (cancelled.Cancelled g n))) along.enters refl (tt, tt) are are refl;
+        part = part_entered along.enters refl (tt, tt) are are refl;
         idle = tt;
       }
 

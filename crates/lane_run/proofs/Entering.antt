@@ -1,5 +1,5 @@
 -- Entries that a call makes of a timer, as receipts: where they stand in what its pass has seen, and the record's entries that show them.
-use Rattle.std.proofs.Common.{◌≡◌, ◌≤◌, ℕ, ◌+◌, suc, is_some, unwrap_or, Bool, true, false, ◌&&◌, not, nat_lt, if◌then◌else◌, List, [], ◌∷◌, ◌++◌, length, map, arith, refl, sym, ap, ◌∙◌, subst, length-append}
+use Rattle.std.proofs.Common.{◌≡◌, ℕ, ◌+◌, suc, is_some, unwrap_or, Bool, true, false, ◌&&◌, not, nat_lt, if◌then◌else◌, List, [], ◌∷◌, ◌++◌, length, map, arith, refl, sym, ap, ◌∙◌, subst}
 use Rattle.std.specs.List.{AllByRecursion}
 use Rattle.std.proofs.lemmas.List.{append_assoc, append-nil, map-append}
 use Rattle.ktime.specs.Times.{next_after, passed}
@@ -109,9 +109,9 @@ pub record EntersNotes (IsSo : List ClockLine → Type 0) (v w : KnownOfTimers) 
   pub shows : (r : RunRecord) (order later : List TimerEntry) → order ≡ w.seen ++ later → IsSo r.clock → AllByRecursion (ShowsEntry r order) notes
 
 -- law: receipts of two parts of a call are those of both
-pub enters-append : (IsSo : List ClockLine → Type 0) (u v w : KnownOfTimers) (xs ys : List Noted) → EntersNotes IsSo u v xs → EntersNotes IsSo v w ys
+pub enters-append : {IsSo : List ClockLine → Type 0} {u v w : KnownOfTimers} {xs ys : List Noted} → EntersNotes IsSo u v xs → EntersNotes IsSo v w ys
     → EntersNotes IsSo u w (xs ++ ys)
-enters-append IsSo u v w xs ys one two = record {
+enters-append {u = u} {v = v} {w = w} {xs = xs} {ys = ys} one two = record {
   seen = begins_trans one.seen two.seen;
   made = made-append w.seen (length u.seen) (length v.seen) (length w.seen) xs ys
       (made_goes_on w.seen v.seen two.seen.rest (length u.seen) (length v.seen) xs two.seen.whole one.made) two.made
@@ -124,8 +124,8 @@ enters-append IsSo u v w xs ys one two = record {
 }
 
 -- a pass that only looked
-pub enters_none : (IsSo : List ClockLine → Type 0) (v w : KnownOfTimers) → Begins v.seen w.seen → w.mine ≡ v.mine → EntersNotes IsSo v w []
-enters_none IsSo v w seen mine = record {
+pub enters_none : {IsSo : List ClockLine → Type 0} {v w : KnownOfTimers} → Begins v.seen w.seen → w.mine ≡ v.mine → EntersNotes IsSo v w []
+enters_none {v = v} {w = w} seen mine = record {
   seen = seen;
   made = none_made w.seen (length v.seen) (length w.seen);
   mine = mine ∙ sym (append-nil v.mine);
@@ -161,10 +161,10 @@ stamp_counts o clocks limit x t is =
     ap (λ (s : Timer). s.stamp) (timer_own o x t) ∙ stamp-after_all (timer_at o.timers t) (entries_of t x) in omega (arith, its, first)
 
 -- law: the entries that a call made of a timer at a moment are receipts that stand in what its pass has seen, behind what it had seen before
-pub enters_along : (IsSo : List ClockLine → Type 0) (o : Opening) (clocks : List ClockId) (limit : ℕ) (v w : KnownOfTimers) (t : ℕ) (x : List TimerEntry)
+pub enters_along : (IsSo : List ClockLine → Type 0) (o : Opening) (clocks : List ClockId) (limit : ℕ) {v w : KnownOfTimers} {t : ℕ} {x : List TimerEntry}
     (es : List Event) → o.timers ≡ openings clocks limit → MadeAt v w t x (entries_along (timer_then o x t) es)
     → ((clock : List ClockLine) → IsSo clock → AllByRecursion (HasReading clock) es) → EntersAlong IsSo v w t (timer_then o x t) es
-enters_along IsSo o clocks limit v w t x es is made reads =
+enters_along IsSo o clocks limit {v = v} {w = w} {t = t} {x = x} es is made reads =
     let s = timer_then o x t in
     let more = made.seen.rest in
     let stamp : count t x ≡ s.stamp = sym (stamp_counts o clocks limit x t is) in

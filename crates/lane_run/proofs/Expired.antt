@@ -64,7 +64,7 @@ part_looked IsSo label v p w q w' actions notes log object_log part seen mine =
     subst (λ os. IsPart IsSo label v p w' q actions notes log os) (append-nil object_log)
     (subst (λ ns. IsPart IsSo label v p w' q actions ns log (object_log ++ [])) (append-nil notes)
     (subst (λ ds. IsPart IsSo label v p w' q ds (notes ++ []) log (object_log ++ [])) (append-nil actions)
-    (part-append IsSo label v p w q w' q actions [] notes [] log [] log object_log [] part (part_none IsSo label w q w' seen mine)
+    (part-append part (part_none seen mine)
     (same_order (entry_notes label (log ++ [])) (entry_notes label log) (ap (entry_notes label) (append-nil log)))
     (ap (look_notes label) (sym (append-nil log))))))
 

@@ -60,7 +60,7 @@ middle_swapped a b c d =
 rises_low : {A : Type 0} (low : ℕ) (xs : List (ℕ × A)) (high : ℕ) → RisesTo low (map (λ n. n.0) xs) high → AllByRecursion (λ n. low ≤ n.0) xs
 rises_low low [] high rises = tt
 rises_low low (x ∷ xs) high rises =
-    (rises.0, each_weaker (λ n. x.0 + 1 ≤ n.0) (λ n. low ≤ n.0) xs (λ n le. omega (arith, rises.0, le)) (rises_low (x.0 + 1) xs high rises.1))
+    (rises.0, each_weaker xs (λ n le. omega (arith, rises.0, le)) (rises_low (x.0 + 1) xs high rises.1))
 
 rises_above : {A : Type 0} (low : ℕ) (xs : List (ℕ × A)) (high : ℕ) → RisesTo low (map (λ n. n.0) xs) high → low ≤ high
 rises_above low [] high rises = rises
@@ -111,7 +111,7 @@ module _ (IsSo : List ClockLine → Type 0) (s : Script) (label : Label) (base a
     notes = [];
     no_looks = refl;
     claimed = refl;
-    part = part_none IsSo label k p k (begins_same refl) refl;
+    part = part_none (begins_same refl) refl;
     have = λ e joined goes follows later behind points. (refl, omega arith);
   }
 
@@ -150,8 +150,7 @@ module _ (IsSo : List ClockLine → Type 0) (s : Script) (label : Label) (base a
       ∙ ap (λ xs. ([] ++ LN callback_log) ++ (xs ++ LN callback_more)) turn.no_looks) in
       let part : IsPart IsSo label k p k' p' (done ++ one) (run.notes ++ turn.notes) ((log ++ more) ++ (callback_log ++ callback_more))
       (object_log ++ turn.object_more) =
-      part-append IsSo label k p k1 p1 k' p' done one run.notes turn.notes (log ++ callback_log) (more ++ callback_more)
-      ((log ++ more) ++ (callback_log ++ callback_more)) object_log turn.object_more run.part turn.part permuted looks in
+      part-append run.part turn.part permuted looks in
       record {
         fired = run.fired ++ f ∷ [];
         many = omega (arith, run.many, length-append run.fired (f ∷ []));
@@ -174,7 +173,7 @@ module _ (IsSo : List ClockLine → Type 0) (s : Script) (label : Label) (base a
             (follows_before p1 p' e turn.part.objects.goes_on follows)
             (one ++ later)
             (λ i. subst (AllByRecursion (λ x. length (seen_of p1 i) < x.0)) (sym (made-append i one later))
-            (each_joined (λ x. length (seen_of p1 i) + 1 ≤ x.0) (λ x. length (seen_of p' i) < x.0) (λ x. length (seen_of p1 i) < x.0) (made i one)
+            (each_joined (made i one)
             (made i later) (λ x le. omega (arith, le)) (λ x less. let le = grows i in omega (arith, less, le))
             (rises_low (length (seen_of p1 i) + 1) (made i one) (length (seen_of p' i) + 1) (turn.part.objects.rise i)) (behind i))) earlier in
             let one_run = turn.ran e joined goes follows done
@@ -184,7 +183,7 @@ module _ (IsSo : List ClockLine → Type 0) (s : Script) (label : Label) (base a
             (omega arith)
             (subst (AllByRecursion (λ x. x.0 ≤ length (seen_of p' i)))
             (sym (made-append i done (Entered f.timer f.claim (claim_of base at f) ∷ []) ∙ append-nil (made i done)))
-            (each_weaker (λ x. x.0 < length (seen_of p1 i) + 1) (λ x. x.0 ≤ length (seen_of p' i)) (made i done)
+            (each_weaker (made i done)
             (λ x less. let le = grows i in omega (arith, less, le))
             (rises_below (length (seen_of p i) + 1) (made i done) (length (seen_of p1 i) + 1) (run.part.objects.rise i))))
             (subst (AllByRecursion (λ x. length (seen_of p' i) < x.0))

@@ -58,7 +58,7 @@ use Rattle.lane_run.proofs.Bodies.{BodyKept, callback_kept, fired_of}
 use Rattle.lane_run.proofs.Entering.{enters-append, enters_along, EntersNotes}
 use Rattle.pass_names.proofs.Passes.{begins_length, begins_trans}
 use Rattle.lane_run.proofs.Parts.{IsObjectsPart, IsPart, objects-append, objects_alone}
-use Rattle.lane_run.proofs.SeenMore.{count_begins}
+use Rattle.lane_run.proofs.SeenMore.{count_begins, goes_before}
 use Rattle.lane_run.proofs.PartLists.{each_weaker, looked-append, RisesTo, wrote-append}
 use Rattle.lane_run.proofs.Triggered.{fd_noted, posix_noted, trigger_kept}
 
@@ -92,7 +92,7 @@ pub record TurnKept (IsSo : List ClockLine → Type 0) (s : Script) (label : Lab
 looks_to : (low high : ℕ) (w : KnownOfTimers) (ns : List LookNote) (timer : ℕ) → 0 < low → high ≤ count timer w.seen
     → AllByRecursion (λ n. (n.timer ≡ timer) × (low ≤ n.number) × (n.number ≤ high)) ns
     → AllByRecursion (λ n. (0 < n.number) × (n.number ≤ count n.timer w.seen)) ns
-looks_to low high w ns timer some le are = each_weaker _ (λ n. (0 < n.number) × (n.number ≤ count n.timer w.seen)) ns (λ n is.
+looks_to low high w ns timer some le are = each_weaker ns (λ n is.
     let its : high ≤ count n.timer w.seen = subst (λ t. high ≤ count t w.seen) (sym is.0) le in (omega (arith, some, is.1), omega (arith, its, is.2))) are
 
 module _ (IsSo : List ClockLine → Type 0) (s : Script) (x : WorldOf) (is : IsWorldOf s x) (some : 1 ≤ s.limit) (label : Label) (base : ℕ)
@@ -139,7 +139,7 @@ module _ (IsSo : List ClockLine → Type 0) (s : Script) (x : WorldOf) (is : IsW
       → (n : Noted) × EntersNotes IsSo v w (n ∷ []) × (receipt n ≡ (c.timer, (c.number, entries.Claim base reading.stamp c.generation)))
   claim_enters v w c claims =
       let u = timer_then x.timers.about claims.at c.timer in
-      let along = enters_along IsSo x.timers.about (clocks_of s) s.limit v w c.timer claims.at (events.Claim base reading ∷ [])
+      let along = enters_along IsSo x.timers.about (clocks_of s) s.limit (events.Claim base reading ∷ [])
       (ap (λ (y : Opening). y.timers) is.timers) claims.made (λ clock has. (so clock has, tt)) in
       let are : map receipt along.notes ≡ (c.timer, (c.number, entries.Claim base reading.stamp c.generation)) ∷ [] =
       along.are ∙ ap (λ g. (c.timer, (u.stamp + 1, entries.Claim base reading.stamp (unwrap_or g 0))) ∷ []) claims.armed
@@ -152,7 +152,7 @@ module _ (IsSo : List ClockLine → Type 0) (s : Script) (x : WorldOf) (is : IsW
       → (n : Noted) × EntersNotes IsSo v w (n ∷ []) × (receipt n ≡ (c.timer, (f.number, entries.Finish restart c.generation (restart_noted f.rearmed))))
   finish_enters v w c restart f finishes =
       let u = timer_then x.timers.about finishes.at c.timer in
-      let along = enters_along IsSo x.timers.about (clocks_of s) s.limit v w c.timer finishes.at (events.Finish restart ∷ [])
+      let along = enters_along IsSo x.timers.about (clocks_of s) s.limit (events.Finish restart ∷ [])
       (ap (λ (y : Opening). y.timers) is.timers) finishes.made (λ clock has. (tt, tt)) in
       let are : map receipt along.notes ≡ (c.timer, (f.number, entries.Finish restart c.generation (restart_noted f.rearmed))) ∷ [] =
       along.are ∙ ap (λ g. (c.timer, (u.stamp + 1, entries.Finish restart (unwrap_or g 0) (restart_noted (rearmed_by u restart)))) ∷ []) finishes.runs
@@ -224,8 +224,8 @@ module _ (IsSo : List ClockLine → Type 0) (s : Script) (x : WorldOf) (is : IsW
         claimed = refl;
         part = record {
           timers = record {
-            enters = enters-append IsSo k done k' (one.0 ∷ two) (three.0 ∷ [])
-                (enters-append IsSo k claimed done (one.0 ∷ []) two one.1 b.timers.enters) three.1;
+            enters = enters-append
+                (enters-append one.1 b.timers.enters) three.1;
             are = ap (λ r. r ∷ map receipt (two ++ three.0 ∷ [])) one.2
                 ∙ ap (λ rs. C ∷ rs) (tail ∙ ap (λ rs. rs ++ F ∷ []) b.timers.are ∙ sym (all_entered-append body finishing));
             told = subst (λ rs. IsPermutation rs (C_noted ∷ F ∷ told)) (sym source)
@@ -241,8 +241,8 @@ module _ (IsSo : List ClockLine → Type 0) (s : Script) (x : WorldOf) (is : IsW
                 b.timers.looks_seen;
           };
           objects = subst (IsObjectsPart IsSo label p p' (fires base at f)) (append-nil b.objects.log)
-              (objects-append IsSo label p p p' (Entered f.timer f.claim (claim_of base at f) ∷ []) (body ++ finishing) [] (b.objects.log ++ []) before
-              (objects-append IsSo label p p' p' body finishing b.objects.log [] b.objects.part nothing));
+              (objects-append before
+              (objects-append b.objects.part nothing));
         };
         ran = λ e joined goes follows before points. (
           record {

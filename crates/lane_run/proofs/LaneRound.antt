@@ -76,7 +76,7 @@ kept_later {s} {p = p} {q = q} {lane = lane} {d = d} more kept = record {
   parts = kept.parts;
   promised = λ e follows has joined later fits. kept.promised e (follows_less more follows) has joined later
       (fits_lane_behind (course_of s e) lane (length (logs_of d.done)) (seen_by p) (seen_by q) d.rest later (no_less more) fits);
-  each = each_weaker _ _ d.done (λ k is. record { stand = stand_later more is.stand; lies = λ x. lies_later (no_less more) (is.lies x) }) kept.each;
+  each = each_weaker d.done (λ k is. record { stand = stand_later more is.stand; lies = λ x. lies_later (no_less more) (is.lies x) }) kept.each;
   next = kept.next;
 }
 
@@ -86,7 +86,7 @@ pub kept_pushed : {s : Script} {past : List Seen} {p : WorldPass} {lane : ℕ} {
 kept_pushed {d = d} kept = record {
   parts = kept.parts;
   promised = kept.promised;
-  each = each_weaker _ _ d.done (λ k is. record { stand = is.stand; lies = λ x. lies_pushed (is.lies x) }) kept.each;
+  each = each_weaker d.done (λ k is. record { stand = is.stand; lies = λ x. lies_pushed (is.lies x) }) kept.each;
   next = kept.next;
 }
 

@@ -119,7 +119,7 @@ module _ {s : Script} {past : List Seen} {q : WorldPass} {left : LeftOf} (of : �
   are_left few range = record {
     tell = λ c. (of_each c).0;
     stand = λ c. (of_each c).1;
-    seen = λ k. each_weaker _ _ (list_of k left.notes) (λ n is.
+    seen = λ k. each_weaker (list_of k left.notes) (λ n is.
         let c = label_of k n in
         let at = is.1 in (
           omega (arith, as_many c.lane, slice_get_within (of c.lane).done c.call at.0 at.1),

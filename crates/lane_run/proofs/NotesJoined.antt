@@ -63,13 +63,13 @@ own_notes-none {p} {notes} {Of} c are never = notes_same (own_notes c notes) no_
   where
     none : (k : NoteKind) → filter (λ n. is_label c (label_of k n)) (list_of k notes) ≡ []
     none k = filter_none (label_of k) c (list_of k notes)
-        (each_weaker _ _ (list_of k notes) (λ n is same. never is.0 (subst (λ d. Of d is.0) same is.1)) (are.seen k))
+        (each_weaker (list_of k notes) (λ n is same. never is.0 (subst (λ d. Of d is.0) same is.1)) (are.seen k))
 
 -- law: when more was seen they still are
 pub are_later : {p q : WorldPass} {notes : NotesOf} {Of : Label → CallLog → Type 0} → SeesMore p q → AreOf p notes Of → AreOf q notes Of
 are_later {notes = notes} more are = record {
   tell = are.tell;
-  seen = λ k. each_weaker _ _ (list_of k notes) (λ n is. (is.0, is.1, seen_later k is.0 n more is.2)) (are.seen k);
+  seen = λ k. each_weaker (list_of k notes) (λ n is. (is.0, is.1, seen_later k is.0 n more is.2)) (are.seen k);
 }
 
 -- law: nothing is of no call
@@ -114,8 +114,8 @@ module _ {p q m : WorldPass} {a b : NotesOf} {Of Also Both : Label → CallLog �
     tell = λ c g both. ⊎_elim (λ of. subst (TellLog g) (own_left c g of) (one.tell c g of))
         (λ also. subst (TellLog g) (own_right c g also) (two.tell c g also)) (parts c g both);
     seen = λ k. each_both k _ a b
-        (each_weaker _ _ (list_of k a) (λ n is. (is.0, left (label_of k n) is.0 is.1, seen_later k is.0 n first is.2)) (one.seen k))
-        (each_weaker _ _ (list_of k b) (λ n is. (is.0, right (label_of k n) is.0 is.1, seen_later k is.0 n second is.2)) (two.seen k));
+        (each_weaker (list_of k a) (λ n is. (is.0, left (label_of k n) is.0 is.1, seen_later k is.0 n first is.2)) (one.seen k))
+        (each_weaker (list_of k b) (λ n is. (is.0, right (label_of k n) is.0 is.1, seen_later k is.0 n second is.2)) (two.seen k));
   }
 
 -- ---- one call
@@ -136,5 +136,5 @@ call_notes {l = l} {m = m} kept =
     own : (c : Label) → c ≡ l.label → kept.added ≡ own_notes c kept.added
     own c is =
         let all = λ (k : NoteKind). filter_all (label_of k) c (list_of k kept.added)
-        (each_weaker _ _ (list_of k kept.added) (λ n bears. bears ∙ sym is) (kept.bears k)) in
+        (each_weaker (list_of k kept.added) (λ n bears. bears ∙ sym is) (kept.bears k)) in
         sym (notes_same (own_notes c kept.added) kept.added (all EntryNotes) (all LookNotes) (all ObjectNotes) (all SkipNotes) (all WriteNotes))

@@ -52,9 +52,9 @@ part_entry IsSo label v w x old new i call reply entry actions notes log c noted
     let told = object_answer c.commits.state.object call.call in
     let step : ObjectMove = record { call = call; reply = told } in
     let as_told : IsNotedAs IsSo call.call told entry = subst (λ r. IsNotedAs IsSo call.call r entry) c.reply noted in
-    let made = part_made IsSo label w p q i step entry adds c.commits.opening as_told in
-    let whole = part_then IsSo label v p w p w q actions (Made i many entry ∷ []) notes [] log []
-    [] (record { object = i; number = many; call = call; reply = told } ∷ []) part made in
+    let made : IsPart IsSo label w p w q (Made i many entry ∷ []) [] [] (record { object = i; number = many; call = call; reply = told } ∷ []) =
+    part_made adds c.commits.opening as_told in
+    let whole = part_then part made in
     let both = actions ++ Made i many entry ∷ [] in
     subst (λ r. IsPart IsSo label v p w q both notes log (record { object = i; number = many; call = call; reply = r } ∷ [])) (sym c.reply)
     (subst (λ ns. IsPart IsSo label v p w q both ns log (record { object = i; number = many; call = call; reply = told } ∷ [])) (append-nil notes)

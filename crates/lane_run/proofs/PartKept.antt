@@ -24,11 +24,13 @@ use Rattle.run_history.specs.Receipts.{Noted, Rises}
 use Rattle.run_history.specs.Runs.{course_of, Ending, IsJoined, moves_spans}
 use Rattle.run_history.proofs.Kept.{IsKept}
 use Rattle.lane_run.specs.Called.{LaneOf, with_done}
-use Rattle.lane_run.specs.Kept.{Follows, IsLookNote, IsNextCall, IsObjectLeft, IsSeen, IsSkipNote, list_of, EntryNotes, LookNotes, ObjectNotes, SkipNotes, WriteNotes, KeepsCall, log_of, seen_by, SeesOn}
+use Rattle.std.specs.List.{AllByRecursion}
+use Rattle.std.proofs.lemmas.Option.{slice_get_within}
+use Rattle.lane_run.specs.Kept.{Follows, IsNextCall, IsSeen, list_of, EntryNotes, LookNotes, ObjectNotes, SkipNotes, WriteNotes, KeepsCall, log_of, seen_by, SeesOn}
 use Rattle.lane_run.specs.Worlds.{WorldOf}
 use Rattle.lane_run.specs.declared.world.WorldPass.{WorldPass}
 use Rattle.lane_run.proofs.CallKept.{no_places, notes_of, notes_of-bear, places_added, promised_from, stand_from, with_done-joins}
-use Rattle.lane_run.proofs.Parts.{IsNoteIn, IsPart, object_place}
+use Rattle.lane_run.proofs.Parts.{IsPart, object_place}
 use Rattle.lane_run.proofs.PartLists.{each_weaker, rises_lower, rises_only}
 
 -- ---- the call
@@ -85,9 +87,9 @@ keeps_part {l = l} next m a IsSo log object_log notes t part so clock clock_mine
         clock = λ k. no_places (is_place 0 k) p.clock.knows.pass.mine q.clock.knows.pass.mine clock_mine;
       };
       seen = λ k. elim k as (λ j. AllByRecursion (IsSeen j q (log_of p q notes t)) (list_of j (notes_of label log object_log))) [
-        | EntryNotes ↦ each_weaker _ _ (entry_notes label log) (λ n bears. tt) (notes_of-bear label log object_log EntryNotes)
-        | LookNotes ↦ each_weaker _ (IsLookNote q) (look_notes label log) (λ n its. record { some = its.0; seen = its.1 }) part.timers.looks_seen
-        | ObjectNotes ↦ each_weaker (IsNoteIn IsSo p.objects q.objects) (IsObjectLeft q (log_of p q notes t)) (object_notes label object_log)
+        | EntryNotes ↦ each_weaker (entry_notes label log) (λ n bears. tt) (notes_of-bear label log object_log EntryNotes)
+        | LookNotes ↦ each_weaker (look_notes label log) (λ n its. record { some = its.0; seen = its.1 }) part.timers.looks_seen
+        | ObjectNotes ↦ each_weaker (object_notes label object_log)
             (λ n its. record {
               before = its.before;
               number = its.number;
@@ -96,7 +98,7 @@ keeps_part {l = l} next m a IsSo log object_log notes t part so clock clock_mine
               there = its.there;
               shows = λ e goes. its.shows e.run.clock (so e goes);
             }) part.objects.seen
-        | SkipNotes ↦ each_weaker _ (IsSkipNote q) (skip_notes label object_log) (λ n its. record { some = its.0; seen = its.1 }) part.objects.skips_seen
+        | SkipNotes ↦ each_weaker (skip_notes label object_log) (λ n its. record { some = its.0; seen = its.1 }) part.objects.skips_seen
         | WriteNotes ↦ tt
       ];
       stand = stand_from IsSo p q notes part.timers.enters t (λ e follows. so e follows.clock);

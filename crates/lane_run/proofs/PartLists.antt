@@ -150,15 +150,14 @@ skip_notes-append label xs ys = ap present (map-append (skip_note label) xs ys) 
 -- ---- what holds of each
 
 -- what holds of each holds in a weaker form
-pub each_weaker : {X : Type 0} (P Q : X → Type 0) (xs : List X) → ((x : X) → P x → Q x) → AllByRecursion P xs → AllByRecursion Q xs
-each_weaker P Q [] to all = tt
-each_weaker P Q (x ∷ xs) to all = (to x all.0, each_weaker P Q xs to all.1)
+pub each_weaker : {X : Type 0} {P Q : X → Type 0} (xs : List X) → ((x : X) → P x → Q x) → AllByRecursion P xs → AllByRecursion Q xs
+each_weaker [] to all = tt
+each_weaker (x ∷ xs) to all = (to x all.0, each_weaker xs to all.1)
 
 -- what holds of each of two lists holds of both together
-pub each_joined : {X : Type 0} (P Q R : X → Type 0) (xs ys : List X) → ((x : X) → P x → R x) → ((x : X) → Q x → R x) → AllByRecursion P xs
+pub each_joined : {X : Type 0} {P Q R : X → Type 0} (xs ys : List X) → ((x : X) → P x → R x) → ((x : X) → Q x → R x) → AllByRecursion P xs
     → AllByRecursion Q ys → AllByRecursion R (xs ++ ys)
-each_joined P Q R xs ys left right one two =
-    All-append R xs ys (each_weaker P R xs left one) (each_weaker Q R ys right two)
+each_joined {R = R} xs ys left right one two = All-append R xs ys (each_weaker xs left one) (each_weaker ys right two)
 
 -- a permutation that is none
 pub same_order : {A : Type 0} (xs ys : List A) → xs ≡ ys → IsPermutation xs ys

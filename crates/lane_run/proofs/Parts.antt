@@ -5,16 +5,13 @@ use Rattle.std.specs.List.Sorted.{IsPermutation}
 use Rattle.std.proofs.lemmas.List.{append_assoc, append-nil, map-append}
 use Rattle.std.proofs.lemmas.List.Sorted.{IsPermutation-append, IsPermutation-map, IsPermutation-refl, IsPermutation-trans}
 use Rattle.pass_names.specs.Passes.{Begins, GoesOn, Adds}
-use Rattle.seq_timer.specs.Systems.{entries_of}
-use Rattle.seq_timer.specs.declared.system.TimerEntry.{TimerEntry}
-use Rattle.base_row.proofs.Begun.{entries_of-begins}
 use Rattle.expire_pass.specs.declared.log.Receipt.{Receipt}
 use Rattle.hr_timers.specs.Known.{KnownOfTimers}
 use Rattle.timer_objects.specs.Known.{ObjectsPass, seen_of}
 use Rattle.timer_objects.specs.declared.log.ObjectReceipt.{ObjectReceipt}
 use Rattle.record_text.specs.declared.record.ClockLine.{ClockLine}
 use Rattle.record_text.specs.declared.record.Label.{Label}
-use Rattle.script_text.specs.Actions.{Action, Entered, Looked, looked, Made, made, numbers_of_object, Skipped, skipped, Wrote, wrote}
+use Rattle.script_text.specs.Actions.{Action, looked, Made, made, numbers_of_object, skipped, wrote}
 use Rattle.script_text.specs.Histories.{reading_at}
 use Rattle.ktime.specs.Readings.{ClockReading}
 use Rattle.script_text.specs.Objects.{present}
@@ -29,10 +26,10 @@ use Rattle.run_history.proofs.Lists.{at_left, at_seam}
 use Rattle.lane_run.specs.Kept.{entry_in_note, looks_on, made_on, ObjectMove, ShowsObjectCall, skips_on}
 use Rattle.lane_run.proofs.Entering.{enters-append, enters_none, EntersNotes}
 use Rattle.pass_names.proofs.Passes.{begins_length, begins_trans}
-use Rattle.lane_run.proofs.SeenMore.{begins_same}
+use Rattle.lane_run.proofs.SeenMore.{begins_same, count_begins}
 use Rattle.std.proofs.lemmas.Bool.{eqb-true}
 use Rattle.record_text.specs.declared.record.ObjectEntry.{ObjectEntry}
-use Rattle.lane_run.proofs.PartLists.{same_order}
+use Rattle.lane_run.proofs.PartLists.{same_order, IsEntered, no_other}
 use Rattle.timer_objects.specs.declared.object.ObjectCall.{ObjectCall}
 use Rattle.timer_objects.specs.declared.object.ObjectReply.{ObjectReply}
 use Rattle.lane_run.proofs.PartLists.{each_joined, entry_notes-append, falls_on, look_notes-append, looked-append, looks_on-append, made_on-append, numbers-append, object_notes-append, one_falls, one_rises, rises_on, RisesTo, skip_notes-append, skipped-append, skips_on-append, wrote-append}
@@ -92,7 +89,7 @@ pub record IsPart (IsSo : List ClockLine → Type 0) (label : Label) (v : KnownO
 timers_idle : (IsSo : List ClockLine → Type 0) (label : Label) (v w : KnownOfTimers) (actions : List Action) → all_entered actions ≡ []
     → wrote actions ≡ [] → ((t : ℕ) → looked t actions ≡ []) → Begins v.seen w.seen → w.mine ≡ v.mine → IsTimersPart IsSo label v w actions [] []
 timers_idle IsSo label v w actions none no_write no_look seen mine = record {
-  enters = enters_none IsSo v w seen mine;
+  enters = enters_none seen mine;
   are = sym none;
   told = IsPermutation-refl [];
   no_write = no_write;
@@ -132,18 +129,18 @@ objects_alone IsSo label p q actions same none no_skip no_step =
     (ap (λ o. o.knows.opening) same)
 
 -- law: a part in which timers and objects were looked at and nothing was done
-pub part_seen : (IsSo : List ClockLine → Type 0) (label : Label) (v : KnownOfTimers) (p : ObjectsPass) (w : KnownOfTimers) (q : ObjectsPass)
+pub part_seen : {IsSo : List ClockLine → Type 0} {label : Label} {v : KnownOfTimers} {p : ObjectsPass} {w : KnownOfTimers} {q : ObjectsPass}
     → Begins v.seen w.seen → w.mine ≡ v.mine → GoesOn p.knows.pass.seen q.knows.pass.seen → q.knows.pass.mine ≡ p.knows.pass.mine
     → q.knows.opening ≡ p.knows.opening → IsPart IsSo label v p w q [] [] [] []
-part_seen IsSo label v p w q seen mine goes_on object_mine opening = record {
+part_seen {IsSo = IsSo} {label = label} {v = v} {p = p} {w = w} {q = q} seen mine goes_on object_mine opening = record {
   timers = timers_idle IsSo label v w [] refl refl (λ t. refl) seen mine;
   objects = objects_idle IsSo label p q [] (λ i. refl) (λ i. refl) (λ i. refl) goes_on object_mine opening;
 }
 
 -- law: the same where objects were left alone
-pub part_none : (IsSo : List ClockLine → Type 0) (label : Label) (v : KnownOfTimers) (p : ObjectsPass) (w : KnownOfTimers) → Begins v.seen w.seen
+pub part_none : {IsSo : List ClockLine → Type 0} {label : Label} {v : KnownOfTimers} {p : ObjectsPass} {w : KnownOfTimers} → Begins v.seen w.seen
     → w.mine ≡ v.mine → IsPart IsSo label v p w p [] [] [] []
-part_none IsSo label v p w seen mine = record {
+part_none {IsSo = IsSo} {label = label} {v = v} {p = p} {w = w} seen mine = record {
   timers = timers_idle IsSo label v w [] refl refl (λ t. refl) seen mine;
   objects = objects_alone IsSo label p p [] refl (λ i. refl) (λ i. refl) (λ i. refl);
 }
@@ -151,11 +148,11 @@ part_none IsSo label v p w seen mine = record {
 -- ---- entries
 
 -- law: entries of timers, and nothing else
-pub part_entered : (IsSo : List ClockLine → Type 0) (label : Label) (v : KnownOfTimers) (p : ObjectsPass) (w : KnownOfTimers) (q : ObjectsPass)
-    (actions : List Action) (notes : List Noted) (log : List Receipt) → EntersNotes IsSo v w notes → q ≡ p → AllByRecursion IsEntered actions
+pub part_entered : {IsSo : List ClockLine → Type 0} {label : Label} {v : KnownOfTimers} {p : ObjectsPass} {w : KnownOfTimers} {q : ObjectsPass}
+    {actions : List Action} {notes : List Noted} {log : List Receipt} → EntersNotes IsSo v w notes → q ≡ p → AllByRecursion IsEntered actions
     → map receipt notes ≡ all_entered actions → map receipt notes ≡ map entry_in_note (entry_notes label log) → look_notes label log ≡ []
     → IsPart IsSo label v p w q actions notes log []
-part_entered IsSo label v p w q actions notes log enters same only are told no_look =
+part_entered {IsSo = IsSo} {label = label} {v = v} {p = p} {w = w} {q = q} {actions = actions} {notes = notes} {log = log} enters same only are told no_look =
     let none = no_other actions only in
     record {
       timers = record {
@@ -189,11 +186,11 @@ noted_at reading call reply entry noted no_skip shows = record {
 }
 
 -- law: an entry of an object
-pub objects_made : (IsSo : List ClockLine → Type 0) (label : Label) (p q : ObjectsPass) (id : ℕ) (step : ObjectMove) (entry : ObjectEntry)
+pub objects_made : {IsSo : List ClockLine → Type 0} {label : Label} {p q : ObjectsPass} {id : ℕ} {step : ObjectMove} {entry : ObjectEntry}
     (adds : Adds p.knows.pass q.knows.pass id (step ∷ [])) → q.knows.opening ≡ p.knows.opening → IsNotedAs IsSo step.call.call step.reply entry
     → IsObjectsPart IsSo label p q (Made id (length adds.before + 1) entry ∷ [])
     (record { object = id; number = length adds.before + 1; call = step.call; reply = step.reply } ∷ [])
-objects_made IsSo label p q id step entry adds opening as_noted =
+objects_made {IsSo = IsSo} {label = label} {p = p} {q = q} {id = id} {step = step} {entry = entry} adds opening as_noted =
     let many = length adds.before in
     let r : ObjectReceipt = record { object = id; number = many + 1; call = step.call; reply = step.reply } in
     let note : ObjectNote = record { label = label; object = id; number = many + 1; entry = entry } in
@@ -233,21 +230,21 @@ objects_made IsSo label p q id step entry adds opening as_noted =
     }
 
 -- law: the same as a part of a call
-pub part_made : (IsSo : List ClockLine → Type 0) (label : Label) (v : KnownOfTimers) (p q : ObjectsPass) (id : ℕ) (step : ObjectMove) (entry : ObjectEntry)
+pub part_made : {IsSo : List ClockLine → Type 0} {label : Label} {v : KnownOfTimers} {p q : ObjectsPass} {id : ℕ} {step : ObjectMove} {entry : ObjectEntry}
     (adds : Adds p.knows.pass q.knows.pass id (step ∷ [])) → q.knows.opening ≡ p.knows.opening → IsNotedAs IsSo step.call.call step.reply entry
     → IsPart IsSo label v p v q (Made id (length adds.before + 1) entry ∷ []) [] []
     (record { object = id; number = length adds.before + 1; call = step.call; reply = step.reply } ∷ [])
-part_made IsSo label v p q id step entry adds opening as_noted = record {
+part_made {IsSo = IsSo} {label = label} {v = v} {p = p} {q = q} {id = id} {step = step} {entry = entry} adds opening as_noted = record {
   timers = timers_idle IsSo label v v (Made id (length adds.before + 1) entry ∷ []) refl refl (λ t. refl) (begins_same refl) refl;
-  objects = objects_made IsSo label p q id step entry adds opening as_noted;
+  objects = objects_made adds opening as_noted;
 }
 
 -- ---- one behind another
 
 -- law: what two parts did of objects, one behind the other
-pub objects-append : (IsSo : List ClockLine → Type 0) (label : Label) (o p q : ObjectsPass) (ds es : List Action) (log more : List ObjectReceipt)
+pub objects-append : {IsSo : List ClockLine → Type 0} {label : Label} {o p q : ObjectsPass} {ds es : List Action} {log more : List ObjectReceipt}
     → IsObjectsPart IsSo label o p ds log → IsObjectsPart IsSo label p q es more → IsObjectsPart IsSo label o q (ds ++ es) (log ++ more)
-objects-append IsSo label o p q ds es log more one two = record {
+objects-append {IsSo = IsSo} {label = label} {o = o} {p = p} {q = q} {ds = ds} {es = es} {log = log} {more = more} one two = record {
   makes = λ i. ap (made_on i) (object_notes-append label log more) ∙ made_on-append i (object_notes label log) (object_notes label more)
       ∙ ap (λ ns. ns ++ made_on i (object_notes label more)) (one.makes i) ∙ ap (λ ns. made i ds ++ ns) (two.makes i) ∙ sym (made-append i ds es);
   rise = λ i. subst (λ ns. RisesTo (length (seen_of o i) + 1) ns (length (seen_of q i) + 1))
@@ -255,7 +252,7 @@ objects-append IsSo label o p q ds es log more one two = record {
       (rises_on (length (seen_of o i) + 1) (map (λ n. n.0) (made i ds)) (length (seen_of p i) + 1) (map (λ n. n.0) (made i es))
       (length (seen_of q i) + 1) (one.rise i) (two.rise i));
   seen = subst (AllByRecursion (IsNoteIn IsSo o q)) (sym (object_notes-append label log more))
-      (each_joined (IsNoteIn IsSo o p) (IsNoteIn IsSo p q) (IsNoteIn IsSo o q) (object_notes label log) (object_notes label more)
+      (each_joined (object_notes label log) (object_notes label more)
       (λ n is. let later = two.goes_on.each n.object in record {
         before = is.before;
         number = is.number;
@@ -277,8 +274,7 @@ objects-append IsSo label o p q ds es log more one two = record {
       ∙ ap (λ ns. ns ++ skips_on i (skip_notes label more)) (one.skips i) ∙ ap (λ ns. skipped i ds ++ ns) (two.skips i)
       ∙ sym (skipped-append i ds es);
   skips_seen = subst (AllByRecursion (λ n. (0 < n.number) × (n.number ≤ length (seen_of q n.object)))) (sym (skip_notes-append label log more))
-      (each_joined (λ n. (0 < n.number) × (n.number ≤ length (seen_of p n.object))) (λ n. (0 < n.number) × (n.number ≤ length (seen_of q n.object)))
-      (λ n. (0 < n.number) × (n.number ≤ length (seen_of q n.object))) (skip_notes label log) (skip_notes label more)
+      (each_joined (skip_notes label log) (skip_notes label more)
       (λ n is. let le = begins_length (two.goes_on.each n.object) in (is.0, omega (arith, is.1, le)))
       (λ n is. is) one.skips_seen two.skips_seen);
   steps = λ i. subst (λ ns. NeverFall (length (seen_of o i)) ns (length (seen_of q i))) (sym (numbers-append i ds es))
@@ -293,20 +289,20 @@ objects-append IsSo label o p q ds es log more one two = record {
 }
 
 -- law: a part behind another makes one part
-pub part-append : (IsSo : List ClockLine → Type 0) (label : Label) (u : KnownOfTimers) (o : ObjectsPass) (v : KnownOfTimers) (p : ObjectsPass)
-    (w : KnownOfTimers) (q : ObjectsPass) (ds es : List Action) (xs ys : List Noted) (log more all : List Receipt)
-    (object_log object_more : List ObjectReceipt)
+pub part-append : {IsSo : List ClockLine → Type 0} {label : Label} {u : KnownOfTimers} {o : ObjectsPass} {v : KnownOfTimers} {p : ObjectsPass}
+    {w : KnownOfTimers} {q : ObjectsPass} {ds es : List Action} {xs ys : List Noted} {log more all : List Receipt}
+    {object_log object_more : List ObjectReceipt}
     → IsPart IsSo label u o v p ds xs log object_log → IsPart IsSo label v p w q es ys more object_more
     → IsPermutation (entry_notes label (log ++ more)) (entry_notes label all) → look_notes label all ≡ look_notes label (log ++ more)
     → IsPart IsSo label u o w q (ds ++ es) (xs ++ ys) all (object_log ++ object_more)
-part-append IsSo label u o v p w q ds es xs ys log more all object_log object_more left right same looks =
+part-append {label = label} {u = u} {v = v} {w = w} {ds = ds} {es = es} {xs = xs} {ys = ys} {log = log} {more = more} {all = all} left right same looks =
     let one = left.timers in
     let two = right.timers in
     let told = IsPermutation-append (map receipt xs) (map entry_in_note (entry_notes label log)) (map receipt ys) (map entry_in_note (entry_notes label more))
     one.told two.told in
     record {
       timers = record {
-        enters = enters-append IsSo u v w xs ys one.enters two.enters;
+        enters = enters-append one.enters two.enters;
         are = map-append receipt xs ys ∙ ap (λ rs. rs ++ map receipt ys) one.are ∙ ap (λ rs. all_entered ds ++ rs) two.are
             ∙ sym (all_entered-append ds es);
         told = IsPermutation-trans (map receipt (xs ++ ys)) (map entry_in_note (entry_notes label (log ++ more))) (map entry_in_note (entry_notes label all))
@@ -322,19 +318,18 @@ part-append IsSo label u o v p w q ds es xs ys log more all object_log object_mo
             (rises_on (count t u.seen + 1) (map (λ n. n.0) (looked t ds)) (count t v.seen + 1) (map (λ n. n.0) (looked t es)) (count t w.seen + 1)
             (one.looks_rise t) (two.looks_rise t));
         looks_seen = subst (AllByRecursion (λ n. (0 < n.number) × (n.number ≤ count n.timer w.seen))) (sym (looks ∙ look_notes-append label log more))
-            (each_joined (λ n. (0 < n.number) × (n.number ≤ count n.timer v.seen)) (λ n. (0 < n.number) × (n.number ≤ count n.timer w.seen))
-            (λ n. (0 < n.number) × (n.number ≤ count n.timer w.seen)) (look_notes label log) (look_notes label more)
+            (each_joined (look_notes label log) (look_notes label more)
             (λ n is. let le = count_begins n.timer two.enters.seen in (is.0, omega (arith, is.1, le))) (λ n is. is) one.looks_seen
             two.looks_seen);
       };
-      objects = objects-append IsSo label o p q ds es object_log object_more left.objects right.objects;
+      objects = objects-append left.objects right.objects;
     }
 
 -- law: a part behind another, whose receipts stand behind those of the other
-pub part_then : (IsSo : List ClockLine → Type 0) (label : Label) (u : KnownOfTimers) (o : ObjectsPass) (v : KnownOfTimers) (p : ObjectsPass)
-    (w : KnownOfTimers) (q : ObjectsPass) (ds es : List Action) (xs ys : List Noted) (log more : List Receipt) (object_log object_more : List ObjectReceipt)
+pub part_then : {IsSo : List ClockLine → Type 0} {label : Label} {u : KnownOfTimers} {o : ObjectsPass} {v : KnownOfTimers} {p : ObjectsPass}
+    {w : KnownOfTimers} {q : ObjectsPass} {ds es : List Action} {xs ys : List Noted} {log more : List Receipt} {object_log object_more : List ObjectReceipt}
     → IsPart IsSo label u o v p ds xs log object_log → IsPart IsSo label v p w q es ys more object_more
     → IsPart IsSo label u o w q (ds ++ es) (xs ++ ys) (log ++ more) (object_log ++ object_more)
-part_then IsSo label u o v p w q ds es xs ys log more object_log object_more one two =
-    part-append IsSo label u o v p w q ds es xs ys log more (log ++ more) object_log object_more one two
+part_then {label = label} {log = log} {more = more} one two =
+    part-append one two
     (same_order (entry_notes label (log ++ more)) (entry_notes label (log ++ more)) refl) refl

@@ -96,5 +96,5 @@ calls_at P (x ∷ rs) (suc i) r here all = calls_at P rs i r (omega (arith, here
 pub round_can : (s : Script) (x : WorldOf) → IsInRange s → IsWorldOf s x → (i : ℕ) (r : Round) → i < length s.rounds
     → AllByRecursion (λ (c : LaneCall). CanCall x c.call) (get_or s.rounds i r).calls
 round_can s x range is i r here =
-    each_weaker _ (λ (c : LaneCall). CanCall x c.call) (get_or s.rounds i r).calls (λ c. can_call s x range is c.call)
+    each_weaker (get_or s.rounds i r).calls (λ c. can_call s x range is c.call)
     (calls_at (λ (c : LaneCall). IsCallInRange s.bases s.timers c.call) s.rounds i r here range.calls)

@@ -224,8 +224,7 @@ module _ (s : Script) (x : WorldOf) (l m : LaneOf) (call : Call) (timer : ℕ) (
       let p = l.pass.objects in
       part_entry IsRead l.label v w x.objects (caller_of l.pass [] []) (caller_of m.pass log object_log) timer
       (spanned (rearming_call r reading c.arm) c.span) reply (entry (arm_noted c.arm)) k.does.start k.does.notes k.does.more c.enters (noted c.arm)
-      (part_then IsRead l.label v p k.begin p w p [] k.does.start [] k.does.notes [] k.does.more [] []
-      (part_none IsRead l.label v p k.begin k.looks.seen k.looks.mine) k.does.part)
+      (part_then (part_none k.looks.seen k.looks.mine) k.does.part)
 
   -- what makes it fit, in a run that goes on from there
   rearmed : (k : Part) (e : Ending) → Follows m.pass e → IsJoined s e

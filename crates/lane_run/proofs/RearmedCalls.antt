@@ -176,7 +176,7 @@ keeps_read {s = s} {x = x} {l = l} {m = m} {a = a} {timer = timer} {len = len} n
     by_answer read_answers.Again c = read_kept next reads.Again c
 
 -- a gettime of a descriptor
-gettime_kept : {s : Script} {x : WorldOf} {l m : LaneOf} {a : Answer} {timer : ℕ} → IsNextCall s x l (calls.Gettime timer)
+pub gettime_kept : {s : Script} {x : WorldOf} {l m : LaneOf} {a : Answer} {timer : ℕ} → IsNextCall s x l (calls.Gettime timer)
     → (decl_at x.objects timer).kind ≡ over.Fd → Called x l (calls.Gettime timer) a m → KeepsCall s l (calls.Gettime timer) a m
 gettime_kept {s = s} {x = x} {l = l} {m = m} {a = a} {timer = timer} next fd called =
     by_answer called.0 (called.1.does.1 ∙ ap (λ k. gettime_told k called.1.reading.stamp called.0) fd)

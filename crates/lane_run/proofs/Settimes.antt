@@ -149,17 +149,14 @@ module _ (s : Script) (x : WorldOf) (l m : LaneOf) (timer flags : ℕ) (value in
       (record { object = timer; number = number; call = spanned call set.span; reply = set.reply } ∷ [])
   made = part_entry IsSo l.label (moment v at) w x.objects (caller_of l.pass [] []) (caller_of m.pass log object_log) timer (spanned call set.span)
       set.reply entry (cancels timer disarmed.cancel ++ armed.start) receipts (disarmed.more ++ armed.more) set.enters noted.noted
-      (part_then IsSo l.label (moment v at) p set.disarmed p w p (cancels timer disarmed.cancel) armed.start disarmed.notes armed.notes disarmed.more
-      armed.more [] [] disarmed.part armed.part)
+      (part_then disarmed.part armed.part)
 
   whole : IsPart IsSo l.label v p w q actions receipts log object_log
   whole = subst (λ os. IsPart IsSo l.label v p w q actions receipts log os) (sym set.enters.object_log)
       (subst (λ rs. IsPart IsSo l.label v p w q actions receipts rs
       (record { object = timer; number = number; call = spanned call set.span; reply = set.reply } ∷ []))
       (sym (armed.adds ∙ ap (λ ys. ys ++ armed.more) disarmed.adds))
-      (part_then IsSo l.label v p (moment v at) p w q [] actions [] receipts [] (disarmed.more ++ armed.more) []
-      (record { object = timer; number = number; call = spanned call set.span; reply = set.reply } ∷ [])
-      (part_none IsSo l.label v p (moment v at) set.disarms.cancelled.made.from refl) made))
+      (part_then (part_none set.disarms.cancelled.made.from refl) made))
 
   -- ---- the log
 

@@ -1,7 +1,6 @@
 -- Calls on objects that make no entry: a lane keeps a call that looked at timers and objects only, and one that found its object's history full.
 use Rattle.std.proofs.Common.{◌≡◌, ◌≤◌, ℕ, Bool, true, false, nat_eq, if◌then◌else◌, Some, List, [], ◌∷◌, ◌++◌, length, arith, refl, sym, ap, ◌∙◌, subst}
 use Rattle.std.proofs.lemmas.Bool.{eqb-true}
-use Rattle.std.proofs.lemmas.List.{append-nil}
 use Rattle.std.proofs.lemmas.Option.{slice_get_within}
 use Rattle.clock_cell.specs.Views.{writes}
 use Rattle.pass_names.specs.Passes.{Begins, GoesOn}
@@ -27,10 +26,10 @@ use Rattle.lane_run.specs.Kept.{Follows, IsNextCall, KeepsCall, log_of, seen_by}
 use Rattle.lane_run.specs.Worlds.{WorldOf}
 use Rattle.pass_names.proofs.Passes.{begins_length}
 use Rattle.lane_run.proofs.SeenMore.{begins_same}
-use Rattle.lane_run.proofs.CallKept.{logged_from, same_objects, with_done-joins}
+use Rattle.lane_run.proofs.CallKept.{logged_from, same_objects, with_done-joins, unstamped}
 use Rattle.lane_run.proofs.PartLists.{no_notes-joins}
 use Rattle.lane_run.proofs.PartKept.{keeps_part, sees_part}
-use Rattle.lane_run.proofs.Parts.{part_seen}
+use Rattle.lane_run.proofs.Parts.{part_seen, IsPart}
 use Rattle.run_history.proofs.Kept.{IsKept}
 use Rattle.run_history.specs.Fits.{FitsCall}
 use Rattle.std.proofs.Common.{None, map}
@@ -58,7 +57,7 @@ use Rattle.run_history.proofs.Promise.{seen_first}
 use Rattle.lane_run.specs.Called.{CallsPeek}
 use Rattle.lane_run.specs.Kept.{entry_in_note}
 use Rattle.lane_run.specs.declared.world.WorldPass.{WorldPass}
-use Rattle.lane_run.proofs.Entering.{EntersNotes}
+use Rattle.lane_run.proofs.Entering.{EntersNotes, looks_made}
 use Rattle.lane_run.proofs.CallKept.{leaves_begins}
 use Rattle.lane_run.proofs.Parts.{part_entered}
 use Rattle.lane_run.proofs.PartLists.{IsEntered, no_other}
@@ -146,8 +145,8 @@ pub keeps_looking : {s : Script} {x : WorldOf} {l m : LaneOf} {call : Call} (nex
 keeps_looking {l = l} {m = m} {call = call} next a only steps fits =
     let p = l.pass in
     let q = m.pass in
-    let part = part_seen (λ c. Unit) l.label p.timers.known p.objects q.timers.known q.objects only.timers only.timers_mine only.objects only.mine
-    only.opening in
+    let part : IsPart (λ c. Unit) l.label p.timers.known p.objects q.timers.known q.objects [] [] [] [] =
+    part_seen only.timers only.timers_mine only.objects only.mine only.opening in
     let logged = logged_from p q [] (looking m) call a (sees_part p q part only.clock) refl part.timers.enters.made refl refl refl steps in
     keeps_part next m a (λ c. Unit) [] [] [] (looking m) part (λ e goes. tt) only.clock only.clock_mine
     (only.notes ∙ no_notes-joins l.notes ∙ sym (with_done-joins l.notes l.label [] [])) logged fits
@@ -238,7 +237,8 @@ pub keeps_entered : {s : Script} {x : WorldOf} {l : LaneOf} {call : Call} (next 
 keeps_entered {l = l} {call = call} next m a IsSo log notes t enters so clock clock_mine objects joins only are told looks last at on_none fits =
     let p = l.pass in
     let q = m.pass in
-    let part = part_entered IsSo l.label p.timers.known p.objects q.timers.known q.objects t.actions notes log enters objects only are told looks in
+    let part : IsPart IsSo l.label p.timers.known p.objects q.timers.known q.objects t.actions notes log [] =
+    part_entered enters objects only are told looks in
     keeps_part next m a IsSo log [] notes t part so clock clock_mine joins
     (logged_from p q notes t call a (sees_part p q part clock) last enters.made are at part.timers.no_write
     (no_object_steps p q call a t.actions (no_other t.actions only).numbers on_none part.objects.goes_on)) fits

@@ -43,10 +43,11 @@ use Rattle.lane_run.specs.Called.{CallsCancel, CallsStart, cancel_receipts, canc
 use Rattle.lane_run.specs.Kept.{entry_in_note, IsNextCall, KeepsCall}
 use Rattle.lane_run.specs.Worlds.{WorldOf}
 use Rattle.lane_run.proofs.Entering.{enters_along, HasReading, lines_along}
-use Rattle.lane_run.proofs.CallKept.{leaves_begins, reads_begins, reading_goes_on}
+use Rattle.lane_run.proofs.CallKept.{leaves_begins, reads_begins, reading_goes_on, opened_timers}
 use Rattle.lane_run.proofs.PartLists.{IsEntered}
 use Rattle.lane_run.proofs.Sights.{keeps_entered, keeps_quiet, saw_quiet, still_quiet, looks_at}
 use Rattle.lane_run.proofs.Sights.{notes_alone}
+use Rattle.lane_run.proofs.Starts.{started_so, start_reads}
 
 -- ---- cancel
 
@@ -71,7 +72,7 @@ cancel_kept {s = s} {x = x} {l = l} {m = m} {timer = timer} next clock (cancels.
     let number : u.stamp + 1 ≡ n = sym c.fits.3 in
     let made : MadeAt v w timer c.at (entries_along u es) =
     subst (λ k. MadeAt v w timer c.at (record { event = events.Cancel; reply = replies.Cancel k } ∷ [])) (sym generation) c.made in
-    let along = enters_along (λ clock. Unit) o (clocks_of s) s.limit v w timer c.at es (opened_timers next) made (λ clock so. (tt, tt)) in
+    let along = enters_along (λ clock. Unit) o (clocks_of s) s.limit es (opened_timers next) made (λ clock so. (tt, tt)) in
     let are : map receipt along.notes ≡ (timer, (n, entries.Cancel g)) ∷ [] =
     along.are ∙ ap (λ k. (timer, (u.stamp + 1, entries.Cancel k)) ∷ []) generation ∙ ap (λ k. (timer, (k, entries.Cancel g)) ∷ []) number in
     keeps_entered next m (answers.Cancelled g) (λ clock. Unit) (cancel_receipts timer (cancels.Cancelled g n)) along.notes
@@ -109,7 +110,7 @@ start_kept {s = s} {x = x} {l = l} {m = m} {timer = timer} {ns = ns} {base = bas
     let es = start_events u mode ns base reading in
     let IsSo : List ClockLine → Type 0 = λ clock. reading_at clock reading.stamp ≡ reading in
     let so = started_so u timer mode ns base reading answer c.fits.2 in
-    let along = enters_along IsSo o (clocks_of s) s.limit v w timer c.at es (opened_timers next) c.made
+    let along = enters_along IsSo o (clocks_of s) s.limit es (opened_timers next) c.made
     (λ clock has. start_reads mode ns base reading clock (moves_first u base) has) in
     let log = start_receipts timer mode ns base reading answer in
     let actions = arming_actions timer mode ns reading.stamp base so.arming in

@@ -50,6 +50,7 @@ use Rattle.lane_run.proofs.Parts.{IsNoteIn, object_place, IsNotedAs, objects_mad
 use Rattle.lane_run.proofs.PartLists.{one_falls}
 use Rattle.run_history.specs.Runs.{Ending}
 use Rattle.lane_run.proofs.OwnLines.{turned}
+use Rattle.lane_run.proofs.ObjectSeen.{span_made}
 
 -- ---- the record's spans
 
@@ -126,7 +127,7 @@ module _ (IsSo : List ClockLine → Type 0) (s : Script) (x : ObjectsOf) (limit 
         objects = record {
           log = record { object = c.timer; number = many + 1; call = step.call; reply = step.reply } ∷ [];
           adds = t.receipt;
-          part = objects_made IsSo label p q c.timer step entry adds t.commits.opening
+          part = objects_made adds t.commits.opening
               (record { noted = n.1.noted; no_skip = n.1.no_skip; shows = λ clock is. n.1.shows clock (so clock is) });
         };
         kind = λ finish rearmed. is_body (fired_of c body finish (asks restart) rearmed) (inl (many + 1, n.0, refl), ap asks stops) refl;

@@ -3,7 +3,7 @@ use Rattle.std.proofs.Common.{◌≡◌, ℕ, ◌+◌, ◌≤◌, List, [], ◌�
 use Rattle.std.specs.List.{slice_get}
 use Rattle.std.proofs.lemmas.List.{append-nil, length-map}
 use Rattle.ktime.specs.Readings.{ClockReading}
-use Rattle.clock_model.specs.Clocks.{after_write, at_stamp, clock_after, greatest, last_stamp}
+use Rattle.clock_model.specs.Clocks.{after_write, greatest, last_stamp}
 use Rattle.clock_model.specs.declared.write.ClockFault.{ClockFault}
 use Rattle.clock_model.specs.declared.write.ClockFault.TheVariants as faults
 use Rattle.clock_model.specs.declared.write.Write.{Write}
@@ -13,7 +13,7 @@ use Rattle.record_text.specs.declared.record.Answer.TheVariants as answers
 use Rattle.record_text.specs.declared.record.Answer.{Answer}
 use Rattle.record_text.specs.declared.record.ClockLine.{ClockLine}
 use Rattle.script_text.specs.Actions.{Wrote}
-use Rattle.script_text.specs.Histories.{reading_at, ShowsReading}
+use Rattle.script_text.specs.Histories.{ShowsReading}
 use Rattle.script_text.specs.declared.script.Call.TheVariants as calls
 use Rattle.script_text.specs.declared.script.Script.{Script}
 use Rattle.lane_notes.specs.Notes.{both_noted, NotesOf, with_write_note}
@@ -24,18 +24,18 @@ use Rattle.run_history.specs.Promises.{GoesOnClock, IsLogged}
 use Rattle.run_history.specs.Runs.{Ending}
 use Rattle.run_history.proofs.Lists.{at_seam}
 use Rattle.run_history.proofs.OthersMade.{plain, wrote_made}
-use Rattle.run_history.proofs.Promise.{reading_seen}
-use Rattle.timer_objects.specs.Known.{seen_of}
 use Rattle.lane_run.specs.Called.{CallsWrite, LaneOf, line_of_write, with_write_told, write_told}
-use Rattle.lane_run.specs.Kept.{IsNextCall, KeepsCall, log_of, seen_by, SeesOn}
+use Rattle.std.specs.List.{AllByRecursion}
+use Rattle.lane_run.specs.Kept.{IsSeen, label_of, list_of, EntryNotes, LookNotes, ObjectNotes, SkipNotes, WriteNotes, IsNextCall, KeepsCall, log_of, seen_by, SeesOn}
 use Rattle.lane_run.specs.Worlds.{WorldOf}
 use Rattle.lane_run.proofs.Entering.{enters_none}
 use Rattle.pass_names.proofs.Passes.{begins_length}
 use Rattle.lane_run.proofs.SeenMore.{begins_same}
-use Rattle.lane_run.proofs.CallKept.{no_places, promised_from, reads_begins, same_objects, stand_from, take_whole}
+use Rattle.lane_run.proofs.CallKept.{no_places, promised_from, reads_begins, same_objects, stand_from, take_whole, reading_of_seen}
 use Rattle.lane_run.proofs.PartLists.{same_order}
 use Rattle.lane_run.proofs.Sights.{keeps_quiet, no_object_steps}
 use Rattle.lane_run.proofs.Sights.{LooksOnly, looks_alone, keeps_looking}
+use Rattle.lane_run.proofs.Entering.{EntersNotes}
 
 -- the notes of a write alone
 abbrev pub write_notes : ℕ → ClockLine → NotesOf
@@ -91,8 +91,8 @@ write_kept {s = s} {l = l} {m = m} {write = write} next (Ok r) w timers objects 
     let number : many + 1 ≡ r.stamp = omega (arith, w.ok.count, ap length adds.last, length-append adds.before (write ∷ [])) in
     let behind : length (writes p.clock.knows) ≤ many = begins_length adds.begins in
     let same_seen : q.timers.known.seen ≡ p.timers.known.seen = ap (λ t. t.known.seen) timers in
-    let enters = enters_none (λ clock. Unit) p.timers.known q.timers.known (begins_same same_seen)
-    (ap (λ t. t.known.mine) timers) in
+    let enters : EntersNotes (λ clock. Unit) p.timers.known q.timers.known [] =
+    enters_none (begins_same same_seen) (ap (λ t. t.known.mine) timers) in
     let sees : SeesOn p q = record {
       timers = enters.seen;
       clock = reads_begins p q adds.seen;
