@@ -3,7 +3,7 @@ use Rattle.std.proofs.Common.{◌≡◌, ◌≤◌, ◌<◌, ℕ, ◌+◌, Bool,
 use Rattle.std.specs.List.{AllByRecursion, fold}
 use Rattle.std.specs.List.Sorted.{IsPermutation}
 use Rattle.std.proofs.lemmas.List.{append-nil}
-use Rattle.std.proofs.lemmas.List.Sorted.{IsPermutation-map, IsPermutation-refl, sum_by-IsPermutation}
+use Rattle.std.proofs.lemmas.List.Sorted.{IsPermutation-map, sum_by-IsPermutation}
 use Rattle.std.proofs.lemmas.Option.{slice_get_within}
 use Rattle.ktime.specs.Readings.{ClockReading}
 use Rattle.clock_model.specs.Clocks.{at_stamp, clock_after}
@@ -26,7 +26,7 @@ use Rattle.script_text.specs.Order.{calls_of, IsLabel, NeverFall}
 use Rattle.script_text.specs.declared.script.Call.{Call}
 use Rattle.script_text.specs.declared.script.Script.{Script}
 use Rattle.lane_notes.specs.Entries.{entry_notes, look_notes, receipt_entry, receipt_look}
-use Rattle.lane_notes.specs.Notes.{both_noted, no_notes, NotesOf}
+use Rattle.lane_notes.specs.Notes.{both_noted, NotesOf}
 use Rattle.lane_notes.specs.Objects.{object_entry_noted, object_notes, skip_generation, skip_notes}
 use Rattle.lane_notes.specs.declared.notes.EntryNote.{EntryNote}
 use Rattle.run_history.specs.Courses.{Trace}
@@ -39,7 +39,7 @@ use Rattle.run_history.proofs.Kept.{IsKept}
 use Rattle.run_history.proofs.Known.{AreMade}
 use Rattle.run_history.proofs.Promise.{kept_from, reading_seen}
 use Rattle.lane_run.specs.Called.{LaneOf, LeavesClock, Reads, with_done}
-use Rattle.lane_run.specs.Kept.{BearLabel, entry_in_note, Follows, IsNextCall, log_of, seen_by, SeesOn, StandIn}
+use Rattle.lane_run.specs.Kept.{entry_in_note, Follows, IsNextCall, log_of, seen_by, SeesOn, StandAt, EntryNotes, LookNotes, ObjectNotes, SkipNotes, WriteNotes, NoteKind, label_of, list_of}
 use Rattle.lane_run.specs.Worlds.{WorldOf}
 use Rattle.lane_run.specs.declared.world.WorldPass.{WorldPass}
 use Rattle.lane_run.proofs.Entering.{EntersNotes, place_of}
@@ -50,7 +50,6 @@ use Rattle.script_text.specs.Actions.{Action, numbers_of_object}
 use Rattle.script_text.specs.Told.{object_called, object_stamp_in, stamps_on}
 use Rattle.clock_model.specs.declared.write.Write.{Write}
 use Rattle.clock_cell.specs.Views.{reading_after}
-use Rattle.std.proofs.Common.{◌-◌}
 use Rattle.seq_timer.specs.Systems.{openings}
 use Rattle.base_row.specs.declared.view.Opening.{Opening}
 use Rattle.run_history.specs.Courses.{clocks_of}
@@ -86,19 +85,22 @@ present_all {Y = Y} P make found (x ∷ xs) each = go (present_all P make found 
     go rest (Some y) = (each x y, rest)
 
 -- law: a call's notes bear its label
-pub notes_of-bear : (label : Label) (log : List Receipt) (object_log : List ObjectReceipt) → BearLabel label (notes_of label log object_log)
-notes_of-bear label log object_log = record {
-  entries = present_all (λ n. n.label ≡ label) (λ (r : Receipt) entry. record { label = label; timer = r.timer; number = r.number; entry = entry })
-      (λ r. receipt_entry r.event r.reply) log (λ r y. refl);
-  looks = present_all (λ n. n.label ≡ label) (λ (r : Receipt) reply. record { label = label; timer = r.timer; number = r.number; reply = reply })
-      (λ r. receipt_look r.reply) log (λ r y. refl);
-  objects = present_all (λ n. n.label ≡ label) (λ (r : ObjectReceipt) entry. record { label = label; object = r.object; number = r.number; entry = entry })
-      (λ r. object_entry_noted r.call.call r.reply) object_log (λ r y. refl);
-  skips = present_all (λ n. n.label ≡ label)
-      (λ (r : ObjectReceipt) generation. record { label = label; object = r.object; number = r.number; generation = generation })
-      (λ r. skip_generation r.call.call r.reply) object_log (λ r y. refl);
-  writes = tt;
-}
+pub notes_of-bear : (label : Label) (log : List Receipt) (object_log : List ObjectReceipt) (k : NoteKind)
+    → AllByRecursion (λ n. label_of k n ≡ label) (list_of k (notes_of label log object_log))
+notes_of-bear label log object_log EntryNotes =
+    present_all (λ n. n.label ≡ label) (λ (r : Receipt) entry. record { label = label; timer = r.timer; number = r.number; entry = entry })
+    (λ r. receipt_entry r.event r.reply) log (λ r y. refl)
+notes_of-bear label log object_log LookNotes =
+    present_all (λ n. n.label ≡ label) (λ (r : Receipt) reply. record { label = label; timer = r.timer; number = r.number; reply = reply })
+    (λ r. receipt_look r.reply) log (λ r y. refl)
+notes_of-bear label log object_log ObjectNotes =
+    present_all (λ n. n.label ≡ label) (λ (r : ObjectReceipt) entry. record { label = label; object = r.object; number = r.number; entry = entry })
+    (λ r. object_entry_noted r.call.call r.reply) object_log (λ r y. refl)
+notes_of-bear label log object_log SkipNotes =
+    present_all (λ n. n.label ≡ label)
+    (λ (r : ObjectReceipt) generation. record { label = label; object = r.object; number = r.number; generation = generation })
+    (λ r. skip_generation r.call.call r.reply) object_log (λ r y. refl)
+notes_of-bear label log object_log WriteNotes = tt
 
 -- ---- places
 
@@ -175,8 +177,8 @@ reading_followed p q r reads e follows = reading_goes_on p q r reads e follows.c
 
 -- law: the receipts stand in what was seen
 pub stand_from : (IsSo : List ClockLine → Type 0) (p q : WorldPass) (notes : List Noted) → EntersNotes IsSo p.timers.known q.timers.known notes
-    → ((e : Ending) → Follows q e → IsSo e.run.clock) → StandIn p q notes
-stand_from IsSo p q notes enters so = record {
+    → (t : Trace) → ((e : Ending) → Follows q e → IsSo e.run.clock) → StandAt q (log_of p q notes t)
+stand_from IsSo p q notes enters t so = record {
   rise = enters.made.rise;
   below = enters.made.below;
   made = enters.made.made;

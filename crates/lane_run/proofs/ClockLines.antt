@@ -20,7 +20,8 @@ use Rattle.run_history.specs.Promises.{GoesOnClock}
 use Rattle.run_history.specs.Runs.{CallLog, Ending}
 use Rattle.run_history.proofs.Lists.{all_at, map_get}
 use Rattle.run_history.proofs.Shown.{same_items as same_places}
-use Rattle.lane_run.specs.Left.{AreLastOf, AreLeft, IsWriteLeft}
+use Rattle.lane_run.specs.Kept.{IsWriteLeft, WriteNotes}
+use Rattle.lane_run.specs.Left.{AreLastOf, AreLeft}
 use Rattle.lane_run.specs.Worlds.{WorldOf}
 use Rattle.lane_run.specs.declared.world.WorldPass.{WorldPass}
 use Rattle.lane_run.proofs.LastSeen.{writes_once}
@@ -69,7 +70,7 @@ module _ {s : Script} {x : WorldOf} {q : WorldPass} {notes sorted : NotesOf} {lo
 
   shows_at : (k : ℕ) (line : ClockLine) → slice_get clock_lines k ≡ Some line → Shows (line.label, line) k
   shows_at = at_line is.writes (writes_once last left) (λ y. y.label) (λ y. y) (λ n. n.line) clock_lines (shapes sorted.writes) Shows (λ n st of.
-      let its = all_at (λ m. IsLabel s m.line.label × IsWriteLeft q (logs m.line.label) m) notes.writes st.0 n left.writes st.1 in (
+      let its = all_at (λ m. IsLabel s m.line.label × IsWriteLeft q (logs m.line.label) m) notes.writes st.0 n (left.seen WriteNotes) st.1 in (
         its.1.before,
         its.1.number,
         ((its.0, its.1.inside.0, its.1.inside.1), its.1.there,

@@ -26,6 +26,7 @@ use Rattle.run_history.specs.Runs.{CallLog}
 use Rattle.run_history.proofs.Known.{behind_all}
 use Rattle.run_history.proofs.Laid.{same_place}
 use Rattle.run_history.proofs.Lists.{all_at, each}
+use Rattle.lane_run.specs.Kept.{EntryNotes}
 use Rattle.lane_run.specs.Kept.{entry_in_note}
 use Rattle.lane_run.specs.Left.{AreLastOf, AreLeft}
 use Rattle.lane_run.specs.Worlds.{WorldOf}
@@ -160,7 +161,7 @@ module _ {s : Script} {x : WorldOf} {q : WorldPass} {notes sorted : NotesOf} {lo
   pub receipts_inside : (c : Label) → AllByRecursion (λ y. IsLabel s c × ((logs c).moves.0 ≤ y.place) × (y.place < (logs c).moves.1)) (logs c).notes
   receipts_inside c = each (λ y. IsLabel s c × ((logs c).moves.0 ≤ y.place) × (y.place < (logs c).moves.1)) (logs c).notes (λ j y at.
       let t = is_told left c j y at in (
-        subst (IsLabel s) t.label (all_at (λ n. IsLabel s n.label) notes.entries t.noted.0 t.note left.entries t.noted.1),
+        subst (IsLabel s) t.label (all_at (λ n. IsLabel s n.label × Unit {0}) notes.entries t.noted.0 t.note (left.seen EntryNotes) t.noted.1).0,
         all_at (λ z. (logs c).moves.0 ≤ z.place) (logs c).notes j y
             (behind_all (logs c).moves.0 (logs c).moves.0 (logs c).notes (omega arith) (left.stand c).rise) at,
         all_at (λ z. z.place < (logs c).moves.1) (logs c).notes j y (left.stand c).below at,

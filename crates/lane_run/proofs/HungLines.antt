@@ -31,6 +31,7 @@ use Rattle.run_history.specs.Runs.{CallLog}
 use Rattle.run_history.proofs.Items.{Among}
 use Rattle.run_history.proofs.Lists.{all_at, each}
 use Rattle.run_history.proofs.Looks.{all_skips, LooksIn, of_call, own_looks_are, own_skips_are}
+use Rattle.lane_run.specs.Kept.{LookNotes, SkipNotes}
 use Rattle.lane_run.specs.Kept.{IsLookNote, IsSkipNote, looks_on, skips_on}
 use Rattle.lane_run.specs.Left.{AreLastOf, AreLeft}
 use Rattle.lane_run.specs.Worlds.{WorldOf}
@@ -71,7 +72,7 @@ module _ {s : Script} {x : WorldOf} {q : WorldPass} {notes sorted : NotesOf} {lo
   timer_looks_sorted t = looks_sorted t sorted.entries notes.looks sorted.looks is.looks (λ n c. one_of_call place_of_look t n c notes.looks (look_numbers_rise c t))
 
   look_noted : (n : LookNote) → HasPlace notes.looks n → IsLabel s n.label × IsLookNote q n
-  look_noted n st = all_at (λ m. IsLabel s m.label × IsLookNote q m) notes.looks st.0 n left.looks st.1
+  look_noted n st = all_at (λ m. IsLabel s m.label × IsLookNote q m) notes.looks st.0 n (left.seen LookNotes) st.1
 
   -- a call's look stands under the line of its number
   look_stands : (c : Label) (t : ℕ) (n : LookNote) → IsOwn place_of_look t c notes.looks n → LooksIn c (lines t) (told n)
@@ -134,7 +135,7 @@ module _ {s : Script} {x : WorldOf} {q : WorldPass} {notes sorted : NotesOf} {lo
   -- ---- refused expiries
 
   skip_noted : (n : SkipNote) → HasPlace notes.skips n → IsLabel s n.label × IsSkipNote q n
-  skip_noted n st = all_at (λ m. IsLabel s m.label × IsSkipNote q m) notes.skips st.0 n left.skips st.1
+  skip_noted n st = all_at (λ m. IsLabel s m.label × IsSkipNote q m) notes.skips st.0 n (left.seen SkipNotes) st.1
 
   -- all of them hang under the lines of their objects
   all_hang : (i : ℕ) → IsPermutation (all_skips 1 (noted_object_lines i sorted.objects sorted.skips)) (map skip_shape (filter (is_of_list place_of_skip i) sorted.skips))

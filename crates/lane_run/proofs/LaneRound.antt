@@ -1,265 +1,276 @@
--- What a lane leaves of one round: what it kept of its calls in it, behind what was kept of it so far.
-use Rattle.std.proofs.Common.{◌≡◌, ◌≤◌, ◌<◌, ℕ, ◌+◌, ◌^◌, suc, get_or, List, [], ◌∷◌, ◌++◌, length, length-append, arith, refl, sym, ap, ◌∙◌, subst, ⊎_elim, inl, inr}
-use Rattle.std.specs.List.{AllByRecursion}
-use Rattle.std.proofs.lemmas.Bool.{cases_lt}
-use Rattle.std.proofs.lemmas.List.{append_assoc, append-nil, get_or_append_left, get_or_push}
-use Rattle.lane_notes.specs.Notes.{no_notes, NotesOf}
+-- What a lane leaves of one round: what it kept of its calls in it, one after another, behind what was kept of it so far.
+use Rattle.std.proofs.Common.{◌≡◌, ◌≤◌, ℕ, ◌+◌, suc, get_or, List, [], ◌∷◌, ◌++◌, length, length-append, arith, refl, sym, ap, ◌∙◌, subst, ⊎_elim, inl, inr, Some, zero, map, ◌⊎◌}
+use Rattle.std.specs.List.{AllByRecursion, slice_get}
+use Rattle.std.proofs.lemmas.List.{append_assoc, append-nil, length-map, map-append}
+use Rattle.lane_notes.specs.Notes.{NotesOf}
 use Rattle.record_text.specs.declared.record.Answer.{Answer}
 use Rattle.record_text.specs.declared.record.Label.{Label}
 use Rattle.run_history.specs.Fits.{Seen}
-use Rattle.run_history.specs.Promises.{IsPromisedSoFar}
-use Rattle.run_history.specs.Runs.{CallLog}
+use Rattle.run_history.specs.Promises.{IsPromisedSoFar, IsPromised}
+use Rattle.run_history.specs.Runs.{CallLog, course_of}
 use Rattle.script_text.specs.Order.{CallInRound, calls_of}
 use Rattle.script_text.specs.Scripts.{IsInRange}
 use Rattle.script_text.specs.declared.script.Call.{Call}
 use Rattle.script_text.specs.declared.script.Round.{Round}
 use Rattle.script_text.specs.declared.script.Script.{Script}
-use Rattle.lane_run.specs.Called.{lane_of, LaneOf}
-use Rattle.lane_run.specs.Kept.{AreNextCalls, Follows, KeepsCall, KeepsCalls, log_of, logs_of, seen_by}
-use Rattle.lane_run.specs.Left.{StandAt}
-use Rattle.lane_run.specs.Rounds.{as_index, BeginsRound, IsLaneOf, lane_calls, LeftOf, MakesLane, next_of}
+use Rattle.lane_run.specs.Called.{lane_of, LaneOf, Called}
+use Rattle.lane_run.specs.Kept.{Follows, KeepsCall, log_of, seen_by, StandAt, Tallies}
+use Rattle.lane_run.specs.Rounds.{as_index, BeginsRound, IsLaneOf, lane_calls, LeftOf, MakesLane, next_of, CalledAll}
 use Rattle.lane_run.specs.Worlds.{IsWhole, IsWorldOf, WorldOf}
 use Rattle.lane_run.specs.declared.lane.Lane.{Lane}
 use Rattle.lane_run.specs.declared.world.WorldPass.{WorldPass}
-use Rattle.lane_run.proofs.CallingLanes.{calls_bound, calls_in_round, in_round, next_calls}
-use Rattle.lane_run.proofs.Chains.{Chain, chain_calls, chain_higher, Lies, lies_later, lies_pushed, ListOf}
-use Rattle.lane_run.proofs.LaneKept.{KeepsEach, keeps_calls, next_index, promised_calls, promised_later, this_index}
-use Rattle.lane_run.proofs.NotesJoined.{AreOf, call_notes, joined}
+use Rattle.lane_run.proofs.CallingLanes.{calls_bound, in_round}
+use Rattle.lane_run.proofs.Chains.{lies_later, lies_pushed, ListOf, lies_new, LiesIn}
+use Rattle.lane_run.proofs.LaneKept.{KeepsEach, fits_lane_behind}
+use Rattle.lane_run.proofs.NotesJoined.{AreOf, call_notes, joined, none_noted}
 use Rattle.lane_run.proofs.PartLists.{each_weaker}
-use Rattle.lane_run.proofs.SeenMore.{follows_less, more_begun, more_called, more_same, more_trans, no_less, seen_begun, SeesMore, stand_called, stand_later}
-use Rattle.lane_run.proofs.Tallies.{Tallies, tallies_called, tallies_none}
+use Rattle.lane_run.proofs.SeenMore.{follows_less, more_begun, more_called, more_same, more_trans, no_less, SeesMore, stand_later}
+use Rattle.lane_run.proofs.Tallies.{tallies_none, tallies_more}
+use Rattle.std.proofs.lemmas.Option.{slice_get_within, same_Some}
+use Rattle.pass_names.specs.Passes.{Begins}
+use Rattle.run_history.proofs.Lists.{at_left, all_at, at_seam}
+use Rattle.pass_names.proofs.Passes.{begins_length, begins_trans, begins_refl, begins_more}
+use Rattle.timer_objects.specs.Known.{row_of}
+use Rattle.run_history.specs.Rounds.{label_at}
+use Rattle.run_history.proofs.Promise.{promised_push}
+use Rattle.record_text.proofs.Lists.{All-append}
 
 -- ---- a lane so far
 
--- what is kept of a lane: of its calls so far, which of its calls these are and which are left, and their answers
-pub record LaneSoFar : Type 0 where
-  pub logs : List CallLog
-  pub done : List CallInRound
-  pub rest : List CallInRound
-  pub given : List Answer
+-- a call that was made, with what its lane kept of it, and its answer
+pub record DoneCall : Type 0 where
+  pub at : CallInRound
+  pub log : CallLog
+  pub answer : Answer
 
--- it is what the lane kept, by where rounds began and what the first passes have seen
+-- a lane's calls that were made, and those that are left
+pub record LaneSoFar : Type 0 where
+  pub done : List DoneCall
+  pub rest : List CallInRound
+
+abbrev pub calls_in : List DoneCall → List CallInRound
+calls_in done = map (λ k. k.at) done
+
+abbrev pub logs_of : List DoneCall → List CallLog
+logs_of done = map (λ k. k.log) done
+
+abbrev pub answers_in : List DoneCall → List Answer
+answers_in done = map (λ k. k.answer) done
+
+-- what was kept of a call stands in what passes have seen, and along each list in its round
+pub record Stands (past : List Seen) (p : WorldPass) (k : DoneCall) : Type 0 where
+  pub stand : StandAt p k.log
+  pub lies : (x : ListOf) → LiesIn x past (seen_by p) k.at.round k.log
+
+-- it is what the lane kept, by where rounds began and what passes have seen
 pub record IsKeptOf (s : Script) (past : List Seen) (p : WorldPass) (lane : ℕ) (d : LaneSoFar) : Type 0 where
-  pub parts : calls_of s lane ≡ d.done ++ d.rest
-  pub counted : length d.logs ≡ length d.done
-  pub answered : length d.given ≡ length d.logs
-  pub promised : IsPromisedSoFar s lane (length d.logs) d.logs (Follows p) (seen_by p) d.rest d.given
-  pub stand : AllByRecursion (StandAt p) d.logs
-  pub chain : (x : ListOf) → Chain x 0 d.logs (x.seen (seen_by p))
-  pub lies : (x : ListOf) → Lies x past (seen_by p) d.done d.logs
+  pub parts : calls_of s lane ≡ calls_in d.done ++ d.rest
+  pub promised : IsPromisedSoFar s lane (length (logs_of d.done)) (logs_of d.done) (Follows p) (seen_by p) d.rest (answers_in d.done)
+  pub each : AllByRecursion (Stands past p) d.done
+  pub next : (x : ListOf) (j : ℕ) (g h : DoneCall) → slice_get d.done j ≡ Some g → slice_get d.done (suc j) ≡ Some h → (x.span g.log).1 ≤ (x.span h.log).0
 
 -- law: and so it is when more was seen
-pub kept_later : (s : Script) (past : List Seen) (p q : WorldPass) (lane : ℕ) (d : LaneSoFar) → SeesMore p q → IsKeptOf s past p lane d
+pub kept_later : {s : Script} {past : List Seen} {p q : WorldPass} {lane : ℕ} {d : LaneSoFar} → SeesMore p q → IsKeptOf s past p lane d
     → IsKeptOf s past q lane d
-kept_later s past p q lane d more kept = record {
+kept_later {s} {p = p} {q = q} {lane = lane} {d = d} more kept = record {
   parts = kept.parts;
-  counted = kept.counted;
-  answered = kept.answered;
-  promised = promised_later s lane (length d.logs) d.logs (Follows p) (Follows q) (seen_by p) (seen_by q) d.rest d.given
-      (λ e follows. follows_less p q e more follows) (no_less p q more) kept.promised;
-  stand = each_weaker d.logs (λ g stand. stand_later p q g more stand) kept.stand;
-  chain = λ x. chain_higher x 0 d.logs (x.seen (seen_by p)) (x.seen (seen_by q)) (x.rises (seen_by p) (seen_by q) (no_less p q more)) (kept.chain x);
-  lies = λ x. lies_later x past (seen_by p) (seen_by q) d.done d.logs (no_less p q more) (kept.lies x);
+  promised = λ e follows has joined later fits. kept.promised e (follows_less more follows) has joined later
+      (fits_lane_behind (course_of s e) lane (length (logs_of d.done)) (seen_by p) (seen_by q) d.rest later (no_less more) fits);
+  each = each_weaker d.done (λ k is. record { stand = stand_later more is.stand; lies = λ x. lies_later (no_less more) (is.lies x) }) kept.each;
+  next = kept.next;
 }
 
 -- law: and when the next round begins
-pub kept_pushed : (s : Script) (past : List Seen) (p : WorldPass) (lane : ℕ) (d : LaneSoFar) → IsKeptOf s past p lane d
+pub kept_pushed : {s : Script} {past : List Seen} {p : WorldPass} {lane : ℕ} {d : LaneSoFar} → IsKeptOf s past p lane d
     → IsKeptOf s (past ++ seen_by p ∷ []) p lane d
-kept_pushed s past p lane d kept = record {
+kept_pushed {d = d} kept = record {
   parts = kept.parts;
-  counted = kept.counted;
-  answered = kept.answered;
   promised = kept.promised;
-  stand = kept.stand;
-  chain = kept.chain;
-  lies = λ x. lies_pushed x past (seen_by p) d.done d.logs (kept.lies x);
+  each = each_weaker d.done (λ k is. record { stand = is.stand; lies = λ x. lies_pushed (is.lies x) }) kept.each;
+  next = kept.next;
 }
 
--- ---- calls in turn
+-- an item of a list with one more behind it is one of the list's, or that one
+at_push : {X : Type 0} (xs : List X) (x : X) (j : ℕ) (y : X) → slice_get (xs ++ x ∷ []) j ≡ Some y
+    → (slice_get xs j ≡ Some y) ⊎ ((j ≡ length xs) × (x ≡ y))
+at_push [] x zero y at = inr (refl, same_Some x y at)
+at_push [] x (suc j) y at = absurd (cc)
+at_push (z ∷ xs) x zero y at = inl at
+at_push (z ∷ xs) x (suc j) y at = ⊎_elim (λ there. inl there) (λ last. inr (ap suc last.0, last.1)) (at_push xs x j y at)
 
--- what comes of them: more was seen, where all notes stand; there are as many answers and logs as calls, and no more writes
-pub record AreCalled (s : Script) (l : LaneOf) (cs : List Call) (given : List Answer) (m : LaneOf) (kept : KeepsCalls s l cs given m) : Type 0 where
-  pub sees : SeesMore l.pass m.pass
-  pub answers : length given ≡ length cs
-  pub logs : length (logs_of s l cs given m kept) ≡ length cs
-  pub writes : length m.notes.writes ≤ length l.notes.writes + length cs
-  pub tallies : Tallies l.pass l.notes → Tallies m.pass m.notes
-  pub stand : AllByRecursion (StandAt m.pass) (logs_of s l cs given m kept)
-
-are_called : (s : Script) (l : LaneOf) (cs : List Call) (given : List Answer) (m : LaneOf) (kept : KeepsCalls s l cs given m)
-    → AreCalled s l cs given m kept
-are_called s l [] [] m kept = record {
-  sees = subst (λ (k : LaneOf). SeesMore l.pass k.pass) (sym kept) (more_same l.pass);
-  answers = refl;
-  logs = refl;
-  writes = subst (λ (k : LaneOf). length k.notes.writes ≤ length l.notes.writes + 0) (sym kept) (omega arith);
-  tallies = λ so_far. subst (λ (k : LaneOf). Tallies k.pass k.notes) (sym kept) so_far;
-  stand = tt;
-}
-are_called s l [] (a ∷ given) m kept = absurd kept
-are_called s l (c ∷ cs) [] m kept = absurd kept
-are_called s l (c ∷ cs) (a ∷ given) m kept =
-    let n = kept.0 in
-    let rest = are_called s (next_of n) cs given m kept.3 in
-    let writes = ap (λ (ns : NotesOf). length ns.writes) kept.2.joins in record {
-      sees = more_trans l.pass n.pass m.pass (more_called l.pass n.pass kept.2.sees) rest.sees;
-      answers = ap suc rest.answers;
-      logs = ap suc rest.logs;
-      writes = omega (arith, rest.writes, writes, length-append l.notes.writes kept.2.added.writes, kept.2.few);
-      tallies = λ so_far. rest.tallies (tallies_called s l c a n kept.2 so_far);
-      stand = (
-        stand_later n.pass m.pass (log_of l.pass n.pass kept.2.notes kept.2.trace) rest.sees
-            (stand_called l.pass n.pass kept.2.notes kept.2.trace kept.2.stand),
-        rest.stand,
-      );
+-- law: one more call
+kept_one : {s : Script} {l : LaneOf} {call : Call} {a : Answer} {m : LaneOf} (kept : KeepsCall s l call a m) (before : List Seen) (base : WorldPass)
+    (lane : ℕ) (done : List DoneCall) (rest : List CallInRound) → SeesMore base l.pass → l.label ≡ label_at lane (length done)
+    → IsKeptOf s (before ++ seen_by base ∷ []) l.pass lane (record { done = done; rest = record { round = length before; call = call } ∷ rest })
+    → IsKeptOf s (before ++ seen_by base ∷ []) m.pass lane (record {
+      done = done ++ record { at = record { round = length before; call = call }; log = log_of l.pass m.pass kept.notes kept.trace; answer = a } ∷ [];
+      rest = rest;
+    })
+kept_one {s} {l} {call} {a} {m} kept before base lane done rest sees label so_far =
+    let p = l.pass in
+    let q = m.pass in
+    let at : CallInRound = record { round = length before; call = call } in
+    let log = log_of p q kept.notes kept.trace in
+    let k : DoneCall = record { at = at; log = log; answer = a } in
+    let more = more_called kept.sees in
+    let counted : length (logs_of done) ≡ length done = length-map done (λ (d : DoneCall). d.log) in
+    let promise : IsPromised s lane (length (logs_of done)) log (Follows q) call a (seen_by p) (seen_by q) =
+    subst (λ (c : Label). IsPromised s c.lane c.call log (Follows q) call a (seen_by p) (seen_by q)) (label ∙ ap (label_at lane) (sym counted))
+    kept.promised in
+    let pushed = promised_push s lane (length (logs_of done)) (logs_of done) log (Follows p) (Follows q) (seen_by p) (seen_by q) at rest
+    (answers_in done) a refl (λ e follows. follows_less more follows) so_far.promised promise in
+    record {
+      parts = so_far.parts ∙ sym (append_assoc (calls_in done) (at ∷ []) rest)
+          ∙ ap (λ ps. ps ++ rest) (sym (map-append (λ (d : DoneCall). d.at) done (k ∷ [])));
+      promised = subst (λ ls. IsPromisedSoFar s lane (length ls) ls (Follows q) (seen_by q) rest (answers_in (done ++ k ∷ [])))
+          (sym (map-append (λ (d : DoneCall). d.log) done (k ∷ [])))
+          (subst (λ n. IsPromisedSoFar s lane n (logs_of done ++ log ∷ []) (Follows q) (seen_by q) rest (answers_in (done ++ k ∷ [])))
+          (sym (length-append (logs_of done) (log ∷ [])))
+          (subst (IsPromisedSoFar s lane (length (logs_of done) + 1) (logs_of done ++ log ∷ []) (Follows q) (seen_by q) rest)
+          (sym (map-append (λ (d : DoneCall). d.answer) done (k ∷ []))) pushed));
+      each = All-append (Stands (before ++ seen_by base ∷ []) q) done (k ∷ []) (kept_later more so_far).each
+          (record { stand = kept.stand; lies = λ x. lies_new x before p q kept.notes kept.trace (no_less sees) (no_less more) }, tt);
+      next = λ x j g h this that.
+          let last = slice_get_within (done ++ k ∷ []) (suc j) h that in
+          ⊎_elim (λ there. ⊎_elim (λ behind. so_far.next x j g h there behind)
+          (λ new. let most = ((all_at (Stands (before ++ seen_by base ∷ []) p) done j g so_far.each there).lies x).most in
+          omega (arith, most, ap (λ n. n.0) (x.of_log p q kept.notes kept.trace), ap (λ (d : DoneCall). (x.span d.log).0) new.1))
+          (at_push done k (suc j) h that)) (λ new. absurd (omega (arith, new.0, last, length-append done (k ∷ [])))) (at_push done k j g this);
     }
 
--- ---- their notes
+-- ---- its notes of a round
 
--- a call of which nothing is kept
-abbrev pub no_log : CallLog
-no_log = record {
-  notes = [];
-  trace = record { at = 0; fired = []; actions = []; first = 0; last = 0 };
-  moves = (0, 0);
-  clock = (0, 0);
-  objects = λ i. (0, 0);
-}
+-- what was kept of a call among these
+abbrev pub IsAt : List DoneCall → Label → CallLog → Type 0
+IsAt done c g = (k : DoneCall) × (slice_get done c.call ≡ Some k) × (k.log ≡ g)
 
--- what was kept of a lane's call
-abbrev pub log_at : List CallLog → ℕ → CallLog
-log_at gs call = get_or gs call no_log
+-- of a lane's call, from one on
+abbrev pub IsFrom : ℕ → ℕ → List DoneCall → Label → CallLog → Type 0
+IsFrom lane start done c g = (c.lane ≡ lane) × (start ≤ c.call) × IsAt done c g
 
--- the calls of a lane that these are kept of, from one on
-pub record IsFrom (lane start : ℕ) (gs : List CallLog) (c : Label) : Type 0 where
-  pub own : c.lane ≡ lane
-  pub low : start ≤ c.call
-  pub high : c.call < length gs
-
--- the same lane and number
-pub same_call : (c d : Label) → c.lane ≡ d.lane → c.call ≡ d.call → c ≡ d
-same_call c d lane call =
-    ap {A = ℕ} (λ n. record { lane = n; call = c.call }) lane ∙ ap {A = ℕ} (λ n. record { lane = d.lane; call = n }) call
-
--- one more call
-notes_push : (s : Script) (lane start : ℕ) (l : LaneOf) (call : Call) (a : Answer) (m : LaneOf) (gs : List CallLog) (kept : KeepsCall s l call a m)
-    → l.label.lane ≡ lane → l.label.call ≡ length gs → start ≤ length gs → AreOf l.pass l.notes (λ c. log_at gs c.call) (IsFrom lane start gs)
-    → AreOf m.pass m.notes (λ c. log_at (gs ++ log_of l.pass m.pass kept.notes kept.trace ∷ []) c.call)
-    (IsFrom lane start (gs ++ log_of l.pass m.pass kept.notes kept.trace ∷ []))
-notes_push s lane start l call a m gs kept is number first are =
-    let log = log_of l.pass m.pass kept.notes kept.trace in
-    let all = gs ++ log ∷ [] in
-    let many = length-append gs (log ∷ []) in
-    subst (λ ns. AreOf m.pass ns (λ c. log_at all c.call) (IsFrom lane start all)) (sym kept.joins)
-    (joined l.pass m.pass m.pass l.notes kept.added (λ c. log_at gs c.call) (λ c. log) (λ c. log_at all c.call) (IsFrom lane start gs)
-    (λ c. c ≡ l.label) (IsFrom lane start all) (more_called l.pass m.pass kept.sees) (more_same m.pass) are (call_notes s l call a m kept)
-    (λ c has same. absurd (omega (arith, has.high, ap (λ (d : Label). d.call) same, number)))
-    (λ c has. (record { own = has.own; low = has.low; high = omega (arith, many, has.high) }, get_or_append_left gs (log ∷ []) no_log c.call has.high))
-    (λ c same. (
-      record {
-        own = ap (λ (d : Label). d.lane) same ∙ is;
-        low = omega (arith, first, number, ap (λ (d : Label). d.call) same);
-        high = omega (arith, many, number, ap (λ (d : Label). d.call) same);
-      },
-      get_or_push gs log no_log c.call (sym number ∙ sym (ap (λ (d : Label). d.call) same)),
+-- law: one more call
+notes_one : {s : Script} {l : LaneOf} {call : Call} {a : Answer} {m : LaneOf} (kept : KeepsCall s l call a m) (lane start : ℕ) (done : List DoneCall)
+    (k : DoneCall) → log_of l.pass m.pass kept.notes kept.trace ≡ k.log → l.label ≡ label_at lane (length done) → start ≤ length done
+    → AreOf l.pass l.notes (IsFrom lane start done) → AreOf m.pass m.notes (IsFrom lane start (done ++ k ∷ []))
+notes_one {m = m} kept lane start done k is label low are =
+    subst (λ ns. AreOf m.pass ns (IsFrom lane start (done ++ k ∷ []))) (sym kept.joins)
+    (joined (more_called kept.sees) more_same are (call_notes kept)
+    (λ c g h old new. absurd (omega
+    (arith, slice_get_within done c.call old.2.0 old.2.1, ap (λ (d : Label). d.call) (new.0 ∙ label))))
+    (λ c g old. (old.0, old.1, (old.2.0, at_left done (k ∷ []) c.call old.2.0 old.2.1, old.2.2)))
+    (λ c g new. let here = new.0 ∙ label in (
+      ap (λ (d : Label). d.lane) here,
+      subst (λ n. start ≤ n) (sym (ap (λ (d : Label). d.call) here)) low,
+      (k, subst (λ n. slice_get (done ++ k ∷ []) n ≡ Some k) (sym (ap (λ (d : Label). d.call) here)) (at_seam done [] k), sym is ∙ new.1),
     ))
-    (λ c both. ⊎_elim (λ (less : c.call < length gs). inl (record { own = both.own; low = both.low; high = less }))
-    (λ (more : length gs ≤ c.call). inr (same_call c l.label (both.own ∙ sym is) (omega (arith, both.high, many, more, number))))
-    (cases_lt c.call (length gs))))
-
-notes_calls : (s : Script) (lane : ℕ) (bound : length (calls_of s lane) < 2 ^ 32) (start index : ℕ) (l : LaneOf) (cs : List Call) (given : List Answer)
-    (m : LaneOf) (gs : List CallLog) (kept : KeepsCalls s l cs given m) → l.label.lane ≡ lane → l.label.call ≡ as_index index
-    → AreNextCalls s lane index cs → index ≡ length gs → start ≤ length gs
-    → AreOf l.pass l.notes (λ c. log_at gs c.call) (IsFrom lane start gs)
-    → AreOf m.pass m.notes (λ c. log_at (gs ++ logs_of s l cs given m kept) c.call) (IsFrom lane start (gs ++ logs_of s l cs given m kept))
-notes_calls s lane bound start index l [] [] m gs kept is number next counted first are =
-    subst (λ hs. AreOf m.pass m.notes (λ c. log_at hs c.call) (IsFrom lane start hs)) (sym (append-nil gs))
-    (subst (λ (k : LaneOf). AreOf k.pass k.notes (λ c. log_at gs c.call) (IsFrom lane start gs)) (sym kept) are)
-notes_calls s lane bound start index l [] (a ∷ given) m gs kept is number next counted first are = absurd kept
-notes_calls s lane bound start index l (c ∷ cs) [] m gs kept is number next counted first are = absurd kept
-notes_calls s lane bound start index l (c ∷ cs) (a ∷ given) m gs kept is number next counted first are =
-    let n = kept.0 in
-    let log = log_of l.pass n.pass kept.2.notes kept.2.trace in
-    let at = this_index s lane bound index c cs l.label.call number next in
-    let pushed = notes_push s lane start l c a n gs kept.2 is (at ∙ counted) first are in
-    let all = notes_calls s lane bound start (index + 1) (next_of n) cs given m (gs ++ log ∷ []) kept.3 (ap (λ (d : Label). d.lane) kept.1 ∙ is)
-    (next_index s lane bound index n.label.call (ap (λ (d : Label). d.call) kept.1 ∙ at)) next.1 (omega (arith, counted, length-append gs (log ∷ [])))
-    (omega (arith, first, length-append gs (log ∷ []))) pushed in
-    subst (λ hs. AreOf m.pass m.notes (λ d. log_at hs d.call) (IsFrom lane start hs))
-    (append_assoc gs (log ∷ []) (logs_of s (next_of n) cs given m kept.3)) all
-
--- before its first call a lane has no notes
-notes_none : (p : WorldPass) (lane : ℕ) (gs : List CallLog) → AreOf p no_notes (λ c. log_at gs c.call) (IsFrom lane (length gs) gs)
-notes_none p lane gs = record {
-  tell = λ c has. absurd (omega (arith, has.low, has.high));
-  entries = tt;
-  looks = tt;
-  objects = tt;
-  skips = tt;
-  writes = tt;
-}
+    (λ c g both. ⊎_elim (λ there. inl (both.0, both.1, (both.2.0, there, both.2.2)))
+    (λ last. inr (ap (λ n. label_at n c.call) both.0 ∙ ap (label_at lane) last.0 ∙ sym label, is ∙ ap (λ (d : DoneCall). d.log) last.1 ∙ both.2.2))
+    (at_push done k c.call both.2.0 both.2.1)))
 
 -- ---- a round
 
--- what a lane leaves of a round in which it made these calls, with the first passes at its begin and the lane's at its end
-pub record LeavesRound (s : Script) (p : WorldPass) (lane : ℕ) (d : LaneSoFar) (cs : List Call) (rest : List CallInRound) (m : WorldPass)
-    (notes : NotesOf) (given : List Answer) : Type 0 where
-  pub new : List CallLog
-  pub as_many : length new ≡ length cs
-  pub answered : length given ≡ length cs
-  pub sees : SeesMore p m
-  pub are : AreOf m notes (λ c. log_at (d.logs ++ new) c.call) (IsFrom lane (length d.logs) (d.logs ++ new))
-  pub tallies : Tallies m notes
-  pub few : length notes.writes ≤ length cs
-  pub stand : AllByRecursion (StandAt m) new
-  pub chain : (x : ListOf) → Chain x (x.seen (seen_by p)) new (x.seen (seen_by m))
-  pub promised : IsPromisedSoFar s lane (length (d.logs ++ new)) (d.logs ++ new) (Follows m) (seen_by m) rest (d.given ++ given)
+-- a lane in a round, behind its calls of earlier rounds, with the first passes as they were when the round began
+pub record IsInRound (s : Script) (x : WorldOf) (before : List Seen) (base : WorldPass) (first : List DoneCall) (lane : ℕ) (l : LaneOf) (d : LaneSoFar)
+    : Type 0 where
+  pub label : l.label ≡ label_at lane (as_index (length d.done))
+  pub opening : l.pass.objects.knows.opening ≡ (row_of x.objects).made
+  pub sees : SeesMore base l.pass
+  pub begins : Begins first d.done
+  pub kept : IsKeptOf s (before ++ seen_by base ∷ []) l.pass lane d
+  pub are : AreOf l.pass l.notes (IsFrom lane (length first) d.done)
+  pub tallies : Tallies l.pass l.notes
 
-module _ (s : Script) (x : WorldOf) (each : KeepsEach s x) (world : IsWorldOf s x) (range : IsInRange s) (whole : IsWhole x) where
-  -- law: a lane that made its calls leaves this
-  pub leaves_round : (past : List Seen) (p : WorldPass) (left : LeftOf) (round : ℕ) (r : Round) (rest : List CallInRound) (d : LaneSoFar) (old new : Lane)
-      → IsKeptOf s past p old.label.lane d → d.rest ≡ in_round round (lane_calls old.label.lane r) ++ rest
-      → get_or left.answers old.label.lane [] ≡ d.given → BeginsRound p left old → IsLaneOf x old → MakesLane x r old new
-      → LeavesRound s p old.label.lane d (lane_calls old.label.lane r) rest new.pass new.notes new.answers.items
-  leaves_round past p left round r rest d old new so_far left_calls same begins of makes =
+-- what comes of calls that it makes in the round: they are done, with these answers, and none wrote more than once
+pub record MakesInRound (s : Script) (x : WorldOf) (before : List Seen) (base : WorldPass) (first : List DoneCall) (lane : ℕ) (l m : LaneOf)
+    (done : List DoneCall) (rest : List CallInRound) (given : List Answer) (many : ℕ) : Type 0 where
+  pub all : List DoneCall
+  pub answers : answers_in all ≡ answers_in done ++ given
+  pub few : length m.notes.writes ≤ length l.notes.writes + many
+  pub is : IsInRound s x before base first lane m (record { done = all; rest = rest })
+
+module _ {s : Script} {x : WorldOf} (each : KeepsEach s x) (world : IsWorldOf s x) (range : IsInRange s) (whole : IsWhole x) (before : List Seen)
+    (base : WorldPass) (first : List DoneCall) where
+  -- one call
+  one_call : (lane : ℕ) (l n : LaneOf) (done : List DoneCall) (rest : List CallInRound) (c : Call) (a : Answer)
+      → IsInRound s x before base first lane l (record { done = done; rest = record { round = length before; call = c } ∷ rest }) → n.label ≡ l.label
+      → Called x l c a n → MakesInRound s x before base first lane l (next_of n) done rest (a ∷ []) 1
+  one_call lane l n done rest c a old same called =
+      let at : CallInRound = record { round = length before; call = c } in
+      let there : slice_get (calls_of s lane) (length done) ≡ Some at =
+      subst (λ k. slice_get (calls_of s lane) k ≡ Some at) (length-map done (λ (d : DoneCall). d.at))
+      (ap (λ ps. slice_get ps (length (calls_in done))) old.kept.parts ∙ at_seam (calls_in done) rest at) in
+      let within = slice_get_within (calls_of s lane) (length done) at there in
+      let label : l.label ≡ label_at lane (length done) =
+      old.label ∙ ap (label_at lane) (omega (arith, within, calls_bound s lane range)) in
+      let kept = each l n c a (record {
+        world = world;
+        range = range;
+        whole = whole;
+        objects = old.opening;
+        at = at;
+        there = subst (λ (d : Label). slice_get (calls_of s d.lane) d.call ≡ Some at) (sym label) there;
+        is = refl;
+      }) called in
+      let k : DoneCall = record { at = at; log = log_of l.pass n.pass kept.notes kept.trace; answer = a } in
+      let writes = ap (λ (ns : NotesOf). length ns.writes) kept.joins in
+      record {
+        all = done ++ k ∷ [];
+        answers = map-append (λ (d : DoneCall). d.answer) done (k ∷ []);
+        few = omega (arith, writes, length-append l.notes.writes kept.added.writes, kept.few);
+        is = record {
+          label = ap (λ (d : Label). label_at d.lane (as_index (d.call + 1))) (same ∙ label)
+              ∙ ap (λ i. label_at lane (as_index i)) (sym (length-append done (k ∷ [])));
+          opening = kept.sees.opening ∙ old.opening;
+          sees = more_trans old.sees (more_called kept.sees);
+          begins = begins_trans old.begins (begins_more done (k ∷ []));
+          kept = kept_one kept before base lane done rest old.sees label old.kept;
+          are = notes_one kept lane (length first) done k refl label (begins_length old.begins) old.are;
+          tallies = subst (Tallies n.pass) (sym kept.joins) (tallies_more l.notes kept.added old.tallies kept.places);
+        };
+      }
+
+  -- calls in turn
+  calls_made : (lane : ℕ) (cs : List Call) (given : List Answer) (l m : LaneOf) (done : List DoneCall) (rest : List CallInRound)
+      → IsInRound s x before base first lane l (record { done = done; rest = in_round (length before) cs ++ rest }) → CalledAll x l cs given m
+      → MakesInRound s x before base first lane l m done rest given (length cs)
+  calls_made lane [] [] l m done rest old called = record {
+    all = done;
+    answers = sym (append-nil (answers_in done));
+    few = omega (arith, ap (λ (k : LaneOf). length k.notes.writes) called);
+    is = subst (λ k. IsInRound s x before base first lane k (record { done = done; rest = rest })) (sym called) old;
+  }
+  calls_made lane [] (a ∷ given) l m done rest old called = absurd called
+  calls_made lane (c ∷ cs) [] l m done rest old called = absurd called
+  calls_made lane (c ∷ cs) (a ∷ given) l m done rest old called =
+      let one = one_call lane l called.0 done (in_round (length before) cs ++ rest) c a old called.1 called.2 in
+      let others = calls_made lane cs given (next_of called.0) m one.all rest one.is called.3 in
+      record {
+        all = others.all;
+        answers = others.answers ∙ ap (λ zs. zs ++ given) one.answers ∙ append_assoc (answers_in done) (a ∷ []) given;
+        few = omega (arith, one.few, others.few);
+        is = others.is;
+      }
+
+  -- law: what a lane leaves of a round in which it made its calls
+  pub leaves_round : (left : LeftOf) (r : Round) (rest : List CallInRound) (old new : Lane) → let lane = old.label.lane in
+      IsKeptOf s (before ++ seen_by base ∷ []) base lane (record { done = first; rest = in_round (length before) (lane_calls lane r) ++ rest })
+      → get_or left.answers lane [] ≡ answers_in first → BeginsRound base left old → IsLaneOf x old → MakesLane x r old new
+      → MakesInRound s x before base first lane (lane_of old) (lane_of new) first rest new.answers.items (length (lane_calls lane r))
+  leaves_round left r rest old new so_far same begins of makes =
       let lane = old.label.lane in
       let cs = lane_calls lane r in
-      let ps = in_round round cs in
-      let l = lane_of old in
-      let m = lane_of new in
-      let index = length d.logs in
-      let bound = calls_bound s lane range in
-      let begun = more_begun p left old begins in
-      let number : l.label.call ≡ as_index index = begins.call ∙ ap as_index (ap length same ∙ so_far.answered) in
-      let next : AreNextCalls s lane index cs =
-      subst (λ n. AreNextCalls s lane n cs) (sym so_far.counted)
-      (next_calls s lane round d.done cs rest (so_far.parts ∙ ap (λ qs. d.done ++ qs) left_calls)) in
-      let kept = keeps_calls s lane bound x each world range whole l index cs makes.calls.given m refl number next of.pass.objects.row.made
-      makes.calls.calls in
-      let many = are_called s l cs makes.calls.given m kept in
-      let logs = logs_of s l cs makes.calls.given m kept in
+      let calls = in_round (length before) cs ++ rest in
       let answers : makes.calls.given ≡ new.answers.items =
       ap (λ zs. zs ++ makes.calls.given) (sym begins.answers) ∙ sym makes.calls.answers in
-      let before : IsPromisedSoFar s lane index d.logs (Follows l.pass) (seen_by l.pass) (ps ++ rest) d.given =
-      subst (λ qs. IsPromisedSoFar s lane index d.logs (Follows l.pass) (seen_by l.pass) qs d.given) left_calls
-      (promised_later s lane index d.logs (Follows p) (Follows l.pass) (seen_by p) (seen_by l.pass) d.rest d.given
-      (λ e follows. follows_less p l.pass e begun follows) (no_less p l.pass begun) so_far.promised) in
-      let promised = promised_calls s lane bound l index ps cs makes.calls.given m kept rest d.logs d.given refl number next (calls_in_round round cs) refl
-      before in
-      record {
-        new = logs;
-        as_many = many.logs;
-        answered = ap length (sym answers) ∙ many.answers;
-        sees = more_trans p l.pass m.pass begun many.sees;
-        are = notes_calls s lane bound index index l cs makes.calls.given m d.logs kept refl number next refl (omega arith)
-            (subst (λ ns. AreOf l.pass ns (λ c. log_at d.logs c.call) (IsFrom lane index d.logs)) (sym begins.notes) (notes_none l.pass lane d.logs));
-        tallies = many.tallies (subst (Tallies l.pass) (sym begins.notes) (tallies_none l.pass begins.timers_mine begins.objects_mine begins.clock_mine));
-        few = omega (arith, many.writes, ap (λ (ns : NotesOf). length ns.writes) begins.notes);
-        stand = many.stand;
-        chain = λ y. subst (λ k. Chain y k logs (y.seen (seen_by m.pass))) (ap y.seen (seen_begun p left old begins))
-            (chain_calls y s l cs makes.calls.given m kept);
-        promised = subst (λ n. IsPromisedSoFar s lane n (d.logs ++ logs) (Follows m.pass) (seen_by m.pass) rest (d.given ++ new.answers.items))
-            (sym (length-append d.logs logs ∙ ap (λ k. index + k) many.logs))
-            (subst (λ zs. IsPromisedSoFar s lane (index + length cs) (d.logs ++ logs) (Follows m.pass) (seen_by m.pass) rest (d.given ++ zs)) answers
-            promised);
-      }
+      let begun : IsInRound s x before base first lane (lane_of old) (record { done = first; rest = calls }) = record {
+        label = ap (label_at lane) (begins.call ∙ ap as_index (ap length same ∙ length-map first (λ (d : DoneCall). d.answer)));
+        opening = of.pass.objects.row.made;
+        sees = more_begun begins;
+        begins = begins_refl first;
+        kept = kept_later (more_begun begins) so_far;
+        are = subst (λ ns. AreOf old.pass ns (IsFrom lane (length first) first)) (sym begins.notes)
+            (none_noted (λ c g is. absurd (omega (arith, is.1, slice_get_within first c.call is.2.0 is.2.1))));
+        tallies = subst (Tallies old.pass) (sym begins.notes) (tallies_none begins.timers_mine begins.objects_mine begins.clock_mine);
+      } in
+      subst (λ zs. MakesInRound s x before base first lane (lane_of old) (lane_of new) first rest zs (length cs)) answers
+      (calls_made lane cs makes.calls.given (lane_of old) (lane_of new) first rest begun makes.calls.calls)

@@ -1,29 +1,27 @@
 -- What lanes leave of a round is added to what all have left so far, one lane after another.
-use Rattle.std.proofs.Common.{◌≡◌, ◌≤◌, ◌<◌, ◌⊎◌, ℕ, true, false, nat_eq, cond, get_or, set, List, [], ◌∷◌, ◌++◌, length, length-append, length-set, arith, refl, sym, ap, ◌∙◌, subst, ⊎_elim, inl, inr}
+use Rattle.std.proofs.Common.{◌≡◌, ◌≤◌, ◌<◌, ◌⊎◌, ℕ, true, false, nat_eq, cond, get_or, set, List, [], ◌∷◌, ◌++◌, length, length-set, arith, refl, sym, ap, ◌∙◌, subst, ⊎_elim, inl, inr, Some, zero, suc}
 use Rattle.std.proofs.lemmas.Bool.{cases_lt, eqb-false, eqb-true}
-use Rattle.std.proofs.lemmas.List.{append_assoc, get_or-set_other, get_or-set_same, get_or_append_left, length-map}
-use Rattle.record_text.proofs.Lists.{All-append}
-use Rattle.lane_notes.specs.Notes.{NotesOf}
-use Rattle.record_text.specs.declared.record.Answer.{Answer}
+use Rattle.std.proofs.lemmas.List.{get_or-set_other, get_or-set_same}
 use Rattle.record_text.specs.declared.record.Label.{Label}
 use Rattle.run_history.specs.Fits.{Seen}
 use Rattle.run_history.specs.Runs.{CallLog}
 use Rattle.script_text.specs.Order.{CallInRound}
-use Rattle.script_text.specs.declared.script.Call.{Call}
 use Rattle.script_text.specs.declared.script.Script.{Script}
-use Rattle.lane_run.specs.Kept.{Follows, seen_by}
-use Rattle.lane_run.specs.Left.{StandAt}
+use Rattle.lane_run.specs.Kept.{seen_by, Tallies}
 use Rattle.lane_run.specs.Rounds.{LeftOf, TakesInPass, with_lane}
 use Rattle.lane_run.specs.declared.lane.Lane.{Lane}
 use Rattle.lane_run.specs.declared.world.WorldPass.{WorldPass}
-use Rattle.lane_run.proofs.CallingLanes.{in_round}
-use Rattle.lane_run.proofs.Chains.{AreUpTo, chain-append, chain_higher, lies-append, lies_between, lies_later, start_behind, start_last, up_to_later}
-use Rattle.lane_run.proofs.LaneKept.{promised_later}
-use Rattle.lane_run.proofs.LaneRound.{IsFrom, IsKeptOf, kept_later, LaneSoFar, LeavesRound, log_at, no_log}
+use Rattle.lane_run.proofs.Chains.{AreUpTo, up_to_later}
+use Rattle.lane_run.proofs.LaneRound.{IsFrom, IsKeptOf, kept_later, LaneSoFar, IsAt, IsInRound, DoneCall, answers_in}
 use Rattle.lane_run.proofs.NotesJoined.{AreOf, joined}
-use Rattle.lane_run.proofs.PartLists.{each_weaker}
-use Rattle.lane_run.proofs.SeenMore.{follows_less, more_heard, more_taken, more_trans, no_less, SeesMore, stand_later}
-use Rattle.lane_run.proofs.Tallies.{Tallies, tallies_taken}
+use Rattle.lane_run.proofs.SeenMore.{more_heard, more_taken, no_less, stands_on}
+use Rattle.lane_run.proofs.Tallies.{tallies_more, adds_taken}
+use Rattle.lane_run.specs.Worlds.{WorldOf}
+use Rattle.lane_run.specs.Called.{lane_of}
+use Rattle.std.specs.List.{slice_get}
+use Rattle.std.proofs.lemmas.Option.{slice_get_within}
+use Rattle.pass_names.specs.Passes.{Begins}
+use Rattle.record_text.specs.declared.record.Answer.{Answer}
 
 -- ---- a thing for each lane
 
@@ -41,138 +39,93 @@ put_at P of lane x j here other = elim (nat_eq j lane) as (λ b. nat_eq j lane �
 
 -- ---- all lanes so far
 
--- what was kept of a call
-abbrev pub logs_in : (ℕ → LaneSoFar) → Label → CallLog
-logs_in of c = log_at (of c.lane).logs c.call
-
--- the calls so far
-abbrev pub IsIn : (ℕ → LaneSoFar) → Label → Type 0
-IsIn of c = c.call < length (of c.lane).logs
+-- an item that stands in a list's front
+at_front : {X : Type 0} (xs ys : List X) (j : ℕ) {y : X} → j < length xs → slice_get (xs ++ ys) j ≡ Some y → slice_get xs j ≡ Some y
+at_front [] ys j less at = absurd (omega (arith, less))
+at_front (x ∷ xs) ys zero less at = at
+at_front (x ∷ xs) ys (suc j) less at = at_front xs ys j (omega (arith, less)) at
 
 -- what all lanes have left so far is what was kept of each
 pub record AreLeftSoFar (s : Script) (past : List Seen) (p : WorldPass) (left : LeftOf) (of : ℕ → LaneSoFar) : Type 0 where
   pub lanes : length left.answers ≡ s.lanes
-  pub given : (j : ℕ) → get_or left.answers j [] ≡ (of j).given
+  pub given : (j : ℕ) → get_or left.answers j [] ≡ answers_in (of j).done
   pub kept : (j : ℕ) → IsKeptOf s past p j (of j)
-  pub are : AreOf p left.notes (logs_in of) (IsIn of)
+  pub are : AreOf p left.notes (λ c. IsAt (of c.lane).done c)
   pub tallies : Tallies p left.notes
   pub rise : AreUpTo past (seen_by p)
 
--- what is kept of a lane with what it leaves of a round
-abbrev pub after_round : LaneSoFar → List CallLog → List CallInRound → List CallInRound → List Answer → LaneSoFar
-after_round d new made rest given = record { logs = d.logs ++ new; done = d.done ++ made; rest = rest; given = d.given ++ given }
+-- what a lane of this number leaves of a round, behind what was kept of it; these calls are left of it then
+pub record LeavesRound (s : Script) (x : WorldOf) (before : List Seen) (base : WorldPass) (first : List DoneCall) (rest : List CallInRound) (name : ℕ)
+    (lane : Lane) (many : ℕ) : Type 0 where
+  pub all : List DoneCall
+  pub answers : answers_in all ≡ answers_in first ++ lane.answers.items
+  pub few : length lane.notes.writes ≤ many
+  pub is : IsInRound s x before base first name (lane_of lane) (record { done = all; rest = rest })
 
 -- ---- one lane
 
--- what was kept of a lane, with what it leaves of the round that began when these passes had seen what they had
-kept_taken : (s : Script) (before : List Seen) (base : WorldPass) (lane : ℕ) (d : LaneSoFar) (cs : List Call) (rest : List CallInRound)
-    (m q : WorldPass) (notes : NotesOf) (given : List Answer) → IsKeptOf s (before ++ seen_by base ∷ []) base lane d
-    → d.rest ≡ in_round (length before) cs ++ rest → (leaves : LeavesRound s base lane d cs rest m notes given) → SeesMore base q → SeesMore m q
-    → IsKeptOf s (before ++ seen_by base ∷ []) q lane (after_round d leaves.new (in_round (length before) cs) rest given)
-kept_taken s before base lane d cs rest m q notes given kept left leaves more heard =
-    let round = length before in
-    let past = before ++ seen_by base ∷ [] in
-    let later = no_less base q more in
-    let further = no_less m q heard in
-    let logs = d.logs ++ leaves.new in
-    record {
-      parts = kept.parts ∙ ap (λ ps. d.done ++ ps) left ∙ sym (append_assoc d.done (in_round round cs) rest);
-      counted = omega (
-        arith,
-        length-append d.logs leaves.new,
-        length-append d.done (in_round round cs),
-        kept.counted,
-        leaves.as_many,
-        length-map {B = CallInRound} cs (λ c. record { round = round; call = c }),
-      );
-      answered = omega (arith, length-append d.logs leaves.new, length-append d.given given, kept.answered, leaves.as_many, leaves.answered);
-      promised = promised_later s lane (length logs) logs (Follows m) (Follows q) (seen_by m) (seen_by q) rest (d.given ++ given)
-          (λ e follows. follows_less m q e heard follows) further leaves.promised;
-      stand = All-append (StandAt q) d.logs leaves.new
-          (each_weaker d.logs (λ g stand. stand_later base q g more stand) kept.stand)
-          (each_weaker leaves.new (λ g stand. stand_later m q g heard stand) leaves.stand);
-      chain = λ x. chain_higher x 0 logs (x.seen (seen_by m)) (x.seen (seen_by q)) (x.rises (seen_by m) (seen_by q) further)
-          (chain-append x 0 d.logs leaves.new (x.seen (seen_by base)) (x.seen (seen_by m)) (kept.chain x) (leaves.chain x));
-      lies = λ x. lies-append x past (seen_by q) d.done (in_round round cs) d.logs leaves.new
-          (lies_later x past (seen_by base) (seen_by q) d.done d.logs later (kept.lies x))
-          (lies_between x past (seen_by q) round (x.seen (seen_by base)) cs leaves.new (x.seen (seen_by m)) leaves.as_many
-          (omega (arith, length-append before (seen_by base ∷ []))) (omega (arith, start_last x before (seen_by base) (seen_by q)))
-          (omega (arith, x.rises (seen_by m) (seen_by q) further, start_behind x before (seen_by base) (seen_by q))) (leaves.chain x));
-    }
+module _ (of : ℕ → LaneSoFar) (name : ℕ) (end : LaneSoFar) (begins : Begins (of name).done end.done) where
+  -- the lane's own calls of the round, those of all lanes before it, and with it
+  abbrev own : Label → CallLog → Type 0
+  own = IsFrom name (length (of name).done) end.done
 
--- the lanes that have been taken in, and their answers
-given_taken : (answers : List (List Answer)) (lane : ℕ) (given : List Answer) (of : ℕ → LaneSoFar) (d : LaneSoFar) → lane < length answers
-    → d.given ≡ (of lane).given ++ given → ((j : ℕ) → get_or answers j [] ≡ (of j).given) → (j : ℕ)
-    → get_or (set answers lane (get_or answers lane [] ++ given)) j [] ≡ (put of lane d j).given
-given_taken answers lane given of d within is same j =
-    put_at (λ (e : LaneSoFar). get_or (set answers lane (get_or answers lane [] ++ given)) j [] ≡ e.given) of lane d j
-    (λ here. subst (λ i. get_or (set answers lane (get_or answers lane [] ++ given)) i [] ≡ d.given) (sym here)
-    (get_or-set_same answers lane (get_or answers lane [] ++ given) [] within ∙ ap (λ zs. zs ++ given) (same lane) ∙ sym is))
-    (λ other. get_or-set_other answers lane j (get_or answers lane [] ++ given) [] other ∙ same j)
+  abbrev old : Label → CallLog → Type 0
+  old c = IsAt (of c.lane).done c
 
-module _ (of : ℕ → LaneSoFar) (lane : ℕ) (d : LaneSoFar) (new : List CallLog) (made rest : List CallInRound) (given : List Answer)
-    (is : of lane ≡ d) where
-  -- the calls so far of a lane that is taken in
-  here_is : (c : Label) → c.lane ≡ lane → (of c.lane).logs ≡ d.logs
-  here_is c here = ap (λ j. (of j).logs) here ∙ ap (λ (e : LaneSoFar). e.logs) is
+  abbrev all : Label → CallLog → Type 0
+  all c = IsAt (put of name end c.lane).done c
 
-  abbrev all_of : ℕ → LaneSoFar
-  all_of = put of lane (after_round d new made rest given)
+  at_first : (c : Label) (g : CallLog) → c.lane ≡ name → old c g → IsAt (of name).done c g
+  at_first c g here at = subst (λ j. IsAt (of j).done c g) here at
 
-  in_left : (c : Label) → IsIn of c → IsIn all_of c × (logs_in all_of c ≡ logs_in of c)
-  in_left c has =
-      put_at (λ (e : LaneSoFar). (c.call < length e.logs) × (log_at e.logs c.call ≡ logs_in of c)) of lane (after_round d new made rest given) c.lane
-      (λ here. let less : c.call < length d.logs = subst (λ gs. c.call < length gs) (here_is c here) has in (
-        omega (arith, less, length-append d.logs new),
-        get_or_append_left d.logs new no_log c.call less ∙ ap (λ gs. log_at gs c.call) (sym (here_is c here)),
-      )) (λ other. (has, refl))
+  apart : (c : Label) (g h : CallLog) → old c g → own c h → ⊥
+  apart c g h at is =
+      let first = at_first c g is.0 at in
+      absurd (omega (arith, is.1, slice_get_within (of name).done c.call first.0 first.1))
 
-  in_right : (c : Label) → IsFrom lane (length d.logs) (d.logs ++ new) c → IsIn all_of c × (logs_in all_of c ≡ log_at (d.logs ++ new) c.call)
-  in_right c has =
-      put_at (λ (e : LaneSoFar). (c.call < length e.logs) × (log_at e.logs c.call ≡ log_at (d.logs ++ new) c.call)) of lane
-      (after_round d new made rest given) c.lane (λ here. (has.high, refl)) (λ other. absurd (other has.own))
+  still : (c : Label) (g : CallLog) → old c g → all c g
+  still c g at = put_at (λ (e : LaneSoFar). IsAt e.done c g) of name end c.lane
+      (λ here. let first = at_first c g here at in (first.0, stands_on c.call begins first.1, first.2)) (λ other. at)
 
-  in_parts : (c : Label) → IsIn all_of c → IsIn of c ⊎ IsFrom lane (length d.logs) (d.logs ++ new) c
-  in_parts c =
-      put_at (λ (e : LaneSoFar). c.call < length e.logs → IsIn of c ⊎ IsFrom lane (length d.logs) (d.logs ++ new) c) of lane
-      (after_round d new made rest given) c.lane
-      (λ here has. ⊎_elim (λ (less : c.call < length d.logs). inl (subst (λ gs. c.call < length gs) (sym (here_is c here)) less))
-      (λ (more : length d.logs ≤ c.call). inr (record { own = here; low = more; high = has })) (cases_lt c.call (length d.logs)))
-      (λ other has. inl has)
+  now : (c : Label) (g : CallLog) → own c g → all c g
+  now c g is = put_at (λ (e : LaneSoFar). IsAt e.done c g) of name end c.lane (λ here. is.2) (λ other. absurd (other is.0))
 
-  in_apart : (c : Label) → IsIn of c → IsFrom lane (length d.logs) (d.logs ++ new) c → ⊥
-  in_apart c has from =
-      let less : c.call < length d.logs = subst (λ gs. c.call < length gs) (here_is c from.own) has in
-      absurd (omega (arith, less, from.low))
+  either : (c : Label) (g : CallLog) → all c g → old c g ⊎ own c g
+  either c g = put_at (λ (e : LaneSoFar). IsAt e.done c g → old c g ⊎ own c g) of name end c.lane
+      (λ here at. ⊎_elim (λ (less : c.call < length (of name).done). inl (subst (λ j. IsAt (of j).done c g) (sym here)
+      (at.0, at_front (of name).done begins.rest c.call less (ap (λ ds. slice_get ds c.call) (sym begins.whole) ∙ at.1), at.2)))
+      (λ (more : length (of name).done ≤ c.call). inr (here, more, at)) (cases_lt c.call (length (of name).done))) (λ other at. inl at)
+
+-- the answers of the lanes
+given_taken : (answers : List (List Answer)) (lane : ℕ) (given : List Answer) (of : ℕ → LaneSoFar) (end : LaneSoFar) → lane < length answers
+    → answers_in end.done ≡ answers_in (of lane).done ++ given → ((j : ℕ) → get_or answers j [] ≡ answers_in (of j).done) → (j : ℕ)
+    → get_or (set answers lane (get_or answers lane [] ++ given)) j [] ≡ answers_in (put of lane end j).done
+given_taken answers lane given of end within is same j =
+    let new = get_or answers lane [] ++ given in
+    put_at (λ (e : LaneSoFar). get_or (set answers lane new) j [] ≡ answers_in e.done) of lane end j
+    (λ here. ap (λ i. get_or (set answers lane new) i []) here ∙ get_or-set_same answers lane new [] within ∙ ap (λ zs. zs ++ given) (same lane) ∙ sym is)
+    (λ other. get_or-set_other answers lane j new [] other ∙ same j)
 
 -- law: what a lane leaves of a round is added
-pub left_taken : (s : Script) (before : List Seen) (base p : WorldPass) (left : LeftOf) (of : ℕ → LaneSoFar) (lane : Lane) (d : LaneSoFar)
-    (cs : List Call) (rest : List CallInRound) (q : WorldPass) → of lane.label.lane ≡ d → lane.label.lane < length left.answers
-    → IsKeptOf s (before ++ seen_by base ∷ []) base lane.label.lane d → d.rest ≡ in_round (length before) cs ++ rest
-    → (leaves : LeavesRound s base lane.label.lane d cs rest lane.pass lane.notes lane.answers.items) → SeesMore base p → TakesInPass p lane.pass q
-    → AreLeftSoFar s (before ++ seen_by base ∷ []) p left of
-    → AreLeftSoFar s (before ++ seen_by base ∷ []) q (with_lane left lane)
-    (put of lane.label.lane (after_round d leaves.new (in_round (length before) cs) rest lane.answers.items))
-left_taken s before base p left of lane d cs rest q is within kept calls leaves more takes so_far =
+pub left_taken : {s : Script} {x : WorldOf} {before : List Seen} {base p q : WorldPass} {left : LeftOf} (of : ℕ → LaneSoFar) (lane : Lane)
+    {rest : List CallInRound} {many : ℕ} (leaves : LeavesRound s x before base (of lane.label.lane).done rest lane.label.lane lane many)
+    → lane.label.lane < s.lanes → TakesInPass p lane.pass q → AreLeftSoFar s (before ++ seen_by base ∷ []) p left of
+    → AreLeftSoFar s (before ++ seen_by base ∷ []) q (with_lane left lane) (put of lane.label.lane (record { done = leaves.all; rest = rest }))
+left_taken {s = s} {before = before} {base = base} {q = q} {left = left} of lane {rest = rest} leaves within takes so_far =
     let name = lane.label.lane in
     let past = before ++ seen_by base ∷ [] in
-    let made = in_round (length before) cs in
+    let end : LaneSoFar = record { done = leaves.all; rest = rest } in
     let given = lane.answers.items in
-    let grows = more_taken p lane.pass q takes in
-    let heard = more_heard p lane.pass q takes in
-    let end = after_round d leaves.new made rest given in
-    let all = put of name end in
+    let grows = more_taken takes in
+    let heard = more_heard takes in
+    let begins = leaves.is.begins in
     record {
       lanes = length-set left.answers name (get_or left.answers name [] ++ given) ∙ so_far.lanes;
-      given = given_taken left.answers name given of end within (ap (λ (e : LaneSoFar). e.given ++ given) (sym is)) so_far.given;
+      given = given_taken left.answers name given of end (subst (λ n. name < n) (sym so_far.lanes) within) leaves.answers so_far.given;
       kept = λ j. put_at (IsKeptOf s past q j) of name end j
-          (λ here. subst (λ i. IsKeptOf s past q i end) (sym here)
-          (kept_taken s before base name d cs rest lane.pass q lane.notes given kept calls leaves (more_trans base p q more grows) heard))
-          (λ other. kept_later s past p q j (of j) grows (so_far.kept j));
-      are = joined p lane.pass q left.notes lane.notes (logs_in of) (λ c. log_at (d.logs ++ leaves.new) c.call) (logs_in all) (IsIn of)
-          (IsFrom name (length d.logs) (d.logs ++ leaves.new)) (IsIn all) grows heard so_far.are leaves.are
-          (in_apart of name d leaves.new made rest given is) (in_left of name d leaves.new made rest given is)
-          (in_right of name d leaves.new made rest given is) (in_parts of name d leaves.new made rest given is);
-      tallies = tallies_taken p lane.pass q left.notes lane.notes takes so_far.tallies leaves.tallies;
-      rise = up_to_later past (seen_by p) (seen_by q) (no_less p q grows) so_far.rise;
+          (λ here. subst (λ i. IsKeptOf s past q i end) (sym here) (kept_later heard leaves.is.kept)) (λ other. kept_later grows (so_far.kept j));
+      are = joined grows heard so_far.are leaves.is.are (apart of name end begins) (still of name end begins) (now of name end begins)
+          (either of name end begins);
+      tallies = tallies_more left.notes lane.notes so_far.tallies (adds_taken takes leaves.is.tallies);
+      rise = up_to_later past (no_less grows) so_far.rise;
     }

@@ -128,7 +128,7 @@ module _ {s : Script} {x : WorldOf} {q : WorldPass} (last : AreLastOf s x q) whe
     entries_once t = record {
       each = λ n. ⊎_elim
           (λ (less : t < length s.timers). sym (count-map (λ (m : EntryNote). (m.timer, m.number)) (is_place t n) notes.entries)
-          ∙ sym (left.timers_places t n) ∙ (last.passes.timers.knows.whole last.last.timers).once t n (subst (λ m. t < m) (sym many_timers) less))
+          ∙ sym (left.places.timers t n) ∙ (last.passes.timers.knows.whole last.last.timers).once t n (subst (λ m. t < m) (sym many_timers) less))
           (λ (past : length s.timers ≤ t). ap length (nobody (filter (is_at place_of_entry t n) notes.entries) (λ e st.
           let f = filter_stands_in (is_at place_of_entry t n) notes.entries e st in
           let made = note_made left e (has_receipt left e f.0) in
@@ -140,13 +140,13 @@ module _ {s : Script} {x : WorldOf} {q : WorldPass} (last : AreLastOf s x q) whe
     -- law: each entry of each object is
     pub objects_once : (i : ℕ) → AreEachOnce place_of_object i (length (seen_of q.objects i)) notes.objects
     objects_once i = record {
-      each = λ n. sym (count-map (λ (m : ObjectNote). (m.object, m.number)) (is_place i n) notes.objects) ∙ sym (left.objects_places i n)
+      each = λ n. sym (count-map (λ (m : ObjectNote). (m.object, m.number)) (is_place i n) notes.objects) ∙ sym (left.places.objects i n)
           ∙ (last.passes.objects.knows.all_entries last.last.objects).once i n;
     }
 
     -- law: each write of the clock is
     pub writes_once : AreEachOnce place_of_write 0 (length (writes q.clock.knows)) notes.writes
     writes_once = record {
-      each = λ n. sym (count-map (λ (m : WriteNote). (0, m.stamp)) (is_place 0 n) notes.writes) ∙ sym (left.clock_places n)
+      each = λ n. sym (count-map (λ (m : WriteNote). (0, m.stamp)) (is_place 0 n) notes.writes) ∙ sym (left.places.clock n)
           ∙ (last.passes.known.all_entries last.last.clock).once 0 n;
     }

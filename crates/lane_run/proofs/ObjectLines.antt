@@ -30,7 +30,8 @@ use Rattle.run_history.specs.Promises.{GoesOnClock}
 use Rattle.run_history.specs.Runs.{CallLog, Ending, Starts}
 use Rattle.run_history.proofs.Lists.{all_at, each, map_get}
 use Rattle.lane_run.specs.Kept.{AreObjectLines, FollowsObject, ObjectMove, ShowsObjectCall, made_on}
-use Rattle.lane_run.specs.Left.{AreLastOf, AreLeft, ending_of, IsObjectLeft, span_of}
+use Rattle.lane_run.specs.Kept.{IsObjectLeft, ObjectNotes}
+use Rattle.lane_run.specs.Left.{AreLastOf, AreLeft, ending_of, span_of}
 use Rattle.lane_run.specs.Worlds.{WorldOf, decl_as}
 use Rattle.lane_run.specs.declared.world.WorldPass.{WorldPass}
 use Rattle.counted_row.specs.Meaning.{Leads}
@@ -119,7 +120,7 @@ module _ {s : Script} {x : WorldOf} {q : WorldPass} {notes sorted : NotesOf} {lo
 
   shows_at : (i j : ℕ) (line : ObjectLine) → slice_get (lines_of_object r i) j ≡ Some line → Shows i (line.label, line.entry) j
   shows_at i = at_line is.objects (objects_once last left i) (λ y. y.label) (λ y. y.entry) (λ n. n.entry) (lines_of_object r i) (shapes i) (Shows i) (λ n st of.
-      let its = all_at (λ o. IsLabel s o.label × IsObjectLeft q (logs o.label) o) notes.objects st.0 n left.objects st.1 in (
+      let its = all_at (λ o. IsLabel s o.label × IsObjectLeft q (logs o.label) o) notes.objects st.0 n (left.seen ObjectNotes) st.1 in (
         its.1.before,
         its.1.number,
         subst (λ k. Shows k (n.label, n.entry) its.1.before) of ((its.0, its.1.inside.0, its.1.inside.1), (its.1.step, its.1.there, its.1.shows)),

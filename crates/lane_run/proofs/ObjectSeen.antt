@@ -41,7 +41,7 @@ use Rattle.timer_fd.specs.declared.calls.Reply as fd_reply
 use Rattle.std.specs.List.{AllByRecursion}
 use Rattle.lane_run.specs.Worlds.{decl_as, IsWorldOf, WorldOf}
 use Rattle.lane_run.proofs.Declared.{declared_in, no_decl}
-use Rattle.std.proofs.Common.{◌-◌, arith}
+use Rattle.std.proofs.Common.{arith}
 use Rattle.std.specs.List.{slice_get}
 use Rattle.std.proofs.lemmas.Option.{same_Some}
 use Rattle.timer_objects.specs.Known.{ObjectsPass, seen_of}

@@ -24,11 +24,13 @@ use Rattle.run_history.specs.Receipts.{Noted, Rises}
 use Rattle.run_history.specs.Runs.{course_of, Ending, IsJoined, moves_spans}
 use Rattle.run_history.proofs.Kept.{IsKept}
 use Rattle.lane_run.specs.Called.{LaneOf, with_done}
-use Rattle.lane_run.specs.Kept.{Follows, IsLookNote, IsNextCall, IsObjectNote, IsSkipNote, KeepsCall, log_of, seen_by, SeesOn}
+use Rattle.std.specs.List.{AllByRecursion}
+use Rattle.std.proofs.lemmas.Option.{slice_get_within}
+use Rattle.lane_run.specs.Kept.{Follows, IsNextCall, IsSeen, list_of, EntryNotes, LookNotes, ObjectNotes, SkipNotes, WriteNotes, KeepsCall, log_of, seen_by, SeesOn}
 use Rattle.lane_run.specs.Worlds.{WorldOf}
 use Rattle.lane_run.specs.declared.world.WorldPass.{WorldPass}
 use Rattle.lane_run.proofs.CallKept.{no_places, notes_of, notes_of-bear, places_added, promised_from, stand_from, with_done-joins}
-use Rattle.lane_run.proofs.Parts.{IsNoteIn, IsPart, object_place}
+use Rattle.lane_run.proofs.Parts.{IsPart, object_place}
 use Rattle.lane_run.proofs.PartLists.{each_weaker, rises_lower, rises_only}
 
 -- ---- the call
@@ -62,18 +64,20 @@ keeps_part {l = l} next m a IsSo log object_log notes t part so clock clock_mine
       sees = sees_part p q part clock;
       joins = joins ∙ with_done-joins l.notes label log object_log;
       bears = notes_of-bear label log object_log;
-      receipts = part.timers.told;
       tells = record {
-        writes = sym part.timers.no_write;
-        looks = part.timers.looks;
-        objects = part.objects.makes;
-        skips = part.objects.skips;
-        writes_rise = subst (λ ws. Rises 1 (map (λ k. k.0) ws)) (sym part.timers.no_write) tt;
-        looks_rise = λ i. rises_lower 1 (receipts.count i p.timers.known.seen + 1) (map (λ k. k.0) (looked i actions)) (omega arith)
-            (rises_only (receipts.count i p.timers.known.seen + 1) (map (λ k. k.0) (looked i actions)) (receipts.count i q.timers.known.seen + 1)
-            (part.timers.looks_rise i));
-        objects_rise = λ i. rises_lower 1 (length (seen_of p.objects i) + 1) (map (λ k. k.0) (made i actions)) (omega arith)
-            (rises_only (length (seen_of p.objects i) + 1) (map (λ k. k.0) (made i actions)) (length (seen_of q.objects i) + 1) (part.objects.rise i));
+        receipts = part.timers.told;
+        tells = record {
+          writes = sym part.timers.no_write;
+          looks = part.timers.looks;
+          objects = part.objects.makes;
+          skips = part.objects.skips;
+          writes_rise = subst (λ ws. Rises 1 (map (λ k. k.0) ws)) (sym part.timers.no_write) tt;
+          looks_rise = λ i. rises_lower 1 (receipts.count i p.timers.known.seen + 1) (map (λ k. k.0) (looked i actions)) (omega arith)
+              (rises_only (receipts.count i p.timers.known.seen + 1) (map (λ k. k.0) (looked i actions)) (receipts.count i q.timers.known.seen + 1)
+              (part.timers.looks_rise i));
+          objects_rise = λ i. rises_lower 1 (length (seen_of p.objects i) + 1) (map (λ k. k.0) (made i actions)) (omega arith)
+              (rises_only (length (seen_of p.objects i) + 1) (map (λ k. k.0) (made i actions)) (length (seen_of q.objects i) + 1) (part.objects.rise i));
+        };
       };
       few = omega arith;
       places = record {
@@ -82,20 +86,22 @@ keeps_part {l = l} next m a IsSo log object_log notes t part so clock clock_mine
             ∙ total-append (λ u. one_if (is_place i k u)) p.objects.knows.pass.mine (map object_place (object_notes label object_log));
         clock = λ k. no_places (is_place 0 k) p.clock.knows.pass.mine q.clock.knows.pass.mine clock_mine;
       };
-      seen = record {
-        writes = tt;
-        looks = each_weaker (look_notes label log) (λ n its. record { some = its.0; seen = its.1 }) part.timers.looks_seen;
-        objects = each_weaker (object_notes label object_log) (λ n its. record {
-          before = its.before;
-          number = its.number;
-          behind = its.behind;
-          step = its.step;
-          there = its.there;
-          shows = λ e goes. its.shows e.run.clock (so e goes);
-        }) part.objects.seen;
-        skips = each_weaker (skip_notes label object_log) (λ n its. record { some = its.0; seen = its.1 }) part.objects.skips_seen;
-      };
-      stand = stand_from IsSo p q notes part.timers.enters (λ e follows. so e follows.clock);
+      seen = λ k. elim k as (λ j. AllByRecursion (IsSeen j q (log_of p q notes t)) (list_of j (notes_of label log object_log))) [
+        | EntryNotes ↦ each_weaker (entry_notes label log) (λ n bears. tt) (notes_of-bear label log object_log EntryNotes)
+        | LookNotes ↦ each_weaker (look_notes label log) (λ n its. record { some = its.0; seen = its.1 }) part.timers.looks_seen
+        | ObjectNotes ↦ each_weaker (object_notes label object_log)
+            (λ n its. record {
+              before = its.before;
+              number = its.number;
+              inside = (its.behind, slice_get_within (seen_of q.objects n.object) its.before its.step its.there);
+              step = its.step;
+              there = its.there;
+              shows = λ e goes. its.shows e.run.clock (so e goes);
+            }) part.objects.seen
+        | SkipNotes ↦ each_weaker (skip_notes label object_log) (λ n its. record { some = its.0; seen = its.1 }) part.objects.skips_seen
+        | WriteNotes ↦ tt
+      ];
+      stand = stand_from IsSo p q notes part.timers.enters t (λ e follows. so e follows.clock);
       logged = logged;
       promised = promised_from next q notes t a logged fits;
     }

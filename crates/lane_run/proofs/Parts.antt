@@ -5,16 +5,13 @@ use Rattle.std.specs.List.Sorted.{IsPermutation}
 use Rattle.std.proofs.lemmas.List.{append_assoc, append-nil, map-append}
 use Rattle.std.proofs.lemmas.List.Sorted.{IsPermutation-append, IsPermutation-map, IsPermutation-refl, IsPermutation-trans}
 use Rattle.pass_names.specs.Passes.{Begins, GoesOn, Adds}
-use Rattle.seq_timer.specs.Systems.{entries_of}
-use Rattle.seq_timer.specs.declared.system.TimerEntry.{TimerEntry}
-use Rattle.base_row.proofs.Begun.{entries_of-begins}
 use Rattle.expire_pass.specs.declared.log.Receipt.{Receipt}
 use Rattle.hr_timers.specs.Known.{KnownOfTimers}
 use Rattle.timer_objects.specs.Known.{ObjectsPass, seen_of}
 use Rattle.timer_objects.specs.declared.log.ObjectReceipt.{ObjectReceipt}
 use Rattle.record_text.specs.declared.record.ClockLine.{ClockLine}
 use Rattle.record_text.specs.declared.record.Label.{Label}
-use Rattle.script_text.specs.Actions.{Action, Entered, Looked, looked, Made, made, numbers_of_object, Skipped, skipped, Wrote, wrote}
+use Rattle.script_text.specs.Actions.{Action, looked, Made, made, numbers_of_object, skipped, wrote}
 use Rattle.script_text.specs.Histories.{reading_at}
 use Rattle.ktime.specs.Readings.{ClockReading}
 use Rattle.script_text.specs.Objects.{present}

@@ -1,7 +1,6 @@
 -- Calls on objects that make no entry: a lane keeps a call that looked at timers and objects only, and one that found its object's history full.
 use Rattle.std.proofs.Common.{◌≡◌, ◌≤◌, ℕ, Bool, true, false, nat_eq, if◌then◌else◌, Some, List, [], ◌∷◌, ◌++◌, length, arith, refl, sym, ap, ◌∙◌, subst}
 use Rattle.std.proofs.lemmas.Bool.{eqb-true}
-use Rattle.std.proofs.lemmas.List.{append-nil}
 use Rattle.std.proofs.lemmas.Option.{slice_get_within}
 use Rattle.clock_cell.specs.Views.{writes}
 use Rattle.pass_names.specs.Passes.{Begins, GoesOn}

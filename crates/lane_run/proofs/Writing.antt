@@ -3,7 +3,7 @@ use Rattle.std.proofs.Common.{◌≡◌, ℕ, ◌+◌, ◌≤◌, List, [], ◌�
 use Rattle.std.specs.List.{slice_get}
 use Rattle.std.proofs.lemmas.List.{append-nil, length-map}
 use Rattle.ktime.specs.Readings.{ClockReading}
-use Rattle.clock_model.specs.Clocks.{after_write, at_stamp, clock_after, greatest, last_stamp}
+use Rattle.clock_model.specs.Clocks.{after_write, greatest, last_stamp}
 use Rattle.clock_model.specs.declared.write.ClockFault.{ClockFault}
 use Rattle.clock_model.specs.declared.write.ClockFault.TheVariants as faults
 use Rattle.clock_model.specs.declared.write.Write.{Write}
@@ -13,7 +13,7 @@ use Rattle.record_text.specs.declared.record.Answer.TheVariants as answers
 use Rattle.record_text.specs.declared.record.Answer.{Answer}
 use Rattle.record_text.specs.declared.record.ClockLine.{ClockLine}
 use Rattle.script_text.specs.Actions.{Wrote}
-use Rattle.script_text.specs.Histories.{reading_at, ShowsReading}
+use Rattle.script_text.specs.Histories.{ShowsReading}
 use Rattle.script_text.specs.declared.script.Call.TheVariants as calls
 use Rattle.script_text.specs.declared.script.Script.{Script}
 use Rattle.lane_notes.specs.Notes.{both_noted, NotesOf, with_write_note}
@@ -24,10 +24,9 @@ use Rattle.run_history.specs.Promises.{GoesOnClock, IsLogged}
 use Rattle.run_history.specs.Runs.{Ending}
 use Rattle.run_history.proofs.Lists.{at_seam}
 use Rattle.run_history.proofs.OthersMade.{plain, wrote_made}
-use Rattle.run_history.proofs.Promise.{reading_seen}
-use Rattle.timer_objects.specs.Known.{seen_of}
 use Rattle.lane_run.specs.Called.{CallsWrite, LaneOf, line_of_write, with_write_told, write_told}
-use Rattle.lane_run.specs.Kept.{IsNextCall, KeepsCall, log_of, seen_by, SeesOn}
+use Rattle.std.specs.List.{AllByRecursion}
+use Rattle.lane_run.specs.Kept.{IsSeen, label_of, list_of, EntryNotes, LookNotes, ObjectNotes, SkipNotes, WriteNotes, IsNextCall, KeepsCall, log_of, seen_by, SeesOn}
 use Rattle.lane_run.specs.Worlds.{WorldOf}
 use Rattle.lane_run.proofs.Entering.{enters_none}
 use Rattle.pass_names.proofs.Passes.{begins_length}
@@ -120,16 +119,24 @@ write_kept {s = s} {l = l} {m = m} {write = write} next (Ok r) w timers objects 
       added = added;
       sees = sees;
       joins = notes ∙ write_joins l.notes r.stamp line;
-      bears = record { entries = tt; looks = tt; objects = tt; skips = tt; writes = (refl, tt) };
-      receipts = same_order [] [] refl;
+      bears = λ k. elim k as (λ j. AllByRecursion (λ n. label_of j n ≡ l.label) (list_of j added)) [
+        | EntryNotes ↦ tt
+        | LookNotes ↦ tt
+        | ObjectNotes ↦ tt
+        | SkipNotes ↦ tt
+        | WriteNotes ↦ (refl, tt)
+      ];
       tells = record {
-        writes = refl;
-        looks = λ i. refl;
-        objects = λ i. refl;
-        skips = λ i. refl;
-        writes_rise = (omega (arith, number), tt);
-        looks_rise = λ i. tt;
-        objects_rise = λ i. tt;
+        receipts = same_order [] [] refl;
+        tells = record {
+          writes = refl;
+          looks = λ i. refl;
+          objects = λ i. refl;
+          skips = λ i. refl;
+          writes_rise = (omega (arith, number), tt);
+          looks_rise = λ i. tt;
+          objects_rise = λ i. tt;
+        };
       };
       few = omega arith;
       places = record {
@@ -137,22 +144,23 @@ write_kept {s = s} {l = l} {m = m} {write = write} next (Ok r) w timers objects 
         objects = λ i n. no_places (is_place i n) p.objects.knows.pass.mine q.objects.knows.pass.mine (ap (λ o. o.knows.pass.mine) objects);
         clock = λ n. ap (count (is_place 0 n)) w.ok.place ∙ total-append (λ k. one_if (is_place 0 n k)) p.clock.knows.pass.mine ((0, r.stamp) ∷ []);
       };
-      seen = record {
-        writes = (
+      seen = λ k. elim k as (λ j. AllByRecursion (IsSeen j q (log_of p q [] t)) (list_of j added)) [
+        | EntryNotes ↦ tt
+        | LookNotes ↦ tt
+        | ObjectNotes ↦ tt
+        | SkipNotes ↦ tt
+        | WriteNotes ↦ (
           record {
             before = many;
             number = number;
-            behind = behind;
+            inside = (behind, omega (arith, number, w.ok.count));
             there = subst (λ xs. slice_get xs many ≡ Some write) (sym adds.last) (at_seam adds.before [] write);
             shows = subst (ShowsReading line) (sym whole) (record { mono = refl; real = refl; boot = refl; changes = refl });
           },
           tt,
-        );
-        looks = tt;
-        objects = tt;
-        skips = tt;
-      };
-      stand = stand_from (λ clock. Unit) p q [] enters (λ e follows. tt);
+        )
+      ];
+      stand = stand_from (λ clock. Unit) p q [] enters t (λ e follows. tt);
       logged = logged;
       promised = promised_from next q [] t (answers.Clock r.stamp) logged
           (λ e follows joined has kept low. wrote_made r.stamp write kept (ap length same_seen ∙ low));

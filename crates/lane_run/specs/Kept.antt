@@ -46,7 +46,6 @@ use Rattle.timer_objects.specs.declared.object.ObjectCall.{ObjectCall}
 use Rattle.timer_objects.specs.declared.object.ObjectReply.TheVariants as replies
 use Rattle.timer_objects.specs.declared.object.ObjectReply.{ObjectReply}
 use Rattle.lane_run.specs.Called.{LaneOf}
-use Rattle.lane_run.specs.Rounds.{next_of}
 use Rattle.lane_run.specs.Worlds.{IsWhole, IsWorldOf, WorldOf}
 use Rattle.lane_run.specs.declared.world.WorldPass.{WorldPass}
 
@@ -106,15 +105,36 @@ pub record Follows (p : WorldPass) (e : Ending) : Type 0 where
   pub clock : GoesOnClock (writes p.clock.knows) e
   pub objects : (i : ℕ) → FollowsObject e i (seen_of p.objects i)
 
--- ---- the notes that a call added
+-- ---- notes
 
--- they all bear its label
-pub record BearLabel (label : Label) (added : NotesOf) : Type 0 where
-  pub entries : AllByRecursion (λ n. n.label ≡ label) added.entries
-  pub looks : AllByRecursion (λ n. n.label ≡ label) added.looks
-  pub objects : AllByRecursion (λ n. n.label ≡ label) added.objects
-  pub skips : AllByRecursion (λ n. n.label ≡ label) added.skips
-  pub writes : AllByRecursion (λ n. n.line.label ≡ label) added.writes
+-- the kinds of notes, the notes of a kind, and their labels
+pub data NoteKind : Type 0 where
+  EntryNotes : NoteKind
+  LookNotes : NoteKind
+  ObjectNotes : NoteKind
+  SkipNotes : NoteKind
+  WriteNotes : NoteKind
+
+abbrev pub NoteOf : NoteKind → Type 0
+NoteOf EntryNotes = EntryNote
+NoteOf LookNotes = LookNote
+NoteOf ObjectNotes = ObjectNote
+NoteOf SkipNotes = SkipNote
+NoteOf WriteNotes = WriteNote
+
+abbrev pub list_of : (k : NoteKind) → NotesOf → List (NoteOf k)
+list_of EntryNotes notes = notes.entries
+list_of LookNotes notes = notes.looks
+list_of ObjectNotes notes = notes.objects
+list_of SkipNotes notes = notes.skips
+list_of WriteNotes notes = notes.writes
+
+abbrev pub label_of : (k : NoteKind) → NoteOf k → Label
+label_of EntryNotes n = n.label
+label_of LookNotes n = n.label
+label_of ObjectNotes n = n.label
+label_of SkipNotes n = n.label
+label_of WriteNotes n = n.line.label
 
 -- what a note of an entry says but for its label
 abbrev pub entry_in_note : EntryNote → ℕ × (ℕ × entry.Entry)
@@ -144,7 +164,18 @@ pub record TellActions (added : NotesOf) (actions : List Action) : Type 0 where
   pub looks_rise : (t : ℕ) → Rises 1 (map (λ n. n.0) (looked t actions))
   pub objects_rise : (i : ℕ) → Rises 1 (map (λ n. n.0) (made i actions))
 
--- the places that a lane's passes have added to their own are those of the notes
+-- a call's notes are of what its lane kept of it
+pub record TellLog (log : CallLog) (own : NotesOf) : Type 0 where
+  pub receipts : IsPermutation (map receipt log.notes) (map entry_in_note own.entries)
+  pub tells : TellActions own log.trace.actions
+
+-- the places that a lane's passes have made are those of the notes
+pub record Tallies (q : WorldPass) (notes : NotesOf) : Type 0 where
+  pub timers : (t n : ℕ) → count (is_place t n) q.timers.known.mine ≡ count (is_place t n) (map (λ e. (e.timer, e.number)) notes.entries)
+  pub objects : (i n : ℕ) → count (is_place i n) q.objects.knows.pass.mine ≡ count (is_place i n) (map (λ e. (e.object, e.number)) notes.objects)
+  pub clock : (n : ℕ) → count (is_place 0 n) q.clock.knows.pass.mine ≡ count (is_place 0 n) (map (λ e. (0, e.stamp)) notes.writes)
+
+-- the places that they have added to their own are
 pub record AddsPlaces (p q : WorldPass) (added : NotesOf) : Type 0 where
   pub timers : (t n : ℕ) → count (is_place t n) q.timers.known.mine
       ≡ count (is_place t n) p.timers.known.mine + count (is_place t n) (map (λ e. (e.timer, e.number)) added.entries)
@@ -153,46 +184,47 @@ pub record AddsPlaces (p q : WorldPass) (added : NotesOf) : Type 0 where
   pub clock : (n : ℕ) → count (is_place 0 n) q.clock.knows.pass.mine
       ≡ count (is_place 0 n) p.clock.knows.pass.mine + count (is_place 0 n) (map (λ e. (0, e.stamp)) added.writes)
 
--- the write of a note stands in what was seen, behind what was seen before the call, and its line shows the clock after it
-pub record IsWriteNote (p q : WorldPass) (n : WriteNote) : Type 0 where
-  pub before : ℕ
-  pub number : before + 1 ≡ n.stamp
-  pub behind : length (writes p.clock.knows) ≤ before
-  pub there : slice_get (writes q.clock.knows) before ≡ Some n.line.write
-  pub shows : ShowsReading n.line (reading_after (take n.stamp (writes q.clock.knows)))
-
 -- a look stands behind an entry of its timer that was seen
 pub record IsLookNote (q : WorldPass) (n : LookNote) : Type 0 where
   pub some : 0 < n.number
   pub seen : n.number ≤ receipts.count n.timer q.timers.known.seen
-
--- the entry of a note stands in what was seen of its object, behind what was seen before the call, and every record shows it that has the lane's readings
-pub record IsObjectNote (p q : WorldPass) (n : ObjectNote) : Type 0 where
-  pub before : ℕ
-  pub number : before + 1 ≡ n.number
-  pub behind : length (seen_of p.objects n.object) ≤ before
-  pub step : ObjectMove
-  pub there : slice_get (seen_of q.objects n.object) before ≡ Some step
-  pub shows : (e : Ending) → GoesOnClock (writes q.clock.knows) e → ShowsObjectCall e.run.clock step.call.call step.reply n.entry
 
 -- a refused expiry stands behind an entry of its object that was seen
 pub record IsSkipNote (q : WorldPass) (n : SkipNote) : Type 0 where
   pub some : 0 < n.number
   pub seen : n.number ≤ length (seen_of q.objects n.object)
 
--- each note is of something that was seen
-pub record AreSeen (p q : WorldPass) (added : NotesOf) : Type 0 where
-  pub writes : AllByRecursion (IsWriteNote p q) added.writes
-  pub looks : AllByRecursion (IsLookNote q) added.looks
-  pub objects : AllByRecursion (IsObjectNote p q) added.objects
-  pub skips : AllByRecursion (IsSkipNote q) added.skips
+-- the write of a note stands in what was seen, in its call's span, and its line shows the clock after it
+pub record IsWriteLeft (q : WorldPass) (log : CallLog) (n : WriteNote) : Type 0 where
+  pub before : ℕ
+  pub number : before + 1 ≡ n.stamp
+  pub inside : (log.clock.0 ≤ before) × (before < log.clock.1)
+  pub there : slice_get (writes q.clock.knows) before ≡ Some n.line.write
+  pub shows : ShowsReading n.line (reading_after (take n.stamp (writes q.clock.knows)))
 
--- the receipts stand in what was seen of all timers, at rising places behind what was seen before the call, and every run shows them that goes on from there
-pub record StandIn (p q : WorldPass) (notes : List Noted) : Type 0 where
-  pub rise : Rises (length p.timers.known.seen) (map (λ n. n.place) notes)
-  pub below : AllByRecursion (λ n. n.place < length q.timers.known.seen) notes
-  pub made : AllByRecursion (IsMade q.timers.known.seen) notes
-  pub shows : (e : Ending) → Follows q e → AllByRecursion (ShowsEntry e.run e.order) notes
+-- the entry of a note stands in what was seen of its object, in its call's span, and every record shows it that has these readings
+pub record IsObjectLeft (q : WorldPass) (log : CallLog) (n : ObjectNote) : Type 0 where
+  pub before : ℕ
+  pub number : before + 1 ≡ n.number
+  pub inside : ((log.objects n.object).0 ≤ before) × (before < (log.objects n.object).1)
+  pub step : ObjectMove
+  pub there : slice_get (seen_of q.objects n.object) before ≡ Some step
+  pub shows : (e : Ending) → GoesOnClock (writes q.clock.knows) e → ShowsObjectCall e.run.clock step.call.call step.reply n.entry
+
+-- a note is of something that was seen, and that its call did; of an entry the receipts say it
+abbrev pub IsSeen : (k : NoteKind) → WorldPass → CallLog → NoteOf k → Type 0
+IsSeen EntryNotes q log n = Unit
+IsSeen LookNotes q log n = IsLookNote q n
+IsSeen ObjectNotes q log n = IsObjectLeft q log n
+IsSeen SkipNotes q log n = IsSkipNote q n
+IsSeen WriteNotes q log n = IsWriteLeft q log n
+
+-- the receipts stand in what was seen of all timers, at rising places in their call's span, and every run shows them that goes on from there
+pub record StandAt (q : WorldPass) (log : CallLog) : Type 0 where
+  pub rise : Rises log.moves.0 (map (λ n. n.place) log.notes)
+  pub below : AllByRecursion (λ n. n.place < log.moves.1) log.notes
+  pub made : AllByRecursion (IsMade q.timers.known.seen) log.notes
+  pub shows : (e : Ending) → Follows q e → AllByRecursion (ShowsEntry e.run e.order) log.notes
 
 -- ---- a call
 
@@ -214,37 +246,16 @@ pub record KeepsCall (s : Script) (l : LaneOf) (call : Call) (a : Answer) (m : L
   pub sees : SeesOn l.pass m.pass
   -- the notes
   pub joins : m.notes ≡ both_noted l.notes added
-  pub bears : BearLabel l.label added
-  pub receipts : IsPermutation (map receipt notes) (map entry_in_note added.entries)
-  pub tells : TellActions added trace.actions
+  pub bears : (k : NoteKind) → AllByRecursion (λ n. label_of k n ≡ l.label) (list_of k added)
+  pub tells : TellLog (log_of l.pass m.pass notes trace) added
   -- no call writes more than once
   pub few : length added.writes ≤ 1
   pub places : AddsPlaces l.pass m.pass added
-  pub seen : AreSeen l.pass m.pass added
-  pub stand : StandIn l.pass m.pass notes
+  pub seen : (k : NoteKind) → AllByRecursion (IsSeen k m.pass (log_of l.pass m.pass notes trace)) (list_of k added)
+  pub stand : StandAt m.pass (log_of l.pass m.pass notes trace)
   -- the promise
   pub logged : IsLogged (log_of l.pass m.pass notes trace) call a (seen_by l.pass) (seen_by m.pass)
   pub promised : IsPromised s l.label.lane l.label.call (log_of l.pass m.pass notes trace) (Follows m.pass) call a (seen_by l.pass) (seen_by m.pass)
-
--- calls that a lane keeps in turn
-abbrev pub KeepsCalls : Script → LaneOf → List Call → List Answer → LaneOf → Type 0
-KeepsCalls s l [] [] m = m ≡ l
-KeepsCalls s l (c ∷ cs) (a ∷ more) m = (n : LaneOf) × (n.label ≡ l.label) × KeepsCall s l c a n × KeepsCalls s (next_of n) cs more m
-KeepsCalls s l [] (a ∷ more) m = ⊥
-KeepsCalls s l (c ∷ cs) [] m = ⊥
-
--- these are the script's calls of a lane, from a number on
-abbrev pub AreNextCalls : Script → ℕ → ℕ → List Call → Type 0
-AreNextCalls s lane index [] = Unit
-AreNextCalls s lane index (c ∷ cs) =
-    ((at : CallInRound) × (slice_get (calls_of s lane) index ≡ Some at) × (at.call ≡ c)) × AreNextCalls s lane (index + 1) cs
-
--- the logs of the calls
-abbrev pub logs_of : (s : Script) (l : LaneOf) (cs : List Call) (given : List Answer) (m : LaneOf) → KeepsCalls s l cs given m → List CallLog
-logs_of s l [] [] m kept = []
-logs_of s l (c ∷ cs) (a ∷ more) m kept = log_of l.pass kept.0.pass kept.2.notes kept.2.trace ∷ logs_of s (next_of kept.0) cs more m kept.3
-logs_of s l [] (a ∷ more) m kept = []
-logs_of s l (c ∷ cs) [] m kept = []
 
 -- a lane has seen no less
 pub record IsNoLess (before after : Seen) : Type 0 where

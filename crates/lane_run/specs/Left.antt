@@ -1,22 +1,17 @@
 -- What all lanes leave together at the end of a run: of each call what its lane kept, all notes, and what the last passes have seen.
 use Rattle.std.specs.List.{AllByRecursion, slice_get}
-use Rattle.std.specs.List.Sorted.{IsPermutation}
-use Rattle.std.specs.Prelude.{ℕ, ◌≡◌, ◌≤◌, ◌<◌, ◌+◌, ◌-◌, Option, None, Some, List, [], filter, get_or, length, map, take}
-use Rattle.clock_cell.specs.Views.{reading_after, writes}
+use Rattle.std.specs.Prelude.{ℕ, ◌≡◌, ◌≤◌, ◌<◌, ◌-◌, Option, None, Some, List, [], filter, get_or, length}
+use Rattle.clock_cell.specs.Views.{writes}
 use Rattle.clock_model.specs.Clocks.{last_stamp}
 use Rattle.lane_notes.specs.Notes.{NotesOf}
-use Rattle.lane_notes.specs.declared.notes.ObjectNote.{ObjectNote}
-use Rattle.lane_notes.specs.declared.notes.WriteNote.{WriteNote}
-use Rattle.pass_names.specs.Counts.{count}
-use Rattle.pass_names.specs.Passes.{is_place}
 use Rattle.record_text.specs.declared.record.Label.{Label}
 use Rattle.record_text.specs.declared.record.RunRecord.{RunRecord}
-use Rattle.run_history.specs.Promises.{GoesOnClock, HasLog}
-use Rattle.run_history.specs.Receipts.{AreFiled, Filed, IsMade, receipt, Rises, ShowsEntry}
+use Rattle.run_history.specs.Promises.{HasLog}
+use Rattle.run_history.specs.Receipts.{AreFiled, Filed, ShowsEntry}
 use Rattle.run_history.specs.Runs.{CallLog, Ending, IsJoined, Starts, course_of, clock_spans, moves_spans, notes_in, object_spans}
 use Rattle.run_history.specs.Rounds.{IsLedger}
 use Rattle.run_history.specs.Fits.{AreBehind, FitsLane, unseen}
-use Rattle.script_text.specs.Histories.{AreWrites, ShowsReading, clock_labels}
+use Rattle.script_text.specs.Histories.{AreWrites, clock_labels}
 use Rattle.script_text.specs.Objects.{IsLegalObject, kind_of, lines_of_object, object_labels}
 use Rattle.script_text.specs.Order.{calls_of, IsLabel, is_label}
 use Rattle.script_text.specs.Scripts.{IsInRange}
@@ -24,7 +19,7 @@ use Rattle.script_text.specs.declared.script.Script.{Script}
 use Rattle.clock_model.specs.Clocks.{at_stamp}
 use Rattle.record_text.specs.declared.record.Answer.{Answer}
 use Rattle.timer_objects.specs.Known.{seen_of}
-use Rattle.lane_run.specs.Kept.{Follows, IsLookNote, IsSkipNote, ObjectMove, ShowsObjectCall, TellActions, entry_in_note}
+use Rattle.lane_run.specs.Kept.{Follows, IsSeen, NoteKind, ObjectMove, StandAt, Tallies, TellLog, label_of, list_of}
 use Rattle.lane_run.specs.Worlds.{AreLast, ArePassesOf, IsWhole, IsWorldOf, WorldOf}
 use Rattle.lane_run.specs.declared.world.WorldPass.{WorldPass}
 
@@ -40,52 +35,14 @@ own_notes c notes = record {
   writes = filter (λ n. is_label c n.line.label) notes.writes;
 }
 
--- a call's notes are of what its lane kept of it
-pub record TellLog (log : CallLog) (own : NotesOf) : Type 0 where
-  pub receipts : IsPermutation (map receipt log.notes) (map entry_in_note own.entries)
-  pub tells : TellActions own log.trace.actions
-
--- its receipts stand in what the last pass has seen, at rising places in the call's span
-pub record StandAt (q : WorldPass) (log : CallLog) : Type 0 where
-  pub rise : Rises log.moves.0 (map (λ n. n.place) log.notes)
-  pub below : AllByRecursion (λ n. n.place < log.moves.1) log.notes
-  pub made : AllByRecursion (IsMade q.timers.known.seen) log.notes
-  pub shows : (e : Ending) → Follows q e → AllByRecursion (ShowsEntry e.run e.order) log.notes
-
--- the write of a note stands in what the last pass has seen, in its call's span, and its line shows the clock after it
-pub record IsWriteLeft (q : WorldPass) (log : CallLog) (n : WriteNote) : Type 0 where
-  pub before : ℕ
-  pub number : before + 1 ≡ n.stamp
-  pub inside : (log.clock.0 ≤ before) × (before < log.clock.1)
-  pub there : slice_get (writes q.clock.knows) before ≡ Some n.line.write
-  pub shows : ShowsReading n.line (reading_after (take n.stamp (writes q.clock.knows)))
-
--- the entry of a note stands in what the last pass has seen of its object, in its call's span, and every record shows it that has these readings
-pub record IsObjectLeft (q : WorldPass) (log : CallLog) (n : ObjectNote) : Type 0 where
-  pub before : ℕ
-  pub number : before + 1 ≡ n.number
-  pub inside : ((log.objects n.object).0 ≤ before) × (before < (log.objects n.object).1)
-  pub step : ObjectMove
-  pub there : slice_get (seen_of q.objects n.object) before ≡ Some step
-  pub shows : (e : Ending) → GoesOnClock (writes q.clock.knows) e → ShowsObjectCall e.run.clock step.call.call step.reply n.entry
-
 -- All notes with what lanes kept of their calls: each note is of a call of the script and of something that the last passes have seen, and the places
 -- that these passes have made are those of the notes.
 pub record AreLeft (s : Script) (q : WorldPass) (notes : NotesOf) (logs : Label → CallLog) : Type 0 where
-  -- of each call
   pub tell : (c : Label) → TellLog (logs c) (own_notes c notes)
   pub stand : (c : Label) → StandAt q (logs c)
-  -- of each note
-  pub entries : AllByRecursion (λ n. IsLabel s n.label) notes.entries
-  pub looks : AllByRecursion (λ n. IsLabel s n.label × IsLookNote q n) notes.looks
-  pub objects : AllByRecursion (λ n. IsLabel s n.label × IsObjectLeft q (logs n.label) n) notes.objects
-  pub skips : AllByRecursion (λ n. IsLabel s n.label × IsSkipNote q n) notes.skips
-  pub writes : AllByRecursion (λ n. IsLabel s n.line.label × IsWriteLeft q (logs n.line.label) n) notes.writes
+  pub seen : (k : NoteKind) → AllByRecursion (λ n. IsLabel s (label_of k n) × IsSeen k q (logs (label_of k n)) n) (list_of k notes)
   pub few : length notes.writes < last_stamp
-  -- of the places
-  pub timers_places : (t n : ℕ) → count (is_place t n) q.timers.known.mine ≡ count (is_place t n) (map (λ e. (e.timer, e.number)) notes.entries)
-  pub objects_places : (i n : ℕ) → count (is_place i n) q.objects.knows.pass.mine ≡ count (is_place i n) (map (λ e. (e.object, e.number)) notes.objects)
-  pub clock_places : (n : ℕ) → count (is_place 0 n) q.clock.knows.pass.mine ≡ count (is_place 0 n) (map (λ e. (0, e.stamp)) notes.writes)
+  pub places : Tallies q notes
 
 -- these are the last passes of the script's world, and what they know is true
 pub record AreLastOf (s : Script) (x : WorldOf) (q : WorldPass) : Type 0 where
