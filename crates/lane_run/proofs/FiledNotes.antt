@@ -1,45 +1,35 @@
 -- The sorted notes of entries, each with the place that its call's receipt has: they are what a record's lines of timers are made of.
+use Rattle.run_history.specs.Receipts as receipts
 use mathlib.Core.Bool.{cond}
-use Rattle.std.proofs.Common.{◌≡◌, ◌⊎◌, ℕ, ◌+◌, ◌<◌, ◌≤◌, zero, suc, true, false, nat_eq, Some, List, [], ◌∷◌, filter, length, map, take, arith, refl, sym, ap, ◌∙◌, subst}
+use Rattle.std.proofs.Common.{◌≡◌, ℕ, ◌+◌, ◌<◌, ◌≤◌, true, false, nat_eq, Some, List, [], ◌∷◌, filter, length, map, take, arith, refl, sym, ap, ◌∙◌, subst}
 use Rattle.std.specs.List.{AllByRecursion, slice_get}
 use Rattle.std.proofs.lemmas.List.{length-map}
-use Rattle.std.proofs.lemmas.Option.{same_Some}
 use Rattle.seq_timer.specs.declared.system.TimerEntry.{TimerEntry}
 use Rattle.lane_notes.specs.Notes.{NotesOf}
-use Rattle.lane_notes.specs.Records.{record_from}
-use Rattle.lane_notes.specs.Sorted.{is_of_list, IsSortedFrom, place_of_entry}
+use Rattle.lane_notes.specs.Records.{record_from, timer_line}
+use Rattle.lane_notes.specs.Sorted.{is_of_list, IsSortedFrom, place_of_entry, place_of_look}
 use Rattle.lane_notes.specs.declared.notes.EntryNote.{EntryNote}
-use Rattle.lane_notes.proofs.Lists.{entry_note_shape}
-use Rattle.lane_notes.proofs.Rising.{RiseBehind}
+use Rattle.lane_notes.proofs.Lists.{entry_note_shape, noted_lines-shown}
+use Rattle.lane_notes.proofs.Rising.{RiseBehind, RiseBehind-sorted}
 use Rattle.lane_notes.proofs.Standing.{stands_permuted, stood_before}
-use Rattle.lane_notes.proofs.WholeRecord.{lines_shape}
 use Rattle.record_text.specs.declared.record.Answer.{Answer}
-use Rattle.record_text.specs.declared.record.Entry.{Entry}
 use Rattle.record_text.specs.declared.record.Label.{Label}
 use Rattle.script_text.specs.Actions.{also}
 use Rattle.script_text.specs.Histories.{lines_of_timer}
 use Rattle.script_text.specs.Order.{IsLabel}
 use Rattle.script_text.specs.declared.script.Script.{Script}
-use Rattle.run_history.specs.Receipts as receipts
 use Rattle.run_history.specs.Receipts.{AreFiled, file_shape, Filed, files_on, IsMade, line_shape, Noted, receipt, RiseBy}
 use Rattle.run_history.specs.Runs.{CallLog}
 use Rattle.run_history.proofs.Known.{behind_all}
 use Rattle.run_history.proofs.Laid.{same_place}
-use Rattle.run_history.proofs.Lists.{all_at, each}
-use Rattle.lane_run.specs.Kept.{entry_in_note}
+use Rattle.run_history.proofs.Lists.{all_at, each, at_map, map_get}
 use Rattle.lane_run.specs.Left.{AreLastOf, AreLeft}
 use Rattle.lane_run.specs.Worlds.{WorldOf}
 use Rattle.lane_run.specs.declared.world.WorldPass.{WorldPass}
-use Rattle.record_text.specs.declared.record.TimerLine.{TimerLine}
-use Rattle.lane_notes.specs.Records.{noted_timer_lines, timer_line}
-use Rattle.lane_notes.specs.Sorted.{place_of_look}
-use Rattle.lane_notes.proofs.Lists.{noted_lines-shown}
-use Rattle.lane_notes.proofs.Rising.{RiseBehind-sorted}
-use Rattle.run_history.proofs.Lists.{at_map, map_get}
-use Rattle.lane_run.proofs.LastSeen.{entries_once, has_receipt, HasReceipt, is_told, note_made, noted_at, timers_past}
+use Rattle.lane_run.proofs.LastSeen.{entries_once, has_receipt, HasReceipt, is_told, note_made, noted_at, timer_lines_are}
 use Rattle.lane_run.proofs.Numbered.{as_many, at_most_one, number_within}
-use Rattle.lane_run.proofs.OwnLines.{lines_are, lines_long}
 use Rattle.lane_run.proofs.PartLists.{rises_lower}
+use Rattle.lane_run.proofs.OwnLines.{lines_long}
 
 -- ---- one entry, one receipt
 
@@ -119,20 +109,14 @@ module _ {s : Script} {x : WorldOf} {q : WorldPass} {notes sorted : NotesOf} {lo
       (st.0, at_map (file logs) pairs st.0 m.0 m.1 ∙ ap Some (file_is c j y at m.0 (ap (λ (n : EntryNote). n.label) m.2 ∙ t.label)
       (t.is ∙ ap (noted_at y.place) (sym m.2)))))
 
-  -- law: the record's lines of a timer are made of its sorted notes
-  pub timer_lines_are : (t : ℕ) → lines_of_timer (record_from sorted (length s.timers) answers) t ≡ noted_timer_lines t sorted.entries sorted.looks
-  timer_lines_are t = lines_are place_of_look timer_line place_of_entry sorted.entries sorted.looks (length s.timers) t
-      (as_many is.entries (entries_once last left t)) (timers_past last t)
-
   timer_shapes : (t : ℕ) → map line_shape (lines_of_timer (record_from sorted (length s.timers) answers) t)
       ≡ map entry_note_shape (filter (is_of_list place_of_entry t) sorted.entries)
-  timer_shapes t = ap (map line_shape) (timer_lines_are t)
+  timer_shapes t = ap (map line_shape) (timer_lines_are last left is answers t)
       ∙ noted_lines-shown place_of_look timer_line place_of_entry t sorted.entries sorted.looks line_shape entry_note_shape (λ n us. refl)
 
   -- law: each timer has as many lines as entries
   pub timer_lines_long : (t : ℕ) → length (lines_of_timer (record_from sorted (length s.timers) answers) t) ≡ receipts.count t seen
-  timer_lines_long t = lines_long is.entries (entries_once last left t) (λ (y : TimerLine). y.label) (λ (y : TimerLine). y.entry) (λ (n : EntryNote). n.entry)
-      (lines_of_timer (record_from sorted (length s.timers) answers) t) (timer_shapes t)
+  timer_lines_long t = lines_long is.entries (entries_once last left t) {label = λ y. y.label} {thing = λ y. y.entry} {told = λ n. n.entry} (record { same = timer_shapes t })
 
   -- law: the record's lines of timers are the receipts of all calls, sorted
   pub are_filed : AreFiled (record_from sorted (length s.timers) answers) seen (λ c. (logs c).notes) filed_notes

@@ -1,21 +1,21 @@
 -- What the last passes know at the end of a run: of which timers and objects entries are, and that each of them was noted once.
-use mathlib.Core.Bool.{cond}
-use Rattle.std.proofs.Common.{◌≡◌, ℕ, ◌<◌, ◌≤◌, zero, suc, nat_eq, Some, List, [], ◌∷◌, filter, length, map, arith, refl, sym, ap, ◌∙◌, subst}
-use Rattle.std.specs.List.{AllByRecursion, slice_get}
+use Rattle.run_history.specs.Receipts as receipts
+use Rattle.std.proofs.Common.{◌≡◌, ℕ, ◌<◌, ◌≤◌, zero, suc, Some, List, [], ◌∷◌, filter, length, map, arith, refl, sym, ap, ◌∙◌, subst}
+use Rattle.std.specs.List.{slice_get}
 use Rattle.std.proofs.Math.Logic.{⊎_elim}
-use Rattle.std.proofs.lemmas.Bool.{and_left, and_right, cases_lt, lt-leb, ne_eqb}
+use Rattle.std.proofs.lemmas.Bool.{and_right, cases_lt, lt-leb, and_parts, eqb-true}
 use Rattle.std.proofs.lemmas.List.{get_or_past, length-map}
 use Rattle.std.proofs.lemmas.Option.{same_Some}
 use Rattle.clock_cell.specs.Views.{writes}
 use Rattle.pass_names.specs.Counts.{count, one_if}
-use Rattle.pass_names.specs.Passes.{within}
+use Rattle.pass_names.specs.Passes.{within, is_place}
 use Rattle.seq_timer.specs.Systems.{after_entry, AreSystemSteps, entries_of, System}
 use Rattle.seq_timer.specs.declared.system.TimerEntry.{TimerEntry}
 use Rattle.base_row.specs.declared.view.Opening.{Opening}
 use Rattle.timer_objects.specs.Known.{seen_of}
 use Rattle.timer_objects.specs.Cells.{opened_cell}
 use Rattle.lane_notes.specs.Notes.{NotesOf}
-use Rattle.lane_notes.specs.Sorted.{place_of_entry, place_of_object, place_of_write}
+use Rattle.lane_notes.specs.Sorted.{place_of_entry, place_of_object, place_of_write, IsSortedFrom, place_of_look, place_of_skip}
 use Rattle.lane_notes.specs.declared.notes.EntryNote.{EntryNote}
 use Rattle.lane_notes.specs.declared.notes.WriteNote.{WriteNote}
 use Rattle.lane_notes.proofs.Rising.{is_at}
@@ -26,20 +26,21 @@ use Rattle.script_text.specs.Order.{is_label}
 use Rattle.script_text.specs.declared.script.Declaration.{Declaration}
 use Rattle.script_text.specs.declared.script.Script.{Script}
 use Rattle.run_history.specs.Courses.{clocks_of}
-use Rattle.run_history.specs.Receipts as receipts
 use Rattle.run_history.specs.Receipts.{IsMade, Noted, receipt}
 use Rattle.run_history.specs.Runs.{CallLog}
 use Rattle.run_history.proofs.Labels.{label_itself, same_label}
 use Rattle.run_history.proofs.Lists.{all_at, each}
-use Rattle.lane_run.specs.Kept.{entry_in_note, ObjectMove}
+use Rattle.lane_run.specs.Kept.{entry_in_note}
 use Rattle.lane_run.specs.Left.{AreLastOf, AreLeft}
 use Rattle.lane_run.specs.Worlds.{WorldOf}
 use Rattle.lane_run.specs.declared.world.WorldPass.{WorldPass}
 use Rattle.run_history.proofs.Shown.{entry_place}
-use Rattle.pass_names.specs.Passes.{is_place}
-use Rattle.std.proofs.lemmas.Bool.{and_parts, eqb-true}
 use Rattle.lane_notes.specs.declared.notes.ObjectNote.{ObjectNote}
-use Rattle.lane_run.proofs.Numbered.{AreEachOnce, count-map, nobody}
+use Rattle.lane_run.proofs.Numbered.{AreEachOnce, count-map, nobody, as_many, lines_are}
+use Rattle.lane_notes.specs.Records.{noted_object_lines, noted_timer_lines, object_line, record_from, timer_line}
+use Rattle.record_text.specs.declared.record.Answer.{Answer}
+use Rattle.script_text.specs.Histories.{lines_of_timer}
+use Rattle.script_text.specs.Objects.{lines_of_object}
 
 -- ---- entries and receipts
 
@@ -150,3 +151,14 @@ module _ {s : Script} {x : WorldOf} {q : WorldPass} (last : AreLastOf s x q) whe
       each = λ n. sym (count-map (λ (m : WriteNote). (0, m.stamp)) (is_place 0 n) notes.writes) ∙ sym (left.clock_places n)
           ∙ (last.passes.known.all_entries last.last.clock).once 0 n;
     }
+
+    -- law: so the record's lines of a timer, and those of an object, are made of its sorted notes
+    pub timer_lines_are : {sorted : NotesOf} → IsSortedFrom notes sorted → (answers : List (List Answer)) (t : ℕ)
+        → lines_of_timer (record_from sorted (length s.timers) answers) t ≡ noted_timer_lines t sorted.entries sorted.looks
+    timer_lines_are {sorted = sorted} is answers t = lines_are place_of_look timer_line place_of_entry sorted.entries sorted.looks (length s.timers) t
+        (as_many is.entries (entries_once t)) (timers_past t)
+
+    pub object_lines_are : {sorted : NotesOf} → IsSortedFrom notes sorted → (answers : List (List Answer)) (i : ℕ)
+        → lines_of_object (record_from sorted (length s.timers) answers) i ≡ noted_object_lines i sorted.objects sorted.skips
+    object_lines_are {sorted = sorted} is answers i = lines_are place_of_skip object_line place_of_object sorted.objects sorted.skips (length s.timers) i
+        (as_many is.objects (objects_once i)) (λ past. ap length (objects_past i past))

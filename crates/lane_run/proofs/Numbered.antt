@@ -1,6 +1,6 @@
 -- Sorted notes of a list of which each number is noted once: the note at a place has the place's number.
 use mathlib.Core.Bool.{cond}
-use Rattle.std.proofs.Common.{◌≡◌, ◌&&◌, ℕ, ◌+◌, ◌<◌, ◌≤◌, zero, suc, Bool, true, false, nat_eq, nat_le, nat_lt, Some, List, [], ◌∷◌, filter, length, map, arith, refl, sym, ap, ◌∙◌, subst}
+use Rattle.std.proofs.Common.{◌≡◌, ℕ, ◌+◌, ◌<◌, ◌≤◌, zero, suc, Bool, true, false, nat_eq, nat_le, nat_lt, Some, List, [], ◌∷◌, filter, length, map, arith, refl, sym, ap, ◌∙◌, subst, get_or}
 use Rattle.std.specs.List.{AllByRecursion, slice_get}
 use Rattle.std.proofs.Math.Logic.{⊎_elim}
 use Rattle.std.proofs.lemmas.Bool.{and_from, and_left, and_parts, and_right, both_ways, cases_lt, eq-eqb, eqb-true, le-leb, leb-true, lt-ltb, ltb-true, ne_eqb, or_left, or_right}
@@ -10,10 +10,11 @@ use Rattle.pass_names.specs.Counts.{count, one_if}
 use Rattle.pass_names.specs.Passes.{within}
 use Rattle.lane_notes.specs.Sorted.{comes_before, is_of_list, IsSortedOf, Place, StandInOrder}
 use Rattle.lane_notes.proofs.Rising.{is_at, strictly}
-use Rattle.lane_notes.proofs.Shelves.{add_later, add_none}
+use Rattle.lane_notes.proofs.Shelves.{add_later, add_none, each_below-past, get_or-each_below}
 use Rattle.lane_notes.proofs.Standing.{AtMostOne, AtMostOne-head, filter_stands_in, HasPlace, stands_in_filter, stood_before}
 use Rattle.run_history.proofs.Lists.{all_at}
 use Rattle.run_history.proofs.Permuted.{filter_permuted}
+use Rattle.lane_notes.specs.Records.{each_below, line_at_number, noted_lines, numbered_from}
 
 -- law: what is counted among things that are made of others
 pub count-map : {X Y : Type 0} (f : X → Y) (p : Y → Bool) (xs : List X) → count p (map f xs) ≡ length (filter (λ x. p (f x)) xs)
@@ -153,3 +154,14 @@ module _ {X : Type 0} {place : X → Place} {l many : ℕ} {xs sorted : List X} 
         list = eqb-true (place x).list l f.1;
         number = number_at place 1 j (filter (is_of_list place l) sorted) x are_numbered at;
       }
+
+-- law: a list's lines are made of its notes, also where there is no such list, and so no note
+pub lines_are : {N U L : Type 0} (under : U → Place) (line : N → List U → L) (place : N → Place) (notes : List N) (unders : List U) (lists l : ℕ) {many : ℕ}
+    → length (filter (is_of_list place l) notes) ≡ many → (lists ≤ l → many ≡ 0)
+    → get_or (each_below (λ i. noted_lines under line place i notes unders) lists) l [] ≡ noted_lines under line place l notes unders
+lines_are under line place notes unders lists l long past = ⊎_elim
+    (λ (less : l < lists). get_or-each_below (λ i. noted_lines under line place i notes unders) lists l [] less)
+    (λ (le : lists ≤ l). each_below-past (λ i. noted_lines under line place i notes unders) lists l [] le
+    ∙ sym (ap (numbered_from (line_at_number under line (filter (is_of_list under l) unders)) 1) (nobody (filter (is_of_list place l) notes)
+    (λ n st. absurd (omega (arith, slice_get_within (filter (is_of_list place l) notes) st.0 n st.1, long, past le))))))
+    (cases_lt l lists)
