@@ -19,7 +19,7 @@ use Rattle.script_text.specs.declared.script.Script.{Script}
 use Rattle.lane_notes.proofs.Rising.{is_at, strictly}
 use Rattle.lane_notes.proofs.WholeRecord.{IsUnder}
 use Rattle.run_history.proofs.Lists.{each, map_get}
-use Rattle.lane_run.proofs.OwnLines.{filter_both, own_on, own_sorted}
+use Rattle.lane_run.proofs.OwnLines.{filter_both, own_on, own_sorted, also-map, told_of}
 
 -- ---- at most one look of a call at a number
 
@@ -125,14 +125,8 @@ module _ {U A : Type 0} (place : U → Place) (thing : U → A) where
         inside u (stood_before xs sorted f.0.0 u is.same f.0.1) (eqb-true (place u).list l f.1))))
 
   own_shapes : (c : Label) (us : List U) → of_call c (map shape us) ≡ map (λ u. ((place u).number, thing u)) (filter (λ u. is_label c (place u).label) us)
-  own_shapes c [] = refl
-  own_shapes c (u ∷ us) =
-      let rest = filter (λ v. is_label c (place v).label) us in
-      let shapes = filter (λ (e : Label × (ℕ × A)). is_label c e.0) (map shape us) in
-      elim (is_label c (place u).label) as (λ b. map (λ e. e.1) (cond b (shape u ∷ shapes) shapes) ≡ map (λ v. ((place v).number, thing v)) (cond b (u ∷ rest) rest)) [
-        | true ↦ ap (λ ys. ((place u).number, thing u) ∷ ys) (own_shapes c us)
-        | false ↦ own_shapes c us
-      ]
+  own_shapes c us = told_of (λ vs. of_call c (map shape vs)) (λ u. is_label c (place u).label) (λ u. ((place u).number, thing u)) refl
+      (λ u vs. sym (also-map (is_label c (place u).label) (λ e. e.1) (shape u) (filter (λ e. is_label c e.0) (map shape vs)) refl)) us
 
   -- law: those of a call are its notes on the list, in some order
   pub hung_own : (l : ℕ) (c : Label) {xs sorted : List U} → IsSortedOf place xs sorted

@@ -5,7 +5,7 @@ use Rattle.std.proofs.Common.{◌≡◌, ℕ, ◌+◌, ◌-◌, ◌<◌, ◌≤�
 use Rattle.std.specs.List.{slice_get}
 use Rattle.std.proofs.Math.Logic.{⊎_elim}
 use Rattle.std.proofs.lemmas.Bool.{cases_lt}
-use Rattle.std.proofs.lemmas.List.{append-nil, get_or_past, length-map}
+use Rattle.std.proofs.lemmas.List.{get_or_past, length-map}
 use Rattle.std.proofs.lemmas.Option.{same_Some}
 use Rattle.counted_row.specs.Views.{StateAfter}
 use Rattle.clock_cell.specs.Views.{writes}
@@ -29,7 +29,7 @@ use Rattle.run_history.specs.Fits.{AreBehind}
 use Rattle.run_history.specs.Promises.{GoesOnClock}
 use Rattle.run_history.specs.Runs.{CallLog, Ending, Starts}
 use Rattle.run_history.proofs.Lists.{all_at, each, map_get}
-use Rattle.lane_run.specs.Kept.{AreObjectLines, FollowsObject, ObjectMove, ShowsObjectCall, made_on}
+use Rattle.lane_run.specs.Kept.{AreObjectLines, ObjectMove, ShowsObjectCall, made_on}
 use Rattle.lane_run.specs.Left.{AreLastOf, AreLeft, ending_of, IsObjectLeft, span_of}
 use Rattle.lane_run.specs.Worlds.{WorldOf, decl_as}
 use Rattle.lane_run.specs.declared.world.WorldPass.{WorldPass}
@@ -146,19 +146,8 @@ module _ {s : Script} {x : WorldOf} {q : WorldPass} {notes sorted : NotesOf} {lo
         let its = (shows_at i j line at_l).1 in (
           subst (λ (g : ObjectMove). ShowsObjectCall r.clock g.call.call g.reply line.entry) (same_Some its.0 h (sym its.1 ∙ at_h))
               (its.2 e (clock_goes_on last left is e refl)),
-          ap (λ n. span_of (slice_get (seen_of q.objects i) n)) (one_off j) ∙ ap span_of at_h,
+          ap (λ n. span_of (slice_get (seen_of q.objects i) n)) {y = j} (omega arith) ∙ ap span_of at_h,
         ))
-      where
-        one_off : (j : ℕ) → 1 + j - 1 ≡ j
-        one_off j = omega arith
-
-    -- law: so the run goes on from what was seen of each object
-    pub object_goes_on : (i : ℕ) → FollowsObject e i (seen_of q.objects i)
-    object_goes_on i = record {
-      history = seen_of q.objects i;
-      goes_on = record { rest = []; whole = sym (append-nil (seen_of q.objects i)) };
-      lines = object_lines_show i;
-    }
 
     -- law: each object's lines are a history that such an object gives, and the spans of its entries follow one another
     pub object_histories : (i : ℕ) → IsLegalObject s r i (kind_of s i) × AreBehind (e.spans i) 1 0 (lines_of_object r i)

@@ -40,7 +40,7 @@ turn_filters p o xs =
     filter_both p o xs ∙ filter_agree (λ x. o x && p x) (λ x. p x && o x) (λ x. and_comm (o x) (p x)) xs ∙ sym (filter_both o p xs)
 
 -- what is made of an item that passes a test, in front of what is made of others
-also-map : {X Y : Type 0} (b : Bool) (f : X → Y) (x : X) (xs : List X) {ys : List Y} → ys ≡ map f xs → also b (f x) ys ≡ map f (cond b (x ∷ xs) xs)
+pub also-map : {X Y : Type 0} (b : Bool) (f : X → Y) (x : X) (xs : List X) {ys : List Y} → ys ≡ map f xs → also b (f x) ys ≡ map f (cond b (x ∷ xs) xs)
 also-map true f x xs is = ap (λ ys. f x ∷ ys) is
 also-map false f x xs is = is
 
@@ -88,8 +88,8 @@ module _ {X L A : Type 0} {place : X → Place} {l many : ℕ} {xs sorted : List
       let m = map_get {Y = Label × A} (λ (n : X). ((place n).label, told n)) (filter (is_of_list place l) sorted) j (label y, thing y)
       (ap (λ zs. slice_get zs j) (sym show.same) ∙ at_map {Y = Label × A} (λ (z : L). (label z, thing z)) lines j y at) in
       let n = noted_at is once j m.0 m.1 in
-      let b = holds m.0 n.noted n.list in
-      let before : b.0 ≡ j = omega (arith, b.1, n.number) in
+      let b = holds m.0 n.0 n.1 in
+      let before : b.0 ≡ j = omega (arith, b.1, n.2) in
       subst (λ q. P q j) m.2 (subst (P ((place m.0).label, told m.0)) before b.2)
 
   module _ {B : Type 0} (f : A → B) (c : Label) where
