@@ -25,7 +25,8 @@ use Rattle.lane_run.specs.Left.{AreLastOf, AreLeft}
 use Rattle.lane_run.specs.Worlds.{WorldOf}
 use Rattle.lane_run.specs.declared.world.WorldPass.{WorldPass}
 use Rattle.lane_run.proofs.LastSeen.{writes_once}
-use Rattle.lane_run.proofs.OwnLines.{at_line, InSpan, lines_long, own_lines}
+use Rattle.lane_run.proofs.OwnLines.{at_line, InSpan, lines_long, own_lines, ShowNotes}
+use Rattle.std.proofs.lemmas.Simd.{map-map}
 
 -- ---- lines that show readings
 
@@ -45,12 +46,6 @@ all_of_clock : (ns : List WriteNote) → filter (is_of_list place_of_write 0) ns
 all_of_clock [] = refl
 all_of_clock (n ∷ ns) = ap (λ ms. n ∷ ms) (all_of_clock ns)
 
--- its lines are those of the notes
-shapes : (ns : List WriteNote) → map {B = Label × ClockLine} (λ y. (y.label, y)) (map (λ n. n.line) ns)
-    ≡ map {B = Label × ClockLine} (λ n. (n.line.label, n.line)) (filter (is_of_list place_of_write 0) ns)
-shapes [] = refl
-shapes (n ∷ ns) = ap (λ ys. (n.line.label, n.line) ∷ ys) (shapes ns)
-
 -- ---- the record's
 
 module _ {s : Script} {x : WorldOf} {q : WorldPass} {notes sorted : NotesOf} {logs : Label → CallLog} (last : AreLastOf s x q) (left : AreLeft s q notes logs)
@@ -61,15 +56,21 @@ module _ {s : Script} {x : WorldOf} {q : WorldPass} {notes sorted : NotesOf} {lo
   abbrev pub clock_lines : List ClockLine
   clock_lines = map (λ n. n.line) sorted.writes
 
+  shown : ShowNotes place_of_write (λ y. y.label) (λ y. y) (λ n. n.line) clock_lines (filter (is_of_list place_of_write 0) sorted.writes)
+  shown = record {
+    same = map-map (λ (y : ClockLine). (y.label, y)) (λ (n : WriteNote). n.line) sorted.writes
+        ∙ ap (map {B = Label × ClockLine} (λ (n : WriteNote). (n.line.label, n.line))) (sym (all_of_clock sorted.writes));
+  }
+
   pub clock_lines_long : length clock_lines ≡ length seen
-  clock_lines_long = lines_long is.writes (writes_once last left) (λ y. y.label) (λ y. y) (λ n. n.line) clock_lines (shapes sorted.writes)
+  clock_lines_long = lines_long is.writes (writes_once last left) shown
 
   -- a line's write was seen at its place, in its call's span, and the line shows the reading after it
   abbrev Shows : Label × ClockLine → ℕ → Type 0
   Shows y k = InSpan s (λ c. (logs c).clock) y.0 k × (slice_get seen k ≡ Some y.1.write) × ShowsReading y.1 (reading_after (take (suc k) seen))
 
   shows_at : (k : ℕ) (line : ClockLine) → slice_get clock_lines k ≡ Some line → Shows (line.label, line) k
-  shows_at = at_line is.writes (writes_once last left) (λ y. y.label) (λ y. y) (λ n. n.line) clock_lines (shapes sorted.writes) Shows (λ n st of.
+  shows_at = at_line is.writes (writes_once last left) shown Shows (λ n st of.
       let its = all_at (λ m. IsLabel s m.line.label × IsWriteLeft q (logs m.line.label) m) notes.writes st.0 n (left.seen WriteNotes) st.1 in (
         its.1.before,
         its.1.number,
@@ -106,7 +107,7 @@ module _ {s : Script} {x : WorldOf} {q : WorldPass} {notes sorted : NotesOf} {lo
   -- law: those of a call are what it wrote
   pub clock_own : (c : Label) → own (λ line. line.label) (λ line. line.write) c 1 clock_lines ≡ wrote (logs c).trace.actions
   clock_own c =
-      own_lines is.writes (writes_once last left) (λ y. y.label) (λ y. y) (λ n. n.line) clock_lines (shapes sorted.writes) (λ y. y.write) c
+      own_lines is.writes (writes_once last left) shown (λ y. y.write) c
       (wrote (logs c).trace.actions) (left.tell c).tells.writes_rise
       (ap (map {B = ℕ × Write} (λ (n : WriteNote). (n.stamp, n.line.write))) (all_of_clock (filter (λ n. is_label c n.line.label) notes.writes))
       ∙ (left.tell c).tells.writes)

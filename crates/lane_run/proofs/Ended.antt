@@ -1,7 +1,7 @@
 -- The record of what all lanes leave is that of a run.
 use Rattle.std.proofs.Common.{◌≤◌, List, length, sym, subst, refl}
 use Rattle.std.proofs.lemmas.List.{length-map}
-use Rattle.seq_timer.specs.Systems.{AreSystemSteps, first_system, IsSystemHistory, openings}
+use Rattle.seq_timer.specs.Systems.{AreSystemSteps, first_system, openings}
 use Rattle.base_row.specs.declared.view.Opening.{Opening}
 use Rattle.record_text.specs.declared.record.Answer.{Answer}
 use Rattle.record_text.specs.declared.record.Label.{Label}
@@ -18,13 +18,6 @@ use Rattle.lane_run.specs.declared.world.WorldPass.{WorldPass}
 use Rattle.lane_run.proofs.HungLines.{looks_under, skips_under}
 use Rattle.lane_run.proofs.Recorded.{recorded}
 
--- law: what the last pass of the timers has seen is a history of the script's timers and bases
-pub last_history : (s : Script) (x : WorldOf) (q : WorldPass) → AreLastOf s x q → IsSystemHistory s.bases (clocks_of s) s.limit q.timers.known.seen
-last_history s x q last =
-    subst (λ n. AreSystemSteps s.bases n (first_system (openings (clocks_of s) s.limit)) q.timers.known.seen) (length-map (clocks_of s) _)
-    (subst (λ (o : Opening). AreSystemSteps o.bases (length o.timers) (first_system o.timers) q.timers.known.seen) last.world.timers
-    last.passes.timers.knows.history)
-
 module _ {s : Script} {x : WorldOf} {q : WorldPass} {notes sorted : NotesOf} {logs : Label → CallLog} {starts : Starts} {answers : List (List Answer)}
     (last : AreLastOf s x q) (left : AreLeft s q notes logs) (is : IsSortedFrom notes sorted) (rounds : AreByRounds s q logs starts answers) where
   abbrev e : Ending
@@ -35,7 +28,9 @@ module _ {s : Script} {x : WorldOf} {q : WorldPass} {notes sorted : NotesOf} {lo
   is_ending =
       let all = recorded last left is answers starts in
       record {
-        history = last_history s x q last;
+        history = subst (λ n. AreSystemSteps s.bases n (first_system (openings (clocks_of s) s.limit)) q.timers.known.seen) (length-map (clocks_of s) _)
+            (subst (λ (o : Opening). AreSystemSteps o.bases (length o.timers) (first_system o.timers) q.timers.known.seen) last.world.timers
+            last.passes.timers.knows.history);
         sorted = all.sorted;
         filed = all.filed;
         entries = all.entries;

@@ -1,58 +1,34 @@
 -- The sorted notes of entries, each with the place that its call's receipt has: they are what a record's lines of timers are made of.
+use Rattle.run_history.specs.Receipts as receipts
 use mathlib.Core.Bool.{cond}
-use Rattle.std.proofs.Common.{◌≡◌, ◌⊎◌, ℕ, ◌+◌, ◌<◌, ◌≤◌, zero, suc, true, false, nat_eq, Some, List, [], ◌∷◌, filter, length, map, take, arith, refl, sym, ap, ◌∙◌, subst}
+use Rattle.std.proofs.Common.{◌≡◌, ℕ, ◌+◌, ◌<◌, ◌≤◌, true, false, nat_eq, Some, List, [], ◌∷◌, filter, length, map, take, arith, refl, sym, ap, ◌∙◌, subst}
 use Rattle.std.specs.List.{AllByRecursion, slice_get}
 use Rattle.std.proofs.lemmas.List.{length-map}
-use Rattle.std.proofs.lemmas.Option.{same_Some}
 use Rattle.seq_timer.specs.declared.system.TimerEntry.{TimerEntry}
 use Rattle.lane_notes.specs.Notes.{NotesOf}
-use Rattle.lane_notes.specs.Records.{record_from}
-use Rattle.lane_notes.specs.Sorted.{is_of_list, IsSortedFrom, place_of_entry}
+use Rattle.lane_notes.specs.Records.{record_from, timer_line}
+use Rattle.lane_notes.specs.Sorted.{is_of_list, IsSortedFrom, place_of_entry, place_of_look}
 use Rattle.lane_notes.specs.declared.notes.EntryNote.{EntryNote}
-use Rattle.lane_notes.proofs.Lists.{entry_note_shape}
-use Rattle.lane_notes.proofs.Rising.{RiseBehind}
+use Rattle.lane_notes.proofs.Lists.{entry_note_shape, noted_lines-shown}
+use Rattle.lane_notes.proofs.Rising.{RiseBehind, RiseBehind-sorted}
 use Rattle.lane_notes.proofs.Standing.{stands_permuted, stood_before}
-use Rattle.lane_notes.proofs.WholeRecord.{lines_shape}
 use Rattle.record_text.specs.declared.record.Answer.{Answer}
-use Rattle.record_text.specs.declared.record.Entry.{Entry}
 use Rattle.record_text.specs.declared.record.Label.{Label}
 use Rattle.script_text.specs.Actions.{also}
-use Rattle.script_text.specs.Histories.{lines_of_timer}
 use Rattle.script_text.specs.Order.{IsLabel}
 use Rattle.script_text.specs.declared.script.Script.{Script}
-use Rattle.run_history.specs.Receipts as receipts
-use Rattle.run_history.specs.Receipts.{AreFiled, file_shape, Filed, files_on, IsMade, line_shape, Noted, receipt, RiseBy}
+use Rattle.run_history.specs.Receipts.{AreFiled, file_shape, Filed, files_on, IsMade, line_shape, Noted, RiseBy}
 use Rattle.run_history.specs.Runs.{CallLog}
 use Rattle.run_history.proofs.Known.{behind_all}
 use Rattle.run_history.proofs.Laid.{same_place}
-use Rattle.run_history.proofs.Lists.{all_at, each}
+use Rattle.run_history.proofs.Lists.{all_at, each, at_map, map_get}
 use Rattle.lane_run.specs.Kept.{EntryNotes}
-use Rattle.lane_run.specs.Kept.{entry_in_note}
 use Rattle.lane_run.specs.Left.{AreLastOf, AreLeft}
 use Rattle.lane_run.specs.Worlds.{WorldOf}
 use Rattle.lane_run.specs.declared.world.WorldPass.{WorldPass}
-use Rattle.record_text.specs.declared.record.TimerLine.{TimerLine}
-use Rattle.lane_notes.specs.Records.{noted_timer_lines, timer_line}
-use Rattle.lane_notes.specs.Sorted.{place_of_look}
-use Rattle.lane_notes.proofs.Lists.{noted_lines-shown}
-use Rattle.lane_notes.proofs.Rising.{RiseBehind-sorted}
-use Rattle.run_history.proofs.Lists.{at_map, map_get}
-use Rattle.lane_run.proofs.LastSeen.{entries_once, has_receipt, HasReceipt, is_told, note_made, noted_at, timers_past}
+use Rattle.lane_run.proofs.LastSeen.{entries_once, has_receipt, HasReceipt, is_told, note_made, noted_at, timer_lines_are}
 use Rattle.lane_run.proofs.Numbered.{as_many, at_most_one, number_within}
-use Rattle.lane_run.proofs.OwnLines.{lines_are, lines_long}
 use Rattle.lane_run.proofs.PartLists.{rises_lower}
-
--- ---- one entry, one receipt
-
--- two receipts with one entry's number were made at one place
-same_receipt : (order : List TimerEntry) (x y : Noted) → IsMade order x → IsMade order y → x.timer ≡ y.timer → x.number ≡ y.number → x.place ≡ y.place
-same_receipt order x y one two timer number =
-    same_place order x.place y.place y.timer one.step two.step one.there two.there (one.timer ∙ timer) two.timer
-    (less_one (receipts.count y.timer (take x.place order)) (receipts.count y.timer (take y.place order)) x.number y.number
-    (subst (λ t. receipts.count t (take x.place order) + 1 ≡ x.number) timer one.number) two.number number)
-  where
-    less_one : (a b m n : ℕ) → a + 1 ≡ m → b + 1 ≡ n → m ≡ n → a ≡ b
-    less_one a b m n e f g = omega (arith, e, f, g)
 
 -- ---- notes with their receipts
 
@@ -101,13 +77,17 @@ module _ {s : Script} {x : WorldOf} {q : WorldPass} {notes sorted : NotesOf} {lo
   abbrev pub filed_notes : List Filed
   filed_notes = map (file logs) pairs
 
-  -- a receipt is that of its note
+  -- two receipts with one entry's number are one
   file_is : (c : Label) (j : ℕ) (y : Noted) → slice_get (logs c).notes j ≡ Some y → (p : WithReceipt logs) → p.0.label ≡ c → y ≡ noted_at y.place p.0
       → file logs p ≡ record { label = c; note = y }
   file_is c j y at p label told =
-      let made = all_at (IsMade seen) (logs c).notes j y (left.stand c).made at in
-      let place : p.1.place ≡ y.place = same_receipt seen (noted_at p.1.place p.0) y (note_made left p.0 p.1) made
-      (ap (λ (z : Noted). z.timer) (sym told)) (ap (λ (z : Noted). z.number) (sym told)) in
+      let one = note_made left p.0 p.1 in
+      let two = all_at (IsMade seen) (logs c).notes j y (left.stand c).made at in
+      let timer : p.0.timer ≡ y.timer = ap (λ (z : Noted). z.timer) (sym told) in
+      let its : receipts.count y.timer (take p.1.place seen) + 1 ≡ p.0.number =
+      subst (λ t. receipts.count t (take p.1.place seen) + 1 ≡ p.0.number) timer one.number in
+      let place : p.1.place ≡ y.place = same_place seen p.1.place y.place y.timer one.step two.step one.there two.there (one.timer ∙ timer) two.timer
+      (omega (arith, its, two.number, ap (λ (z : Noted). z.number) told)) in
       ap (λ l. record { label = l; note = noted_at p.1.place p.0 }) label ∙ ap (λ k. record { label = c; note = noted_at k p.0 }) place
       ∙ ap (λ z. record { label = c; note = z }) (sym told)
 
@@ -115,53 +95,36 @@ module _ {s : Script} {x : WorldOf} {q : WorldPass} {notes sorted : NotesOf} {lo
   each_filed : (c : Label) → AllByRecursion (λ y. (i : ℕ) × (slice_get filed_notes i ≡ Some (record { label = c; note = y }))) (logs c).notes
   each_filed c = each (λ y. (i : ℕ) × (slice_get filed_notes i ≡ Some (record { label = c; note = y }))) (logs c).notes (λ j y at.
       let t = is_told left c j y at in
-      let st = stands_permuted notes.entries sorted.entries t.noted.0 t.note is.entries.same t.noted.1 in
-      let m = map_get (λ (p : WithReceipt logs). p.0) pairs st.0 t.note (ap (λ ns. slice_get ns st.0) (are_notes logs sorted.entries each_has) ∙ st.1) in
-      (st.0, at_map (file logs) pairs st.0 m.0 m.1 ∙ ap Some (file_is c j y at m.0 (ap (λ (n : EntryNote). n.label) m.2 ∙ t.label)
-      (t.is ∙ ap (noted_at y.place) (sym m.2)))))
+      let st = stands_permuted notes.entries sorted.entries t.1.0 t.0 is.entries.same t.1.1 in
+      let m = map_get (λ (p : WithReceipt logs). p.0) pairs st.0 t.0 (ap (λ ns. slice_get ns st.0) (are_notes logs sorted.entries each_has) ∙ st.1) in
+      (st.0, at_map (file logs) pairs st.0 m.0 m.1 ∙ ap Some (file_is c j y at m.0 (ap (λ (n : EntryNote). n.label) m.2 ∙ t.2)
+      (t.3 ∙ ap (noted_at y.place) (sym m.2)))))
 
-  -- law: the record's lines of a timer are made of its sorted notes
-  pub timer_lines_are : (t : ℕ) → lines_of_timer (record_from sorted (length s.timers) answers) t ≡ noted_timer_lines t sorted.entries sorted.looks
-  timer_lines_are t = lines_are place_of_look timer_line place_of_entry sorted.entries sorted.looks (length s.timers) t
-      (as_many is.entries (entries_once last left t)) (timers_past last t)
-
-  timer_shapes : (t : ℕ) → map line_shape (lines_of_timer (record_from sorted (length s.timers) answers) t)
-      ≡ map entry_note_shape (filter (is_of_list place_of_entry t) sorted.entries)
-  timer_shapes t = ap (map line_shape) (timer_lines_are t)
-      ∙ noted_lines-shown place_of_look timer_line place_of_entry t sorted.entries sorted.looks line_shape entry_note_shape (λ n us. refl)
-
-  -- law: each timer has as many lines as entries
-  pub timer_lines_long : (t : ℕ) → length (lines_of_timer (record_from sorted (length s.timers) answers) t) ≡ receipts.count t seen
-  timer_lines_long t = lines_long is.entries (entries_once last left t) (λ (y : TimerLine). y.label) (λ (y : TimerLine). y.entry) (λ (n : EntryNote). n.entry)
-      (lines_of_timer (record_from sorted (length s.timers) answers) t) (timer_shapes t)
+  shapes : (t : ℕ) → map file_shape (files_on t filed_notes) ≡ map entry_note_shape (filter (is_of_list place_of_entry t) sorted.entries)
+  shapes t = files_lines logs t pairs ∙ ap (λ ns. map entry_note_shape (filter (is_of_list place_of_entry t) ns)) (are_notes logs sorted.entries each_has)
 
   -- law: the record's lines of timers are the receipts of all calls, sorted
   pub are_filed : AreFiled (record_from sorted (length s.timers) answers) seen (λ c. (logs c).notes) filed_notes
-  are_filed =
-      let lines : (t : ℕ) → map line_shape (lines_of_timer (record_from sorted (length s.timers) answers) t) ≡ map file_shape (files_on t filed_notes) = λ t.
-      timer_shapes t ∙ ap (λ ns. map entry_note_shape (filter (is_of_list place_of_entry t) ns)) (sym (are_notes logs sorted.entries each_has))
-      ∙ sym (files_lines logs t pairs) in
-      record {
-        rise = λ c. rises_lower 0 (logs c).moves.0 (map (λ y. y.place) (logs c).notes) (omega arith) (left.stand c).rise;
-        made = λ c. (left.stand c).made;
-        filed = each_filed;
-        back = λ i f at. let m = map_get (file logs) pairs i f at in
-            (m.0.1.index, subst (λ (g : Filed). slice_get (logs g.label).notes m.0.1.index ≡ Some g.note) m.2 m.0.1.there);
-        sorts = files_rise logs 0 0 pairs (subst (RiseBehind place_of_entry 0 0) (sym (are_notes logs sorted.entries each_has))
-            (RiseBehind-sorted place_of_entry notes.entries sorted.entries is.entries (λ l n. at_most_one is.entries (entries_once last left l) n) each_some));
-        as_many = λ t. sym (length-map (files_on t filed_notes) file_shape) ∙ ap length (sym (lines t))
-            ∙ length-map (lines_of_timer (record_from sorted (length s.timers) answers) t) line_shape ∙ timer_lines_long t;
-        lines = lines;
-      }
-    where
-      each_some : AllByRecursion (λ n. 1 ≤ n.number) notes.entries
-      each_some = each (λ n. 1 ≤ n.number) notes.entries (λ p n at. (number_within is.entries (entries_once last left n.timer) n (p, at) refl).0)
+  are_filed = record {
+    rise = λ c. rises_lower 0 (logs c).moves.0 (map (λ y. y.place) (logs c).notes) (omega arith) (left.stand c).rise;
+    made = λ c. (left.stand c).made;
+    filed = each_filed;
+    back = λ i f at. let m = map_get (file logs) pairs i f at in
+        (m.0.1.index, subst (λ (g : Filed). slice_get (logs g.label).notes m.0.1.index ≡ Some g.note) m.2 m.0.1.there);
+    sorts = files_rise logs 0 0 pairs (subst (RiseBehind place_of_entry 0 0) (sym (are_notes logs sorted.entries each_has))
+        (RiseBehind-sorted place_of_entry notes.entries sorted.entries is.entries (λ l n. at_most_one is.entries (entries_once last left l) n)
+        (each _ notes.entries (λ p n at. (number_within is.entries (entries_once last left n.timer) n (p, at) refl).0))));
+    as_many = λ t. sym (length-map (files_on t filed_notes) file_shape) ∙ ap length (shapes t)
+        ∙ length-map (filter (is_of_list place_of_entry t) sorted.entries) entry_note_shape ∙ as_many is.entries (entries_once last left t);
+    lines = λ t. ap (map line_shape) (timer_lines_are last left is answers t)
+        ∙ noted_lines-shown place_of_look timer_line place_of_entry t sorted.entries sorted.looks line_shape entry_note_shape (λ n us. refl) ∙ sym (shapes t);
+  }
 
   -- law: receipts are of calls of the script, in their calls' spans
   pub receipts_inside : (c : Label) → AllByRecursion (λ y. IsLabel s c × ((logs c).moves.0 ≤ y.place) × (y.place < (logs c).moves.1)) (logs c).notes
   receipts_inside c = each (λ y. IsLabel s c × ((logs c).moves.0 ≤ y.place) × (y.place < (logs c).moves.1)) (logs c).notes (λ j y at.
       let t = is_told left c j y at in (
-        subst (IsLabel s) t.label (all_at (λ n. IsLabel s n.label × Unit {0}) notes.entries t.noted.0 t.note (left.seen EntryNotes) t.noted.1).0,
+        subst (IsLabel s) t.2 (all_at (λ n. IsLabel s n.label × Unit {0}) notes.entries t.1.0 t.0 (left.seen EntryNotes) t.1.1).0,
         all_at (λ z. (logs c).moves.0 ≤ z.place) (logs c).notes j y
             (behind_all (logs c).moves.0 (logs c).moves.0 (logs c).notes (omega arith) (left.stand c).rise) at,
         all_at (λ z. z.place < (logs c).moves.1) (logs c).notes j y (left.stand c).below at,

@@ -1,27 +1,25 @@
 -- What hangs under a record's lines: looks and refused expiries are the notes of them, each under the line of its number.
 use mathlib.Core.Bool.{cond}
-use Rattle.std.proofs.Common.{◌≡◌, ◌&&◌, ℕ, ◌+◌, ◌<◌, ◌≤◌, Bool, true, false, nat_eq, List, [], ◌∷◌, ◌++◌, filter, length, map, arith, refl, sym, ap, ◌∙◌, subst}
+use Rattle.std.proofs.Common.{◌≡◌, ◌&&◌, ℕ, ◌+◌, ◌<◌, ◌≤◌, Bool, true, false, nat_eq, List, [], ◌∷◌, ◌++◌, filter, length, map, arith, refl, sym, ap, ◌∙◌, subst, zero, suc}
 use Rattle.std.specs.List.{AllByRecursion}
 use Rattle.std.specs.List.Sorted.{IsPermutation}
 use Rattle.std.proofs.lemmas.Bool.{eqb-true, ne_eqb, eqb-false}
 use Rattle.std.proofs.lemmas.List.Sorted.{IsPermutation-append_right, IsPermutation-cons, IsPermutation-middle, IsPermutation-refl, IsPermutation-trans}
-use Rattle.lane_notes.specs.Records.{line_of_object_note, numbered_from, skip_of}
-use Rattle.lane_notes.specs.Sorted.{is_of_list, is_of_number, IsSortedOf, Place, place_of_skip}
-use Rattle.lane_notes.specs.declared.notes.ObjectNote.{ObjectNote}
-use Rattle.lane_notes.specs.declared.notes.SkipNote.{SkipNote}
-use Rattle.lane_notes.proofs.Standing.{AtMostOne, HasPlace, stood_before}
+use Rattle.lane_notes.specs.Records.{numbered_from, line_at_number, noted_lines}
+use Rattle.lane_notes.specs.Sorted.{is_of_list, is_of_number, IsSortedOf, Place}
+use Rattle.lane_notes.proofs.Standing.{AtMostOne, HasPlace, stood_before, filter_stands_in}
 use Rattle.lane_notes.proofs.UnderLines.{is_of_call}
 use Rattle.record_text.specs.declared.record.Label.{Label}
 use Rattle.script_text.specs.Order.{is_label, IsLabel}
 use Rattle.run_history.specs.Receipts.{Rises}
-use Rattle.run_history.proofs.Looks.{all_skips, of_call}
+use Rattle.run_history.proofs.Looks.{of_call, all_under}
 use Rattle.std.proofs.Math.Bool.{and_comm}
 use Rattle.std.proofs.lemmas.List.Elements.{filter_agree}
 use Rattle.script_text.specs.declared.script.Script.{Script}
 use Rattle.lane_notes.proofs.Rising.{is_at, strictly}
 use Rattle.lane_notes.proofs.WholeRecord.{IsUnder}
 use Rattle.run_history.proofs.Lists.{each, map_get}
-use Rattle.lane_run.proofs.OwnLines.{filter_both, own_on}
+use Rattle.lane_run.proofs.OwnLines.{filter_both, own_on, own_sorted, also-map, told_of}
 
 -- ---- at most one look of a call at a number
 
@@ -52,74 +50,90 @@ one_of_call {X = X} place l n c xs rise =
     ∙ filter_agree (λ x. own x && is_at place l n x) (is_of_call place l n c) (λ x. and_comm (own x) (is_at place l n x)) xs)
     (one_most (λ x. (place x).number) n 1 (own_on place l c xs) rise)
 
--- ---- refused expiries under lines
+-- ---- notes that hang under lines, each under the line of its number
 
--- a refused expiry with its label and number
-abbrev pub skip_shape : SkipNote → Label × (ℕ × ℕ)
-skip_shape n = (n.label, (n.number, n.generation))
+module _ {U A : Type 0} (place : U → Place) (thing : U → A) where
+  -- what is told of a note, with its label
+  abbrev pub shape : U → Label × (ℕ × A)
+  shape u = ((place u).label, ((place u).number, thing u))
 
--- those that hang under the lines of these notes, which are numbered from here
-abbrev pub hung : ℕ → List SkipNote → List ObjectNote → List (Label × (ℕ × ℕ))
-hung k xs ns = all_skips k (numbered_from (line_of_object_note xs) k ns)
+  -- under the line of a number
+  abbrev at_number : ℕ → List U → List (Label × (ℕ × A))
+  at_number k us = map (λ u. ((place u).label, (k, thing u))) us
 
-none_hang : (k : ℕ) (ns : List ObjectNote) → hung k [] ns ≡ []
-none_hang k [] = refl
-none_hang k (n ∷ ns) = none_hang (k + 1) ns
+  -- under so many lines, which are numbered from here
+  abbrev hung : ℕ → ℕ → List U → List (Label × (ℕ × A))
+  hung k zero us = []
+  hung k (suc m) us = at_number k (filter (is_of_number place k) us) ++ hung (k + 1) m us
 
--- under one line, of which these are the notes
-abbrev here : ℕ → List SkipNote → List (Label × (ℕ × ℕ))
-here k xs = map (λ l. (l.label, (k, l.generation))) (map skip_of xs)
+  none_hang : (k m : ℕ) → hung k m [] ≡ []
+  none_hang k zero = refl
+  none_hang k (suc m) = none_hang (k + 1) m
 
--- one with a lower number hangs under none of the lines
-lower_hangs : (k : ℕ) (x : SkipNote) (xs : List SkipNote) (ns : List ObjectNote) → x.number < k → hung k (x ∷ xs) ns ≡ hung k xs ns
-lower_hangs k x xs [] less = refl
-lower_hangs k x xs (n ∷ ns) less =
-    let at = filter (is_of_number place_of_skip k) xs in
-    ap (λ b. here k (cond b (x ∷ at) at) ++ hung (k + 1) (x ∷ xs) ns) (ne_eqb x.number k (λ e. omega (arith, e, less)))
-    ∙ ap (λ ys. here k at ++ ys) (lower_hangs (k + 1) x xs ns (omega (arith, less)))
+  -- a note with a lower number hangs under none of the lines
+  lower_hangs : (k m : ℕ) (u : U) (us : List U) → (place u).number < k → hung k m (u ∷ us) ≡ hung k m us
+  lower_hangs k zero u us less = refl
+  lower_hangs k (suc m) u us less =
+      let here = filter (is_of_number place k) us in
+      ap (λ b. at_number k (cond b (u ∷ here) here) ++ hung (k + 1) m (u ∷ us)) (ne_eqb (place u).number k (λ e. omega (arith, e, less)))
+      ∙ ap (λ ys. at_number k here ++ ys) (lower_hangs (k + 1) m u us (omega (arith, less)))
 
--- one with the number of a line hangs there
-one_hangs : (k : ℕ) (x : SkipNote) (xs : List SkipNote) (ns : List ObjectNote) → k ≤ x.number → x.number < k + length ns
-    → IsPermutation (hung k (x ∷ xs) ns) (skip_shape x ∷ hung k xs ns)
-one_hangs k x xs [] from below = absurd (omega (arith, from, below))
-one_hangs k x xs (n ∷ ns) from below =
-    let at = filter (is_of_number place_of_skip k) xs in
-    let rest = hung (k + 1) xs ns in
-    elim (nat_eq x.number k) as (λ b. nat_eq x.number k ≡ b
-    → IsPermutation (here k (cond b (x ∷ at) at) ++ hung (k + 1) (x ∷ xs) ns) (skip_shape x ∷ (here k at ++ rest))) [
-      | true ↦ λ is.
-          let same : x.number ≡ k = eqb-true x.number k is in
-          subst (λ ys. IsPermutation ys (skip_shape x ∷ (here k at ++ rest)))
-          (ap (λ m. (x.label, (m, x.generation)) ∷ (here k at ++ rest)) same
-          ∙ ap (λ ys. (x.label, (k, x.generation)) ∷ (here k at ++ ys)) (sym (lower_hangs (k + 1) x xs ns (omega (arith, same)))))
-          (IsPermutation-refl (skip_shape x ∷ (here k at ++ rest)))
-      | false ↦ λ not.
-          let more = strictly from (λ e. eqb-false x.number k not (sym e)) in
-          IsPermutation-trans (here k at ++ hung (k + 1) (x ∷ xs) ns) (here k at ++ skip_shape x ∷ rest) (skip_shape x ∷ (here k at ++ rest))
-          (IsPermutation-append_right (here k at) (hung (k + 1) (x ∷ xs) ns) (skip_shape x ∷ rest)
-          (one_hangs (k + 1) x xs ns (omega (arith, more)) (omega (arith, below))))
-          (IsPermutation-middle (here k at) (skip_shape x) rest)
-    ] refl
+  -- one with the number of a line hangs there
+  one_hangs : (k m : ℕ) (u : U) (us : List U) → k ≤ (place u).number → (place u).number < k + m → IsPermutation (hung k m (u ∷ us)) (shape u ∷ hung k m us)
+  one_hangs k zero u us from below = absurd (omega (arith, from, below))
+  one_hangs k (suc m) u us from below =
+      let here = filter (is_of_number place k) us in
+      let rest = hung (k + 1) m us in
+      let all = shape u ∷ (at_number k here ++ rest) in
+      elim (nat_eq (place u).number k) as (λ b. nat_eq (place u).number k ≡ b
+      → IsPermutation (at_number k (cond b (u ∷ here) here) ++ hung (k + 1) m (u ∷ us)) all) [
+        | true ↦ λ is.
+            let same : (place u).number ≡ k = eqb-true (place u).number k is in
+            subst (λ ys. IsPermutation ys all) (ap (λ n. ((place u).label, (n, thing u)) ∷ (at_number k here ++ rest)) same
+            ∙ ap (λ ys. at_number k (u ∷ here) ++ ys) (sym (lower_hangs (k + 1) m u us (omega (arith, same))))) (IsPermutation-refl all)
+        | false ↦ λ not.
+            let more = strictly from (λ e. eqb-false (place u).number k not (sym e)) in
+            IsPermutation-trans (at_number k here ++ hung (k + 1) m (u ∷ us)) (at_number k here ++ shape u ∷ rest) all
+            (IsPermutation-append_right (at_number k here) (hung (k + 1) m (u ∷ us)) (shape u ∷ rest)
+            (one_hangs (k + 1) m u us (omega (arith, more)) (omega (arith, below)))) (IsPermutation-middle (at_number k here) (shape u) rest)
+      ] refl
 
--- law: where there is a line for the number of each refused expiry, all of them hang under the lines
-pub skips_hang : (xs : List SkipNote) (ns : List ObjectNote) → AllByRecursion (λ x. (1 ≤ x.number) × (x.number < 1 + length ns)) xs
-    → IsPermutation (hung 1 xs ns) (map skip_shape xs)
-skips_hang [] ns inside = subst (λ ys. IsPermutation ys []) (sym (none_hang 1 ns)) (IsPermutation-refl [])
-skips_hang (x ∷ xs) ns inside =
-    IsPermutation-trans (hung 1 (x ∷ xs) ns) (skip_shape x ∷ hung 1 xs ns) (map skip_shape (x ∷ xs)) (one_hangs 1 x xs ns inside.0.0 inside.0.1)
-    (IsPermutation-cons (skip_shape x) (hung 1 xs ns) (map skip_shape xs) (skips_hang xs ns inside.1))
+  all_hang : (m : ℕ) (us : List U) → AllByRecursion (λ u. (1 ≤ (place u).number) × ((place u).number < 1 + m)) us → IsPermutation (hung 1 m us) (map shape us)
+  all_hang m [] inside = subst (λ ys. IsPermutation ys []) (sym (none_hang 1 m)) (IsPermutation-refl [])
+  all_hang m (u ∷ us) inside =
+      IsPermutation-trans (hung 1 m (u ∷ us)) (shape u ∷ hung 1 m us) (map shape (u ∷ us)) (one_hangs 1 m u us inside.0.0 inside.0.1)
+      (IsPermutation-cons (shape u) (hung 1 m us) (map shape us) (all_hang m us inside.1))
 
--- law: those of a call
-pub of_call_shapes : (c : Label) (xs : List SkipNote)
-    → of_call c (map skip_shape xs) ≡ map (λ n. (n.number, n.generation)) (filter (λ n. is_label c n.label) xs)
-of_call_shapes c [] = refl
-of_call_shapes c (x ∷ xs) =
-    let rest = filter (λ (n : SkipNote). is_label c n.label) xs in
-    let shapes = filter (λ (e : Label × (ℕ × ℕ)). is_label c e.0) (map skip_shape xs) in
-    elim (is_label c x.label) as (λ b. map (λ e. e.1) (cond b (skip_shape x ∷ shapes) shapes) ≡ map (λ n. (n.number, n.generation)) (cond b (x ∷ rest) rest)) [
-      | true ↦ ap (λ ys. (x.number, x.generation) ∷ ys) (of_call_shapes c xs)
-      | false ↦ of_call_shapes c xs
-    ]
+  module _ {N L S : Type 0} (line : N → List U → L) (of : L → List S) (label : S → Label) (shown : S → A)
+      (tells : (k : ℕ) (n : N) (us : List U) → map {B = Label × (ℕ × A)} (λ x. (label x, (k, shown x))) (of (line n us)) ≡ at_number k us) where
+    hung_under : (k : ℕ) (us : List U) (ns : List N) → all_under of label shown k (numbered_from (line_at_number place line us) k ns) ≡ hung k (length ns) us
+    hung_under k us [] = refl
+    hung_under k us (n ∷ ns) =
+        let here = filter (is_of_number place k) us in
+        ap (λ ys. ys ++ all_under of label shown (k + 1) (numbered_from (line_at_number place line us) (k + 1) ns)) (tells k n here)
+        ∙ ap (λ ys. at_number k here ++ ys) (hung_under (k + 1) us ns)
+
+    -- law: where each note has the number of a line, all sorted notes of a list hang under the list's lines
+    pub all_under_lines : (of_line : N → Place) (l : ℕ) (notes : List N) {xs sorted : List U} → IsSortedOf place xs sorted
+        → ((u : U) → HasPlace xs u → (place u).list ≡ l → (1 ≤ (place u).number) × ((place u).number < 1 + length (filter (is_of_list of_line l) notes)))
+        → IsPermutation (all_under of label shown 1 (noted_lines place line of_line l notes sorted)) (map shape (filter (is_of_list place l) sorted))
+    all_under_lines of_line l notes {xs = xs} {sorted = sorted} is inside =
+        let ns = filter (is_of_list of_line l) notes in
+        let us = filter (is_of_list place l) sorted in
+        subst (λ ys. IsPermutation ys (map shape us)) (sym (hung_under 1 us ns)) (all_hang (length ns) us (each _ us (λ p u at.
+        let f = filter_stands_in (is_of_list place l) sorted u (p, at) in
+        inside u (stood_before xs sorted f.0.0 u is.same f.0.1) (eqb-true (place u).list l f.1))))
+
+  own_shapes : (c : Label) (us : List U) → of_call c (map shape us) ≡ map (λ u. ((place u).number, thing u)) (filter (λ u. is_label c (place u).label) us)
+  own_shapes c us = told_of (λ vs. of_call c (map shape vs)) (λ u. is_label c (place u).label) (λ u. ((place u).number, thing u)) refl
+      (λ u vs. sym (also-map (is_label c (place u).label) (λ e. e.1) (shape u) (filter (λ e. is_label c e.0) (map shape vs)) refl)) us
+
+  -- law: those of a call are its notes on the list, in some order
+  pub hung_own : (l : ℕ) (c : Label) {xs sorted : List U} → IsSortedOf place xs sorted
+      → IsPermutation (of_call c (map shape (filter (is_of_list place l) sorted))) (map (λ u. ((place u).number, thing u)) (own_on place l c xs))
+  hung_own l c {xs = xs} {sorted = sorted} is =
+      subst (λ ys. IsPermutation ys (map (λ u. ((place u).number, thing u)) (own_on place l c xs))) (sym (own_shapes c (filter (is_of_list place l) sorted)))
+      (own_sorted l c (λ u. ((place u).number, thing u)) is)
 
 -- ---- the labels under a line
 

@@ -1,21 +1,21 @@
 -- What the last passes know at the end of a run: of which timers and objects entries are, and that each of them was noted once.
-use mathlib.Core.Bool.{cond}
-use Rattle.std.proofs.Common.{◌≡◌, ℕ, ◌<◌, ◌≤◌, zero, suc, nat_eq, Some, List, [], ◌∷◌, filter, length, map, arith, refl, sym, ap, ◌∙◌, subst}
-use Rattle.std.specs.List.{AllByRecursion, slice_get}
+use Rattle.run_history.specs.Receipts as receipts
+use Rattle.std.proofs.Common.{◌≡◌, ℕ, ◌<◌, ◌≤◌, zero, suc, Some, List, [], ◌∷◌, filter, length, map, arith, refl, sym, ap, ◌∙◌, subst}
+use Rattle.std.specs.List.{slice_get}
 use Rattle.std.proofs.Math.Logic.{⊎_elim}
-use Rattle.std.proofs.lemmas.Bool.{and_left, and_right, cases_lt, lt-leb, ne_eqb}
+use Rattle.std.proofs.lemmas.Bool.{and_right, cases_lt, lt-leb, and_parts, eqb-true}
 use Rattle.std.proofs.lemmas.List.{get_or_past, length-map}
 use Rattle.std.proofs.lemmas.Option.{same_Some}
 use Rattle.clock_cell.specs.Views.{writes}
 use Rattle.pass_names.specs.Counts.{count, one_if}
-use Rattle.pass_names.specs.Passes.{within}
+use Rattle.pass_names.specs.Passes.{within, is_place}
 use Rattle.seq_timer.specs.Systems.{after_entry, AreSystemSteps, entries_of, System}
 use Rattle.seq_timer.specs.declared.system.TimerEntry.{TimerEntry}
 use Rattle.base_row.specs.declared.view.Opening.{Opening}
 use Rattle.timer_objects.specs.Known.{seen_of}
 use Rattle.timer_objects.specs.Cells.{opened_cell}
 use Rattle.lane_notes.specs.Notes.{NotesOf}
-use Rattle.lane_notes.specs.Sorted.{place_of_entry, place_of_object, place_of_write}
+use Rattle.lane_notes.specs.Sorted.{place_of_entry, place_of_object, place_of_write, IsSortedFrom}
 use Rattle.lane_notes.specs.declared.notes.EntryNote.{EntryNote}
 use Rattle.lane_notes.specs.declared.notes.WriteNote.{WriteNote}
 use Rattle.lane_notes.proofs.Rising.{is_at}
@@ -26,20 +26,21 @@ use Rattle.script_text.specs.Order.{is_label}
 use Rattle.script_text.specs.declared.script.Declaration.{Declaration}
 use Rattle.script_text.specs.declared.script.Script.{Script}
 use Rattle.run_history.specs.Courses.{clocks_of}
-use Rattle.run_history.specs.Receipts as receipts
 use Rattle.run_history.specs.Receipts.{IsMade, Noted, receipt}
 use Rattle.run_history.specs.Runs.{CallLog}
 use Rattle.run_history.proofs.Labels.{label_itself, same_label}
 use Rattle.run_history.proofs.Lists.{all_at, each}
-use Rattle.lane_run.specs.Kept.{entry_in_note, ObjectMove}
+use Rattle.lane_run.specs.Kept.{entry_in_note}
 use Rattle.lane_run.specs.Left.{AreLastOf, AreLeft}
 use Rattle.lane_run.specs.Worlds.{WorldOf}
 use Rattle.lane_run.specs.declared.world.WorldPass.{WorldPass}
 use Rattle.run_history.proofs.Shown.{entry_place}
-use Rattle.pass_names.specs.Passes.{is_place}
-use Rattle.std.proofs.lemmas.Bool.{and_parts, eqb-true}
 use Rattle.lane_notes.specs.declared.notes.ObjectNote.{ObjectNote}
-use Rattle.lane_run.proofs.Numbered.{AreEachOnce, count-map, nobody}
+use Rattle.lane_run.proofs.Numbered.{AreEachOnce, count-map, nobody, as_many, lines_are, none_long}
+use Rattle.lane_notes.specs.Records.{noted_object_lines, noted_timer_lines, record_from, numbered_from}
+use Rattle.record_text.specs.declared.record.Answer.{Answer}
+use Rattle.script_text.specs.Histories.{lines_of_timer}
+use Rattle.script_text.specs.Objects.{lines_of_object}
 
 -- ---- entries and receipts
 
@@ -62,13 +63,6 @@ pub record HasReceipt (logs : Label → CallLog) (n : EntryNote) : Type 0 where
   pub index : ℕ
   pub there : slice_get (logs n.label).notes index ≡ Some (noted_at place n)
 
--- the note that a receipt is told by
-pub record IsTold (notes : NotesOf) (c : Label) (y : Noted) : Type 0 where
-  pub note : EntryNote
-  pub noted : HasPlace notes.entries note
-  pub label : note.label ≡ c
-  pub is : y ≡ noted_at y.place note
-
 module _ {s : Script} {q : WorldPass} {notes : NotesOf} {logs : Label → CallLog} (left : AreLeft s q notes logs) where
   abbrev own : Label → List EntryNote
   own c = filter (λ n. is_label c n.label) notes.entries
@@ -82,13 +76,14 @@ module _ {s : Script} {q : WorldPass} {notes : NotesOf} {logs : Label → CallLo
       record { place = m.0.place; index = m.1.0; there = m.1.1 ∙ ap Some (told_at m.0 n m.2) }
 
   -- law: and each receipt has a note
-  pub is_told : (c : Label) (i : ℕ) (y : Noted) → slice_get (logs c).notes i ≡ Some y → IsTold notes c y
+  pub is_told : (c : Label) (i : ℕ) (y : Noted) → slice_get (logs c).notes i ≡ Some y
+      → (n : EntryNote) × HasPlace notes.entries n × (n.label ≡ c) × (y ≡ noted_at y.place n)
   is_told c i y at =
       let o = stands_in_map receipt (logs c).notes y (i, at) in
       let b = stands_permuted (map receipt (logs c).notes) (map entry_in_note (own c)) o.0 (receipt y) (left.tell c).receipts o.1 in
       let m = map_stands_in entry_in_note (own c) (receipt y) b in
       let f = filter_stands_in (λ n. is_label c n.label) notes.entries m.0 m.1 in
-      record { note = m.0; noted = f.0; label = same_label c m.0.label f.1; is = told_at y m.0 (sym m.2) }
+      (m.0, f.0, same_label c m.0.label f.1, told_at y m.0 (sym m.2))
 
   -- law: the entry that a note tells was made
   pub note_made : (n : EntryNote) (h : HasReceipt logs n) → IsMade q.timers.known.seen (noted_at h.place n)
@@ -150,3 +145,14 @@ module _ {s : Script} {x : WorldOf} {q : WorldPass} (last : AreLastOf s x q) whe
       each = λ n. sym (count-map (λ (m : WriteNote). (0, m.stamp)) (is_place 0 n) notes.writes) ∙ sym (left.places.clock n)
           ∙ (last.passes.known.all_entries last.last.clock).once 0 n;
     }
+
+    -- law: so the record's lines of a timer, and those of an object, are made of its sorted notes
+    pub timer_lines_are : {sorted : NotesOf} → IsSortedFrom notes sorted → (answers : List (List Answer)) (t : ℕ)
+        → lines_of_timer (record_from sorted (length s.timers) answers) t ≡ noted_timer_lines t sorted.entries sorted.looks
+    timer_lines_are {sorted = sorted} is answers t = lines_are (λ u. noted_timer_lines u sorted.entries sorted.looks) (length s.timers) t
+        (λ past. ap (numbered_from _ 1) (none_long _ (as_many is.entries (entries_once t) ∙ timers_past t past)))
+
+    pub object_lines_are : {sorted : NotesOf} → IsSortedFrom notes sorted → (answers : List (List Answer)) (i : ℕ)
+        → lines_of_object (record_from sorted (length s.timers) answers) i ≡ noted_object_lines i sorted.objects sorted.skips
+    object_lines_are {sorted = sorted} is answers i = lines_are (λ j. noted_object_lines j sorted.objects sorted.skips) (length s.timers) i
+        (λ past. ap (numbered_from _ 1) (none_long _ (as_many is.objects (objects_once i) ∙ ap length (objects_past i past))))

@@ -1,6 +1,6 @@
 -- Sorted notes of a list of which each number is noted once: the note at a place has the place's number.
 use mathlib.Core.Bool.{cond}
-use Rattle.std.proofs.Common.{◌≡◌, ◌&&◌, ℕ, ◌+◌, ◌<◌, ◌≤◌, zero, suc, Bool, true, false, nat_eq, nat_le, nat_lt, Some, List, [], ◌∷◌, filter, length, map, arith, refl, sym, ap, ◌∙◌, subst}
+use Rattle.std.proofs.Common.{◌≡◌, ℕ, ◌+◌, ◌<◌, ◌≤◌, zero, suc, Bool, true, false, nat_eq, nat_le, nat_lt, Some, List, [], ◌∷◌, filter, length, map, arith, refl, sym, ap, ◌∙◌, subst, get_or}
 use Rattle.std.specs.List.{AllByRecursion, slice_get}
 use Rattle.std.proofs.Math.Logic.{⊎_elim}
 use Rattle.std.proofs.lemmas.Bool.{and_from, and_left, and_parts, and_right, both_ways, cases_lt, eq-eqb, eqb-true, le-leb, leb-true, lt-ltb, ltb-true, ne_eqb, or_left, or_right}
@@ -10,10 +10,11 @@ use Rattle.pass_names.specs.Counts.{count, one_if}
 use Rattle.pass_names.specs.Passes.{within}
 use Rattle.lane_notes.specs.Sorted.{comes_before, is_of_list, IsSortedOf, Place, StandInOrder}
 use Rattle.lane_notes.proofs.Rising.{is_at, strictly}
-use Rattle.lane_notes.proofs.Shelves.{add_later, add_none}
+use Rattle.lane_notes.proofs.Shelves.{add_later, add_none, each_below-past, get_or-each_below}
 use Rattle.lane_notes.proofs.Standing.{AtMostOne, AtMostOne-head, filter_stands_in, HasPlace, stands_in_filter, stood_before}
 use Rattle.run_history.proofs.Lists.{all_at}
 use Rattle.run_history.proofs.Permuted.{filter_permuted}
+use Rattle.lane_notes.specs.Records.{each_below}
 
 -- law: what is counted among things that are made of others
 pub count-map : {X Y : Type 0} (f : X → Y) (p : Y → Bool) (xs : List X) → count p (map f xs) ≡ length (filter (λ x. p (f x)) xs)
@@ -29,6 +30,10 @@ count-map f p (x ∷ xs) =
 pub nobody : {X : Type 0} (xs : List X) → ((x : X) → HasPlace xs x → ⊥) → xs ≡ []
 nobody [] none = refl
 nobody (x ∷ xs) none = absurd (none x (0, refl))
+
+pub none_long : {X : Type 0} (xs : List X) → length xs ≡ 0 → xs ≡ []
+none_long [] none = refl
+none_long (x ∷ xs) none = absurd (omega (arith, none))
 
 -- of a list each number from 1 up to so many stands once among these notes, and no other number
 pub record AreEachOnce {X : Type 0} (place : X → Place) (l many : ℕ) (xs : List X) : Type 0 where
@@ -138,18 +143,13 @@ module _ {X : Type 0} {place : X → Place} {l many : ℕ} {xs sorted : List X} 
   pub as_many : length (filter (is_of_list place l) sorted) ≡ many
   as_many = omega (arith, all_numbered.1)
 
-  -- the note at a place was noted, with the place's number
-  pub record IsNoted (j : ℕ) (x : X) : Type 0 where
-    pub noted : HasPlace xs x
-    pub list : (place x).list ≡ l
-    pub number : (place x).number ≡ 1 + j
-
-  -- law: so for each
-  pub noted_at : (j : ℕ) (x : X) → slice_get (filter (is_of_list place l) sorted) j ≡ Some x → IsNoted j x
+  -- law: the note at a place was noted, with the place's number
+  pub noted_at : (j : ℕ) (x : X) → slice_get (filter (is_of_list place l) sorted) j ≡ Some x → HasPlace xs x × ((place x).list ≡ l) × ((place x).number ≡ 1 + j)
   noted_at j x at =
       let f = filter_stands_in (is_of_list place l) sorted x (j, at) in
-      record {
-        noted = stood_before xs sorted f.0.0 x is.same f.0.1;
-        list = eqb-true (place x).list l f.1;
-        number = number_at place 1 j (filter (is_of_list place l) sorted) x are_numbered at;
-      }
+      (stood_before xs sorted f.0.0 x is.same f.0.1, eqb-true (place x).list l f.1, number_at place 1 j (filter (is_of_list place l) sorted) x are_numbered at)
+
+-- law: the lists that are made by their number, where there is nothing in those that aren't
+pub lines_are : {L : Type 0} (f : ℕ → List L) (lists l : ℕ) → (lists ≤ l → f l ≡ []) → get_or (each_below f lists) l [] ≡ f l
+lines_are f lists l none = ⊎_elim (λ (less : l < lists). get_or-each_below f lists l [] less)
+    (λ (past : lists ≤ l). each_below-past f lists l [] past ∙ sym (none past)) (cases_lt l lists)

@@ -5,7 +5,7 @@ use Rattle.std.proofs.Common.{◌≡◌, ℕ, ◌+◌, ◌-◌, ◌<◌, ◌≤�
 use Rattle.std.specs.List.{slice_get}
 use Rattle.std.proofs.Math.Logic.{⊎_elim}
 use Rattle.std.proofs.lemmas.Bool.{cases_lt}
-use Rattle.std.proofs.lemmas.List.{append-nil, get_or_past, length-map}
+use Rattle.std.proofs.lemmas.List.{get_or_past, length-map}
 use Rattle.std.proofs.lemmas.Option.{same_Some}
 use Rattle.counted_row.specs.Views.{StateAfter}
 use Rattle.clock_cell.specs.Views.{writes}
@@ -29,8 +29,7 @@ use Rattle.run_history.specs.Fits.{AreBehind}
 use Rattle.run_history.specs.Promises.{GoesOnClock}
 use Rattle.run_history.specs.Runs.{CallLog, Ending, Starts}
 use Rattle.run_history.proofs.Lists.{all_at, each, map_get}
-use Rattle.lane_run.specs.Kept.{AreObjectLines, FollowsObject, ObjectMove, ShowsObjectCall, made_on}
-use Rattle.lane_run.specs.Kept.{IsObjectLeft, ObjectNotes}
+use Rattle.lane_run.specs.Kept.{AreObjectLines, IsObjectLeft, ObjectMove, ObjectNotes, ShowsObjectCall, made_on}
 use Rattle.lane_run.specs.Left.{AreLastOf, AreLeft, ending_of, span_of}
 use Rattle.lane_run.specs.Worlds.{WorldOf, decl_as}
 use Rattle.lane_run.specs.declared.world.WorldPass.{WorldPass}
@@ -43,10 +42,9 @@ use Rattle.script_text.specs.Histories.{clock_of}
 use Rattle.script_text.specs.declared.script.Kind.{Kind}
 use Rattle.lane_notes.proofs.Shelves.{add_later, add_none, each_below-past}
 use Rattle.lane_run.proofs.ClockLines.{clock_goes_on}
-use Rattle.lane_run.proofs.LastSeen.{many_objects, objects_once, objects_past}
-use Rattle.lane_run.proofs.Numbered.{as_many}
+use Rattle.lane_run.proofs.LastSeen.{many_objects, objects_once, object_lines_are}
 use Rattle.lane_run.proofs.ObjectSeen.{fd_kind, leads_from, legal, posix_kind}
-use Rattle.lane_run.proofs.OwnLines.{at_line, InSpan, lines_are, lines_long, own_lines, told_of}
+use Rattle.lane_run.proofs.OwnLines.{at_line, InSpan, lines_long, own_lines, ShowNotes, told_of}
 
 -- ---- the entries of an object
 
@@ -100,18 +98,15 @@ module _ {s : Script} {x : WorldOf} {q : WorldPass} {notes sorted : NotesOf} {lo
   abbrev r : RunRecord
   r = record_from sorted (length s.timers) answers
 
-  -- law: the record's lines of an object are made of its sorted notes
-  pub object_lines_are : (i : ℕ) → lines_of_object r i ≡ noted_object_lines i sorted.objects sorted.skips
-  object_lines_are i = lines_are place_of_skip object_line place_of_object sorted.objects sorted.skips (length s.timers) i
-      (as_many is.objects (objects_once last left i)) (λ past. ap length (objects_past last i past))
-
-  shapes : (i : ℕ) → map object_line_shape (lines_of_object r i) ≡ map object_note_shape (filter (is_of_list place_of_object i) sorted.objects)
-  shapes i = ap (map object_line_shape) (object_lines_are i)
-      ∙ noted_lines-shown place_of_skip object_line place_of_object i sorted.objects sorted.skips object_line_shape object_note_shape (λ n us. refl)
+  shown : (i : ℕ) → ShowNotes place_of_object (λ y. y.label) (λ y. y.entry) (λ n. n.entry) (lines_of_object r i) (filter (is_of_list place_of_object i) sorted.objects)
+  shown i = record {
+    same = ap (map object_line_shape) (object_lines_are last left is answers i)
+        ∙ noted_lines-shown place_of_skip object_line place_of_object i sorted.objects sorted.skips object_line_shape object_note_shape (λ n us. refl);
+  }
 
   -- law: there are as many as entries
   pub object_lines_long : (i : ℕ) → length (lines_of_object r i) ≡ length (seen_of q.objects i)
-  object_lines_long i = lines_long is.objects (objects_once last left i) (λ y. y.label) (λ y. y.entry) (λ n. n.entry) (lines_of_object r i) (shapes i)
+  object_lines_long i = lines_long is.objects (objects_once last left i) (shown i)
 
   -- a line's entry was seen at its place, in its call's span
   abbrev Shows : ℕ → Label × ObjectEntry → ℕ → Type 0
@@ -119,7 +114,7 @@ module _ {s : Script} {x : WorldOf} {q : WorldPass} {notes sorted : NotesOf} {lo
       × ((f : Ending) → GoesOnClock (writes q.clock.knows) f → ShowsObjectCall f.run.clock step.call.call step.reply y.1))
 
   shows_at : (i j : ℕ) (line : ObjectLine) → slice_get (lines_of_object r i) j ≡ Some line → Shows i (line.label, line.entry) j
-  shows_at i = at_line is.objects (objects_once last left i) (λ y. y.label) (λ y. y.entry) (λ n. n.entry) (lines_of_object r i) (shapes i) (Shows i) (λ n st of.
+  shows_at i = at_line is.objects (objects_once last left i) (shown i) (Shows i) (λ n st of.
       let its = all_at (λ o. IsLabel s o.label × IsObjectLeft q (logs o.label) o) notes.objects st.0 n (left.seen ObjectNotes) st.1 in (
         its.1.before,
         its.1.number,
@@ -136,7 +131,7 @@ module _ {s : Script} {x : WorldOf} {q : WorldPass} {notes sorted : NotesOf} {lo
   -- law: those of a call are the entries that it made
   pub object_own : (c : Label) (i : ℕ) → own (λ line. line.label) (λ line. line.entry) c 1 (lines_of_object r i) ≡ made i (logs c).trace.actions
   object_own c i =
-      own_lines is.objects (objects_once last left i) (λ y. y.label) (λ y. y.entry) (λ n. n.entry) (lines_of_object r i) (shapes i) (λ y. y) c
+      own_lines is.objects (objects_once last left i) (shown i) (λ y. y) c
       (made i (logs c).trace.actions) ((left.tell c).tells.objects_rise i)
       (sym (told_of (made_on i) (is_of_list place_of_object i) (λ n. (n.number, n.entry)) refl (λ n ns. refl) (filter (λ n. is_label c n.label) notes.objects))
       ∙ (left.tell c).tells.objects i)
@@ -151,19 +146,8 @@ module _ {s : Script} {x : WorldOf} {q : WorldPass} {notes sorted : NotesOf} {lo
         let its = (shows_at i j line at_l).1 in (
           subst (λ (g : ObjectMove). ShowsObjectCall r.clock g.call.call g.reply line.entry) (same_Some its.0 h (sym its.1 ∙ at_h))
               (its.2 e (clock_goes_on last left is e refl)),
-          ap (λ n. span_of (slice_get (seen_of q.objects i) n)) (one_off j) ∙ ap span_of at_h,
+          ap (λ n. span_of (slice_get (seen_of q.objects i) n)) {y = j} (omega arith) ∙ ap span_of at_h,
         ))
-      where
-        one_off : (j : ℕ) → 1 + j - 1 ≡ j
-        one_off j = omega arith
-
-    -- law: so the run goes on from what was seen of each object
-    pub object_goes_on : (i : ℕ) → FollowsObject e i (seen_of q.objects i)
-    object_goes_on i = record {
-      history = seen_of q.objects i;
-      goes_on = record { rest = []; whole = sym (append-nil (seen_of q.objects i)) };
-      lines = object_lines_show i;
-    }
 
     -- law: each object's lines are a history that such an object gives, and the spans of its entries follow one another
     pub object_histories : (i : ℕ) → IsLegalObject s r i (kind_of s i) × AreBehind (e.spans i) 1 0 (lines_of_object r i)

@@ -1,63 +1,29 @@
 -- A call's lines in a list of the record are what it did there, by the notes that were made of it and stand sorted.
 use mathlib.Core.Bool.{cond}
-use Rattle.std.proofs.Common.{◌≡◌, ◌&&◌, ℕ, ◌+◌, zero, suc, true, false, nat_eq, Some, List, [], ◌∷◌, filter, length, map, arith, refl, sym, ap, ◌∙◌, subst, inl, inr, Bool}
+use Rattle.std.proofs.Common.{◌≡◌, ◌&&◌, ℕ, ◌+◌, true, false, Some, List, [], ◌∷◌, filter, length, map, arith, refl, sym, ap, ◌∙◌, subst, Bool, ◌<◌, ◌≤◌}
 use Rattle.std.specs.List.{slice_get}
 use Rattle.std.specs.List.Sorted.{IsPermutation}
 use Rattle.std.proofs.Math.Bool.{and_comm}
-use Rattle.std.proofs.Math.Logic.{⊎_elim}
-use Rattle.std.proofs.lemmas.Bool.{eq-eqb, eqb-true}
 use Rattle.std.proofs.lemmas.List.{length-map}
 use Rattle.std.proofs.lemmas.List.Elements.{filter_agree}
 use Rattle.std.proofs.lemmas.List.Sorted.{IsPermutation-map, IsPermutation-sym}
-use Rattle.lane_notes.specs.Sorted.{is_of_list, IsSortedOf, Place, place_of_look, place_of_object, place_of_skip}
-use Rattle.lane_notes.specs.declared.notes.LookNote.{LookNote}
-use Rattle.lane_notes.specs.declared.notes.ObjectNote.{ObjectNote}
-use Rattle.lane_notes.specs.declared.notes.SkipNote.{SkipNote}
-use Rattle.lane_notes.proofs.Standing.{filter_stands_in, HasPlace, stands_in_filter, stands_permuted}
+use Rattle.lane_notes.specs.Sorted.{is_of_list, IsSortedOf, Place}
+use Rattle.lane_notes.proofs.Standing.{HasPlace}
 use Rattle.record_text.specs.declared.record.Label.{Label}
 use Rattle.script_text.specs.Actions.{also, own}
 use Rattle.script_text.specs.Order.{is_label, IsLabel}
 use Rattle.script_text.specs.declared.script.Script.{Script}
 use Rattle.run_history.specs.Receipts.{Rises}
-use Rattle.run_history.proofs.Items.{Among, own_rises, RiseIn, same_items}
+use Rattle.run_history.proofs.Items.{own_rises, RiseIn, same_risen}
 use Rattle.run_history.proofs.Lists.{at_map, map_get}
 use Rattle.run_history.proofs.Permuted.{filter_permuted}
-use Rattle.lane_run.specs.Kept.{looks_on, made_on, skips_on}
-use Rattle.lane_run.proofs.Numbered.{are_numbered, AreEachOnce, AreNumbered, as_many, nobody, noted_at}
-use Rattle.lane_notes.specs.Records.{each_below, line_at_number, noted_lines, numbered_from}
-use Rattle.lane_notes.proofs.Shelves.{each_below-past, get_or-each_below}
-use Rattle.std.proofs.lemmas.Bool.{cases_lt}
-use Rattle.std.proofs.lemmas.Option.{same_Some, slice_get_within}
-use Rattle.std.proofs.Common.{◌<◌, ◌≤◌, get_or}
+use Rattle.lane_run.proofs.Numbered.{are_numbered, AreEachOnce, AreNumbered, as_many, noted_at}
 
--- ---- members
-
--- law: what stands in a list is a member, and a member stands in it
-pub among_at : {X : Type 0} (xs : List X) (x : X) → HasPlace xs x → Among x xs
-among_at {X = X} xs x s = at xs s.0 s.1
-  where
-    at : (ys : List X) (i : ℕ) → slice_get ys i ≡ Some x → Among x ys
-    at [] i is = absurd (cc)
-    at (y ∷ ys) zero is = inl (sym (same_Some y x is))
-    at (y ∷ ys) (suc i) is = inr (at ys i is)
-
-pub place_among : {X : Type 0} (xs : List X) (x : X) → Among x xs → HasPlace xs x
-place_among [] x here = absurd here
-place_among (y ∷ xs) x here = ⊎_elim (λ is. (0, ap Some (sym is))) (λ more. let s = place_among xs x more in (suc s.0, s.1)) here
-
-among_permuted : {X : Type 0} (xs ys : List X) (x : X) → IsPermutation xs ys → Among x xs → Among x ys
-among_permuted xs ys x same here = let s = place_among xs x here in among_at ys x (stands_permuted xs ys s.0 x same s.1)
+-- ---- the notes of a call
 
 pub rise_in : {A : Type 0} (k : ℕ) (xs : List (ℕ × A)) → Rises k (map (λ x. x.0) xs) → RiseIn k xs
 rise_in k [] rise = tt
 rise_in k (x ∷ xs) rise = (rise.0, rise_in (x.0 + 1) xs rise.1)
-
--- things whose numbers rise in either order stand in one order
-same_risen : {A : Type 0} (xs ys : List (ℕ × A)) → IsPermutation xs ys → RiseIn 1 xs → RiseIn 1 ys → xs ≡ ys
-same_risen xs ys same one two =
-    same_items 1 1 xs ys one two (λ e. among_permuted xs ys e same) (λ e. among_permuted ys xs e (IsPermutation-sym xs ys same))
-
--- ---- the notes of a call
 
 -- law: one test behind another is both, in either order
 pub filter_both : {X : Type 0} (p o : X → Bool) (xs : List X) → filter p (filter o xs) ≡ filter (λ x. o x && p x) xs
@@ -74,7 +40,7 @@ turn_filters p o xs =
     filter_both p o xs ∙ filter_agree (λ x. o x && p x) (λ x. p x && o x) (λ x. and_comm (o x) (p x)) xs ∙ sym (filter_both o p xs)
 
 -- what is made of an item that passes a test, in front of what is made of others
-also-map : {X Y : Type 0} (b : Bool) (f : X → Y) (x : X) (xs : List X) {ys : List Y} → ys ≡ map f xs → also b (f x) ys ≡ map f (cond b (x ∷ xs) xs)
+pub also-map : {X Y : Type 0} (b : Bool) (f : X → Y) (x : X) (xs : List X) {ys : List Y} → ys ≡ map f xs → also b (f x) ys ≡ map f (cond b (x ∷ xs) xs)
 also-map true f x xs is = ap (λ ys. f x ∷ ys) is
 also-map false f x xs is = is
 
@@ -87,24 +53,6 @@ told_of g p f none more (x ∷ xs) = more x xs ∙ also-map (p x) f x (filter p 
 -- the notes of a call on one list
 abbrev pub own_on : {X : Type 0} → (X → Place) → ℕ → Label → List X → List X
 own_on place l c xs = filter (is_of_list place l) (filter (λ n. is_label c (place n).label) xs)
-
--- a note of a call on one list
-pub record IsOwn {X : Type 0} (place : X → Place) (l : ℕ) (c : Label) (xs : List X) (x : X) : Type 0 where
-  pub noted : HasPlace xs x
-  pub list : (place x).list ≡ l
-  pub own : is_label c (place x).label ≡ true
-
--- law: they are the notes of the list that bear its label
-pub own_on_from : {X : Type 0} (place : X → Place) (l : ℕ) (c : Label) (xs : List X) (x : X) → IsOwn place l c xs x → HasPlace (own_on place l c xs) x
-own_on_from place l c xs x is =
-    stands_in_filter (is_of_list place l) (filter (λ n. is_label c (place n).label) xs) x (eq-eqb (place x).list l is.list)
-    (stands_in_filter (λ n. is_label c (place n).label) xs x is.own is.noted)
-
-pub own_on_parts : {X : Type 0} (place : X → Place) (l : ℕ) (c : Label) (xs : List X) (x : X) → HasPlace (own_on place l c xs) x → IsOwn place l c xs x
-own_on_parts place l c xs x s =
-    let outer = filter_stands_in (is_of_list place l) (filter (λ n. is_label c (place n).label) xs) x s in
-    let inner = filter_stands_in (λ n. is_label c (place n).label) xs x outer.0 in
-    record { noted = inner.0; list = eqb-true (place x).list l outer.1; own = inner.1 }
 
 -- law: the sorted notes of a list that bear a call's label are its own, in some order
 pub own_sorted : {X Y : Type 0} {place : X → Place} (l : ℕ) (c : Label) (told : X → Y) {xs sorted : List X} → IsSortedOf place xs sorted
@@ -121,23 +69,15 @@ own_sorted {X = X} {place = place} l c told {xs = xs} {sorted = sorted} is =
 abbrev pub InSpan : Script → (Label → ℕ × ℕ) → Label → ℕ → Type 0
 InSpan s span c n = IsLabel s c × ((span c).0 ≤ n) × (n < (span c).1)
 
--- law: a list's lines are made of its notes, also where there is no such list, and so no note
-pub lines_are : {N U L : Type 0} (under : U → Place) (line : N → List U → L) (place : N → Place) (notes : List N) (unders : List U) (lists l : ℕ) {many : ℕ}
-    → length (filter (is_of_list place l) notes) ≡ many → (lists ≤ l → many ≡ 0)
-    → get_or (each_below (λ i. noted_lines under line place i notes unders) lists) l [] ≡ noted_lines under line place l notes unders
-lines_are under line place notes unders lists l long past = ⊎_elim
-    (λ (less : l < lists). get_or-each_below (λ i. noted_lines under line place i notes unders) lists l [] less)
-    (λ (le : lists ≤ l). each_below-past (λ i. noted_lines under line place i notes unders) lists l [] le
-    ∙ sym (ap (numbered_from (line_at_number under line (filter (is_of_list under l) unders)) 1) (nobody (filter (is_of_list place l) notes)
-    (λ n st. absurd (omega (arith, slice_get_within (filter (is_of_list place l) notes) st.0 n st.1, long, past le))))))
-    (cases_lt l lists)
+-- lines show what is told of notes, each under its label
+pub record ShowNotes {X L A : Type 0} (place : X → Place) (label : L → Label) (thing : L → A) (told : X → A) (lines : List L) (ns : List X) : Type 0 where
+  pub same : map {B = Label × A} (λ y. (label y, thing y)) lines ≡ map {B = Label × A} (λ n. ((place n).label, told n)) ns
 
 module _ {X L A : Type 0} {place : X → Place} {l many : ℕ} {xs sorted : List X} (is : IsSortedOf place xs sorted) (once : AreEachOnce place l many xs)
-    (label : L → Label) (thing : L → A) (told : X → A) (lines : List L)
-    (shape : map {B = Label × A} (λ y. (label y, thing y)) lines ≡ map {B = Label × A} (λ n. ((place n).label, told n)) (filter (is_of_list place l) sorted)) where
+    {label : L → Label} {thing : L → A} {told : X → A} {lines : List L} (show : ShowNotes place label thing told lines (filter (is_of_list place l) sorted)) where
   -- law: there are as many as numbers
   pub lines_long : length lines ≡ many
-  lines_long = sym (length-map {B = Label × A} lines (λ y. (label y, thing y))) ∙ ap length shape
+  lines_long = sym (length-map {B = Label × A} lines (λ y. (label y, thing y))) ∙ ap length show.same
       ∙ length-map {B = Label × A} (filter (is_of_list place l) sorted) (λ n. ((place n).label, told n)) ∙ as_many is once
 
   -- law: what holds of what each note tells, and of how many stand before it, holds of the line at each place
@@ -146,13 +86,11 @@ module _ {X L A : Type 0} {place : X → Place} {l many : ℕ} {xs sorted : List
       → (j : ℕ) (y : L) → slice_get lines j ≡ Some y → P (label y, thing y) j
   at_line P holds j y at =
       let m = map_get {Y = Label × A} (λ (n : X). ((place n).label, told n)) (filter (is_of_list place l) sorted) j (label y, thing y)
-      (ap (λ zs. slice_get zs j) (sym shape) ∙ at_map {Y = Label × A} (λ (z : L). (label z, thing z)) lines j y at) in
+      (ap (λ zs. slice_get zs j) (sym show.same) ∙ at_map {Y = Label × A} (λ (z : L). (label z, thing z)) lines j y at) in
       let n = noted_at is once j m.0 m.1 in
-      let b = holds m.0 n.noted n.list in
-      subst (λ q. P q j) m.2 (subst (P ((place m.0).label, told m.0)) (less_one b.0 j (place m.0).number b.1 n.number) b.2)
-    where
-      less_one : (b j n : ℕ) → b + 1 ≡ n → n ≡ 1 + j → b ≡ j
-      less_one b j n e f = omega (arith, e, f)
+      let b = holds m.0 n.0 n.1 in
+      let before : b.0 ≡ j = omega (arith, b.1, n.2) in
+      subst (λ q. P q j) m.2 (subst (P ((place m.0).label, told m.0)) before b.2)
 
   module _ {B : Type 0} (f : A → B) (c : Label) where
     own_numbered : (k : ℕ) (ys : List L) (ns : List X) → AreNumbered place k ns
@@ -173,7 +111,7 @@ module _ {X L A : Type 0} {place : X → Place} {l many : ℕ} {xs sorted : List
         → map {B = ℕ × B} (λ n. ((place n).number, f (told n))) (own_on place l c xs) ≡ items → own label (λ y. f (thing y)) c 1 lines ≡ items
     own_lines items rise noted =
         same_risen (own label (λ y. f (thing y)) c 1 lines) items
-        (subst (λ ys. IsPermutation ys items) (sym (own_numbered 1 lines (filter (is_of_list place l) sorted) (are_numbered is once) shape))
+        (subst (λ ys. IsPermutation ys items) (sym (own_numbered 1 lines (filter (is_of_list place l) sorted) (are_numbered is once) show.same))
         (subst (IsPermutation (map (λ (n : X). ((place n).number, f (told n))) (filter (λ n. is_label c (place n).label) (filter (is_of_list place l) sorted)))) noted
         (own_sorted l c (λ (n : X). ((place n).number, f (told n))) is)))
         (own_rises label (λ y. f (thing y)) c 1 lines) (rise_in 1 items rise)

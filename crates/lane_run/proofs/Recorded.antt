@@ -18,7 +18,8 @@ use Rattle.lane_run.specs.declared.world.WorldPass.{WorldPass}
 use Rattle.lane_run.proofs.ClockLines.{clock_accepted, clock_few, clock_goes_on, clock_in_span, clock_lines, clock_lines_long, clock_own}
 use Rattle.lane_run.proofs.FiledNotes.{are_filed, filed_notes, receipts_inside}
 use Rattle.lane_run.proofs.HungLines.{looks_own, skips_own}
-use Rattle.lane_run.proofs.ObjectLines.{object_goes_on, object_histories, object_in_span, object_lines_long, object_own}
+use Rattle.lane_run.proofs.ObjectLines.{object_histories, object_in_span, object_lines_long, object_lines_show, object_own}
+use Rattle.timer_objects.specs.Known.{seen_of}
 
 module _ {s : Script} {x : WorldOf} {q : WorldPass} {notes sorted : NotesOf} {logs : Label → CallLog} (last : AreLastOf s x q) (left : AreLeft s q notes logs)
     (is : IsSortedFrom notes sorted) (answers : List (List Answer)) (starts : Starts) where
@@ -31,7 +32,11 @@ module _ {s : Script} {x : WorldOf} {q : WorldPass} {notes sorted : NotesOf} {lo
     few = clock_few last left is;
     timers = ([], sym (append-nil q.timers.known.seen));
     clock = clock_goes_on last left is e refl;
-    objects = object_goes_on last left is answers starts;
+    objects = λ i. record {
+      history = seen_of q.objects i;
+      goes_on = record { rest = []; whole = sym (append-nil (seen_of q.objects i)) };
+      lines = object_lines_show last left is answers starts i;
+    };
   }
 
   -- law: the record of the sorted notes has what the lanes have left

@@ -8,6 +8,9 @@ use Rattle.record_text.specs.declared.record.ObjectLine.{ObjectLine}
 use Rattle.script_text.specs.Actions.{also, own}
 use Rattle.script_text.specs.Order.{is_label}
 use Rattle.run_history.specs.Fits.{AreBehind}
+use Rattle.run_history.proofs.Permuted.{along_permutation}
+use Rattle.std.specs.List.Sorted.{IsPermutation}
+use Rattle.std.proofs.lemmas.List.Sorted.{IsPermutation-sym}
 
 -- a thing is one of these
 abbrev pub Among : {X : Type 0} → X → List X → Type 0
@@ -47,6 +50,14 @@ same_items {A = A} k j (x ∷ xs) (y ∷ ys) up_x up_y on back =
     (λ more. more) (on e (inr here)))
     (λ e here. ⊎_elim (λ (is : e ≡ x). absurd (omega (arith, ap (λ (p : ℕ × A). p.0) is, number, least (y.0 + 1) e ys up_y.1 here)))
     (λ more. more) (back e (inr here))))
+
+-- law: so they are where they stand in some other order
+pub same_risen : {A : Type 0} (xs ys : List (ℕ × A)) → IsPermutation xs ys → RiseIn 1 xs → RiseIn 1 ys → xs ≡ ys
+same_risen {A = A} xs ys same one two = same_items 1 1 xs ys one two (λ e. among e xs ys same) (λ e. among e ys xs (IsPermutation-sym xs ys same))
+  where
+    among : (e : ℕ × A) (xs ys : List (ℕ × A)) → IsPermutation xs ys → Among e xs → Among e ys
+    among e = along_permutation (λ xs ys. Among e xs → Among e ys) (λ xs here. here) (λ x xs ys so here. ⊎_elim inl (λ more. inr (so more)) here)
+        (λ x y xs here. ⊎_elim (λ is. inr (inl is)) (λ more. ⊎_elim inl (λ later. inr (inr later)) more) here) (λ xs ys zs so then here. then (so here))
 
 pub lower : {A : Type 0} (j k : ℕ) (xs : List (ℕ × A)) → j ≤ k → RiseIn k xs → RiseIn j xs
 lower j k [] le rise = tt
