@@ -121,7 +121,7 @@ write_kept {s = s} {l = l} {m = m} {write = write} next (Ok r) w timers objects 
       sees = sees;
       joins = notes ∙ write_joins l.notes r.stamp line;
       bears = record { entries = tt; looks = tt; objects = tt; skips = tt; writes = (refl, tt) };
-      receipts = same_order [] [] refl;
+      receipts = same_order refl;
       tells = record {
         writes = refl;
         looks = λ i. refl;
