@@ -12,6 +12,7 @@ use Rattle.seq_timer.specs.Histories.{Holds}
 use Rattle.seq_timer.specs.Steps.{after, Timer}
 use Rattle.seq_timer.specs.Systems.{entries_of, openings}
 use Rattle.seq_timer.specs.Tables.{timer_at}
+use Rattle.seq_timer.proofs.Limits.{stamp-after}
 use Rattle.seq_timer.specs.declared.event.Event.TheVariants as events
 use Rattle.seq_timer.specs.declared.event.Event.{Event}
 use Rattle.seq_timer.specs.declared.observation.Observation.TheVariants as observations
@@ -90,15 +91,7 @@ start_in_receipt timer stamp ns asked (starts.Spent n) = []
 -- a timer's limit is no greater than the script's
 after_all-limit : (t : Timer) (es : List seq.Entry) → (seq.after_all t es).limit ≡ t.limit
 after_all-limit t [] = refl
-after_all-limit t (e ∷ es) = after_all-limit (after t e.event) es ∙ one t e.event
-  where
-    one : (t : Timer) (e : Event) → (after t e).limit ≡ t.limit
-    one t (events.Out base) = refl
-    one t (events.Start mode ns reading asked) = refl
-    one t events.Cancel = refl
-    one t (events.Claim base reading) = refl
-    one t (events.Forward reading interval) = refl
-    one t (events.Finish restart) = refl
+after_all-limit t (e ∷ es) = after_all-limit (after t e.event) es ∙ (stamp-after t e.event).1
 
 opened_limit : (list : List ClockId) (limit t : ℕ) → 1 ≤ limit → (timer_at (openings list limit) t).limit ≤ limit
 opened_limit [] limit t some = some

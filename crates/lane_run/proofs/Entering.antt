@@ -1,6 +1,8 @@
 -- Entries that a call makes of a timer, as receipts: where they stand in what its pass has seen, and the record's entries that show them.
 use Rattle.std.proofs.Common.{◌≡◌, ◌≤◌, ℕ, ◌+◌, suc, is_some, unwrap_or, Bool, true, false, ◌&&◌, not, nat_lt, if◌then◌else◌, List, [], ◌∷◌, ◌++◌, length, map, arith, refl, sym, ap, ◌∙◌, subst, length-append}
 use Rattle.std.specs.List.{AllByRecursion}
+use Rattle.std.proofs.lemmas.Grind.{common_steps}
+use Rattle.std.proofs.lemmas.Bool.Decides.{nat_tests}
 use Rattle.std.proofs.lemmas.List.{append_assoc, append-nil, map-append}
 use Rattle.ktime.specs.Times.{next_after, passed}
 use Rattle.ktime.specs.declared.clock_id.ClockId.{ClockId}
@@ -59,28 +61,17 @@ HasReading clock (events.Forward reading interval) = reading_at clock reading.st
 HasReading clock event = Unit
 
 rearmed_shown : (t : Timer) (restart : Bool) → rearmed_by t restart ≡ rearmed_as t.stamp (restart_noted (rearmed_by t restart))
-rearmed_shown t restart = at_tests (restart && not (is_some t.armed)) (nat_lt t.stamp t.limit)
-  where
-    at_tests : (wanted room : Bool)
-        → (if wanted then (if room then rearmings.Again (t.stamp + 1) else rearmings.Spent t.stamp) else rearmings.No)
-        ≡ rearmed_as t.stamp (restart_noted (if wanted then (if room then rearmings.Again (t.stamp + 1) else rearmings.Spent t.stamp) else rearmings.No))
-    at_tests true true = refl
-    at_tests true false = refl
-    at_tests false room = refl
+rearmed_shown t restart = grind (arith, common_steps, nat_tests)
 
 -- law: it shows the event and its reply, where the record's clock has the reading
 pub line_entry-shown : (clock : List ClockLine) (t : Timer) (event : Event) → HasReading clock event
     → record { event = event; reply = reply_to t event } ≡ entry_shown clock t.stamp (line_entry t event)
-line_entry-shown clock t (events.Out base) has = refl
-line_entry-shown clock t (events.Start mode ns reading asked) has =
-    ap (λ r. record { event = events.Start mode ns r asked; reply = reply_to t (events.Start mode ns reading asked) }) (sym has)
-line_entry-shown clock t events.Cancel has = refl
-line_entry-shown clock t (events.Claim base reading) has =
-    ap (λ r. record { event = events.Claim base r; reply = reply_to t (events.Claim base reading) }) (sym has)
-line_entry-shown clock t (events.Forward reading interval) has =
-    ap (λ r. record { event = events.Forward r interval; reply = reply_to t (events.Forward reading interval) }) (sym has)
+line_entry-shown clock t (events.Start mode ns reading asked) has = rw has refl
+line_entry-shown clock t (events.Claim base reading) has = rw has refl
+line_entry-shown clock t (events.Forward reading interval) has = rw has refl
 line_entry-shown clock t (events.Finish restart) has =
     ap (λ r. record { event = events.Finish restart; reply = replies.Finish (unwrap_or t.running 0) r }) (rearmed_shown t restart)
+line_entry-shown clock t event has = refl
 
 -- the entries of events in turn are shown
 pub along_shown : (clock : List ClockLine) (t : Timer) (es : List Event) → AllByRecursion (HasReading clock) es

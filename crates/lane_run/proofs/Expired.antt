@@ -74,17 +74,14 @@ run_later {IsSo = IsSo} {s = s} {label = label} {base = base} {at = at} {v = v} 
     {object_log = object_log} run looks =
     let actions = flat_map (fires base at) run.fired in
     let all = log ++ callback_log in
+    let part = part_then run.part (part_none {w = w'} looks.seen looks.mine) in
     record {
       fired = run.fired;
       many = run.many;
       notes = run.notes;
       no_looks = run.no_looks;
       claimed = run.claimed;
-      part = subst (IsPart IsSo label v p w' q actions run.notes all) (append-nil object_log)
-          (subst (λ rs. IsPart IsSo label v p w' q actions run.notes rs (object_log ++ [])) (append-nil all)
-          (subst (λ ns. IsPart IsSo label v p w' q actions ns (all ++ []) (object_log ++ [])) (append-nil run.notes)
-          (subst (λ ds. IsPart IsSo label v p w' q ds (run.notes ++ []) (all ++ []) (object_log ++ [])) (append-nil actions)
-          (part_then run.part (part_none looks.seen looks.mine)))));
+      part = rw (append-nil actions, append-nil run.notes, append-nil all, append-nil object_log) at part;
       have = λ e joined goes follows later behind points.
           have_later (course_of s e) label e.order base at [] (length v.seen) run.fired run.notes (length w.seen) (length w'.seen) (begins_length looks.seen)
           (run.have e joined (goes_before looks.seen goes) follows later behind points);

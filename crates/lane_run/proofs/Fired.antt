@@ -49,6 +49,8 @@ use Rattle.pass_names.proofs.Passes.{begins_length, begins_trans}
 use Rattle.lane_run.proofs.SeenMore.{count_begins, goes_before, begins_same}
 use Rattle.lane_run.proofs.Triggered.{fd_noted, posix_noted, trigger_kept}
 use Rattle.std.specs.Prelude.{flat_map}
+use Rattle.std.proofs.lemmas.List.Concat.{flat_map-append}
+use Rattle.lane_run.proofs.Claimed.{claimed_in-append}
 use Rattle.lane_run.proofs.Bodies.{callback_kept}
 use Rattle.lane_run.proofs.Parts.{BodyKept, claim_entry, fired_of, IsClaimed, IsPart, objects_grow, part-append, part_entered, part_none}
 use Rattle.lane_run.proofs.PartLists.{also-append, each_joined, each_weaker, notes-append}
@@ -66,30 +68,16 @@ use Rattle.run_history.proofs.Expires as expires
 
 -- ---- lists
 
-flat_map-append : {A B : Type 0} (f : A → List B) (xs ys : List A) → flat_map f (xs ++ ys) ≡ flat_map f xs ++ flat_map f ys
-flat_map-append f [] ys = refl
-flat_map-append f (x ∷ xs) ys = ap (λ zs. f x ++ zs) (flat_map-append f xs ys) ∙ sym (append_assoc (f x) (flat_map f xs) (flat_map f ys))
-
-claimed_in-append : (xs ys : List Receipt) → claimed_in (xs ++ ys) ≡ claimed_in xs ++ claimed_in ys
-claimed_in-append [] ys = refl
-claimed_in-append (r ∷ xs) ys = also-append (is_claim r.event) r.timer _ _ _ (claimed_in-append xs ys)
-
 -- the middle two of four parts change places
 middle_swapped : {A : Type 0} (a b c d : List A) → IsPermutation ((a ++ b) ++ (c ++ d)) ((a ++ c) ++ (b ++ d))
 middle_swapped a b c d =
-    subst (λ zs. IsPermutation zs ((a ++ c) ++ (b ++ d))) (sym (append_assoc a b (c ++ d)))
-    (subst (IsPermutation (a ++ (b ++ (c ++ d)))) (sym (append_assoc a c (b ++ d)))
-    (IsPermutation-append_right a (b ++ (c ++ d)) (c ++ (b ++ d))
-    (subst (λ zs. IsPermutation zs (c ++ (b ++ d))) (append_assoc b c d)
-    (subst (IsPermutation ((b ++ c) ++ d)) (append_assoc c b d)
-    (IsPermutation-append_left d (b ++ c) (c ++ b) (IsPermutation-append_comm b c))))))
+    rw (append_assoc a b (c ++ d), append_assoc a c (b ++ d)) (IsPermutation-append_right a (b ++ (c ++ d)) (c ++ (b ++ d))
+    (rw (← append_assoc b c d, ← append_assoc c b d) (IsPermutation-append_left d (b ++ c) (c ++ b) (IsPermutation-append_comm b c))))
 
 -- the notes of four logs
 four : {R N : Type 0} (note : R → Option N) (a b c d : List R) → present (map note ((a ++ b) ++ (c ++ d)))
     ≡ (present (map note a) ++ present (map note b)) ++ (present (map note c) ++ present (map note d))
-four note a b c d =
-    notes-append note (a ++ b) (c ++ d) ∙ ap (λ zs. zs ++ present (map note (c ++ d))) (notes-append note a b)
-    ∙ ap (λ zs. (present (map note a) ++ present (map note b)) ++ zs) (notes-append note c d)
+four note a b c d = rw (notes-append note (a ++ b) (c ++ d), notes-append note a b, notes-append note c d) refl
 
 -- ---- one callback
 
@@ -198,14 +186,11 @@ module _ (IsSo : List ClockLine → Type 0) (s : Script) (x : WorldOf) (is : IsW
       let are : map receipt (finish.0 ∷ []) ≡ (c.timer, (f.finish, finish_of f)) ∷ [] = ap (λ r. r ∷ []) finish.2 in
       let finishes : IsPart IsSo label done h'.objects_pass.now k' h'.objects_pass.now (Entered f.timer f.finish (finish_of f) ∷ []) (finish.0 ∷ [])
       (last ∷ []) [] = part_entered finish.1 refl (tt, tt) are are refl in
-      let claimed : EntryNote = record { label = label; timer = c.timer; number = c.number; entry = claim_entry c reading.stamp } in
-      let ended : EntryNote = record { label = label; timer = c.timer; number = f.finish; entry = finish_of f } in
-      let told = entry_notes label b.more in
-      let order : IsPermutation (entry_notes label ((first ∷ b.more) ++ last ∷ [])) (claimed ∷ ended ∷ told) =
-      subst (λ ns. IsPermutation (claimed ∷ ns) (claimed ∷ ended ∷ told)) (sym (notes-append (entry_note label) b.more (last ∷ [])))
-      (IsPermutation-cons claimed (told ++ ended ∷ []) (ended ∷ told) (IsPermutation-to_front told ended)) in
-      let looks : look_notes label b.more ≡ look_notes label (b.more ++ last ∷ []) =
-      sym (notes-append (look_note label) b.more (last ∷ []) ∙ append-nil (look_notes label b.more)) in
+      let order : IsPermutation (entry_notes label ((first ∷ b.more) ++ last ∷ [])) (entry_notes label (first ∷ last ∷ b.more)) =
+      rw (notes-append (entry_note label) b.more (last ∷ []))
+      (IsPermutation-cons _ (entry_notes label b.more ++ entry_notes label (last ∷ [])) (entry_notes label (last ∷ b.more))
+      (IsPermutation-to_front (entry_notes label b.more) _)) in
+      let looks : look_notes label b.more ≡ look_notes label (b.more ++ last ∷ []) = rw (notes-append (look_note label) b.more (last ∷ [])) (sym (append-nil _)) in
       let kept : TurnKept IsSo s label c.base reading.stamp k h log k' h' log' = record {
         fired = f;
         notes = claim.note ∷ b.notes ++ finish.0 ∷ [];
@@ -305,26 +290,18 @@ module _ {IsSo : List ClockLine → Type 0} {s : Script} {label : Label} {base a
       let cb = h.log.receipts in
       let more = turn.log_more in
       let cb_more = turn.callback_more in
-      let EN = entry_notes label in
-      let order : IsPermutation (EN ((log ++ cb) ++ (more ++ cb_more))) (EN ((log ++ more) ++ (cb ++ cb_more))) =
-      subst (λ zs. IsPermutation zs (EN ((log ++ more) ++ (cb ++ cb_more)))) (sym (four (entry_note label) log cb more cb_more))
-      (subst (IsPermutation ((EN log ++ EN cb) ++ (EN more ++ EN cb_more))) (sym (four (entry_note label) log more cb cb_more))
-      (middle_swapped (EN log) (EN cb) (EN more) (EN cb_more))) in
-      let LN = look_notes label in
-      let behind : (a b : List Receipt) → LN a ≡ [] → LN (a ++ b) ≡ LN b =
-      λ a b none. notes-append (look_note label) a b ∙ ap (λ xs. xs ++ LN b) none in
-      let no_looks : LN (log ++ more) ≡ [] = behind log more run.no_looks ∙ turn.no_looks in
-      let looks : LN ((log ++ more) ++ (cb ++ cb_more)) ≡ LN ((log ++ cb) ++ (more ++ cb_more)) =
-      behind (log ++ more) (cb ++ cb_more) no_looks ∙ notes-append (look_note label) cb cb_more
-      ∙ sym (notes-append (look_note label) (log ++ cb) (more ++ cb_more) ∙ ap (λ xs. xs ++ LN (more ++ cb_more)) (behind log cb run.no_looks)
-      ∙ ap (λ xs. LN cb ++ xs) (behind more cb_more turn.no_looks)) in
+      let order : IsPermutation (entry_notes label ((log ++ cb) ++ (more ++ cb_more))) (entry_notes label ((log ++ more) ++ (cb ++ cb_more))) =
+      rw (four (entry_note label) log cb more cb_more, four (entry_note label) log more cb cb_more) (middle_swapped (entry_notes label log)
+      (entry_notes label cb) (entry_notes label more) (entry_notes label cb_more)) in
+      let looks : look_notes label ((log ++ more) ++ (cb ++ cb_more)) ≡ look_notes label ((log ++ cb) ++ (more ++ cb_more)) =
+      rw (four (look_note label) log more cb cb_more, four (look_note label) log cb more cb_more, run.no_looks, turn.no_looks) refl in
       let part : IsPart IsSo label k p k' p' (done ++ one) (run.notes ++ turn.notes) ((log ++ more) ++ (cb ++ cb_more))
       (h.object_log.receipts ++ turn.object_more) = part-append run.part turn.part order looks in
       record {
         fired = run.fired ++ f ∷ [];
         many = omega (arith, run.many, length-append run.fired (f ∷ []));
         notes = run.notes ++ turn.notes;
-        no_looks = ap LN turn.adds ∙ no_looks;
+        no_looks = rw (turn.adds, notes-append (look_note label) log more, run.no_looks) turn.no_looks;
         claimed = ap claimed_in turn.adds ∙ claimed_in-append log more ∙ ap (λ ts. ts ++ claimed_in more) run.claimed
             ∙ ap (λ ts. map (λ g. g.timer) run.fired ++ ts) turn.claimed ∙ sym (map-append (λ (g : Fired). g.timer) run.fired (f ∷ []));
         part = rw (all, turn.adds, turn.adds_callback, turn.adds_objects) part;

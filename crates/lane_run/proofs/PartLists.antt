@@ -52,17 +52,20 @@ pub record RisesTo {X : Type 0} (low : ℕ) (xs : List (ℕ × X)) (high : ℕ) 
 pub rises_none : {X : Type 0} {low high : ℕ} → low ≤ high → RisesTo {X = X} low [] high
 rises_none le = record { rise = tt; above = tt; below = tt; le = le }
 
+-- what holds of each number holds by a test for one of them
+by_number : (P : ℕ → Bool → Type 0) (i : ℕ) → P i true → ((j : ℕ) → P j false) → (j : ℕ) → P j (nat_eq i j)
+by_number P i here apart j = by_test (nat_eq i j) (eqb-true i j)
+  where
+    by_test : (b : Bool) → (b ≡ true → i ≡ j) → P j b
+    by_test true same = subst (λ k. P k true) (same refl) here
+    by_test false same = apart j
+
 -- law: one at most, in the list of this number
 pub one_rises : {X : Type 0} (i number : ℕ) (thing : X) (low high : ℕ → ℕ) → low i ≤ number → number < high i → ((j : ℕ) → low j ≤ high j) → (j : ℕ)
     → RisesTo (low j) (also (nat_eq i j) (number, thing) []) (high j)
-one_rises i number thing low high more less le j = by_test (nat_eq i j) (eqb-true i j)
-  where
-    by_test : (b : Bool) → (b ≡ true → i ≡ j) → RisesTo (low j) (also b (number, thing) []) (high j)
-    by_test false same = rises_none (le j)
-    by_test true same =
-        let above = subst (λ k. low k ≤ number) (same refl) more in
-        let below = subst (λ k. number < high k) (same refl) less in
-        record { rise = (above, tt); above = (above, tt); below = (below, tt); le = le j }
+one_rises i number thing low high more less le =
+    by_number (λ j b. RisesTo (low j) (also b (number, thing) []) (high j)) i
+    (record { rise = (more, tt); above = (more, tt); below = (less, tt); le = le i }) (λ j. rises_none (le j))
 
 -- numbers rise from a lower number too
 pub rises_lower : (low mid : ℕ) (xs : List ℕ) → low ≤ mid → Rises mid xs → Rises low xs
@@ -96,11 +99,7 @@ falls_on low (x ∷ xs) mid ys high one two = (one.0, falls_on x xs mid ys high 
 -- law: one at most, in the list of this number
 pub one_falls : (i number : ℕ) (low high : ℕ → ℕ) → low i ≤ number → number ≤ high i → ((j : ℕ) → low j ≤ high j) → (j : ℕ)
     → NeverFall (low j) (also (nat_eq i j) number []) (high j)
-one_falls i number low high above below le j = by_test (nat_eq i j) (eqb-true i j)
-  where
-    by_test : (b : Bool) → (b ≡ true → i ≡ j) → NeverFall (low j) (also b number []) (high j)
-    by_test false same = le j
-    by_test true same = (subst (λ k. low k ≤ number) (same refl) above, subst (λ k. number ≤ high k) (same refl) below)
+one_falls i number low high above below le = by_number (λ j b. NeverFall (low j) (also b number []) (high j)) i (above, below) le
 
 -- ---- lists in two parts
 

@@ -248,6 +248,11 @@ part_made {IsSo = IsSo} {label = label} {p = p} {q = q} {id = id} {step = step} 
 
 -- ---- one behind another
 
+-- a note stands in other lists too, where its entry does
+note_in : {IsSo : List ClockLine → Type 0} {o p q r : ObjectsPass} {n : ObjectNote} (is : IsNoteIn IsSo p q n) → length (seen_of o n.object) ≤ is.before
+    → slice_get (seen_of r n.object) is.before ≡ Some is.step → IsNoteIn IsSo o r n
+note_in is behind there = record { before = is.before; number = is.number; behind = behind; step = is.step; there = there; shows = is.shows }
+
 -- what two parts did of objects, one behind the other
 objects-append : {IsSo : List ClockLine → Type 0} {label : Label} {o p q : ObjectsPass} {ds es : List Action} {log more : List ObjectReceipt}
     → IsObjectsPart IsSo label o p ds log → IsObjectsPart IsSo label p q es more → IsObjectsPart IsSo label o q (ds ++ es) (log ++ more)
@@ -260,23 +265,9 @@ objects-append {IsSo = IsSo} {label = label} {o = o} {p = p} {q = q} {ds = ds} {
           (rises_on (one.rise i) (two.rise i));
       seen = subst (AllByRecursion (IsNoteIn IsSo o q)) (sym (objects log more))
           (each_joined (object_notes label log) (object_notes label more)
-          (λ n is. let later = two.goes_on.each n.object in record {
-            before = is.before;
-            number = is.number;
-            behind = is.behind;
-            step = is.step;
-            there = subst (λ xs. slice_get xs is.before ≡ Some is.step) (sym later.whole)
-                (at_left (seen_of p n.object) later.rest is.before is.step is.there);
-            shows = is.shows;
-          })
-          (λ n is. let le = objects_grow o p one.goes_on n.object in record {
-            before = is.before;
-            number = is.number;
-            behind = omega (arith, le, is.behind);
-            step = is.step;
-            there = is.there;
-            shows = is.shows;
-          }) one.seen two.seen);
+          (λ n is. let later = two.goes_on.each n.object in note_in is is.behind
+          (subst (λ xs. slice_get xs is.before ≡ Some is.step) (sym later.whole) (at_left (seen_of p n.object) later.rest is.before is.step is.there)))
+          (λ n is. let le = objects_grow o p one.goes_on n.object in note_in is (omega (arith, le, is.behind)) is.there) one.seen two.seen);
       skips = λ i. told-append (skips_on i) (skip_notes label) (skipped i) log more ds es (skips_on-append i) skips (skipped-append i) (one.skips i) (two.skips i);
       skips_seen = subst (AllByRecursion (λ n. (0 < n.number) × (n.number ≤ length (seen_of q n.object)))) (sym (skips log more))
           (each_joined (skip_notes label log) (skip_notes label more)
@@ -297,18 +288,14 @@ pub part-append : {IsSo : List ClockLine → Type 0} {label : Label} {u : KnownO
 part-append {label = label} {u = u} {w = w} {ds = ds} {es = es} {xs = xs} {ys = ys} {log = log} {more = more} {all = all} left right same looks =
     let one = left.timers in
     let two = right.timers in
-    let told = λ (rs : List Receipt). map entry_in_note (entry_notes label rs) in
-    let joined : told (log ++ more) ≡ told log ++ told more =
-    ap (map entry_in_note) (notes-append (entry_note label) log more) ∙ map-append entry_in_note (entry_notes label log) (entry_notes label more) in
-    let told_both : IsPermutation (map receipt (xs ++ ys)) (told (log ++ more)) =
-    subst (λ rs. IsPermutation rs (told (log ++ more))) (sym (map-append receipt xs ys))
-    (subst (IsPermutation (map receipt xs ++ map receipt ys)) (sym joined) (IsPermutation-append _ _ _ _ one.told two.told)) in
+    let told : IsPermutation (map receipt (xs ++ ys)) (map entry_in_note (entry_notes label (log ++ more))) =
+    rw (map-append receipt xs ys, notes-append (entry_note label) log more, map-append entry_in_note) (IsPermutation-append _ _ _ _ one.told two.told) in
     record {
       timers = record {
         enters = enters-append one.enters two.enters;
         are = map-append receipt xs ys ∙ ap (λ rs. rs ++ map receipt ys) one.are ∙ ap (λ rs. all_entered ds ++ rs) two.are
             ∙ sym (all_entered-append ds es);
-        told = IsPermutation-trans _ _ _ told_both (IsPermutation-map entry_in_note _ _ same);
+        told = IsPermutation-trans _ _ _ told (IsPermutation-map entry_in_note _ _ same);
         no_write = wrote-append ds es one.no_write two.no_write;
         looks = λ t. ap (looks_on t) looks ∙ told-append (looks_on t) (look_notes label) (looked t) log more ds es (looks_on-append t) (notes-append (look_note label))
             (looked-append t) (one.looks t) (two.looks t);
