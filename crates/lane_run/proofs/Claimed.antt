@@ -4,18 +4,15 @@ use Rattle.std.proofs.lemmas.List.{take_more}
 use Rattle.expire_pass.specs.declared.log.Receipt.{Receipt}
 use Rattle.script_text.specs.Actions.{also}
 use Rattle.lane_run.specs.Called.{claimed_in, is_claim}
+use Rattle.lane_run.proofs.PartLists.{also-append}
 
-pub claimed_push : (rs : List Receipt) (r : Receipt) → claimed_in (rs ++ r ∷ []) ≡ claimed_in rs ++ also (is_claim r.event) r.timer []
-claimed_push [] r = refl
-claimed_push (x ∷ rs) r =
-    elim (is_claim x.event) as (λ b. also b x.timer (claimed_in (rs ++ r ∷ [])) ≡ also b x.timer (claimed_in rs) ++ also (is_claim r.event) r.timer []) [
-      | true ↦ ap (λ ts. x.timer ∷ ts) (claimed_push rs r)
-      | false ↦ claimed_push rs r
-    ]
+pub claimed_in-append : (xs ys : List Receipt) → claimed_in (xs ++ ys) ≡ claimed_in xs ++ claimed_in ys
+claimed_in-append [] ys = refl
+claimed_in-append (r ∷ xs) ys = also-append (is_claim r.event) r.timer _ _ _ (claimed_in-append xs ys)
 
 -- after one more receipt of a list
 pub claimed_next : (xs : List Receipt) (i : ℕ) (r : Receipt) (b : Bool) (old new : List ℕ) → i < length xs → r ≡ get_or xs i r → is_claim r.event ≡ b
     → old ≡ claimed_in (take i xs) → new ≡ old ++ also b r.timer [] → new ≡ claimed_in (take (i + 1) xs)
 claimed_next xs i r b old new here is claims so_far next =
     next ∙ ap (λ ts. ts ++ also b r.timer []) so_far ∙ ap (λ t. claimed_in (take i xs) ++ also t r.timer []) (sym claims)
-    ∙ sym (claimed_push (take i xs) r) ∙ sym (ap claimed_in (take_more xs i r here ∙ ap (λ x. take i xs ++ x ∷ []) (sym is)))
+    ∙ sym (claimed_in-append (take i xs) (r ∷ [])) ∙ sym (ap claimed_in (take_more xs i r here ∙ ap (λ x. take i xs ++ x ∷ []) (sym is)))

@@ -1,6 +1,8 @@
 -- Entries that a call makes of a timer, as receipts: where they stand in what its pass has seen, and the record's entries that show them.
 use Rattle.std.proofs.Common.{◌≡◌, ℕ, ◌+◌, suc, is_some, unwrap_or, Bool, true, false, ◌&&◌, not, nat_lt, if◌then◌else◌, List, [], ◌∷◌, ◌++◌, length, map, arith, refl, sym, ap, ◌∙◌, subst}
 use Rattle.std.specs.List.{AllByRecursion}
+use Rattle.std.proofs.lemmas.Grind.{common_steps}
+use Rattle.std.proofs.lemmas.Bool.Decides.{nat_tests}
 use Rattle.std.proofs.lemmas.List.{append_assoc, append-nil, map-append}
 use Rattle.ktime.specs.Times.{next_after, passed}
 use Rattle.ktime.specs.declared.clock_id.ClockId.{ClockId}
@@ -59,28 +61,17 @@ HasReading clock (events.Forward reading interval) = reading_at clock reading.st
 HasReading clock event = Unit
 
 rearmed_shown : (t : Timer) (restart : Bool) → rearmed_by t restart ≡ rearmed_as t.stamp (restart_noted (rearmed_by t restart))
-rearmed_shown t restart = at_tests (restart && not (is_some t.armed)) (nat_lt t.stamp t.limit)
-  where
-    at_tests : (wanted room : Bool)
-        → (if wanted then (if room then rearmings.Again (t.stamp + 1) else rearmings.Spent t.stamp) else rearmings.No)
-        ≡ rearmed_as t.stamp (restart_noted (if wanted then (if room then rearmings.Again (t.stamp + 1) else rearmings.Spent t.stamp) else rearmings.No))
-    at_tests true true = refl
-    at_tests true false = refl
-    at_tests false room = refl
+rearmed_shown t restart = grind (arith, common_steps, nat_tests)
 
 -- law: it shows the event and its reply, where the record's clock has the reading
 pub line_entry-shown : (clock : List ClockLine) (t : Timer) (event : Event) → HasReading clock event
     → record { event = event; reply = reply_to t event } ≡ entry_shown clock t.stamp (line_entry t event)
-line_entry-shown clock t (events.Out base) has = refl
-line_entry-shown clock t (events.Start mode ns reading asked) has =
-    ap (λ r. record { event = events.Start mode ns r asked; reply = reply_to t (events.Start mode ns reading asked) }) (sym has)
-line_entry-shown clock t events.Cancel has = refl
-line_entry-shown clock t (events.Claim base reading) has =
-    ap (λ r. record { event = events.Claim base r; reply = reply_to t (events.Claim base reading) }) (sym has)
-line_entry-shown clock t (events.Forward reading interval) has =
-    ap (λ r. record { event = events.Forward r interval; reply = reply_to t (events.Forward reading interval) }) (sym has)
+line_entry-shown clock t (events.Start mode ns reading asked) has = rw has refl
+line_entry-shown clock t (events.Claim base reading) has = rw has refl
+line_entry-shown clock t (events.Forward reading interval) has = rw has refl
 line_entry-shown clock t (events.Finish restart) has =
     ap (λ r. record { event = events.Finish restart; reply = replies.Finish (unwrap_or t.running 0) r }) (rearmed_shown t restart)
+line_entry-shown clock t event has = refl
 
 -- the entries of events in turn are shown
 pub along_shown : (clock : List ClockLine) (t : Timer) (es : List Event) → AllByRecursion (HasReading clock) es
@@ -108,6 +99,13 @@ pub record EntersNotes (IsSo : List ClockLine → Type 0) (v w : KnownOfTimers) 
   pub mine : w.mine ≡ v.mine ++ map place_of notes
   pub shows : (r : RunRecord) (order later : List TimerEntry) → order ≡ w.seen ++ later → IsSo r.clock → AllByRecursion (ShowsEntry r order) notes
 
+-- law: what a pass has made in two parts
+pub places_joined : {X : Type 0} (place : X → ℕ × ℕ) (first : List (ℕ × ℕ)) {mid last : List (ℕ × ℕ)} (xs ys : List X) → mid ≡ first ++ map place xs
+    → last ≡ mid ++ map place ys → last ≡ first ++ map place (xs ++ ys)
+places_joined place first xs ys one two =
+    two ∙ ap (λ ps. ps ++ map place ys) one ∙ append_assoc first (map place xs) (map place ys)
+    ∙ ap (λ ps. first ++ ps) (sym (map-append place xs ys))
+
 -- law: receipts of two parts of a call are those of both
 pub enters-append : {IsSo : List ClockLine → Type 0} {u v w : KnownOfTimers} {xs ys : List Noted} → EntersNotes IsSo u v xs → EntersNotes IsSo v w ys
     → EntersNotes IsSo u w (xs ++ ys)
@@ -116,8 +114,7 @@ enters-append {u = u} {v = v} {w = w} {xs = xs} {ys = ys} one two = record {
   made = made-append w.seen (length u.seen) (length v.seen) (length w.seen) xs ys
       (made_goes_on w.seen v.seen two.seen.rest (length u.seen) (length v.seen) xs two.seen.whole one.made) two.made
       (begins_length one.seen) (begins_length two.seen);
-  mine = two.mine ∙ ap (λ ps. ps ++ map place_of ys) one.mine ∙ append_assoc u.mine (map place_of xs) (map place_of ys)
-      ∙ ap (λ ps. u.mine ++ ps) (sym (map-append place_of xs ys));
+  mine = places_joined place_of u.mine xs ys one.mine two.mine;
   shows = λ r order later is so. All-append (ShowsEntry r order) xs ys
       (one.shows r order (two.seen.rest ++ later) (is ∙ ap (λ zs. zs ++ later) two.seen.whole ∙ append_assoc v.seen two.seen.rest later) so)
       (two.shows r order later is so);
@@ -132,19 +129,13 @@ enters_none {v = v} {w = w} seen mine = record {
   shows = λ r order later is so. tt;
 }
 
-numbered_places : (t k : ℕ) (notes : List Noted) (es : List histories.Entry) (shown : List Entry) → map receipt notes ≡ numbered t k shown
-    → length shown ≡ length es → places t k es ≡ map place_of notes
-numbered_places t k [] [] [] are same = refl
-numbered_places t k [] [] (s ∷ shown) are same = absurd (cc)
-numbered_places t k [] (e ∷ es) [] are same = absurd (omega (arith, same))
-numbered_places t k [] (e ∷ es) (s ∷ shown) are same = absurd (cc)
-numbered_places t k (x ∷ notes) es [] are same = absurd (cc)
-numbered_places t k (x ∷ notes) [] (s ∷ shown) are same = absurd (omega (arith, same))
-numbered_places t k (x ∷ notes) (e ∷ es) (s ∷ shown) are same =
-    let here : receipt x ≡ (t, (k + 1, s)) = cc in
-    let rest : map receipt notes ≡ numbered t (k + 1) shown = cc in
-    ap (λ (q : ℕ × (ℕ × Entry)). (q.0, q.1.0) ∷ places t (k + 1) es) (sym here)
-    ∙ ap (λ ps. place_of x ∷ ps) (numbered_places t (k + 1) notes es shown rest (omega (arith, same)))
+along_places : (t k : ℕ) (s : Timer) (es : List Event) → places t k (entries_along s es) ≡ map (λ r. (r.0, r.1.0)) (numbered t k (lines_along s es))
+along_places t k s [] = refl
+along_places t k s (e ∷ es) = ap (λ ps. (t, k + 1) ∷ ps) (along_places t (k + 1) (after s e) es)
+
+places_told : (notes : List Noted) → map (λ r. (r.0, r.1.0)) (map receipt notes) ≡ map place_of notes
+places_told [] = refl
+places_told (n ∷ notes) = ap (λ ps. place_of n ∷ ps) (places_told notes)
 
 -- the receipts of a timer's events that a call made
 pub record EntersAlong (IsSo : List ClockLine → Type 0) (v w : KnownOfTimers) (t : ℕ) (s : Timer) (es : List Event) : Type 0 where
@@ -177,12 +168,31 @@ enters_along IsSo o clocks limit {v = v} {w = w} {t = t} {x = x} es is made read
       enters = record {
         seen = begins_trans made.from made.seen;
         made = made_wider w.seen (length v.seen) (length x) (length w.seen) (length w.seen) adds.0 (begins_length made.from) (omega arith) there;
-        mine = made.mine ∙ ap (λ ps. v.mine ++ ps) (numbered_places t (count t x) adds.0 (entries_along s es) (lines_along s es) adds.2 (lines_as_many s es));
+        mine = made.mine ∙ ap (λ ps. v.mine ++ ps) (along_places t (count t x) s es ∙ ap (map (λ r. (r.0, r.1.0))) (sym adds.2) ∙ places_told adds.0);
         shows = λ r order later whole so. shows_made r order w.seen later t s.stamp adds.0 (entries_along s es) (lines_along s es) whole
             (subst (λ xs. AreEntries xs adds.0 (entries_along s es)) (sym made.seen.whole) adds.3) are (along_shown r.clock s es (reads r.clock so));
       };
       are = are;
     }
+
+-- a receipt by itself
+single : (notes : List Noted) (y : ℕ × (ℕ × Entry)) → map receipt notes ≡ y ∷ [] → (n : Noted) × (notes ≡ n ∷ []) × (receipt n ≡ y)
+single [] y is = absurd (cc)
+single (n ∷ []) y is = (n, refl, cc)
+single (n ∷ m ∷ notes) y is = absurd (cc)
+
+-- law: one event of a timer is one receipt
+pub enters_once : (IsSo : List ClockLine → Type 0) (o : Opening) (clocks : List ClockId) (limit : ℕ) {v w : KnownOfTimers} {t : ℕ} {x : List TimerEntry}
+    (e : Event) {number : ℕ} {entry : Entry} → o.timers ≡ openings clocks limit
+    → MadeAt v w t x (record { event = e; reply = reply_to (timer_then o x t) e } ∷ [])
+    → ((clock : List ClockLine) → IsSo clock → HasReading clock e) → number ≡ (timer_then o x t).stamp + 1 → line_entry (timer_then o x t) e ≡ entry
+    → (n : Noted) × EntersNotes IsSo v w (n ∷ []) × (receipt n ≡ (t, (number, entry)))
+enters_once IsSo o clocks limit {v = v} {w = w} {t = t} {x = x} e {number = number} {entry = entry} is made reads numbered shown =
+    let along = enters_along IsSo o clocks limit (e ∷ []) is made (λ clock so. (reads clock so, tt)) in
+    let are : map receipt along.notes ≡ (t, (number, entry)) ∷ [] =
+    along.are ∙ ap (λ n. (t, (n, line_entry (timer_then o x t) e)) ∷ []) (sym numbered) ∙ ap (λ s. (t, (number, s)) ∷ []) shown in
+    let one = single along.notes (t, (number, entry)) are in
+    (one.0, subst (EntersNotes IsSo v w) one.1 along.enters, one.2)
 
 -- law: a call that made no entry of its timer saw more, and made none
 pub looks_made : {v w : KnownOfTimers} {t : ℕ} {at : List TimerEntry} → MadeAt v w t at [] → Begins v.seen w.seen × (w.mine ≡ v.mine)

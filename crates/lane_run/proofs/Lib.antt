@@ -17,8 +17,7 @@ pub mod PartLists
 pub mod Declared
 pub mod Bodies
 pub mod Triggered
-pub mod FiredOnce
-pub mod FiredAll
+pub mod Fired
 pub mod PartKept
 pub mod Expired
 pub mod LaneKept

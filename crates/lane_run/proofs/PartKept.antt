@@ -31,7 +31,7 @@ use Rattle.lane_run.specs.Worlds.{WorldOf}
 use Rattle.lane_run.specs.declared.world.WorldPass.{WorldPass}
 use Rattle.lane_run.proofs.CallKept.{no_places, notes_of, notes_of-bear, places_added, promised_from, stand_from, with_done-joins}
 use Rattle.lane_run.proofs.Parts.{IsPart, object_place}
-use Rattle.lane_run.proofs.PartLists.{each_weaker, rises_lower, rises_only}
+use Rattle.lane_run.proofs.PartLists.{each_weaker, rises_lower}
 
 -- ---- the call
 
@@ -73,10 +73,9 @@ keeps_part {l = l} next m a IsSo log object_log notes t part so clock clock_mine
           skips = part.objects.skips;
           writes_rise = subst (λ ws. Rises 1 (map (λ k. k.0) ws)) (sym part.timers.no_write) tt;
           looks_rise = λ i. rises_lower 1 (receipts.count i p.timers.known.seen + 1) (map (λ k. k.0) (looked i actions)) (omega arith)
-              (rises_only (receipts.count i p.timers.known.seen + 1) (map (λ k. k.0) (looked i actions)) (receipts.count i q.timers.known.seen + 1)
-              (part.timers.looks_rise i));
+              (part.timers.looks_rise i).rise;
           objects_rise = λ i. rises_lower 1 (length (seen_of p.objects i) + 1) (map (λ k. k.0) (made i actions)) (omega arith)
-              (rises_only (length (seen_of p.objects i) + 1) (map (λ k. k.0) (made i actions)) (length (seen_of q.objects i) + 1) (part.objects.rise i));
+              (part.objects.rise i).rise;
         };
       };
       few = omega arith;

@@ -1,5 +1,5 @@
 -- Numbers that rise or never fall, and the lists of a call in two parts.
-use Rattle.std.proofs.Common.{◌≡◌, ◌≤◌, ◌<◌, ℕ, ◌+◌, true, false, nat_eq, List, [], ◌∷◌, ◌++◌, map, arith, refl, ap, ◌∙◌, Bool}
+use Rattle.std.proofs.Common.{◌≡◌, ◌≤◌, ◌<◌, ℕ, ◌+◌, true, false, nat_eq, Option, List, [], ◌∷◌, ◌++◌, map, arith, refl, ap, ◌∙◌, Bool}
 use Rattle.std.specs.List.{AllByRecursion}
 use Rattle.std.proofs.lemmas.List.{map-append}
 use Rattle.expire_pass.specs.declared.log.Receipt.{Receipt}
@@ -25,127 +25,7 @@ use Rattle.std.proofs.lemmas.List.{append-nil}
 use Rattle.clock_cell.specs.Views.{writes}
 use Rattle.lane_notes.specs.Notes.{both_noted, no_notes, NotesOf}
 use Rattle.script_text.specs.Actions.{made}
-
--- ---- numbers that rise
-
--- numbers that rise from one number on, all below another
-abbrev pub RisesTo : ℕ → List ℕ → ℕ → Type 0
-RisesTo low [] high = low ≤ high
-RisesTo low (x ∷ xs) high = (low ≤ x) × RisesTo (x + 1) xs high
-
-rises_from : (low mid : ℕ) (xs : List ℕ) (high : ℕ) → low ≤ mid → RisesTo mid xs high → RisesTo low xs high
-rises_from low mid [] high le rises = omega (arith, le, rises)
-rises_from low mid (x ∷ xs) high le rises = (omega (arith, le, rises.0), rises.1)
-
--- rising numbers, and behind them others that rise from there
-pub rises_on : (low : ℕ) (xs : List ℕ) (mid : ℕ) (ys : List ℕ) (high : ℕ) → RisesTo low xs mid → RisesTo mid ys high → RisesTo low (xs ++ ys) high
-rises_on low [] mid ys high one two = rises_from low mid ys high one two
-rises_on low (x ∷ xs) mid ys high one two = (one.0, rises_on (x + 1) xs mid ys high one.1 two)
-
--- numbers that rise to one number rise
-pub rises_only : (low : ℕ) (xs : List ℕ) (high : ℕ) → RisesTo low xs high → Rises low xs
-rises_only low [] high rises = tt
-rises_only low (x ∷ xs) high rises = (rises.0, rises_only (x + 1) xs high rises.1)
-
--- they rise from a lower number too
-pub rises_lower : (low mid : ℕ) (xs : List ℕ) → low ≤ mid → Rises mid xs → Rises low xs
-rises_lower low mid [] le rises = tt
-rises_lower low mid (x ∷ xs) le rises = (omega (arith, le, rises.0), rises.1)
-
--- numbers that never fall from one number on never fall from a lower one
-pub falls_lower : (low mid : ℕ) (xs : List ℕ) (high : ℕ) → low ≤ mid → NeverFall mid xs high → NeverFall low xs high
-falls_lower low mid [] high le fall = omega (arith, le, fall)
-falls_lower low mid (x ∷ xs) high le fall = (omega (arith, le, fall.0), fall.1)
-
--- numbers that never fall, and behind them others that never fall from there
-pub falls_on : (low : ℕ) (xs : List ℕ) (mid : ℕ) (ys : List ℕ) (high : ℕ) → NeverFall low xs mid → NeverFall mid ys high → NeverFall low (xs ++ ys) high
-falls_on low [] mid ys high one two = falls_lower low mid ys high one two
-falls_on low (x ∷ xs) mid ys high one two = (one.0, falls_on x xs mid ys high one.1 two)
-
--- a number at most, between two others
-pub one_rises : {A : Type 0} (number : ℕ) (thing : A) (low high : ℕ) (b : Bool) → (b ≡ true → (low ≤ number) × (number < high)) → low ≤ high
-    → RisesTo low (map (λ (n : ℕ × A). n.0) (also b (number, thing) [])) high
-one_rises number thing low high true bounds le = let here = bounds refl in (here.0, omega (arith, here.1))
-one_rises number thing low high false bounds le = le
-
--- a number at most, no less than one and no greater than another
-pub one_falls : (number low high : ℕ) (b : Bool) → (b ≡ true → (low ≤ number) × (number ≤ high)) → low ≤ high → NeverFall low (also b number []) high
-one_falls number low high true bounds le = bounds refl
-one_falls number low high false bounds le = le
-
--- ---- lists in two parts
-
--- an item in front of two parts, where it is there at all
-pub also-append : {A : Type 0} (b : Bool) (x : A) (all front back : List A) → all ≡ front ++ back → also b x all ≡ also b x front ++ back
-also-append true x all front back is = ap (λ xs. x ∷ xs) is
-also-append false x all front back is = is
-
--- the looks of two parts
-pub looked-append : (t : ℕ) (ds es : List Action) → looked t (ds ++ es) ≡ looked t ds ++ looked t es
-looked-append t [] es = refl
-looked-append t (Wrote number write ∷ ds) es = looked-append t ds es
-looked-append t (Entered timer number entry ∷ ds) es = looked-append t ds es
-looked-append t (Looked timer number reply ∷ ds) es = also-append (nat_eq timer t) (number, reply) _ _ _ (looked-append t ds es)
-looked-append t (Made i number entry ∷ ds) es = looked-append t ds es
-looked-append t (Skipped i number generation ∷ ds) es = looked-append t ds es
-
--- the refused expiries of two parts
-pub skipped-append : (i : ℕ) (ds es : List Action) → skipped i (ds ++ es) ≡ skipped i ds ++ skipped i es
-skipped-append i [] es = refl
-skipped-append i (Wrote number write ∷ ds) es = skipped-append i ds es
-skipped-append i (Entered timer number entry ∷ ds) es = skipped-append i ds es
-skipped-append i (Looked timer number reply ∷ ds) es = skipped-append i ds es
-skipped-append i (Made j number entry ∷ ds) es = skipped-append i ds es
-skipped-append i (Skipped j number generation ∷ ds) es = also-append (nat_eq j i) (number, generation) _ _ _ (skipped-append i ds es)
-
--- the numbers of an object in two parts
-pub numbers-append : (i : ℕ) (ds es : List Action) → numbers_of_object i (ds ++ es) ≡ numbers_of_object i ds ++ numbers_of_object i es
-numbers-append i [] es = refl
-numbers-append i (Wrote number write ∷ ds) es = numbers-append i ds es
-numbers-append i (Entered timer number entry ∷ ds) es = numbers-append i ds es
-numbers-append i (Looked timer number reply ∷ ds) es = numbers-append i ds es
-numbers-append i (Made j number entry ∷ ds) es = also-append (nat_eq j i) number _ _ _ (numbers-append i ds es)
-numbers-append i (Skipped j number generation ∷ ds) es = also-append (nat_eq j i) number _ _ _ (numbers-append i ds es)
-
--- two parts without a write have none
-pub wrote-append : (ds es : List Action) → wrote ds ≡ [] → wrote es ≡ [] → wrote (ds ++ es) ≡ []
-wrote-append [] es one two = two
-wrote-append (Wrote number write ∷ ds) es one two = absurd (cc)
-wrote-append (Entered timer number entry ∷ ds) es one two = wrote-append ds es one two
-wrote-append (Looked timer number reply ∷ ds) es one two = wrote-append ds es one two
-wrote-append (Made i number entry ∷ ds) es one two = wrote-append ds es one two
-wrote-append (Skipped i number generation ∷ ds) es one two = wrote-append ds es one two
-
--- the looks in two lists of notes
-pub looks_on-append : (t : ℕ) (xs ys : List LookNote) → looks_on t (xs ++ ys) ≡ looks_on t xs ++ looks_on t ys
-looks_on-append t [] ys = refl
-looks_on-append t (n ∷ xs) ys = also-append (nat_eq n.timer t) (n.number, n.reply) _ _ _ (looks_on-append t xs ys)
-
--- the entries of an object in two lists of notes
-pub made_on-append : (i : ℕ) (xs ys : List ObjectNote) → made_on i (xs ++ ys) ≡ made_on i xs ++ made_on i ys
-made_on-append i [] ys = refl
-made_on-append i (n ∷ xs) ys = also-append (nat_eq n.object i) (n.number, n.entry) _ _ _ (made_on-append i xs ys)
-
--- the refused expiries in two lists of notes
-pub skips_on-append : (i : ℕ) (xs ys : List SkipNote) → skips_on i (xs ++ ys) ≡ skips_on i xs ++ skips_on i ys
-skips_on-append i [] ys = refl
-skips_on-append i (n ∷ xs) ys = also-append (nat_eq n.object i) (n.number, n.generation) _ _ _ (skips_on-append i xs ys)
-
--- the notes of entries of two logs
-pub entry_notes-append : (label : Label) (xs ys : List Receipt) → entry_notes label (xs ++ ys) ≡ entry_notes label xs ++ entry_notes label ys
-entry_notes-append label xs ys = ap present (map-append (entry_note label) xs ys) ∙ present-append (map (entry_note label) xs) (map (entry_note label) ys)
-
--- the notes of looks of two logs
-pub look_notes-append : (label : Label) (xs ys : List Receipt) → look_notes label (xs ++ ys) ≡ look_notes label xs ++ look_notes label ys
-look_notes-append label xs ys = ap present (map-append (look_note label) xs ys) ∙ present-append (map (look_note label) xs) (map (look_note label) ys)
-
--- the notes of objects' entries of two logs
-pub object_notes-append : (label : Label) (xs ys : List ObjectReceipt) → object_notes label (xs ++ ys) ≡ object_notes label xs ++ object_notes label ys
-object_notes-append label xs ys = ap present (map-append (object_note label) xs ys) ∙ present-append (map (object_note label) xs) (map (object_note label) ys)
-
--- the notes of refused expiries of two logs
-pub skip_notes-append : (label : Label) (xs ys : List ObjectReceipt) → skip_notes label (xs ++ ys) ≡ skip_notes label xs ++ skip_notes label ys
-skip_notes-append label xs ys = ap present (map-append (skip_note label) xs ys) ∙ present-append (map (skip_note label) xs) (map (skip_note label) ys)
+use Rattle.std.proofs.lemmas.Bool.{eqb-true}
 
 -- ---- what holds of each
 
@@ -159,9 +39,130 @@ pub each_joined : {X : Type 0} {P Q R : X → Type 0} (xs ys : List X) → ((x :
     → AllByRecursion Q ys → AllByRecursion R (xs ++ ys)
 each_joined {R = R} xs ys left right one two = All-append R xs ys (each_weaker xs left one) (each_weaker ys right two)
 
+-- ---- numbers that rise
+
+-- things whose numbers rise from one number on, all below another
+pub record RisesTo {X : Type 0} (low : ℕ) (xs : List (ℕ × X)) (high : ℕ) : Type 0 where
+  pub rise : Rises low (map (λ n. n.0) xs)
+  pub above : AllByRecursion (λ n. low ≤ n.0) xs
+  pub below : AllByRecursion (λ n. n.0 < high) xs
+  pub le : low ≤ high
+
+-- law: none
+pub rises_none : {X : Type 0} {low high : ℕ} → low ≤ high → RisesTo {X = X} low [] high
+rises_none le = record { rise = tt; above = tt; below = tt; le = le }
+
+-- what holds of each number holds by a test for one of them
+by_number : (P : ℕ → Bool → Type 0) (i : ℕ) → P i true → ((j : ℕ) → P j false) → (j : ℕ) → P j (nat_eq i j)
+by_number P i here apart j = by_test (nat_eq i j) (eqb-true i j)
+  where
+    by_test : (b : Bool) → (b ≡ true → i ≡ j) → P j b
+    by_test true same = subst (λ k. P k true) (same refl) here
+    by_test false same = apart j
+
+-- law: one at most, in the list of this number
+pub one_rises : {X : Type 0} (i number : ℕ) (thing : X) (low high : ℕ → ℕ) → low i ≤ number → number < high i → ((j : ℕ) → low j ≤ high j) → (j : ℕ)
+    → RisesTo (low j) (also (nat_eq i j) (number, thing) []) (high j)
+one_rises i number thing low high more less le =
+    by_number (λ j b. RisesTo (low j) (also b (number, thing) []) (high j)) i
+    (record { rise = (more, tt); above = (more, tt); below = (less, tt); le = le i }) (λ j. rises_none (le j))
+
+-- numbers rise from a lower number too
+pub rises_lower : (low mid : ℕ) (xs : List ℕ) → low ≤ mid → Rises mid xs → Rises low xs
+rises_lower low mid [] le rises = tt
+rises_lower low mid (x ∷ xs) le rises = (omega (arith, le, rises.0), rises.1)
+
+-- law: behind them others that rise from there
+pub rises_on : {X : Type 0} {low mid high : ℕ} {xs ys : List (ℕ × X)} → RisesTo low xs mid → RisesTo mid ys high → RisesTo low (xs ++ ys) high
+rises_on {X = X} {low = low} {mid = mid} {xs = xs} {ys = ys} one two = record {
+  rise = joined low xs one.le one.rise one.below;
+  above = each_joined xs ys (λ x le. le) (λ x le. omega (arith, le, one.le)) one.above two.above;
+  below = each_joined xs ys (λ x less. omega (arith, less, two.le)) (λ x less. less) one.below two.below;
+  le = omega (arith, one.le, two.le);
+}
+  where
+    joined : (from : ℕ) (zs : List (ℕ × X)) → from ≤ mid → Rises from (map (λ n. n.0) zs) → AllByRecursion (λ n. n.0 < mid) zs
+        → Rises from (map (λ n. n.0) (zs ++ ys))
+    joined from [] le rise below = rises_lower from mid (map (λ n. n.0) ys) le two.rise
+    joined from (z ∷ zs) le rise below = let less = below.0 in (rise.0, joined (z.0 + 1) zs (omega (arith, less)) rise.1 below.1)
+
+-- numbers that never fall from one number on never fall from a lower one
+pub falls_lower : (low mid : ℕ) (xs : List ℕ) (high : ℕ) → low ≤ mid → NeverFall mid xs high → NeverFall low xs high
+falls_lower low mid [] high le fall = omega (arith, le, fall)
+falls_lower low mid (x ∷ xs) high le fall = (omega (arith, le, fall.0), fall.1)
+
+-- numbers that never fall, and behind them others that never fall from there
+pub falls_on : (low : ℕ) (xs : List ℕ) (mid : ℕ) (ys : List ℕ) (high : ℕ) → NeverFall low xs mid → NeverFall mid ys high → NeverFall low (xs ++ ys) high
+falls_on low [] mid ys high one two = falls_lower low mid ys high one two
+falls_on low (x ∷ xs) mid ys high one two = (one.0, falls_on x xs mid ys high one.1 two)
+
+-- law: one at most, in the list of this number
+pub one_falls : (i number : ℕ) (low high : ℕ → ℕ) → low i ≤ number → number ≤ high i → ((j : ℕ) → low j ≤ high j) → (j : ℕ)
+    → NeverFall (low j) (also (nat_eq i j) number []) (high j)
+one_falls i number low high above below le = by_number (λ j b. NeverFall (low j) (also b number []) (high j)) i (above, below) le
+
+-- ---- lists in two parts
+
+-- what is told of two lists is told of each
+abbrev pub Joins : {A B : Type 0} → (List A → List B) → Type 0
+Joins {A} f = (xs ys : List A) → f (xs ++ ys) ≡ f xs ++ f ys
+
+-- law: what two parts of a log tell is what their actions tell, where it is so of each part
+pub told-append : {N X A R : Type 0} (f : List N → List X) (g : List R → List N) (h : List A → List X) (log more : List R) (ds es : List A)
+    → Joins f → Joins g → Joins h → f (g log) ≡ h ds → f (g more) ≡ h es → f (g (log ++ more)) ≡ h (ds ++ es)
+told-append f g h log more ds es of_notes of_log of_actions one two =
+    ap f (of_log log more) ∙ of_notes (g log) (g more) ∙ ap (λ ns. ns ++ f (g more)) one ∙ ap (λ ns. h ds ++ ns) two ∙ sym (of_actions ds es)
+
+-- an item in front of two parts, where it is there at all
+pub also-append : {A : Type 0} (b : Bool) (x : A) (all front back : List A) → all ≡ front ++ back → also b x all ≡ also b x front ++ back
+also-append true x all front back is = ap (λ xs. x ∷ xs) is
+also-append false x all front back is = is
+
+-- the looks of two parts
+pub looked-append : (t : ℕ) (ds es : List Action) → looked t (ds ++ es) ≡ looked t ds ++ looked t es
+looked-append t [] es = refl
+looked-append t (Looked timer number reply ∷ ds) es = also-append (nat_eq timer t) (number, reply) _ _ _ (looked-append t ds es)
+looked-append t (d ∷ ds) es = looked-append t ds es
+
+-- the refused expiries of two parts
+pub skipped-append : (i : ℕ) (ds es : List Action) → skipped i (ds ++ es) ≡ skipped i ds ++ skipped i es
+skipped-append i [] es = refl
+skipped-append i (Skipped j number generation ∷ ds) es = also-append (nat_eq j i) (number, generation) _ _ _ (skipped-append i ds es)
+skipped-append i (d ∷ ds) es = skipped-append i ds es
+
+-- the numbers of an object in two parts
+pub numbers-append : (i : ℕ) (ds es : List Action) → numbers_of_object i (ds ++ es) ≡ numbers_of_object i ds ++ numbers_of_object i es
+numbers-append i [] es = refl
+numbers-append i (Made j number entry ∷ ds) es = also-append (nat_eq j i) number _ _ _ (numbers-append i ds es)
+numbers-append i (Skipped j number generation ∷ ds) es = also-append (nat_eq j i) number _ _ _ (numbers-append i ds es)
+numbers-append i (d ∷ ds) es = numbers-append i ds es
+
+-- two parts without a write have none
+pub wrote-append : (ds es : List Action) → wrote ds ≡ [] → wrote es ≡ [] → wrote (ds ++ es) ≡ []
+wrote-append [] es one two = two
+wrote-append (Wrote number write ∷ ds) es one two = absurd (cc)
+wrote-append (d ∷ ds) es one two = wrote-append ds es one two
+
+-- the looks in two lists of notes, the entries of an object, and the expiries that it refused
+pub looks_on-append : (t : ℕ) (xs ys : List LookNote) → looks_on t (xs ++ ys) ≡ looks_on t xs ++ looks_on t ys
+looks_on-append t [] ys = refl
+looks_on-append t (n ∷ xs) ys = also-append (nat_eq n.timer t) (n.number, n.reply) _ _ _ (looks_on-append t xs ys)
+
+pub made_on-append : (i : ℕ) (xs ys : List ObjectNote) → made_on i (xs ++ ys) ≡ made_on i xs ++ made_on i ys
+made_on-append i [] ys = refl
+made_on-append i (n ∷ xs) ys = also-append (nat_eq n.object i) (n.number, n.entry) _ _ _ (made_on-append i xs ys)
+
+pub skips_on-append : (i : ℕ) (xs ys : List SkipNote) → skips_on i (xs ++ ys) ≡ skips_on i xs ++ skips_on i ys
+skips_on-append i [] ys = refl
+skips_on-append i (n ∷ xs) ys = also-append (nat_eq n.object i) (n.number, n.generation) _ _ _ (skips_on-append i xs ys)
+
+-- the notes of two logs, of each kind
+pub notes-append : {R N : Type 0} (note : R → Option N) (xs ys : List R) → present (map note (xs ++ ys)) ≡ present (map note xs) ++ present (map note ys)
+notes-append note xs ys = ap present (map-append note xs ys) ∙ present-append (map note xs) (map note ys)
+
 -- a permutation that is none
-pub same_order : {A : Type 0} (xs ys : List A) → xs ≡ ys → IsPermutation xs ys
-same_order xs ys is = subst (IsPermutation xs) is (IsPermutation-refl xs)
+pub same_order : {A : Type 0} {xs ys : List A} → xs ≡ ys → IsPermutation xs ys
+same_order {xs = xs} is = subst (IsPermutation xs) is (IsPermutation-refl xs)
 
 -- notes are the same where each list of them is
 pub notes_same : (a b : NotesOf) → a.entries ≡ b.entries → a.looks ≡ b.looks → a.objects ≡ b.objects → a.skips ≡ b.skips → a.writes ≡ b.writes → a ≡ b
@@ -178,12 +179,11 @@ no_notes-joins notes =
     notes_same notes (both_noted notes no_notes) (sym (append-nil notes.entries)) (sym (append-nil notes.looks)) (sym (append-nil notes.objects))
     (sym (append-nil notes.skips)) (sym (append-nil notes.writes))
 
+-- ---- entries of timers, and nothing else
+
 abbrev pub IsEntered : Action → Type 0
 IsEntered (Entered timer number entry) = Unit
-IsEntered (Wrote number write) = ⊥
-IsEntered (Looked timer number reply) = ⊥
-IsEntered (Made i number entry) = ⊥
-IsEntered (Skipped i number generation) = ⊥
+IsEntered d = ⊥
 
 -- there is nothing else among them
 pub record HasNoOther (ds : List Action) : Type 0 where
@@ -199,7 +199,4 @@ no_other [] all = record { wrote = refl; looked = λ t. refl; made = λ i. refl;
 no_other (Entered timer number entry ∷ ds) all =
     let rest = no_other ds all.1 in
     record { wrote = rest.wrote; looked = rest.looked; made = rest.made; skipped = rest.skipped; numbers = rest.numbers }
-no_other (Wrote number write ∷ ds) all = absurd all.0
-no_other (Looked timer number reply ∷ ds) all = absurd all.0
-no_other (Made i number entry ∷ ds) all = absurd all.0
-no_other (Skipped i number generation ∷ ds) all = absurd all.0
+no_other (d ∷ ds) all = absurd all.0

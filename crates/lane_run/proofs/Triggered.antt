@@ -44,14 +44,14 @@ use Rattle.run_history.specs.Calls.{IsBody, IsTrigger}
 use Rattle.run_history.specs.Courses.{Fired}
 use Rattle.run_history.proofs.Lists.{at_left, at_seam}
 use Rattle.lane_run.specs.Kept.{AreObjectLines, made_on, ObjectMove, skips_on, FollowsObject}
-use Rattle.lane_run.proofs.Bodies.{BodyKept, fired_of, timers_still}
 use Rattle.pass_names.proofs.Passes.{begins_length}
-use Rattle.lane_run.proofs.Parts.{IsNoteIn, object_place, IsNotedAs, objects_made, noted_at}
-use Rattle.lane_run.proofs.PartLists.{one_falls}
 use Rattle.run_history.specs.Runs.{Ending}
 use Rattle.lane_run.proofs.ObjectSeen.{span_made}
-
--- ---- the record's spans
+use Rattle.timer_objects.specs.Firings.{Firing}
+use Rattle.lane_run.proofs.Entering.{enters_none, EntersNotes}
+use Rattle.lane_run.proofs.PartLists.{one_falls, rises_none}
+use Rattle.lane_run.proofs.SeenMore.{begins_same}
+use Rattle.lane_run.proofs.Parts.{BodyKept, fired_of, IsClaimed, IsNotedAs, IsNoteIn, IsObjectsPart, noted_at, object_place, objects_grow, part_claimed, part_made, part_of_objects}
 
 -- ---- the note of a trigger
 
@@ -64,88 +64,83 @@ TriggerNoted call reply generation reading =
 pub posix_noted : (x : Object) (generation : ℕ) (reading : ClockReading) → ObjectAllows x (of_kind.Posix (posix_calls.Trigger generation reading))
     → TriggerNoted (of_kind.Posix (posix_calls.Trigger generation reading)) (object_answer x (of_kind.Posix (posix_calls.Trigger generation reading)))
     generation reading
-posix_noted objects.Raw generation reading allows = absurd allows
-posix_noted (objects.Fd t) generation reading allows = absurd allows
 posix_noted (objects.Posix t) generation reading allows = by_test (is_expiry_of t.phase generation reading)
   where
-    by_test : (b : Bool) → TriggerNoted (of_kind.Posix (posix_calls.Trigger generation reading))
-        (replies.Posix (posix_replies.Trigger (if b then triggers.Counted else triggers.Stale))) generation reading
-    by_test true = (
-      true,
-      noted_at reading (λ r. of_kind.Posix (posix_calls.Trigger generation r)) (replies.Posix (posix_replies.Trigger triggers.Counted)) _ refl refl
-          (λ clock. refl),
-    )
-    by_test false = (
-      false,
-      noted_at reading (λ r. of_kind.Posix (posix_calls.Trigger generation r)) (replies.Posix (posix_replies.Trigger triggers.Stale)) _ refl refl
-          (λ clock. refl),
-    )
+    call : ClockReading → ObjectCall
+    call r = of_kind.Posix (posix_calls.Trigger generation r)
+
+    by_test : (b : Bool) → TriggerNoted (call reading) (replies.Posix (posix_replies.Trigger (if b then triggers.Counted else triggers.Stale))) generation
+        reading
+    by_test true = (true, noted_at reading call _ _ refl refl (λ clock. refl))
+    by_test false = (false, noted_at reading call _ _ refl refl (λ clock. refl))
+posix_noted x generation reading allows = absurd allows
 
 -- law: a trigger of a descriptor that made an entry is noted
 pub fd_noted : (x : Object) (generation : ℕ) (reading : ClockReading) → ObjectAllows x (of_kind.Fd (fd_calls.Trigger generation reading))
     → TriggerNoted (of_kind.Fd (fd_calls.Trigger generation reading)) (object_answer x (of_kind.Fd (fd_calls.Trigger generation reading))) generation reading
-fd_noted objects.Raw generation reading allows = absurd allows
-fd_noted (objects.Posix t) generation reading allows = absurd allows
 fd_noted (objects.Fd t) generation reading allows = by_test (is_expiry_of t.phase generation reading)
   where
-    by_test : (b : Bool) → TriggerNoted (of_kind.Fd (fd_calls.Trigger generation reading))
-        (replies.Fd (fd_replies.Trigger (if b then triggers.Counted else triggers.Stale))) generation reading
-    by_test true = (
-      true,
-      noted_at reading (λ r. of_kind.Fd (fd_calls.Trigger generation r)) (replies.Fd (fd_replies.Trigger triggers.Counted)) _ refl refl
-          (λ clock. refl),
-    )
-    by_test false = (
-      false,
-      noted_at reading (λ r. of_kind.Fd (fd_calls.Trigger generation r)) (replies.Fd (fd_replies.Trigger triggers.Stale)) _ refl refl
-          (λ clock. refl),
-    )
+    call : ClockReading → ObjectCall
+    call r = of_kind.Fd (fd_calls.Trigger generation r)
+
+    by_test : (b : Bool) → TriggerNoted (call reading) (replies.Fd (fd_replies.Trigger (if b then triggers.Counted else triggers.Stale))) generation reading
+    by_test true = (true, noted_at reading call _ _ refl refl (λ clock. refl))
+    by_test false = (false, noted_at reading call _ _ refl refl (λ clock. refl))
+fd_noted x generation reading allows = absurd allows
 
 -- ---- the trigger
 
 module _ (IsSo : List ClockLine → Type 0) (s : Script) (x : ObjectsOf) (limit : x.limit ≡ s.limit) (some : 1 ≤ s.limit) (label : Label) (c : ClaimNumbers)
-    (numbered : 0 < c.number) (reading : ClockReading) (so : (clock : List ClockLine) → IsSo clock → reading_at clock reading.stamp ≡ reading)
-    (v w : KnownOfTimers) (p q : ObjectsPass) (log log' : List Receipt) (object_log object_log' : List ObjectReceipt) (same : w ≡ v) (same_log : log' ≡ log)
-    (restart : Restart) (stops : restart ≡ wishes.Stop) where
+    (reading : ClockReading) (so : (clock : List ClockLine) → IsSo clock → reading_at clock reading.stamp ≡ reading) {k v : KnownOfTimers}
+    (claim : IsClaimed IsSo c reading.stamp k v) (restart : Restart) (h h' : Firing) (same_log : h'.log.receipts ≡ h.log.receipts)
+    (stops : restart ≡ wishes.Stop) (is_body : (f : Fired) → IsTrigger reading.stamp f → IsBody (kind_of s c.timer) reading.stamp f) where
+  abbrev p : ObjectsPass
+  p = h.objects_pass.now
+
+  abbrev q : ObjectsPass
+  q = h'.objects_pass.now
+
+  -- the claim's function has left timers alone
+  still : EntersNotes IsSo v v []
+  still = enters_none (begins_same refl) refl
+
   -- a trigger that made an entry
   entered_trigger : (call : ObjectCall) → ((y : Object) → ObjectAllows y call → TriggerNoted call (object_answer y call) c.generation reading)
-      → ((f : Fired) → IsTrigger reading.stamp f → f.timer ≡ c.timer → IsBody (kind_of s c.timer) reading.stamp f)
-      → EntersTrigger x p q object_log object_log' c.timer (spanned call (span_of c))
-      → BodyKept IsSo s label c reading.stamp restart v w p q log log' object_log object_log'
-  entered_trigger call notes is_body t =
+      → EntersTrigger x p q h.object_log.receipts h'.object_log.receipts c.timer (spanned call (span_of c))
+      → BodyKept IsSo s label c reading claim restart v h h'
+  entered_trigger call notes t =
       let adds = t.commits.adds in
       let state = t.commits.state in
       let n = notes state.object t.may.allowed in
       let many = length adds.before in
-      let entry = object_entries.Trigger c.generation reading.stamp n.0 in
       let step : ObjectMove = record { call = spanned call (span_of c); reply = object_answer state.object call } in
-      let body = Made c.timer (many + 1) entry ∷ [] in
+      let body = Made c.timer (many + 1) (object_entries.Trigger c.generation reading.stamp n.0) ∷ [] in
       record {
         body = body;
-        timers = timers_still IsSo label c.timer v w log log' body same same_log refl refl (λ t. refl);
-        objects = record {
-          log = record { object = c.timer; number = many + 1; call = step.call; reply = step.reply } ∷ [];
-          adds = t.receipt;
-          part = objects_made adds t.commits.opening
-              (record { noted = n.1.noted; no_skip = n.1.no_skip; shows = λ clock is. n.1.shows clock (so clock is) });
-        };
-        kind = λ finish rearmed. is_body (fired_of c body finish (asks restart) rearmed) (inl (many + 1, n.0, refl), ap asks stops) refl;
+        notes = [];
+        more = [];
+        object_more = record { object = c.timer; number = many + 1; call = step.call; reply = step.reply } ∷ [];
+        adds = same_log ∙ sym (append-nil h.log.receipts);
+        adds_objects = t.receipt;
+        enters = still;
+        part = part_claimed claim (part_made {step = step} adds t.commits.opening
+            (record { noted = n.1.noted; no_skip = n.1.no_skip; shows = λ clock is. n.1.shows clock (so clock is) }));
+        kind = λ finish rearmed. is_body (fired_of c body finish (asks restart) rearmed) (inl (many + 1, n.0, refl), ap asks stops);
         holds = λ e joined goes before points. tt;
         span = λ e follows finish rearmed. (
           c.number - 1,
-          omega (arith, numbered),
+          omega (arith, claim.some),
           span_made q e c.timer many step (follows c.timer)
               (subst (λ ys. slice_get ys many ≡ Some step) (sym adds.last) (at_seam adds.before [] step)),
         );
       }
 
   -- a trigger that a full history refused
-  refused_trigger : (call : ObjectCall) → ((k : ℕ) → object_entry_noted call (refused_at call k) ≡ None)
-      → ((k : ℕ) → skip_generation call (refused_at call k) ≡ Some c.generation)
-      → ((f : Fired) → IsTrigger reading.stamp f → f.timer ≡ c.timer → IsBody (kind_of s c.timer) reading.stamp f)
-      → SkipsTrigger x p q object_log object_log' c.timer (spanned call (span_of c))
-      → BodyKept IsSo s label c reading.stamp restart v w p q log log' object_log object_log'
-  refused_trigger call no_entry skip is_body t =
+  refused_trigger : (call : ObjectCall) → ((n : ℕ) → object_entry_noted call (refused_at call n) ≡ None)
+      → ((n : ℕ) → skip_generation call (refused_at call n) ≡ Some c.generation)
+      → SkipsTrigger x p q h.object_log.receipts h'.object_log.receipts c.timer (spanned call (span_of c))
+      → BodyKept IsSo s label c reading claim restart v h h'
+  refused_trigger call no_entry skip t =
       let many = length (seen_of q c.timer) in
       let r : ObjectReceipt = record { object = c.timer; number = many; call = spanned call (span_of c); reply = refused_at call many } in
       let note : SkipNote = record { label = label; object = c.timer; number = many; generation = c.generation } in
@@ -154,40 +149,35 @@ module _ (IsSo : List ClockLine → Type 0) (s : Script) (x : ObjectsOf) (limit 
       let are : skip_notes label (r ∷ []) ≡ note ∷ [] =
       ap (λ o. present (option_map (λ (y : ℕ). record { label = label; object = c.timer; number = many; generation = y }) o ∷ [])) (skip many) in
       let body = Skipped c.timer many c.generation ∷ [] in
-      let grows : (i : ℕ) → length (seen_of p i) ≤ length (seen_of q i) =
-      λ i. begins_length (t.reads.pass.seen.each i) in
-      let bounds : (i : ℕ) → nat_eq c.timer i ≡ true → (length (seen_of p i) ≤ many) × (many ≤ length (seen_of q i)) =
-      λ i is. let here = eqb-true c.timer i is in
-      let le = grows i in
-      let high : many ≡ length (seen_of q i) = ap (λ j. length (seen_of q j)) here in
-      (omega (arith, le, high), omega (arith, high)) in
+      let grows = objects_grow p q t.reads.pass.seen in
+      let part : IsObjectsPart IsSo label p q body (r ∷ []) = record {
+        makes = λ i. ap (made_on i) no_notes;
+        rise = λ i. let le = grows i in rises_none (omega (arith, le));
+        seen = subst (AllByRecursion (IsNoteIn IsSo p q)) (sym no_notes) tt;
+        skips = λ i. ap (skips_on i) are;
+        skips_seen = subst (AllByRecursion (λ n. (0 < n.number) × (n.number ≤ length (seen_of q n.object)))) (sym are)
+            ((omega (arith, t.full, limit, some), omega arith), tt);
+        steps = one_falls c.timer many (λ i. length (seen_of p i)) (λ i. length (seen_of q i)) (grows c.timer) (omega arith) grows;
+        goes_on = t.reads.pass.seen;
+        opening = t.reads.opening;
+        mine = t.reads.pass.mine ∙ sym (append-nil p.knows.pass.mine) ∙ ap (λ ns. p.knows.pass.mine ++ map object_place ns) (sym no_notes);
+      } in
       record {
         body = body;
-        timers = timers_still IsSo label c.timer v w log log' body same same_log refl refl (λ t. refl);
-        objects = record {
-          log = r ∷ [];
-          adds = t.receipt;
-          part = record {
-            makes = λ i. ap (made_on i) no_notes;
-            rise = λ i. let le = grows i in omega (arith, le);
-            seen = subst (AllByRecursion (IsNoteIn IsSo p q)) (sym no_notes) tt;
-            skips = λ i. ap (skips_on i) are;
-            skips_seen = subst (AllByRecursion (λ k. (0 < k.number) × (k.number ≤ length (seen_of q k.object)))) (sym are)
-                ((omega (arith, t.full, limit, some), omega arith), tt);
-            steps = λ i. one_falls many (length (seen_of p i)) (length (seen_of q i)) (nat_eq c.timer i) (bounds i) (grows i);
-            goes_on = t.reads.pass.seen;
-            opening = t.reads.opening;
-            mine = t.reads.pass.mine ∙ sym (append-nil p.knows.pass.mine) ∙ ap (λ ns. p.knows.pass.mine ++ map object_place ns) (sym no_notes);
-          };
-        };
-        kind = λ finish rearmed. is_body (fired_of c body finish (asks restart) rearmed) (inr (many, refl), ap asks stops) refl;
+        notes = [];
+        more = [];
+        object_more = r ∷ [];
+        adds = same_log ∙ sym (append-nil h.log.receipts);
+        adds_objects = t.receipt;
+        enters = still;
+        part = part_claimed claim (part_of_objects refl refl (λ t. refl) part);
+        kind = λ finish rearmed. is_body (fired_of c body finish (asks restart) rearmed) (inr (many, refl), ap asks stops);
         holds = λ e joined goes before points. (points c.timer (λ j. refl), omega (arith, t.full, limit));
         span = λ e follows finish rearmed. tt;
       }
 
   -- law: what the claim of an object's timer does
   pub trigger_kept : (call : ObjectCall) → ((y : Object) → ObjectAllows y call → TriggerNoted call (object_answer y call) c.generation reading)
-      → ((k : ℕ) → object_entry_noted call (refused_at call k) ≡ None) → ((k : ℕ) → skip_generation call (refused_at call k) ≡ Some c.generation)
-      → ((f : Fired) → IsTrigger reading.stamp f → f.timer ≡ c.timer → IsBody (kind_of s c.timer) reading.stamp f)
-      → Triggers x p q object_log object_log' c call → BodyKept IsSo s label c reading.stamp restart v w p q log log' object_log object_log'
-  trigger_kept call notes no_entry skip is_body triggers = ⊎_elim (entered_trigger call notes is_body) (refused_trigger call no_entry skip is_body) triggers
+      → ((n : ℕ) → object_entry_noted call (refused_at call n) ≡ None) → ((n : ℕ) → skip_generation call (refused_at call n) ≡ Some c.generation)
+      → Triggers x p q h.object_log.receipts h'.object_log.receipts c call → BodyKept IsSo s label c reading claim restart v h h'
+  trigger_kept call notes no_entry skip triggers = ⊎_elim (entered_trigger call notes) (refused_trigger call no_entry skip) triggers

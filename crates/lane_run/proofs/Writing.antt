@@ -127,7 +127,7 @@ write_kept {s = s} {l = l} {m = m} {write = write} next (Ok r) w timers objects 
         | WriteNotes ↦ (refl, tt)
       ];
       tells = record {
-        receipts = same_order [] [] refl;
+        receipts = same_order refl;
         tells = record {
           writes = refl;
           looks = λ i. refl;
