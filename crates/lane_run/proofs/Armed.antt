@@ -1,21 +1,18 @@
--- A start that a call on an object makes of the object's timer, as a part of the call: its entries with their receipts, and the timer after it.
+-- What a call on an object does to the object's timer, as parts of the call: its disarming, a start, the receipts of both, and the timer after them.
 use Rattle.std.proofs.Common.{Bool, false, ◌≡◌, ◌≤◌, ◌<◌, ℕ, ◌+◌, Some, List, [], ◌∷◌, ◌++◌, length, map, option_map, arith, refl, sym, ap, ◌∙◌, subst}
 use Rattle.std.specs.List.{AllByRecursion}
 use Rattle.std.proofs.lemmas.List.{append-nil}
 use Rattle.ktime.specs.Readings.{ClockReading}
-use Rattle.ktime.specs.declared.clock_id.ClockId.{ClockId}
 use Rattle.ktime.specs.declared.mode.Mode.{Mode}
 use Rattle.seq_timer.specs.Histories as histories
 use Rattle.seq_timer.specs.Histories.{Holds}
 use Rattle.seq_timer.specs.Steps.{after, reply_to, Timer}
-use Rattle.seq_timer.specs.Systems.{openings, system_after}
 use Rattle.seq_timer.specs.declared.event.Event.TheVariants as events
 use Rattle.seq_timer.specs.declared.event.Event.{Event}
 use Rattle.seq_timer.specs.declared.observation.Observation.TheVariants as observations
 use Rattle.seq_timer.specs.declared.system.TimerEntry.{TimerEntry}
 use Rattle.timer_core.specs.Answers.{moves_first, start_events}
 use Rattle.timer_core.specs.Runs.{entries_along}
-use Rattle.base_row.specs.declared.view.Opening.{Opening}
 use Rattle.expire_pass.specs.declared.log.Receipt.{Receipt}
 use Rattle.hr_timers.specs.Calls.{start_entries, StartsTimer}
 use Rattle.hr_timers.specs.Known.{KnownOfTimers, MadeAt, timer_then}
@@ -26,7 +23,6 @@ use Rattle.timer_setting.specs.declared.arming.Arm.TheVariants as arms
 use Rattle.timer_setting.specs.declared.arming.Arm.{Arm}
 use Rattle.timer_setting.specs.declared.arming.Wanted.{Wanted}
 use Rattle.timer_objects.specs.Arming.{arm_of, receipts_of, Starts}
-use Rattle.timer_objects.specs.Known.{ObjectsPass}
 use Rattle.record_text.specs.declared.record.ClockLine.{ClockLine}
 use Rattle.record_text.specs.declared.record.Entry.{Entry}
 use Rattle.record_text.specs.declared.record.Label.{Label}
@@ -44,7 +40,6 @@ use Rattle.run_history.specs.Receipts.{Noted}
 use Rattle.run_history.specs.Traces.{all_entered}
 use Rattle.run_history.specs.Truths.{IsTrueStart}
 use Rattle.run_history.proofs.Known.{numbered}
-use Rattle.run_history.proofs.ObjectsMade.{refused_seen}
 use Rattle.run_history.proofs.PassState.{state_seen, timer_seen}
 use Rattle.lane_run.specs.Kept.{entry_in_note}
 use Rattle.lane_run.proofs.CallKept.{inside_of}
@@ -54,20 +49,36 @@ use Rattle.lane_run.proofs.Parts.{IsPart, part_none, part_entered}
 use Rattle.lane_run.proofs.PartLists.{IsEntered}
 use Rattle.lane_run.proofs.Entering.{looks_made}
 use Rattle.lane_run.proofs.Starts.{start_reads, started_so}
+use Rattle.std.proofs.Common.{unwrap_or, Option, None}
+use Rattle.seq_timer.specs.Histories.{IsIdle}
+use Rattle.seq_timer.specs.declared.event.Reply.TheVariants as replies
+use Rattle.timer_core.specs.declared.answer.CancelAnswer.TheVariants as cancelled
+use Rattle.timer_core.specs.declared.answer.CancelAnswer.{CancelAnswer}
+use Rattle.hr_timers.specs.Calls.{cancel_entries, Cancels}
+use Rattle.script_text.specs.ObjectCalls.{cancels}
+use Rattle.script_text.specs.Objects.{ArmedAs}
+use Rattle.script_text.specs.declared.script.Call.{Call}
+use Rattle.run_history.specs.Courses as courses
+use Rattle.run_history.specs.Truths.{SawRefusal}
+use Rattle.run_history.proofs.ObjectsMade.{refusal_seen}
+use Rattle.lane_run.specs.Called.{LaneOf}
+use Rattle.lane_run.specs.Kept.{IsNextCall}
+use Rattle.lane_run.specs.Worlds.{WorldOf}
+use Rattle.lane_run.proofs.CallKept.{opened_timers}
+
+-- a record's clock has a reading
+abbrev pub HasRead : ClockReading → List ClockLine → Type 0
+HasRead reading clock = reading_at clock reading.stamp ≡ reading
 
 -- ---- receipts of entries
 
--- law: an event with its reply is noted as the record's entry of it
-pub entry_noted-line : (s : Timer) (event : Event) → entry_noted event (reply_to s event) ≡ Some (line_entry s event)
-entry_noted-line s (events.Out base) = refl
-entry_noted-line s (events.Start mode ns reading asked) = refl
+-- an event with its reply is noted as the record's entry of it
+entry_noted-line : (s : Timer) (event : Event) → entry_noted event (reply_to s event) ≡ Some (line_entry s event)
 entry_noted-line s events.Cancel = refl
-entry_noted-line s (events.Claim base reading) = refl
-entry_noted-line s (events.Forward reading interval) = refl
-entry_noted-line s (events.Finish restart) = refl
+entry_noted-line s event = refl
 
--- law: receipts of a timer's entries are noted as the record's entries, by number
-pub receipts_of-noted : (label : Label) (t n : ℕ) (s : Timer) (es : List Event)
+-- receipts of a timer's entries are noted as the record's entries, by number
+receipts_of-noted : (label : Label) (t n : ℕ) (s : Timer) (es : List Event)
     → map entry_in_note (entry_notes label (receipts_of t n (entries_along s es))) ≡ numbered t n (lines_along s es)
 receipts_of-noted label t n s [] = refl
 receipts_of-noted label t n s (e ∷ es) =
@@ -76,36 +87,22 @@ receipts_of-noted label t n s (e ∷ es) =
     (entry_noted-line s e)
     ∙ ap (λ xs. (t, (n + 1, line_entry s e)) ∷ xs) (receipts_of-noted label t (n + 1) (after s e) es)
 
--- law: they are no looks
-pub receipts_of-no_looks : (label : Label) (t n : ℕ) (es : List histories.Entry) → look_notes label (receipts_of t n es) ≡ []
+-- they are no looks
+receipts_of-no_looks : (label : Label) (t n : ℕ) (es : List histories.Entry) → look_notes label (receipts_of t n es) ≡ []
 receipts_of-no_looks label t n [] = refl
 receipts_of-no_looks label t n (e ∷ es) = receipts_of-no_looks label t (n + 1) es
 
 -- ---- entries of a timer
 
 -- law: the receipts of a part stand between what was seen before and behind it
-pub places_inside : (IsSo : List ClockLine → Type 0) (v w : KnownOfTimers) (notes : List Noted) → EntersNotes IsSo v w notes
+pub places_inside : {IsSo : List ClockLine → Type 0} {v w : KnownOfTimers} {notes : List Noted} → EntersNotes IsSo v w notes
     → AllByRecursion (λ x. (length v.seen ≤ x.place) × (x.place < length w.seen)) notes
-places_inside IsSo v w notes enters =
+places_inside {v = v} {w = w} {notes = notes} enters =
     inside_of (length v.seen) (length v.seen) (length w.seen) notes (omega arith) enters.made.rise enters.made.below
 
--- law: the entries that a call made of a timer at a moment, with a receipt of each, are a part of the call
-pub part_along : (IsSo : List ClockLine → Type 0) (label : Label) (o : Opening) (clocks : List ClockId) (limit : ℕ) (v w : KnownOfTimers) (p : ObjectsPass)
-    (t : ℕ) (x : List TimerEntry) (es : List Event) (actions : List Action) → o.timers ≡ openings clocks limit
-    → MadeAt v w t x (entries_along (timer_then o x t) es) → ((clock : List ClockLine) → IsSo clock → AllByRecursion (HasReading clock) es)
-    → AllByRecursion IsEntered actions → numbered t (timer_then o x t).stamp (lines_along (timer_then o x t) es) ≡ all_entered actions
-    → (notes : List Noted)
-    × IsPart IsSo label v p w p actions notes (receipts_of t (timer_then o x t).stamp (entries_along (timer_then o x t) es)) []
-part_along IsSo label o clocks limit v w p t x es actions is made reads only lines =
-    let s = timer_then o x t in
-    let log = receipts_of t s.stamp (entries_along s es) in
-    let along = enters_along IsSo o clocks limit es is made reads in (
-      along.notes,
-      part_entered along.enters refl only (along.are ∙ lines)
-          (along.are ∙ sym (receipts_of-noted label t s.stamp s es)) (receipts_of-no_looks label t s.stamp (entries_along s es)),
-    )
-
--- ---- a start
+-- what a part of a call did to timers alone: its notes, and that they are a part
+abbrev pub TimersPart : LaneOf → ClockReading → KnownOfTimers → KnownOfTimers → List Action → List Receipt → Type 0
+TimersPart l reading v w actions log = (notes : List Noted) × IsPart (HasRead reading) l.label v l.pass.objects w l.pass.objects actions notes log []
 
 -- what became of a start, by the timer where its pass has seen it end
 abbrev pub IsArmedSo : Arm → Timer → Type 0
@@ -114,97 +111,119 @@ IsArmedSo (arms.Armed generation) s = s.stamp ≡ generation
 IsArmedSo (arms.Unarmed stamp) s = (s.stamp ≡ stamp) × Holds s observations.Spent × (s.moving ≡ false)
 
 -- a start that was made or refused, or none, as a part of a call on an object: its actions, receipts and notes, and what became of it
-pub record StartPart (IsSo : List ClockLine → Type 0) (label : Label) (o : Opening) (v w : KnownOfTimers) (p : ObjectsPass) (t : ℕ) (mode : Mode)
-    (ns base : ℕ) (reading : ClockReading) (arm : Arm) (log log' : List Receipt) : Type 0 where
+pub record StartPart (x : WorldOf) (l : LaneOf) (t : ℕ) (v w : KnownOfTimers) (mode : Mode) (ns base : ℕ) (reading : ClockReading) (arm : Arm)
+    (log log' : List Receipt) : Type 0 where
   pub start : List Action
-  pub notes : List Noted
   pub more : List Receipt
   pub adds : log' ≡ log ++ more
   pub arms : Arms t mode ns reading.stamp base (arm_noted arm) start
-  pub part : IsPart IsSo label v p w p start notes more []
-  pub armed : IsArmedSo arm (timer_then o w.seen t)
+  pub part : TimersPart l reading v w start more
+  pub armed : IsArmedSo arm (timer_then x.timers.about w.seen t)
 
--- law: no start
-pub start_none : (IsSo : List ClockLine → Type 0) (label : Label) (o : Opening) (v w : KnownOfTimers) (p : ObjectsPass) (t : ℕ) (mode : Mode) (ns base : ℕ)
-    (reading : ClockReading) (log log' : List Receipt) → w ≡ v → log' ≡ log
-    → StartPart IsSo label o v w p t mode ns base reading arms.NotAsked log log'
-start_none IsSo label o v w p t mode ns base reading log log' alone same = record {
-  start = [];
-  notes = [];
-  more = [];
-  adds = same ∙ sym (append-nil log);
-  arms = refl;
-  part = part_none (begins_same (ap (λ k. k.seen) alone)) (ap (λ k. k.mine) alone);
-  armed = tt;
-}
+-- a timer that nobody cancelled was idle
+abbrev pub IsIdleOr : Timer → Option (ℕ × ℕ) → Type 0
+IsIdleOr u None = IsIdle u
+IsIdleOr u (Some cancel) = Unit
 
 -- the generation that a start answers
 abbrev generation_of : StartAnswer → ℕ
 generation_of (starts.Started was generation base outs clock expires) = generation
 generation_of (starts.Spent n) = n
 
-module _ (IsSo : List ClockLine → Type 0) (label : Label) (o : Opening) (clocks : List ClockId) (limit : ℕ) (is : o.timers ≡ openings clocks limit)
-    (v w : KnownOfTimers) (p : ObjectsPass) (t : ℕ) (wanted : Wanted) (base : ℕ) (reading : ClockReading)
-    (so : (clock : List ClockLine) → IsSo clock → reading_at clock reading.stamp ≡ reading) (log log' : List Receipt) where
-  start_by : (a : StartAnswer) (s : StartsTimer o v w t wanted.mode wanted.ns base reading a)
-      → log' ≡ log ++ receipts_of t (timer_then o s.at t).stamp (start_entries (timer_then o s.at t) wanted.mode wanted.ns base reading a)
-      → StartPart IsSo label o v w p t wanted.mode wanted.ns base reading (arm_of a) log log'
-  start_by (starts.Spent n) s receipts =
-      let u = timer_then o s.at t in
-      let looks = looks_made s.made in
-      let same : u ≡ timer_then o w.seen t = sym (timer_after o v w t s.at [] s.made) in
-      record {
-        start = [];
-        notes = [];
-        more = [];
-        adds = receipts;
-        arms = refl;
-        part = part_none looks.0 looks.1;
-        armed = subst (IsArmedSo (arms.Unarmed n)) same (sym s.fits.2, s.fits.1, s.fits.0);
-      }
-  start_by (starts.Started was generation on outs clock expires) s receipts =
-      let u = timer_then o s.at t in
-      let es = start_events u wanted.mode wanted.ns base reading in
-      let answer = starts.Started was generation on outs clock expires in
-      let as_told = started_so u t wanted.mode wanted.ns base reading answer s.fits.2 in
-      let a = as_told.arming in
-      let its = part_along IsSo label o clocks limit v w p t s.at es (arming_actions t wanted.mode wanted.ns reading.stamp base a) is s.made
-      (λ clock has. start_reads wanted.mode wanted.ns base reading clock (moves_first u base) (so clock has)) as_told.only as_told.lines in
-      let told = as_told.told in
-      let number : generation ≡ a.number = cc in
-      record {
-        start = arming_actions t wanted.mode wanted.ns reading.stamp base a;
-        notes = its.0;
-        more = receipts_of t u.stamp (entries_along u es);
-        adds = receipts;
-        arms = (a, refl, number, as_told.just);
-        part = its.1;
-        armed = ap (λ (x : Timer). x.stamp) (timer_after o v w t s.at (entries_along u es) s.made ∙ along u es) ∙ sym (ap generation_of s.fits.2);
-      }
+module _ {s : Script} {x : WorldOf} {l : LaneOf} {call : Call} (next : IsNextCall s x l call) (t : ℕ) (reading : ClockReading) {v w : KnownOfTimers} where
+  -- the entries that the call made of its timer at a moment, with a receipt of each
+  part_along : (at : List TimerEntry) (es : List Event) (actions : List Action) → MadeAt v w t at (entries_along (timer_then x.timers.about at t) es)
+      → ((clock : List ClockLine) → HasRead reading clock → AllByRecursion (HasReading clock) es) → AllByRecursion IsEntered actions
+      → numbered t (timer_then x.timers.about at t).stamp (lines_along (timer_then x.timers.about at t) es) ≡ all_entered actions
+      → TimersPart l reading v w actions (receipts_of t (timer_then x.timers.about at t).stamp (entries_along (timer_then x.timers.about at t) es))
+  part_along at es actions made reads only lines =
+      let u = timer_then x.timers.about at t in
+      let log = receipts_of t u.stamp (entries_along u es) in
+      let along = enters_along (HasRead reading) x.timers.about (clocks_of s) s.limit es (opened_timers next) made reads in (
+        along.notes,
+        part_entered along.enters refl only (along.are ∙ lines)
+            (along.are ∙ sym (receipts_of-noted l.label t u.stamp u es)) (receipts_of-no_looks l.label t u.stamp (entries_along u es)),
+      )
 
-  -- law: a start that was wanted is a part of the call
-  pub start_part : (arm : Arm) → Starts o v w t wanted base reading arm log log'
-      → StartPart IsSo label o v w p t wanted.mode wanted.ns base reading arm log log'
-  start_part arm s =
-      subst (λ b. StartPart IsSo label o v w p t wanted.mode wanted.ns base reading b log log') (sym s.outcome) (start_by s.answer s.starts s.receipts)
+  -- law: the disarming of a settime is a part of it: the cancel of its timer, or a look at an idle one
+  pub disarmed_part : {log : List Receipt} (answer : CancelAnswer) (c : Cancels x.timers.about v w t answer) → ((g n : ℕ) → answer ≡ cancelled.Running g n → ⊥)
+      → log ≡ receipts_of t (timer_then x.timers.about c.at t).stamp (cancel_entries answer)
+      → (cancel : Option (ℕ × ℕ)) × TimersPart l reading v w (cancels t cancel) log × IsIdleOr (timer_then x.timers.about c.at t) cancel
+  disarmed_part (cancelled.Idle n) c ended adds =
+      let looks = looks_made c.made in
+      (None, subst (TimersPart l reading v w []) (sym adds) ([], part_none looks.0 looks.1), c.fits.0)
+  disarmed_part (cancelled.Running g n) c ended adds = absurd (ended g n refl)
+  disarmed_part (cancelled.Cancelled g n) c ended adds =
+      let u = timer_then x.timers.about c.at t in
+      let cancel = Some (u.stamp + 1, unwrap_or u.armed 0) in
+      let entry : ℕ → List histories.Entry = λ k. record { event = events.Cancel; reply = replies.Cancel k } ∷ [] in
+      let generation : g ≡ unwrap_or u.armed 0 = sym (ap (λ a. unwrap_or a 0) c.fits.0) in
+      let its = part_along c.at (events.Cancel ∷ []) (cancels t cancel) (subst (λ k. MadeAt v w t c.at (entry k)) generation c.made)
+      (λ clock has. (tt, tt)) (tt, tt) refl in
+      (cancel, subst (TimersPart l reading v w (cancels t cancel)) (sym (adds ∙ ap (λ k. receipts_of t u.stamp (entry k)) generation)) its, tt)
+
+  module _ {base : ℕ} {log log' : List Receipt} where
+    -- law: no start is a part too
+    pub start_none : (mode : Mode) (ns : ℕ) → w ≡ v → log' ≡ log → StartPart x l t v w mode ns base reading arms.NotAsked log log'
+    start_none mode ns alone same =
+        let part = part_none (begins_same (ap (λ k. k.seen) alone)) (ap (λ k. k.mine) alone) in
+        record { start = []; more = []; adds = same ∙ sym (append-nil log); arms = refl; part = ([], part); armed = tt }
+
+    start_by : (mode : Mode) (ns : ℕ) (a : StartAnswer) (c : StartsTimer x.timers.about v w t mode ns base reading a)
+        → log' ≡ log ++ receipts_of t (timer_then x.timers.about c.at t).stamp (start_entries (timer_then x.timers.about c.at t) mode ns base reading a)
+        → StartPart x l t v w mode ns base reading (arm_of a) log log'
+    start_by mode ns (starts.Spent n) c adds =
+        let looks = looks_made c.made in
+        let armed = subst (IsArmedSo (arms.Unarmed n)) (sym (timer_after x.timers.about v w t c.at [] c.made)) (sym c.fits.2, c.fits.1, c.fits.0) in
+        record { start = []; more = []; adds = adds; arms = refl; part = ([], part_none looks.0 looks.1); armed = armed }
+    start_by mode ns (starts.Started was generation on outs clock expires) c adds =
+        let u = timer_then x.timers.about c.at t in
+        let es = start_events u mode ns base reading in
+        let as_told = started_so u t mode ns base reading (starts.Started was generation on outs clock expires) c.fits.2 in
+        let told = as_told.told in
+        let number : generation ≡ as_told.arming.number = cc in
+        let actions = arming_actions t mode ns reading.stamp base as_told.arming in
+        record {
+          start = actions;
+          more = receipts_of t u.stamp (entries_along u es);
+          adds = adds;
+          arms = (as_told.arming, refl, number, as_told.just);
+          part = part_along c.at es actions c.made (λ clock has. start_reads mode ns base reading clock (moves_first u base) has) as_told.only as_told.lines;
+          armed = ap (λ (x : Timer). x.stamp) (timer_after x.timers.about v w t c.at (entries_along u es) c.made ∙ along u es) ∙ sym (ap generation_of c.fits.2);
+        }
+
+    -- law: a start that was wanted is a part of the call
+    pub start_part : {wanted : Wanted} {arm : Arm} → Starts x.timers.about v w t wanted base reading arm log log'
+        → StartPart x l t v w wanted.mode wanted.ns base reading arm log log'
+    start_part {wanted = wanted} c =
+        subst (λ b. StartPart x l t v w wanted.mode wanted.ns base reading b log log') (sym c.outcome)
+        (start_by wanted.mode wanted.ns c.answer c.starts c.receipts)
 
 -- ---- in the run
 
--- law: a timer as a pass of the script's world has seen it
-pub seen_state : (s : Script) (o : Opening) → o.timers ≡ openings (clocks_of s) s.limit → (seen : List TimerEntry) (t : ℕ)
-    → timer_then o seen t ≡ state_seen s seen t
-seen_state s o is seen t = ap (λ ts. (system_after ts seen).timers t) is
+-- what became of a start, at a moment of the run
+abbrev pub IsOutcomeAt : Course → ℕ → Arm → ℕ → Type 0
+IsOutcomeAt w i arms.NotAsked n = Unit
+IsOutcomeAt w i (arms.Armed generation) n = (courses.timer_then w n i).stamp ≡ generation
+IsOutcomeAt w i (arms.Unarmed stamp) n = SawRefusal w i stamp n
 
--- law: what an object's entry tells of its timer's start is true, where the object after it bears a start that was made
-pub start_true : (w : Course) (seen later : List TimerEntry) → entries_in w ≡ seen ++ later → (i number : ℕ) (on_clock : Bool) (arm : Arm)
-    → IsArmedSo arm (state_seen w.script seen i)
-    → ((generation : ℕ) → arm ≡ arms.Armed generation
-    → IsArmedLike on_clock (object_armed_after w.script w.run i number (kind_of w.script i)) generation (state_seen w.script seen i))
-    → IsTrueStart w i number on_clock (arm_noted arm) (length seen)
-start_true w seen later is i number on_clock arms.NotAsked armed like = tt
-start_true w seen later is i number on_clock (arms.Armed generation) armed like =
-    let then = sym (timer_seen w seen later is i) in (
-      subst (λ (u : Timer). u.stamp ≡ generation) then armed,
-      subst (IsArmedLike on_clock (object_armed_after w.script w.run i number (kind_of w.script i)) generation) then (like generation refl),
-    )
-start_true w seen later is i number on_clock (arms.Unarmed stamp) armed like = refused_seen w seen later is i number on_clock armed.1 armed.2
+-- an object's phase bears a start that was made, as the timer has it
+abbrev pub IsLike : Bool → Arm → Option ArmedAs → Timer → Type 0
+IsLike on_clock arms.NotAsked armed s = Unit
+IsLike on_clock (arms.Armed generation) armed s = IsArmedLike on_clock armed generation s
+IsLike on_clock (arms.Unarmed stamp) armed s = Unit
+
+-- law: what became of a start, where a pass has seen it end
+pub outcome_seen : (w : Course) (seen later : List TimerEntry) → entries_in w ≡ seen ++ later → (i : ℕ) (arm : Arm)
+    → IsArmedSo arm (state_seen w.script seen i) → IsOutcomeAt w i arm (length seen)
+outcome_seen w seen later is i arms.NotAsked armed = tt
+outcome_seen w seen later is i (arms.Armed generation) armed = ap (λ (u : Timer). u.stamp) (timer_seen w seen later is i) ∙ armed
+outcome_seen w seen later is i (arms.Unarmed stamp) armed = refusal_seen w seen later is i stamp armed.0 armed.1 armed.2
+
+-- law: what an object's entry tells of its timer's start is true
+pub start_true : (w : Course) (i number n : ℕ) (on_clock : Bool) (arm : Arm) → IsOutcomeAt w i arm n
+    → IsLike on_clock arm (object_armed_after w.script w.run i number (kind_of w.script i)) (courses.timer_then w n i)
+    → IsTrueStart w i number on_clock (arm_noted arm) n
+start_true w i number n on_clock arms.NotAsked outcome like = tt
+start_true w i number n on_clock (arms.Armed generation) outcome like = (outcome, like)
+start_true w i number n on_clock (arms.Unarmed stamp) outcome like = (record { stamp = refl; holds = outcome.0.holds }, outcome.1)

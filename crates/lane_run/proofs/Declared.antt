@@ -1,5 +1,5 @@
 -- What a script's timers are declared as: the objects over them, their bases and their callbacks.
-use Rattle.std.proofs.Common.{◌≡◌, ℕ, zero, suc, List, [], ◌∷◌, map, get_or, refl, sym, ap, ◌∙◌}
+use Rattle.std.proofs.Common.{◌≡◌, ℕ, zero, suc, List, [], ◌∷◌, map, get_or, refl, ap, ◌∙◌}
 use Rattle.ktime.specs.declared.clock_id.ClockId.{ClockId}
 use Rattle.ktime.specs.declared.clock_id.ClockId.TheVariants as clocks
 use Rattle.timer_objects.specs.Known.{decl_at}
@@ -51,24 +51,6 @@ module _ (s : Script) (x : WorldOf) (i : ℕ) (is : IsWorldOf s x) where
   -- law: the base that an object's timer is declared on
   pub declared_base : (decl_at x.objects i).base ≡ base_of (kind_of s i)
   declared_base = ap (λ (d : Decl). d.base) (declared_in s x i is) ∙ (decl_as-parts (kind_of s i) (clock_of s i)).1
-
-  -- law: a POSIX timer is declared where there is one
-  pub posix_declared : (decl_at x.objects i).kind ≡ over.Posix → (base : ℕ) × (kind_of s i ≡ kinds.Posix base)
-  posix_declared posix = go (kind_of s i) (sym declared_over ∙ posix)
-    where
-      go : (k : Kind) → over_of k ≡ over.Posix → (base : ℕ) × (k ≡ kinds.Posix base)
-      go (kinds.Raw callback) is = absurd (cc)
-      go (kinds.Posix base) is = (base, refl)
-      go (kinds.Fd base) is = absurd (cc)
-
-  -- law: so is a descriptor
-  pub fd_declared : (decl_at x.objects i).kind ≡ over.Fd → (base : ℕ) × (kind_of s i ≡ kinds.Fd base)
-  fd_declared fd = go (kind_of s i) (sym declared_over ∙ fd)
-    where
-      go : (k : Kind) → over_of k ≡ over.Fd → (base : ℕ) × (k ≡ kinds.Fd base)
-      go (kinds.Raw callback) is = absurd (cc)
-      go (kinds.Posix base) is = absurd (cc)
-      go (kinds.Fd base) is = (base, refl)
 
 -- law: the callback of a timer is that of its declaration
 pub declared_callback : (ds : List Declaration) (i : ℕ) → get_or (map (λ d. callback_of d.kind) ds) i runs.Once

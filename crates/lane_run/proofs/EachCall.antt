@@ -2,7 +2,6 @@
 
 use Rattle.record_text.specs.declared.record.Answer.{Answer}
 use Rattle.script_text.specs.declared.script.Call.TheVariants as calls
-use Rattle.script_text.specs.declared.script.Call.{Call}
 use Rattle.script_text.specs.declared.script.Script.{Script}
 use Rattle.lane_run.specs.Called.{Called, LaneOf}
 use Rattle.lane_run.specs.Kept.{IsNextCall, KeepsCall}
@@ -14,27 +13,32 @@ use Rattle.lane_run.proofs.RearmedCalls.{keeps_accept, keeps_read}
 use Rattle.lane_run.proofs.Settimes.{keeps_settime}
 use Rattle.lane_run.proofs.TimerCalls.{keeps_cancel, keeps_start}
 use Rattle.lane_run.proofs.Writing.{keeps_write}
-use Rattle.std.proofs.Common.{◌≡◌, ℕ, [], refl, subst}
+use Rattle.std.proofs.Common.{◌≡◌, ℕ, refl, subst}
 use Rattle.timer_objects.specs.Calls.{Gettimes}
-use Rattle.timer_objects.specs.Known.{decl_at}
 use Rattle.timer_objects.specs.declared.object.Kind as object_kind
-use Rattle.timer_objects.specs.declared.object.Kind.TheVariants as over
-use Rattle.lane_run.specs.Called.{caller_of}
 use Rattle.lane_run.proofs.ObjectLooks.{keeps_gettime-posix}
-use Rattle.lane_run.proofs.RearmedCalls.{gettime_kept}
+use Rattle.lane_run.proofs.RearmedCalls.{keeps_gettime-fd}
+use Rattle.script_text.specs.Objects.{kind_of}
+use Rattle.script_text.specs.declared.script.Kind.{Kind}
+use Rattle.script_text.specs.declared.script.Kind.TheVariants as kinds
+use Rattle.lane_run.specs.Called.{CallsObject, gettime_told}
+use Rattle.lane_run.proofs.Declared.{declared_over, over_of}
 use Rattle.lane_run.proofs.LaneKept.{KeepsEach}
 
 -- law: a lane keeps a gettime
 pub keeps_gettime : {s : Script} {x : WorldOf} {l m : LaneOf} {a : Answer} {timer : ℕ} → IsNextCall s x l (calls.Gettime timer)
     → Called x l (calls.Gettime timer) a m → KeepsCall s l (calls.Gettime timer) a m
-keeps_gettime {s = s} {x = x} {l = l} {m = m} {a = a} {timer = timer} next called = by_kind (decl_at x.objects timer).kind refl
+keeps_gettime {s = s} {x = x} {l = l} {m = m} {a = a} {timer = timer} next called =
+    by_kind (kind_of s timer) refl (subst CallsFor (declared_over s x timer next.world) called.1)
   where
-    by_kind : (k : object_kind.Kind) → (decl_at x.objects timer).kind ≡ k → KeepsCall s l (calls.Gettime timer) a m
-    by_kind over.Raw is =
-        absurd (subst (λ k. Gettimes x.objects x.timers.about (caller_of l.pass [] []) (caller_of m.pass called.1.log called.1.object_log) timer
-        called.1.reading k called.0) is called.1.does.0)
-    by_kind over.Posix is = keeps_gettime-posix next is called
-    by_kind over.Fd is = gettime_kept next is called
+    CallsFor : object_kind.Kind → Type 0
+    CallsFor k = CallsObject x l m a (λ old new reading. Gettimes x.objects x.timers.about old new timer reading k called.0
+        × (a ≡ gettime_told k reading.stamp called.0))
+
+    by_kind : (k : Kind) → kind_of s timer ≡ k → CallsFor (over_of k) → KeepsCall s l (calls.Gettime timer) a m
+    by_kind (kinds.Raw callback) is c = absurd c.does.0
+    by_kind (kinds.Posix base) is c = keeps_gettime-posix next is called.0 c
+    by_kind (kinds.Fd base) is c = keeps_gettime-fd next is called.0 c
 
 -- law: a lane keeps each call
 pub keeps_call : (s : Script) (x : WorldOf) → KeepsEach s x

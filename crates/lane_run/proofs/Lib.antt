@@ -23,12 +23,12 @@ pub mod Expired
 pub mod LaneKept
 pub mod ObjectSeen
 pub mod ObjectLooks
+pub mod ObjectMade
 pub mod Armed
 pub mod ObjectEntered
 pub mod Sights
 pub mod Rearmed
 pub mod RearmedCalls
-pub mod Disarmed
 pub mod SettimeNoted
 pub mod SettimeParts
 pub mod Settimes

@@ -5,10 +5,10 @@ use lib.ListN.{get_elem?}
 use Rattle.counted_row.specs.Meaning.{Leads}
 use Rattle.counted_row.specs.Views.{StateAfter}
 use Rattle.posix_timer.specs.States.{posix_opening, PosixTimer}
-use Rattle.posix_timer.specs.Steps.{posix_answer, posix_step, posix_table, PosixAllows}
+use Rattle.posix_timer.specs.Steps.{posix_answer, posix_table}
 use Rattle.posix_timer.specs.declared.calls.Call as posix_call
 use Rattle.timer_fd.specs.States.{Descriptor, fd_opening}
-use Rattle.timer_fd.specs.Steps.{fd_answer, fd_step, fd_table, FdAllows}
+use Rattle.timer_fd.specs.Steps.{fd_answer, fd_table}
 use Rattle.timer_fd.specs.declared.calls.Call as fd_call
 use Rattle.timer_setting.specs.StepTables.{after_calls, AnsweredCall, AreCalls, StepTable}
 use Rattle.timer_objects.specs.Cells.{cell_meaning, opened_cell, opened_cells}
@@ -47,6 +47,7 @@ use Rattle.std.proofs.lemmas.Option.{same_Some}
 use Rattle.timer_objects.specs.Known.{ObjectsPass, seen_of}
 use Rattle.run_history.proofs.Lists.{at_left}
 use Rattle.std.proofs.Math.Nat.{add_comm}
+use Rattle.record_text.specs.declared.record.RunRecord.{RunRecord}
 
 take_none : {A : Type 0} (xs : List A) → take 0 xs ≡ []
 take_none [] = refl
@@ -54,25 +55,27 @@ take_none (x ∷ xs) = refl
 
 -- ---- a kind of object
 
--- A kind of object, with its states, calls and replies, and how a record's lines tell its entries: a line that shows a call gives one that may be made
--- where the call may, with the same step and answer.
+-- A record's lines tell calls on objects of this kind: a line that shows a call gives one that may be made where the call may, with the same step and
+-- answer.
+abbrev pub TellsCalls : {S C R : Type 0} → StepTable S C R → (S → Object) → (List ClockLine → ObjectEntry → Option (AnsweredCall C R)) → Type 0
+TellsCalls {S = S} {C = C} {R = R} table object entry_of =
+    (clock : List ClockLine) (t : S) (call : ObjectCall) (reply : ObjectReply) (entry : ObjectEntry) → ObjectAllows (object t) call
+    → reply ≡ object_answer (object t) call → ShowsObjectCall clock call reply entry
+    → (a : AnsweredCall C R) × (entry_of clock entry ≡ Some a) × table.allows t a.call × (a.reply ≡ table.answer t a.call)
+    × (object_step (object t) call ≡ object (table.next t a.call))
+
+-- a kind of object, with its states, calls and replies, and how a record's lines tell its entries
 pub record LineKind (S C R : Type 0) : Type 1 where
   pub table : StepTable S C R
   pub object : S → Object
   pub entry_of : List ClockLine → ObjectEntry → Option (AnsweredCall C R)
-  pub told : (clock : List ClockLine) (t : S) (call : ObjectCall) (reply : ObjectReply) (entry : ObjectEntry) → ObjectAllows (object t) call
-      → reply ≡ object_answer (object t) call → ShowsObjectCall clock call reply entry
-      → (a : AnsweredCall C R) × (entry_of clock entry ≡ Some a) × table.allows t a.call × (a.reply ≡ table.answer t a.call)
-      × (object_step (object t) call ≡ object (table.next t a.call))
+  pub told : TellsCalls table object entry_of
 
 -- law: POSIX timers are one
 abbrev pub posix_kind : LineKind PosixTimer posix_call.Call posix_reply.Reply
 posix_kind = record { table = posix_table; object = objects.Posix; entry_of = posix_entry; told = told }
   where
-    told : (clock : List ClockLine) (t : PosixTimer) (call : ObjectCall) (reply : ObjectReply) (entry : ObjectEntry) → ObjectAllows (objects.Posix t) call
-        → reply ≡ object_answer (objects.Posix t) call → ShowsObjectCall clock call reply entry
-        → (a : AnsweredCall posix_call.Call posix_reply.Reply) × (posix_entry clock entry ≡ Some a) × PosixAllows t a.call
-        × (a.reply ≡ posix_answer t a.call) × (object_step (objects.Posix t) call ≡ objects.Posix (posix_step t a.call))
+    told : TellsCalls posix_table objects.Posix posix_entry
     told clock t (of_kind.Posix c) reply entry allows is shows = (
       record { call = posix_as_told c; reply = posix_answer t c },
       subst (λ r. ShowsObjectCall clock (of_kind.Posix c) r entry) is shows,
@@ -86,10 +89,7 @@ posix_kind = record { table = posix_table; object = objects.Posix; entry_of = po
 abbrev pub fd_kind : LineKind Descriptor fd_call.Call fd_reply.Reply
 fd_kind = record { table = fd_table; object = objects.Fd; entry_of = fd_entry; told = told }
   where
-    told : (clock : List ClockLine) (t : Descriptor) (call : ObjectCall) (reply : ObjectReply) (entry : ObjectEntry) → ObjectAllows (objects.Fd t) call
-        → reply ≡ object_answer (objects.Fd t) call → ShowsObjectCall clock call reply entry
-        → (a : AnsweredCall fd_call.Call fd_reply.Reply) × (fd_entry clock entry ≡ Some a) × FdAllows t a.call × (a.reply ≡ fd_answer t a.call)
-        × (object_step (objects.Fd t) call ≡ objects.Fd (fd_step t a.call))
+    told : TellsCalls fd_table objects.Fd fd_entry
     told clock t (of_kind.Fd c) reply entry allows is shows = (
       record { call = fd_as_told c; reply = fd_answer t c },
       subst (λ r. ShowsObjectCall clock (of_kind.Fd c) r entry) is shows,
@@ -98,6 +98,12 @@ fd_kind = record { table = fd_table; object = objects.Fd; entry_of = fd_entry; t
       ap objects.Fd (sym (fd_step-told t c)),
     )
     told clock t (of_kind.Posix c) reply entry allows is shows = absurd allows
+
+-- a timer by itself stays one
+raw_leads : (last : ℕ) (log : List ObjectMove) (cell : ObjectCell) → Leads cell_meaning (record { object = objects.Raw; last = last }) log cell
+    → cell.object ≡ objects.Raw
+raw_leads last [] cell leads = ap (λ (c : ObjectCell). c.object) leads
+raw_leads last (e ∷ es) cell leads = absurd leads.0.allowed
 
 module _ {S C R : Type 0} (k : LineKind S C R) (clock : List ClockLine) (spans : ℕ → ℕ × ℕ) where
   -- the calls that lines tell, with their answers
@@ -136,6 +142,12 @@ module _ {S C R : Type 0} (k : LineKind S C R) (clock : List ClockLine) (spans :
 
 -- ---- as a script declares them
 
+-- an object of this kind after its first so many entries
+abbrev pub object_after : Script → RunRecord → ℕ → ℕ → Kind → Object
+object_after s r i n (kinds.Raw callback) = objects.Raw
+object_after s r i n (kinds.Posix base) = objects.Posix (posix_after s r i base n)
+object_after s r i n (kinds.Fd base) = objects.Fd (fd_after s r i base n)
+
 -- law: an object that was just made is that of its declaration
 opened_at : (limit : ℕ) (ds : List Decl) (i : ℕ) (c : ObjectCell) (d : Decl) → get_elem? (map (opened_cell limit) ds) i ≡ some c
     → c ≡ opened_cell limit (get_or ds i d)
@@ -156,17 +168,18 @@ module _ (s : Script) (x : WorldOf) (world : IsWorldOf s x) (i : ℕ) (seen : Li
     shown : AreObjectLines e.run.clock (e.spans i) 1 (seen ++ follows.goes_on.rest) (lines_of_object e.run i)
     shown = subst (λ hs. AreObjectLines e.run.clock (e.spans i) 1 hs (lines_of_object e.run i)) follows.goes_on.whole follows.lines
 
-    -- law: a POSIX timer after what was seen of it is the record's after so many entries
-    pub posix_seen : (base : ℕ) → kind_of s i ≡ kinds.Posix base → cell.object ≡ objects.Posix (posix_after s e.run i base (length seen))
-    posix_seen base is =
-        leads_to posix_kind e.run.clock (e.spans i) 1 (posix_opening (clock_of s i) base s.limit) 0 seen follows.goes_on.rest (lines_of_object e.run i) cell
-        (leads_from (kinds.Posix base) is) shown
-
-    -- law: a descriptor after what was seen of it is the record's after so many entries
-    pub fd_seen : (base : ℕ) → kind_of s i ≡ kinds.Fd base → cell.object ≡ objects.Fd (fd_after s e.run i base (length seen))
-    fd_seen base is =
-        leads_to fd_kind e.run.clock (e.spans i) 1 (fd_opening (clock_of s i) base s.limit) 0 seen follows.goes_on.rest (lines_of_object e.run i) cell
-        (leads_from (kinds.Fd base) is) shown
+    -- law: an object after what was seen of it is the record's after so many entries
+    pub object_seen : cell.object ≡ object_after s e.run i (length seen) (kind_of s i)
+    object_seen = by_kind (kind_of s i) refl
+      where
+        by_kind : (k : Kind) → kind_of s i ≡ k → cell.object ≡ object_after s e.run i (length seen) k
+        by_kind (kinds.Raw callback) is = raw_leads 0 seen cell (leads_from (kinds.Raw callback) is)
+        by_kind (kinds.Posix base) is =
+            leads_to posix_kind e.run.clock (e.spans i) 1 (posix_opening (clock_of s i) base s.limit) 0 seen follows.goes_on.rest
+            (lines_of_object e.run i) cell (leads_from (kinds.Posix base) is) shown
+        by_kind (kinds.Fd base) is =
+            leads_to fd_kind e.run.clock (e.spans i) 1 (fd_opening (clock_of s i) base s.limit) 0 seen follows.goes_on.rest (lines_of_object e.run i)
+            cell (leads_from (kinds.Fd base) is) shown
 
 -- law: the span that a run has of an object's entry is that of its call
 pub span_at : (clock : List ClockLine) (spans : ℕ → ℕ × ℕ) (k n : ℕ) (history : List ObjectMove) (lines : List ObjectLine) (h : ObjectMove)
@@ -174,14 +187,9 @@ pub span_at : (clock : List ClockLine) (spans : ℕ → ℕ × ℕ) (k n : ℕ) 
 span_at clock spans k n [] lines h are there = absurd (cc)
 span_at clock spans k n (x ∷ xs) [] h are there = absurd are
 span_at clock spans k zero (x ∷ xs) (line ∷ lines) h are there =
-    ap spans (none k) ∙ are.1 ∙ ap (λ (m : ObjectMove). (m.call.from, m.call.to)) (same_Some x h there)
-  where
-    none : (n : ℕ) → n + 0 ≡ n
-    none n = omega arith
-span_at clock spans k (suc n) (x ∷ xs) (line ∷ lines) h are there = ap spans (further k n) ∙ span_at clock spans (k + 1) n xs lines h are.2 there
-  where
-    further : (k n : ℕ) → k + suc n ≡ k + 1 + n
-    further k n = omega arith
+    let none : k + 0 ≡ k = omega arith in ap spans none ∙ are.1 ∙ ap (λ (m : ObjectMove). (m.call.from, m.call.to)) (same_Some x h there)
+span_at clock spans k (suc n) (x ∷ xs) (line ∷ lines) h are there =
+    let further : k + suc n ≡ k + 1 + n = omega arith in ap spans further ∙ span_at clock spans (k + 1) n xs lines h are.2 there
 
 -- law: a run has the span of an object's entry that was made
 pub span_made : (q : ObjectsPass) (e : Ending) (i many : ℕ) (step : ObjectMove) → FollowsObject e i (seen_of q i) → slice_get (seen_of q i) many ≡ Some step

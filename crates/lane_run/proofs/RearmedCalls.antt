@@ -1,5 +1,5 @@
 -- Calls on objects that may arm their timer again, as their lanes keep them: an acceptance, a read, and a gettime of either kind.
-use Rattle.std.proofs.Common.{◌≡◌, ◌≤◌, ℕ, Some, option_map, List, [], length, refl, sym, ap, ◌∙◌, subst}
+use Rattle.std.proofs.Common.{◌≡◌, ◌≤◌, ℕ, Some, option_map, List, [], length, refl, sym, ap, subst}
 use Rattle.clock_cell.specs.Views.{writes}
 use Rattle.ktime.specs.Readings.{ClockReading}
 use Rattle.posix_timer.specs.declared.answers.AcceptAnswer.TheVariants as accept_answers
@@ -18,7 +18,6 @@ use Rattle.timer_objects.specs.Calls.{Accepts, Gettimes, MakesRearming, ReadsFd,
 use Rattle.timer_objects.specs.Known.{decl_at}
 use Rattle.timer_objects.specs.declared.answers.Gettime.TheVariants as gettimes
 use Rattle.timer_objects.specs.declared.answers.Gettime.{Gettime}
-use Rattle.timer_objects.specs.declared.object.Kind as object_kind
 use Rattle.timer_objects.specs.declared.object.Kind.TheVariants as over
 use Rattle.timer_objects.specs.declared.object.ObjectReply.TheVariants as replies
 use Rattle.timer_objects.specs.declared.wanting.Rearming.TheVariants as rearmings
@@ -27,7 +26,6 @@ use Rattle.record_text.specs.declared.record.AcceptReply.TheVariants as acceptan
 use Rattle.record_text.specs.declared.record.AcceptReply.{AcceptReply}
 use Rattle.record_text.specs.declared.record.Answer.TheVariants as answers
 use Rattle.record_text.specs.declared.record.Answer.{Answer}
-use Rattle.record_text.specs.declared.record.ClockLine.{ClockLine}
 use Rattle.record_text.specs.declared.record.ObjectEntry.TheVariants as object_entries
 use Rattle.record_text.specs.declared.record.ReadReply.TheVariants as reads
 use Rattle.record_text.specs.declared.record.ReadReply.{ReadReply}
@@ -47,156 +45,169 @@ use Rattle.run_history.proofs.ObjectsMade.{accept_made, gettime_made, read_made}
 use Rattle.lane_run.specs.Called.{accept_told, Called, caller_of, CallsObject, gettime_told, LaneOf, read_told}
 use Rattle.lane_run.specs.Kept.{IsNextCall, KeepsCall}
 use Rattle.lane_run.specs.Worlds.{WorldOf}
+use Rattle.lane_run.proofs.Sights.{keeps_full, keeps_same}
+use Rattle.std.proofs.Common.{◌+◌, false, [], arith}
+use Rattle.ktime.specs.declared.mode.Mode.TheVariants as modes
+use Rattle.hr_timers.specs.Known.{timer_then}
+use Rattle.timer_objects.specs.Calls.{phase_of, wanted_by}
+use Rattle.timer_objects.specs.Steps.{object_step}
+use Rattle.record_text.specs.declared.record.Armed.{Armed}
+use Rattle.script_text.specs.Actions.{Action}
+use Rattle.script_text.specs.Told.{object_called}
+use Rattle.run_history.specs.Fits.{FitsCall}
+use Rattle.run_history.specs.Receipts.{Noted}
+use Rattle.run_history.specs.Runs.{course_of, Ending, IsJoined, moves_spans}
+use Rattle.run_history.specs.Truths.{IsSpanBy}
+use Rattle.run_history.proofs.Kept.{IsKept}
+use Rattle.run_history.proofs.ObjectsMade.{IsRearmed, rearming_actions}
+use Rattle.run_history.proofs.OthersMade.{plain}
+use Rattle.lane_run.specs.Kept.{Follows, seen_by}
+use Rattle.pass_names.proofs.Passes.{begins_length}
+use Rattle.timer_objects.specs.Calls.{Caller}
+use Rattle.run_history.proofs.ObjectsMade.{rearming_actions}
 use Rattle.lane_run.proofs.CallKept.{reads_begins}
 use Rattle.lane_run.proofs.Parts.{IsNotedAs, noted_at}
-use Rattle.lane_run.proofs.Declared.{fd_declared}
-use Rattle.lane_run.proofs.Rearmed.{keeps_rearming}
-use Rattle.lane_run.proofs.Sights.{keeps_full, keeps_same}
+use Rattle.lane_run.proofs.Declared.{declared_base}
+use Rattle.lane_run.proofs.Armed.{HasRead, places_inside}
+use Rattle.lane_run.proofs.ObjectMade.{empty_is, keeps_made, start_is, whole_span}
+use Rattle.lane_run.proofs.Rearmed.{like_restart, rearm_part, RearmPart, RearmSpan, wanted_timely}
+use Rattle.script_text.specs.declared.script.Call.{Call}
+use Rattle.timer_objects.specs.declared.wanting.Rearming.{Rearming}
+use Rattle.script_text.specs.ObjectCalls.{Arms}
+use Rattle.record_text.specs.declared.record.ObjectEntry.{ObjectEntry}
+use Rattle.timer_objects.specs.declared.object.ObjectReply.{ObjectReply}
 
--- ---- the notes of such calls
+-- ---- a call that made an entry
 
--- a record's clock has the reading
-abbrev HasRead : ClockReading → List ClockLine → Type 0
-HasRead reading clock = reading_at clock reading.stamp ≡ reading
+-- as a line has the outcome of a start, so its history does
+arm_back : (arm : Arm) → (posix_arm (arm_noted arm) 0 ≡ arm_told arm) × (fd_arm (arm_noted arm) 0 ≡ arm_told arm)
+arm_back arms.NotAsked = (refl, refl)
+arm_back arm = (refl, refl)
 
-posix_arm-told : (arm : Arm) → posix_arm (arm_noted arm) 0 ≡ arm_told arm
-posix_arm-told arms.NotAsked = refl
-posix_arm-told (arms.Armed generation) = refl
-posix_arm-told (arms.Unarmed stamp) = refl
+module _ {s : Script} {x : WorldOf} {l m : LaneOf} {call : Call} (next : IsNextCall s x l call) {timer : ℕ} (on : object_called call ≡ Some timer)
+    {a : Answer} {Does : Caller → Caller → ClockReading → Type 0} (c : CallsObject x l m a Does) {r : Rearming} {reply : ObjectReply}
+    (made : MakesRearming x.objects x.timers.about (caller_of l.pass [] []) (caller_of m.pass c.log c.object_log) timer r c.reading reply)
+    (entry : Armed → ObjectEntry) (noted : (arm : Arm) → IsNotedAs (HasRead c.reading) (rearming_call r c.reading arm) reply (entry (arm_noted arm))) where
+  part : RearmPart x l timer m.pass.timers.known (decl_at x.objects timer).base c.reading made.arm made.span c.log
+  part =
+      let object = made.enters.commits.state.object in
+      rearm_part next timer c.reading made.enters.commits.state.last (wanted_by r object c.reading) made.arm (wanted_timely r object c.reading) made.rearms
 
-fd_arm-told : (arm : Arm) → fd_arm (arm_noted arm) 0 ≡ arm_told arm
-fd_arm-told arms.NotAsked = refl
-fd_arm-told (arms.Armed generation) = refl
-fd_arm-told (arms.Unarmed stamp) = refl
+  rearmed : {e : Ending} → Follows m.pass e → IsJoined s e
+      → IsRearmed (course_of s e) l.label part.does.part.0 c.reading.stamp (length part.does.begin.seen) (length m.pass.timers.known.seen) timer
+      (arm_noted made.arm) part.does.start (length made.enters.commits.adds.before + 1)
+  rearmed {e = e} follows joined =
+      let w = course_of s e in
+      let seen = m.pass.timers.known.seen in
+      let number = length made.enters.commits.adds.before + 1 in
+      let phase = phase_of (object_step made.enters.commits.state.object (rearming_call r c.reading made.arm)) in
+      record {
+        ns = part.ns;
+        timely = part.timely;
+        arms = subst (λ b. Arms timer modes.Keep part.ns c.reading.stamp b (arm_noted made.arm) part.does.start) (declared_base s x timer next.world)
+            part.does.arms;
+        ends = length seen;
+        between = begins_length part.does.part.1.timers.enters.seen;
+        high = omega arith;
+        part = places_inside part.does.part.1.timers.enters;
+        holds = start_is m next made.enters part.does follows joined false
+            (like_restart x.timers.about m.pass.timers.known timer made.arm phase made.bears);
+        span = by_arm made.arm part.spans;
+      }
+    where
+      by_arm : (arm : Arm) → RearmSpan (timer_then x.timers.about part.does.begin.seen timer) (timer_then x.timers.about m.pass.timers.known.seen timer) arm
+          made.span
+          → IsSpanBy (course_of s e) (length part.does.begin.seen) timer (length made.enters.commits.adds.before + 1) (arm_noted arm)
+          (length m.pass.timers.known.seen)
+      by_arm arms.NotAsked spans = empty_is m next made.enters part.does follows joined spans.0 spans.1
+      by_arm (arms.Armed generation) spans = whole_span m next made.enters part.does follows joined spans.0 spans.1
+      by_arm (arms.Unarmed stamp) spans = whole_span m next made.enters part.does follows joined spans.0 spans.1
 
-accept_back : (reply : AcceptReply) → accept_noted (accept_answer_of reply) ≡ Some reply
-accept_back (acceptances.Accepted overrun) = refl
-accept_back acceptances.NoSignal = refl
-
-read_back : (reply : ReadReply) → read_noted (read_answer_of reply) ≡ Some reply
-read_back (reads.Count total) = refl
-read_back reads.Again = refl
-read_back reads.Canceled = refl
-
-accept_unstamped : (reply : AcceptReply) → object_stamp_in (answer_of_accept reply) ≡ []
-accept_unstamped (acceptances.Accepted overrun) = refl
-accept_unstamped acceptances.NoSignal = refl
-
-read_unstamped : (reply : ReadReply) → object_stamp_in (answer_of_read reply) ≡ []
-read_unstamped (reads.Count total) = refl
-read_unstamped reads.Again = refl
-read_unstamped reads.Canceled = refl
-
--- an acceptance is noted
-accept_as : (reading : ClockReading) (reply : AcceptReply) (arm : Arm)
-    → IsNotedAs (HasRead reading) (rearming_call rearmings.Accepting reading arm) (replies.Posix (posix_replies.Accept (accept_answer_of reply)))
-    (object_entries.Accept reading.stamp (arm_noted arm) reply)
-accept_as reading reply arm =
-    noted_at reading (λ r. rearming_call rearmings.Accepting r arm) (replies.Posix (posix_replies.Accept (accept_answer_of reply)))
-    (object_entries.Accept reading.stamp (arm_noted arm) reply)
-    (ap (option_map (λ (r : AcceptReply). object_entries.Accept reading.stamp (arm_noted arm) r)) (accept_back reply)) refl
-    (λ clock. ap (λ k. Some (record {
-      call = posix_calls.Accept (reading_at clock reading.stamp) k;
-      reply = posix_replies.Accept (accept_answer_of reply);
-    })) (posix_arm-told arm))
-
--- a read
-read_as : (reading : ClockReading) (reply : ReadReply) (arm : Arm)
-    → IsNotedAs (HasRead reading) (rearming_call rearmings.Reading reading arm) (replies.Fd (fd_replies.Read (read_answer_of reply)))
-    (object_entries.Read reading.stamp (arm_noted arm) reply)
-read_as reading reply arm =
-    noted_at reading (λ r. rearming_call rearmings.Reading r arm) (replies.Fd (fd_replies.Read (read_answer_of reply)))
-    (object_entries.Read reading.stamp (arm_noted arm) reply)
-    (ap (option_map (λ (r : ReadReply). object_entries.Read reading.stamp (arm_noted arm) r)) (read_back reply)) refl
-    (λ clock. ap (λ k. Some (record { call = fd_calls.Read (reading_at clock reading.stamp) k; reply = fd_replies.Read (read_answer_of reply) }))
-    (fd_arm-told arm))
-
--- a gettime of a descriptor
-gettime_as : (reading : ClockReading) (left interval : ℕ) (arm : Arm)
-    → IsNotedAs (HasRead reading) (rearming_call rearmings.Getting reading arm) (replies.Fd (fd_replies.Gettime (lefts.Left left interval)))
-    (object_entries.Gettime reading.stamp (arm_noted arm) left interval)
-gettime_as reading left interval arm =
-    noted_at reading (λ r. rearming_call rearmings.Getting r arm) (replies.Fd (fd_replies.Gettime (lefts.Left left interval)))
-    (object_entries.Gettime reading.stamp (arm_noted arm) left interval) refl refl
-    (λ clock. ap (λ k. Some (record { call = fd_calls.Gettime (reading_at clock reading.stamp) k; reply = fd_replies.Gettime (lefts.Left left interval) }))
-    (fd_arm-told arm))
+  -- law: a lane keeps a call on an object that may arm the object's timer again and made an entry, where such calls fit
+  pub keeps_rearming : (b : Answer) → object_stamp_in b ≡ [] → ((e : Ending) (begin last : ℕ) (arm : Armed) (start : List Action) (number : ℕ)
+      (notes : List Noted) → IsKept (course_of s e) (moves_spans e) l.label
+      (plain c.reading.stamp begin last (rearming_actions timer start number (entry arm))) notes call b (seen_by l.pass) (seen_by m.pass)
+      → (moves_spans e).first l.label ≤ begin → IsRearmed (course_of s e) l.label notes c.reading.stamp begin last timer arm start number
+      → FitsCall (course_of s e) l.label call b (seen_by l.pass) (seen_by m.pass))
+      → KeepsCall s l call b m
+  keeps_rearming b unstamps fits =
+      keeps_made m next made.enters part.does on c.reads c.notes (noted made.arm) b unstamps
+      (λ e follows joined kept low. fits e _ _ (arm_noted made.arm) part.does.start _ part.does.part.0 kept low (rearmed follows joined))
 
 -- ---- the calls
 
-accept_kept : {s : Script} {x : WorldOf} {l m : LaneOf} {a : Answer} {timer : ℕ} → IsNextCall s x l (calls.Accept timer) → (reply : AcceptReply)
-    → (c : CallsObject x l m a (λ old new reading. MakesRearming x.objects x.timers.about old new timer rearmings.Accepting reading
-    (replies.Posix (posix_replies.Accept (accept_answer_of reply)))))
-    → KeepsCall s l (calls.Accept timer) (answer_of_accept reply) m
-accept_kept {s = s} {x = x} {l = l} {m = m} {timer = timer} next reply c =
-    keeps_rearming s x l m (calls.Accept timer) timer next (answer_of_accept reply) rearmings.Accepting c.reading c.reads
-    (replies.Posix (posix_replies.Accept (accept_answer_of reply))) c.log c.object_log c.does c.notes refl (accept_unstamped reply)
-    (λ arm. object_entries.Accept c.reading.stamp arm reply) (accept_as c.reading reply)
-    (λ e begin last arm start notes kept low rearmed. accept_made reply kept low rearmed)
+module _ {s : Script} {x : WorldOf} {l m : LaneOf} {a : Answer} {timer : ℕ} where
+  accept_kept : IsNextCall s x l (calls.Accept timer) → (reply : AcceptReply) → accept_noted (accept_answer_of reply) ≡ Some reply
+      → object_stamp_in (answer_of_accept reply) ≡ []
+      → CallsObject x l m a (λ old new reading. MakesRearming x.objects x.timers.about old new timer rearmings.Accepting reading
+      (replies.Posix (posix_replies.Accept (accept_answer_of reply))))
+      → KeepsCall s l (calls.Accept timer) (answer_of_accept reply) m
+  accept_kept next reply back unstamps c =
+      let answered = posix_replies.Accept (accept_answer_of reply) in
+      keeps_rearming next refl c c.does (λ arm. object_entries.Accept c.reading.stamp arm reply)
+      (λ arm. noted_at c.reading (λ r. rearming_call rearmings.Accepting r arm) (replies.Posix answered)
+      (object_entries.Accept c.reading.stamp (arm_noted arm) reply)
+      (ap (option_map (λ (r : AcceptReply). object_entries.Accept c.reading.stamp (arm_noted arm) r)) back) refl
+      (λ clock. ap (λ k. Some (record { call = posix_calls.Accept (reading_at clock c.reading.stamp) k; reply = answered })) (arm_back arm).0))
+      (answer_of_accept reply) unstamps (λ e begin last arm start number notes kept low rearmed. accept_made reply kept low rearmed)
 
--- law: a lane keeps an acceptance
-pub keeps_accept : {s : Script} {x : WorldOf} {l m : LaneOf} {a : Answer} {timer : ℕ} → IsNextCall s x l (calls.Accept timer)
-    → Called x l (calls.Accept timer) a m → KeepsCall s l (calls.Accept timer) a m
-keeps_accept {s = s} {x = x} {l = l} {m = m} {a = a} {timer = timer} next called =
-    subst (λ b. KeepsCall s l (calls.Accept timer) b m) (sym called.1) (by_answer called.0 called.2)
-  where
-    by_answer : (g : AcceptAnswer) → CallsObject x l m a (λ old new reading. Accepts x.objects x.timers.about old new timer reading g)
-        → KeepsCall s l (calls.Accept timer) (accept_told g) m
-    by_answer (accept_answers.Spent n) c =
-        keeps_full next (answers.Spent n) timer n c.log c.object_log c.does (reads_begins l.pass m.pass c.reads.looks.seen) c.reads.looks.mine c.notes refl
-        refl refl (λ e saw. saw)
-    by_answer (accept_answers.Accepted overrun) c = accept_kept next (acceptances.Accepted overrun) c
-    by_answer accept_answers.NoSignal c = accept_kept next acceptances.NoSignal c
+  -- law: a lane keeps an acceptance
+  pub keeps_accept : IsNextCall s x l (calls.Accept timer) → Called x l (calls.Accept timer) a m → KeepsCall s l (calls.Accept timer) a m
+  keeps_accept next called = subst (λ b. KeepsCall s l (calls.Accept timer) b m) (sym called.1) (by_answer called.0 called.2)
+    where
+      by_answer : (g : AcceptAnswer) → CallsObject x l m a (λ old new reading. Accepts x.objects x.timers.about old new timer reading g)
+          → KeepsCall s l (calls.Accept timer) (accept_told g) m
+      by_answer (accept_answers.Spent n) c =
+          keeps_full next (answers.Spent n) timer n c.log c.object_log c.does (reads_begins l.pass m.pass c.reads.looks.seen) c.reads.looks.mine c.notes
+          refl refl refl (λ e saw. saw)
+      by_answer (accept_answers.Accepted overrun) c = accept_kept next (acceptances.Accepted overrun) refl refl c
+      by_answer accept_answers.NoSignal c = accept_kept next acceptances.NoSignal refl refl c
 
-read_kept : {s : Script} {x : WorldOf} {l m : LaneOf} {a : Answer} {timer len : ℕ} → IsNextCall s x l (calls.Read timer len) → (reply : ReadReply)
-    → (c : CallsObject x l m a (λ old new reading. (count_length ≤ len) × MakesRearming x.objects x.timers.about old new timer rearmings.Reading reading
-    (replies.Fd (fd_replies.Read (read_answer_of reply)))))
-    → KeepsCall s l (calls.Read timer len) (answer_of_read reply) m
-read_kept {s = s} {x = x} {l = l} {m = m} {timer = timer} {len = len} next reply c =
-    keeps_rearming s x l m (calls.Read timer len) timer next (answer_of_read reply) rearmings.Reading c.reading c.reads
-    (replies.Fd (fd_replies.Read (read_answer_of reply))) c.log c.object_log c.does.1 c.notes refl (read_unstamped reply)
-    (λ arm. object_entries.Read c.reading.stamp arm reply) (read_as c.reading reply)
-    (λ e begin last arm start notes kept low rearmed. read_made len reply kept low rearmed c.does.0)
+module _ {s : Script} {x : WorldOf} {l m : LaneOf} {a : Answer} {timer len : ℕ} where
+  read_kept : IsNextCall s x l (calls.Read timer len) → (reply : ReadReply) → read_noted (read_answer_of reply) ≡ Some reply
+      → object_stamp_in (answer_of_read reply) ≡ []
+      → CallsObject x l m a (λ old new reading. (count_length ≤ len)
+      × MakesRearming x.objects x.timers.about old new timer rearmings.Reading reading (replies.Fd (fd_replies.Read (read_answer_of reply))))
+      → KeepsCall s l (calls.Read timer len) (answer_of_read reply) m
+  read_kept next reply back unstamps c =
+      let answered = fd_replies.Read (read_answer_of reply) in
+      keeps_rearming next refl c c.does.1 (λ arm. object_entries.Read c.reading.stamp arm reply)
+      (λ arm. noted_at c.reading (λ r. rearming_call rearmings.Reading r arm) (replies.Fd answered)
+      (object_entries.Read c.reading.stamp (arm_noted arm) reply)
+      (ap (option_map (λ (r : ReadReply). object_entries.Read c.reading.stamp (arm_noted arm) r)) back) refl
+      (λ clock. ap (λ k. Some (record { call = fd_calls.Read (reading_at clock c.reading.stamp) k; reply = answered })) (arm_back arm).1))
+      (answer_of_read reply) unstamps (λ e begin last arm start number notes kept low rearmed. read_made len reply kept low rearmed c.does.0)
 
--- law: a lane keeps a read
-pub keeps_read : {s : Script} {x : WorldOf} {l m : LaneOf} {a : Answer} {timer len : ℕ} → IsNextCall s x l (calls.Read timer len)
-    → Called x l (calls.Read timer len) a m → KeepsCall s l (calls.Read timer len) a m
-keeps_read {s = s} {x = x} {l = l} {m = m} {a = a} {timer = timer} {len = len} next called =
-    subst (λ b. KeepsCall s l (calls.Read timer len) b m) (sym called.1) (by_answer called.0 called.2)
-  where
-    by_answer : (g : ReadAnswer) → CallsObject x l m a (λ old new reading. ReadsFd x.objects x.timers.about old new timer len reading g)
-        → KeepsCall s l (calls.Read timer len) (read_told g) m
-    by_answer read_answers.ShortBuffer c =
-        keeps_same next answers.Invalid timer c.log c.object_log c.does.1 (reads_begins l.pass m.pass c.reads.looks.seen) c.reads.looks.mine c.notes refl
-        refl (refl, c.does.0) (λ e. tt)
-    by_answer (read_answers.Spent n) c =
-        keeps_full next (answers.Spent n) timer n c.log c.object_log c.does.1 (reads_begins l.pass m.pass c.reads.looks.seen) c.reads.looks.mine c.notes refl
-        refl (refl, c.does.0) (λ e saw. saw)
-    by_answer (read_answers.Count total) c = read_kept next (reads.Count total) c
-    by_answer read_answers.Canceled c = read_kept next reads.Canceled c
-    by_answer read_answers.Again c = read_kept next reads.Again c
+  -- law: a lane keeps a read
+  pub keeps_read : IsNextCall s x l (calls.Read timer len) → Called x l (calls.Read timer len) a m → KeepsCall s l (calls.Read timer len) a m
+  keeps_read next called = subst (λ b. KeepsCall s l (calls.Read timer len) b m) (sym called.1) (by_answer called.0 called.2)
+    where
+      by_answer : (g : ReadAnswer) → CallsObject x l m a (λ old new reading. ReadsFd x.objects x.timers.about old new timer len reading g)
+          → KeepsCall s l (calls.Read timer len) (read_told g) m
+      by_answer read_answers.ShortBuffer c =
+          keeps_same next answers.Invalid timer c.log c.object_log c.does.1 (reads_begins l.pass m.pass c.reads.looks.seen) c.reads.looks.mine c.notes
+          refl refl (refl, c.does.0) (λ e. tt)
+      by_answer (read_answers.Spent n) c =
+          keeps_full next (answers.Spent n) timer n c.log c.object_log c.does.1 (reads_begins l.pass m.pass c.reads.looks.seen) c.reads.looks.mine c.notes
+          refl refl (refl, c.does.0) (λ e saw. saw)
+      by_answer (read_answers.Count total) c = read_kept next (reads.Count total) refl refl c
+      by_answer read_answers.Canceled c = read_kept next reads.Canceled refl refl c
+      by_answer read_answers.Again c = read_kept next reads.Again refl refl c
 
--- a gettime of a descriptor
-pub gettime_kept : {s : Script} {x : WorldOf} {l m : LaneOf} {a : Answer} {timer : ℕ} → IsNextCall s x l (calls.Gettime timer)
-    → (decl_at x.objects timer).kind ≡ over.Fd → Called x l (calls.Gettime timer) a m → KeepsCall s l (calls.Gettime timer) a m
-gettime_kept {s = s} {x = x} {l = l} {m = m} {a = a} {timer = timer} next fd called =
-    by_answer called.0 (called.1.does.1 ∙ ap (λ k. gettime_told k called.1.reading.stamp called.0) fd)
-    (subst (λ k. Gettimes x.objects x.timers.about (caller_of l.pass [] []) (caller_of m.pass called.1.log called.1.object_log) timer called.1.reading k
-    called.0) fd called.1.does.0)
-    (fd_declared s x timer next.world fd)
-  where
-    by_answer : (g : Gettime) → a ≡ gettime_told over.Fd called.1.reading.stamp g
-        → Gettimes x.objects x.timers.about (caller_of l.pass [] []) (caller_of m.pass called.1.log called.1.object_log) timer called.1.reading over.Fd g
-        → (base : ℕ) × (kind_of s timer ≡ kinds.Fd base) → KeepsCall s l (calls.Gettime timer) a m
-    by_answer (gettimes.Spent n) told does kind =
-        let c = called.1 in
-        subst (λ b. KeepsCall s l (calls.Gettime timer) b m) (sym told)
-        (keeps_full next (answers.Spent n) timer n c.log c.object_log does (reads_begins l.pass m.pass c.reads.looks.seen) c.reads.looks.mine c.notes refl
-        refl (subst (λ k. DoesGettime k timer (length (writes m.pass.clock.knows)) (answers.Spent n) []) (sym kind.1) refl) (λ e saw. saw))
-    by_answer (gettimes.Left left interval stamp) told does kind =
-        let c = called.1 in
-        subst (λ b. KeepsCall s l (calls.Gettime timer) b m) (sym told)
-        (keeps_rearming s x l m (calls.Gettime timer) timer next (answers.Left left interval) rearmings.Getting c.reading c.reads
-        (replies.Fd (fd_replies.Gettime (lefts.Left left interval))) c.log c.object_log does.0 c.notes refl refl
-        (λ arm. object_entries.Gettime c.reading.stamp arm left interval)
-        (gettime_as c.reading left interval)
-        (λ e begin last arm start notes kept low rearmed. gettime_made kind.0 left interval kept low rearmed kind.1))
+-- law: a lane keeps a gettime of a descriptor
+pub keeps_gettime-fd : {s : Script} {x : WorldOf} {l m : LaneOf} {a : Answer} {timer base : ℕ} → IsNextCall s x l (calls.Gettime timer)
+    → kind_of s timer ≡ kinds.Fd base → (g : Gettime)
+    → CallsObject x l m a (λ old new reading. Gettimes x.objects x.timers.about old new timer reading over.Fd g × (a ≡ gettime_told over.Fd reading.stamp g))
+    → KeepsCall s l (calls.Gettime timer) a m
+keeps_gettime-fd {s = s} {l = l} {m = m} {timer = timer} next kind (gettimes.Spent n) c =
+    subst (λ b. KeepsCall s l (calls.Gettime timer) b m) (sym c.does.1)
+    (keeps_full next (answers.Spent n) timer n c.log c.object_log c.does.0 (reads_begins l.pass m.pass c.reads.looks.seen) c.reads.looks.mine c.notes refl
+    refl (subst (λ k. DoesGettime k timer (length (writes m.pass.clock.knows)) (answers.Spent n) []) (sym kind) refl) (λ e saw. saw))
+keeps_gettime-fd {s = s} {l = l} {m = m} {timer = timer} {base = base} next kind (gettimes.Left left interval stamp) c =
+    let answered = fd_replies.Gettime (lefts.Left left interval) in
+    subst (λ b. KeepsCall s l (calls.Gettime timer) b m) (sym c.does.1)
+    (keeps_rearming next refl c c.does.0.0 (λ arm. object_entries.Gettime c.reading.stamp arm left interval)
+    (λ arm. noted_at c.reading (λ r. rearming_call rearmings.Getting r arm) (replies.Fd answered)
+    (object_entries.Gettime c.reading.stamp (arm_noted arm) left interval) refl refl
+    (λ clock. ap (λ k. Some (record { call = fd_calls.Gettime (reading_at clock c.reading.stamp) k; reply = answered })) (arm_back arm).1))
+    (answers.Left left interval) refl (λ e begin last arm start number notes kept low rearmed. gettime_made base left interval kept low rearmed kind))

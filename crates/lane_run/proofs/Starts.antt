@@ -16,7 +16,6 @@ use Rattle.hr_timers.specs.Calls.{start_answer}
 use Rattle.hr_timers.specs.declared.answer.StartAnswer.{StartAnswer}
 use Rattle.hr_timers.specs.declared.answer.StartAnswer.TheVariants as starts
 use Rattle.record_text.specs.declared.record.Answer.TheVariants as answers
-use Rattle.record_text.specs.declared.record.Entry.TheVariants as entries
 use Rattle.record_text.specs.declared.record.ClockLine.{ClockLine}
 use Rattle.record_text.specs.declared.record.Label.{Label}
 use Rattle.script_text.specs.Histories.{reading_at}
