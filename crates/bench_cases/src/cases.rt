@@ -1,6 +1,9 @@
 //! What a program is asked for, and which threads work.
 ghost use Rattle.std.specs.Prelude.{◌<◌, IfSome};
 
+use std::env::Env;
+use std::{env, io};
+
 #[derive(Clone, Copy, Debug, PartialEq, Eq)]
 pub enum Task {
     /// Does a few calls in each case, and prints what they made.
@@ -10,12 +13,12 @@ pub enum Task {
 }
 
 impl Task {
-    /// What the first word asks for.
-    pub fn of(word: Option<&str>) -> Task {
-        match word {
-            Some("check") => Task::Check,
+    /// What the program's first word asks for.
+    pub fn asked<R: Env + Alloc>(rt: &R) -> io::Result<Task> {
+        Ok(match env::args(rt)?.nth(1) {
+            Some(word) if word.as_str() == "check" => Task::Check,
             _ => Task::Measure,
-        }
+        })
     }
 }
 

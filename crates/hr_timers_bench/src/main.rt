@@ -8,13 +8,8 @@ mod turns;
 
 use bench_cases::Task;
 use report::print_lines;
-use std::{env, io};
+use std::io;
 
 fn main(rt: HostRuntime) -> io::Result<()> {
-    let word = env::args(&rt)?.nth(1);
-    let task = match &word {
-        Some(word) => Task::of(Some(word.as_str())),
-        None => Task::of(None),
-    };
-    print_lines(&rt, rt.alloc(), task)
+    print_lines(&rt, rt.alloc(), Task::asked(&rt)?)
 }

@@ -41,31 +41,24 @@ pub enum Cause {
     Unfinished,
 }
 
+/// The name of each of these causes, where it is the one.
+macro_rules! name_of {
+    ($cause:expr; $($name:ident)+) => {
+        match $cause {
+            $(Cause::$name => stringify!($name),)+
+        }
+    };
+}
+
 impl Cause {
-    /// Its word in the text of a refusal.
+    /// Its word in the text of a refusal, which is its name.
     pub fn word(self) -> &'static str
         ensures { result.now ≡ cause_word self }
     {
-        match self {
-            Cause::TooLong => "TooLong",
-            Cause::BadByte => "BadByte",
-            Cause::BadSpace => "BadSpace",
-            Cause::UnknownWord => "UnknownWord",
-            Cause::WordCount => "WordCount",
-            Cause::BadNumber => "BadNumber",
-            Cause::BadPlace => "BadPlace",
-            Cause::TimerLimit => "TimerLimit",
-            Cause::CallLimit => "CallLimit",
-            Cause::Version => "Version",
-            Cause::BaseLimit => "BaseLimit",
-            Cause::LaneLimit => "LaneLimit",
-            Cause::EventLimit => "EventLimit",
-            Cause::BadId => "BadId",
-            Cause::NoTimer => "NoTimer",
-            Cause::BudgetLimit => "BudgetLimit",
-            Cause::WrongKind => "WrongKind",
-            Cause::Unfinished => "Unfinished",
-        }
+        name_of!(self;
+            TooLong BadByte BadSpace UnknownWord WordCount BadNumber BadPlace TimerLimit CallLimit
+            Version BaseLimit LaneLimit EventLimit BadId NoTimer BudgetLimit WrongKind Unfinished
+        )
     }
 }
 

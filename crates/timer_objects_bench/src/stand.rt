@@ -1,7 +1,5 @@
 //! Timers with an object over each, and single calls. Each call answers whether it answered as it should.
 ghost use Rattle.std.specs.Prelude.{◌≡◌, ◌*◌, ◌<◌, ◌≤◌, IfOk, OnOk};
-ghost use Rattle.timer_objects.specs.declared.object.Kind.TheVariants as kinds;
-ghost use Rattle.timer_objects.specs.Known.{decl_at};
 ghost use Rattle.timer_objects_bench.specs.Stands.{IsStand, KeepsStand};
 
 use counted_row::RowPass;
@@ -141,56 +139,39 @@ impl Stand {
         ensures keeps { KeepsStand self.old self.new }
     {
         self.make_room(4)?;
-        match self.objects.kind(id) {
-            Kind::Posix => Ok(self.accept(rt, id)),
-            Kind::Fd => Ok(self.read(rt, id)),
+        let (timers, objects) = (&self.timers, &self.objects);
+        match objects.kind(id) {
+            Kind::Posix => {
+                let answer = accept_signal(
+                    rt,
+                    timers,
+                    &mut self.pass,
+                    objects,
+                    &mut self.objects_pass,
+                    &mut self.log,
+                    &mut self.object_log,
+                    id,
+                    Reading::at(NOW),
+                );
+                Ok(answer == AcceptAnswer::Accepted { overrun: 0 })
+            }
+            Kind::Fd => {
+                let answer = read_count(
+                    rt,
+                    timers,
+                    &mut self.pass,
+                    objects,
+                    &mut self.objects_pass,
+                    &mut self.log,
+                    &mut self.object_log,
+                    id,
+                    8,
+                    Reading::at(NOW),
+                );
+                Ok(answer == ReadAnswer::Count { total: 1 })
+            }
             Kind::Raw => Ok(false),
         }
-    }
-
-    fn accept<R: Wait>(&mut self, rt: &R, id: u32) -> bool
-        requires stand { IsStand self.old }
-        requires within { id < self.old.count }
-        requires kind { (decl_at self.old.objects id).kind ≡ kinds.Posix }
-        requires room { (4 ≤ self.old.log.spare) × (0 < self.old.object_log.spare) }
-        ensures keeps { KeepsStand self.old self.new }
-    {
-        let (timers, objects) = (&self.timers, &self.objects);
-        let answer = accept_signal(
-            rt,
-            timers,
-            &mut self.pass,
-            objects,
-            &mut self.objects_pass,
-            &mut self.log,
-            &mut self.object_log,
-            id,
-            Reading::at(NOW),
-        );
-        answer == AcceptAnswer::Accepted { overrun: 0 }
-    }
-
-    fn read<R: Wait>(&mut self, rt: &R, id: u32) -> bool
-        requires stand { IsStand self.old }
-        requires within { id < self.old.count }
-        requires kind { (decl_at self.old.objects id).kind ≡ kinds.Fd }
-        requires room { (4 ≤ self.old.log.spare) × (0 < self.old.object_log.spare) }
-        ensures keeps { KeepsStand self.old self.new }
-    {
-        let (timers, objects) = (&self.timers, &self.objects);
-        let answer = read_count(
-            rt,
-            timers,
-            &mut self.pass,
-            objects,
-            &mut self.objects_pass,
-            &mut self.log,
-            &mut self.object_log,
-            id,
-            8,
-            Reading::at(NOW),
-        );
-        answer == ReadAnswer::Count { total: 1 }
     }
 
     /// Ends the timers and the objects.

@@ -1,17 +1,18 @@
 //! What the calls of one thread answer, and the receipts of their entries.
-ghost use Rattle.std.specs.Prelude.{◌≤◌};
+ghost use Rattle.std.specs.Prelude.{◌<◌, ◌≤◌};
 
 use super::expected::{
     NONE, cancel, fd_read, fd_set, fired, old, posix, posix_old, posix_set, ran, settime, start,
     taken,
 };
 use super::stand::{FD, POSIX, Stand, Step, Told};
+use expire_pass::Receipt;
 use ktime::{ClockId, Mode, Reading};
 use posix_timer::AcceptAnswer;
 use std::sync::Wait;
 use std::test::Fail;
 use timer_fd::{ReadAnswer, SettimeAnswer};
-use timer_objects::{Gettime, Overrun, Readable};
+use timer_objects::{Gettime, ObjectLog, ObjectReceipt, Overrun, Readable};
 use timer_setting::{Arm, TriggerAnswer};
 
 /// The reading of a clock whose real time alone was set, so often.
@@ -27,25 +28,84 @@ fn set_at(real: u64, changes: u64) -> Reading
     }
 }
 
-/// The first step after which the caller was told something else, and what that was.
-fn first_other<R: Wait>(
-    rt: &R,
-    stand: &mut Stand,
-    cases: &[(Step, Reading, Told)],
-) -> Option<(Step, Told)> {
+/// A step, its reading, and what the caller is told.
+type Case = (Step, Reading, Told);
+
+/// What was otherwise than expected: what the caller was told after a step, or the receipts of timers' entries or of calls.
+#[derive(Clone, Copy, Debug, PartialEq, Eq)]
+enum Other {
+    Told(Step, Told),
+    Entries,
+    Calls,
+}
+
+/// The first step after which the caller was told something else.
+fn first_told<R: Wait>(rt: &R, stand: &mut Stand, cases: &[Case]) -> Option<Other> {
     for case in cases {
         let (step, reading, told) = *case;
         let answer = stand.take(rt, step, reading);
         if answer != told {
-            return Some((step, answer));
+            return Some(Other::Told(step, answer));
         }
     }
     None
 }
 
+/// Takes steps on two objects over timers on this clock, with this limit on the entries of each. It answers what was otherwise than
+/// expected, and the receipts of the triggers of the last run.
+fn taken_steps<R: Wait + AllocGlobal>(
+    rt: &R,
+    objects: (ClockId, u64),
+    cases: &[Case],
+    entries: &[Receipt],
+    calls: &[ObjectReceipt],
+) -> Result<(Option<Other>, ObjectLog), Fail>
+    requires limit { (0 < objects.1) × (objects.1 ≤ 1000) }
+{
+    let mut stand = Stand::make(rt.alloc(), objects.0, objects.1)?;
+    let mut other = first_told(rt, &mut stand, cases);
+    if stand.log.receipts() != entries {
+        other = Some(other.unwrap_or(Other::Entries));
+    }
+    if stand.calls.receipts() != calls {
+        other = Some(other.unwrap_or(Other::Calls));
+    }
+    Ok((other, stand.close()))
+}
+
+/// The same without the triggers.
+fn first_other<R: Wait + AllocGlobal>(
+    rt: &R,
+    objects: (ClockId, u64),
+    cases: &[Case],
+    entries: &[Receipt],
+    calls: &[ObjectReceipt],
+) -> Result<Option<Other>, Fail>
+    requires limit { (0 < objects.1) × (objects.1 ≤ 1000) }
+{
+    let (other, _) = taken_steps(rt, objects, cases, entries, calls)?;
+    Ok(other)
+}
+
+/// The entries of a timer that is started at a reading for a time, expires once, and is armed again for another time at another reading.
+fn armed_again(
+    id: u32,
+    clock: ClockId,
+    first: (u64, Reading),
+    due: Reading,
+    next: (u64, Reading),
+) -> [Receipt; 4] {
+    let [claim, finish] = ran(id, due);
+    [
+        start(id, 1, Mode::Abs, first.0, first.1, clock, first.0),
+        claim,
+        finish,
+        start(id, 4, Mode::Keep, next.0, next.1, clock, next.0),
+    ]
+}
+
 #[test]
 fn a_periodic_timer_tells_its_overrun(rt: HostRuntime) -> Result<(), Fail> {
-    let mut stand = Stand::make(rt.alloc(), ClockId::Monotonic, 100)?;
     let (zero, due, late) = (Reading::at(0), Reading::at(100), Reading::at(135));
     let overrun = Overrun {
         overrun: 3,
@@ -59,15 +119,7 @@ fn a_periodic_timer_tells_its_overrun(rt: HostRuntime) -> Result<(), Fail> {
         (Step::Accept, late, Told::Accept(AcceptAnswer::NoSignal)),
         (Step::Overrun, late, Told::Overrun(overrun)),
     ];
-    assert_eq!(rt; first_other(&rt, &mut stand, &cases), None);
-    let [claim, finish] = ran(POSIX, due);
-    let entries = [
-        start(POSIX, 1, Mode::Abs, 100, zero, ClockId::Monotonic, 100),
-        claim,
-        finish,
-        start(POSIX, 4, Mode::Keep, 140, late, ClockId::Monotonic, 140),
-    ];
-    assert_eq!(rt; stand.log.receipts(), entries.as_slice());
+    let entries = armed_again(POSIX, ClockId::Monotonic, (100, zero), due, (140, late));
     let set = posix_timer::Call::Settime(settime(1, 100, 10, zero, Arm::Armed(1)));
     let was = posix_timer::Reply::Settime(posix_old(0));
     let took = posix_timer::Reply::Accept(accepted);
@@ -77,23 +129,23 @@ fn a_periodic_timer_tells_its_overrun(rt: HostRuntime) -> Result<(), Fail> {
         posix(3, taken(late, Arm::Armed(4)), 3, 4, took),
         posix(4, taken(late, Arm::NotAsked), 4, 4, none),
     ];
-    assert_eq!(rt; stand.calls.receipts(), calls.as_slice());
+    let objects = (ClockId::Monotonic, 100);
+    let (other, triggers) = taken_steps(&rt, objects, &cases, &entries, &calls)?;
+    assert_eq!(rt; other, None);
     let trigger = posix_timer::Call::Trigger {
         generation: 1,
         reading: due,
     };
     let counted = posix_timer::Reply::Trigger(TriggerAnswer::Counted);
     assert_eq!(rt;
-        stand.triggers.receipts(),
+        triggers.receipts(),
         [posix(2, trigger, 1, 2, counted)].as_slice()
     );
-    stand.close();
     Ok(())
 }
 
 #[test]
 fn a_descriptor_counts_its_expiries(rt: HostRuntime) -> Result<(), Fail> {
-    let mut stand = Stand::make(rt.alloc(), ClockId::Monotonic, 100)?;
     let (zero, due, late) = (Reading::at(0), Reading::at(100), Reading::at(135));
     let count = ReadAnswer::Count { total: 4 };
     let cases = [
@@ -103,16 +155,16 @@ fn a_descriptor_counts_its_expiries(rt: HostRuntime) -> Result<(), Fail> {
         (Step::Read(8), late, Told::Read(ReadAnswer::Again)),
         (Step::Read(7), late, Told::Read(ReadAnswer::ShortBuffer)),
     ];
-    assert_eq!(rt; first_other(&rt, &mut stand, &cases), None);
     assert_eq!(rt; count.bytes(), Some([4, 0, 0, 0, 0, 0, 0, 0]));
+    let entries = armed_again(FD, ClockId::Monotonic, (100, zero), due, (140, late));
     let set = settime(1, 100, 10, zero, Arm::Armed(1));
     let calls = [
         fd_set(1, set, 0, 1, NONE),
         fd_read(3, late, Arm::Armed(4), 3, 4, count),
         fd_read(4, late, Arm::NotAsked, 4, 4, ReadAnswer::Again),
     ];
-    assert_eq!(rt; stand.calls.receipts(), calls.as_slice());
-    stand.close();
+    let objects = (ClockId::Monotonic, 100);
+    assert_eq!(rt; first_other(&rt, objects, &cases, &entries, &calls)?, None);
     Ok(())
 }
 
@@ -146,14 +198,13 @@ fn a_gettime_tells_what_is_left(rt: HostRuntime) -> Result<(), Fail> {
         ),
         (Step::Readable, late, Told::Readable(ready)),
     ];
-    assert_eq!(rt; first_other(&rt, &mut stand, &cases), None);
+    assert_eq!(rt; first_told(&rt, &mut stand, &cases), None);
     stand.close();
     Ok(())
 }
 
 #[test]
 fn a_set_clock_cancels_a_setting(rt: HostRuntime) -> Result<(), Fail> {
-    let mut stand = Stand::make(rt.alloc(), ClockId::Realtime, 100)?;
     let (zero, fifty) = (Reading::at(0), set_at(50, 1));
     let (sixty, seventy) = (set_at(60, 2), set_at(70, 3));
     let cases = [
@@ -168,7 +219,6 @@ fn a_set_clock_cancels_a_setting(rt: HostRuntime) -> Result<(), Fail> {
         (Step::Settime(FD, 2, 10, 0), sixty, old(140, 0)),
         (Step::Read(8), seventy, Told::Read(ReadAnswer::Again)),
     ];
-    assert_eq!(rt; first_other(&rt, &mut stand, &cases), None);
     let entries = [
         start(FD, 1, Mode::Abs, 100, zero, ClockId::Realtime, 100),
         cancel(FD, 2, 1),
@@ -176,7 +226,6 @@ fn a_set_clock_cancels_a_setting(rt: HostRuntime) -> Result<(), Fail> {
         cancel(FD, 4, 3),
         start(FD, 5, Mode::Rel, 10, sixty, ClockId::Monotonic, 10),
     ];
-    assert_eq!(rt; stand.log.receipts(), entries.as_slice());
     let first = settime(3, 100, 0, zero, Arm::Armed(1));
     let second = settime(3, 200, 0, sixty, Arm::Armed(3));
     let third = settime(2, 10, 0, sixty, Arm::Armed(5));
@@ -192,42 +241,32 @@ fn a_set_clock_cancels_a_setting(rt: HostRuntime) -> Result<(), Fail> {
         fd_set(5, third, 3, 5, left),
         fd_read(6, seventy, Arm::NotAsked, 5, 5, ReadAnswer::Again),
     ];
-    assert_eq!(rt; stand.calls.receipts(), calls.as_slice());
-    stand.close();
+    let objects = (ClockId::Realtime, 100);
+    assert_eq!(rt; first_other(&rt, objects, &cases, &entries, &calls)?, None);
     Ok(())
 }
 
 #[test]
 fn a_clock_set_back_before_the_expiry_leaves_none_to_read(rt: HostRuntime) -> Result<(), Fail> {
-    let mut stand = Stand::make(rt.alloc(), ClockId::Realtime, 100)?;
     let (due, back) = (set_at(1000, 1), set_at(500, 2));
     let cases = [
         (Step::Settime(FD, 1, 1000, 100), due, old(0, 0)),
         (Step::Expire, due, fired(1)),
         (Step::Read(8), back, Told::Read(ReadAnswer::Again)),
     ];
-    assert_eq!(rt; first_other(&rt, &mut stand, &cases), None);
-    let [claim, finish] = ran(FD, due);
-    let entries = [
-        start(FD, 1, Mode::Abs, 1000, due, ClockId::Realtime, 1000),
-        claim,
-        finish,
-        start(FD, 4, Mode::Keep, 1000, back, ClockId::Realtime, 1000),
-    ];
-    assert_eq!(rt; stand.log.receipts(), entries.as_slice());
+    let entries = armed_again(FD, ClockId::Realtime, (1000, due), due, (1000, back));
     let set = settime(1, 1000, 100, due, Arm::Armed(1));
     let calls = [
         fd_set(1, set, 0, 1, NONE),
         fd_read(3, back, Arm::Armed(4), 3, 4, ReadAnswer::Again),
     ];
-    assert_eq!(rt; stand.calls.receipts(), calls.as_slice());
-    stand.close();
+    let objects = (ClockId::Realtime, 100);
+    assert_eq!(rt; first_other(&rt, objects, &cases, &entries, &calls)?, None);
     Ok(())
 }
 
 #[test]
 fn a_full_history_refuses_a_settime(rt: HostRuntime) -> Result<(), Fail> {
-    let mut stand = Stand::make(rt.alloc(), ClockId::Monotonic, 3)?;
     let zero = Reading::at(0);
     let step = Step::Settime(POSIX, 1, 100, 0);
     let cases = [
@@ -240,21 +279,19 @@ fn a_full_history_refuses_a_settime(rt: HostRuntime) -> Result<(), Fail> {
         ),
         (step, zero, Told::Settime(SettimeAnswer::Spent { stamp: 3 })),
     ];
-    assert_eq!(rt; first_other(&rt, &mut stand, &cases), None);
     let entries = [
         start(POSIX, 1, Mode::Abs, 100, zero, ClockId::Monotonic, 100),
         cancel(POSIX, 2, 1),
         start(POSIX, 3, Mode::Abs, 100, zero, ClockId::Monotonic, 100),
         cancel(POSIX, 4, 3),
     ];
-    assert_eq!(rt; stand.log.receipts(), entries.as_slice());
     let unarmed = posix_timer::SettimeAnswer::Unarmed { stamp: 4 };
     let calls = [
         posix_set(1, zero, Arm::Armed(1), 0, 1, posix_old(0)),
         posix_set(2, zero, Arm::Armed(3), 1, 3, posix_old(100)),
         posix_set(3, zero, Arm::Unarmed(4), 3, 4, unarmed),
     ];
-    assert_eq!(rt; stand.calls.receipts(), calls.as_slice());
-    stand.close();
+    let objects = (ClockId::Monotonic, 3);
+    assert_eq!(rt; first_other(&rt, objects, &cases, &entries, &calls)?, None);
     Ok(())
 }

@@ -264,8 +264,8 @@ impl Stand {
         )
     }
 
-    /// Ends the timers and the objects.
-    pub fn close(self) {
+    /// Ends the timers and the objects, and answers the receipts of the triggers of the last run.
+    pub fn close(self) -> ObjectLog {
         let Stand {
             timers,
             pass,
@@ -273,10 +273,11 @@ impl Stand {
             objects_pass,
             log: _,
             calls: _,
-            triggers: _,
+            triggers,
             alloc: _,
         } = self;
         timers.close(pass);
         objects.close(objects_pass);
+        triggers
     }
 }

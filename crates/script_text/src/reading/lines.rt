@@ -85,6 +85,7 @@ pub fn read_line(alloc: Global, line: &[u8]) -> Result<Result<Line, Cause>, Allo
 #[cfg(test)]
 mod tests {
     use super::*;
+    use crate::refusal::Cause::{BadByte, BadNumber, BadSpace, UnknownWord, WordCount};
     use ktime::{ClockId, Mode};
 
     #[test]
@@ -132,23 +133,23 @@ mod tests {
     #[test]
     fn tells_the_first_cause_against_a_line(rt: HostRuntime) {
         let lines = [
-            (" hrt\t1", Cause::BadByte),
-            ("hrt 01\u{7f}", Cause::BadByte),
-            ("bas ", Cause::BadSpace),
-            ("hrt  01", Cause::BadSpace),
-            ("bas", Cause::UnknownWord),
-            ("0 stop", Cause::UnknownWord),
-            ("raw 00 tai never", Cause::UnknownWord),
-            ("0", Cause::WordCount),
-            ("raw 0 tai", Cause::WordCount),
-            ("hrt 01 1", Cause::WordCount),
-            ("0 read 0", Cause::WordCount),
-            ("00 peek 0", Cause::BadNumber),
-            ("raw 00 tai once", Cause::BadNumber),
-            ("0 advance 9223372036854775808", Cause::BadNumber),
-            ("raw 0 tai every 01", Cause::UnknownWord),
-            ("fd 0 tai 01", Cause::UnknownWord),
-            ("0 start 0 keep 01 0", Cause::UnknownWord),
+            (" hrt\t1", BadByte),
+            ("hrt 01\u{7f}", BadByte),
+            ("bas ", BadSpace),
+            ("hrt  01", BadSpace),
+            ("bas", UnknownWord),
+            ("0 stop", UnknownWord),
+            ("raw 00 tai never", UnknownWord),
+            ("0", WordCount),
+            ("raw 0 tai", WordCount),
+            ("hrt 01 1", WordCount),
+            ("0 read 0", WordCount),
+            ("00 peek 0", BadNumber),
+            ("raw 00 tai once", BadNumber),
+            ("0 advance 9223372036854775808", BadNumber),
+            ("raw 0 tai every 01", UnknownWord),
+            ("fd 0 tai 01", UnknownWord),
+            ("0 start 0 keep 01 0", UnknownWord),
         ];
         for (text, cause) in lines {
             let Ok(Err(found)) = read_line(rt.alloc(), text.as_bytes()) else {

@@ -8,7 +8,10 @@ use expire_pass::{ExpireAnswer, Handler, Log, Restart, expire};
 use hr_timers::{Claim, Pass, StartAnswer, Timers};
 use ktime::{Mode, Reading};
 use std::sync::Wait;
-use timer_core::CancelAnswer;
+use timer_core::{CancelAnswer, ForwardAnswer};
+
+/// How often a thread looks for what the other one does.
+pub const TURNS: u32 = 50_000_000;
 
 /// What a function does.
 #[derive(Clone, Copy, Debug, PartialEq, Eq)]
@@ -19,6 +22,15 @@ pub enum Act {
     Cancel,
     /// Starts its own timer, and then tries to cancel it.
     StartAndCancel,
+    /// Forwards its own timer by 100 nanoseconds, where that is of the periodic ones.
+    Forward,
+    /// Runs until the timer before its own is armed, or gives up.
+    Wait,
+}
+
+/// Of the timers whose functions forward them, those with an even number are periodic.
+pub fn is_periodic(timer: u32) -> bool {
+    timer % 2 == 0
 }
 
 /// What a function was told.
@@ -27,9 +39,12 @@ pub enum Told {
     Nothing,
     Start(StartAnswer),
     Cancel(CancelAnswer),
+    Forward(ForwardAnswer),
+    /// Whether the other timer was armed.
+    Met(bool),
 }
 
-/// Does the same for each timer, and keeps what the last function was told.
+/// Does the same for each timer, and keeps what the last function was told. One that was told nothing asks for no restart.
 #[derive(Drop)]
 pub struct Acting {
     pub act: Act,
@@ -73,7 +88,27 @@ fn do_act<R: Wait>(
             start_own(rt, timers, pass, own, reading);
             Told::Cancel(timers.try_to_cancel(rt, pass, own))
         }
+        Act::Forward if is_periodic(own) => {
+            Told::Forward(timers.forward(rt, pass, claim, reading, 100))
+        }
+        Act::Forward => Told::Nothing,
+        Act::Wait => Told::Met(meet(timers, pass, own.saturating_sub(1))),
     }
+}
+
+/// Whether a timer is armed before it was looked at too often.
+fn meet(timers: &Timers, pass: &mut Pass, timer: u32) -> bool
+    requires pass { IsPassOf timers.now pass.old }
+    requires timer { timer < length timers.now.about.timers }
+    ensures pass { IsPassOf timers.now pass.new }
+    ensures keeps { KeepsPass pass.old.known pass.new.known }
+{
+    for _ in 0..TURNS {
+        if timers.peek(pass, timer).enqueued {
+            return true;
+        }
+    }
+    false
 }
 
 /// Starts a timer that is due at once.
@@ -98,7 +133,11 @@ impl Handler for Acting {
         claim: &Claim,
         reading: Reading,
     ) -> Restart {
-        self.told = do_act(rt, timers, pass, claim, reading, self.act);
+        let told = do_act(rt, timers, pass, claim, reading, self.act);
+        if told == Told::Nothing {
+            return Restart::Stop;
+        }
+        self.told = told;
         self.restart
     }
 }

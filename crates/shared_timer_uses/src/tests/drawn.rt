@@ -4,15 +4,16 @@ ghost use Rattle.timer_core.specs.Kept.{IsSameSize};
 ghost use Rattle.hr_timers.specs.Known.{IsPassOf};
 ghost use Rattle.expire_pass.specs.Handlers.{KeepsPass};
 
+use super::acting::{Act, Acting, Told as ToldInside, is_periodic};
 use super::some_timers;
-use expire_pass::{ExpireAnswer, Handler, Log, Restart, expire};
-use hr_timers::{Claim, Pass, StartAnswer, Timers};
+use expire_pass::{ExpireAnswer, Log, Restart, expire};
+use hr_timers::{Pass, StartAnswer, Timers};
 use ktime::{ClockId, Mode, Reading};
 use seq_timer::{Event, Reply};
 use std::alloc::{AllocError, Global};
 use std::sync::Wait;
 use std::test::Fail;
-use timer_core::{CancelAnswer, ClaimAnswer, Core, ForwardAnswer};
+use timer_core::{CancelAnswer, ClaimAnswer, Core};
 use timer_queue::ListQueue;
 
 /// The number after this one: all that is drawn is taken from it.
@@ -60,50 +61,21 @@ enum Told {
     Expire(ExpireAnswer),
 }
 
-/// The functions of timers 0 and 2 forward by 100, and are armed again.
-fn is_periodic(timer: u32) -> bool {
-    timer % 2 == 0
-}
-
-/// Runs functions on `Timers`.
+/// What functions on `Core` have made, and what the last one was told that forwards its timer.
 #[derive(Drop)]
-struct Functions {
-    forwarded: Option<ForwardAnswer>,
-}
-
-impl Handler for Functions {
-    ghost meaning = { record { did = λ o h h' k k' c reading restart. Unit; ready = λ h. 18446744073709551616; timers = λ h. 65536; bases = λ h. 0 } };
-
-    fn fire<R: Wait>(
-        &mut self,
-        rt: &R,
-        timers: &Timers,
-        pass: &mut Pass,
-        claim: &Claim,
-        reading: Reading,
-    ) -> Restart {
-        if !is_periodic(claim.timer()) {
-            return Restart::Stop;
-        }
-        self.forwarded = Some(timers.forward(rt, pass, claim, reading, 100));
-        Restart::Again
-    }
+struct Made {
+    log: Log,
+    told: ToldInside,
 }
 
 /// Runs the function of a timer on `Core`, and notes it as `expire` does.
-fn run_on_core(
-    core: &mut Core<ListQueue>,
-    base: u32,
-    reading: Reading,
-    log: &mut Log,
-    forwarded: &mut Option<ForwardAnswer>,
-) -> ClaimAnswer
+fn run_on_core(core: &mut Core<ListQueue>, base: u32, now: Reading, made: &mut Made) -> ClaimAnswer
     requires base { base < length core.old.bases }
-    requires room { 2 ≤ log.old.spare }
+    requires room { 2 ≤ made.old.log.spare }
     ensures sizes { IsSameSize core.old core.new }
-    ensures room { log.old.spare ≤ log.new.spare + 2 }
+    ensures room { made.old.log.spare ≤ made.new.log.spare + 2 }
 {
-    let told = core.claim_next(base, reading);
+    let told = core.claim_next(base, now);
     let ClaimAnswer::Claimed {
         timer,
         generation,
@@ -114,17 +86,17 @@ fn run_on_core(
     };
     let restart = is_periodic(timer);
     if restart {
-        *forwarded = Some(core.forward(timer, reading, 100));
+        made.told = ToldInside::Forward(core.forward(timer, now, 100));
     }
     let finished = core.finish(timer, restart);
     let rearmed = finished.rearmed;
-    log.note(
+    made.log.note(
         timer,
         number,
-        Event::Claim { base, reading },
+        Event::Claim { base, reading: now },
         Reply::Claim { generation },
     );
-    log.note(
+    made.log.note(
         timer,
         finished.number,
         Event::Finish { restart },
@@ -140,16 +112,15 @@ fn run_on_core(
 fn expire_on_core(
     core: &mut Core<ListQueue>,
     base: u32,
-    reading: Reading,
-    log: &mut Log,
-    forwarded: &mut Option<ForwardAnswer>,
+    now: Reading,
+    made: &mut Made,
 ) -> ExpireAnswer
     requires base { base < length core.old.bases }
-    requires room { 16 ≤ log.old.spare }
+    requires room { 16 ≤ made.old.log.spare }
     ensures sizes { IsSameSize core.old core.new }
 {
     for fired in 0..8u64 {
-        match run_on_core(core, base, reading, log, forwarded) {
+        match run_on_core(core, base, now, made) {
             ClaimAnswer::Claimed { .. } => {}
             ClaimAnswer::NoneDue => return ExpireAnswer::Done { fired },
             ClaimAnswer::BaseBusy { timer, generation } => {
@@ -165,21 +136,15 @@ fn expire_on_core(
 }
 
 /// A drawn call on `Core`.
-fn call_core(
-    core: &mut Core<ListQueue>,
-    call: Call,
-    reading: Reading,
-    log: &mut Log,
-    forwarded: &mut Option<ForwardAnswer>,
-) -> Told
+fn call_core(core: &mut Core<ListQueue>, call: Call, now: Reading, made: &mut Made) -> Told
     requires within { (call.timer < length core.old.timers) × (call.base < length core.old.bases) }
-    requires room { 16 ≤ log.old.spare }
+    requires room { 16 ≤ made.old.log.spare }
     ensures sizes { IsSameSize core.old core.new }
 {
     match call.kind {
         0 => Told::Cancel(core.try_to_cancel(call.timer)),
-        3 => Told::Expire(expire_on_core(core, call.base, reading, log, forwarded)),
-        _ => start_on_core(core, call, reading),
+        3 => Told::Expire(expire_on_core(core, call.base, now, made)),
+        _ => start_on_core(core, call, now),
     }
 }
 
@@ -218,7 +183,7 @@ fn call_timers<R: Wait>(
     call: Call,
     reading: Reading,
     log: &mut Log,
-    functions: &mut Functions,
+    functions: &mut Acting,
 ) -> Told
     requires pass { IsPassOf timers.now pass.old }
     requires within { (call.timer < length timers.now.about.timers) × (call.base < timers.now.about.bases) }
@@ -278,21 +243,23 @@ fn call_both<R: Wait>(
     ensures keeps { KeepsPass pass.old.known pass.new.known }
     ensures sizes { IsSameSize core.old core.new }
 {
-    let mut first = Log::make(alloc);
-    first.reserve(16)?;
+    let mut made = Made {
+        log: Log::make(alloc),
+        told: ToldInside::Nothing,
+    };
+    made.log.reserve(16)?;
     let mut second = Log::make(alloc);
     second.reserve(16)?;
-    let mut forwarded = None;
-    let mut functions = Functions { forwarded: None };
-    let told = call_core(core, call, reading, &mut first, &mut forwarded);
+    let mut functions = Acting::of(Act::Forward, Restart::Again);
+    let told = call_core(core, call, reading, &mut made);
     let again = call_timers(rt, timers, pass, call, reading, &mut second, &mut functions);
     let words = core.peek(call.timer) == timers.peek(pass, call.timer);
     if words
         && told == again
-        && forwarded == functions.forwarded
-        && first.receipts() == second.receipts()
+        && made.told == functions.told
+        && made.log.receipts() == second.receipts()
     {
-        return Ok(Some(first.receipts().len()));
+        return Ok(Some(second.receipts().len()));
     }
     Ok(None)
 }

@@ -7,6 +7,7 @@ use hr_timers::StartAnswer;
 use ktime::{ClockId, Mode, Reading};
 use seq_timer::{Peek, Rearmed, Reply};
 use std::alloc::{AllocError, Global};
+use std::process::Abort;
 use std::sync::Wait;
 use std::test::Fail;
 use timer_core::CancelAnswer;
@@ -52,12 +53,21 @@ fn armed_again() -> Peek {
     }
 }
 
-/// What a cancel of timer 0 is told while its first function runs.
-fn told_running(stamp: u64) -> Told {
-    Told::Cancel(CancelAnswer::Running {
+/// Runs a function that tries to cancel its own timer, and is told that it runs, with this stamp. It answers the timer after that.
+fn after_told_running(
+    rt: &(impl Wait + Abort),
+    alloc: Global,
+    act: Act,
+    stamp: u64,
+) -> Result<Peek, AllocError> {
+    let ran = run_one(rt, alloc, Acting::of(act, Restart::Stop), Reading::at(0))?;
+    assert_eq!(rt; ran.answer, ExpireAnswer::More { fired: 1 });
+    let running = CancelAnswer::Running {
         generation: 1,
         stamp,
-    })
+    };
+    assert_eq!(rt; ran.told, Told::Cancel(running));
+    Ok(ran.peek)
 }
 
 #[test]
@@ -156,21 +166,15 @@ fn a_function_cancels_another_timer(rt: HostRuntime) -> Result<(), Fail> {
 
 #[test]
 fn a_function_cannot_cancel_its_own_timer(rt: HostRuntime) -> Result<(), Fail> {
-    let function = Acting::of(Act::Cancel, Restart::Stop);
-    let ran = run_one(&rt, rt.alloc(), function, Reading::at(0))?;
-    assert_eq!(rt; ran.answer, ExpireAnswer::More { fired: 1 });
-    assert_eq!(rt; ran.told, told_running(2));
-    assert!(rt; !ran.peek.enqueued);
+    let peek = after_told_running(&rt, rt.alloc(), Act::Cancel, 2)?;
+    assert!(rt; !peek.enqueued);
     Ok(())
 }
 
 #[test]
 fn a_start_in_the_function_outlives_its_cancel(rt: HostRuntime) -> Result<(), Fail> {
-    let function = Acting::of(Act::StartAndCancel, Restart::Stop);
-    let ran = run_one(&rt, rt.alloc(), function, Reading::at(0))?;
-    assert_eq!(rt; ran.answer, ExpireAnswer::More { fired: 1 });
-    assert_eq!(rt; ran.told, told_running(3));
-    assert_eq!(rt; ran.peek, armed_again());
+    let peek = after_told_running(&rt, rt.alloc(), Act::StartAndCancel, 3)?;
+    assert_eq!(rt; peek, armed_again());
     Ok(())
 }
 

@@ -4,18 +4,16 @@ ghost use Rattle.pass_names.specs.Names.{IsLast, after_split, child_of, first_pa
 ghost use Rattle.hr_timers.specs.Known.{IsPassOf};
 ghost use Rattle.expire_pass.specs.Handlers.{KeepsPass};
 
+use super::acting::{Act, Acting, TURNS, Told};
 use super::some_timers;
 use crate::{OneShot, expire_and_stop, start_anew, start_counted, start_once, stop_and_wait};
-use expire_pass::{ExpireAnswer, Handler, Log, Restart, expire};
-use hr_timers::{Claim, Pass, Timers};
+use expire_pass::{ExpireAnswer, Log, Restart, expire};
+use hr_timers::{Pass, Timers};
 use ktime::Reading;
 use std::sync::Wait;
 use std::test::Fail;
 use std::thread::{Threads, join_mut};
 use timer_core::CancelAnswer;
-
-/// How often a thread looks for what the other one does.
-const TURNS: u32 = 50_000_000;
 
 #[test]
 fn two_threads_lose_no_entry_of_a_timer(rt: HostRuntime) -> Result<(), Fail> {
@@ -23,42 +21,6 @@ fn two_threads_lose_no_entry_of_a_timer(rt: HostRuntime) -> Result<(), Fail> {
     assert!(rt; counts.first >= 1000 && counts.second >= 1000);
     assert_eq!(rt; counts.first.wrapping_add(counts.second), counts.stamp);
     Ok(())
-}
-
-/// The function runs until the timer before its own is armed, or gives up.
-struct Waits {
-    met: bool,
-}
-
-impl Handler for Waits {
-    ghost meaning = { record { did = λ o h h' k k' c reading restart. Unit; ready = λ h. 18446744073709551616; timers = λ h. 65536; bases = λ h. 0 } };
-
-    fn fire<R: Wait>(
-        &mut self,
-        _rt: &R,
-        timers: &Timers,
-        pass: &mut Pass,
-        claim: &Claim,
-        _reading: Reading,
-    ) -> Restart {
-        self.met = meet(timers, pass, claim.timer().saturating_sub(1));
-        Restart::Stop
-    }
-}
-
-/// Whether a timer is armed before it was looked at too often.
-fn meet(timers: &Timers, pass: &mut Pass, timer: u32) -> bool
-    requires pass { IsPassOf timers.now pass.old }
-    requires timer { timer < length timers.now.about.timers }
-    ensures pass { IsPassOf timers.now pass.new }
-    ensures keeps { KeepsPass pass.old.known pass.new.known }
-{
-    for _ in 0..TURNS {
-        if timers.peek(pass, timer).enqueued {
-            return true;
-        }
-    }
-    false
 }
 
 /// What a thread was told of timer 1 while its function ran in the other one, and whether that was armed when it was stopped.
@@ -94,7 +56,7 @@ fn run_one<R: Wait>(
     rt: &R,
     timers: &Timers,
     pass: &mut Pass,
-    function: &mut Waits,
+    function: &mut Acting,
     log: &mut Log,
 ) -> ExpireAnswer
     requires pass { IsPassOf timers.now pass.old }
@@ -112,7 +74,7 @@ fn run_and_stop<R: Threads + Wait + Sync>(
     timers: &Timers,
     runner: &mut Pass,
     stopper: &mut Pass,
-    function: &mut Waits,
+    function: &mut Acting,
     log: &mut Log,
 ) -> (ExpireAnswer, Option<(CancelAnswer, bool)>)
     requires pass { IsPassOf timers.now runner.old × IsPassOf timers.now stopper.old }
@@ -145,11 +107,10 @@ fn a_stop_waits_for_the_function_in_another_thread(rt: HostRuntime) -> Result<()
     let (timers, mut pass, mut log) = some_timers(rt.alloc(), 1, 2)?;
     start_once(&rt, &timers, &mut pass, 1, 0, 0, Reading::at(0));
     let mut other = timers.split(&mut pass);
-    let mut function = Waits { met: false };
+    let mut function = Acting::of(Act::Wait, Restart::Stop);
     let (ran, told) = run_and_stop(&rt, &timers, &mut pass, &mut other, &mut function, &mut log);
     retire(&timers, &mut pass, other);
-    let Waits { met } = function;
-    assert!(rt; met);
+    assert_eq!(rt; function.told, Told::Met(true));
     assert_eq!(rt; ran, ExpireAnswer::More { fired: 1 });
     let running = CancelAnswer::Running {
         generation: 1,
