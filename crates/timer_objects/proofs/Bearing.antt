@@ -1,6 +1,6 @@
 -- A call that arms its object's timer again: it may be made, its reply, and the phase that it leaves.
 use Rattle.std.proofs.Common.{arith, refl, sym, subst, ◌≡◌, ◌∙◌, ℕ, ◌<◌, Bool, true, false, nat_eq, nat_lt, ◌&&◌, ◌||◌, List}
-use Rattle.std.specs.Prelude.{Option, None, if◌then◌else◌}
+use Rattle.std.specs.Prelude.{None, if◌then◌else◌}
 use Rattle.ktime.specs.Readings.{ClockReading, value_of}
 use Rattle.ktime.specs.Times.{next_after}
 use Rattle.base_row.specs.declared.view.Opening.{Opening}
@@ -8,7 +8,6 @@ use Rattle.hr_timers.specs.Known.{KnownOfTimers}
 use Rattle.expire_pass.specs.declared.log.Receipt.{Receipt}
 use Rattle.timer_setting.specs.declared.arming.Arm.{Arm}
 use Rattle.timer_setting.specs.declared.arming.Arm.TheVariants as arms
-use Rattle.timer_setting.specs.declared.arming.Wanted.{Wanted}
 use Rattle.timer_setting.specs.declared.phase.Phase.{Phase}
 use Rattle.timer_setting.specs.declared.phase.Phase.TheVariants as phases
 use Rattle.timer_setting.specs.Phases.{IsOutcomeOf, next_start, periods_in, rearmed}
@@ -17,7 +16,6 @@ use Rattle.posix_timer.specs.States.{PosixTimer}
 use Rattle.posix_timer.specs.Steps.{overrun_of}
 use Rattle.timer_fd.specs.States.{Descriptor, is_canceled}
 use Rattle.timer_fd.specs.Steps.{fd_read_answer, left_by}
-use Rattle.timer_objects.specs.declared.cell.ObjectCell.{ObjectCell}
 use Rattle.timer_objects.specs.declared.cell.Span.{Span}
 use Rattle.timer_objects.specs.declared.object.Decl.{Decl}
 use Rattle.timer_objects.specs.declared.object.Object.{Object}
@@ -105,12 +103,3 @@ module _ (o : Opening) (v w : KnownOfTimers) (id last base : ℕ) (reading : Clo
   bears rearmings.Getting objects.Raw rearms = bears_none phases.Idle rearms.0
   bears rearmings.Getting (objects.Posix t) rearms = bears_none t.phase rearms.0
   bears rearmings.Getting (objects.Fd t) rearms = bears_expired arm t.phase t.interval rearms refl
-
-pub rearms_as : (o : Opening) (v w : KnownOfTimers) (id : ℕ) (reading : ClockReading) (arm : Arm) (span : Span) (log log' : List Receipt) (r : Rearming)
-    (cell cell' : ObjectCell) (wanted : Option Wanted) (decl decl' : Decl) → cell ≡ cell' → wanted ≡ wanted_by r cell.object reading → decl ≡ decl'
-    → RearmsFor o v w id cell.last wanted decl.base reading arm span log log'
-    → RearmsFor o v w id cell'.last (wanted_by r cell'.object reading) decl'.base reading arm span log log'
-rearms_as o v w id reading arm span log log' r cell cell' wanted decl decl' same is there rearms =
-    subst (λ (d : Decl). RearmsFor o v w id cell'.last (wanted_by r cell'.object reading) d.base reading arm span log log') there
-    (subst (λ (x : ObjectCell). RearmsFor o v w id x.last (wanted_by r x.object reading) decl.base reading arm span log log') same
-    (subst (λ x. RearmsFor o v w id cell.last x decl.base reading arm span log log') is rearms))

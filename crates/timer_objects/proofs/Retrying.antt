@@ -16,15 +16,11 @@ use Rattle.timer_objects.specs.declared.cell.ObjectCell.{ObjectCell}
 use Rattle.timer_objects.specs.declared.cell.Span.{Span}
 use Rattle.timer_objects.specs.declared.cell.SpannedCall.{SpannedCall}
 use Rattle.timer_objects.specs.declared.object.ObjectReply.{ObjectReply}
-use Rattle.timer_objects.specs.declared.wanting.Rearming.{Rearming}
-use Rattle.timer_objects.specs.declared.wanting.Ended.{Ended}
-use Rattle.timer_objects.specs.declared.wanting.Ended.TheVariants as ends
 use Rattle.timer_objects.specs.Cells.{cell_meaning}
 use Rattle.timer_objects.specs.Known.{IsObjectsPass, ObjectsOf, ObjectsPass, row_of, seen_of}
 use Rattle.timer_objects.specs.Arming.{Starts}
-use Rattle.timer_objects.specs.Calls.{Caller, EntersCall, HasWaited, RearmsFor}
+use Rattle.timer_objects.specs.Calls.{Caller, EntersCall, FindsFull, HasWaited, RearmsFor}
 use Rattle.timer_objects.specs.Waiting.{HasToWait}
-use Rattle.timer_objects.specs.Rearming.{Ends, KeepsNames}
 
 module _ {a b c : Caller} where
   -- an entry of an object behind looks
@@ -38,8 +34,19 @@ module _ {a b c : Caller} where
     object_log = e.object_log ∙ ap (λ l. l ++ record { object = id; number = length e.commits.adds.before + 1; call = call; reply = answer } ∷ []) waits.object_log;
   }
 
+  -- a history that was found full behind looks
+  pub full_after : {x : ObjectsOf} {id n : ℕ} → HasWaited a b → FindsFull x b c id n → FindsFull x a c id n
+  full_after waits found = record {
+    looks = looks_trans a.timers b.timers c.timers waits.timers found.looks;
+    reads = reads_after waits.objects found.reads;
+    full = found.full;
+    stamp = found.stamp;
+    log = found.log ∙ waits.log;
+    object_log = found.object_log ∙ waits.object_log;
+  }
+
 module _ (o : Opening) (u v w : KnownOfTimers) (t last base : ℕ) (reading : ClockReading) (arm : Arm) (span : Span) (log log' log'' : List Receipt) where
-  rearms_after : (wanted : Option Wanted) → LooksOn u v → log' ≡ log → RearmsFor o v w t last wanted base reading arm span log' log''
+  pub rearms_after : (wanted : Option Wanted) → LooksOn u v → log' ≡ log → RearmsFor o v w t last wanted base reading arm span log' log''
       → RearmsFor o u w t last wanted base reading arm span log log''
   rearms_after None looks same rearms =
       let q = rearms.1 in
@@ -53,29 +60,6 @@ module _ (o : Opening) (u v w : KnownOfTimers) (t last base : ℕ) (reading : Cl
     to = rearms.to;
   }
 
-pub ends_after : (x : ObjectsOf) (o : Opening) (a b c : Caller) (id : ℕ) (r : Rearming) (reading : ClockReading) (e : Ended) → HasWaited a b
-    → Ends x o b c id r reading e → Ends x o a c id r reading e
-ends_after x o a b c id r reading (ends.Full n) waits found = record {
-  looks = looks_trans a.timers b.timers c.timers waits.timers found.looks;
-  reads = reads_after waits.objects found.reads;
-  full = found.full;
-  stamp = found.stamp;
-  log = found.log ∙ waits.log;
-  object_log = found.object_log ∙ waits.object_log;
-}
-ends_after x o a b c id r reading (ends.Made n reply) waits made =
-    let m = made.0 in (
-      record {
-        arm = m.arm;
-        span = m.span;
-        enters = enters_after waits m.enters;
-        rearms = rearms_after o a.timers b.timers c.timers id _ _ reading m.arm m.span a.log b.log c.log _ waits.timers waits.log m.rearms;
-        bears = m.bears;
-      },
-      made.1,
-      made.2,
-    )
-
 -- a turn that was given up while the object was held
 pub held_up : (x : ObjectsOf) (p m q : ObjectsPass) (id : ℕ) (h : Locked ObjectCell) → Locks cell_meaning p m id h → IsPassOfRow (row_of x) m
     → IsObjectsPass x q → p.knows.held ≡ None → q.knows ≡ released m.knows → h.stamp ≡ length (seen_of q h.index) → h.stamp < x.limit
@@ -88,15 +72,8 @@ held_up x p m q id h locks here after idle is count room why because = record {
 
 -- ---- names
 
-rearms_names : (o : Opening) (v w : KnownOfTimers) (t last base : ℕ) (reading : ClockReading) (arm : Arm) (span : Span) (log log' : List Receipt)
+pub rearms_names : (o : Opening) (v w : KnownOfTimers) (t last base : ℕ) (reading : ClockReading) (arm : Arm) (span : Span) (log log' : List Receipt)
     (wanted : Option Wanted) → RearmsFor o v w t last wanted base reading arm span log log' → (w.id ≡ v.id) × (w.claims ≡ v.claims)
 rearms_names o v w t last base reading arm span log log' None rearms = (rearms.1.looks.id, rearms.1.looks.claims)
 rearms_names o v w t last base reading arm span log log' (Some wanted) rearms =
     let s = rearms.starts.starts in (s.made.id ∙ rearms.looks.id, s.claims ∙ rearms.looks.claims)
-
-pub ends_names : (x : ObjectsOf) (o : Opening) (old new : Caller) (id : ℕ) (r : Rearming) (reading : ClockReading) (e : Ended)
-    → Ends x o old new id r reading e → KeepsNames old new
-ends_names x o old new id r reading (ends.Full n) found = record { timers = found.looks.id; claims = found.looks.claims; objects = found.reads.pass.id }
-ends_names x o old new id r reading (ends.Made n reply) made =
-    let names = rearms_names o old.timers new.timers id _ _ reading made.0.arm made.0.span _ _ _ made.0.rearms in
-    record { timers = names.0; claims = names.1; objects = made.0.enters.commits.adds.id }

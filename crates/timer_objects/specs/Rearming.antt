@@ -1,8 +1,8 @@
--- The calls that arm a timer again where it is periodic and has expired: what each wants of an object, and how a turn of it ends.
-use Rattle.std.specs.Prelude.{ℕ, ◌≡◌, ◌<◌, length}
+-- The calls that make an entry and may start their object's timer before it: what each wants of an object, and how a turn of it ends.
+use Rattle.std.specs.Prelude.{ℕ, ◌≡◌, ◌≢◌, ◌<◌, length, List, Option, IsSome}
 use Rattle.ktime.specs.Readings.{ClockReading}
 use Rattle.expire_pass.specs.Logs.{LogOf}
-use Rattle.hr_timers.specs.Known.{PassOf}
+use Rattle.hr_timers.specs.Known.{IsPassOf, KnownOfTimers, PassOf}
 use Rattle.base_row.specs.declared.view.Opening.{Opening}
 use Rattle.posix_timer.specs.declared.answers.AcceptAnswer.{AcceptAnswer}
 use Rattle.posix_timer.specs.declared.answers.AcceptAnswer.TheVariants as acceptances
@@ -27,8 +27,34 @@ use Rattle.posix_timer.specs.States.{setting_of}
 use Rattle.counted_row.specs.Calls.{ReadsValue}
 use Rattle.timer_objects.specs.Cells.{cell_meaning}
 use Rattle.timer_objects.specs.Logs.{ObjectLogOf}
-use Rattle.timer_objects.specs.Known.{ObjectsOf, ObjectsPass, seen_of}
-use Rattle.timer_objects.specs.Calls.{Caller, FindsFull, MakesRearming}
+use Rattle.timer_objects.specs.Known.{IsObjectsPass, ObjectsOf, ObjectsPass, Suits, decl_at, seen_of}
+use Rattle.timer_objects.specs.Calls.{
+  Caller,
+  FindsFull,
+  MakesRearming,
+  RearmsFor,
+  SettimeMade,
+  SettimeTells,
+  rearming_call,
+  settime_call,
+  wanted_by,
+}
+use Rattle.timer_objects.specs.Arming.{ArmsFor, Disarms, stamp_seen}
+use Rattle.timer_objects.specs.Waiting.{IsHindered}
+use Rattle.timer_objects.specs.Valid.{IsSettimeReply, IsValidSettime, end_by}
+use Rattle.timer_objects.specs.declared.wanting.Asked.{Asked}
+use Rattle.timer_objects.specs.declared.wanting.Asked.TheVariants as askeds
+use Rattle.timer_objects.specs.declared.object.ObjectCall.{ObjectCall}
+use Rattle.timer_objects.specs.declared.cell.ObjectCell.{ObjectCell}
+use Rattle.timer_objects.specs.declared.cell.Span.{Span}
+use Rattle.timer_fd.specs.declared.answers.SettimeAnswer.{SettimeAnswer}
+use Rattle.timer_setting.specs.declared.arming.Arm.{Arm}
+use Rattle.timer_setting.specs.declared.arming.Wanted.{Wanted}
+use Rattle.timer_setting.specs.Arguments.{start_by}
+use Rattle.timer_setting.specs.declared.settime_call.SettimeCall.{SettimeCall}
+use Rattle.timer_objects.specs.declared.settime.ValidSettime.{ValidSettime}
+use Rattle.expire_pass.specs.declared.log.Receipt.{Receipt}
+use Rattle.base_row.specs.Calls.{BaseRowOf}
 
 -- what a caller's passes know, and what its logs have
 abbrev pub caller_of : PassOf → ObjectsPass → LogOf → ObjectLogOf → Caller
@@ -60,10 +86,72 @@ RepliesTo rearmings.Reading reply =
     (a : ReadAnswer) × (reply ≡ replies.Fd (fd_replies.Read a)) × ((n : ℕ) → a ≡ reads.Spent n → ⊥) × (a ≡ reads.ShortBuffer → ⊥)
 RepliesTo rearmings.Getting reply = (left interval : ℕ) × (reply ≡ replies.Fd (fd_replies.Gettime (lefts.Left left interval)))
 
--- such a call found the object's history full, or made entry number `n`
-abbrev pub Ends : ObjectsOf → Opening → Caller → Caller → ℕ → Rearming → ClockReading → Ended → Type 0
-Ends x o old new id r reading (ends.Full n) = FindsFull x old new id n
-Ends x o old new id r reading (ends.Made n reply) = MakesRearming x o old new id r reading reply × RepliesTo r reply × (n ≡ length (seen_of new.objects id))
+-- ---- all calls that make an entry
+
+-- a call that an object of this kind has; the arguments of a settime are valid
+abbrev pub IsAskedOf : Kind → Asked → Type 0
+IsAskedOf kind (askeds.Settime v) = (kind ≢ kinds.Raw) × IsValidSettime kind v
+IsAskedOf kind (askeds.Rearming r reading) = kind ≡ kind_of r
+
+-- a caller has passes of these timers and objects, and asks this of an object
+pub record MayAsk (x : ObjectsOf) (timers : BaseRowOf) (pass : PassOf) (objects_pass : ObjectsPass) (id : ℕ) (asked : Asked) : Type 0 where
+  pub of_timers : IsPassOf timers pass
+  pub of_objects : IsObjectsPass x objects_pass
+  pub suits : Suits x timers.about
+  pub within : id < length x.decls
+  pub fits : IsAskedOf (decl_at x id).kind asked
+
+-- the passes are of the same timers and objects still
+pub record LeavesPasses (x : ObjectsOf) (timers : BaseRowOf) (pass : PassOf) (objects_pass : ObjectsPass) : Type 0 where
+  pub of_timers : IsPassOf timers pass
+  pub of_objects : IsObjectsPass x objects_pass
+
+-- the start that a call wants of an object whose history has room
+abbrev pub start_asked : Asked → Object → Option Wanted
+start_asked (askeds.Settime v) object = start_by v.flags v.value
+start_asked (askeds.Rearming r reading) object = wanted_by r object reading
+
+-- a settime, with the outcome of that start
+abbrev pub settime_with : ValidSettime → Arm → SettimeCall
+settime_with v arm = record { flags = v.flags; value = v.value; interval = v.interval; reading = v.reading; arm = arm }
+
+-- the call as it is entered
+abbrev pub call_asked : Kind → Asked → Arm → ObjectCall
+call_asked kind (askeds.Settime v) arm = settime_call kind (settime_with v arm)
+call_asked kind (askeds.Rearming r reading) arm = rearming_call r reading arm
+
+-- a timer was disarmed and then started where that was wanted, and the span goes from before the one to behind the other
+pub record SetsAnew (o : Opening) (v w : KnownOfTimers) (t last : ℕ) (wanted : Option Wanted) (base : ℕ) (reading : ClockReading) (arm : Arm) (span : Span)
+    (log log' : List Receipt) : Type 0 where
+  pub disarmed : KnownOfTimers
+  pub cancel_log : List Receipt
+  pub so_far : Span
+  pub disarms : Disarms o v disarmed t last so_far log cancel_log
+  pub arms : ArmsFor o disarmed w t wanted base reading arm cancel_log log'
+  pub from : span.from ≡ so_far.from
+  pub to : span.to ≡ end_by arm so_far.to
+
+-- a timer was set as the call on its object wants, with this outcome and span
+abbrev pub Sets : Opening → KnownOfTimers → KnownOfTimers → ℕ → Asked → ObjectCell → ℕ → Arm → Span → List Receipt → List Receipt → Type 0
+Sets o v w t (askeds.Settime s) cell base arm span log log' = SetsAnew o v w t cell.last (start_by s.flags s.value) base s.reading arm span log log'
+Sets o v w t (askeds.Rearming r reading) cell base arm span log log' =
+    RearmsFor o v w t cell.last (wanted_by r cell.object reading) base reading arm span log log'
+
+-- a timer can't be set yet, as the call on its object wants
+abbrev pub IsUnsettable : Opening → KnownOfTimers → ℕ → Asked → ObjectCell → Type 0
+IsUnsettable o k t (askeds.Settime s) cell = IsHindered o k t cell.last
+IsUnsettable o k t (askeds.Rearming r reading) cell = IsSome (wanted_by r cell.object reading) × (stamp_seen o k t < cell.last)
+
+-- a call made an entry with this reply
+abbrev pub Makes : ObjectsOf → Opening → Caller → Caller → ℕ → Asked → ObjectReply → Type 0
+Makes x o old new id (askeds.Settime v) reply =
+    IsSettimeReply reply × ((a : SettimeAnswer) → SettimeTells reply a → SettimeMade x o old new id v.flags v.value v.interval v.reading a)
+Makes x o old new id (askeds.Rearming r reading) reply = MakesRearming x o old new id r reading reply × RepliesTo r reply
+
+-- a call found the object's history full, or made entry number `n`
+abbrev pub Ends : ObjectsOf → Opening → Caller → Caller → ℕ → Asked → Ended → Type 0
+Ends x o old new id asked (ends.Full n) = FindsFull x old new id n
+Ends x o old new id asked (ends.Made n reply) = Makes x o old new id asked reply × (n ≡ length (seen_of new.objects id))
 
 -- ---- looks
 

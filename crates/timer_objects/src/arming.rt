@@ -106,32 +106,9 @@ pub(crate) fn arm<R: Wait>(
     ensures outcome { IsOutcomeOf result wanted }
     ensures room { log.old.spare ≤ log.new.spare + 2 }
 {
-    let Some(wanted) = wanted else {
+    let Some(Wanted { mode, ns }) = wanted else {
         return Arm::NotAsked;
     };
-    start(rt, timers, pass, log, timer, wanted, base, reading)
-}
-
-/// Starts a timer.
-fn start<R: Wait>(
-    rt: &R,
-    timers: &Timers,
-    pass: &mut Pass,
-    log: &mut Log,
-    timer: u32,
-    wanted: Wanted,
-    base: u32,
-    reading: Reading,
-) -> Arm
-    requires pass { IsPassOf timers.now pass.old }
-    requires timer { timer < length timers.now.about.timers }
-    requires base { base < timers.now.about.bases }
-    requires room { 2 ≤ log.old.spare }
-    ensures pass { IsPassOf timers.now pass.new }
-    ensures starts { Starts timers.now.about pass.old.known pass.new.known timer wanted base reading result log.old.receipts log.new.receipts }
-    ensures room { log.old.spare ≤ log.new.spare + 2 }
-{
-    let Wanted { mode, ns } = wanted;
     match timers.start(rt, pass, timer, mode, ns, base, reading) {
         StartAnswer::Spent { stamp } => Arm::Unarmed(stamp),
         StartAnswer::Started {

@@ -10,13 +10,15 @@ ghost use Rattle.timer_objects.specs.Rearming.{FindsObject, FindsSetting, KeepsN
 use crate::answers::{Gettime, Overrun, Readable};
 use crate::cell::ObjectCell;
 use crate::log::ObjectLog;
-use crate::object::{Kind, Object};
+use crate::object::{Kind, Object, ObjectReply};
 use crate::objects::Objects;
+use crate::wanting::{Asked, Ended, Rearming};
 use counted_row::RowPass;
 use expire_pass::Log;
 use hr_timers::{Pass, Timers};
 use ktime::Reading;
 use std::sync::Wait;
+use timer_fd::GettimeAnswer;
 
 impl Objects {
     /// How long until the next expiry, and the interval (`timer_gettime`, `timerfd_gettime`). A descriptor that is periodic and has expired is
@@ -47,16 +49,23 @@ impl Objects {
         match self.kind(id) {
             Kind::Raw => unreachable!(),
             Kind::Posix => self.gettime_posix(rt, objects_pass, id, reading),
-            Kind::Fd => self.gettime_fd(
-                rt,
-                timers,
-                pass,
-                objects_pass,
-                log,
-                object_log,
-                id,
-                reading,
-            ),
+            Kind::Fd => {
+                let asked = &Asked::Rearming(Rearming::Getting, reading);
+                match self.ask(rt, timers, pass, objects_pass, log, object_log, id, asked) {
+                    Ended::Full { stamp } => Gettime::Spent { stamp },
+                    Ended::Made {
+                        stamp,
+                        reply: ObjectReply::Fd(
+                            timer_fd::Reply::Gettime(GettimeAnswer::Left { left, interval }),
+                        ),
+                    } => Gettime::Left {
+                        left,
+                        interval,
+                        stamp,
+                    },
+                    Ended::Made { .. } => unreachable!(),
+                }
+            }
         }
     }
 

@@ -125,114 +125,26 @@ impl Objects {
         held: Held<ObjectCell>,
         log: &mut ObjectLog,
         id: u32,
-        call: ObjectCall,
+        call: &ObjectCall,
         span: Span,
     ) -> ObjectReply
-        requires may { MayEnter self.now pass.old held id call span }
+        requires may { MayEnter self.now pass.old held id call.now span }
         requires room { 0 < log.old.spare }
         ensures pass { IsObjectsPass self.now pass.new }
-        ensures enters { Enters pass.old pass.new held (spanned call span) result }
-        ensures receipt { log.new.receipts ≡ log.old.receipts ++ receipt_of held (spanned call span) ∷ [] }
+        ensures enters { Enters pass.old pass.new held (spanned call.now span) result }
+        ensures receipt { log.new.receipts ≡ log.old.receipts ++ receipt_of held (spanned call.now span) ∷ [] }
         ensures spare { log.new.spare + 1 ≡ log.old.spare }
     {
-        match call {
-            ObjectCall::Posix(call) => self.enter_posix(pass, held, log, id, call, span),
-            ObjectCall::Fd(call) => self.enter_fd(pass, held, log, id, call, span),
-        }
-    }
-
-    /// The same of a call of a POSIX timer.
-    fn enter_posix(
-        &self,
-        pass: &mut RowPass<ObjectCell>,
-        held: Held<ObjectCell>,
-        log: &mut ObjectLog,
-        id: u32,
-        call: posix_timer::Call,
-        span: Span,
-    ) -> ObjectReply
-        requires may { MayEnter self.now pass.old held id (calls.Posix call) span }
-        requires room { 0 < log.old.spare }
-        ensures pass { IsObjectsPass self.now pass.new }
-        ensures enters { Enters pass.old pass.new held (spanned (calls.Posix call) span) result }
-        ensures receipt { log.new.receipts ≡ log.old.receipts ++ receipt_of held (spanned (calls.Posix call) span) ∷ [] }
-        ensures spare { log.new.spare + 1 ≡ log.old.spare }
-    {
-        let (number, reply) = self.commit_posix(pass, held, call, span);
-        note_posix(log, id, number, &call, span, reply);
+        // Each kind by itself, since the check of a commit has to see the type of its calls.
+        let (number, reply) = match *call {
+            ObjectCall::Posix(call) => {
+                self.row
+                    .commit(pass, held, span.of(ObjectCall::Posix(call)))
+            }
+            ObjectCall::Fd(call) => self.row.commit(pass, held, span.of(ObjectCall::Fd(call))),
+        };
+        log.note(id, number, span.of(*call), reply);
         reply
-    }
-
-    /// The same of a call of a descriptor.
-    fn enter_fd(
-        &self,
-        pass: &mut RowPass<ObjectCell>,
-        held: Held<ObjectCell>,
-        log: &mut ObjectLog,
-        id: u32,
-        call: timer_fd::Call,
-        span: Span,
-    ) -> ObjectReply
-        requires may { MayEnter self.now pass.old held id (calls.Fd call) span }
-        requires room { 0 < log.old.spare }
-        ensures pass { IsObjectsPass self.now pass.new }
-        ensures enters { Enters pass.old pass.new held (spanned (calls.Fd call) span) result }
-        ensures receipt { log.new.receipts ≡ log.old.receipts ++ receipt_of held (spanned (calls.Fd call) span) ∷ [] }
-        ensures spare { log.new.spare + 1 ≡ log.old.spare }
-    {
-        let (number, reply) = self.commit_fd(pass, held, call, span);
-        note_fd(log, id, number, &call, span, reply);
-        reply
-    }
-
-    /// The commit of a call of a POSIX timer.
-    fn commit_posix(
-        &self,
-        pass: &mut RowPass<ObjectCell>,
-        held: Held<ObjectCell>,
-        call: posix_timer::Call,
-        span: Span,
-    ) -> (u64, ObjectReply)
-        requires may { MayEnter self.now pass.old held held.index (calls.Posix call) span }
-        ensures pass { IsObjectsPass self.now pass.new }
-        ensures enters { Enters pass.old pass.new held (spanned (calls.Posix call) span) result.1 }
-        ensures number { result.0 ≡ held.stamp + 1 }
-    {
-        let Span { from, to } = span;
-        self.row.commit(
-            pass,
-            held,
-            SpannedCall {
-                call: ObjectCall::Posix(call),
-                from,
-                to,
-            },
-        )
-    }
-
-    /// The commit of a call of a descriptor.
-    fn commit_fd(
-        &self,
-        pass: &mut RowPass<ObjectCell>,
-        held: Held<ObjectCell>,
-        call: timer_fd::Call,
-        span: Span,
-    ) -> (u64, ObjectReply)
-        requires may { MayEnter self.now pass.old held held.index (calls.Fd call) span }
-        ensures pass { IsObjectsPass self.now pass.new }
-        ensures enters { Enters pass.old pass.new held (spanned (calls.Fd call) span) result.1 }
-        ensures number { result.0 ≡ held.stamp + 1 }
-    {
-        let Span { from, to } = span;
-        self.row.commit(
-            pass,
-            held,
-            SpannedCall {
-                call: ObjectCall::Fd(call),
-                from,
-                to,
-            },
-        )
     }
 
     /// Lets the lock of a held object go, and answers how many entries the object's history has.
@@ -313,36 +225,4 @@ fn opened(decl: Decl, limit: u64) -> ObjectCell
         object: Object::make(decl, limit),
         last: 0,
     }
-}
-
-/// Notes the receipt of a call of a POSIX timer.
-fn note_posix(
-    log: &mut ObjectLog,
-    id: u32,
-    number: u64,
-    call: &posix_timer::Call,
-    span: Span,
-    reply: ObjectReply,
-)
-    requires room { 0 < log.old.spare }
-    ensures receipt { log.new.receipts ≡ log.old.receipts ++ record { object = id; number = number; call = spanned (calls.Posix call.now) span; reply = reply } ∷ [] }
-    ensures spare { log.new.spare + 1 ≡ log.old.spare }
-{
-    log.note(id, number, span.of(ObjectCall::Posix(*call)), reply);
-}
-
-/// Notes the receipt of a call of a descriptor.
-fn note_fd(
-    log: &mut ObjectLog,
-    id: u32,
-    number: u64,
-    call: &timer_fd::Call,
-    span: Span,
-    reply: ObjectReply,
-)
-    requires room { 0 < log.old.spare }
-    ensures receipt { log.new.receipts ≡ log.old.receipts ++ record { object = id; number = number; call = spanned (calls.Fd call.now) span; reply = reply } ∷ [] }
-    ensures spare { log.new.spare + 1 ≡ log.old.spare }
-{
-    log.note(id, number, span.of(ObjectCall::Fd(*call)), reply);
 }

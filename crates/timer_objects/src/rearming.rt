@@ -1,34 +1,30 @@
-//! The calls that make an entry of an object and arm its timer again where it is periodic and has expired.
-ghost use Rattle.std.specs.Prelude.{◌≡◌, ◌≤◌, ◌<◌, ◌+◌, [], ◌∷◌, ◌++◌, length, IfNone, IfSome, IsSome, MatchOption};
+//! How a call makes its entry of an object and sets the timer before that; accept and read, which arm a periodic timer again.
+ghost use Rattle.std.specs.Prelude.{◌≡◌, ◌≤◌, ◌<◌, ◌+◌, length, IfNone, IfSome, IsSome, MatchOption};
 ghost use Rattle.pass_names.specs.SharedHistory.{LooksOn};
 ghost use Rattle.hr_timers.specs.Known.{IsPassOf};
-ghost use Rattle.counted_row.specs.Views.{Sees};
 ghost use Rattle.timer_setting.specs.Phases.{IsOutcomeOf};
 ghost use Rattle.timer_objects.specs.declared.object.Kind.TheVariants as kinds;
-ghost use Rattle.timer_objects.specs.declared.wanting.Rearming.TheVariants as rearmings;
-ghost use Rattle.timer_objects.specs.Cells.{spanned};
-ghost use Rattle.timer_objects.specs.Known.{HoldsObject, IsObjectsPass, MayEnter, Enters, Suits, decl_at, receipt_of};
+ghost use Rattle.timer_objects.specs.Known.{IsObjectsPass, Suits, decl_at};
 ghost use Rattle.timer_objects.specs.Arming.{stamp_seen};
-ghost use Rattle.timer_objects.specs.Calls.{Accepts, Gettimes, HasWaited, ReadsFd, RearmsFor, rearming_call, wanted_by};
-ghost use Rattle.timer_objects.specs.Waiting.{HasToWait};
-ghost use Rattle.timer_objects.specs.Rearming.{Ends, KeepsNames, caller_of, kind_of};
+ghost use Rattle.timer_objects.specs.Calls.{Accepts, HasWaited, ReadsFd, RearmsFor};
+ghost use Rattle.timer_objects.specs.Waiting.{HasToWait, IsHindered};
+ghost use Rattle.timer_objects.specs.Rearming.{Ends, HasRoom, IsUnsettable, KeepsNames, LeavesPasses, MayAsk, Sets, SetsAnew, call_asked, caller_of, start_asked};
 
-use crate::answers::Gettime;
-use crate::arming::{arm, look, quiet_span};
+use crate::arming::{arm, disarm, look, quiet_span};
 use crate::cell::{ObjectCell, Span};
 use crate::log::ObjectLog;
-use crate::object::{ObjectCall, ObjectReply};
+use crate::object::{Decl, Kind, ObjectCall, ObjectReply};
 use crate::objects::Objects;
-use crate::settime::end_of;
-use crate::wanting::{COUNT_LENGTH, Ended, Rearming, wanted};
-use counted_row::{Held, RowPass};
+use crate::settime::{end_of, wanted_by};
+use crate::wanting::{Asked, COUNT_LENGTH, Ended, Rearming, wanted};
+use counted_row::RowPass;
 use crossbeam_utils::Backoff;
 use expire_pass::Log;
 use hr_timers::{Pass, Timers};
 use ktime::Reading;
 use posix_timer::AcceptAnswer;
 use std::sync::Wait;
-use timer_fd::{GettimeAnswer, ReadAnswer};
+use timer_fd::ReadAnswer;
 use timer_setting::{Arm, Wanted};
 
 impl Objects {
@@ -56,18 +52,8 @@ impl Objects {
         ensures names { KeepsNames (caller_of pass.old objects_pass.old log.old object_log.old) (caller_of pass.new objects_pass.new log.new object_log.new) }
         ensures room { (log.old.spare ≤ log.new.spare + 4) × (object_log.old.spare ≤ object_log.new.spare + 1) }
     {
-        let call = Rearming::Accepting;
-        match self.rearm(
-            rt,
-            timers,
-            pass,
-            objects_pass,
-            log,
-            object_log,
-            id,
-            call,
-            reading,
-        ) {
+        let asked = &Asked::Rearming(Rearming::Accepting, reading);
+        match self.ask(rt, timers, pass, objects_pass, log, object_log, id, asked) {
             Ended::Full { stamp } => AcceptAnswer::Spent { stamp },
             Ended::Made {
                 stamp: _,
@@ -105,18 +91,8 @@ impl Objects {
         if len < COUNT_LENGTH {
             return ReadAnswer::ShortBuffer;
         }
-        let call = Rearming::Reading;
-        match self.rearm(
-            rt,
-            timers,
-            pass,
-            objects_pass,
-            log,
-            object_log,
-            id,
-            call,
-            reading,
-        ) {
+        let asked = &Asked::Rearming(Rearming::Reading, reading);
+        match self.ask(rt, timers, pass, objects_pass, log, object_log, id, asked) {
             Ended::Full { stamp } => ReadAnswer::Spent { stamp },
             Ended::Made {
                 stamp: _,
@@ -126,8 +102,8 @@ impl Objects {
         }
     }
 
-    /// The gettime of a descriptor: a periodic timer that has expired is armed again.
-    pub(crate) fn gettime_fd<R: Wait>(
+    /// Makes the call that is asked of an object, and tries again while its timer can't be set yet.
+    pub(crate) fn ask<R: Wait>(
         &self,
         rt: &R,
         timers: &Timers,
@@ -136,85 +112,19 @@ impl Objects {
         log: &mut Log,
         object_log: &mut ObjectLog,
         id: u32,
-        reading: Reading,
-    ) -> Gettime
-        requires pass { IsPassOf timers.now pass.old }
-        requires objects { IsObjectsPass self.now objects_pass.old }
-        requires suits { Suits self.now timers.now.about }
-        requires within { id < length self.now.decls }
-        requires kind { (decl_at self.now id).kind ≡ kinds.Fd }
+        asked: &Asked,
+    ) -> Ended
+        requires may { MayAsk self.now timers.now pass.old objects_pass.old id asked.now }
         requires room { (4 ≤ log.old.spare) × (1 ≤ object_log.old.spare) }
-        ensures pass { IsPassOf timers.now pass.new }
-        ensures objects { IsObjectsPass self.now objects_pass.new }
-        ensures gets { Gettimes self.now timers.now.about (caller_of pass.old objects_pass.old log.old object_log.old) (caller_of pass.new objects_pass.new log.new object_log.new) id reading kinds.Fd result }
+        ensures leaves { LeavesPasses self.now timers.now pass.new objects_pass.new }
+        ensures ends { Ends self.now timers.now.about (caller_of pass.old objects_pass.old log.old object_log.old) (caller_of pass.new objects_pass.new log.new object_log.new) id asked.now result }
         ensures names { KeepsNames (caller_of pass.old objects_pass.old log.old object_log.old) (caller_of pass.new objects_pass.new log.new object_log.new) }
         ensures room { (log.old.spare ≤ log.new.spare + 4) × (object_log.old.spare ≤ object_log.new.spare + 1) }
     {
-        let call = Rearming::Getting;
-        match self.rearm(
-            rt,
-            timers,
-            pass,
-            objects_pass,
-            log,
-            object_log,
-            id,
-            call,
-            reading,
-        ) {
-            Ended::Full { stamp } => Gettime::Spent { stamp },
-            Ended::Made {
-                stamp,
-                reply: ObjectReply::Fd(
-                    timer_fd::Reply::Gettime(GettimeAnswer::Left { left, interval }),
-                ),
-            } => Gettime::Left {
-                left,
-                interval,
-                stamp,
-            },
-            Ended::Made { .. } => unreachable!(),
-        }
-    }
-
-    /// Makes such a call, and tries again while what its pass knows of the timer is older than the object.
-    fn rearm<R: Wait>(
-        &self,
-        rt: &R,
-        timers: &Timers,
-        pass: &mut Pass,
-        objects_pass: &mut RowPass<ObjectCell>,
-        log: &mut Log,
-        object_log: &mut ObjectLog,
-        id: u32,
-        call: Rearming,
-        reading: Reading,
-    ) -> Ended
-        requires pass { IsPassOf timers.now pass.old }
-        requires objects { IsObjectsPass self.now objects_pass.old }
-        requires suits { Suits self.now timers.now.about }
-        requires within { id < length self.now.decls }
-        requires kind { (decl_at self.now id).kind ≡ kind_of call }
-        requires room { (2 ≤ log.old.spare) × (1 ≤ object_log.old.spare) }
-        ensures pass { IsPassOf timers.now pass.new }
-        ensures objects { IsObjectsPass self.now objects_pass.new }
-        ensures ends { Ends self.now timers.now.about (caller_of pass.old objects_pass.old log.old object_log.old) (caller_of pass.new objects_pass.new log.new object_log.new) id call reading result }
-        ensures names { KeepsNames (caller_of pass.old objects_pass.old log.old object_log.old) (caller_of pass.new objects_pass.new log.new object_log.new) }
-        ensures room { (log.old.spare ≤ log.new.spare + 2) × (object_log.old.spare ≤ object_log.new.spare + 1) }
-    {
         let backoff = Backoff::new();
         for _ in rt.forever() {
-            if let Some(ended) = self.rearm_once(
-                rt,
-                timers,
-                pass,
-                objects_pass,
-                log,
-                object_log,
-                id,
-                call,
-                reading,
-            ) {
+            let tried = self.try_once(rt, timers, pass, objects_pass, log, object_log, id, asked);
+            if let Some(ended) = tried {
                 return ended;
             }
             backoff.snooze();
@@ -222,8 +132,8 @@ impl Objects {
         unreachable!()
     }
 
-    /// One turn, while the object is locked.
-    fn rearm_once<R: Wait>(
+    /// One turn, while the object is locked. It answers nothing where the timer can't be set yet.
+    fn try_once<R: Wait>(
         &self,
         rt: &R,
         timers: &Timers,
@@ -232,113 +142,111 @@ impl Objects {
         log: &mut Log,
         object_log: &mut ObjectLog,
         id: u32,
-        call: Rearming,
-        reading: Reading,
+        asked: &Asked,
     ) -> Option<Ended>
-        requires pass { IsPassOf timers.now pass.old }
-        requires objects { IsObjectsPass self.now objects_pass.old }
-        requires suits { Suits self.now timers.now.about }
-        requires within { id < length self.now.decls }
-        requires kind { (decl_at self.now id).kind ≡ kind_of call }
-        requires room { (2 ≤ log.old.spare) × (1 ≤ object_log.old.spare) }
-        ensures pass { IsPassOf timers.now pass.new }
-        ensures objects { IsObjectsPass self.now objects_pass.new }
-        ensures ends { MatchOption result (HasWaited (caller_of pass.old objects_pass.old log.old object_log.old) (caller_of pass.new objects_pass.new log.new object_log.new)) (λ e. Ends self.now timers.now.about (caller_of pass.old objects_pass.old log.old object_log.old) (caller_of pass.new objects_pass.new log.new object_log.new) id call reading e) }
-        ensures room { (log.old.spare ≤ log.new.spare + 2) × (object_log.old.spare ≤ object_log.new.spare + 1) }
+        requires may { MayAsk self.now timers.now pass.old objects_pass.old id asked.now }
+        requires room { (4 ≤ log.old.spare) × (1 ≤ object_log.old.spare) }
+        ensures leaves { LeavesPasses self.now timers.now pass.new objects_pass.new }
+        ensures ends { MatchOption result (HasWaited (caller_of pass.old objects_pass.old log.old object_log.old) (caller_of pass.new objects_pass.new log.new object_log.new)) (λ e. Ends self.now timers.now.about (caller_of pass.old objects_pass.old log.old object_log.old) (caller_of pass.new objects_pass.new log.new object_log.new) id asked.now e) }
         ensures again { IfNone result ((log.new ≡ log.old) × (object_log.new ≡ object_log.old)) }
-        ensures why { IfNone result (HasToWait self.now objects_pass.old objects_pass.new id (λ cell. IsSome (wanted_by call cell.object reading) × (stamp_seen timers.now.about pass.new.known id < cell.last))) }
+        ensures why { IfNone result (HasToWait self.now objects_pass.old objects_pass.new id (IsUnsettable timers.now.about pass.new.known id asked.now)) }
+        ensures room { (log.old.spare ≤ log.new.spare + 4) × (object_log.old.spare ≤ object_log.new.spare + 1) }
     {
         let held = self.lock(rt, objects_pass, id);
         if self.is_full(&held) {
             let stamp = self.release(objects_pass, held);
             return Some(Ended::Full { stamp });
         }
-        let ObjectCell { object, last } = *held.state();
-        let base = self.decl(id).base;
-        let wants = wanted(call, &object, reading);
-        let Some((arm, span)) = start_again(rt, timers, pass, log, id, wants, last, base, reading)
-        else {
+        let Decl { kind, base, .. } = self.decl(id);
+        let cell = held.state();
+        let Some((arm, span)) = set(rt, timers, pass, log, id, asked, cell, base) else {
             self.release(objects_pass, held);
             return None;
         };
         let stamp = held.stamp() + 1;
-        let reply = self.enter_rearming(
-            objects_pass,
-            held,
-            object_log,
-            id,
-            call,
-            reading,
-            arm,
-            span,
-        );
+        let call = call_of(kind, asked, arm);
+        let reply = self.enter(objects_pass, held, object_log, id, &call, span);
         Some(Ended::Made { stamp, reply })
     }
+}
 
-    /// Makes the entry of such a call on a held object.
-    fn enter_rearming(
-        &self,
-        pass: &mut RowPass<ObjectCell>,
-        held: Held<ObjectCell>,
-        log: &mut ObjectLog,
-        id: u32,
-        call: Rearming,
-        reading: Reading,
-        arm: Arm,
-        span: Span,
-    ) -> ObjectReply
-        requires may { MayEnter self.now pass.old held id (rearming_call call reading arm) span }
-        requires room { 0 < log.old.spare }
-        ensures pass { IsObjectsPass self.now pass.new }
-        ensures enters { Enters pass.old pass.new held (spanned (rearming_call call reading arm) span) result }
-        ensures receipt { log.new.receipts ≡ log.old.receipts ++ receipt_of held (spanned (rearming_call call reading arm) span) ∷ [] }
-        ensures spare { log.new.spare + 1 ≡ log.old.spare }
-    {
-        match call {
-            Rearming::Accepting => {
-                let call = ObjectCall::Posix(posix_timer::Call::Accept { reading, arm });
-                self.enter(pass, held, log, id, call, span)
+/// The call as it is entered, with the outcome of its start.
+fn call_of(kind: Kind, asked: &Asked, arm: Arm) -> ObjectCall
+    ensures { result ≡ call_asked kind asked.now arm }
+{
+    match asked {
+        Asked::Settime(valid) => {
+            let call = valid.with(arm);
+            match kind {
+                Kind::Raw | Kind::Posix => ObjectCall::Posix(posix_timer::Call::Settime(call)),
+                Kind::Fd => ObjectCall::Fd(timer_fd::Call::Settime(call)),
             }
-            Rearming::Reading => {
-                let call = ObjectCall::Fd(timer_fd::Call::Read { reading, arm });
-                self.enter(pass, held, log, id, call, span)
-            }
-            Rearming::Getting => {
-                let call = ObjectCall::Fd(timer_fd::Call::Gettime { reading, arm });
-                self.enter(pass, held, log, id, call, span)
-            }
+        }
+        Asked::Rearming(Rearming::Accepting, reading) => {
+            ObjectCall::Posix(posix_timer::Call::Accept {
+                reading: *reading,
+                arm,
+            })
+        }
+        Asked::Rearming(Rearming::Reading, reading) => {
+            ObjectCall::Fd(timer_fd::Call::Read {
+                reading: *reading,
+                arm,
+            })
+        }
+        Asked::Rearming(Rearming::Getting, reading) => {
+            ObjectCall::Fd(timer_fd::Call::Gettime {
+                reading: *reading,
+                arm,
+            })
         }
     }
 }
 
-/// Looks at a timer that is to be started, and starts it. It answers the outcome and the span of both, or nothing where the timer was seen with
-/// fewer than `last` entries.
-fn start_again<R: Wait>(
+/// Sets a timer as the call on its object wants. It answers the outcome of the start and the span, or nothing where the timer can't be set yet.
+fn set<R: Wait>(
     rt: &R,
     timers: &Timers,
     pass: &mut Pass,
     log: &mut Log,
     timer: u32,
-    wanted: Option<Wanted>,
-    last: u64,
+    asked: &Asked,
+    cell: &ObjectCell,
     base: u32,
-    reading: Reading,
 ) -> Option<(Arm, Span)>
     requires pass { IsPassOf timers.now pass.old }
     requires timer { timer < length timers.now.about.timers }
     requires base { base < timers.now.about.bases }
-    requires room { 2 ≤ log.old.spare }
+    requires object { HasRoom cell.now.object }
+    requires room { 4 ≤ log.old.spare }
     ensures pass { IsPassOf timers.now pass.new }
-    ensures rearms { MatchOption result (LooksOn pass.old.known pass.new.known × (log.new ≡ log.old)) (λ r. RearmsFor timers.now.about pass.old.known pass.new.known timer last wanted base reading r.0 r.1 log.old.receipts log.new.receipts) }
-    ensures outcome { IfSome result (λ r. IsOutcomeOf r.0 wanted) }
-    ensures fewer { IfNone result (IsSome wanted × (stamp_seen timers.now.about pass.new.known timer < last)) }
-    ensures room { log.old.spare ≤ log.new.spare + 2 }
+    ensures sets { MatchOption result (LooksOn pass.old.known pass.new.known × (log.new ≡ log.old)) (λ r. Sets timers.now.about pass.old.known pass.new.known timer asked.now cell.now base r.0 r.1 log.old.receipts log.new.receipts) }
+    ensures outcome { IfSome result (λ r. IsOutcomeOf r.0 (start_asked asked.now cell.now.object)) }
+    ensures why { IfNone result (IsUnsettable timers.now.about pass.new.known timer asked.now cell.now) }
+    ensures room { log.old.spare ≤ log.new.spare + 4 }
 {
-    let Some(start) = wanted else {
-        return Some((Arm::NotAsked, quiet_span(timers, pass, timer, last)));
-    };
-    let from = look(timers, pass, timer, last)?;
-    let outcome = arm(rt, timers, pass, log, timer, Some(start), base, reading);
-    let to = end_of(outcome, from);
-    Some((outcome, Span { from, to }))
+    match asked {
+        Asked::Settime(valid) => {
+            let so_far = disarm(rt, timers, pass, log, timer, cell.last)?;
+            let wants = wanted_by(valid.flags, valid.value);
+            let outcome = arm(rt, timers, pass, log, timer, wants, base, valid.reading);
+            let to = end_of(outcome, so_far.to);
+            Some((
+                outcome,
+                Span {
+                    from: so_far.from,
+                    to,
+                },
+            ))
+        }
+        Asked::Rearming(call, reading) => {
+            let Some(start) = wanted(*call, &cell.object, *reading) else {
+                return Some((Arm::NotAsked, quiet_span(timers, pass, timer, cell.last)));
+            };
+            let from = look(timers, pass, timer, cell.last)?;
+            let outcome = arm(rt, timers, pass, log, timer, Some(start), base, *reading);
+            let to = end_of(outcome, from);
+            Some((outcome, Span { from, to }))
+        }
+    }
 }

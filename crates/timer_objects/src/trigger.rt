@@ -82,7 +82,7 @@ pub(crate) fn trigger<R: Wait>(
     if held.stamp() >= objects.limit() {
         return skip(objects, pass, held, log, id, &call, span);
     }
-    let _ = objects.enter(pass, held, log, id, call, span);
+    let _ = objects.enter(pass, held, log, id, &call, span);
 }
 
 /// Takes the lock of an object, once the spans of its calls don't go beyond this number of its timer's entries, or its history is full.

@@ -1,16 +1,17 @@
-//! The calls that arm a timer again where it is periodic and has expired, by what they want of an object.
+//! The calls that make an entry of an object, and what those that arm its timer again want of it.
 ghost use Rattle.std.specs.Prelude.{◌≡◌};
 ghost use Rattle.timer_objects.specs.Calls.{wanted_by};
 ghost use Rattle.timer_objects.specs.Rearming.{HasRoom};
 
 use crate::object::{Object, ObjectReply};
+use crate::settime::ValidSettime;
 use ktime::Reading;
 use timer_setting::Wanted;
 
 /// The length in bytes of a buffer that holds a count.
 pub const COUNT_LENGTH: u64 = 8;
 
-/// Such a call.
+/// A call that arms its object's timer again, where that is periodic and has expired.
 #[derive(Clone, Copy, Debug, PartialEq, Eq)]
 pub enum Rearming {
     /// A POSIX timer's signal is accepted.
@@ -19,6 +20,14 @@ pub enum Rearming {
     Reading,
     /// A descriptor's setting is asked for.
     Getting,
+}
+
+/// A call that makes an entry of an object, and may start the object's timer before that.
+#[derive(Clone, Copy, Debug, PartialEq, Eq)]
+pub enum Asked {
+    Settime(ValidSettime),
+    /// One that arms a periodic timer again which has expired, at this reading.
+    Rearming(Rearming, Reading),
 }
 
 /// How such a call ended.
@@ -30,7 +39,7 @@ pub enum Ended {
     Made { stamp: u64, reply: ObjectReply },
 }
 
-/// The start that it wants of an object whose history has room.
+/// The start that a call wants of an object whose history has room.
 pub(crate) fn wanted(call: Rearming, object: &Object, reading: Reading) -> Option<Wanted>
     requires room { HasRoom object.now }
     ensures { result ≡ wanted_by call object.now reading }

@@ -129,7 +129,7 @@ fn arm<R: Wait>(
     let held = objects.lock(rt, pass, 0);
     if held.stamp() < objects.limit() && held.state().last == 0 {
         let span = Span { from: 0, to: 1 };
-        let _ = objects.enter(pass, held, log, 0, call, span);
+        let _ = objects.enter(pass, held, log, 0, &call, span);
     } else {
         objects.release(pass, held);
     }

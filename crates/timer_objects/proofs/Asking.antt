@@ -1,0 +1,150 @@
+-- A call that makes an entry and may start its object's timer before that.
+use Rattle.std.proofs.Common.{refl, sym, subst, ◌≡◌, ◌∙◌, ℕ, ◌≤◌, ◌<◌, List, [], ◌∷◌, ◌++◌, length}
+use Rattle.base_row.specs.declared.view.Opening.{Opening}
+use Rattle.hr_timers.specs.Known.{KnownOfTimers}
+use Rattle.expire_pass.specs.declared.log.Receipt.{Receipt}
+use Rattle.timer_setting.specs.declared.arming.Arm.{Arm}
+use Rattle.timer_setting.specs.Arguments.{start_by}
+use Rattle.timer_setting.specs.Phases.{IsOutcomeOf}
+use Rattle.counted_row.specs.declared.view.Locked.{Locked}
+use Rattle.counted_row.specs.Views.{IsPassOfRow, Locks}
+use Rattle.timer_objects.specs.declared.cell.ObjectCell.{ObjectCell}
+use Rattle.timer_objects.specs.declared.cell.Span.{Span}
+use Rattle.timer_objects.specs.declared.log.ObjectReceipt.{ObjectReceipt}
+use Rattle.timer_objects.specs.declared.object.Decl.{Decl}
+use Rattle.timer_objects.specs.declared.object.ObjectReply.{ObjectReply}
+use Rattle.timer_objects.specs.declared.wanting.Asked.{Asked}
+use Rattle.timer_objects.specs.declared.wanting.Asked.TheVariants as askeds
+use Rattle.timer_objects.specs.declared.wanting.Ended.{Ended}
+use Rattle.timer_objects.specs.declared.wanting.Ended.TheVariants as ends
+use Rattle.timer_objects.specs.Steps.{IsObjectOf, ObjectAllows}
+use Rattle.timer_objects.specs.Cells.{cell_meaning, spanned}
+use Rattle.timer_objects.specs.Known.{Enters, HoldsObject, IsObjectsPass, MayEnter, ObjectsOf, ObjectsPass, Suits, decl_at, receipt_of, row_of}
+use Rattle.timer_objects.specs.Calls.{BearsStart, Caller, HasWaited, SettimeTells, settime_call, wanted_by}
+use Rattle.timer_objects.specs.Valid.{IsSettimeReply}
+use Rattle.timer_objects.specs.Rearming.{Ends, IsAskedOf, KeepsNames, Makes, Sets, call_asked, settime_with, start_asked}
+use Rattle.timer_objects.proofs.Bearing.{allows, bears, replies_to}
+use Rattle.timer_objects.proofs.Entering.{enters_call}
+use Rattle.timer_objects.proofs.Restarting.{spans}
+use Rattle.timer_objects.proofs.Retrying.{enters_after, full_after, rearms_after, rearms_names}
+use Rattle.timer_objects.proofs.Settings.{arms_bears, set_phase, settime_allowed, settime_grants, settime_replies}
+use Rattle.timer_objects.proofs.SettimeMade.{anew_end, anew_spans, made_after, made_by, made_names}
+
+module _ (x : ObjectsOf) (o : Opening) (v w : KnownOfTimers) (p m : ObjectsPass) (id : ℕ) (h : Locked ObjectCell) (arm : Arm) (span : Span)
+    (log log' : List Receipt) (is : IsObjectsPass x p) (locks : Locks cell_meaning p m id h) (row : IsPassOfRow (row_of x) m) (holds : HoldsObject x h)
+    (room : h.stamp < x.limit) where
+  abbrev d : Decl
+  d = decl_at x id
+
+  holds_it : IsObjectOf d x.limit h.stamp h.state.object
+  holds_it = subst (λ i. IsObjectOf (decl_at x i) x.limit h.stamp h.state.object) locks.index holds
+
+  spans_asked : (asked : Asked) → Sets o v w id asked h.state d.base arm span log log' → (h.state.last ≤ span.from) × (span.from ≤ span.to)
+  spans_asked (askeds.Settime s) sets = anew_spans o v w id h.state.last d.base s.reading arm span log log' (start_by s.flags s.value) sets
+  spans_asked (askeds.Rearming r reading) sets =
+      spans o v w id h.state.last d.base reading arm log log' (wanted_by r h.state.object reading) span sets
+
+  allowed_asked : (asked : Asked) → IsAskedOf d.kind asked → IsOutcomeOf arm (start_asked asked h.state.object)
+      → ObjectAllows h.state.object (call_asked d.kind asked arm)
+  allowed_asked (askeds.Settime s) fits outcome = settime_allowed d x.limit h.stamp h.state.object (settime_with s arm) holds_it fits.0 room fits.1.flags
+      fits.1.value fits.1.interval outcome
+  allowed_asked (askeds.Rearming r reading) fits outcome = allows d x.limit h.stamp reading arm r h.state.object holds_it fits room outcome
+
+  pub may_enter : (asked : Asked) → IsAskedOf d.kind asked → Sets o v w id asked h.state d.base arm span log log'
+      → IsOutcomeOf arm (start_asked asked h.state.object) → MayEnter x m h id (call_asked d.kind asked arm) span
+  may_enter asked fits sets outcome = record {
+    row = row;
+    unclaimed = locks.claims ∙ is.unclaimed;
+    held = locks.held;
+    index = locks.index;
+    holds = holds;
+    may = record {
+      allowed = allowed_asked asked fits outcome;
+      behind = (spans_asked asked sets).0;
+      forwards = (spans_asked asked sets).1;
+    };
+  }
+
+  module _ (q : ObjectsPass) (olog olog' : List ObjectReceipt) (reply : ObjectReply) (isq : IsObjectsPass x q) (suits : Suits x o)
+      (within : id < length x.decls) where
+    abbrev begun : Caller
+    begun = record { timers = v; objects = p; log = log; object_log = olog }
+
+    abbrev done : Caller
+    done = record { timers = w; objects = q; log = log'; object_log = olog' }
+
+    pub makes : (asked : Asked) → IsAskedOf d.kind asked → Sets o v w id asked h.state d.base arm span log log'
+        → Enters m q h (spanned (call_asked d.kind asked arm) span) reply
+        → olog' ≡ olog ++ receipt_of h (spanned (call_asked d.kind asked arm) span) ∷ [] → Makes x o begun done id asked reply
+    makes (askeds.Settime s) fits sets e noted =
+        let c = settime_with s arm in (
+          subst IsSettimeReply (sym e.reply) (settime_replies d x.limit h.stamp h.state.object c holds_it fits.0),
+          λ a tells. made_by x o begun done id _ _ _ _ a
+              (settime_grants d x.limit h.stamp h.state.object c a holds_it fits.0 (subst (λ r. SettimeTells r a) e.reply tells))
+              (record {
+                arm = arm;
+                span = span;
+                reply = reply;
+                enters = enters_call x p m q id h (spanned (settime_call d.kind c) span) reply locks row isq e begun done refl refl room noted;
+                disarmed = sets.disarmed;
+                cancel_log = sets.cancel_log;
+                so_far = sets.so_far;
+                disarms = sets.disarms;
+                arms = sets.arms;
+                from = sets.from;
+                to = anew_end o v w id h.state.last d.base s.reading arm span log log' (start_by s.flags s.value) sets;
+                bears = subst (λ f. BearsStart o w id arm f) (sym (set_phase d x.limit h.stamp h.state.object c holds_it fits.0))
+                    (arms_bears o sets.disarmed w id d s.flags s.value d.base s.reading sets.cancel_log log' (suits.clocks id within) fits.1.value arm
+                    sets.arms);
+                answer = tells;
+              }),
+        )
+    makes (askeds.Rearming r reading) fits sets e noted = (
+      record {
+        arm = arm;
+        span = span;
+        enters = enters_call x p m q id h _ reply locks row isq e begun done refl refl room noted;
+        rearms = sets;
+        bears = bears o v w id h.state.last d.base reading arm span log log' r h.state.object sets;
+      },
+      replies_to d x.limit h.stamp reading arm r h.state.object reply holds_it fits e.reply,
+    )
+
+pub sets_as : (o : Opening) (v w : KnownOfTimers) (id : ℕ) (asked : Asked) (arm : Arm) (span : Span) (log log' : List Receipt) (cell cell' : ObjectCell)
+    (d d' : Decl) → cell ≡ cell' → d ≡ d' → Sets o v w id asked cell d.base arm span log log' → Sets o v w id asked cell' d'.base arm span log log'
+sets_as o v w id asked arm span log log' cell cell' d d' same there sets =
+    subst (λ (x : ObjectCell). Sets o v w id asked x d'.base arm span log log') same
+    (subst (λ (x : Decl). Sets o v w id asked cell x.base arm span log log') there sets)
+
+-- ---- turns that only looked
+
+pub ends_after : (x : ObjectsOf) (o : Opening) (a b c : Caller) (id : ℕ) (asked : Asked) (e : Ended) → HasWaited a b → Ends x o b c id asked e
+    → Ends x o a c id asked e
+ends_after x o a b c id asked (ends.Full n) waits found = full_after waits found
+ends_after x o a b c id (askeds.Settime s) (ends.Made n reply) waits made =
+    ((made.0.0, λ answer tells. made_after x o a b c id _ _ _ _ answer waits (made.0.1 answer tells)), made.1)
+ends_after x o a b c id (askeds.Rearming r reading) (ends.Made n reply) waits made =
+    let m = made.0.0 in (
+      (
+        record {
+          arm = m.arm;
+          span = m.span;
+          enters = enters_after waits m.enters;
+          rearms = rearms_after o a.timers b.timers c.timers id _ _ reading m.arm m.span a.log b.log c.log _ waits.timers waits.log m.rearms;
+          bears = m.bears;
+        },
+        made.0.1,
+      ),
+      made.1,
+    )
+
+-- ---- names
+
+pub ends_names : (x : ObjectsOf) (o : Opening) (old new : Caller) (id : ℕ) (asked : Asked) (e : Ended) → Ends x o old new id asked e → KeepsNames old new
+ends_names x o old new id asked (ends.Full n) found = record { timers = found.looks.id; claims = found.looks.claims; objects = found.reads.pass.id }
+ends_names x o old new id (askeds.Settime s) (ends.Made n reply) made =
+    made_names x o old new id _ _ _ _ made.0.0.0 (made.0.1 made.0.0.0 made.0.0.1)
+ends_names x o old new id (askeds.Rearming r reading) (ends.Made n reply) made =
+    let m = made.0.0 in
+    let names = rearms_names o old.timers new.timers id _ _ reading m.arm m.span _ _ _ m.rearms in
+    record { timers = names.0; claims = names.1; objects = m.enters.commits.adds.id }
