@@ -1,10 +1,9 @@
 -- How many calls the lanes have in a round, and where these stand among the calls of a lane.
-use Rattle.std.proofs.Common.{◌≡◌, ◌≤◌, ◌<◌, ℕ, ◌+◌, ◌^◌, suc, Bool, true, false, nat_eq, nat_le, cond, filter, List, [], ◌∷◌, ◌++◌, length, length-append, map, arith, refl, sym, ap, ◌∙◌, subst, ⊎_elim, true≢false}
+use Rattle.std.proofs.Common.{◌≡◌, ◌≤◌, ◌<◌, ℕ, ◌+◌, ◌^◌, Bool, true, false, nat_eq, nat_le, filter, List, [], ◌∷◌, ◌++◌, length, length-append, map, arith, refl, sym, ap, ◌∙◌, subst, ⊎_elim, true≢false}
 use Rattle.std.specs.List.{AllByRecursion, list_any}
 use Rattle.std.proofs.lemmas.Bool.Decides.{nat_tests}
 use Rattle.std.proofs.lemmas.Bool.{cond-false, eqb-true, or_cases, or_parts}
 use Rattle.std.proofs.lemmas.List.{length-map}
-use Rattle.pass_names.specs.Counts.{count, one_if}
 use Rattle.script_text.specs.Order.{CallInRound, calls_from, calls_of}
 use Rattle.script_text.specs.Scripts.{all_calls, IsInRange}
 use Rattle.script_text.specs.declared.script.Call.{Call}
@@ -33,41 +32,31 @@ calls_within j lanes (c ∷ cs) all has =
 
 -- ---- how many
 
-length_passing : {X : Type 0} (p : X → Bool) (xs : List X) → length (filter p xs) ≡ count p xs
-length_passing p [] = refl
-length_passing p (x ∷ xs) =
-    let rest = length_passing p xs in
-    elim (p x) as (λ b. length (cond b (x ∷ filter p xs) (filter p xs)) ≡ one_if b + count p xs) [
-      | true ↦ omega (arith, rest)
-      | false ↦ omega (arith, rest)
-    ]
-
-pub count_most : {X : Type 0} (p : X → Bool) (xs : List X) → count p xs ≤ length xs
-count_most p [] = omega arith
-count_most p (x ∷ xs) =
-    let rest = count_most p xs in
-    elim (p x) as (λ b. one_if b + count p xs ≤ suc (length xs)) [
-      | true ↦ omega (arith, rest)
-      | false ↦ omega (arith, rest)
-    ]
-
-one_lane : (l a : ℕ) → one_if (nat_eq l a) + one_if (nat_le (a + 1) l) ≤ one_if (nat_le a l)
-one_lane l a = grind (arith, nat_tests)
-
--- the calls of a lane, and those of the lanes behind it
-pub lane_and_behind : (a : ℕ) (cs : List LaneCall)
-    → count (λ c. nat_eq c.lane a) cs + count (λ c. nat_le (a + 1) c.lane) cs ≤ count (λ c. nat_le a c.lane) cs
-lane_and_behind a [] = omega arith
-lane_and_behind a (c ∷ cs) = omega (arith, one_lane c.lane a, lane_and_behind a cs)
-
 -- how many calls a lane has in a round
 abbrev pub many_calls : Round → ℕ → ℕ
 many_calls r lane = length (lane_calls lane r)
 
-pub many-counts : (r : Round) (lane : ℕ) → many_calls r lane ≡ count (λ c. nat_eq c.lane lane) r.calls
-many-counts r lane =
-    length-map (filter (λ (c : LaneCall). nat_eq c.lane lane) r.calls) (λ (c : LaneCall). c.call)
-    ∙ length_passing (λ (c : LaneCall). nat_eq c.lane lane) r.calls
+-- how many the lanes from this one on have
+abbrev pub many_from : Round → ℕ → ℕ
+many_from r a = length (filter (λ c. nat_le a c.lane) r.calls)
+
+filter_most : {X : Type 0} (p : X → Bool) (xs : List X) → length (filter p xs) ≤ length xs
+filter_most p [] = omega arith
+filter_most p (x ∷ xs) = grind (arith, filter_most p xs)
+
+both_parts : (a : ℕ) (cs : List LaneCall)
+    → length (filter (λ c. nat_eq c.lane a) cs) + length (filter (λ c. nat_le (a + 1) c.lane) cs) ≤ length (filter (λ c. nat_le a c.lane) cs)
+both_parts a [] = omega arith
+both_parts a (c ∷ cs) = grind (arith, nat_tests, both_parts a cs)
+
+-- law: a lane, and the lanes behind it
+pub lane_and_behind : (r : Round) (a : ℕ) → many_calls r a + many_from r (a + 1) ≤ many_from r a
+lane_and_behind r a = omega
+    (arith, length-map (filter (λ (c : LaneCall). nat_eq c.lane a) r.calls) (λ (c : LaneCall). c.call), both_parts a r.calls)
+
+-- law: all of them
+pub many_most : (r : Round) (a : ℕ) → many_from r a ≤ length r.calls
+many_most r a = filter_most (λ (c : LaneCall). nat_le a c.lane) r.calls
 
 -- ---- among the calls of a lane
 
@@ -96,8 +85,7 @@ calls_fit lane round (r ∷ rs) =
       length-append r.calls (all_calls rs),
       length-append (map placed mine) (calls_from lane (round + 1) rs),
       length-map mine placed,
-      length_passing (λ (c : LaneCall). nat_eq c.lane lane) r.calls,
-      count_most (λ (c : LaneCall). nat_eq c.lane lane) r.calls,
+      filter_most (λ (c : LaneCall). nat_eq c.lane lane) r.calls,
     )
 
 -- law: a lane has no more calls than a label can count

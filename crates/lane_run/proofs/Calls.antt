@@ -2,7 +2,8 @@
 use Rattle.std.proofs.Common.{◌≡◌, ◌≢◌, arith, ◌<◌, ◌+◌, ℕ, length, take, get_or, Bool, true, false, List, [], ◌∷◌, ◌++◌, map, nat_eq, refl, sym, ap, ◌∙◌, subst}
 use Rattle.std.specs.Prelude.{filter, if◌then◌else◌, OnOk, Result, Ok, Err, is_err}
 use Rattle.std.proofs.lemmas.Bool.Decides.{nat_tests}
-use Rattle.std.proofs.lemmas.List.{append-nil, append_assoc, take_more}
+use Rattle.std.proofs.lemmas.List.Elements.{filter-append}
+use Rattle.std.proofs.lemmas.List.{map-append, append-nil, append_assoc, take_more}
 use Rattle.record_text.specs.declared.record.Answer.{Answer}
 use Rattle.script_text.specs.declared.script.Call.{Call}
 use Rattle.script_text.specs.declared.script.LaneCall.{LaneCall}
@@ -19,46 +20,40 @@ called_append x l m n (c ∷ cs) ds (a ∷ xs) ys one two = (one.0, one.1, one.2
 called_append x l m n [] ds (a ∷ xs) ys one two = absurd one
 called_append x l m n (c ∷ cs) ds [] ys one two = absurd one
 
-pub makes_append : (x : WorldOf) (old mid new : Lane) (cs ds : List Call) → MakesCalls x old mid cs → MakesCalls x mid new ds
-    → MakesCalls x old new (cs ++ ds)
-makes_append x old mid new cs ds one two = record {
+makes_append : {x : WorldOf} {old mid new : Lane} {cs ds : List Call} → MakesCalls x old mid cs → MakesCalls x mid new ds → MakesCalls x old new (cs ++ ds)
+makes_append {x} {old} {cs = cs} {ds = ds} one two = record {
   given = one.given ++ two.given;
   answers = two.answers ∙ ap (λ xs. xs ++ two.given) one.answers ∙ append_assoc old.answers.items one.given two.given;
-  calls = called_append x (lane_of old) (lane_of mid) (lane_of new) cs ds one.given two.given one.calls two.calls;
+  calls = called_append x _ _ _ cs ds one.given two.given one.calls two.calls;
 }
 
 -- one call, after which the lane is about to make its next
-pub makes_one : (x : WorldOf) (old mid new : Lane) (call : Call) → mid.label ≡ old.label → Answers x old call mid → new.answers ≡ mid.answers
+pub makes_one : {x : WorldOf} {old mid new : Lane} {call : Call} → mid.label ≡ old.label → Answers x old call mid → new.answers ≡ mid.answers
     → lane_of new ≡ next_of (lane_of mid) → MakesCalls x old new (call ∷ [])
-makes_one x old mid new call same made answers next = record {
+makes_one {mid = mid} same made answers next = record {
   given = made.given ∷ [];
   answers = ap (λ v. v.items) answers ∙ made.answers;
   calls = (lane_of mid, same, made.called, next);
 }
 
-pub makes_none : (x : WorldOf) (lane : Lane) → MakesCalls x lane lane []
-makes_none x lane = record { given = []; answers = sym (append-nil lane.answers.items); calls = refl }
-
--- the calls of a lane among one more
-pub filter_push : (lane : ℕ) (cs : List LaneCall) (c : LaneCall)
-    → map (λ (x : LaneCall). x.call) (filter (λ (x : LaneCall). nat_eq x.lane lane) (cs ++ c ∷ []))
-    ≡ map (λ (x : LaneCall). x.call) (filter (λ (x : LaneCall). nat_eq x.lane lane) cs) ++ (if nat_eq c.lane lane then c.call ∷ [] else [])
-filter_push lane [] c = elim (nat_eq c.lane lane) as (λ b. map (λ (x : LaneCall). x.call) (if b then c ∷ [] else []) ≡ (if b then c.call ∷ [] else [])) [
-  | true ↦ refl
-  | false ↦ refl
-]
-filter_push lane (x ∷ cs) c =
-    elim (nat_eq x.lane lane) as (λ b. map (λ (x : LaneCall). x.call) (if b then x ∷ filter (λ (y : LaneCall). nat_eq y.lane lane) (cs ++ c ∷ [])
-    else filter (λ (y : LaneCall). nat_eq y.lane lane) (cs ++ c ∷ []))
-    ≡ map (λ (x : LaneCall). x.call) (if b then x ∷ filter (λ (y : LaneCall). nat_eq y.lane lane) cs else filter (λ (y : LaneCall). nat_eq y.lane lane) cs)
-    ++ (if nat_eq c.lane lane then c.call ∷ [] else [])) [
-      | true ↦ ap (λ ds. x.call ∷ ds) (filter_push lane cs c)
-      | false ↦ filter_push lane cs c
-    ]
-
 -- the calls of a lane among lines
 abbrev pub calls_of_lane : ℕ → List LaneCall → List Call
 calls_of_lane lane cs = map (λ (x : LaneCall). x.call) (filter (λ (x : LaneCall). nat_eq x.lane lane) cs)
+
+-- among one more
+calls_next : (lane : ℕ) (xs : List LaneCall) (i : ℕ) (d : LaneCall) (b : Bool) → i < length xs → nat_eq (get_or xs i d).lane lane ≡ b
+    → calls_of_lane lane (take (i + 1) xs) ≡ calls_of_lane lane (take i xs) ++ (if b then (get_or xs i d).call ∷ [] else [])
+calls_next lane xs i d b here is =
+    let c = get_or xs i d in
+    let own = λ (x : LaneCall). nat_eq x.lane lane in
+    ap (calls_of_lane lane) (take_more xs i d here)
+    ∙ ap (map (λ (x : LaneCall). x.call)) (filter-append own (take i xs) (c ∷ []) ∙ ap (λ t. filter own (take i xs) ++ (if t then c ∷ [] else [])) is)
+    ∙ map-append (λ (x : LaneCall). x.call) (filter own (take i xs)) (if b then c ∷ [] else [])
+    ∙ ap (λ cs. calls_of_lane lane (take i xs) ++ cs) (alone c b)
+  where
+    alone : (c : LaneCall) (t : Bool) → map (λ (x : LaneCall). x.call) (if t then c ∷ [] else []) ≡ (if t then c.call ∷ [] else [])
+    alone c true = refl
+    alone c false = refl
 
 -- a lane has come so far in a round: unless it wants memory, it has made these calls
 pub record HasCome (x : WorldOf) (old new : Lane) (cs : List Call) : Type 0 where
@@ -67,51 +62,45 @@ pub record HasCome (x : WorldOf) (old new : Lane) (cs : List Call) : Type 0 wher
   pub name : new.label.lane ≡ old.label.lane
   pub made : new.wants_memory ≡ false → MakesCalls x old new cs
 
-calls_next : (lane : ℕ) (xs : List LaneCall) (i : ℕ) (d : LaneCall) (b : Bool) → i < length xs → nat_eq (get_or xs i d).lane lane ≡ b
-    → calls_of_lane lane (take (i + 1) xs) ≡ calls_of_lane lane (take i xs) ++ (if b then (get_or xs i d).call ∷ [] else [])
-calls_next lane xs i d b here is =
-    ap (calls_of_lane lane) (take_more xs i d here) ∙ filter_push lane (take i xs) (get_or xs i d)
-    ∙ ap (λ t. calls_of_lane lane (take i xs) ++ (if t then (get_or xs i d).call ∷ [] else [])) is
-
 -- past a line of its own
-pub come_on : (x : WorldOf) (xs : List LaneCall) (i : ℕ) (d : LaneCall) (old mid new : Lane) → i < length xs
+pub come_on : {x : WorldOf} (xs : List LaneCall) (i : ℕ) (d : LaneCall) {old mid new : Lane} → i < length xs
     → nat_eq (get_or xs i d).lane mid.label.lane ≡ true → HasCome x old mid (calls_of_lane old.label.lane (take i xs)) → ArePassesOf x new.pass
     → KeepPasses mid.pass new.pass → new.label.lane ≡ mid.label.lane → (new.wants_memory ≡ false → mid.wants_memory ≡ false)
     → (new.wants_memory ≡ false → MakesCalls x mid new ((get_or xs i d).call ∷ [])) → HasCome x old new (calls_of_lane old.label.lane (take (i + 1) xs))
-come_on x xs i d old mid new here own so_far pass keeps name before made = record {
+come_on {x} xs i d {old} {new = new} here own so_far pass keeps name before made = record {
   pass = pass;
-  keeps = keep_trans old.pass mid.pass new.pass so_far.keeps keeps;
+  keeps = keep_trans so_far.keeps keeps;
   name = name ∙ so_far.name;
   made = λ quiet. subst (MakesCalls x old new)
       (sym (calls_next old.label.lane xs i d true here (ap (nat_eq (get_or xs i d).lane) (sym so_far.name) ∙ own)))
-      (makes_append x old mid new (calls_of_lane old.label.lane (take i xs)) ((get_or xs i d).call ∷ []) (so_far.made (before quiet)) (made quiet));
+      (makes_append (so_far.made (before quiet)) (made quiet));
 }
 
 -- past another lane's line
-pub come_past : (x : WorldOf) (xs : List LaneCall) (i : ℕ) (d : LaneCall) (old mid : Lane) → i < length xs
+pub come_past : {x : WorldOf} (xs : List LaneCall) (i : ℕ) (d : LaneCall) {old mid : Lane} → i < length xs
     → nat_eq (get_or xs i d).lane mid.label.lane ≡ false → HasCome x old mid (calls_of_lane old.label.lane (take i xs))
     → HasCome x old mid (calls_of_lane old.label.lane (take (i + 1) xs))
-come_past x xs i d old mid here other so_far = record {
-  pass = so_far.pass;
-  keeps = so_far.keeps;
-  name = so_far.name;
-  made = λ quiet. subst (MakesCalls x old mid)
-      (sym (calls_next old.label.lane xs i d false here (ap (nat_eq (get_or xs i d).lane) (sym so_far.name) ∙ other) ∙ append-nil _))
-      (so_far.made quiet);
+come_past {x} xs i d {old} {mid} here other so_far =
+    subst (HasCome x old mid) (sym (calls_next old.label.lane xs i d false here (ap (nat_eq (get_or xs i d).lane) (sym so_far.name) ∙ other)
+    ∙ append-nil _)) so_far
+
+pub come_none : {x : WorldOf} (lane : Lane) → ArePassesOf x lane.pass → HasCome x lane lane []
+come_none lane pass = record {
+  pass = pass;
+  keeps = keep_refl;
+  name = refl;
+  made = λ quiet. record { given = []; answers = sym (append-nil lane.answers.items); calls = refl };
 }
 
-pub come_none : (x : WorldOf) (lane : Lane) → ArePassesOf x lane.pass → HasCome x lane lane []
-come_none x lane pass = record { pass = pass; keeps = keep_refl lane.pass; name = refl; made = λ quiet. makes_none x lane }
-
 -- what holds of a result that is no error
-pub no_error : {T E : Type 0} (r : Result T E) (P : Type 0) → is_err r ≡ false → OnOk r P → P
-no_error (Ok v) P fine holds = holds
-no_error (Err e) P fine holds = absurd (cc)
+pub no_error : {T E : Type 0} (r : Result T E) {P : Type 0} → is_err r ≡ false → OnOk r P → P
+no_error (Ok v) fine holds = holds
+no_error (Err e) fine holds = absurd (cc)
 
 pub other_lane : (a b : ℕ) → a ≢ b → nat_eq a b ≡ false
 other_lane a b other = grind (arith, nat_tests, other)
 
 -- what holds of a result that is no error, from two facts of it
-pub on_both : {T E : Type 0} (r : Result T E) (A B P : Type 0) → OnOk r A → OnOk r B → (A → B → P) → OnOk r P
-on_both (Ok v) A B P one two both = both one two
-on_both (Err e) A B P one two both = one
+pub on_both : {T E : Type 0} (r : Result T E) {A B P : Type 0} → OnOk r A → OnOk r B → (A → B → P) → OnOk r P
+on_both (Ok v) one two both = both one two
+on_both (Err e) one two both = one

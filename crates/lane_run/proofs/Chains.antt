@@ -49,39 +49,32 @@ start_of x past now round = x.seen (get_or past round now)
 
 -- no less was seen when each round began than when the one before it did
 abbrev pub AreUpTo : List Seen → Seen → Type 0
-AreUpTo [] now = Unit
-AreUpTo (y ∷ ys) now = IsNoLess y (get_or ys 0 now) × AreUpTo ys now
+AreUpTo past now = (round : ℕ) → IsNoLess (get_or past round now) (get_or past (suc round) now)
 
--- when more is seen now
+-- law: when more is seen now
 pub up_to_later : (past : List Seen) {now later : Seen} → IsNoLess now later → AreUpTo past now → AreUpTo past later
-up_to_later [] more rise = tt
-up_to_later (y ∷ []) more rise = (no_less_trans rise.0 more, tt)
-up_to_later (y ∷ z ∷ ys) more rise = (rise.0, up_to_later (z ∷ ys) more rise.1)
+up_to_later [] more rise round = no_less_same
+up_to_later (y ∷ []) more rise zero = no_less_trans (rise 0) more
+up_to_later (y ∷ []) more rise (suc round) = no_less_same
+up_to_later (y ∷ z ∷ ys) more rise zero = rise 0
+up_to_later (y ∷ z ∷ ys) more rise (suc round) = up_to_later (z ∷ ys) more (λ n. rise (suc n)) round
+
+-- one more round begins
+get_pushed : (past : List Seen) (now : Seen) (round : ℕ) → get_or (past ++ now ∷ []) round now ≡ get_or past round now
+get_pushed [] now zero = refl
+get_pushed [] now (suc round) = refl
+get_pushed (y ∷ ys) now zero = refl
+get_pushed (y ∷ ys) now (suc round) = get_pushed ys now round
 
 -- law: and when the next round begins
 pub up_to_push : (past : List Seen) (now : Seen) → AreUpTo past now → AreUpTo (past ++ now ∷ []) now
-up_to_push [] now rise = (no_less_same, tt)
-up_to_push (y ∷ []) now rise = (rise.0, (no_less_same, tt))
-up_to_push (y ∷ z ∷ ys) now rise = (rise.0, up_to_push (z ∷ ys) now rise.1)
-
--- law: so rounds begin one after another
-pub starts_rise : (x : ListOf) (past : List Seen) (now : Seen) (round : ℕ) → AreUpTo past now → start_of x past now round ≤ start_of x past now (suc round)
-starts_rise x [] now round rise = omega arith
-starts_rise x (y ∷ ys) now zero rise = x.rises rise.0
-starts_rise x (y ∷ ys) now (suc round) rise = starts_rise x ys now round rise.1
+up_to_push past now rise round = rw (get_pushed past now round, get_pushed past now (suc round)) (rise round)
 
 -- a start is no less when more was seen
 start_later : (x : ListOf) (past : List Seen) {now later : Seen} (round : ℕ) → IsNoLess now later → start_of x past now round ≤ start_of x past later round
 start_later x [] round more = x.rises more
 start_later x (y ∷ ys) zero more = omega arith
 start_later x (y ∷ ys) (suc round) more = start_later x ys round more
-
--- one more round begins
-start_pushed : (x : ListOf) (past : List Seen) (now : Seen) (round : ℕ) → start_of x (past ++ now ∷ []) now round ≡ start_of x past now round
-start_pushed x [] now zero = refl
-start_pushed x [] now (suc round) = refl
-start_pushed x (y ∷ ys) now zero = refl
-start_pushed x (y ∷ ys) now (suc round) = start_pushed x ys now round
 
 -- ---- the spans of calls
 
@@ -110,9 +103,9 @@ pub lies_pushed : {x : ListOf} {past : List Seen} {now : Seen} {round : ℕ} {g 
     → LiesIn x (past ++ now ∷ []) now round g
 lies_pushed {x} {past} {now} {round} lies = record {
   begun = omega (arith, lies.begun, length-append past (now ∷ []));
-  from = omega (arith, lies.from, start_pushed x past now round);
+  from = omega (arith, lies.from, ap x.seen (get_pushed past now round));
   order = lies.order;
-  to = omega (arith, lies.to, start_pushed x past now (round + 1));
+  to = omega (arith, lies.to, ap x.seen (get_pushed past now (round + 1)));
   most = lies.most;
 }
 

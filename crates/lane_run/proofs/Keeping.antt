@@ -3,13 +3,8 @@ use Rattle.std.proofs.Common.{refl, ◌∙◌}
 use Rattle.lane_run.specs.declared.world.WorldPass.{WorldPass}
 use Rattle.lane_run.specs.Worlds.{KeepPasses}
 
-pub keep_refl : (p : WorldPass) → KeepPasses p p
-keep_refl p = record { timers = refl; claims = refl; objects = refl; clock = refl }
+pub keep_refl : {p : WorldPass} → KeepPasses p p
+keep_refl = record { timers = refl; claims = refl; objects = refl; clock = refl }
 
-pub keep_trans : (p q r : WorldPass) → KeepPasses p q → KeepPasses q r → KeepPasses p r
-keep_trans p q r a b = record {
-  timers = b.timers ∙ a.timers;
-  claims = b.claims ∙ a.claims;
-  objects = b.objects ∙ a.objects;
-  clock = b.clock ∙ a.clock;
-}
+pub keep_trans : {p q r : WorldPass} → KeepPasses p q → KeepPasses q r → KeepPasses p r
+keep_trans a b = record { timers = b.timers ∙ a.timers; claims = b.claims ∙ a.claims; objects = b.objects ∙ a.objects; clock = b.clock ∙ a.clock }

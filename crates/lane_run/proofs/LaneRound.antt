@@ -122,12 +122,11 @@ kept_one {s} {l} {call} {a} {m} kept before base lane done rest sees label so_fa
     record {
       parts = so_far.parts ∙ sym (append_assoc (calls_in done) (at ∷ []) rest)
           ∙ ap (λ ps. ps ++ rest) (sym (map-append (λ (d : DoneCall). d.at) done (k ∷ [])));
-      promised = subst (λ ls. IsPromisedSoFar s lane (length ls) ls (Follows q) (seen_by q) rest (answers_in (done ++ k ∷ [])))
-          (sym (map-append (λ (d : DoneCall). d.log) done (k ∷ [])))
-          (subst (λ n. IsPromisedSoFar s lane n (logs_of done ++ log ∷ []) (Follows q) (seen_by q) rest (answers_in (done ++ k ∷ [])))
-          (sym (length-append (logs_of done) (log ∷ [])))
-          (subst (IsPromisedSoFar s lane (length (logs_of done) + 1) (logs_of done ++ log ∷ []) (Follows q) (seen_by q) rest)
-          (sym (map-append (λ (d : DoneCall). d.answer) done (k ∷ []))) pushed));
+      promised = rw (
+        map-append (λ (d : DoneCall). d.log) done (k ∷ []),
+        map-append (λ (d : DoneCall). d.answer) done (k ∷ []),
+        length-append (logs_of done) (log ∷ []),
+      ) pushed;
       each = All-append (Stands (before ++ seen_by base ∷ []) q) done (k ∷ []) (kept_later more so_far).each
           (record { stand = kept.stand; lies = λ x. lies_new x before p q kept.notes kept.trace (no_less sees) (no_less more) }, tt);
       next = λ x j g h this that.
@@ -158,11 +157,8 @@ notes_one {m = m} kept lane start done k is label low are =
     (λ c g h old new. absurd (omega
     (arith, slice_get_within done c.call old.2.0 old.2.1, ap (λ (d : Label). d.call) (new.0 ∙ label))))
     (λ c g old. (old.0, old.1, (old.2.0, at_left done (k ∷ []) c.call old.2.0 old.2.1, old.2.2)))
-    (λ c g new. let here = new.0 ∙ label in (
-      ap (λ (d : Label). d.lane) here,
-      subst (λ n. start ≤ n) (sym (ap (λ (d : Label). d.call) here)) low,
-      (k, subst (λ n. slice_get (done ++ k ∷ []) n ≡ Some k) (sym (ap (λ (d : Label). d.call) here)) (at_seam done [] k), sym is ∙ new.1),
-    ))
+    (λ c g new. subst (λ (d : Label). IsFrom lane start (done ++ k ∷ []) d g) (sym (new.0 ∙ label))
+    (refl, low, (k, at_seam done [] k, sym is ∙ new.1)))
     (λ c g both. ⊎_elim (λ there. inl (both.0, both.1, (both.2.0, there, both.2.2)))
     (λ last. inr (ap (λ n. label_at n c.call) both.0 ∙ ap (label_at lane) last.0 ∙ sym label, is ∙ ap (λ (d : DoneCall). d.log) last.1 ∙ both.2.2))
     (at_push done k c.call both.2.0 both.2.1)))
@@ -180,21 +176,21 @@ pub record IsInRound (s : Script) (x : WorldOf) (before : List Seen) (base : Wor
   pub are : AreOf l.pass l.notes (IsFrom lane (length first) d.done)
   pub tallies : Tallies l.pass l.notes
 
--- what comes of calls that it makes in the round: they are done, with these answers, and none wrote more than once
-pub record MakesInRound (s : Script) (x : WorldOf) (before : List Seen) (base : WorldPass) (first : List DoneCall) (lane : ℕ) (l m : LaneOf)
-    (done : List DoneCall) (rest : List CallInRound) (given : List Answer) (many : ℕ) : Type 0 where
+-- a lane has made calls in the round: they are done, with these answers, and it wrote no more than this
+pub record MakesInRound (s : Script) (x : WorldOf) (before : List Seen) (base : WorldPass) (first : List DoneCall) (lane : ℕ) (m : LaneOf)
+    (done : List DoneCall) (rest : List CallInRound) (given : List Answer) (most : ℕ) : Type 0 where
   pub all : List DoneCall
   pub answers : answers_in all ≡ answers_in done ++ given
-  pub few : length m.notes.writes ≤ length l.notes.writes + many
+  pub few : length m.notes.writes ≤ most
   pub is : IsInRound s x before base first lane m (record { done = all; rest = rest })
 
 module _ {s : Script} {x : WorldOf} (each : KeepsEach s x) (world : IsWorldOf s x) (range : IsInRange s) (whole : IsWhole x) (before : List Seen)
     (base : WorldPass) (first : List DoneCall) where
   -- one call
-  one_call : (lane : ℕ) (l n : LaneOf) (done : List DoneCall) (rest : List CallInRound) (c : Call) (a : Answer)
+  one_call : {lane : ℕ} {l n : LaneOf} (done : List DoneCall) (rest : List CallInRound) {c : Call} {a : Answer}
       → IsInRound s x before base first lane l (record { done = done; rest = record { round = length before; call = c } ∷ rest }) → n.label ≡ l.label
-      → Called x l c a n → MakesInRound s x before base first lane l (next_of n) done rest (a ∷ []) 1
-  one_call lane l n done rest c a old same called =
+      → Called x l c a n → MakesInRound s x before base first lane (next_of n) done rest (a ∷ []) (length l.notes.writes + 1)
+  one_call {lane} {l} {n} done rest {c} {a} old same called =
       let at : CallInRound = record { round = length before; call = c } in
       let there : slice_get (calls_of s lane) (length done) ≡ Some at =
       subst (λ k. slice_get (calls_of s lane) k ≡ Some at) (length-map done (λ (d : DoneCall). d.at))
@@ -212,11 +208,11 @@ module _ {s : Script} {x : WorldOf} (each : KeepsEach s x) (world : IsWorldOf s 
         is = refl;
       }) called in
       let k : DoneCall = record { at = at; log = log_of l.pass n.pass kept.notes kept.trace; answer = a } in
-      let writes = ap (λ (ns : NotesOf). length ns.writes) kept.joins in
       record {
         all = done ++ k ∷ [];
         answers = map-append (λ (d : DoneCall). d.answer) done (k ∷ []);
-        few = omega (arith, writes, length-append l.notes.writes kept.added.writes, kept.few);
+        few = omega
+            (arith, ap (λ (ns : NotesOf). length ns.writes) kept.joins, length-append l.notes.writes kept.added.writes, kept.few);
         is = record {
           label = ap (λ (d : Label). label_at d.lane (as_index (d.call + 1))) (same ∙ label)
               ∙ ap (λ i. label_at lane (as_index i)) (sym (length-append done (k ∷ [])));
@@ -230,20 +226,20 @@ module _ {s : Script} {x : WorldOf} (each : KeepsEach s x) (world : IsWorldOf s 
       }
 
   -- calls in turn
-  calls_made : (lane : ℕ) (cs : List Call) (given : List Answer) (l m : LaneOf) (done : List DoneCall) (rest : List CallInRound)
+  calls_made : {lane : ℕ} (cs : List Call) (given : List Answer) {l m : LaneOf} (done : List DoneCall) (rest : List CallInRound)
       → IsInRound s x before base first lane l (record { done = done; rest = in_round (length before) cs ++ rest }) → CalledAll x l cs given m
-      → MakesInRound s x before base first lane l m done rest given (length cs)
-  calls_made lane [] [] l m done rest old called = record {
+      → MakesInRound s x before base first lane m done rest given (length l.notes.writes + length cs)
+  calls_made {lane} [] [] done rest old called = record {
     all = done;
     answers = sym (append-nil (answers_in done));
     few = omega (arith, ap (λ (k : LaneOf). length k.notes.writes) called);
     is = subst (λ k. IsInRound s x before base first lane k (record { done = done; rest = rest })) (sym called) old;
   }
-  calls_made lane [] (a ∷ given) l m done rest old called = absurd called
-  calls_made lane (c ∷ cs) [] l m done rest old called = absurd called
-  calls_made lane (c ∷ cs) (a ∷ given) l m done rest old called =
-      let one = one_call lane l called.0 done (in_round (length before) cs ++ rest) c a old called.1 called.2 in
-      let others = calls_made lane cs given (next_of called.0) m one.all rest one.is called.3 in
+  calls_made [] (a ∷ given) done rest old called = absurd called
+  calls_made (c ∷ cs) [] done rest old called = absurd called
+  calls_made (c ∷ cs) (a ∷ given) done rest old called =
+      let one = one_call done (in_round (length before) cs ++ rest) old called.1 called.2 in
+      let others = calls_made cs given one.all rest one.is called.3 in
       record {
         all = others.all;
         answers = others.answers ∙ ap (λ zs. zs ++ given) one.answers ∙ append_assoc (answers_in done) (a ∷ []) given;
@@ -252,17 +248,14 @@ module _ {s : Script} {x : WorldOf} (each : KeepsEach s x) (world : IsWorldOf s 
       }
 
   -- law: what a lane leaves of a round in which it made its calls
-  pub leaves_round : (left : LeftOf) (r : Round) (rest : List CallInRound) (old new : Lane) → let lane = old.label.lane in
+  pub leaves_round : {left : LeftOf} {r : Round} (rest : List CallInRound) {old new : Lane} → let lane = old.label.lane in
       IsKeptOf s (before ++ seen_by base ∷ []) base lane (record { done = first; rest = in_round (length before) (lane_calls lane r) ++ rest })
       → get_or left.answers lane [] ≡ answers_in first → BeginsRound base left old → IsLaneOf x old → MakesLane x r old new
-      → MakesInRound s x before base first lane (lane_of old) (lane_of new) first rest new.answers.items (length (lane_calls lane r))
-  leaves_round left r rest old new so_far same begins of makes =
+      → MakesInRound s x before base first lane (lane_of new) first rest new.answers.items (length (lane_calls lane r))
+  leaves_round {left} {r} rest {old} {new} so_far same begins of makes =
       let lane = old.label.lane in
       let cs = lane_calls lane r in
-      let calls = in_round (length before) cs ++ rest in
-      let answers : makes.calls.given ≡ new.answers.items =
-      ap (λ zs. zs ++ makes.calls.given) (sym begins.answers) ∙ sym makes.calls.answers in
-      let begun : IsInRound s x before base first lane (lane_of old) (record { done = first; rest = calls }) = record {
+      let begun : IsInRound s x before base first lane (lane_of old) (record { done = first; rest = in_round (length before) cs ++ rest }) = record {
         label = ap (label_at lane) (begins.call ∙ ap as_index (ap length same ∙ length-map first (λ (d : DoneCall). d.answer)));
         opening = of.pass.objects.row.made;
         sees = more_begun begins;
@@ -272,5 +265,11 @@ module _ {s : Script} {x : WorldOf} (each : KeepsEach s x) (world : IsWorldOf s 
             (none_noted (λ c g is. absurd (omega (arith, is.1, slice_get_within first c.call is.2.0 is.2.1))));
         tallies = subst (Tallies old.pass) (sym begins.notes) (tallies_none begins.timers_mine begins.objects_mine begins.clock_mine);
       } in
-      subst (λ zs. MakesInRound s x before base first lane (lane_of old) (lane_of new) first rest zs (length cs)) answers
-      (calls_made lane cs makes.calls.given (lane_of old) (lane_of new) first rest begun makes.calls.calls)
+      let made = calls_made cs makes.calls.given first rest begun makes.calls.calls in
+      record {
+        all = made.all;
+        answers = made.answers
+            ∙ ap (λ zs. answers_in first ++ zs) (ap (λ zs. zs ++ makes.calls.given) (sym begins.answers) ∙ sym makes.calls.answers);
+        few = omega (arith, made.few, ap (λ (ns : NotesOf). length ns.writes) begins.notes);
+        is = made.is;
+      }

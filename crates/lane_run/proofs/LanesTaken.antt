@@ -12,7 +12,7 @@ use Rattle.lane_run.specs.Rounds.{LeftOf, TakesInPass, with_lane}
 use Rattle.lane_run.specs.declared.lane.Lane.{Lane}
 use Rattle.lane_run.specs.declared.world.WorldPass.{WorldPass}
 use Rattle.lane_run.proofs.Chains.{AreUpTo, up_to_later}
-use Rattle.lane_run.proofs.LaneRound.{IsFrom, IsKeptOf, kept_later, LaneSoFar, IsAt, IsInRound, DoneCall, answers_in}
+use Rattle.lane_run.proofs.LaneRound.{IsFrom, IsKeptOf, kept_later, LaneSoFar, IsAt, answers_in, MakesInRound}
 use Rattle.lane_run.proofs.NotesJoined.{AreOf, joined}
 use Rattle.lane_run.proofs.SeenMore.{more_heard, more_taken, no_less, stands_on}
 use Rattle.lane_run.proofs.Tallies.{tallies_more, adds_taken}
@@ -53,14 +53,6 @@ pub record AreLeftSoFar (s : Script) (past : List Seen) (p : WorldPass) (left : 
   pub are : AreOf p left.notes (λ c. IsAt (of c.lane).done c)
   pub tallies : Tallies p left.notes
   pub rise : AreUpTo past (seen_by p)
-
--- what a lane of this number leaves of a round, behind what was kept of it; these calls are left of it then
-pub record LeavesRound (s : Script) (x : WorldOf) (before : List Seen) (base : WorldPass) (first : List DoneCall) (rest : List CallInRound) (name : ℕ)
-    (lane : Lane) (many : ℕ) : Type 0 where
-  pub all : List DoneCall
-  pub answers : answers_in all ≡ answers_in first ++ lane.answers.items
-  pub few : length lane.notes.writes ≤ many
-  pub is : IsInRound s x before base first name (lane_of lane) (record { done = all; rest = rest })
 
 -- ---- one lane
 
@@ -108,8 +100,8 @@ given_taken answers lane given of end within is same j =
 
 -- law: what a lane leaves of a round is added
 pub left_taken : {s : Script} {x : WorldOf} {before : List Seen} {base p q : WorldPass} {left : LeftOf} (of : ℕ → LaneSoFar) (lane : Lane)
-    {rest : List CallInRound} {many : ℕ} (leaves : LeavesRound s x before base (of lane.label.lane).done rest lane.label.lane lane many)
-    → lane.label.lane < s.lanes → TakesInPass p lane.pass q → AreLeftSoFar s (before ++ seen_by base ∷ []) p left of
+    {rest : List CallInRound} {most : ℕ} → let first = (of lane.label.lane).done in
+    (leaves : MakesInRound s x before base first lane.label.lane (lane_of lane) first rest lane.answers.items most) → lane.label.lane < s.lanes → TakesInPass p lane.pass q → AreLeftSoFar s (before ++ seen_by base ∷ []) p left of
     → AreLeftSoFar s (before ++ seen_by base ∷ []) q (with_lane left lane) (put of lane.label.lane (record { done = leaves.all; rest = rest }))
 left_taken {s = s} {before = before} {base = base} {q = q} {left = left} of lane {rest = rest} leaves within takes so_far =
     let name = lane.label.lane in

@@ -23,12 +23,12 @@ use Rattle.lane_run.specs.Left.{AreByRounds, AreLeft, own_notes}
 use Rattle.lane_run.specs.Rounds.{LeftOf, MakesRounds, none_left}
 use Rattle.lane_run.specs.Worlds.{AreFirst, IsWhole, IsWorldOf, WorldOf}
 use Rattle.lane_run.specs.declared.world.WorldPass.{WorldPass}
-use Rattle.lane_run.proofs.Chains.{clock_list, LiesIn, ListOf, moves_list, object_list, start_of, starts_rise}
+use Rattle.lane_run.proofs.Chains.{clock_list, LiesIn, ListOf, moves_list, object_list, start_of}
 use Rattle.lane_run.proofs.LaneRound.{LaneSoFar, calls_in, Stands, logs_of, DoneCall, answers_in}
 use Rattle.lane_run.proofs.LanesTaken.{AreLeftSoFar}
 use Rattle.lane_run.proofs.NotesJoined.{own_notes-none}
 use Rattle.lane_run.proofs.PartLists.{each_weaker}
-use Rattle.lane_run.proofs.RoundsLeft.{lane_first, left_first, rounds_left}
+use Rattle.lane_run.proofs.RoundsLeft.{left_first, rounds_left}
 use Rattle.lane_run.proofs.LaneKept.{KeepsEach}
 
 -- a run has of a lane's calls what it kept of each
@@ -36,15 +36,9 @@ has_from : (e : Ending) (lane index : ℕ) (done : List DoneCall)
     → ((j : ℕ) (k : DoneCall) → slice_get done j ≡ Some k → HasLog e (label_at lane (index + j)) k.log) → HasLogs e lane index (logs_of done)
 has_from e lane index [] has = tt
 has_from e lane index (k ∷ done) has = (
-  subst (λ n. HasLog e (label_at lane n) k.log) (none index) (has 0 k refl),
-  has_from e lane (index + 1) done (λ j h at. subst (λ n. HasLog e (label_at lane n) h.log) (further index j) (has (suc j) h at)),
+  subst (λ n. HasLog e (label_at lane n) k.log) (omega arith) (has 0 k refl),
+  has_from e lane (index + 1) done (λ j h at. subst (λ n. HasLog e (label_at lane n) h.log) (omega arith) (has (suc j) h at)),
 )
-  where
-    none : (n : ℕ) → n + 0 ≡ n
-    none n = omega arith
-
-    further : (n j : ℕ) → n + suc j ≡ n + 1 + j
-    further n j = omega arith
 
 -- a call of which nothing is kept
 abbrev pub no_call : DoneCall
@@ -146,19 +140,15 @@ module _ {s : Script} {past : List Seen} {q : WorldPass} {left : LeftOf} (of : �
   -- law: each call's span lies in its round
   ledger_on : (x : ListOf) → IsLedger s (spans_on x)
   ledger_on x = record {
-    rise = λ round. subst (λ n. start_of x past (seen_by q) round ≤ start_of x past (seen_by q) n) (one_more round)
-        (starts_rise x past (seen_by q) round so_far.rise);
+    rise = λ round. subst (λ n. start_of x past (seen_by q) round ≤ start_of x past (seen_by q) n) (omega arith) (x.rises (so_far.rise round));
     from = λ c is. (lies_of x c is).from;
     to = λ c is. (lies_of x c is).to;
     order = λ c is. (lies_of x c is).order;
     next = λ lane call is.
         let after = label_at lane (call + 1) in
         (so_far.kept lane).next x call (call_at (label_at lane call)) (call_at after) (there (label_at lane call) (omega (arith, is)))
-        (subst (λ n. slice_get (of lane).done n ≡ Some (call_at after)) (sym (one_more call)) (there after is));
+        (subst (λ n. slice_get (of lane).done n ≡ Some (call_at after)) (omega arith) (there after is));
   }
-    where
-      one_more : (n : ℕ) → suc n ≡ n + 1
-      one_more n = omega arith
 
   -- what had been seen of each list when each round began
   abbrev all_starts : Starts
@@ -184,12 +174,9 @@ module _ {s : Script} {past : List Seen} {q : WorldPass} {left : LeftOf} (of : �
         subst (FitsLane (course_of s e) lane 0 unseen (calls_of s lane)) (sym (so_far.given lane))
         (promised_all s lane (length (logs_of done)) (logs_of done) (Follows q) (seen_by q) (answers_in done)
         (subst (λ ps. IsPromisedSoFar s lane (length (logs_of done)) (logs_of done) (Follows q) (seen_by q) ps (answers_in done)) (rest lane) kept.promised)
-        e follows (has_from e lane 0 done (λ j k at. subst (λ n. HasLog e (label_at lane n) k.log) (none j)
+        e follows (has_from e lane 0 done (λ j k at. subst (λ n. HasLog e (label_at lane n) k.log) (omega arith)
         (subst (λ (h : DoneCall). HasLog e (label_at lane j) h.log) (get_or_from_slice_get done j k no_call at) (has (label_at lane j))))) joined);
   }
-    where
-      none : (n : ℕ) → n ≡ 0 + n
-      none n = omega arith
 
 -- law: rounds in turn, from the first passes on, leave notes of calls that their lanes kept, and calls that stand by rounds
 pub left_by_rounds : (s : Script) (x : WorldOf) (p q : WorldPass) (left : LeftOf)
@@ -197,7 +184,7 @@ pub left_by_rounds : (s : Script) (x : WorldOf) (p q : WorldPass) (left : LeftOf
     → MakesRounds x s.rounds p (none_left s.lanes) q left
     → (logs : Label → CallLog) × (starts : Starts) × AreLeft s q left.notes logs × AreByRounds s q logs starts left.answers
 left_by_rounds s x p q left each world range whole first makes =
-    let rounds = rounds_left each world range whole s.rounds [] p (none_left s.lanes) (lane_first s) q left (left_first s first) (λ j. refl)
+    let rounds = rounds_left each world range whole s.rounds [] (left_first s first) (λ j. refl)
     range.callers makes in
     let all = rounds.1 in (
       log_in all.of all.all all.behind,

@@ -18,11 +18,11 @@ use Rattle.timer_objects.specs.Firings.{Fires, FiresBy, Firing, IsSameLoan, firi
 use Rattle.lane_run.specs.Expiries.{LeavesPass}
 use Rattle.timer_objects.specs.Known.{IsObjectsPass, ObjectsOf, ObjectsPass, row_of}
 
-leaves_same : (h : Firing) → LeavesPass h h
-leaves_same h = record { loan = record { objects = refl; callbacks = refl; lent = refl }; id = refl; knows = λ k. k }
+pub leaves_same : {h : Firing} → LeavesPass h h
+leaves_same = record { loan = record { objects = refl; callbacks = refl; lent = refl }; id = refl; knows = λ k. k }
 
-leaves_trans : (h i j : Firing) → LeavesPass h i → LeavesPass i j → LeavesPass h j
-leaves_trans h i j a b = record {
+pub leaves_trans : {h i j : Firing} → LeavesPass h i → LeavesPass i j → LeavesPass h j
+leaves_trans a b = record {
   loan = record {
     objects = b.loan.objects ∙ a.loan.objects;
     callbacks = b.loan.callbacks ∙ a.loan.callbacks;
@@ -44,9 +44,37 @@ by_call o h h' v w c reading restart (Some call) loan (inl enters, same, log, st
 by_call o h h' v w c reading restart (Some call) loan (inr skips, same, log, stops) =
     record { loan = loan; id = skips.reads.pass.id; knows = λ k. skips.reads.knows }
 
-fired_leaves : (o : Opening) (h h' : Firing) (v w : KnownOfTimers) (c : ClaimNumbers) (reading : ClockReading) (restart : Restart)
+pub fired_leaves : (o : Opening) (h h' : Firing) (v w : KnownOfTimers) (c : ClaimNumbers) (reading : ClockReading) (restart : Restart)
     → Fires o h h' v w c reading restart → LeavesPass h h'
 fired_leaves o h h' v w c reading restart fires = by_call o h h' v w c reading restart _ fires.loan fires.fires
+
+-- a pass that was lent is one of the objects after it
+pub pass_after : {x : ObjectsOf} {h h' : Firing} → h.objects.now ≡ x → LeavesPass h h' → Knows cell_meaning h.objects_pass.now.knows
+    → IsObjectsPass x h'.objects_pass.now
+pass_after {x} {h' = h'} e left knows = record {
+  row = subst (λ (y : ObjectsOf). IsPassOfRow (row_of y) h'.objects_pass.now) (left.loan.objects ∙ e) h'.row;
+  idle = h'.idle;
+  unclaimed = h'.unclaimed;
+  knows = left.knows knows;
+}
+
+-- what each function of a run leaves so the run leaves so
+module _ {A : Type 0} (m : Meaning A) (o : Opening) (reading : ClockReading) (Leaves : A → A → Type 0) (same : (h : A) → Leaves h h)
+    (then : (h i j : A) → Leaves h i → Leaves i j → Leaves h j)
+    (each : (h h' : A) (v w : KnownOfTimers) (c : ClaimNumbers) (restart : Restart) → m.did o h h' v w c reading restart → Leaves h h') where
+  turns_leave : (base n : ℕ) (k : KnownOfTimers) (h : A) (log : List Receipt) (k' : KnownOfTimers) (h' : A) (log' : List Receipt)
+      → Turns m o base reading n k h log k' h' log' → Leaves h h'
+  turns_leave base zero k h log k' h' log' turns = subst (Leaves h) (sym turns.1) (same h)
+  turns_leave base (suc n) k h log k' h' log' turns =
+      let turn = turns.4 in
+      then h turns.1 h' (turns_leave base n k h log turns.0 turns.1 turns.2 turns.3)
+      (each turns.1 h' turn.claimed turn.ran.done turn.claim turn.ran.restart turn.ran.did)
+
+  pub run_leaves : (base budget : ℕ) (k : KnownOfTimers) (h : A) (log : List Receipt) (k' : KnownOfTimers) (h' : A) (log' : List Receipt)
+      (a : ExpireAnswer) → Expires m o base reading budget k h log k' h' log' a → Leaves h h'
+  run_leaves base budget k h log k' h' log' (expiries.More fired) is = turns_leave base fired k h log k' h' log' is.1
+  run_leaves base budget k h log k' h' log' (expiries.Done fired) is = turns_leave base fired k h log is.1.0 h' log' is.1.1
+  run_leaves base budget k h log k' h' log' (expiries.BaseBusy fired t g) is = turns_leave base fired k h log is.1.0 h' log' is.1.1
 
 -- `of` is the handler of objects that is in another one, which does what that one does
 module _ {A : Type 0} (m : Meaning A) (of : A → Firing) (o : Opening) (reading : ClockReading)
@@ -83,44 +111,3 @@ module _ {A : Type 0} (m : Meaning A) (of : A → Firing) (o : Opening) (reading
   expires_of base budget k h log k' h' log' (expiries.Done fired) is = (is.0, (is.1.0, turns_of base fired k h log is.1.0 h' log' is.1.1, is.1.2))
   expires_of base budget k h log k' h' log' (expiries.BaseBusy fired t g) is =
       (is.0, (is.1.0, turns_of base fired k h log is.1.0 h' log' is.1.1, is.1.2))
-
-  leaves_turns : (base n : ℕ) (k : KnownOfTimers) (h : A) (log : List Receipt) (k' : KnownOfTimers) (h' : A) (log' : List Receipt)
-      → Turns m o base reading n k h log k' h' log' → LeavesPass (of h) (of h')
-  leaves_turns base zero k h log k' h' log' turns = subst (λ (x : A). LeavesPass (of h) (of x)) (sym turns.1) (leaves_same (of h))
-  leaves_turns base (suc n) k h log k' h' log' turns =
-      let ran = turns.4.ran in
-      leaves_trans (of h) (of turns.1) (of h') (leaves_turns base n k h log turns.0 turns.1 turns.2 turns.3)
-      (fired_leaves o (of turns.1) (of h') turns.4.claimed ran.done turns.4.claim reading ran.restart
-      (does turns.1 h' turns.4.claimed ran.done turns.4.claim ran.restart ran.did))
-
-  pub leaves_pass : (base budget : ℕ) (k : KnownOfTimers) (h : A) (log : List Receipt) (k' : KnownOfTimers) (h' : A) (log' : List Receipt)
-      (a : ExpireAnswer) → Expires m o base reading budget k h log k' h' log' a → LeavesPass (of h) (of h')
-  leaves_pass base budget k h log k' h' log' (expiries.More fired) is = leaves_turns base fired k h log k' h' log' is.1
-  leaves_pass base budget k h log k' h' log' (expiries.Done fired) is = leaves_turns base fired k h log is.1.0 h' log' is.1.1
-  leaves_pass base budget k h log k' h' log' (expiries.BaseBusy fired t g) is = leaves_turns base fired k h log is.1.0 h' log' is.1.1
-
--- a pass that was lent is one of the objects after it
-pub pass_after : (x : ObjectsOf) (h h' : Firing) → h.objects.now ≡ x → LeavesPass h h' → Knows cell_meaning h.objects_pass.now.knows
-    → IsObjectsPass x h'.objects_pass.now
-pass_after x h h' e left knows = record {
-  row = subst (λ (y : ObjectsOf). IsPassOfRow (row_of y) h'.objects_pass.now) (left.loan.objects ∙ e) h'.row;
-  idle = h'.idle;
-  unclaimed = h'.unclaimed;
-  knows = left.knows knows;
-}
-
--- what each function leaves as it was a run leaves so
-module _ {A N : Type 0} (m : Meaning A) (name : A → N) (o : Opening) (reading : ClockReading)
-    (keeps : (h h' : A) (v w : KnownOfTimers) (c : ClaimNumbers) (restart : Restart) → m.did o h h' v w c reading restart → name h' ≡ name h) where
-  names_turns : (base n : ℕ) (k : KnownOfTimers) (h : A) (log : List Receipt) (k' : KnownOfTimers) (h' : A) (log' : List Receipt)
-      → Turns m o base reading n k h log k' h' log' → name h' ≡ name h
-  names_turns base zero k h log k' h' log' turns = ap name turns.1
-  names_turns base (suc n) k h log k' h' log' turns =
-      let ran = turns.4.ran in
-      keeps turns.1 h' turns.4.claimed ran.done turns.4.claim ran.restart ran.did ∙ names_turns base n k h log turns.0 turns.1 turns.2 turns.3
-
-  pub names_run : (base budget : ℕ) (k : KnownOfTimers) (h : A) (log : List Receipt) (k' : KnownOfTimers) (h' : A) (log' : List Receipt)
-      (a : ExpireAnswer) → Expires m o base reading budget k h log k' h' log' a → name h' ≡ name h
-  names_run base budget k h log k' h' log' (expiries.More fired) is = names_turns base fired k h log k' h' log' is.1
-  names_run base budget k h log k' h' log' (expiries.Done fired) is = names_turns base fired k h log is.1.0 h' log' is.1.1
-  names_run base budget k h log k' h' log' (expiries.BaseBusy fired t g) is = names_turns base fired k h log is.1.0 h' log' is.1.1

@@ -1,5 +1,5 @@
 -- The world of a script in range is whole, and can make each of the script's calls.
-use Rattle.std.proofs.Common.{◌≡◌, ◌<◌, ◌≤◌, ℕ, zero, suc, List, [], ◌∷◌, length, map, get_or, max, arith, refl, sym, ap, ◌∙◌, subst}
+use Rattle.std.proofs.Common.{◌≡◌, ◌<◌, ◌≤◌, ℕ, zero, suc, List, [], ◌∷◌, length, map, get_or, arith, refl, sym, ap, ◌∙◌, subst}
 use Rattle.std.specs.List.{AllByRecursion}
 use Rattle.ktime.specs.declared.clock_id.ClockId.{ClockId}
 use Rattle.ktime.specs.declared.clock_id.ClockId.TheVariants as clocks
@@ -20,30 +20,30 @@ use Rattle.run_history.specs.Courses.{clocks_of}
 use Rattle.lane_run.specs.Worlds.{IsWhole, IsWorldOf, WorldOf, callback_of, decl_as, decl_of}
 use Rattle.std.proofs.lemmas.List.{length-map}
 
+-- what is declared over a timer is on its clock, and on a base that is there
 clock_kept : (kind : Kind) (clock : ClockId) → (decl_as kind clock).clock ≡ clock
 clock_kept (kinds.Raw callback) clock = refl
 clock_kept (kinds.Posix base) clock = refl
 clock_kept (kinds.Fd base) clock = refl
 
-base_there : (bases : ℕ) (kind : Kind) (clock : ClockId) → 0 < bases → IsKindInRange bases kind → (decl_as kind clock).base < bases
-base_there bases (kinds.Raw callback) clock some range = some
-base_there bases (kinds.Posix base) clock some range = range
-base_there bases (kinds.Fd base) clock some range = range
+base_there : {bases : ℕ} (kind : Kind) (clock : ClockId) → 0 < bases → IsKindInRange bases kind → (decl_as kind clock).base < bases
+base_there (kinds.Raw callback) clock some range = some
+base_there (kinds.Posix base) clock some range = range
+base_there (kinds.Fd base) clock some range = range
 
--- each timer is declared on its object's clock
-pub clocks_suit : (ds : List Declaration) (limit i : ℕ) (d : Decl) → i < length (map decl_of ds)
+clocks_suit : (ds : List Declaration) (limit i : ℕ) (d : Decl) → i < length (map decl_of ds)
     → (timer_at (openings (map (λ d. d.clock) ds) limit) i).declared ≡ (get_or (map decl_of ds) i d).clock
 clocks_suit [] limit i d less = absurd (omega (arith, less))
 clocks_suit (x ∷ ds) limit zero d less = sym (clock_kept x.kind x.clock)
 clocks_suit (x ∷ ds) limit (suc i) d less = clocks_suit ds limit i d (omega (arith, less))
 
--- each object's base is there
-pub bases_suit : (bases : ℕ) (ds : List Declaration) (i : ℕ) (d : Decl) → 0 < bases → AllByRecursion (λ x. IsKindInRange bases x.kind) ds
+bases_suit : {bases : ℕ} (ds : List Declaration) (i : ℕ) (d : Decl) → 0 < bases → AllByRecursion (λ x. IsKindInRange bases x.kind) ds
     → i < length (map decl_of ds) → (get_or (map decl_of ds) i d).base < bases
-bases_suit bases [] i d some range less = absurd (omega (arith, less))
-bases_suit bases (x ∷ ds) zero d some range less = base_there bases x.kind x.clock some range.0
-bases_suit bases (x ∷ ds) (suc i) d some range less = bases_suit bases ds i d some range.1 (omega (arith, less))
+bases_suit [] i d some range less = absurd (omega (arith, less))
+bases_suit (x ∷ ds) zero d some range less = base_there x.kind x.clock some range.0
+bases_suit (x ∷ ds) (suc i) d some range less = bases_suit ds i d some range.1 (omega (arith, less))
 
+-- each base that a callback asks for is there
 base_for : (bases : ℕ) (kind : Kind) → IsKindInRange bases kind → bases_for (callback_of kind) ≤ bases
 base_for bases (kinds.Raw callbacks.Once) range = omega arith
 base_for bases (kinds.Raw (callbacks.Every interval)) range = omega arith
@@ -52,36 +52,28 @@ base_for bases (kinds.Raw (callbacks.Starts ns base)) range = omega (arith, rang
 base_for bases (kinds.Posix base) range = omega arith
 base_for bases (kinds.Fd base) range = omega arith
 
--- each base that a callback asks for is there
-pub callbacks_suit : (bases : ℕ) (ds : List Declaration) → AllByRecursion (λ x. IsKindInRange bases x.kind) ds
+callbacks_suit : (bases : ℕ) (ds : List Declaration) → AllByRecursion (λ x. IsKindInRange bases x.kind) ds
     → bases_of (map (λ d. callback_of d.kind) ds) ≤ bases
 callbacks_suit bases [] range = omega arith
-callbacks_suit bases (x ∷ ds) range = most (bases_for (callback_of x.kind)) (bases_of (map (λ d. callback_of d.kind) ds)) bases
-    (base_for bases x.kind range.0) (callbacks_suit bases ds range.1)
-  where
-    most : (a b n : ℕ) → a ≤ n → b ≤ n → max a b ≤ n
-    most a b n x y = omega (arith, x, y)
+callbacks_suit bases (x ∷ ds) range = omega (arith, base_for bases x.kind range.0, callbacks_suit bases ds range.1)
 
 -- so the world of a script in range is whole
 pub whole_of : (s : Script) (x : WorldOf) → IsInRange s → IsWorldOf s x → IsWhole x
 whole_of s x range is =
-    let some : 0 < s.bases = omega (arith, range.bases.0) in
-    let many : length x.objects.decls ≡ length s.timers = ap length is.decls ∙ length-map s.timers decl_of in record {
+    let many : length x.objects.decls ≡ length s.timers = ap length is.decls ∙ length-map s.timers decl_of in
+    let bases = ap (λ (o : Opening). o.bases) is.timers in record {
       suits = record {
         many = ap (λ (o : Opening). length o.timers) is.timers ∙ length-map (clocks_of s) (λ clock. opening clock s.limit)
             ∙ length-map s.timers (λ d. d.clock) ∙ sym many;
         clocks = λ i h.
-            ap (λ (o : Opening). (timer_at o.timers i).declared) is.timers
-            ∙ clocks_suit s.timers s.limit i raw (subst (λ n. i < n) (ap length is.decls) h)
+            ap (λ (o : Opening). (timer_at o.timers i).declared) is.timers ∙ clocks_suit s.timers s.limit i raw (subst (λ n. i < n) (ap length is.decls) h)
             ∙ sym (ap (λ ds. (get_or ds i raw).clock) is.decls);
         bases = λ i h.
-            subst (λ n. (get_or x.objects.decls i raw).base < n) (sym (ap (λ (o : Opening). o.bases) is.timers))
-            (subst (λ ds. (get_or ds i raw).base < s.bases) (sym is.decls)
-            (bases_suit s.bases s.timers i raw some range.kinds (subst (λ n. i < n) (ap length is.decls) h)));
+            let less = bases_suit s.timers i raw (omega (arith, range.bases.0)) range.kinds (subst (λ n. i < n) (ap length is.decls) h) in
+            omega (arith, less, bases, ap (λ ds. (get_or ds i raw).base) is.decls);
       };
       callbacks = ap length is.callbacks ∙ length-map s.timers (λ d. callback_of d.kind) ∙ sym many;
-      bases = subst (λ n. bases_of x.callbacks ≤ n) (sym (ap (λ (o : Opening). o.bases) is.timers))
-          (subst (λ cs. bases_of cs ≤ s.bases) (sym is.callbacks) (callbacks_suit s.bases s.timers range.kinds));
+      bases = omega (arith, bases, ap bases_of is.callbacks, callbacks_suit s.bases s.timers range.kinds);
     }
   where
     raw : Decl

@@ -26,75 +26,48 @@ use Rattle.lane_run.proofs.PartLists.{each_weaker}
 use Rattle.script_text.specs.Objects.{kind_of}
 use Rattle.script_text.specs.declared.script.Callback.{Callback}
 
--- there are as many timers and objects in the world as the script declares, and as many bases
-record Counts (s : Script) (x : WorldOf) : Type 0 where
-  timers : length x.timers.about.timers ≡ length s.timers
-  decls : length x.objects.decls ≡ length s.timers
-  bases : x.timers.about.bases ≡ s.bases
+module _ {s : Script} {x : WorldOf} (range : IsInRange s) (is : IsWorldOf s x) where
+  -- there are as many objects, timers and bases in the world as the script declares
+  object_there : {n : ℕ} → n < length s.timers → n < length x.objects.decls
+  object_there {n} here = subst (λ k. n < k) (sym (ap length is.decls ∙ length-map s.timers decl_of)) here
 
-counts : (s : Script) (x : WorldOf) → IsInRange s → IsWorldOf s x → Counts s x
-counts s x range is =
-    let many : length x.objects.decls ≡ length s.timers = ap length is.decls ∙ length-map s.timers decl_of in record {
-      timers = (whole_of s x range is).suits.many ∙ many;
-      decls = many;
-      bases = ap (λ (o : Opening). o.bases) is.timers;
-    }
+  timer_there : {n : ℕ} → n < length s.timers → n < length x.timers.about.timers
+  timer_there {n} here = subst (λ k. n < k) (sym (whole_of s x range is).suits.many) (object_there here)
 
--- what holds of each kind that a form's call may be on holds of the object's
-kind_of_object : (s : Script) (x : WorldOf) → IsWorldOf s x → (t : ℕ) (Q : object_kind.Kind → Type 0) (form : Form)
-    → ((c : Callback) → suits form (kinds.Raw c) ≡ true → Q over.Raw) → ((b : ℕ) → suits form (kinds.Posix b) ≡ true → Q over.Posix)
-    → ((b : ℕ) → suits form (kinds.Fd b) ≡ true → Q over.Fd) → HasTimerFor s.timers t form → Q (decl_at x.objects t).kind
-kind_of_object s x is t Q form raw posix fd has = subst Q (sym (declared_over s x t is)) (by_kind (kind_of s t) has.1)
-  where
-    by_kind : (k : Kind) → suits form k ≡ true → Q (over_of k)
-    by_kind (kinds.Raw c) e = raw c e
-    by_kind (kinds.Posix b) e = posix b e
-    by_kind (kinds.Fd b) e = fd b e
+  base_there : {n : ℕ} → n < s.bases → n < x.timers.about.bases
+  base_there {n} here = subst (λ k. n < k) (sym (ap (λ (o : Opening). o.bases) is.timers)) here
 
-pub can_call : (s : Script) (x : WorldOf) → IsInRange s → IsWorldOf s x → (c : Call) → IsCallInRange s.bases s.timers c → CanCall x c
-can_call s x range is (calls.Start timer modes.Keep ns base) ok = absurd ok
-can_call s x range is (calls.Start timer (modes.Abs) ns base) ok =
-    let n = counts s x range is in (subst (λ n. timer < n) (sym n.timers) ok.0.0, subst (λ n. base < n) (sym n.bases) ok.1)
-can_call s x range is (calls.Start timer (modes.Rel) ns base) ok =
-    let n = counts s x range is in (subst (λ n. timer < n) (sym n.timers) ok.0.0, subst (λ n. base < n) (sym n.bases) ok.1)
-can_call s x range is (calls.Cancel timer) ok = subst (λ n. timer < n) (sym (counts s x range is).timers) ok.0
-can_call s x range is (calls.Peek timer) ok = subst (λ n. timer < n) (sym (counts s x range is).timers) ok.0
-can_call s x range is (calls.Expire base budget) ok = (subst (λ n. base < n) (sym (counts s x range is).bases) ok.0, ok.1)
-can_call s x range is (calls.Clock write) ok = tt
-can_call s x range is (calls.Settime timer flags value interval) ok = (
-  subst (λ n. timer < n) (sym (counts s x range is).decls) ok.0,
-  kind_of_object s x is timer (λ k. k ≢ over.Raw) forms.Settime (λ c e. absurd cc) (λ b e raw. absurd cc) (λ b e raw. absurd cc) ok,
-)
-can_call s x range is (calls.Gettime timer) ok = (
-  subst (λ n. timer < n) (sym (counts s x range is).decls) ok.0,
-  kind_of_object s x is timer (λ k. k ≢ over.Raw) forms.Gettime (λ c e. absurd cc) (λ b e raw. absurd cc) (λ b e raw. absurd cc) ok,
-)
-can_call s x range is (calls.Accept timer) ok = (
-  subst (λ n. timer < n) (sym (counts s x range is).decls) ok.0,
-  kind_of_object s x is timer (λ k. k ≡ over.Posix) forms.Accept (λ c e. absurd cc) (λ b e. refl) (λ b e. absurd cc) ok,
-)
-can_call s x range is (calls.Overrun timer) ok = (
-  subst (λ n. timer < n) (sym (counts s x range is).decls) ok.0,
-  kind_of_object s x is timer (λ k. k ≡ over.Posix) forms.Overrun (λ c e. absurd cc) (λ b e. refl) (λ b e. absurd cc) ok,
-)
-can_call s x range is (calls.Read timer len) ok = (
-  subst (λ n. timer < n) (sym (counts s x range is).decls) ok.0,
-  kind_of_object s x is timer (λ k. k ≡ over.Fd) forms.Read (λ c e. absurd cc) (λ b e. absurd cc) (λ b e. refl) ok,
-)
-can_call s x range is (calls.Readable timer) ok = (
-  subst (λ n. timer < n) (sym (counts s x range is).decls) ok.0,
-  kind_of_object s x is timer (λ k. k ≡ over.Fd) forms.Readable (λ c e. absurd cc) (λ b e. absurd cc) (λ b e. refl) ok,
-)
+  -- what holds of each kind that a form's call may be on holds of the object's
+  on_object : (t : ℕ) (form : Form) (Q : object_kind.Kind → Type 0) → HasTimerFor s.timers t form
+      → ((c : Callback) → suits form (kinds.Raw c) ≡ true → Q over.Raw) → ((b : ℕ) → suits form (kinds.Posix b) ≡ true → Q over.Posix)
+      → ((b : ℕ) → suits form (kinds.Fd b) ≡ true → Q over.Fd) → (t < length x.objects.decls) × Q (decl_at x.objects t).kind
+  on_object t form Q has raw posix fd = (object_there has.0, subst Q (sym (declared_over s x t is)) (by_kind (kind_of s t) has.1))
+    where
+      by_kind : (k : Kind) → suits form k ≡ true → Q (over_of k)
+      by_kind (kinds.Raw c) e = raw c e
+      by_kind (kinds.Posix b) e = posix b e
+      by_kind (kinds.Fd b) e = fd b e
 
--- what is known of all calls is known of those of each round
-calls_at : (P : LaneCall → Type 0) (rs : List Round) (i : ℕ) (r : Round) → i < length rs → AllByRecursion P (all_calls rs)
-    → AllByRecursion P (get_or rs i r).calls
-calls_at P [] i r here all = absurd (omega (arith, here))
-calls_at P (x ∷ rs) zero r here all = All-front P x.calls (all_calls rs) all
-calls_at P (x ∷ rs) (suc i) r here all = calls_at P rs i r (omega (arith, here)) (All-back P x.calls (all_calls rs) all)
+  can_call : (c : Call) → IsCallInRange s.bases s.timers c → CanCall x c
+  can_call (calls.Start timer modes.Keep ns base) ok = absurd ok
+  can_call (calls.Start timer (modes.Abs) ns base) ok = (timer_there ok.0.0, base_there ok.1)
+  can_call (calls.Start timer (modes.Rel) ns base) ok = (timer_there ok.0.0, base_there ok.1)
+  can_call (calls.Cancel timer) ok = timer_there ok.0
+  can_call (calls.Peek timer) ok = timer_there ok.0
+  can_call (calls.Expire base budget) ok = (base_there ok.0, ok.1)
+  can_call (calls.Clock write) ok = tt
+  can_call (calls.Settime timer flags value interval) ok =
+      on_object timer forms.Settime (λ k. k ≢ over.Raw) ok (λ c e. absurd cc) (λ b e raw. absurd cc) (λ b e raw. absurd cc)
+  can_call (calls.Gettime timer) ok =
+      on_object timer forms.Gettime (λ k. k ≢ over.Raw) ok (λ c e. absurd cc) (λ b e raw. absurd cc) (λ b e raw. absurd cc)
+  can_call (calls.Accept timer) ok = on_object timer forms.Accept (λ k. k ≡ over.Posix) ok (λ c e. absurd cc) (λ b e. refl) (λ b e. absurd cc)
+  can_call (calls.Overrun timer) ok = on_object timer forms.Overrun (λ k. k ≡ over.Posix) ok (λ c e. absurd cc) (λ b e. refl) (λ b e. absurd cc)
+  can_call (calls.Read timer len) ok = on_object timer forms.Read (λ k. k ≡ over.Fd) ok (λ c e. absurd cc) (λ b e. absurd cc) (λ b e. refl)
+  can_call (calls.Readable timer) ok = on_object timer forms.Readable (λ k. k ≡ over.Fd) ok (λ c e. absurd cc) (λ b e. absurd cc) (λ b e. refl)
 
-pub round_can : (s : Script) (x : WorldOf) → IsInRange s → IsWorldOf s x → (i : ℕ) (r : Round) → i < length s.rounds
-    → AllByRecursion (λ (c : LaneCall). CanCall x c.call) (get_or s.rounds i r).calls
-round_can s x range is i r here =
-    each_weaker (get_or s.rounds i r).calls (λ c. can_call s x range is c.call)
-    (calls_at (λ (c : LaneCall). IsCallInRange s.bases s.timers c.call) s.rounds i r here range.calls)
+  -- so can those of each round
+  pub round_can : (rs : List Round) (i : ℕ) (r : Round) → i < length rs → AllByRecursion (λ (c : LaneCall). IsCallInRange s.bases s.timers c.call) (all_calls rs)
+      → AllByRecursion (λ (c : LaneCall). CanCall x c.call) (get_or rs i r).calls
+  round_can [] i r here all = absurd (omega (arith, here))
+  round_can (y ∷ rs) zero r here all = each_weaker y.calls (λ c. can_call c.call) (All-front _ y.calls (all_calls rs) all)
+  round_can (y ∷ rs) (suc i) r here all = round_can rs i r (omega (arith, here)) (All-back _ y.calls (all_calls rs) all)

@@ -1,5 +1,5 @@
 -- What all lanes leave of a round, and of rounds in turn, from the first passes on.
-use Rattle.std.proofs.Common.{◌≡◌, ◌≤◌, ◌<◌, ℕ, ◌+◌, suc, get_or, replicate, List, [], ◌∷◌, ◌++◌, length, length-append, map, arith, refl, sym, ap, ◌∙◌, subst, ⊎_elim, zero, true, false, nat_le}
+use Rattle.std.proofs.Common.{◌≡◌, ◌≤◌, ◌<◌, ℕ, ◌+◌, suc, get_or, replicate, List, [], ◌∷◌, ◌++◌, length, length-append, map, arith, refl, sym, ap, ◌∙◌, subst, ⊎_elim, zero, true, false}
 use Rattle.std.specs.List.{AllByRecursion}
 use Rattle.std.proofs.lemmas.Bool.{cases_Bool, cases_lt}
 use Rattle.std.proofs.lemmas.List.{get_or-replicate, get_or_past, length-replicate}
@@ -17,18 +17,17 @@ use Rattle.lane_run.specs.Rounds.{BeginsRound, calling_from, has_calls, HasSplit
 use Rattle.lane_run.specs.Worlds.{AreFirst, IsWhole, IsWorldOf, WorldOf}
 use Rattle.lane_run.specs.declared.lane.Lane.{Lane}
 use Rattle.lane_run.specs.declared.world.WorldPass.{WorldPass}
-use Rattle.lane_run.proofs.CallingLanes.{calls_within, in_round, many_calls, no_calls, round_first, count_most, lane_and_behind, many-counts}
-use Rattle.lane_run.proofs.Chains.{up_to_later, up_to_push}
+use Rattle.lane_run.proofs.CallingLanes.{calls_within, in_round, many_calls, no_calls, round_first, lane_and_behind, many_from, many_most}
+use Rattle.lane_run.proofs.Chains.{up_to_later, up_to_push, no_less_same}
 use Rattle.lane_run.proofs.LaneKept.{KeepsEach, fits_lane_behind}
-use Rattle.lane_run.proofs.LaneRound.{IsKeptOf, kept_later, kept_pushed, LaneSoFar, leaves_round}
-use Rattle.lane_run.proofs.LanesTaken.{AreLeftSoFar, left_taken, put, put_at, LeavesRound}
+use Rattle.lane_run.proofs.LaneRound.{IsKeptOf, kept_later, kept_pushed, LaneSoFar, leaves_round, MakesInRound}
+use Rattle.lane_run.proofs.LanesTaken.{AreLeftSoFar, left_taken, put, put_at}
 use Rattle.lane_run.proofs.NotesJoined.{are_later, none_noted}
 use Rattle.lane_run.proofs.SeenMore.{more_split, no_less}
 use Rattle.lane_run.proofs.Tallies.{tallies_split, tallies_none}
-use Rattle.pass_names.specs.Counts.{count}
-use Rattle.lane_notes.specs.Notes.{NotesOf}
 use Rattle.run_history.specs.Runs.{course_of}
 use Rattle.script_text.specs.Actions.{also}
+use Rattle.lane_run.specs.Called.{lane_of}
 
 -- the number of a lane
 abbrev pub name_of : Lane → ℕ
@@ -43,121 +42,7 @@ pub record AreTaken (s : Script) (past : List Seen) (was : ℕ → LaneSoFar) (r
   pub left : AreLeftSoFar s past q now of
   pub free : (j : ℕ) → j < a → of j ≡ was j
   pub taken : (j : ℕ) → a ≤ j → (of j).rest ≡ rest j
-  pub few : length now.notes.writes ≤ length old.notes.writes + count (λ c. nat_le a c.lane) r.calls
-
-module _ {s : Script} {x : WorldOf} (each : KeepsEach s x) (world : IsWorldOf s x) (range : IsInRange s) (whole : IsWhole x) (before : List Seen)
-    (base : WorldPass) (was : ℕ → LaneSoFar) (r : Round) (rest : ℕ → List CallInRound)
-    (calls : (j : ℕ) → (was j).rest ≡ in_round (length before) (lane_calls j r) ++ rest j) where
-  -- a lane of this number leaves this of the round
-  abbrev Leaves : ℕ → Lane → Type 0
-  Leaves j lane = LeavesRound s x before base (was j).done (rest j) j lane (many_calls r j) × (j < s.lanes)
-
-  -- each does that has calls in it
-  each_leaves : (left : LeftOf) → AreLeftSoFar s before base left was → (begun ended : List Lane)
-      → length ended ≡ length begun → AllByRecursion (BeginsRound base left) begun → AllByRecursion (IsLaneOf x) begun
-      → ((k : ℕ) (d : Lane) → k < length begun → MakesLane x r (get_or begun k d) (get_or ended k d))
-      → AllByRecursion (λ l. Leaves (name_of l) l) ended × (map name_of ended ≡ map name_of begun)
-  each_leaves left so_far [] [] many begins lanes made = (tt, refl)
-  each_leaves left so_far [] (e ∷ ended) many begins lanes made = absurd (omega (arith, many))
-  each_leaves left so_far (b ∷ begun) [] many begins lanes made = absurd (omega (arith, many))
-  each_leaves left so_far (b ∷ begun) (e ∷ ended) many begins lanes made =
-      let makes : MakesLane x r b e = made 0 b (omega arith) in
-      let name = b.label.lane in
-      let those = each_leaves left so_far begun ended (omega (arith, many)) begins.1 lanes.1 (λ k d less. made (suc k) d (omega (arith, less))) in
-      let its = leaves_round each world range whole before base (was name).done left r (rest name) b e
-      (kept_pushed (subst (λ ps. IsKeptOf s before base name (record { done = (was name).done; rest = ps })) (calls name) (so_far.kept name)))
-      (so_far.given name) begins.0 lanes.0 makes in (
-        (
-          subst (λ j. Leaves j e) (sym makes.name) (
-            record {
-              all = its.all;
-              answers = its.answers;
-              few = omega (arith, its.few, ap (λ (ns : NotesOf). length ns.writes) begins.0.notes);
-              is = its.is;
-            },
-            subst (λ k. name < k) so_far.lanes begins.0.within,
-          ),
-          those.0,
-        ),
-        ap (λ j. j ∷ map name_of ended) makes.name ∙ ap (λ js. name ∷ js) those.1,
-      )
-
-  -- a lane without calls in the round has as many left behind it
-  no_more : (j : ℕ) → has_calls r j ≡ false → (was j).rest ≡ rest j
-  no_more j none = calls j ∙ ap (λ cs. in_round (length before) cs ++ rest j) (no_calls r j none)
-
-  -- past a lane without calls in the round
-  past_lane : (left : LeftOf) (a : ℕ) (q : WorldPass) (now : LeftOf) → has_calls r a ≡ false
-      → AreTaken s (before ++ seen_by base ∷ []) was rest r left (a + 1) q now → AreTaken s (before ++ seen_by base ∷ []) was rest r left a q now
-  past_lane left a q now none those = record {
-    of = those.of;
-    left = those.left;
-    free = λ j less. those.free j (omega (arith, less));
-    taken = λ j le. ⊎_elim (λ (less : a < j). those.taken j (omega (arith, less)))
-        (λ (least : j ≤ a). subst (λ i. (those.of i).rest ≡ rest i) (omega (arith, le, least))
-        (ap (λ (d : LaneSoFar). d.rest) (those.free a (omega arith)) ∙ no_more a none)) (cases_lt a j);
-    few = omega (arith, those.few, lane_and_behind a r.calls);
-  }
-
-  -- a lane is taken in
-  one_lane : (left : LeftOf) (a : ℕ) (m q : WorldPass) (mid : LeftOf) (lane : Lane) → name_of lane ≡ a → Leaves (name_of lane) lane → TakesInPass m lane.pass q
-      → AreTaken s (before ++ seen_by base ∷ []) was rest r left (a + 1) m mid
-      → AreTaken s (before ++ seen_by base ∷ []) was rest r left a q (with_lane mid lane)
-  one_lane left a m q mid lane here its takes those =
-      let name = name_of lane in
-      let leaves = subst (λ (d : LaneSoFar). LeavesRound s x before base d.done (rest name) name lane (many_calls r name))
-      (sym (those.free name (omega (arith, here)))) its.0 in
-      let end : LaneSoFar = record { done = leaves.all; rest = rest name } in
-      record {
-        of = put those.of name end;
-        left = left_taken those.of lane leaves its.1 takes those.left;
-        free = λ j less. put_at (λ e. e ≡ was j) those.of name end j (λ is. absurd (omega (arith, less, is, here)))
-            (λ other. those.free j (omega (arith, less)));
-        taken = λ j le. put_at (λ (e : LaneSoFar). e.rest ≡ rest j) those.of name end j (λ is. ap rest (sym is))
-            (λ other. ⊎_elim (λ (less : a < j). those.taken j (omega (arith, less))) (λ (least : j ≤ a). absurd (other (omega (arith, here, le, least))))
-            (cases_lt a j));
-        few = omega (
-          arith,
-          those.few,
-          its.0.few,
-          ap (many_calls r) here,
-          many-counts r a,
-          lane_and_behind a r.calls,
-          length-append mid.notes.writes lane.notes.writes,
-        );
-      }
-
-  -- all of them, the last one first
-  lanes_taken : (split : WorldPass) (left : LeftOf) → AreLeftSoFar s (before ++ seen_by base ∷ []) split left was
-      → AllByRecursion (λ c. c.lane < s.lanes) r.calls → (n a : ℕ) (lanes : List Lane) (q : WorldPass) (now : LeftOf) → s.lanes ≤ a + n
-      → AllByRecursion (λ l. Leaves (name_of l) l) lanes → map name_of lanes ≡ calling_from r a n → TakesInLanes split left lanes q now
-      → AreTaken s (before ++ seen_by base ∷ []) was rest r left a q now
-  lanes_taken split left so_far callers zero a (lane ∷ lanes) q now enough leaves names takes = absurd (cc)
-  lanes_taken split left so_far callers zero a [] q now enough leaves names takes = record {
-    of = was;
-    left = subst (λ k. AreLeftSoFar s (before ++ seen_by base ∷ []) k now was) (sym takes.0)
-        (subst (λ k. AreLeftSoFar s (before ++ seen_by base ∷ []) split k was) (sym takes.1) so_far);
-    free = λ j less. refl;
-    taken = λ j le. no_more j (⊎_elim (λ has. absurd (omega (arith, le, enough, calls_within j s.lanes r.calls callers has))) (λ none. none)
-        (cases_Bool (has_calls r j)));
-    few = omega (arith, ap (λ (k : LeftOf). length k.notes.writes) takes.1);
-  }
-  lanes_taken split left so_far callers (suc n) a [] q now enough leaves names takes =
-      elim (has_calls r a) as (λ b. has_calls r a ≡ b → [] ≡ also b a (calling_from r (a + 1) n)
-      → AreTaken s (before ++ seen_by base ∷ []) was rest r left a q now) [
-        | true ↦ λ has names. absurd (cc)
-        | false ↦ λ none names. past_lane left a q now none
-            (lanes_taken split left so_far callers n (a + 1) [] q now (omega (arith, enough)) leaves names takes)
-      ] refl names
-  lanes_taken split left so_far callers (suc n) a (lane ∷ lanes) q now enough leaves names takes =
-      elim (has_calls r a) as (λ b. has_calls r a ≡ b → name_of lane ∷ map name_of lanes ≡ also b a (calling_from r (a + 1) n)
-      → AreTaken s (before ++ seen_by base ∷ []) was rest r left a q now) [
-        | true ↦ λ has names. subst (AreTaken s (before ++ seen_by base ∷ []) was rest r left a q) (sym takes.4)
-            (one_lane left a takes.0 q takes.1 lane (cc) leaves.0 takes.3
-            (lanes_taken split left so_far callers n (a + 1) lanes takes.0 takes.1 (omega (arith, enough)) leaves.1 (cc) takes.2))
-        | false ↦ λ none names. past_lane left a q now none
-            (lanes_taken split left so_far callers n (a + 1) (lane ∷ lanes) q now (omega (arith, enough)) leaves names takes)
-      ] refl names
+  pub few : length now.notes.writes ≤ length old.notes.writes + many_from r a
 
 -- when the first passes have split off those of the lanes
 round_begun : {s : Script} {past : List Seen} {p q : WorldPass} {left : LeftOf} {of : ℕ → LaneSoFar} → HasSplit p q → AreLeftSoFar s past p left of
@@ -172,6 +57,103 @@ round_begun {past = past} {p = p} split so_far =
       rise = up_to_later (past ++ seen_by p ∷ []) (no_less more) (up_to_push past (seen_by p) so_far.rise);
     }
 
+module _ {s : Script} {x : WorldOf} (each : KeepsEach s x) (world : IsWorldOf s x) (range : IsInRange s) (whole : IsWhole x) (before : List Seen)
+    (base : WorldPass) (left : LeftOf) (was : ℕ → LaneSoFar) (so_far : AreLeftSoFar s before base left was) (r : Round)
+    (callers : AllByRecursion (λ c. c.lane < s.lanes) r.calls) (rest : ℕ → List CallInRound)
+    (calls : (j : ℕ) → (was j).rest ≡ in_round (length before) (lane_calls j r) ++ rest j) where
+  -- a lane of this number leaves this of the round
+  abbrev Leaves : ℕ → Lane → Type 0
+  Leaves j l =
+      MakesInRound s x before base (was j).done j (lane_of l) (was j).done (rest j) l.answers.items (many_calls r j) × (j < s.lanes)
+
+  -- each does that has calls in it
+  each_leaves : (begun ended : List Lane) → length ended ≡ length begun → AllByRecursion (BeginsRound base left) begun
+      → AllByRecursion (IsLaneOf x) begun → ((k : ℕ) (d : Lane) → k < length begun → MakesLane x r (get_or begun k d) (get_or ended k d))
+      → AllByRecursion (λ l. Leaves (name_of l) l) ended × (map name_of ended ≡ map name_of begun)
+  each_leaves [] [] many begins lanes made = (tt, refl)
+  each_leaves [] (e ∷ ended) many begins lanes made = absurd (omega (arith, many))
+  each_leaves (b ∷ begun) [] many begins lanes made = absurd (omega (arith, many))
+  each_leaves (b ∷ begun) (e ∷ ended) many begins lanes made =
+      let makes : MakesLane x r b e = made 0 b (omega arith) in
+      let name = b.label.lane in
+      let those = each_leaves begun ended (omega (arith, many)) begins.1 lanes.1 (λ k d less. made (suc k) d (omega (arith, less))) in
+      let kept = subst (λ ps. IsKeptOf s before base name (record { done = (was name).done; rest = ps })) (calls name) (so_far.kept name) in
+      let its = leaves_round each world range whole before base (was name).done (rest name) (kept_pushed kept) (so_far.given name) begins.0 lanes.0 makes in (
+        (subst (λ j. Leaves j e) (sym makes.name) (its, subst (λ k. name < k) so_far.lanes begins.0.within), those.0),
+        ap (λ j. j ∷ map name_of ended) makes.name ∙ ap (λ js. name ∷ js) those.1,
+      )
+
+  -- a lane without calls in the round has as many left behind it
+  no_more : (j : ℕ) → has_calls r j ≡ false → (was j).rest ≡ rest j
+  no_more j none = calls j ∙ ap (λ cs. in_round (length before) cs ++ rest j) (no_calls r j none)
+
+  abbrev Taken : ℕ → WorldPass → LeftOf → Type 0
+  Taken a q now = AreTaken s (before ++ seen_by base ∷ []) was rest r left a q now
+
+  -- past a lane without calls in the round
+  past_lane : {a : ℕ} {q : WorldPass} {now : LeftOf} → has_calls r a ≡ false → Taken (a + 1) q now → Taken a q now
+  past_lane {a} none those = record {
+    of = those.of;
+    left = those.left;
+    free = λ j less. those.free j (omega (arith, less));
+    taken = λ j le. ⊎_elim (λ (less : a < j). those.taken j (omega (arith, less)))
+        (λ (least : j ≤ a). subst (λ i. (those.of i).rest ≡ rest i) (omega (arith, le, least))
+        (ap (λ (d : LaneSoFar). d.rest) (those.free a (omega arith)) ∙ no_more a none)) (cases_lt a j);
+    few = omega (arith, those.few, lane_and_behind r a);
+  }
+
+  -- a lane is taken in
+  one_lane : {a : ℕ} {m q : WorldPass} {mid : LeftOf} (lane : Lane) → name_of lane ≡ a → Leaves (name_of lane) lane → TakesInPass m lane.pass q
+      → Taken (a + 1) m mid → Taken a q (with_lane mid lane)
+  one_lane {a} {mid = mid} lane here its takes those =
+      let name = name_of lane in
+      let leaves = (subst (λ (d : LaneSoFar).
+      MakesInRound s x before base d.done name (lane_of lane) d.done (rest name) lane.answers.items (many_calls r name))
+      (sym (those.free name (omega (arith, here)))) its.0) in
+      let end : LaneSoFar = record { done = leaves.all; rest = rest name } in
+      record {
+        of = put those.of name end;
+        left = left_taken those.of lane leaves its.1 takes those.left;
+        free = λ j less. put_at (λ e. e ≡ was j) those.of name end j (λ is. absurd (omega (arith, less, is, here)))
+            (λ other. those.free j (omega (arith, less)));
+        taken = λ j le. put_at (λ (e : LaneSoFar). e.rest ≡ rest j) those.of name end j (λ is. ap rest (sym is))
+            (λ other. those.taken j (omega (arith, le, here, other)));
+        few = omega (
+          arith,
+          those.few,
+          its.0.few,
+          ap (many_calls r) here,
+          lane_and_behind r a,
+          length-append mid.notes.writes lane.notes.writes,
+        );
+      }
+
+  -- all of them, the last one first
+  lanes_taken : (split : WorldPass) → AreLeftSoFar s (before ++ seen_by base ∷ []) split left was → (n a : ℕ) (lanes : List Lane) (q : WorldPass)
+      (now : LeftOf) → s.lanes ≤ a + n → AllByRecursion (λ l. Leaves (name_of l) l) lanes → map name_of lanes ≡ calling_from r a n
+      → TakesInLanes split left lanes q now → Taken a q now
+  lanes_taken split begun zero a (lane ∷ lanes) q now enough leaves names takes = absurd (cc)
+  lanes_taken split begun zero a [] q now enough leaves names takes = record {
+    of = was;
+    left = subst (λ k. AreLeftSoFar s (before ++ seen_by base ∷ []) k now was) (sym takes.0)
+        (subst (λ k. AreLeftSoFar s (before ++ seen_by base ∷ []) split k was) (sym takes.1) begun);
+    free = λ j less. refl;
+    taken = λ j le. no_more j (⊎_elim (λ has. absurd (omega (arith, le, enough, calls_within j s.lanes r.calls callers has))) (λ none. none)
+        (cases_Bool (has_calls r j)));
+    few = omega (arith, ap (λ (k : LeftOf). length k.notes.writes) takes.1);
+  }
+  lanes_taken split begun (suc n) a [] q now enough leaves names takes =
+      elim (has_calls r a) as (λ b. has_calls r a ≡ b → [] ≡ also b a (calling_from r (a + 1) n) → Taken a q now) [
+        | true ↦ λ has names. absurd (cc)
+        | false ↦ λ none names. past_lane none (lanes_taken split begun n (a + 1) [] q now (omega (arith, enough)) leaves names takes)
+      ] refl names
+  lanes_taken split begun (suc n) a (lane ∷ lanes) q now enough leaves names takes =
+      elim (has_calls r a) as (λ b. has_calls r a ≡ b → name_of lane ∷ map name_of lanes ≡ also b a (calling_from r (a + 1) n) → Taken a q now) [
+        | true ↦ λ has names. subst (Taken a q) (sym takes.4) (one_lane lane (cc) leaves.0 takes.3
+            (lanes_taken split begun n (a + 1) lanes takes.0 takes.1 (omega (arith, enough)) leaves.1 (cc) takes.2))
+        | false ↦ λ none names. past_lane none (lanes_taken split begun n (a + 1) (lane ∷ lanes) q now (omega (arith, enough)) leaves names takes)
+      ] refl names
+
 -- ---- rounds in turn
 
 -- what all lanes have left when some rounds are over, of so many calls; these are left of each lane
@@ -183,31 +165,31 @@ pub record AreAllLeft (s : Script) (rest : ℕ → List CallInRound) (left : Lef
 
 module _ {s : Script} {x : WorldOf} (each : KeepsEach s x) (world : IsWorldOf s x) (range : IsInRange s) (whole : IsWhole x) where
   -- law: a round
-  round_left : (before : List Seen) (p : WorldPass) (left : LeftOf) (of : ℕ → LaneSoFar) (r : Round) (rs : List Round) (q : WorldPass) (now : LeftOf)
+  round_left : {before : List Seen} {p : WorldPass} {left : LeftOf} {of : ℕ → LaneSoFar} {r : Round} (rs : List Round) {q : WorldPass} {now : LeftOf}
       → AreLeftSoFar s before p left of → ((j : ℕ) → (of j).rest ≡ calls_from j (length before) (r ∷ rs))
       → AllByRecursion (λ c. c.lane < s.lanes) r.calls → MakesRound x r p left q now
       → AreAllLeft s (λ j. calls_from j (length before + 1) rs) left (length r.calls) (before ++ seen_by p ∷ []) q now
-  round_left before p left of r rs q now so_far calls callers makes =
+  round_left {before} {p} {left} {of} {r} rs {q} {now} so_far calls callers makes =
       let rest : ℕ → List CallInRound = λ j. calls_from j (length before + 1) rs in
       let firsts : (j : ℕ) → (of j).rest ≡ in_round (length before) (lane_calls j r) ++ rest j =
       λ j. calls j ∙ round_first j (length before) r rs in
-      let those = each_leaves each world range whole before p of r rest firsts left so_far makes.begun makes.ended makes.as_many
+      let those = each_leaves each world range whole before p left of so_far r callers rest firsts makes.begun makes.ended makes.as_many
       (recursion_from_All (BeginsRound p left) makes.begun makes.begins) (recursion_from_All (IsLaneOf x) makes.begun makes.of) makes.made in
-      let taken = lanes_taken each world range whole before p of r rest firsts makes.split left (round_begun makes.main so_far) callers
+      let taken = lanes_taken each world range whole before p left of so_far r callers rest firsts makes.split (round_begun makes.main so_far)
       (length left.answers) 0 makes.ended q now (omega (arith, so_far.lanes)) those.0 (those.1 ∙ makes.lanes) makes.taken in
       record {
         of = taken.of;
         all = taken.left;
         behind = λ j. taken.taken j (omega arith);
-        few = omega (arith, taken.few, count_most (λ (c : LaneCall). nat_le 0 c.lane) r.calls);
+        few = omega (arith, taken.few, many_most r 0);
       }
 
   -- law: rounds in turn
-  pub rounds_left : (rs : List Round) (before : List Seen) (p : WorldPass) (left : LeftOf) (of : ℕ → LaneSoFar) (q : WorldPass) (now : LeftOf)
+  pub rounds_left : (rs : List Round) (before : List Seen) {p : WorldPass} {left : LeftOf} {of : ℕ → LaneSoFar} {q : WorldPass} {now : LeftOf}
       → AreLeftSoFar s before p left of → ((j : ℕ) → (of j).rest ≡ calls_from j (length before) rs)
       → AllByRecursion (λ c. c.lane < s.lanes) (all_calls rs) → MakesRounds x rs p left q now
       → (past : List Seen) × AreAllLeft s (λ j. []) left (length (all_calls rs)) past q now
-  rounds_left [] before p left of q now so_far calls callers makes = (
+  rounds_left [] before {p} {of = of} {now = now} so_far calls callers makes = (
     before,
     record {
       of = of;
@@ -216,10 +198,9 @@ module _ {s : Script} {x : WorldOf} (each : KeepsEach s x) (world : IsWorldOf s 
       few = omega (arith, ap (λ (k : LeftOf). length k.notes.writes) makes.1);
     },
   )
-  rounds_left (r ∷ rs) before p left of q now so_far calls callers makes =
-      let one = round_left before p left of r rs makes.0 makes.1 so_far calls
-      (All-front (λ (c : LaneCall). c.lane < s.lanes) r.calls (all_calls rs) callers) makes.2 in
-      let others = rounds_left rs (before ++ seen_by p ∷ []) makes.0 makes.1 one.of q now one.all
+  rounds_left (r ∷ rs) before {p} so_far calls callers makes =
+      let one = round_left rs so_far calls (All-front (λ (c : LaneCall). c.lane < s.lanes) r.calls (all_calls rs) callers) makes.2 in
+      let others = rounds_left rs (before ++ seen_by p ∷ []) one.all
       (λ j. one.behind j ∙ ap (λ n. calls_from j n rs) (sym (length-append before (seen_by p ∷ []))))
       (All-back (λ (c : LaneCall). c.lane < s.lanes) r.calls (all_calls rs) callers) makes.3 in (
         others.0,
@@ -256,5 +237,5 @@ left_first s {p = p} first = record {
   };
   are = none_noted (λ c g at. absurd (let none = at.1 in cc));
   tallies = tallies_none (ap (λ k. k.mine) first.timers) (ap (λ v. v.pass.mine) first.objects) (ap (λ v. v.pass.mine) first.clock);
-  rise = tt;
+  rise = λ round. no_less_same;
 }

@@ -1,13 +1,15 @@
 -- Lanes that are taken in one after another, the last one first; and rounds in turn.
-use Rattle.std.proofs.Common.{◌≡◌, ◌<◌, ◌+◌, ◌-◌, ℕ, zero, suc, Bool, true, false, List, [], ◌∷◌, ◌++◌, refl, sym, ap, ◌∙◌, subst, arith}
-use Rattle.std.specs.Prelude.{All}
+use Rattle.std.proofs.Common.{length, get_or, ◌≡◌, ◌<◌, ◌+◌, ◌-◌, ℕ, suc, Bool, true, false, List, [], ◌∷◌, ◌++◌, refl, sym, ap, ◌∙◌, subst, arith}
+use Rattle.std.specs.Prelude.{All, Some}
+use Rattle.std.proofs.lemmas.List.Elements.{All-cons, All-pop}
+use Rattle.lane_run.proofs.Mains.{main_takes}
 use Rattle.std.proofs.lemmas.List.{append-nil, append_assoc}
 use Rattle.script_text.specs.Actions.{also}
 use Rattle.script_text.specs.declared.script.Round.{Round}
 use Rattle.lane_run.specs.declared.lane.Lane.{Lane}
 use Rattle.lane_run.specs.declared.world.WorldPass.{WorldPass}
-use Rattle.lane_run.specs.Rounds.{LeftOf, MakesRound, MakesRounds, TakesInLanes, TakesInPass, calling_from, has_calls, with_lane}
-use Rattle.lane_run.specs.Worlds.{WorldOf}
+use Rattle.lane_run.specs.Rounds.{IsLaneOf, IsMain, LeftOf, MakesRound, MakesRounds, TakesInLanes, TakesInPass, calling_from, has_calls, with_lane}
+use Rattle.lane_run.specs.Worlds.{ArePassesOf, WorldOf}
 
 -- of all lanes these are left, and the others were taken in; none of them wants memory
 pub record TakesRest (p : WorldPass) (left : LeftOf) (all lanes : List Lane) (q : WorldPass) (now : LeftOf) : Type 0 where
@@ -16,22 +18,40 @@ pub record TakesRest (p : WorldPass) (left : LeftOf) (all lanes : List Lane) (q 
   pub quiet : All (λ (l : Lane). l.wants_memory ≡ false) rest
   pub taken : TakesInLanes p left rest q now
 
-pub takes_none : (p : WorldPass) (left : LeftOf) (all : List Lane) → TakesRest p left all all p left
-takes_none p left all = record { rest = []; parts = sym (append-nil all); quiet = λ k d h. absurd (omega (arith, h)); taken = (refl, refl) }
+pub takes_none : {p : WorldPass} {left : LeftOf} (all : List Lane) → TakesRest p left all all p left
+takes_none all = record { rest = []; parts = sym (append-nil all); quiet = λ k d h. absurd (omega (arith, h)); taken = (refl, refl) }
 
-all_cons : (P : Lane → Type 0) (x : Lane) (xs : List Lane) → P x → All P xs → All P (x ∷ xs)
-all_cons P x xs here rest zero d h = here
-all_cons P x xs here rest (suc k) d h = rest k d (omega (arith, h))
+-- lanes are taken in, so far these; whether one of them wanted memory
+pub record TakesSoFar (x : WorldOf) (p : WorldPass) (left : LeftOf) (all these : List Lane) (q : WorldPass) (now : LeftOf) (wants : Bool) : Type 0 where
+  pub main : IsMain x q these
+  pub lanes : All (λ (l : Lane). IsLaneOf x l) these
+  pub names : All (λ (l : Lane). l.label.lane < length now.answers) these
+  pub count : length now.answers ≡ length left.answers
+  pub taken : wants ≡ false → TakesRest p left all these q now
 
-pub takes_next : (p : WorldPass) (left : LeftOf) (all before lanes : List Lane) (lane : Lane) (m q : WorldPass) (n now : LeftOf)
-    → before ≡ lanes ++ lane ∷ [] → lane.wants_memory ≡ false → TakesInPass m lane.pass q → now ≡ with_lane n lane
-    → TakesRest p left all before m n → TakesRest p left all lanes q now
-takes_next p left all before lanes lane m q n now pop quiet takes with_it so_far = record {
-  rest = lane ∷ so_far.rest;
-  parts = so_far.parts ∙ ap (λ ls. ls ++ so_far.rest) pop ∙ append_assoc lanes (lane ∷ []) so_far.rest;
-  quiet = all_cons (λ (l : Lane). l.wants_memory ≡ false) lane so_far.rest quiet so_far.quiet;
-  taken = (m, n, so_far.taken, takes, with_it);
-}
+-- what holds of each of these holds of all but the last one, and of that one
+pub last_of : (P : Lane → Type 0) {before : List Lane} (lanes : List Lane) (lane : Lane) → before ≡ lanes ++ lane ∷ [] → All P before → All P lanes × P lane
+last_of P {before} lanes lane pop all = All-pop P before lanes (Some lane) pop all
+
+-- one more, the last one
+pub takes_one : {x : WorldOf} {p : WorldPass} {left : LeftOf} {all before lanes : List Lane} {m q : WorldPass} {n now : LeftOf} {was wants : Bool}
+    (lane : Lane) → TakesSoFar x p left all before m n was → before ≡ lanes ++ lane ∷ [] → ArePassesOf x q → TakesInPass m lane.pass q
+    → length now.answers ≡ length n.answers → (wants ≡ false → (was ≡ false) × (lane.wants_memory ≡ false) × (now ≡ with_lane n lane))
+    → TakesSoFar x p left all lanes q now wants
+takes_one {x} {lanes = lanes} {m = m} {n = n} lane so_far pop pass takes count quiet =
+    let of = last_of (λ (l : Lane). IsLaneOf x l) lanes lane pop so_far.lanes in
+    let names = last_of (λ (l : Lane). l.label.lane < length n.answers) lanes lane pop so_far.names in record {
+      main = main_takes lanes (subst (IsMain x m) pop so_far.main) of.1 pass takes;
+      lanes = of.0;
+      names = λ k d h. subst (λ i. (get_or lanes k d).label.lane < i) (sym count) (names.0 k d h);
+      count = count ∙ so_far.count;
+      taken = λ none. let rest = so_far.taken (quiet none).0 in record {
+        rest = lane ∷ rest.rest;
+        parts = rest.parts ∙ ap (λ ls. ls ++ rest.rest) pop ∙ append_assoc lanes (lane ∷ []) rest.rest;
+        quiet = All-cons (λ (l : Lane). l.wants_memory ≡ false) lane rest.rest (quiet none).1 rest.quiet;
+        taken = (m, n, rest.taken, takes, (quiet none).2);
+      };
+    }
 
 -- ---- the lanes of a round
 
@@ -39,22 +59,21 @@ takes_next p left all before lanes lane m q n now pop quiet takes with_it so_far
 pub calling_next : (r : Round) (names all : List ℕ) (i n : ℕ) (b : Bool) → i < n → has_calls r i ≡ b → names ++ calling_from r i (n - i) ≡ all
     → (names ++ also b i []) ++ calling_from r (i + 1) (n - (i + 1)) ≡ all
 calling_next r names all i n b here has so_far =
-    append_assoc names (also b i []) (calling_from r (i + 1) (n - (i + 1)))
-    ∙ ap (λ xs. names ++ xs) (joined b ∙ ap (λ t. also t i (calling_from r (i + 1) (n - (i + 1)))) (sym has) ∙ sym (ap (calling_from r i) (more here)))
-    ∙ so_far
+    let rest = calling_from r (i + 1) (n - (i + 1)) in
+    append_assoc names (also b i []) rest
+    ∙ ap (λ xs. names ++ xs) (joined b rest ∙ ap (λ t. also t i rest) (sym has) ∙ sym (ap (calling_from r i) (more here))) ∙ so_far
   where
-    joined : (b : Bool) → also b i [] ++ calling_from r (i + 1) (n - (i + 1)) ≡ also b i (calling_from r (i + 1) (n - (i + 1)))
-    joined true = refl
-    joined false = refl
+    joined : (b : Bool) (rest : List ℕ) → also b i [] ++ rest ≡ also b i rest
+    joined true rest = refl
+    joined false rest = refl
 
     more : i < n → n - i ≡ suc (n - (i + 1))
     more less = omega (arith, less)
 
 -- ---- rounds
 
-pub rounds_push : (x : WorldOf) (rs : List Round) (r : Round) (p m q : WorldPass) (left mid now : LeftOf) → MakesRounds x rs p left m mid
-    → MakesRound x r m mid q now → MakesRounds x (rs ++ r ∷ []) p left q now
-rounds_push x [] r p m q left mid now so_far next =
+pub rounds_push : {x : WorldOf} (rs : List Round) {r : Round} (p : WorldPass) {m q : WorldPass} (left : LeftOf) {mid now : LeftOf}
+    → MakesRounds x rs p left m mid → MakesRound x r m mid q now → MakesRounds x (rs ++ r ∷ []) p left q now
+rounds_push {x} [] {r} p {m} {q} left {mid} {now} so_far next =
     (q, now, subst (λ z. MakesRound x r z left q now) so_far.0 (subst (λ z. MakesRound x r m z q now) so_far.1 next), (refl, refl))
-rounds_push x (y ∷ rs) r p m q left mid now so_far next =
-    (so_far.0, so_far.1, so_far.2, rounds_push x rs r so_far.0 m q so_far.1 mid now so_far.3 next)
+rounds_push (y ∷ rs) p left so_far next = (so_far.0, so_far.1, so_far.2, rounds_push rs so_far.0 so_far.1 so_far.3 next)

@@ -6,17 +6,17 @@ use Rattle.lane_run.proofs.lane.make_calls.Goals as goal
 use Rattle.lane_run.proofs.lane.make_calls.Goals.{then-line-lane, else-line-lane}
 
 pub loop-line-init : goal.loop-line-init
-loop-line-init g c = come_none c.args.world.now c.args.lane.now c.requires.pass
+loop-line-init g c = come_none c.args.lane.now c.requires.pass
 
 pub loop-line-preserved : goal.loop-line-preserved
 loop-line-preserved g c =
     let xs = c.as_slice-line-items.result.now in
-    let old = c.loop-line in elim c.if-line-lane.branch [
-      | then-line-lane w ↦
-          subst (λ (l : Lane). HasCome c.args.world.now c.args.lane.now l (calls_of_lane c.args.lane.now.label.lane (take (old.line-index + 1) xs))) (sym w.lane-is)
-          (come_on c.args.world.now xs old.line-index _ c.args.lane.now old.lane w.make_next.new.lane c.loop-line-test.true (eq-eqb _ _ w.if-line-lane.true) old.invariant
-          w.make_next.ensures.pass w.make_next.ensures.keeps w.make_next.ensures.lane w.make_next.ensures.before w.make_next.ensures.calls)
+    let old = c.loop-line in
+    let come = λ (l : Lane). HasCome c.args.world.now c.args.lane.now l (calls_of_lane c.args.lane.now.label.lane (take (old.line-index + 1) xs)) in
+    elim c.if-line-lane.branch [
+      | then-line-lane w ↦ let made = w.make_next.ensures in
+          subst come (sym w.lane-is) (come_on xs old.line-index _ c.loop-line-test.true (eq-eqb _ _ w.if-line-lane.true) old.invariant made.pass made.keeps
+          made.lane made.before made.calls)
       | else-line-lane w ↦
-          subst (λ (l : Lane). HasCome c.args.world.now c.args.lane.now l (calls_of_lane c.args.lane.now.label.lane (take (old.line-index + 1) xs))) (sym w.lane-is)
-          (come_past c.args.world.now xs old.line-index _ c.args.lane.now old.lane c.loop-line-test.true (other_lane _ _ w.if-line-lane.false) old.invariant)
+          subst come (sym w.lane-is) (come_past xs old.line-index _ c.loop-line-test.true (other_lane _ _ w.if-line-lane.false) old.invariant)
     ]

@@ -9,6 +9,5 @@ returns-clause-calls g c = λ quiet.
     let mid = made.new.lane in
     let next : c.saturating_add-lane.result ≡ min (mid.label.call + 1) 4294967295 =
     c.saturating_add-lane.ensures ∙ ap (λ (l : Label). min (l.call + 1) 4294967295) (sym made.ensures.label) in
-    makes_one c.args.world.now c.args.lane.now mid _ c.args.call made.ensures.label
-    (no_error made.result _ (sym c.is_err-lane.ensures.value ∙ quiet) made.ensures.call) refl
+    makes_one made.ensures.label (no_error made.result (sym c.is_err-lane.ensures.value ∙ quiet) made.ensures.call) refl
     (ap (λ n. record { label = record { lane = mid.label.lane; call = n }; pass = mid.pass; notes = mid.notes }) next)

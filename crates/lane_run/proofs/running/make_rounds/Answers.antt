@@ -18,8 +18,8 @@ make_round-requires-clause-calls g c = λ κs outlives.
     let i = c.loop-round.round-index in
     let is = c.round-item.is ∙ ap (λ rs. get_or rs i c.round-item.result) items.ensures in
     subst (λ (r : Round). AllByRecursion (λ (x : LaneCall). CanCall c.args.world.now x.call) r.calls) (sym is)
-    (round_can c.args.script.now c.args.world.now c.requires.range c.requires.world i c.round-item.result
-    (subst (λ (rs : List Round). i < length rs) items.ensures c.loop-round-test.true))
+    (round_can c.requires.range c.requires.world c.args.script.now.rounds i c.round-item.result
+    (subst (λ (rs : List Round). i < length rs) items.ensures c.loop-round-test.true) c.requires.range.calls)
 
 pub loop-round-preserved : goal.loop-round-preserved
 loop-round-preserved g c =
@@ -33,6 +33,5 @@ loop-round-preserved g c =
       lanes = c.make_round.ensures.lanes ∙ old.invariant.lanes;
       rounds = subst (λ rs. MakesRounds x rs p none next.main next.left) (sym (take_more items old.round-index c.round-item.result c.loop-round-test.true))
           (subst (λ (r : Round). MakesRounds x (take old.round-index items ++ r ∷ []) p none next.main next.left) c.round-item.is
-          (rounds_push x (take old.round-index items) c.round-item.result p old.main next.main none old.left next.left old.invariant.rounds
-          c.in_ok-make_round.ensures.round));
+          (rounds_push (take old.round-index items) p none old.invariant.rounds c.in_ok-make_round.ensures.round));
     }

@@ -3,20 +3,20 @@ use Rattle.lane_run.proofs.RunFits.{run_recorded}
 use Rattle.lane_run.proofs.running.run.Goals as goal
 
 pub make_rounds-requires-clause-main : goal.make_rounds-requires-clause-main
-make_rounds-requires-clause-main g c = λ κs outlives. main_first c.args.world c.args.pass c.requires.pass c.requires.first
+make_rounds-requires-clause-main g c = λ κs outlives. main_first c.requires.pass c.requires.first
 
 pub close-requires-clause-last : goal.close-requires-clause-last
-close-requires-clause-last g c = main_last c.args.world c.make_rounds.new.main c.make_rounds.ensures.main
+close-requires-clause-last g c = main_last c.make_rounds.ensures.main
 
 pub returns-in-Ok-clause-last : goal.returns-in-Ok-clause-last
-returns-in-Ok-clause-last g c = main_last c.args.world c.make_rounds.new.main c.make_rounds.ensures.main
+returns-in-Ok-clause-last g c = main_last c.make_rounds.ensures.main
 
 pub returns-in-Ok-clause-fits : goal.returns-in-Ok-clause-fits
 returns-in-Ok-clause-fits g c =
     (run_recorded c.args.script.now c.args.world c.args.pass c.in-Ok.record c.make_rounds.new.main c.requires.range c.requires.world c.requires.first
-    c.make_rounds.ensures.main.pass (main_last c.args.world c.make_rounds.new.main c.make_rounds.ensures.main) c.in-Ok.ensures.run).fits
+    c.make_rounds.ensures.main.pass (main_last c.make_rounds.ensures.main) c.in-Ok.ensures.run).fits
 
 pub returns-in-Ok-clause-histories : goal.returns-in-Ok-clause-histories
 returns-in-Ok-clause-histories g c =
     (run_recorded c.args.script.now c.args.world c.args.pass c.in-Ok.record c.make_rounds.new.main c.requires.range c.requires.world c.requires.first
-    c.make_rounds.ensures.main.pass (main_last c.args.world c.make_rounds.new.main c.make_rounds.ensures.main) c.in-Ok.ensures.run).shows
+    c.make_rounds.ensures.main.pass (main_last c.make_rounds.ensures.main) c.in-Ok.ensures.run).shows
