@@ -111,7 +111,7 @@ module _ (IsSo : List ClockLine → Type 0) (s : Script) (o : Opening) (is : o �
       let same : (timer_then o x t).limit ≡ (timer_at o.timers t).limit =
       ap (λ (u : Timer). u.limit) (timer_own o x t) ∙ after_all-limit (timer_at o.timers t) (entries_of t x) in
       let first : (timer_at o.timers t).limit ≤ s.limit =
-      subst (λ ts. (timer_at ts t).limit ≤ s.limit) (sym on) (opened_limit (clocks_of s) s.limit t some) in
+      rw on (opened_limit (clocks_of s) s.limit t some) in
       omega (arith, same, first)
 
   -- the function's actions are those of the timer's callback
@@ -120,8 +120,7 @@ module _ (IsSo : List ClockLine → Type 0) (s : Script) (o : Opening) (is : o �
 
   declared : {callback : Callback} (body : List Action) → kind_of s c.timer ≡ kinds.Raw callback → Does callback body → (finish : ℕ)
       (rearmed : line_restart.Restart) → IsBody (kind_of s c.timer) reading.stamp (fired_of c body finish (asks restart) rearmed)
-  declared body kind does finish rearmed =
-      subst (λ k. IsBody k reading.stamp (fired_of c body finish (asks restart) rearmed)) (sym kind) (does finish rearmed)
+  declared body kind does finish rearmed = rw kind (does finish rearmed)
 
   -- a callback that looked at its timer and made no entry
   looked_kept : {callback : Callback} {at : List TimerEntry} {number : ℕ} (event : Event) (observation : Observation) (reply : CallbackReply)
@@ -147,9 +146,8 @@ module _ (IsSo : List ClockLine → Type 0) (s : Script) (o : Opening) (is : o �
         part = part_looked claim number event observation reply looks.0 looks.1 same noted (omega (arith, counted, low)) (omega (arith, counted, high));
         kind = declared (Looked c.timer number reply ∷ []) kind does;
         holds = λ e joined goes before points. (
-          subst (λ ob. Saw (course_of s e) c.timer number ob (length w.seen)) (sym observes)
-              (saw_from (course_of s e) w.seen goes.0 (seen_first w.seen joined goes) c.timer number observation
-              (ap (λ (u : Timer). u.stamp) (sym state) ∙ sym stamp) (subst (λ u. Holds u observation) state holds)),
+          rw observes (saw_from (course_of s e) w.seen goes.0 (seen_first w.seen joined goes) c.timer number observation
+              (ap (λ (u : Timer). u.stamp) (sym state) ∙ sym stamp) (rw (← state) holds)),
           below,
         );
         span = λ e follows finish rearmed. tt;

@@ -129,11 +129,9 @@ module _ {s : Script} {x : WorldOf} {l m : LaneOf} {a : Answer} {base budget : �
       let clock = reads_begins p q c.reads.looks.seen in
       let logged = logged_from p q run.notes t call answer (sees_part p q part clock) refl part.timers.enters.made part.timers.are c.reads.count
       part.timers.no_write
-      (λ i. subst (λ ns. NeverFall (length (seen_of p.objects i)) ns (length (seen_of q.objects i))) (sym (append-nil (numbers_of_object i actions)))
-      (part.objects.steps i)) in
+      (λ i. rw (append-nil (numbers_of_object i actions)) (part.objects.steps i)) in
       let is : IsLabel s l.label = slice_get_within (calls_of s l.label.lane) l.label.call next.at next.there in
-      subst (λ ts. KeepsCall s l call (told ts) m) (sym run.claimed)
-      (keeps_part next m answer (λ clock. reading_at clock c.reading.stamp ≡ c.reading) (c.log ++ c.callback_log) c.object_log run.notes t part
+      rw run.claimed (keeps_part next m answer (λ clock. reading_at clock c.reading.stamp ≡ c.reading) (c.log ++ c.callback_log) c.object_log run.notes t part
       (reading_goes_on p q c.reading c.reads) clock c.reads.looks.mine c.notes logged
       (λ e follows joined has kept low. fits e follows joined kept low
       (run.have e joined follows.timers follows.objects [] (λ i. tt)
@@ -182,4 +180,4 @@ module _ {s : Script} {x : WorldOf} {l m : LaneOf} {a : Answer} {base budget : �
 
   -- law: a lane keeps an expiry run
   pub keeps_expire : KeepsCall s l (calls.Expire base budget) a m
-  keeps_expire = subst (λ a. KeepsCall s l (calls.Expire base budget) a m) (sym c.told) (answer_kept c.answer c.runs.expires)
+  keeps_expire = rw c.told (answer_kept c.answer c.runs.expires)

@@ -153,15 +153,13 @@ module _ (IsSo : List ClockLine → Type 0) (s : Script) (x : WorldOf) (is : IsW
           (subst (λ cb. RunsCallback o v w c reading h.log.receipts h'.log.receipts cb restart) its run.0)
       by_kind (kinds.Posix asked) same =
           let run = by_over (kinds.Posix asked) same in
-          subst (λ y. BodyKept IsSo s label c reading claim restart y h h') (sym run.1)
-          (trigger_kept IsSo s h.objects.now limit some label c reading so claim restart h h' run.2 run.3
-          (λ f its. subst (λ d. IsBody d reading.stamp f) (sym same) its) (of_kind.Posix (posix_calls.Trigger c.generation reading))
+          rw run.1 (trigger_kept IsSo s h.objects.now limit some label c reading so claim restart h h' run.2 run.3
+          (λ f its. rw same its) (of_kind.Posix (posix_calls.Trigger c.generation reading))
           (λ y allows. posix_noted y c.generation reading allows) (λ n. refl) (λ n. refl) run.0)
       by_kind (kinds.Fd asked) same =
           let run = by_over (kinds.Fd asked) same in
-          subst (λ y. BodyKept IsSo s label c reading claim restart y h h') (sym run.1)
-          (trigger_kept IsSo s h.objects.now limit some label c reading so claim restart h h' run.2 run.3
-          (λ f its. subst (λ d. IsBody d reading.stamp f) (sym same) its) (of_kind.Fd (fd_calls.Trigger c.generation reading))
+          rw run.1 (trigger_kept IsSo s h.objects.now limit some label c reading so claim restart h h' run.2 run.3
+          (λ f its. rw same its) (of_kind.Fd (fd_calls.Trigger c.generation reading))
           (λ y allows. fd_noted y c.generation reading allows) (λ n. refl) (λ n. refl) run.0)
 
   -- law: one callback of an expiry run, with its claim and its finish
@@ -202,8 +200,7 @@ module _ (IsSo : List ClockLine → Type 0) (s : Script) (x : WorldOf) (is : IsW
         adds_objects = b.adds_objects;
         no_looks = refl;
         claimed = refl;
-        part = subst (IsPart IsSo label k h.objects_pass.now k' h'.objects_pass.now (fires c.base reading.stamp f) (claim.note ∷ b.notes ++ finish.0 ∷ [])
-            (first ∷ last ∷ b.more)) (append-nil b.object_more) (part-append {all = first ∷ last ∷ b.more} b.part finishes order looks);
+        part = rw (append-nil b.object_more) at (part-append {all = first ∷ last ∷ b.more} b.part finishes order looks);
         ran = λ e joined goes follows before points. (
           record {
             claimed = length turn.claimed.seen;
@@ -302,8 +299,7 @@ module _ {IsSo : List ClockLine → Type 0} {s : Script} {label : Label} {base a
         many = omega (arith, run.many, length-append run.fired (f ∷ []));
         notes = run.notes ++ turn.notes;
         no_looks = rw (turn.adds, notes-append (look_note label) log more, run.no_looks) turn.no_looks;
-        claimed = ap claimed_in turn.adds ∙ claimed_in-append log more ∙ ap (λ ts. ts ++ claimed_in more) run.claimed
-            ∙ ap (λ ts. map (λ g. g.timer) run.fired ++ ts) turn.claimed ∙ sym (map-append (λ (g : Fired). g.timer) run.fired (f ∷ []));
+        claimed = rw (turn.adds, claimed_in-append log more, run.claimed, turn.claimed) (sym (map-append (λ (g : Fired). g.timer) run.fired (f ∷ [])));
         part = rw (all, turn.adds, turn.adds_callback, turn.adds_objects) part;
         have = λ e joined goes follows later behind points.
             let whole : flat_map (fires base at) (run.fired ++ f ∷ []) ++ later ≡ done ++ (one ++ later) =
@@ -311,23 +307,18 @@ module _ {IsSo : List ClockLine → Type 0} {s : Script} {label : Label} {base a
             let grows = objects_grow p1 p' turn.part.objects.goes_on in
             let before_run = run.have e joined (goes_before turn.part.timers.enters.seen goes)
             (follows_before p1 p' e turn.part.objects.goes_on follows) (one ++ later)
-            (λ i. subst (AllByRecursion (λ x. length (seen_of p1 i) < x.0)) (sym (made-append i one later))
+            (λ i. rw (made-append i one later)
             (each_joined (made i one) (made i later) (λ x le. omega (arith, le)) (λ x less. let le = grows i in omega (arith, less, le))
             (turn.part.objects.rise i).above (behind i)))
-            (λ i m before rest parts low high below above.
-            points i m before rest (whole ∙ parts) low (let le = grows i in omega (arith, high, le)) below above) in
+            (λ i m before rest parts low high below above. points i m before rest (whole ∙ parts) low (let le = grows i in omega (arith, high, le)) below above) in
             let one_run = turn.ran e joined goes follows done
             (λ i none. let le = grows i in
             points i (length (seen_of p' i)) (with_claim base at f done) ((f.body ++ finishing) ++ later)
             (whole ∙ sym (append_assoc done claiming ((f.body ++ finishing) ++ later)))
             (let first = objects_grow p p1 run.part.objects.goes_on i in omega (arith, le, first)) (omega arith)
-            (subst (AllByRecursion (λ x. x.0 ≤ length (seen_of p' i))) (sym (made-append i done claiming ∙ append-nil (made i done)))
-            (each_weaker (made i done) (λ x less. omega (arith, less, le)) (run.part.objects.rise i).below))
-            (subst (AllByRecursion (λ x. length (seen_of p' i) < x.0))
-            (sym (made-append i (f.body ++ finishing) later
-            ∙ ap (λ xs. xs ++ made i later) (made-append i f.body finishing ∙ append-nil (made i f.body) ∙ none i))) (behind i))) in
-            subst (λ xs. HaveRun (course_of s e) label e.order base at [] (length k.seen) (run.fired ++ f ∷ []) (run.notes ++ xs) (length k'.seen))
-            (sym one_run.1)
+            (rw (made-append i done claiming, append-nil (made i done)) (each_weaker (made i done) (λ x less. omega (arith, less, le)) (run.part.objects.rise i).below))
+            (rw (made-append i (f.body ++ finishing) later, made-append i f.body finishing, none i) (behind i))) in
+            rw one_run.1
             (run_push (course_of s e) label e.order base at [] done (length k.seen) run.fired run.notes (length k1.seen) f (length k'.seen) before_run refl
             one_run.0);
       }

@@ -130,8 +130,7 @@ module _ (IsSo : List ClockLine → Type 0) (s : Script) (x : ObjectsOf) (limit 
         span = λ e follows finish rearmed. (
           c.number - 1,
           omega (arith, claim.some),
-          span_made q e c.timer many step (follows c.timer)
-              (subst (λ ys. slice_get ys many ≡ Some step) (sym adds.last) (at_seam adds.before [] step)),
+          span_made q e c.timer many step (follows c.timer) (rw adds.last (at_seam adds.before [] step)),
         );
       }
 
@@ -143,24 +142,20 @@ module _ (IsSo : List ClockLine → Type 0) (s : Script) (x : ObjectsOf) (limit 
   refused_trigger call no_entry skip t =
       let many = length (seen_of q c.timer) in
       let r : ObjectReceipt = record { object = c.timer; number = many; call = spanned call (span_of c); reply = refused_at call many } in
-      let note : SkipNote = record { label = label; object = c.timer; number = many; generation = c.generation } in
-      let no_notes : object_notes label (r ∷ []) ≡ [] =
-      ap (λ o. present (option_map (λ (y : ObjectEntry). record { label = label; object = c.timer; number = many; entry = y }) o ∷ [])) (no_entry many) in
-      let are : skip_notes label (r ∷ []) ≡ note ∷ [] =
-      ap (λ o. present (option_map (λ (y : ℕ). record { label = label; object = c.timer; number = many; generation = y }) o ∷ [])) (skip many) in
+      let no_notes : object_notes label (r ∷ []) ≡ [] = rw (no_entry many) refl in
+      let are : skip_notes label (r ∷ []) ≡ record { label = label; object = c.timer; number = many; generation = c.generation } ∷ [] = rw (skip many) refl in
       let body = Skipped c.timer many c.generation ∷ [] in
       let grows = objects_grow p q t.reads.pass.seen in
       let part : IsObjectsPart IsSo label p q body (r ∷ []) = record {
         makes = λ i. ap (made_on i) no_notes;
         rise = λ i. let le = grows i in rises_none (omega (arith, le));
-        seen = subst (AllByRecursion (IsNoteIn IsSo p q)) (sym no_notes) tt;
+        seen = rw no_notes tt;
         skips = λ i. ap (skips_on i) are;
-        skips_seen = subst (AllByRecursion (λ n. (0 < n.number) × (n.number ≤ length (seen_of q n.object)))) (sym are)
-            ((omega (arith, t.full, limit, some), omega arith), tt);
+        skips_seen = rw are ((omega (arith, t.full, limit, some), omega arith), tt);
         steps = one_falls c.timer many (λ i. length (seen_of p i)) (λ i. length (seen_of q i)) (grows c.timer) (omega arith) grows;
         goes_on = t.reads.pass.seen;
         opening = t.reads.opening;
-        mine = t.reads.pass.mine ∙ sym (append-nil p.knows.pass.mine) ∙ ap (λ ns. p.knows.pass.mine ++ map object_place ns) (sym no_notes);
+        mine = rw (no_notes, append-nil p.knows.pass.mine) t.reads.pass.mine;
       } in
       record {
         body = body;
