@@ -70,7 +70,7 @@ use Rattle.lane_run.specs.Kept.{entry_in_note, FollowsObject, looks_on}
 use Rattle.lane_run.specs.Worlds.{callback_of}
 use Rattle.lane_run.proofs.Entering.{enters_along, enters_none, EntersNotes, stamp_counts}
 use Rattle.lane_run.proofs.SeenMore.{begins_same}
-use Rattle.lane_run.proofs.Parts.{BodyKept, IsClaimed, fired_of, part_claimed, part_entered, part_looked}
+use Rattle.lane_run.proofs.Parts.{BodyKept, HasRead, IsClaimed, fired_of, part_claimed, part_entered, part_looked}
 use Rattle.timer_objects.specs.Firings.{Firing}
 use Rattle.lane_run.proofs.SeenMore.{count_begins}
 use Rattle.lane_run.proofs.Entering.{looks_made}
@@ -98,9 +98,9 @@ opened_limit [] limit t some = some
 opened_limit (clock ∷ rest) limit zero some = omega arith
 opened_limit (clock ∷ rest) limit (suc t) some = opened_limit rest limit t some
 
-module _ (IsSo : List ClockLine → Type 0) (s : Script) (o : Opening) (is : o ≡ opening_of s.bases (clocks_of s) s.limit) (some : 1 ≤ s.limit)
-    (label : Label) (c : ClaimNumbers) (reading : ClockReading) (so : (clock : List ClockLine) → IsSo clock → reading_at clock reading.stamp ≡ reading)
-    {k v : KnownOfTimers} (claim : IsClaimed IsSo c reading.stamp k v) (restart : Restart) (w : KnownOfTimers) (h h' : Firing)
+module _ (s : Script) (o : Opening) (is : o ≡ opening_of s.bases (clocks_of s) s.limit) (some : 1 ≤ s.limit)
+    (label : Label) (c : ClaimNumbers) (reading : ClockReading) {base : ℕ} {k v : KnownOfTimers}
+    (claim : IsClaimed base c reading k v) (restart : Restart) (w : KnownOfTimers) (h h' : Firing)
     (same : h'.objects_pass.now ≡ h.objects_pass.now) (same_log : h'.object_log.receipts ≡ h.object_log.receipts) where
   on : o.timers ≡ openings (clocks_of s) s.limit
   on = ap (λ (x : Opening). x.timers) is
@@ -127,7 +127,7 @@ module _ (IsSo : List ClockLine → Type 0) (s : Script) (o : Opening) (is : o �
       → kind_of s c.timer ≡ kinds.Raw callback → MadeAt v w c.timer at [] → look_noted observation ≡ Some reply → observed reply ≡ observation
       → h'.log.receipts ≡ h.log.receipts ++ look_receipt c number event observation ∷ [] → number ≡ (timer_then o at c.timer).stamp
       → Holds (timer_then o at c.timer) observation → IsBelowLimit s.limit number reply → Does callback (Looked c.timer number reply ∷ [])
-      → BodyKept IsSo s label c reading claim restart w h h'
+      → BodyKept s label claim restart w h h'
   looked_kept {at = at} {number = number} event observation reply kind made noted observes logs stamp holds below does =
       let counted : number ≡ count c.timer at = stamp ∙ stamp_counts o (clocks_of s) s.limit at c.timer on in
       let low = count_begins c.timer made.from in
@@ -155,9 +155,9 @@ module _ (IsSo : List ClockLine → Type 0) (s : Script) (o : Opening) (is : o �
 
   -- a callback that made an entry of its timer
   entered_kept : {callback : Callback} {number : ℕ} {entry : Entry} {notes : List Noted} (r : Receipt) → kind_of s c.timer ≡ kinds.Raw callback
-      → EntersNotes IsSo v w notes → map receipt notes ≡ (c.timer, (number, entry)) ∷ [] → h'.log.receipts ≡ h.log.receipts ++ r ∷ []
+      → EntersNotes (HasRead reading) v w notes → map receipt notes ≡ (c.timer, (number, entry)) ∷ [] → h'.log.receipts ≡ h.log.receipts ++ r ∷ []
       → map entry_in_note (entry_notes label (r ∷ [])) ≡ (c.timer, (number, entry)) ∷ [] → look_notes label (r ∷ []) ≡ []
-      → Does callback (Entered c.timer number entry ∷ []) → BodyKept IsSo s label c reading claim restart w h h'
+      → Does callback (Entered c.timer number entry ∷ []) → BodyKept s label claim restart w h h'
   entered_kept {number = number} {entry = entry} {notes = notes} r kind enters are logs noted no_look does = record {
     body = Entered c.timer number entry ∷ [];
     notes = notes;
@@ -175,7 +175,7 @@ module _ (IsSo : List ClockLine → Type 0) (s : Script) (o : Opening) (is : o �
   -- law: the actions of the callback of a timer by itself, as its timer declares it
   pub callback_kept : (callback : Callback) → kind_of s c.timer ≡ kinds.Raw callback
       → RunsCallback o v w c reading h.log.receipts h'.log.receipts (callback_of (kinds.Raw callback)) restart
-      → BodyKept IsSo s label c reading claim restart w h h'
+      → BodyKept s label claim restart w h h'
   callback_kept callbacks.Once kind run =
       record {
         body = [];
@@ -191,12 +191,12 @@ module _ (IsSo : List ClockLine → Type 0) (s : Script) (o : Opening) (is : o �
         span = λ e follows finish rearmed. tt;
       }
     where
-      still : EntersNotes IsSo v w []
+      still : EntersNotes (HasRead reading) v w []
       still = enters_none (begins_same (ap (λ k. k.seen) run.0)) (ap (λ k. k.mine) run.0)
   callback_kept (callbacks.Every interval) kind run = forwards_kept run.0.answer run.0.forwards run.0.receipt
     where
       forwards_kept : (answer : ForwardAnswer) → Forwards o v w c reading interval answer
-          → h'.log.receipts ≡ h.log.receipts ++ forward_receipt c reading interval answer ∷ [] → BodyKept IsSo s label c reading claim restart w h h'
+          → h'.log.receipts ≡ h.log.receipts ++ forward_receipt c reading interval answer ∷ [] → BodyKept s label claim restart w h h'
       forwards_kept (forwards.Spent n) f logs =
           looked_kept (events.Forward reading interval) observations.Spent replies.Spent kind f.made refl refl logs f.fits.1 f.fits.0 tt
           (λ finish rearmed. (inr (inr (n, refl)), ap asks run.1))
@@ -206,7 +206,7 @@ module _ (IsSo : List ClockLine → Type 0) (s : Script) (o : Opening) (is : o �
           (let most = limit_within f.at c.timer in omega (arith, f.fits.0, f.fits.2, most))
           (λ finish rearmed. (inr (inl (n, g, refl)), ap asks run.1))
       forwards_kept (forwards.Forwarded number passed_by expires) f logs =
-          let along = enters_along IsSo o (clocks_of s) s.limit (events.Forward reading interval ∷ []) on f.made (λ clock has. (so clock has, tt)) in
+          let along = enters_along (HasRead reading) o (clocks_of s) s.limit (events.Forward reading interval ∷ []) on f.made (λ clock has. (has, tt)) in
           entered_kept (forward_receipt c reading interval (forwards.Forwarded number passed_by expires)) kind along.enters
           (along.are ∙ ap (forward_in_receipt c.timer reading.stamp interval) (sym f.fits.2)) logs refl refl
           (λ finish rearmed. (inl (number, passed_by, expires, refl), ap asks run.1))
@@ -217,7 +217,7 @@ module _ (IsSo : List ClockLine → Type 0) (s : Script) (o : Opening) (is : o �
     where
       begins_kept : (answer : StartAnswer) → (f : StartsTimer o v w c.timer modes.Rel ns asked reading answer)
           → (timer_then o f.at c.timer).running ≡ Some c.generation → h'.log.receipts ≡ h.log.receipts ++ start_receipt c reading ns asked answer ∷ []
-          → BodyKept IsSo s label c reading claim restart w h h'
+          → BodyKept s label claim restart w h h'
       begins_kept (starts.Spent n) f runs logs =
           looked_kept (events.Start modes.Rel ns reading asked) observations.Spent replies.Spent kind f.made refl refl logs f.fits.2 f.fits.1 tt
           (λ finish rearmed. (inr (n, refl), ap asks run.1))
@@ -230,7 +230,7 @@ module _ (IsSo : List ClockLine → Type 0) (s : Script) (o : Opening) (is : o �
           let made : MadeAt v w c.timer f.at (entries_along u (es false)) = subst (λ b. MadeAt v w c.timer f.at (entries_along u (es b))) stays f.made in
           let told : Bool → StartAnswer = λ b. starts.Started (is_some u.armed) (step_all u (es b)).stamp (step_all u (es b)).base
           (if b then 2 ^ asked else 0) (step_all u (es b)).clock (step_all u (es b)).expires in
-          let along = enters_along IsSo o (clocks_of s) s.limit (es false) on made (λ clock has. (so clock has, tt)) in
+          let along = enters_along (HasRead reading) o (clocks_of s) s.limit (es false) on made (λ clock has. (has, tt)) in
           let arming : Arming = record { out = None; number = generation; base = base; clock = clock; expires = expires; was_armed = was } in
           entered_kept (start_receipt c reading ns asked (starts.Started was generation base outs clock expires)) kind along.enters
           (along.are ∙ ap (start_in_receipt c.timer reading.stamp ns asked) (sym (f.fits.2 ∙ ap told stays))) logs refl refl

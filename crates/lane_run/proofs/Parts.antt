@@ -288,9 +288,9 @@ module _ {IsSo : List ClockLine → Type 0} {label : Label} where
 
 -- ---- the function of a claim
 
--- the record's entry of a claim, by its reading's stamp
-abbrev pub claim_entry : ClaimNumbers → ℕ → Entry
-claim_entry c at = entries.Claim c.base at c.generation
+-- a record's clock has this reading
+abbrev pub HasRead : ClockReading → List ClockLine → Type 0
+HasRead reading clock = reading_at clock reading.stamp ≡ reading
 
 -- the record's callback of a claim, by its function's actions and what came of the finish
 abbrev pub fired_of : ClaimNumbers → List Action → ℕ → Bool → line_restart.Restart → Fired
@@ -305,26 +305,27 @@ fired_of c body finish restart rearmed = record {
 }
 
 -- a pass has made a claim, and seen it
-pub record IsClaimed (IsSo : List ClockLine → Type 0) (c : ClaimNumbers) (at : ℕ) (k v : KnownOfTimers) : Type 0 where
+pub record IsClaimed (base : ℕ) (c : ClaimNumbers) (reading : ClockReading) (k v : KnownOfTimers) : Type 0 where
   pub note : Noted
-  pub enters : EntersNotes IsSo k v (note ∷ [])
-  pub is : receipt note ≡ (c.timer, (c.number, claim_entry c at))
+  pub enters : EntersNotes (HasRead reading) k v (note ∷ [])
+  pub is : receipt note ≡ (c.timer, (c.number, entries.Claim base reading.stamp c.generation))
+  pub there : c.base ≡ base
   pub some : 0 < c.number
   pub more : count c.timer k.seen < count c.timer v.seen
 
 -- What a claim's function did: with the claim it is a part of the call, so that its look stands behind an entry of the part. And what it promises of
 -- every run that goes on from there.
-pub record BodyKept (IsSo : List ClockLine → Type 0) (s : Script) (label : Label) (c : ClaimNumbers) (reading : ClockReading) {k v : KnownOfTimers}
-    (claim : IsClaimed IsSo c reading.stamp k v) (restart : Restart) (w : KnownOfTimers) (h h' : Firing) : Type 0 where
+pub record BodyKept (s : Script) (label : Label) {base : ℕ} {c : ClaimNumbers} {reading : ClockReading} {k v : KnownOfTimers}
+    (claim : IsClaimed base c reading k v) (restart : Restart) (w : KnownOfTimers) (h h' : Firing) : Type 0 where
   pub body : List Action
   pub notes : List Noted
   pub more : List Receipt
   pub object_more : List ObjectReceipt
   pub adds : h'.log.receipts ≡ h.log.receipts ++ more
   pub adds_objects : h'.object_log.receipts ≡ h.object_log.receipts ++ object_more
-  pub enters : EntersNotes IsSo v w notes
-  pub part : IsPart IsSo label k h.objects_pass.now w h'.objects_pass.now (Entered c.timer c.number (claim_entry c reading.stamp) ∷ body)
-      (claim.note ∷ notes) (claim_receipt reading c ∷ more) object_more
+  pub enters : EntersNotes (HasRead reading) v w notes
+  pub part : IsPart (HasRead reading) label k h.objects_pass.now w h'.objects_pass.now
+      (Entered c.timer c.number (entries.Claim base reading.stamp c.generation) ∷ body) (claim.note ∷ notes) (claim_receipt reading c ∷ more) object_more
   pub kind : (finish : ℕ) (rearmed : line_restart.Restart) → IsBody (kind_of s c.timer) reading.stamp (fired_of c body finish (asks restart) rearmed)
   pub holds : (e : Ending) → IsJoined s e → promises.GoesOn w.seen e → (before : List Action)
       → ((i : ℕ) → ((j : ℕ) → made j body ≡ []) → IsObjectPoint (course_of s e) label before i (length (seen_of h'.objects_pass.now i)))
@@ -332,37 +333,37 @@ pub record BodyKept (IsSo : List ClockLine → Type 0) (s : Script) (label : Lab
   pub span : (e : Ending) → ((i : ℕ) → FollowsObject e i (seen_of h'.objects_pass.now i)) → (finish : ℕ) (rearmed : line_restart.Restart)
       → IsClaimSpan (course_of s e) (fired_of c body finish (asks restart) rearmed) body
 
--- law: a claim, and behind it a part that its function made
-pub part_claimed : {IsSo : List ClockLine → Type 0} {label : Label} {c : ClaimNumbers} {reading : ClockReading} {k v w : KnownOfTimers} {p q : ObjectsPass}
-    {body : List Action} {notes : List Noted} {more : List Receipt} {object_more : List ObjectReceipt} (claim : IsClaimed IsSo c reading.stamp k v)
-    → IsPart IsSo label v p w q body notes more object_more
-    → IsPart IsSo label k p w q (Entered c.timer c.number (claim_entry c reading.stamp) ∷ body) (claim.note ∷ notes) (claim_receipt reading c ∷ more)
-    object_more
-part_claimed {c = c} {reading = reading} claim part =
-    let are = ap (λ (r : ℕ × (ℕ × Entry)). r ∷ []) claim.is in
-    part_then {ds = Entered c.timer c.number (claim_entry c reading.stamp) ∷ []} {log = claim_receipt reading c ∷ []}
-    (part_entered claim.enters refl (tt, tt) are are refl) part
+module _ {label : Label} {base : ℕ} {c : ClaimNumbers} {reading : ClockReading} {k v w : KnownOfTimers} {p q : ObjectsPass} where
+  -- law: a claim, and behind it a part that its function made
+  pub part_claimed : {body : List Action} {notes : List Noted} {more : List Receipt} {object_more : List ObjectReceipt}
+      (claim : IsClaimed base c reading k v) → IsPart (HasRead reading) label v p w q body notes more object_more
+      → IsPart (HasRead reading) label k p w q (Entered c.timer c.number (entries.Claim base reading.stamp c.generation) ∷ body) (claim.note ∷ notes)
+      (claim_receipt reading c ∷ more) object_more
+  part_claimed claim part =
+      let are = ap (λ (r : ℕ × (ℕ × Entry)). r ∷ []) claim.is in
+      part_then {ds = Entered c.timer c.number (entries.Claim base reading.stamp c.generation) ∷ []} {log = claim_receipt reading c ∷ []}
+      (part_entered claim.enters refl (tt, tt) are (rw claim.there are) refl) part
 
--- law: a claim, and behind it a look at its timer
-pub part_looked : {IsSo : List ClockLine → Type 0} {label : Label} {c : ClaimNumbers} {reading : ClockReading} {k v w : KnownOfTimers} {p q : ObjectsPass}
-    (claim : IsClaimed IsSo c reading.stamp k v) (number : ℕ) (event : Event) (observation : Observation) (reply : CallbackReply) → Begins v.seen w.seen
-    → w.mine ≡ v.mine → q ≡ p → look_noted observation ≡ Some reply → count c.timer v.seen ≤ number → number ≤ count c.timer w.seen
-    → IsPart IsSo label k p w q (Entered c.timer c.number (claim_entry c reading.stamp) ∷ Looked c.timer number reply ∷ []) (claim.note ∷ [])
-    (claim_receipt reading c ∷ look_receipt c number event observation ∷ []) []
-part_looked {label = label} {c = c} {reading = reading} {k = k} {w = w} claim number event observation reply seen mine same noted low high =
-    let are : look_notes label (claim_receipt reading c ∷ look_receipt c number event observation ∷ [])
-    ≡ record { label = label; timer = c.timer; number = number; reply = reply } ∷ [] =
-    rw noted refl in
-    record {
-      timers = record {
-        enters = enters-append claim.enters (enters_none seen mine);
-        are = ap (λ r. r ∷ []) claim.is;
-        told = same_order (ap (λ r. r ∷ []) claim.is);
-        no_write = refl;
-        looks = λ t. ap (looks_on t) are;
-        looks_rise = one_rises c.timer number reply (λ t. count t k.seen + 1) (λ t. count t w.seen + 1) (omega (arith, claim.more, low))
-            (omega (arith, high)) (λ t. let first = count_begins t claim.enters.seen in let le = count_begins t seen in omega (arith, first, le));
-        looks_seen = rw are ((omega (arith, claim.more, low), high), tt);
-      };
-      objects = objects_alone same (λ i. refl) (λ i. refl) (λ i. refl);
-    }
+  -- law: a claim, and behind it a look at its timer
+  pub part_looked : (claim : IsClaimed base c reading k v) (number : ℕ) (event : Event) (observation : Observation) (reply : CallbackReply)
+      → Begins v.seen w.seen → w.mine ≡ v.mine → q ≡ p → look_noted observation ≡ Some reply → count c.timer v.seen ≤ number
+      → number ≤ count c.timer w.seen → IsPart (HasRead reading) label k p w q
+      (Entered c.timer c.number (entries.Claim base reading.stamp c.generation) ∷ Looked c.timer number reply ∷ []) (claim.note ∷ [])
+      (claim_receipt reading c ∷ look_receipt c number event observation ∷ []) []
+  part_looked claim number event observation reply seen mine same noted low high =
+      let are : look_notes label (claim_receipt reading c ∷ look_receipt c number event observation ∷ [])
+      ≡ record { label = label; timer = c.timer; number = number; reply = reply } ∷ [] = rw noted refl in
+      let entered = ap (λ (r : ℕ × (ℕ × Entry)). r ∷ []) claim.is in
+      record {
+        timers = record {
+          enters = enters-append claim.enters (enters_none seen mine);
+          are = entered;
+          told = same_order (rw claim.there entered);
+          no_write = refl;
+          looks = λ t. ap (looks_on t) are;
+          looks_rise = one_rises c.timer number reply (λ t. count t k.seen + 1) (λ t. count t w.seen + 1) (omega (arith, claim.more, low))
+              (omega (arith, high)) (λ t. let first = count_begins t claim.enters.seen in let le = count_begins t seen in omega (arith, first, le));
+          looks_seen = rw are ((omega (arith, claim.more, low), high), tt);
+        };
+        objects = objects_alone same (λ i. refl) (λ i. refl) (λ i. refl);
+      }
