@@ -70,7 +70,7 @@ use Rattle.lane_run.specs.Kept.{entry_in_note, FollowsObject, looks_on}
 use Rattle.lane_run.specs.Worlds.{callback_of}
 use Rattle.lane_run.proofs.Entering.{enters_along, enters_none, EntersNotes, stamp_counts}
 use Rattle.lane_run.proofs.SeenMore.{begins_same}
-use Rattle.lane_run.proofs.Parts.{BodyKept, IsClaimed, fired_of, part_claimed, part_entered, part_looked}
+use Rattle.lane_run.proofs.Parts.{BodyKept, HasRead, IsClaimed, fired_of, part_claimed, part_entered, part_looked}
 use Rattle.timer_objects.specs.Firings.{Firing}
 use Rattle.lane_run.proofs.SeenMore.{count_begins}
 use Rattle.lane_run.proofs.Entering.{looks_made}
@@ -98,9 +98,9 @@ opened_limit [] limit t some = some
 opened_limit (clock ∷ rest) limit zero some = omega arith
 opened_limit (clock ∷ rest) limit (suc t) some = opened_limit rest limit t some
 
-module _ (IsSo : List ClockLine → Type 0) (s : Script) (o : Opening) (is : o ≡ opening_of s.bases (clocks_of s) s.limit) (some : 1 ≤ s.limit)
-    (label : Label) (c : ClaimNumbers) (reading : ClockReading) (so : (clock : List ClockLine) → IsSo clock → reading_at clock reading.stamp ≡ reading)
-    {k v : KnownOfTimers} (claim : IsClaimed IsSo c reading.stamp k v) (restart : Restart) (w : KnownOfTimers) (h h' : Firing)
+module _ (s : Script) (o : Opening) (is : o ≡ opening_of s.bases (clocks_of s) s.limit) (some : 1 ≤ s.limit)
+    (label : Label) (c : ClaimNumbers) (reading : ClockReading) {base : ℕ} {k v : KnownOfTimers}
+    (claim : IsClaimed base c reading k v) (restart : Restart) (w : KnownOfTimers) (h h' : Firing)
     (same : h'.objects_pass.now ≡ h.objects_pass.now) (same_log : h'.object_log.receipts ≡ h.object_log.receipts) where
   on : o.timers ≡ openings (clocks_of s) s.limit
   on = ap (λ (x : Opening). x.timers) is
@@ -111,7 +111,7 @@ module _ (IsSo : List ClockLine → Type 0) (s : Script) (o : Opening) (is : o �
       let same : (timer_then o x t).limit ≡ (timer_at o.timers t).limit =
       ap (λ (u : Timer). u.limit) (timer_own o x t) ∙ after_all-limit (timer_at o.timers t) (entries_of t x) in
       let first : (timer_at o.timers t).limit ≤ s.limit =
-      subst (λ ts. (timer_at ts t).limit ≤ s.limit) (sym on) (opened_limit (clocks_of s) s.limit t some) in
+      rw on (opened_limit (clocks_of s) s.limit t some) in
       omega (arith, same, first)
 
   -- the function's actions are those of the timer's callback
@@ -120,15 +120,14 @@ module _ (IsSo : List ClockLine → Type 0) (s : Script) (o : Opening) (is : o �
 
   declared : {callback : Callback} (body : List Action) → kind_of s c.timer ≡ kinds.Raw callback → Does callback body → (finish : ℕ)
       (rearmed : line_restart.Restart) → IsBody (kind_of s c.timer) reading.stamp (fired_of c body finish (asks restart) rearmed)
-  declared body kind does finish rearmed =
-      subst (λ k. IsBody k reading.stamp (fired_of c body finish (asks restart) rearmed)) (sym kind) (does finish rearmed)
+  declared body kind does finish rearmed = rw kind (does finish rearmed)
 
   -- a callback that looked at its timer and made no entry
   looked_kept : {callback : Callback} {at : List TimerEntry} {number : ℕ} (event : Event) (observation : Observation) (reply : CallbackReply)
       → kind_of s c.timer ≡ kinds.Raw callback → MadeAt v w c.timer at [] → look_noted observation ≡ Some reply → observed reply ≡ observation
       → h'.log.receipts ≡ h.log.receipts ++ look_receipt c number event observation ∷ [] → number ≡ (timer_then o at c.timer).stamp
       → Holds (timer_then o at c.timer) observation → IsBelowLimit s.limit number reply → Does callback (Looked c.timer number reply ∷ [])
-      → BodyKept IsSo s label c reading claim restart w h h'
+      → BodyKept s label claim restart w h h'
   looked_kept {at = at} {number = number} event observation reply kind made noted observes logs stamp holds below does =
       let counted : number ≡ count c.timer at = stamp ∙ stamp_counts o (clocks_of s) s.limit at c.timer on in
       let low = count_begins c.timer made.from in
@@ -147,9 +146,8 @@ module _ (IsSo : List ClockLine → Type 0) (s : Script) (o : Opening) (is : o �
         part = part_looked claim number event observation reply looks.0 looks.1 same noted (omega (arith, counted, low)) (omega (arith, counted, high));
         kind = declared (Looked c.timer number reply ∷ []) kind does;
         holds = λ e joined goes before points. (
-          subst (λ ob. Saw (course_of s e) c.timer number ob (length w.seen)) (sym observes)
-              (saw_from (course_of s e) w.seen goes.0 (seen_first w.seen joined goes) c.timer number observation
-              (ap (λ (u : Timer). u.stamp) (sym state) ∙ sym stamp) (subst (λ u. Holds u observation) state holds)),
+          rw observes (saw_from (course_of s e) w.seen goes.0 (seen_first w.seen joined goes) c.timer number observation
+              (ap (λ (u : Timer). u.stamp) (sym state) ∙ sym stamp) (rw (← state) holds)),
           below,
         );
         span = λ e follows finish rearmed. tt;
@@ -157,9 +155,9 @@ module _ (IsSo : List ClockLine → Type 0) (s : Script) (o : Opening) (is : o �
 
   -- a callback that made an entry of its timer
   entered_kept : {callback : Callback} {number : ℕ} {entry : Entry} {notes : List Noted} (r : Receipt) → kind_of s c.timer ≡ kinds.Raw callback
-      → EntersNotes IsSo v w notes → map receipt notes ≡ (c.timer, (number, entry)) ∷ [] → h'.log.receipts ≡ h.log.receipts ++ r ∷ []
+      → EntersNotes (HasRead reading) v w notes → map receipt notes ≡ (c.timer, (number, entry)) ∷ [] → h'.log.receipts ≡ h.log.receipts ++ r ∷ []
       → map entry_in_note (entry_notes label (r ∷ [])) ≡ (c.timer, (number, entry)) ∷ [] → look_notes label (r ∷ []) ≡ []
-      → Does callback (Entered c.timer number entry ∷ []) → BodyKept IsSo s label c reading claim restart w h h'
+      → Does callback (Entered c.timer number entry ∷ []) → BodyKept s label claim restart w h h'
   entered_kept {number = number} {entry = entry} {notes = notes} r kind enters are logs noted no_look does = record {
     body = Entered c.timer number entry ∷ [];
     notes = notes;
@@ -177,7 +175,7 @@ module _ (IsSo : List ClockLine → Type 0) (s : Script) (o : Opening) (is : o �
   -- law: the actions of the callback of a timer by itself, as its timer declares it
   pub callback_kept : (callback : Callback) → kind_of s c.timer ≡ kinds.Raw callback
       → RunsCallback o v w c reading h.log.receipts h'.log.receipts (callback_of (kinds.Raw callback)) restart
-      → BodyKept IsSo s label c reading claim restart w h h'
+      → BodyKept s label claim restart w h h'
   callback_kept callbacks.Once kind run =
       record {
         body = [];
@@ -193,12 +191,12 @@ module _ (IsSo : List ClockLine → Type 0) (s : Script) (o : Opening) (is : o �
         span = λ e follows finish rearmed. tt;
       }
     where
-      still : EntersNotes IsSo v w []
+      still : EntersNotes (HasRead reading) v w []
       still = enters_none (begins_same (ap (λ k. k.seen) run.0)) (ap (λ k. k.mine) run.0)
   callback_kept (callbacks.Every interval) kind run = forwards_kept run.0.answer run.0.forwards run.0.receipt
     where
       forwards_kept : (answer : ForwardAnswer) → Forwards o v w c reading interval answer
-          → h'.log.receipts ≡ h.log.receipts ++ forward_receipt c reading interval answer ∷ [] → BodyKept IsSo s label c reading claim restart w h h'
+          → h'.log.receipts ≡ h.log.receipts ++ forward_receipt c reading interval answer ∷ [] → BodyKept s label claim restart w h h'
       forwards_kept (forwards.Spent n) f logs =
           looked_kept (events.Forward reading interval) observations.Spent replies.Spent kind f.made refl refl logs f.fits.1 f.fits.0 tt
           (λ finish rearmed. (inr (inr (n, refl)), ap asks run.1))
@@ -208,7 +206,7 @@ module _ (IsSo : List ClockLine → Type 0) (s : Script) (o : Opening) (is : o �
           (let most = limit_within f.at c.timer in omega (arith, f.fits.0, f.fits.2, most))
           (λ finish rearmed. (inr (inl (n, g, refl)), ap asks run.1))
       forwards_kept (forwards.Forwarded number passed_by expires) f logs =
-          let along = enters_along IsSo o (clocks_of s) s.limit (events.Forward reading interval ∷ []) on f.made (λ clock has. (so clock has, tt)) in
+          let along = enters_along (HasRead reading) o (clocks_of s) s.limit (events.Forward reading interval ∷ []) on f.made (λ clock has. (has, tt)) in
           entered_kept (forward_receipt c reading interval (forwards.Forwarded number passed_by expires)) kind along.enters
           (along.are ∙ ap (forward_in_receipt c.timer reading.stamp interval) (sym f.fits.2)) logs refl refl
           (λ finish rearmed. (inl (number, passed_by, expires, refl), ap asks run.1))
@@ -219,7 +217,7 @@ module _ (IsSo : List ClockLine → Type 0) (s : Script) (o : Opening) (is : o �
     where
       begins_kept : (answer : StartAnswer) → (f : StartsTimer o v w c.timer modes.Rel ns asked reading answer)
           → (timer_then o f.at c.timer).running ≡ Some c.generation → h'.log.receipts ≡ h.log.receipts ++ start_receipt c reading ns asked answer ∷ []
-          → BodyKept IsSo s label c reading claim restart w h h'
+          → BodyKept s label claim restart w h h'
       begins_kept (starts.Spent n) f runs logs =
           looked_kept (events.Start modes.Rel ns reading asked) observations.Spent replies.Spent kind f.made refl refl logs f.fits.2 f.fits.1 tt
           (λ finish rearmed. (inr (n, refl), ap asks run.1))
@@ -232,7 +230,7 @@ module _ (IsSo : List ClockLine → Type 0) (s : Script) (o : Opening) (is : o �
           let made : MadeAt v w c.timer f.at (entries_along u (es false)) = subst (λ b. MadeAt v w c.timer f.at (entries_along u (es b))) stays f.made in
           let told : Bool → StartAnswer = λ b. starts.Started (is_some u.armed) (step_all u (es b)).stamp (step_all u (es b)).base
           (if b then 2 ^ asked else 0) (step_all u (es b)).clock (step_all u (es b)).expires in
-          let along = enters_along IsSo o (clocks_of s) s.limit (es false) on made (λ clock has. (so clock has, tt)) in
+          let along = enters_along (HasRead reading) o (clocks_of s) s.limit (es false) on made (λ clock has. (has, tt)) in
           let arming : Arming = record { out = None; number = generation; base = base; clock = clock; expires = expires; was_armed = was } in
           entered_kept (start_receipt c reading ns asked (starts.Started was generation base outs clock expires)) kind along.enters
           (along.are ∙ ap (start_in_receipt c.timer reading.stamp ns asked) (sym (f.fits.2 ∙ ap told stays))) logs refl refl

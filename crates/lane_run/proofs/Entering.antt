@@ -79,7 +79,7 @@ pub along_shown : (clock : List ClockLine) (t : Timer) (es : List Event) → All
 along_shown clock t [] has = tt
 along_shown clock t (e ∷ es) has = (
   line_entry-shown clock t e has.0,
-  subst (λ n. AreShown clock n (entries_along (after t e) es) (lines_along (after t e) es)) (stamp-after t e).0 (along_shown clock (after t e) es has.1),
+  rw (← (stamp-after t e).0) (along_shown clock (after t e) es has.1),
 )
 
 lines_as_many : (t : Timer) (es : List Event) → length (lines_along t es) ≡ length (entries_along t es)
@@ -99,13 +99,6 @@ pub record EntersNotes (IsSo : List ClockLine → Type 0) (v w : KnownOfTimers) 
   pub mine : w.mine ≡ v.mine ++ map place_of notes
   pub shows : (r : RunRecord) (order later : List TimerEntry) → order ≡ w.seen ++ later → IsSo r.clock → AllByRecursion (ShowsEntry r order) notes
 
--- law: what a pass has made in two parts
-pub places_joined : {X : Type 0} (place : X → ℕ × ℕ) (first : List (ℕ × ℕ)) {mid last : List (ℕ × ℕ)} (xs ys : List X) → mid ≡ first ++ map place xs
-    → last ≡ mid ++ map place ys → last ≡ first ++ map place (xs ++ ys)
-places_joined place first xs ys one two =
-    two ∙ ap (λ ps. ps ++ map place ys) one ∙ append_assoc first (map place xs) (map place ys)
-    ∙ ap (λ ps. first ++ ps) (sym (map-append place xs ys))
-
 -- law: receipts of two parts of a call are those of both
 pub enters-append : {IsSo : List ClockLine → Type 0} {u v w : KnownOfTimers} {xs ys : List Noted} → EntersNotes IsSo u v xs → EntersNotes IsSo v w ys
     → EntersNotes IsSo u w (xs ++ ys)
@@ -114,7 +107,7 @@ enters-append {u = u} {v = v} {w = w} {xs = xs} {ys = ys} one two = record {
   made = made-append w.seen (length u.seen) (length v.seen) (length w.seen) xs ys
       (made_goes_on w.seen v.seen two.seen.rest (length u.seen) (length v.seen) xs two.seen.whole one.made) two.made
       (begins_length one.seen) (begins_length two.seen);
-  mine = places_joined place_of u.mine xs ys one.mine two.mine;
+  mine = two.mine ∙ rw (one.mine, map-append place_of, append_assoc) refl;
   shows = λ r order later is so. All-append (ShowsEntry r order) xs ys
       (one.shows r order (two.seen.rest ++ later) (is ∙ ap (λ zs. zs ++ later) two.seen.whole ∙ append_assoc v.seen two.seen.rest later) so)
       (two.shows r order later is so);

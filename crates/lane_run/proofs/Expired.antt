@@ -48,7 +48,7 @@ use Rattle.pass_names.proofs.Passes.{begins_length}
 use Rattle.lane_run.proofs.SeenMore.{goes_before}
 use Rattle.lane_run.proofs.CallKept.{logged_from, reading_followed, reading_goes_on, reads_begins}
 use Rattle.lane_run.proofs.PartKept.{keeps_part, sees_part}
-use Rattle.lane_run.proofs.Parts.{IsPart, part_none, part_then}
+use Rattle.lane_run.proofs.Parts.{HasRead, part_none, part_then}
 use Rattle.lane_run.proofs.Fired.{RunKept, turns_kept}
 
 -- ---- a run that looked on
@@ -66,13 +66,13 @@ have_later w c order base at before from (f ∷ fs) notes to to' le run = (
 )
 
 -- law: callbacks ran, and behind them their pass only looked
-run_later : {IsSo : List ClockLine → Type 0} {s : Script} {label : Label} {base at n : ℕ} {v : KnownOfTimers} {p : ObjectsPass} {w : KnownOfTimers}
+run_later : {s : Script} {label : Label} {base : ℕ} {reading : ClockReading} {n : ℕ} {v : KnownOfTimers} {p : ObjectsPass} {w : KnownOfTimers}
     {q : ObjectsPass} {w' : KnownOfTimers} {log callback_log : List Receipt} {object_log : List ObjectReceipt}
-    → RunKept IsSo s label base at n v p w q log callback_log object_log → LooksOn w w'
-    → RunKept IsSo s label base at n v p w' q log callback_log object_log
-run_later {IsSo = IsSo} {s = s} {label = label} {base = base} {at = at} {v = v} {p = p} {w = w} {q = q} {w' = w'} {log = log} {callback_log = callback_log}
+    → RunKept s label base reading n v p w q log callback_log object_log → LooksOn w w'
+    → RunKept s label base reading n v p w' q log callback_log object_log
+run_later {s = s} {label = label} {base = base} {reading = reading} {v = v} {p = p} {w = w} {q = q} {w' = w'} {log = log} {callback_log = callback_log}
     {object_log = object_log} run looks =
-    let actions = flat_map (fires base at) run.fired in
+    let actions = flat_map (fires base reading.stamp) run.fired in
     let all = log ++ callback_log in
     let part = part_then run.part (part_none {w = w'} looks.seen looks.mine) in
     record {
@@ -83,7 +83,7 @@ run_later {IsSo = IsSo} {s = s} {label = label} {base = base} {at = at} {v = v} 
       claimed = run.claimed;
       part = rw (append-nil actions, append-nil run.notes, append-nil all, append-nil object_log) at part;
       have = λ e joined goes follows later behind points.
-          have_later (course_of s e) label e.order base at [] (length v.seen) run.fired run.notes (length w.seen) (length w'.seen) (begins_length looks.seen)
+          have_later (course_of s e) label e.order base reading.stamp [] (length v.seen) run.fired run.notes (length w.seen) (length w'.seen) (begins_length looks.seen)
           (run.have e joined (goes_before looks.seen goes) follows later behind points);
     }
 
@@ -101,7 +101,7 @@ module _ {s : Script} {x : WorldOf} {l m : LaneOf} {a : Answer} {base budget : �
     (c : CallsExpire x l m a base budget) where
   -- so many callbacks, to what the pass then knows
   abbrev Run : ℕ → KnownOfTimers → Type 0
-  Run n w = RunKept (λ clock. reading_at clock c.reading.stamp ≡ c.reading) s l.label base c.reading.stamp n l.pass.timers.known l.pass.objects w
+  Run n w = RunKept s l.label base c.reading n l.pass.timers.known l.pass.objects w
       m.pass.objects c.log c.callback_log c.object_log
 
   -- what makes the call fit, by its callbacks in the run that goes on from there
@@ -129,11 +129,9 @@ module _ {s : Script} {x : WorldOf} {l m : LaneOf} {a : Answer} {base budget : �
       let clock = reads_begins p q c.reads.looks.seen in
       let logged = logged_from p q run.notes t call answer (sees_part p q part clock) refl part.timers.enters.made part.timers.are c.reads.count
       part.timers.no_write
-      (λ i. subst (λ ns. NeverFall (length (seen_of p.objects i)) ns (length (seen_of q.objects i))) (sym (append-nil (numbers_of_object i actions)))
-      (part.objects.steps i)) in
+      (λ i. rw (append-nil (numbers_of_object i actions)) (part.objects.steps i)) in
       let is : IsLabel s l.label = slice_get_within (calls_of s l.label.lane) l.label.call next.at next.there in
-      subst (λ ts. KeepsCall s l call (told ts) m) (sym run.claimed)
-      (keeps_part next m answer (λ clock. reading_at clock c.reading.stamp ≡ c.reading) (c.log ++ c.callback_log) c.object_log run.notes t part
+      rw run.claimed (keeps_part next m answer (HasRead c.reading) (c.log ++ c.callback_log) c.object_log run.notes t part
       (reading_goes_on p q c.reading c.reads) clock c.reads.looks.mine c.notes logged
       (λ e follows joined has kept low. fits e follows joined kept low
       (run.have e joined follows.timers follows.objects [] (λ i. tt)
@@ -145,7 +143,7 @@ module _ {s : Script} {x : WorldOf} {l m : LaneOf} {a : Answer} {base budget : �
       → Run n w
   callbacks_kept n w turns =
       let r = c.runs in
-      let run = turns_kept (λ clock. reading_at clock c.reading.stamp ≡ c.reading) s x next.world next.range.limit.0 l.label base c.reading (λ clock is. is) n
+      let run = turns_kept s x next.world next.range.limit.0 l.label base c.reading n
       r.before r.after l.pass.timers.known w c.log r.objects r.callbacks r.fresh.0 r.fresh.1 turns in
       rw (← r.pass, ← r.back, ← r.logs.0, ← r.logs.1) run.0
 
@@ -182,4 +180,4 @@ module _ {s : Script} {x : WorldOf} {l m : LaneOf} {a : Answer} {base budget : �
 
   -- law: a lane keeps an expiry run
   pub keeps_expire : KeepsCall s l (calls.Expire base budget) a m
-  keeps_expire = subst (λ a. KeepsCall s l (calls.Expire base budget) a m) (sym c.told) (answer_kept c.answer c.runs.expires)
+  keeps_expire = rw c.told (answer_kept c.answer c.runs.expires)

@@ -52,9 +52,10 @@ use Rattle.std.specs.Prelude.{flat_map}
 use Rattle.std.proofs.lemmas.List.Concat.{flat_map-append}
 use Rattle.lane_run.proofs.Claimed.{claimed_in-append}
 use Rattle.lane_run.proofs.Bodies.{callback_kept}
-use Rattle.lane_run.proofs.Parts.{BodyKept, claim_entry, fired_of, IsClaimed, IsPart, objects_grow, part-append, part_entered, part_none}
+use Rattle.lane_run.proofs.Parts.{BodyKept, fired_of, HasRead, IsClaimed, IsPart, objects_grow, part-append, part_entered, part_none}
 use Rattle.lane_run.proofs.PartLists.{also-append, each_joined, each_weaker, notes-append}
-use Rattle.lane_run.proofs.Entering.{enters_once}
+use Rattle.lane_run.proofs.Entering.{enters_once, EntersNotes}
+use Rattle.record_text.specs.declared.record.Restart as line_restart
 use Rattle.lane_notes.specs.declared.notes.EntryNote.{EntryNote}
 use Rattle.seq_timer.specs.declared.event.Event.TheVariants as events
 use Rattle.timer_objects.specs.declared.callback.Callback.TheVariants as runs
@@ -81,28 +82,7 @@ four note a b c d = rw (notes-append note (a ++ b) (c ++ d), notes-append note a
 
 -- ---- one callback
 
--- a callback with its claim and its finish: its actions, as a part of the call, and that it ran so in every run that goes on from there
-pub record TurnKept (IsSo : List ClockLine → Type 0) (s : Script) (label : Label) (base at : ℕ) (k : KnownOfTimers) (h : Firing) (log : List Receipt)
-    (k' : KnownOfTimers) (h' : Firing) (log' : List Receipt) : Type 0 where
-  pub fired : Fired
-  pub notes : List Noted
-  pub log_more : List Receipt
-  pub callback_more : List Receipt
-  pub object_more : List ObjectReceipt
-  pub adds : log' ≡ log ++ log_more
-  pub adds_callback : h'.log.receipts ≡ h.log.receipts ++ callback_more
-  pub adds_objects : h'.object_log.receipts ≡ h.object_log.receipts ++ object_more
-  pub no_looks : look_notes label log_more ≡ []
-  pub claimed : claimed_in log_more ≡ fired.timer ∷ []
-  pub part : IsPart IsSo label k h.objects_pass.now k' h'.objects_pass.now (fires base at fired) notes (log_more ++ callback_more) object_more
-  pub ran : (e : Ending) → IsJoined s e → promises.GoesOn k'.seen e → ((i : ℕ) → FollowsObject e i (seen_of h'.objects_pass.now i))
-      → (before : List Action)
-      → ((i : ℕ) → ((j : ℕ) → made j fired.body ≡ [])
-      → IsObjectPoint (course_of s e) label (with_claim base at fired before) i (length (seen_of h'.objects_pass.now i)))
-      → (ran : expires.Ran (course_of s e) label e.order base at before fired (length k.seen) (length k'.seen)) × (notes ≡ expires.notes_of ran)
-
-module _ (IsSo : List ClockLine → Type 0) (s : Script) (x : WorldOf) (is : IsWorldOf s x) (some : 1 ≤ s.limit) (label : Label) (base : ℕ)
-    (reading : ClockReading) (so : (clock : List ClockLine) → IsSo clock → reading_at clock reading.stamp ≡ reading) where
+module _ (s : Script) (x : WorldOf) (is : IsWorldOf s x) (some : 1 ≤ s.limit) (label : Label) (base : ℕ) (reading : ClockReading) where
   abbrev o : Opening
   o = x.timers.about
 
@@ -110,31 +90,26 @@ module _ (IsSo : List ClockLine → Type 0) (s : Script) (x : WorldOf) (is : IsW
   on = ap (λ (y : Opening). y.timers) is.timers
 
   -- a claim
-  claim_made : {k v : KnownOfTimers} {c : ClaimNumbers} → ClaimsNextDue o k v base reading c → IsClaimed IsSo c reading.stamp k v
+  claim_made : {k v : KnownOfTimers} {c : ClaimNumbers} → ClaimsNextDue o k v base reading c → IsClaimed base c reading k v
   claim_made {c = c} claims =
       let event = events.Claim base reading in
       let u = timer_then o claims.at c.timer in
-      let one = enters_once IsSo o (clocks_of s) s.limit event on claims.made so claims.number
-      (ap (λ g. entries.Claim base reading.stamp (unwrap_or g 0)) claims.armed
-      ∙ ap (λ b. entries.Claim b reading.stamp c.generation) (sym claims.there)) in
+      let one = enters_once (HasRead reading) o (clocks_of s) s.limit event on claims.made (λ clock has. has) claims.number
+      (ap (λ g. entries.Claim base reading.stamp (unwrap_or g 0)) claims.armed) in
       let le = count_begins c.timer claims.made.from in
+      let own = length-append (entries_of c.timer claims.at) (record { event = event; reply = reply_to u event } ∷ []) in
       record {
         note = one.0;
         enters = one.1;
         is = one.2;
+        there = claims.there;
         some = omega (arith, claims.number);
-        more = omega (
-          arith,
-          le,
-          ap length claims.made.own,
-          length-append (entries_of c.timer claims.at) (record { event = event; reply = reply_to u event } ∷ []),
-        );
+        more = omega (arith, le, ap length claims.made.own, own);
       }
 
   -- the function of a claim, by the handler's meaning
-  fires_kept : (h h' : Firing) {k v : KnownOfTimers} (w : KnownOfTimers) {c : ClaimNumbers} (claim : IsClaimed IsSo c reading.stamp k v) (restart : Restart)
-      → h.objects.now ≡ x.objects → h.callbacks.now ≡ x.callbacks → Fires o h h' v w c reading restart
-      → BodyKept IsSo s label c reading claim restart w h h'
+  fires_kept : (h h' : Firing) {k v : KnownOfTimers} (w : KnownOfTimers) {c : ClaimNumbers} (claim : IsClaimed base c reading k v) (restart : Restart)
+      → h.objects.now ≡ x.objects → h.callbacks.now ≡ x.callbacks → Fires o h h' v w c reading restart → BodyKept s label claim restart w h h'
   fires_kept h h' {v = v} w {c = c} claim restart objects handlers fires = by_kind (kind_of s c.timer) refl
     where
       by_over : (kind : Kind) → kind_of s c.timer ≡ kind → FiresBy o h h' v w c reading restart (trigger_of (over_of kind) c reading)
@@ -144,92 +119,56 @@ module _ (IsSo : List ClockLine → Type 0) (s : Script) (x : WorldOf) (is : IsW
       limit : h.objects.now.limit ≡ s.limit
       limit = ap (λ y. y.limit) objects ∙ is.limit
 
-      by_kind : (kind : Kind) → kind_of s c.timer ≡ kind → BodyKept IsSo s label c reading claim restart w h h'
+      by_kind : (kind : Kind) → kind_of s c.timer ≡ kind → BodyKept s label claim restart w h h'
       by_kind (kinds.Raw callback) same =
           let run = by_over (kinds.Raw callback) same in
           let its : callback_at h c.timer ≡ callback_of (kinds.Raw callback) =
           ap (λ cs. get_or cs c.timer runs.Once) (handlers ∙ is.callbacks) ∙ declared_callback s.timers c.timer ∙ ap callback_of same in
-          callback_kept IsSo s o is.timers some label c reading so claim restart w h h' run.1 run.2 callback same
+          callback_kept s o is.timers some label c reading claim restart w h h' run.1 run.2 callback same
           (subst (λ cb. RunsCallback o v w c reading h.log.receipts h'.log.receipts cb restart) its run.0)
       by_kind (kinds.Posix asked) same =
           let run = by_over (kinds.Posix asked) same in
-          subst (λ y. BodyKept IsSo s label c reading claim restart y h h') (sym run.1)
-          (trigger_kept IsSo s h.objects.now limit some label c reading so claim restart h h' run.2 run.3
-          (λ f its. subst (λ d. IsBody d reading.stamp f) (sym same) its) (of_kind.Posix (posix_calls.Trigger c.generation reading))
-          (λ y allows. posix_noted y c.generation reading allows) (λ n. refl) (λ n. refl) run.0)
+          rw run.1 (trigger_kept s h.objects.now limit some label c reading claim restart h h' run.2 run.3 (λ f its. rw same its)
+          (of_kind.Posix (posix_calls.Trigger c.generation reading)) (λ y allows. posix_noted y c.generation reading allows) (λ n. refl) (λ n. refl) run.0)
       by_kind (kinds.Fd asked) same =
           let run = by_over (kinds.Fd asked) same in
-          subst (λ y. BodyKept IsSo s label c reading claim restart y h h') (sym run.1)
-          (trigger_kept IsSo s h.objects.now limit some label c reading so claim restart h h' run.2 run.3
-          (λ f its. subst (λ d. IsBody d reading.stamp f) (sym same) its) (of_kind.Fd (fd_calls.Trigger c.generation reading))
-          (λ y allows. fd_noted y c.generation reading allows) (λ n. refl) (λ n. refl) run.0)
+          rw run.1 (trigger_kept s h.objects.now limit some label c reading claim restart h h' run.2 run.3 (λ f its. rw same its)
+          (of_kind.Fd (fd_calls.Trigger c.generation reading)) (λ y allows. fd_noted y c.generation reading allows) (λ n. refl) (λ n. refl) run.0)
 
-  -- law: one callback of an expiry run, with its claim and its finish
-  turn_kept : (h h' : Firing) (k k' : KnownOfTimers) (log log' : List Receipt) → h.objects.now ≡ x.objects → h.callbacks.now ≡ x.callbacks
-      → Turn firing o base reading k h log k' h' log' → TurnKept IsSo s label base reading.stamp k h log k' h' log'
-  turn_kept h h' k k' log log' objects handlers turn =
-      let c = turn.claim in
-      let claims : ClaimsNextDue o k turn.claimed base reading c = turn.claims in
-      let ran = turn.ran in
-      let done = ran.done in
-      let finished = ran.finished in
-      let restart = asks ran.restart in
-      let claim = claim_made claims in
-      let b = fires_kept h h' done claim ran.restart objects handlers ran.did in
-      let f = fired_of c b.body finished.number restart (restart_noted finished.rearmed) in
-      let u = timer_then o ran.finishes.at c.timer in
-      let finish = enters_once IsSo o (clocks_of s) s.limit (events.Finish restart) on ran.finishes.made (λ clock has. tt) ran.finishes.number
-      (ap (λ g. entries.Finish restart (unwrap_or g 0) (restart_noted (rearmed_by u restart))) ran.finishes.runs
-      ∙ ap (λ r. entries.Finish restart c.generation (restart_noted r)) (sym ran.finishes.rearmed)) in
-      let first = claim_receipt reading c in
-      let last = finish_receipt c ran.restart finished in
-      let are : map receipt (finish.0 ∷ []) ≡ (c.timer, (f.finish, finish_of f)) ∷ [] = ap (λ r. r ∷ []) finish.2 in
-      let finishes : IsPart IsSo label done h'.objects_pass.now k' h'.objects_pass.now (Entered f.timer f.finish (finish_of f) ∷ []) (finish.0 ∷ [])
-      (last ∷ []) [] = part_entered finish.1 refl (tt, tt) are are refl in
-      let order : IsPermutation (entry_notes label ((first ∷ b.more) ++ last ∷ [])) (entry_notes label (first ∷ last ∷ b.more)) =
-      rw (notes-append (entry_note label) b.more (last ∷ []))
-      (IsPermutation-cons _ (entry_notes label b.more ++ entry_notes label (last ∷ [])) (entry_notes label (last ∷ b.more))
-      (IsPermutation-to_front (entry_notes label b.more) _)) in
-      let looks : look_notes label b.more ≡ look_notes label (b.more ++ last ∷ []) = rw (notes-append (look_note label) b.more (last ∷ [])) (sym (append-nil _)) in
-      let kept : TurnKept IsSo s label c.base reading.stamp k h log k' h' log' = record {
-        fired = f;
-        notes = claim.note ∷ b.notes ++ finish.0 ∷ [];
-        log_more = first ∷ last ∷ [];
-        callback_more = b.more;
-        object_more = b.object_more;
-        adds = ran.receipts;
-        adds_callback = b.adds;
-        adds_objects = b.adds_objects;
-        no_looks = refl;
-        claimed = refl;
-        part = subst (IsPart IsSo label k h.objects_pass.now k' h'.objects_pass.now (fires c.base reading.stamp f) (claim.note ∷ b.notes ++ finish.0 ∷ [])
-            (first ∷ last ∷ b.more)) (append-nil b.object_more) (part-append {all = first ∷ last ∷ b.more} b.part finishes order looks);
-        ran = λ e joined goes follows before points. (
-          record {
-            claimed = length turn.claimed.seen;
-            acted = length done.seen;
-            claim = claim.note;
-            body = b.notes;
-            finish = finish.0;
-            rise = begins_length claim.enters.seen;
-            goes_on = begins_length b.enters.seen;
-            ends = begins_length finish.1.seen;
-            claim_made = let on = goes_before (begins_trans b.enters.seen finish.1.seen) goes in
-                made_goes_on e.order turn.claimed.seen on.0 (length k.seen) (length turn.claimed.seen) (claim.note ∷ []) on.1 claim.enters.made;
-            claim_is = claim.is;
-            body_made = let on = goes_before finish.1.seen goes in
-                made_goes_on e.order done.seen on.0 (length turn.claimed.seen) (length done.seen) b.notes on.1 b.enters.made;
-            body_is = let all = b.part.timers.are in cc;
-            finish_made = made_goes_on e.order k'.seen goes.0 (length done.seen) (length k'.seen) (finish.0 ∷ []) goes.1 finish.1.made;
-            finish_is = finish.2;
-            kind = b.kind finished.number (restart_noted finished.rearmed);
-            holds = b.holds e joined (goes_before finish.1.seen goes) (with_claim c.base reading.stamp f before) points;
-            span = b.span e follows finished.number (restart_noted finished.rearmed);
-          },
-          refl,
-        );
-      } in
-      subst (λ b. TurnKept IsSo s label b reading.stamp k h log k' h' log') claims.there kept
+  -- a callback ran, with its claim and its finish, in every run that goes on from there
+  turn_ran : {k v w k' : KnownOfTimers} {c : ClaimNumbers} {restart : Restart} {h h' : Firing} (claim : IsClaimed base c reading k v)
+      (b : BodyKept s label claim restart w h h') (number : ℕ) (rearmed : line_restart.Restart)
+      (finish : (n : Noted) × EntersNotes (HasRead reading) w k' (n ∷ [])
+      × (receipt n ≡ (c.timer, (number, entries.Finish (asks restart) c.generation rearmed)))) (e : Ending) → IsJoined s e → promises.GoesOn k'.seen e
+      → ((i : ℕ) → FollowsObject e i (seen_of h'.objects_pass.now i)) → (before : List Action)
+      → ((i : ℕ) → ((j : ℕ) → made j b.body ≡ []) → IsObjectPoint (course_of s e) label
+      (with_claim base reading.stamp (fired_of c b.body number (asks restart) rearmed) before) i (length (seen_of h'.objects_pass.now i)))
+      → (ran : expires.Ran (course_of s e) label e.order base reading.stamp before (fired_of c b.body number (asks restart) rearmed) (length k.seen)
+      (length k'.seen)) × (claim.note ∷ b.notes ++ finish.0 ∷ [] ≡ expires.notes_of ran)
+  turn_ran {k = k} {v = v} {w = w} {k' = k'} {c = c} {restart = restart} claim b number rearmed finish e joined goes follows before points =
+      let acted = goes_before finish.1.seen goes in
+      let claimed = goes_before b.enters.seen acted in (
+        record {
+          claimed = length v.seen;
+          acted = length w.seen;
+          claim = claim.note;
+          body = b.notes;
+          finish = finish.0;
+          rise = begins_length claim.enters.seen;
+          goes_on = begins_length b.enters.seen;
+          ends = begins_length finish.1.seen;
+          claim_made = made_goes_on e.order v.seen claimed.0 (length k.seen) (length v.seen) (claim.note ∷ []) claimed.1 claim.enters.made;
+          claim_is = claim.is;
+          body_made = made_goes_on e.order w.seen acted.0 (length v.seen) (length w.seen) b.notes acted.1 b.enters.made;
+          body_is = let all = b.part.timers.are in cc;
+          finish_made = made_goes_on e.order k'.seen goes.0 (length w.seen) (length k'.seen) (finish.0 ∷ []) goes.1 finish.1.made;
+          finish_is = finish.2;
+          kind = b.kind number rearmed;
+          holds = b.holds e joined acted (with_claim base reading.stamp (fired_of c b.body number (asks restart) rearmed) before) points;
+          span = b.span e follows number rearmed;
+        },
+        refl,
+      )
 
 -- ---- the callbacks so far
 
@@ -240,18 +179,18 @@ HasPoints s e label p q all =
     → AllByRecursion (λ x. x.0 ≤ n) (made i before) → AllByRecursion (λ x. n < x.0) (made i rest) → IsObjectPoint (course_of s e) label before i n
 
 -- callbacks of an expiry run from its beginning on: their actions, as a part of the call, and that they ran in every run that goes on from there
-pub record RunKept (IsSo : List ClockLine → Type 0) (s : Script) (label : Label) (base at n : ℕ) (k : KnownOfTimers) (p : ObjectsPass) (k' : KnownOfTimers)
+pub record RunKept (s : Script) (label : Label) (base : ℕ) (reading : ClockReading) (n : ℕ) (k : KnownOfTimers) (p : ObjectsPass) (k' : KnownOfTimers)
     (p' : ObjectsPass) (log callback_log : List Receipt) (object_log : List ObjectReceipt) : Type 0 where
   pub fired : List Fired
   pub many : length fired ≡ n
   pub notes : List Noted
   pub no_looks : look_notes label log ≡ []
   pub claimed : claimed_in log ≡ map (λ f. f.timer) fired
-  pub part : IsPart IsSo label k p k' p' (flat_map (fires base at) fired) notes (log ++ callback_log) object_log
+  pub part : IsPart (HasRead reading) label k p k' p' (flat_map (fires base reading.stamp) fired) notes (log ++ callback_log) object_log
   pub have : (e : Ending) → IsJoined s e → promises.GoesOn k'.seen e → ((i : ℕ) → FollowsObject e i (seen_of p' i)) → (later : List Action)
       → ((i : ℕ) → AllByRecursion (λ x. length (seen_of p' i) < x.0) (made i later))
-      → HasPoints s e label p p' (flat_map (fires base at) fired ++ later)
-      → HaveRun (course_of s e) label e.order base at [] (length k.seen) fired notes (length k'.seen)
+      → HasPoints s e label p p' (flat_map (fires base reading.stamp) fired ++ later)
+      → HaveRun (course_of s e) label e.order base reading.stamp [] (length k.seen) fired notes (length k'.seen)
 
 -- a run goes on from what was seen of objects before
 follows_before : (p q : ObjectsPass) (e : Ending) → GoesOn p.knows.pass.seen q.knows.pass.seen → ((i : ℕ) → FollowsObject e i (seen_of q i)) → (i : ℕ)
@@ -259,98 +198,111 @@ follows_before : (p q : ObjectsPass) (e : Ending) → GoesOn p.knows.pass.seen q
 follows_before p q e goes_on follows i =
     let its = follows i in record { history = its.history; goes_on = begins_trans (goes_on.each i) its.goes_on; lines = its.lines }
 
-module _ {IsSo : List ClockLine → Type 0} {s : Script} {label : Label} {base at : ℕ} where
-  -- no callbacks
-  run_none : (k : KnownOfTimers) (p : ObjectsPass) → RunKept IsSo s label base at 0 k p k p [] [] []
-  run_none k p = record {
-    fired = [];
-    many = refl;
-    notes = [];
-    no_looks = refl;
-    claimed = refl;
-    part = part_none (begins_same refl) refl;
-    have = λ e joined goes follows later behind points. (refl, omega arith);
-  }
-
+module _ (s : Script) (x : WorldOf) (is : IsWorldOf s x) (some : 1 ≤ s.limit) (label : Label) (base : ℕ) (reading : ClockReading) where
   -- one more callback behind those that ran
   run_more : {n : ℕ} {k : KnownOfTimers} {p : ObjectsPass} {k1 : KnownOfTimers} (h : Firing) {k' : KnownOfTimers} (h' : Firing) {log log' : List Receipt}
-      → RunKept IsSo s label base at n k p k1 h.objects_pass.now log h.log.receipts h.object_log.receipts
-      → TurnKept IsSo s label base at k1 h log k' h' log'
-      → RunKept IsSo s label base at (suc n) k p k' h'.objects_pass.now log' h'.log.receipts h'.object_log.receipts
-  run_more {k = k} {p = p} {k1 = k1} h {k' = k'} h' {log = log} run turn =
-      let f = turn.fired in
+      → h.objects.now ≡ x.objects → h.callbacks.now ≡ x.callbacks
+      → RunKept s label base reading n k p k1 h.objects_pass.now log h.log.receipts h.object_log.receipts
+      → Turn firing x.timers.about base reading k1 h log k' h' log'
+      → RunKept s label base reading (suc n) k p k' h'.objects_pass.now log' h'.log.receipts h'.object_log.receipts
+  run_more {k = k} {p = p} {k1 = k1} h {k' = k'} h' {log = log} objects handlers run turn =
+      let c = turn.claim in
+      let ran = turn.ran in
+      let restart = asks ran.restart in
+      let rearmed = restart_noted ran.finished.rearmed in
+      let claim : IsClaimed base c reading k1 turn.claimed = claim_made s x is some label base reading turn.claims in
+      let b = fires_kept s x is some label base reading h h' ran.done claim ran.restart objects handlers ran.did in
+      let f = fired_of c b.body ran.finished.number restart rearmed in
+      let u = timer_then x.timers.about ran.finishes.at c.timer in
+      let finish = enters_once (HasRead reading) x.timers.about (clocks_of s) s.limit (events.Finish restart) (ap (λ (y : Opening). y.timers) is.timers)
+      ran.finishes.made (λ clock has. tt) ran.finishes.number
+      (ap (λ g. entries.Finish restart (unwrap_or g 0) (restart_noted (rearmed_by u restart))) ran.finishes.runs
+      ∙ ap (λ r. entries.Finish restart c.generation (restart_noted r)) (sym ran.finishes.rearmed)) in
+      let first = claim_receipt reading c in
+      let last = finish_receipt c ran.restart ran.finished in
       let p1 = h.objects_pass.now in
       let p' = h'.objects_pass.now in
+      let at = reading.stamp in
       let done = flat_map (fires base at) run.fired in
       let one = fires base at f in
       let claiming = Entered f.timer f.claim (claim_of base at f) ∷ [] in
       let finishing = Entered f.timer f.finish (finish_of f) ∷ [] in
+      let notes = claim.note ∷ b.notes ++ finish.0 ∷ [] in
+      let are : map receipt (finish.0 ∷ []) ≡ (c.timer, (f.finish, finish_of f)) ∷ [] = ap (λ r. r ∷ []) finish.2 in
+      let finishes : IsPart (HasRead reading) label ran.done p' k' p' finishing (finish.0 ∷ []) (last ∷ []) [] =
+      part_entered finish.1 refl (tt, tt) are are refl in
+      let turned : IsPermutation (entry_notes label ((first ∷ b.more) ++ last ∷ [])) (entry_notes label (first ∷ last ∷ b.more)) =
+      rw (notes-append (entry_note label) b.more (last ∷ []))
+      (IsPermutation-cons _ (entry_notes label b.more ++ entry_notes label (last ∷ [])) (entry_notes label (last ∷ b.more))
+      (IsPermutation-to_front (entry_notes label b.more) _)) in
+      let part : IsPart (HasRead reading) label k1 p1 k' p' one notes (first ∷ last ∷ b.more) b.object_more =
+      rw (append-nil b.object_more) at (part-append {all = first ∷ last ∷ b.more} b.part finishes turned
+      (rw (notes-append (look_note label) b.more (last ∷ [])) (sym (append-nil _)))) in
       let all : flat_map (fires base at) (run.fired ++ f ∷ []) ≡ done ++ one =
       flat_map-append (fires base at) run.fired (f ∷ []) ∙ ap (λ ds. done ++ ds) (append-nil one) in
       let cb = h.log.receipts in
-      let more = turn.log_more in
-      let cb_more = turn.callback_more in
-      let order : IsPermutation (entry_notes label ((log ++ cb) ++ (more ++ cb_more))) (entry_notes label ((log ++ more) ++ (cb ++ cb_more))) =
-      rw (four (entry_note label) log cb more cb_more, four (entry_note label) log more cb cb_more) (middle_swapped (entry_notes label log)
-      (entry_notes label cb) (entry_notes label more) (entry_notes label cb_more)) in
-      let looks : look_notes label ((log ++ more) ++ (cb ++ cb_more)) ≡ look_notes label ((log ++ cb) ++ (more ++ cb_more)) =
-      rw (four (look_note label) log more cb cb_more, four (look_note label) log cb more cb_more, run.no_looks, turn.no_looks) refl in
-      let part : IsPart IsSo label k p k' p' (done ++ one) (run.notes ++ turn.notes) ((log ++ more) ++ (cb ++ cb_more))
-      (h.object_log.receipts ++ turn.object_more) = part-append run.part turn.part order looks in
+      let more = first ∷ last ∷ [] in
+      let order : IsPermutation (entry_notes label ((log ++ cb) ++ (more ++ b.more))) (entry_notes label ((log ++ more) ++ (cb ++ b.more))) =
+      rw (four (entry_note label) log cb more b.more, four (entry_note label) log more cb b.more) (middle_swapped (entry_notes label log)
+      (entry_notes label cb) (entry_notes label more) (entry_notes label b.more)) in
+      let looks : look_notes label ((log ++ more) ++ (cb ++ b.more)) ≡ look_notes label ((log ++ cb) ++ (more ++ b.more)) =
+      rw (four (look_note label) log more cb b.more, four (look_note label) log cb more b.more, run.no_looks) refl in
+      let whole_part : IsPart (HasRead reading) label k p k' p' (done ++ one) (run.notes ++ notes) ((log ++ more) ++ (cb ++ b.more))
+      (h.object_log.receipts ++ b.object_more) = part-append run.part part order looks in
       record {
         fired = run.fired ++ f ∷ [];
         many = omega (arith, run.many, length-append run.fired (f ∷ []));
-        notes = run.notes ++ turn.notes;
-        no_looks = rw (turn.adds, notes-append (look_note label) log more, run.no_looks) turn.no_looks;
-        claimed = ap claimed_in turn.adds ∙ claimed_in-append log more ∙ ap (λ ts. ts ++ claimed_in more) run.claimed
-            ∙ ap (λ ts. map (λ g. g.timer) run.fired ++ ts) turn.claimed ∙ sym (map-append (λ (g : Fired). g.timer) run.fired (f ∷ []));
-        part = rw (all, turn.adds, turn.adds_callback, turn.adds_objects) part;
+        notes = run.notes ++ notes;
+        no_looks = rw (ran.receipts, notes-append (look_note label) log more, run.no_looks) refl;
+        claimed = rw (ran.receipts, claimed_in-append log more, run.claimed) (sym (map-append (λ (g : Fired). g.timer) run.fired (f ∷ [])));
+        part = rw (all, ran.receipts)
+            (subst (λ rs. IsPart (HasRead reading) label k p k' p' (done ++ one) (run.notes ++ notes) ((log ++ more) ++ rs) h'.object_log.receipts) (sym b.adds)
+            (subst (IsPart (HasRead reading) label k p k' p' (done ++ one) (run.notes ++ notes) ((log ++ more) ++ (cb ++ b.more))) (sym b.adds_objects)
+            whole_part));
         have = λ e joined goes follows later behind points.
             let whole : flat_map (fires base at) (run.fired ++ f ∷ []) ++ later ≡ done ++ (one ++ later) =
             ap (λ ds. ds ++ later) all ∙ append_assoc done one later in
-            let grows = objects_grow p1 p' turn.part.objects.goes_on in
-            let before_run = run.have e joined (goes_before turn.part.timers.enters.seen goes)
-            (follows_before p1 p' e turn.part.objects.goes_on follows) (one ++ later)
-            (λ i. subst (AllByRecursion (λ x. length (seen_of p1 i) < x.0)) (sym (made-append i one later))
+            let grows = objects_grow p1 p' part.objects.goes_on in
+            let before_run = run.have e joined (goes_before part.timers.enters.seen goes) (follows_before p1 p' e part.objects.goes_on follows) (one ++ later)
+            (λ i. rw (made-append i one later)
             (each_joined (made i one) (made i later) (λ x le. omega (arith, le)) (λ x less. let le = grows i in omega (arith, less, le))
-            (turn.part.objects.rise i).above (behind i)))
-            (λ i m before rest parts low high below above.
-            points i m before rest (whole ∙ parts) low (let le = grows i in omega (arith, high, le)) below above) in
-            let one_run = turn.ran e joined goes follows done
+            (part.objects.rise i).above (behind i)))
+            (λ i m before rest parts low high below above. points i m before rest (whole ∙ parts) low (let le = grows i in omega (arith, high, le)) below above) in
+            let one_run = turn_ran s x is some label base reading claim b ran.finished.number rearmed finish e joined goes follows done
             (λ i none. let le = grows i in
             points i (length (seen_of p' i)) (with_claim base at f done) ((f.body ++ finishing) ++ later)
             (whole ∙ sym (append_assoc done claiming ((f.body ++ finishing) ++ later)))
-            (let first = objects_grow p p1 run.part.objects.goes_on i in omega (arith, le, first)) (omega arith)
-            (subst (AllByRecursion (λ x. x.0 ≤ length (seen_of p' i))) (sym (made-append i done claiming ∙ append-nil (made i done)))
-            (each_weaker (made i done) (λ x less. omega (arith, less, le)) (run.part.objects.rise i).below))
-            (subst (AllByRecursion (λ x. length (seen_of p' i) < x.0))
-            (sym (made-append i (f.body ++ finishing) later
-            ∙ ap (λ xs. xs ++ made i later) (made-append i f.body finishing ∙ append-nil (made i f.body) ∙ none i))) (behind i))) in
-            subst (λ xs. HaveRun (course_of s e) label e.order base at [] (length k.seen) (run.fired ++ f ∷ []) (run.notes ++ xs) (length k'.seen))
-            (sym one_run.1)
-            (run_push (course_of s e) label e.order base at [] done (length k.seen) run.fired run.notes (length k1.seen) f (length k'.seen) before_run refl
-            one_run.0);
+            (let begun = objects_grow p p1 run.part.objects.goes_on i in omega (arith, le, begun)) (omega arith)
+            (rw (made-append i done claiming, append-nil (made i done)) (each_weaker (made i done) (λ x less. omega (arith, less, le)) (run.part.objects.rise i).below))
+            (rw (made-append i (f.body ++ finishing) later, made-append i f.body finishing, none i) (behind i))) in
+            rw one_run.1 (run_push (course_of s e) label e.order base at [] done (length k.seen) run.fired run.notes (length k1.seen) f (length k'.seen)
+            before_run refl one_run.0);
       }
 
--- ---- the turns of an expiry run
-
--- law: so many turns, from empty logs on
-pub turns_kept : (IsSo : List ClockLine → Type 0) (s : Script) (x : WorldOf) → IsWorldOf s x → 1 ≤ s.limit → (label : Label) (base : ℕ)
-    (reading : ClockReading) → ((clock : List ClockLine) → IsSo clock → reading_at clock reading.stamp ≡ reading) → (n : ℕ) (h h' : Firing)
-    (k k' : KnownOfTimers) (log' : List Receipt) → h.objects.now ≡ x.objects → h.callbacks.now ≡ x.callbacks → h.log.receipts ≡ []
-    → h.object_log.receipts ≡ [] → Turns firing x.timers.about base reading n k h [] k' h' log'
-    → RunKept IsSo s label base reading.stamp n k h.objects_pass.now k' h'.objects_pass.now log' h'.log.receipts h'.object_log.receipts
-    × (h'.objects.now ≡ x.objects) × (h'.callbacks.now ≡ x.callbacks)
-turns_kept IsSo s x is some label base reading so zero h h' k k' log' objects handlers fresh fresh_objects turns = (
-  rw (turns.0, turns.1, turns.2, fresh, fresh_objects) (run_none k h.objects_pass.now),
-  ap (λ (g : Firing). g.objects.now) turns.1 ∙ objects,
-  ap (λ (g : Firing). g.callbacks.now) turns.1 ∙ handlers,
-)
-turns_kept IsSo s x is some label base reading so (suc n) h h' k k' log' objects handlers fresh fresh_objects turns =
-    let h1 = turns.1 in
-    let before = turns_kept IsSo s x is some label base reading so n h h1 k turns.0 turns.2 objects handlers fresh fresh_objects turns.3 in
-    let loan = turns.4.ran.did.loan in (
-      run_more h1 h' before.0 (turn_kept IsSo s x is some label base reading so h1 h' turns.0 k' turns.2 log' before.1 before.2 turns.4),
-      loan.objects ∙ before.1,
-      loan.callbacks ∙ before.2,
-    )
+  -- law: so many turns, from empty logs on
+  pub turns_kept : (n : ℕ) (h h' : Firing) (k k' : KnownOfTimers) (log' : List Receipt) → h.objects.now ≡ x.objects → h.callbacks.now ≡ x.callbacks
+      → h.log.receipts ≡ [] → h.object_log.receipts ≡ [] → Turns firing x.timers.about base reading n k h [] k' h' log'
+      → RunKept s label base reading n k h.objects_pass.now k' h'.objects_pass.now log' h'.log.receipts h'.object_log.receipts
+      × (h'.objects.now ≡ x.objects) × (h'.callbacks.now ≡ x.callbacks)
+  turns_kept zero h h' k k' log' objects handlers fresh fresh_objects turns =
+      let none : RunKept s label base reading 0 k h.objects_pass.now k h.objects_pass.now [] [] [] = record {
+        fired = [];
+        many = refl;
+        notes = [];
+        no_looks = refl;
+        claimed = refl;
+        part = part_none (begins_same refl) refl;
+        have = λ e joined goes follows later behind points. (refl, omega arith);
+      } in (
+        rw (turns.0, turns.1, turns.2, fresh, fresh_objects) none,
+        ap (λ (g : Firing). g.objects.now) turns.1 ∙ objects,
+        ap (λ (g : Firing). g.callbacks.now) turns.1 ∙ handlers,
+      )
+  turns_kept (suc n) h h' k k' log' objects handlers fresh fresh_objects turns =
+      let h1 = turns.1 in
+      let before = turns_kept n h h1 k turns.0 turns.2 objects handlers fresh fresh_objects turns.3 in
+      let loan = turns.4.ran.did.loan in (
+        run_more h1 h' before.1 before.2 before.0 turns.4,
+        loan.objects ∙ before.1,
+        loan.callbacks ∙ before.2,
+      )

@@ -103,16 +103,6 @@ one_falls i number low high above below le = by_number (λ j b. NeverFall (low j
 
 -- ---- lists in two parts
 
--- what is told of two lists is told of each
-abbrev pub Joins : {A B : Type 0} → (List A → List B) → Type 0
-Joins {A} f = (xs ys : List A) → f (xs ++ ys) ≡ f xs ++ f ys
-
--- law: what two parts of a log tell is what their actions tell, where it is so of each part
-pub told-append : {N X A R : Type 0} (f : List N → List X) (g : List R → List N) (h : List A → List X) (log more : List R) (ds es : List A)
-    → Joins f → Joins g → Joins h → f (g log) ≡ h ds → f (g more) ≡ h es → f (g (log ++ more)) ≡ h (ds ++ es)
-told-append f g h log more ds es of_notes of_log of_actions one two =
-    ap f (of_log log more) ∙ of_notes (g log) (g more) ∙ ap (λ ns. ns ++ f (g more)) one ∙ ap (λ ns. h ds ++ ns) two ∙ sym (of_actions ds es)
-
 -- an item in front of two parts, where it is there at all
 pub also-append : {A : Type 0} (b : Bool) (x : A) (all front back : List A) → all ≡ front ++ back → also b x all ≡ also b x front ++ back
 also-append true x all front back is = ap (λ xs. x ∷ xs) is

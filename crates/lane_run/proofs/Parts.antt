@@ -56,8 +56,7 @@ use Rattle.run_history.specs.Runs.{course_of, Ending, IsJoined}
 use Rattle.run_history.specs.Truths.{IsClaimSpan, IsObjectPoint}
 use Rattle.run_history.proofs.Expires.{ReplyHolds}
 use Rattle.lane_run.specs.Kept.{FollowsObject}
-use Rattle.lane_run.proofs.Entering.{places_joined}
-use Rattle.lane_run.proofs.PartLists.{notes-append, rises_none, told-append}
+use Rattle.lane_run.proofs.PartLists.{notes-append, rises_none}
 
 -- ---- notes of objects
 
@@ -110,76 +109,6 @@ pub record IsPart (IsSo : List ClockLine → Type 0) (label : Label) (v : KnownO
 pub objects_grow : (p q : ObjectsPass) → GoesOn p.knows.pass.seen q.knows.pass.seen → (i : ℕ) → length (seen_of p i) ≤ length (seen_of q i)
 objects_grow p q goes_on i = begins_length (goes_on.each i)
 
--- ---- entries of timers
-
--- law: of timers, entries and nothing else
-pub timers_entered : {IsSo : List ClockLine → Type 0} {label : Label} {v w : KnownOfTimers} {actions : List Action} {notes : List Noted} {log : List Receipt}
-    → EntersNotes IsSo v w notes → map receipt notes ≡ all_entered actions → map receipt notes ≡ map entry_in_note (entry_notes label log)
-    → wrote actions ≡ [] → ((t : ℕ) → looked t actions ≡ []) → look_notes label log ≡ [] → IsTimersPart IsSo label v w actions notes log
-timers_entered {v = v} {w = w} enters are told no_write no_look no_note = record {
-  enters = enters;
-  are = are;
-  told = same_order told;
-  no_write = no_write;
-  looks = λ t. ap (looks_on t) no_note ∙ sym (no_look t);
-  looks_rise = λ t. let le = count_begins t enters.seen in
-      subst (λ ns. RisesTo (count t v.seen + 1) ns (count t w.seen + 1)) (sym (no_look t)) (rises_none (omega (arith, le)));
-  looks_seen = subst (AllByRecursion (λ n. (0 < n.number) × (n.number ≤ count n.timer w.seen))) (sym no_note) tt;
-}
-
--- law: objects were looked at, and nothing was done
-pub objects_seen : {IsSo : List ClockLine → Type 0} {label : Label} {p q : ObjectsPass} {actions : List Action}
-    → GoesOn p.knows.pass.seen q.knows.pass.seen → q.knows.pass.mine ≡ p.knows.pass.mine → q.knows.opening ≡ p.knows.opening
-    → ((i : ℕ) → made i actions ≡ []) → ((i : ℕ) → skipped i actions ≡ []) → ((i : ℕ) → numbers_of_object i actions ≡ [])
-    → IsObjectsPart IsSo label p q actions []
-objects_seen {p = p} {q = q} goes_on mine opening none no_skip no_step = record {
-  makes = λ i. sym (none i);
-  rise = λ i. let le = objects_grow p q goes_on i in
-      subst (λ ns. RisesTo (length (seen_of p i) + 1) ns (length (seen_of q i) + 1)) (sym (none i)) (rises_none (omega (arith, le)));
-  seen = tt;
-  skips = λ i. sym (no_skip i);
-  skips_seen = tt;
-  steps = λ i. subst (λ ns. NeverFall (length (seen_of p i)) ns (length (seen_of q i))) (sym (no_step i)) (objects_grow p q goes_on i);
-  goes_on = goes_on;
-  opening = opening;
-  mine = mine ∙ sym (append-nil p.knows.pass.mine);
-}
-
--- law: objects were left alone
-pub objects_alone : {IsSo : List ClockLine → Type 0} {label : Label} {p q : ObjectsPass} {actions : List Action} → q ≡ p
-    → ((i : ℕ) → made i actions ≡ []) → ((i : ℕ) → skipped i actions ≡ []) → ((i : ℕ) → numbers_of_object i actions ≡ [])
-    → IsObjectsPart IsSo label p q actions []
-objects_alone same =
-    objects_seen (record { each = λ i. begins_same (ap (λ o. seen_of o i) same) }) (ap (λ o. o.knows.pass.mine) same) (ap (λ o. o.knows.opening) same)
-
--- law: a part in which timers and objects were looked at and nothing was done
-pub part_seen : {IsSo : List ClockLine → Type 0} {label : Label} {v : KnownOfTimers} {p : ObjectsPass} {w : KnownOfTimers} {q : ObjectsPass}
-    → Begins v.seen w.seen → w.mine ≡ v.mine → GoesOn p.knows.pass.seen q.knows.pass.seen → q.knows.pass.mine ≡ p.knows.pass.mine
-    → q.knows.opening ≡ p.knows.opening → IsPart IsSo label v p w q [] [] [] []
-part_seen seen mine goes_on object_mine opening = record {
-  timers = timers_entered (enters_none seen mine) refl refl refl (λ t. refl) refl;
-  objects = objects_seen goes_on object_mine opening (λ i. refl) (λ i. refl) (λ i. refl);
-}
-
--- law: the same where objects were left alone
-pub part_none : {IsSo : List ClockLine → Type 0} {label : Label} {v : KnownOfTimers} {p : ObjectsPass} {w : KnownOfTimers} → Begins v.seen w.seen
-    → w.mine ≡ v.mine → IsPart IsSo label v p w p [] [] [] []
-part_none seen mine = part_seen seen mine (record { each = λ i. begins_same refl }) refl refl
-
--- law: entries of timers, and nothing else
-pub part_entered : {IsSo : List ClockLine → Type 0} {label : Label} {v : KnownOfTimers} {p : ObjectsPass} {w : KnownOfTimers} {q : ObjectsPass}
-    {actions : List Action} {notes : List Noted} {log : List Receipt} → EntersNotes IsSo v w notes → q ≡ p → AllByRecursion IsEntered actions
-    → map receipt notes ≡ all_entered actions → map receipt notes ≡ map entry_in_note (entry_notes label log) → look_notes label log ≡ []
-    → IsPart IsSo label v p w q actions notes log []
-part_entered {actions = actions} enters same only are told no_note =
-    let none = no_other actions only in
-    record {
-      timers = timers_entered enters are told none.wrote none.looked no_note;
-      objects = objects_alone same none.made none.skipped none.numbers;
-    }
-
--- ---- entries of objects
-
 -- a call on an object and its reply are noted as this entry, which a record shows whose clock is so
 pub record IsNotedAs (IsSo : List ClockLine → Type 0) (call : ObjectCall) (reply : ObjectReply) (entry : ObjectEntry) : Type 0 where
   pub noted : object_entry_noted call reply ≡ Some entry
@@ -191,133 +120,174 @@ pub noted_at : (reading : ClockReading) (call : ClockReading → ObjectCall) (re
     → object_entry_noted (call reading) reply ≡ Some entry → skip_generation (call reading) reply ≡ None
     → ((clock : List ClockLine) → ShowsObjectCall clock (call (reading_at clock reading.stamp)) reply entry)
     → IsNotedAs (λ clock. reading_at clock reading.stamp ≡ reading) (call reading) reply entry
-noted_at reading call reply entry noted no_skip shows = record {
-  noted = noted;
-  no_skip = no_skip;
-  shows = λ clock has. subst (λ r. ShowsObjectCall clock (call r) reply entry) has (shows clock);
-}
-
--- law: what was done of objects, and nothing of timers
-pub part_of_objects : {IsSo : List ClockLine → Type 0} {label : Label} {v : KnownOfTimers} {p q : ObjectsPass} {actions : List Action}
-    {log : List ObjectReceipt} → all_entered actions ≡ [] → wrote actions ≡ [] → ((t : ℕ) → looked t actions ≡ []) → IsObjectsPart IsSo label p q actions log
-    → IsPart IsSo label v p v q actions [] [] log
-part_of_objects none no_write no_look objects =
-    record { timers = timers_entered (enters_none (begins_same refl) refl) (sym none) refl no_write no_look refl; objects = objects }
-
--- law: an entry of an object
-pub part_made : {IsSo : List ClockLine → Type 0} {label : Label} {v : KnownOfTimers} {p q : ObjectsPass} {id : ℕ} {step : ObjectMove} {entry : ObjectEntry}
-    (adds : Adds p.knows.pass q.knows.pass id (step ∷ [])) → q.knows.opening ≡ p.knows.opening → IsNotedAs IsSo step.call.call step.reply entry
-    → IsPart IsSo label v p v q (Made id (length adds.before + 1) entry ∷ []) [] []
-    (record { object = id; number = length adds.before + 1; call = step.call; reply = step.reply } ∷ [])
-part_made {IsSo = IsSo} {label = label} {p = p} {q = q} {id = id} {step = step} {entry = entry} adds opening as_noted =
-    let many = length adds.before in
-    let r : ObjectReceipt = record { object = id; number = many + 1; call = step.call; reply = step.reply } in
-    let note : ObjectNote = record { label = label; object = id; number = many + 1; entry = entry } in
-    let are : object_notes label (r ∷ []) ≡ note ∷ [] =
-    ap (λ o. present (option_map (λ (y : ObjectEntry). record { label = label; object = id; number = many + 1; entry = y }) o ∷ [])) as_noted.noted in
-    let no_skips : skip_notes label (r ∷ []) ≡ [] =
-    ap (λ o. present (option_map (λ (y : ℕ). record { label = label; object = id; number = many + 1; generation = y }) o ∷ [])) as_noted.no_skip in
-    let now : length (seen_of q id) ≡ many + 1 = omega (arith, ap length adds.last, length-append adds.before (step ∷ [])) in
-    let behind = begins_length adds.begins in
-    let grows = objects_grow p q adds.seen in
-    part_of_objects refl refl (λ t. refl) (record {
-      makes = λ i. ap (made_on i) are;
-      rise = one_rises id (many + 1) entry (λ i. length (seen_of p i) + 1) (λ i. length (seen_of q i) + 1) (omega (arith, behind)) (omega (arith, now))
-          (λ i. let le = grows i in omega (arith, le));
-      seen = subst (AllByRecursion (IsNoteIn IsSo p q)) (sym are) (
-        record {
-          before = many;
-          number = refl;
-          behind = behind;
-          step = step;
-          there = subst (λ ys. slice_get ys many ≡ Some step) (sym adds.last) (at_seam adds.before [] step);
-          shows = as_noted.shows;
-        },
-        tt,
-      );
-      skips = λ i. ap (skips_on i) no_skips;
-      skips_seen = subst (AllByRecursion (λ k. (0 < k.number) × (k.number ≤ length (seen_of q k.object)))) (sym no_skips) tt;
-      steps = one_falls id (many + 1) (λ i. length (seen_of p i)) (λ i. length (seen_of q i)) (omega (arith, behind)) (omega (arith, now)) grows;
-      goes_on = adds.seen;
-      opening = opening;
-      mine = adds.mine ∙ ap (λ ns. p.knows.pass.mine ++ map object_place ns) (sym are);
-    })
-
--- ---- one behind another
+noted_at reading call reply entry noted no_skip shows =
+    record { noted = noted; no_skip = no_skip; shows = λ clock has. subst (λ r. ShowsObjectCall clock (call r) reply entry) has (shows clock) }
 
 -- a note stands in other lists too, where its entry does
 note_in : {IsSo : List ClockLine → Type 0} {o p q r : ObjectsPass} {n : ObjectNote} (is : IsNoteIn IsSo p q n) → length (seen_of o n.object) ≤ is.before
     → slice_get (seen_of r n.object) is.before ≡ Some is.step → IsNoteIn IsSo o r n
 note_in is behind there = record { before = is.before; number = is.number; behind = behind; step = is.step; there = there; shows = is.shows }
 
--- what two parts did of objects, one behind the other
-objects-append : {IsSo : List ClockLine → Type 0} {label : Label} {o p q : ObjectsPass} {ds es : List Action} {log more : List ObjectReceipt}
-    → IsObjectsPart IsSo label o p ds log → IsObjectsPart IsSo label p q es more → IsObjectsPart IsSo label o q (ds ++ es) (log ++ more)
-objects-append {IsSo = IsSo} {label = label} {o = o} {p = p} {q = q} {ds = ds} {es = es} {log = log} {more = more} one two =
-    let objects = notes-append (object_note label) in
-    let skips = notes-append (skip_note label) in
-    record {
-      makes = λ i. told-append (made_on i) (object_notes label) (made i) log more ds es (made_on-append i) objects (made-append i) (one.makes i) (two.makes i);
-      rise = λ i. subst (λ ns. RisesTo (length (seen_of o i) + 1) ns (length (seen_of q i) + 1)) (sym (made-append i ds es))
-          (rises_on (one.rise i) (two.rise i));
-      seen = subst (AllByRecursion (IsNoteIn IsSo o q)) (sym (objects log more))
-          (each_joined (object_notes label log) (object_notes label more)
-          (λ n is. let later = two.goes_on.each n.object in note_in is is.behind
-          (subst (λ xs. slice_get xs is.before ≡ Some is.step) (sym later.whole) (at_left (seen_of p n.object) later.rest is.before is.step is.there)))
-          (λ n is. let le = objects_grow o p one.goes_on n.object in note_in is (omega (arith, le, is.behind)) is.there) one.seen two.seen);
-      skips = λ i. told-append (skips_on i) (skip_notes label) (skipped i) log more ds es (skips_on-append i) skips (skipped-append i) (one.skips i) (two.skips i);
-      skips_seen = subst (AllByRecursion (λ n. (0 < n.number) × (n.number ≤ length (seen_of q n.object)))) (sym (skips log more))
-          (each_joined (skip_notes label log) (skip_notes label more)
-          (λ n is. let le = objects_grow p q two.goes_on n.object in (is.0, omega (arith, is.1, le))) (λ n is. is) one.skips_seen two.skips_seen);
-      steps = λ i. subst (λ ns. NeverFall (length (seen_of o i)) ns (length (seen_of q i))) (sym (numbers-append i ds es))
-          (falls_on _ _ _ _ _ (one.steps i) (two.steps i));
-      goes_on = record { each = λ i. begins_trans (one.goes_on.each i) (two.goes_on.each i) };
-      opening = two.opening ∙ one.opening;
-      mine = places_joined object_place o.knows.pass.mine (object_notes label log) (object_notes label more) one.mine two.mine ∙ ap (λ ns. o.knows.pass.mine ++ map object_place ns) (sym (objects log more));
-    }
+module _ {IsSo : List ClockLine → Type 0} {label : Label} where
+  -- ---- entries of timers
 
--- law: a part behind another makes one part, whose receipts may stand in another order, but for looks
-pub part-append : {IsSo : List ClockLine → Type 0} {label : Label} {u : KnownOfTimers} {o : ObjectsPass} {v : KnownOfTimers} {p : ObjectsPass}
-    {w : KnownOfTimers} {q : ObjectsPass} {ds es : List Action} {xs ys : List Noted} {log more all : List Receipt} {object_log object_more : List ObjectReceipt}
-    → IsPart IsSo label u o v p ds xs log object_log → IsPart IsSo label v p w q es ys more object_more
-    → IsPermutation (entry_notes label (log ++ more)) (entry_notes label all) → look_notes label all ≡ look_notes label (log ++ more)
-    → IsPart IsSo label u o w q (ds ++ es) (xs ++ ys) all (object_log ++ object_more)
-part-append {label = label} {u = u} {w = w} {ds = ds} {es = es} {xs = xs} {ys = ys} {log = log} {more = more} {all = all} left right same looks =
-    let one = left.timers in
-    let two = right.timers in
-    let told : IsPermutation (map receipt (xs ++ ys)) (map entry_in_note (entry_notes label (log ++ more))) =
-    rw (map-append receipt xs ys, notes-append (entry_note label) log more, map-append entry_in_note) (IsPermutation-append _ _ _ _ one.told two.told) in
-    record {
-      timers = record {
-        enters = enters-append one.enters two.enters;
-        are = map-append receipt xs ys ∙ ap (λ rs. rs ++ map receipt ys) one.are ∙ ap (λ rs. all_entered ds ++ rs) two.are
-            ∙ sym (all_entered-append ds es);
-        told = IsPermutation-trans _ _ _ told (IsPermutation-map entry_in_note _ _ same);
-        no_write = wrote-append ds es one.no_write two.no_write;
-        looks = λ t. ap (looks_on t) looks ∙ told-append (looks_on t) (look_notes label) (looked t) log more ds es (looks_on-append t) (notes-append (look_note label))
-            (looked-append t) (one.looks t) (two.looks t);
-        looks_rise = λ t. subst (λ ns. RisesTo (count t u.seen + 1) ns (count t w.seen + 1)) (sym (looked-append t ds es))
-            (rises_on (one.looks_rise t) (two.looks_rise t));
-        looks_seen = subst (AllByRecursion (λ n. (0 < n.number) × (n.number ≤ count n.timer w.seen)))
-            (sym (looks ∙ notes-append (look_note label) log more))
-            (each_joined (look_notes label log) (look_notes label more)
-            (λ n is. let le = count_begins n.timer two.enters.seen in (is.0, omega (arith, is.1, le))) (λ n is. is) one.looks_seen two.looks_seen);
-      };
-      objects = objects-append left.objects right.objects;
-    }
+  -- law: of timers, entries and nothing else
+  timers_entered : {v w : KnownOfTimers} {actions : List Action} {notes : List Noted} {log : List Receipt} → EntersNotes IsSo v w notes
+      → map receipt notes ≡ all_entered actions → map receipt notes ≡ map entry_in_note (entry_notes label log) → wrote actions ≡ []
+      → ((t : ℕ) → looked t actions ≡ []) → look_notes label log ≡ [] → IsTimersPart IsSo label v w actions notes log
+  timers_entered enters are told no_write no_look no_note = record {
+    enters = enters;
+    are = are;
+    told = same_order told;
+    no_write = no_write;
+    looks = λ t. rw (no_note, no_look t) refl;
+    looks_rise = λ t. let le = count_begins t enters.seen in rw (no_look t) (rises_none (omega (arith, le)));
+    looks_seen = rw no_note tt;
+  }
 
--- law: a part behind another, whose receipts stand behind those of the other
-pub part_then : {IsSo : List ClockLine → Type 0} {label : Label} {u : KnownOfTimers} {o : ObjectsPass} {v : KnownOfTimers} {p : ObjectsPass}
-    {w : KnownOfTimers} {q : ObjectsPass} {ds es : List Action} {xs ys : List Noted} {log more : List Receipt} {object_log object_more : List ObjectReceipt}
-    → IsPart IsSo label u o v p ds xs log object_log → IsPart IsSo label v p w q es ys more object_more
-    → IsPart IsSo label u o w q (ds ++ es) (xs ++ ys) (log ++ more) (object_log ++ object_more)
-part_then one two = part-append one two (same_order refl) refl
+  -- law: objects were looked at, and nothing was done
+  objects_seen : {p q : ObjectsPass} {actions : List Action} → GoesOn p.knows.pass.seen q.knows.pass.seen → q.knows.pass.mine ≡ p.knows.pass.mine
+      → q.knows.opening ≡ p.knows.opening → ((i : ℕ) → made i actions ≡ []) → ((i : ℕ) → skipped i actions ≡ [])
+      → ((i : ℕ) → numbers_of_object i actions ≡ []) → IsObjectsPart IsSo label p q actions []
+  objects_seen {p = p} {q = q} goes_on mine opening none no_skip no_step = record {
+    makes = λ i. sym (none i);
+    rise = λ i. let le = objects_grow p q goes_on i in rw (none i) (rises_none (omega (arith, le)));
+    seen = tt;
+    skips = λ i. sym (no_skip i);
+    skips_seen = tt;
+    steps = λ i. rw (no_step i) (objects_grow p q goes_on i);
+    goes_on = goes_on;
+    opening = opening;
+    mine = mine ∙ sym (append-nil p.knows.pass.mine);
+  }
+
+  -- law: objects were left alone
+  objects_alone : {p q : ObjectsPass} {actions : List Action} → q ≡ p → ((i : ℕ) → made i actions ≡ []) → ((i : ℕ) → skipped i actions ≡ [])
+      → ((i : ℕ) → numbers_of_object i actions ≡ []) → IsObjectsPart IsSo label p q actions []
+  objects_alone same =
+      objects_seen (record { each = λ i. begins_same (ap (λ o. seen_of o i) same) }) (ap (λ o. o.knows.pass.mine) same) (ap (λ o. o.knows.opening) same)
+
+  -- law: a part in which timers and objects were looked at and nothing was done
+  pub part_seen : {v : KnownOfTimers} {p : ObjectsPass} {w : KnownOfTimers} {q : ObjectsPass} → Begins v.seen w.seen → w.mine ≡ v.mine
+      → GoesOn p.knows.pass.seen q.knows.pass.seen → q.knows.pass.mine ≡ p.knows.pass.mine → q.knows.opening ≡ p.knows.opening
+      → IsPart IsSo label v p w q [] [] [] []
+  part_seen seen mine goes_on object_mine opening = record {
+    timers = timers_entered (enters_none seen mine) refl refl refl (λ t. refl) refl;
+    objects = objects_seen goes_on object_mine opening (λ i. refl) (λ i. refl) (λ i. refl);
+  }
+
+  -- law: the same where objects were left alone
+  pub part_none : {v : KnownOfTimers} {p : ObjectsPass} {w : KnownOfTimers} → Begins v.seen w.seen → w.mine ≡ v.mine → IsPart IsSo label v p w p [] [] [] []
+  part_none seen mine = part_seen seen mine (record { each = λ i. begins_same refl }) refl refl
+
+  -- law: entries of timers, and nothing else
+  pub part_entered : {v : KnownOfTimers} {p : ObjectsPass} {w : KnownOfTimers} {q : ObjectsPass} {actions : List Action} {notes : List Noted}
+      {log : List Receipt} → EntersNotes IsSo v w notes → q ≡ p → AllByRecursion IsEntered actions → map receipt notes ≡ all_entered actions
+      → map receipt notes ≡ map entry_in_note (entry_notes label log) → look_notes label log ≡ [] → IsPart IsSo label v p w q actions notes log []
+  part_entered {actions = actions} enters same only are told no_note =
+      let none = no_other actions only in
+      record {
+        timers = timers_entered enters are told none.wrote none.looked no_note;
+        objects = objects_alone same none.made none.skipped none.numbers;
+      }
+
+  -- ---- entries of objects
+
+  -- law: what was done of objects, and nothing of timers
+  pub part_of_objects : {v : KnownOfTimers} {p q : ObjectsPass} {actions : List Action} {log : List ObjectReceipt} → all_entered actions ≡ []
+      → wrote actions ≡ [] → ((t : ℕ) → looked t actions ≡ []) → IsObjectsPart IsSo label p q actions log → IsPart IsSo label v p v q actions [] [] log
+  part_of_objects none no_write no_look objects =
+      record { timers = timers_entered (enters_none (begins_same refl) refl) (sym none) refl no_write no_look refl; objects = objects }
+
+  -- law: an entry of an object
+  pub part_made : {v : KnownOfTimers} {p q : ObjectsPass} {id : ℕ} {step : ObjectMove} {entry : ObjectEntry}
+      (adds : Adds p.knows.pass q.knows.pass id (step ∷ [])) → q.knows.opening ≡ p.knows.opening → IsNotedAs IsSo step.call.call step.reply entry
+      → IsPart IsSo label v p v q (Made id (length adds.before + 1) entry ∷ []) [] []
+      (record { object = id; number = length adds.before + 1; call = step.call; reply = step.reply } ∷ [])
+  part_made {p = p} {q = q} {id = id} {step = step} {entry = entry} adds opening as_noted =
+      let many = length adds.before in
+      let r : ObjectReceipt = record { object = id; number = many + 1; call = step.call; reply = step.reply } in
+      let are : object_notes label (r ∷ []) ≡ record { label = label; object = id; number = many + 1; entry = entry } ∷ [] = rw as_noted.noted refl in
+      let no_skips : skip_notes label (r ∷ []) ≡ [] = rw as_noted.no_skip refl in
+      let now : length (seen_of q id) ≡ many + 1 = omega (arith, ap length adds.last, length-append adds.before (step ∷ [])) in
+      let behind = begins_length adds.begins in
+      let grows = objects_grow p q adds.seen in
+      part_of_objects refl refl (λ t. refl) (record {
+        makes = λ i. ap (made_on i) are;
+        rise = one_rises id (many + 1) entry (λ i. length (seen_of p i) + 1) (λ i. length (seen_of q i) + 1) (omega (arith, behind)) (omega (arith, now))
+            (λ i. let le = grows i in omega (arith, le));
+        seen = rw are (
+          record { before = many; number = refl; behind = behind; step = step; there = rw adds.last (at_seam adds.before [] step); shows = as_noted.shows },
+          tt,
+        );
+        skips = λ i. ap (skips_on i) no_skips;
+        skips_seen = rw no_skips tt;
+        steps = one_falls id (many + 1) (λ i. length (seen_of p i)) (λ i. length (seen_of q i)) (omega (arith, behind)) (omega (arith, now)) grows;
+        goes_on = adds.seen;
+        opening = opening;
+        mine = rw are adds.mine;
+      })
+
+  -- ---- one behind another
+
+  -- what two parts did of objects, one behind the other
+  objects-append : {o p q : ObjectsPass} {ds es : List Action} {log more : List ObjectReceipt} → IsObjectsPart IsSo label o p ds log
+      → IsObjectsPart IsSo label p q es more → IsObjectsPart IsSo label o q (ds ++ es) (log ++ more)
+  objects-append {o = o} {p = p} {q = q} {ds = ds} {es = es} {log = log} {more = more} one two =
+      let objects = notes-append (object_note label) log more in
+      let skips = notes-append (skip_note label) log more in
+      record {
+        makes = λ i. rw (objects, made_on-append i, one.makes i, two.makes i) (sym (made-append i ds es));
+        rise = λ i. rw (made-append i ds es) (rises_on (one.rise i) (two.rise i));
+        seen = rw objects (each_joined (object_notes label log) (object_notes label more)
+            (λ n is. let later = two.goes_on.each n.object in
+            note_in is is.behind (rw later.whole (at_left (seen_of p n.object) later.rest is.before is.step is.there)))
+            (λ n is. let le = objects_grow o p one.goes_on n.object in note_in is (omega (arith, le, is.behind)) is.there) one.seen two.seen);
+        skips = λ i. rw (skips, skips_on-append i, one.skips i, two.skips i) (sym (skipped-append i ds es));
+        skips_seen = rw skips (each_joined (skip_notes label log) (skip_notes label more)
+            (λ n is. let le = objects_grow p q two.goes_on n.object in (is.0, omega (arith, is.1, le))) (λ n is. is) one.skips_seen two.skips_seen);
+        steps = λ i. rw (numbers-append i ds es) (falls_on _ _ _ _ _ (one.steps i) (two.steps i));
+        goes_on = record { each = λ i. begins_trans (one.goes_on.each i) (two.goes_on.each i) };
+        opening = two.opening ∙ one.opening;
+        mine = two.mine ∙ rw (one.mine, objects, map-append object_place, append_assoc) refl;
+      }
+
+  -- law: a part behind another makes one part, whose receipts may stand in another order, but for looks
+  pub part-append : {u : KnownOfTimers} {o : ObjectsPass} {v : KnownOfTimers} {p : ObjectsPass} {w : KnownOfTimers} {q : ObjectsPass} {ds es : List Action}
+      {xs ys : List Noted} {log more all : List Receipt} {object_log object_more : List ObjectReceipt} → IsPart IsSo label u o v p ds xs log object_log
+      → IsPart IsSo label v p w q es ys more object_more → IsPermutation (entry_notes label (log ++ more)) (entry_notes label all)
+      → look_notes label all ≡ look_notes label (log ++ more) → IsPart IsSo label u o w q (ds ++ es) (xs ++ ys) all (object_log ++ object_more)
+  part-append {ds = ds} {es = es} {xs = xs} {ys = ys} {log = log} {more = more} left right same looks =
+      let one = left.timers in
+      let two = right.timers in
+      let notes = notes-append (look_note label) log more in
+      let told : IsPermutation (map receipt (xs ++ ys)) (map entry_in_note (entry_notes label (log ++ more))) =
+      rw (map-append receipt xs ys, notes-append (entry_note label) log more, map-append entry_in_note) (IsPermutation-append _ _ _ _ one.told two.told) in
+      record {
+        timers = record {
+          enters = enters-append one.enters two.enters;
+          are = rw (map-append receipt xs ys, one.are, two.are) (sym (all_entered-append ds es));
+          told = IsPermutation-trans _ _ _ told (IsPermutation-map entry_in_note _ _ same);
+          no_write = wrote-append ds es one.no_write two.no_write;
+          looks = λ t. rw (looks, notes, looks_on-append t, one.looks t, two.looks t) (sym (looked-append t ds es));
+          looks_rise = λ t. rw (looked-append t ds es) (rises_on (one.looks_rise t) (two.looks_rise t));
+          looks_seen = rw (looks, notes) (each_joined (look_notes label log) (look_notes label more)
+              (λ n is. let le = count_begins n.timer two.enters.seen in (is.0, omega (arith, is.1, le))) (λ n is. is) one.looks_seen two.looks_seen);
+        };
+        objects = objects-append left.objects right.objects;
+      }
+
+  -- law: a part behind another, whose receipts stand behind those of the other
+  pub part_then : {u : KnownOfTimers} {o : ObjectsPass} {v : KnownOfTimers} {p : ObjectsPass} {w : KnownOfTimers} {q : ObjectsPass} {ds es : List Action}
+      {xs ys : List Noted} {log more : List Receipt} {object_log object_more : List ObjectReceipt} → IsPart IsSo label u o v p ds xs log object_log
+      → IsPart IsSo label v p w q es ys more object_more → IsPart IsSo label u o w q (ds ++ es) (xs ++ ys) (log ++ more) (object_log ++ object_more)
+  part_then one two = part-append one two (same_order refl) refl
 
 -- ---- the function of a claim
 
--- the record's entry of a claim, by its reading's stamp
-abbrev pub claim_entry : ClaimNumbers → ℕ → Entry
-claim_entry c at = entries.Claim c.base at c.generation
+-- a record's clock has this reading
+abbrev pub HasRead : ClockReading → List ClockLine → Type 0
+HasRead reading clock = reading_at clock reading.stamp ≡ reading
 
 -- the record's callback of a claim, by its function's actions and what came of the finish
 abbrev pub fired_of : ClaimNumbers → List Action → ℕ → Bool → line_restart.Restart → Fired
@@ -332,26 +302,27 @@ fired_of c body finish restart rearmed = record {
 }
 
 -- a pass has made a claim, and seen it
-pub record IsClaimed (IsSo : List ClockLine → Type 0) (c : ClaimNumbers) (at : ℕ) (k v : KnownOfTimers) : Type 0 where
+pub record IsClaimed (base : ℕ) (c : ClaimNumbers) (reading : ClockReading) (k v : KnownOfTimers) : Type 0 where
   pub note : Noted
-  pub enters : EntersNotes IsSo k v (note ∷ [])
-  pub is : receipt note ≡ (c.timer, (c.number, claim_entry c at))
+  pub enters : EntersNotes (HasRead reading) k v (note ∷ [])
+  pub is : receipt note ≡ (c.timer, (c.number, entries.Claim base reading.stamp c.generation))
+  pub there : c.base ≡ base
   pub some : 0 < c.number
   pub more : count c.timer k.seen < count c.timer v.seen
 
 -- What a claim's function did: with the claim it is a part of the call, so that its look stands behind an entry of the part. And what it promises of
 -- every run that goes on from there.
-pub record BodyKept (IsSo : List ClockLine → Type 0) (s : Script) (label : Label) (c : ClaimNumbers) (reading : ClockReading) {k v : KnownOfTimers}
-    (claim : IsClaimed IsSo c reading.stamp k v) (restart : Restart) (w : KnownOfTimers) (h h' : Firing) : Type 0 where
+pub record BodyKept (s : Script) (label : Label) {base : ℕ} {c : ClaimNumbers} {reading : ClockReading} {k v : KnownOfTimers}
+    (claim : IsClaimed base c reading k v) (restart : Restart) (w : KnownOfTimers) (h h' : Firing) : Type 0 where
   pub body : List Action
   pub notes : List Noted
   pub more : List Receipt
   pub object_more : List ObjectReceipt
   pub adds : h'.log.receipts ≡ h.log.receipts ++ more
   pub adds_objects : h'.object_log.receipts ≡ h.object_log.receipts ++ object_more
-  pub enters : EntersNotes IsSo v w notes
-  pub part : IsPart IsSo label k h.objects_pass.now w h'.objects_pass.now (Entered c.timer c.number (claim_entry c reading.stamp) ∷ body)
-      (claim.note ∷ notes) (claim_receipt reading c ∷ more) object_more
+  pub enters : EntersNotes (HasRead reading) v w notes
+  pub part : IsPart (HasRead reading) label k h.objects_pass.now w h'.objects_pass.now
+      (Entered c.timer c.number (entries.Claim base reading.stamp c.generation) ∷ body) (claim.note ∷ notes) (claim_receipt reading c ∷ more) object_more
   pub kind : (finish : ℕ) (rearmed : line_restart.Restart) → IsBody (kind_of s c.timer) reading.stamp (fired_of c body finish (asks restart) rearmed)
   pub holds : (e : Ending) → IsJoined s e → promises.GoesOn w.seen e → (before : List Action)
       → ((i : ℕ) → ((j : ℕ) → made j body ≡ []) → IsObjectPoint (course_of s e) label before i (length (seen_of h'.objects_pass.now i)))
@@ -359,38 +330,37 @@ pub record BodyKept (IsSo : List ClockLine → Type 0) (s : Script) (label : Lab
   pub span : (e : Ending) → ((i : ℕ) → FollowsObject e i (seen_of h'.objects_pass.now i)) → (finish : ℕ) (rearmed : line_restart.Restart)
       → IsClaimSpan (course_of s e) (fired_of c body finish (asks restart) rearmed) body
 
--- law: a claim, and behind it a part that its function made
-pub part_claimed : {IsSo : List ClockLine → Type 0} {label : Label} {c : ClaimNumbers} {reading : ClockReading} {k v w : KnownOfTimers} {p q : ObjectsPass}
-    {body : List Action} {notes : List Noted} {more : List Receipt} {object_more : List ObjectReceipt} (claim : IsClaimed IsSo c reading.stamp k v)
-    → IsPart IsSo label v p w q body notes more object_more
-    → IsPart IsSo label k p w q (Entered c.timer c.number (claim_entry c reading.stamp) ∷ body) (claim.note ∷ notes) (claim_receipt reading c ∷ more)
-    object_more
-part_claimed {c = c} {reading = reading} claim part =
-    let are = ap (λ (r : ℕ × (ℕ × Entry)). r ∷ []) claim.is in
-    part_then {ds = Entered c.timer c.number (claim_entry c reading.stamp) ∷ []} {log = claim_receipt reading c ∷ []}
-    (part_entered claim.enters refl (tt, tt) are are refl) part
+module _ {label : Label} {base : ℕ} {c : ClaimNumbers} {reading : ClockReading} {k v w : KnownOfTimers} {p q : ObjectsPass} where
+  -- law: a claim, and behind it a part that its function made
+  pub part_claimed : {body : List Action} {notes : List Noted} {more : List Receipt} {object_more : List ObjectReceipt}
+      (claim : IsClaimed base c reading k v) → IsPart (HasRead reading) label v p w q body notes more object_more
+      → IsPart (HasRead reading) label k p w q (Entered c.timer c.number (entries.Claim base reading.stamp c.generation) ∷ body) (claim.note ∷ notes)
+      (claim_receipt reading c ∷ more) object_more
+  part_claimed claim part =
+      let are = ap (λ (r : ℕ × (ℕ × Entry)). r ∷ []) claim.is in
+      part_then {ds = Entered c.timer c.number (entries.Claim base reading.stamp c.generation) ∷ []} {log = claim_receipt reading c ∷ []}
+      (part_entered claim.enters refl (tt, tt) are (rw claim.there are) refl) part
 
--- law: a claim, and behind it a look at its timer
-pub part_looked : {IsSo : List ClockLine → Type 0} {label : Label} {c : ClaimNumbers} {reading : ClockReading} {k v w : KnownOfTimers} {p q : ObjectsPass}
-    (claim : IsClaimed IsSo c reading.stamp k v) (number : ℕ) (event : Event) (observation : Observation) (reply : CallbackReply) → Begins v.seen w.seen
-    → w.mine ≡ v.mine → q ≡ p → look_noted observation ≡ Some reply → count c.timer v.seen ≤ number → number ≤ count c.timer w.seen
-    → IsPart IsSo label k p w q (Entered c.timer c.number (claim_entry c reading.stamp) ∷ Looked c.timer number reply ∷ []) (claim.note ∷ [])
-    (claim_receipt reading c ∷ look_receipt c number event observation ∷ []) []
-part_looked {label = label} {c = c} {reading = reading} {k = k} {w = w} claim number event observation reply seen mine same noted low high =
-    let are : look_notes label (claim_receipt reading c ∷ look_receipt c number event observation ∷ [])
-    ≡ record { label = label; timer = c.timer; number = number; reply = reply } ∷ [] =
-    ap (λ o. present (option_map (λ (x : CallbackReply). record { label = label; timer = c.timer; number = number; reply = x }) o ∷ [])) noted in
-    record {
-      timers = record {
-        enters = enters-append claim.enters (enters_none seen mine);
-        are = ap (λ r. r ∷ []) claim.is;
-        told = same_order (ap (λ r. r ∷ []) claim.is);
-        no_write = refl;
-        looks = λ t. ap (looks_on t) are;
-        looks_rise = one_rises c.timer number reply (λ t. count t k.seen + 1) (λ t. count t w.seen + 1) (omega (arith, claim.more, low))
-            (omega (arith, high)) (λ t. let first = count_begins t claim.enters.seen in let le = count_begins t seen in omega (arith, first, le));
-        looks_seen = subst (AllByRecursion (λ n. (0 < n.number) × (n.number ≤ count n.timer w.seen))) (sym are)
-            ((omega (arith, claim.more, low), high), tt);
-      };
-      objects = objects_alone same (λ i. refl) (λ i. refl) (λ i. refl);
-    }
+  -- law: a claim, and behind it a look at its timer
+  pub part_looked : (claim : IsClaimed base c reading k v) (number : ℕ) (event : Event) (observation : Observation) (reply : CallbackReply)
+      → Begins v.seen w.seen → w.mine ≡ v.mine → q ≡ p → look_noted observation ≡ Some reply → count c.timer v.seen ≤ number
+      → number ≤ count c.timer w.seen → IsPart (HasRead reading) label k p w q
+      (Entered c.timer c.number (entries.Claim base reading.stamp c.generation) ∷ Looked c.timer number reply ∷ []) (claim.note ∷ [])
+      (claim_receipt reading c ∷ look_receipt c number event observation ∷ []) []
+  part_looked claim number event observation reply seen mine same noted low high =
+      let are : look_notes label (claim_receipt reading c ∷ look_receipt c number event observation ∷ [])
+      ≡ record { label = label; timer = c.timer; number = number; reply = reply } ∷ [] = rw noted refl in
+      let entered = ap (λ (r : ℕ × (ℕ × Entry)). r ∷ []) claim.is in
+      record {
+        timers = record {
+          enters = enters-append claim.enters (enters_none seen mine);
+          are = entered;
+          told = same_order (rw claim.there entered);
+          no_write = refl;
+          looks = λ t. ap (looks_on t) are;
+          looks_rise = one_rises c.timer number reply (λ t. count t k.seen + 1) (λ t. count t w.seen + 1) (omega (arith, claim.more, low))
+              (omega (arith, high)) (λ t. let first = count_begins t claim.enters.seen in let le = count_begins t seen in omega (arith, first, le));
+          looks_seen = rw are ((omega (arith, claim.more, low), high), tt);
+        };
+        objects = objects_alone same (λ i. refl) (λ i. refl) (λ i. refl);
+      }

@@ -51,7 +51,7 @@ use Rattle.timer_objects.specs.Firings.{Firing}
 use Rattle.lane_run.proofs.Entering.{enters_none, EntersNotes}
 use Rattle.lane_run.proofs.PartLists.{one_falls, rises_none}
 use Rattle.lane_run.proofs.SeenMore.{begins_same}
-use Rattle.lane_run.proofs.Parts.{BodyKept, fired_of, IsClaimed, IsNotedAs, IsNoteIn, IsObjectsPart, noted_at, object_place, objects_grow, part_claimed, part_made, part_of_objects}
+use Rattle.lane_run.proofs.Parts.{BodyKept, fired_of, HasRead, IsClaimed, IsNotedAs, IsNoteIn, IsObjectsPart, noted_at, object_place, objects_grow, part_claimed, part_made, part_of_objects}
 
 -- ---- the note of a trigger
 
@@ -90,9 +90,8 @@ fd_noted x generation reading allows = absurd allows
 
 -- ---- the trigger
 
-module _ (IsSo : List ClockLine → Type 0) (s : Script) (x : ObjectsOf) (limit : x.limit ≡ s.limit) (some : 1 ≤ s.limit) (label : Label) (c : ClaimNumbers)
-    (reading : ClockReading) (so : (clock : List ClockLine) → IsSo clock → reading_at clock reading.stamp ≡ reading) {k v : KnownOfTimers}
-    (claim : IsClaimed IsSo c reading.stamp k v) (restart : Restart) (h h' : Firing) (same_log : h'.log.receipts ≡ h.log.receipts)
+module _ (s : Script) (x : ObjectsOf) (limit : x.limit ≡ s.limit) (some : 1 ≤ s.limit) (label : Label) (c : ClaimNumbers)
+    (reading : ClockReading) {base : ℕ} {k v : KnownOfTimers} (claim : IsClaimed base c reading k v) (restart : Restart) (h h' : Firing) (same_log : h'.log.receipts ≡ h.log.receipts)
     (stops : restart ≡ wishes.Stop) (is_body : (f : Fired) → IsTrigger reading.stamp f → IsBody (kind_of s c.timer) reading.stamp f) where
   abbrev p : ObjectsPass
   p = h.objects_pass.now
@@ -101,13 +100,13 @@ module _ (IsSo : List ClockLine → Type 0) (s : Script) (x : ObjectsOf) (limit 
   q = h'.objects_pass.now
 
   -- the claim's function has left timers alone
-  still : EntersNotes IsSo v v []
+  still : EntersNotes (HasRead reading) v v []
   still = enters_none (begins_same refl) refl
 
   -- a trigger that made an entry
   entered_trigger : (call : ObjectCall) → ((y : Object) → ObjectAllows y call → TriggerNoted call (object_answer y call) c.generation reading)
       → EntersTrigger x p q h.object_log.receipts h'.object_log.receipts c.timer (spanned call (span_of c))
-      → BodyKept IsSo s label c reading claim restart v h h'
+      → BodyKept s label claim restart v h h'
   entered_trigger call notes t =
       let adds = t.commits.adds in
       let state = t.commits.state in
@@ -123,15 +122,13 @@ module _ (IsSo : List ClockLine → Type 0) (s : Script) (x : ObjectsOf) (limit 
         adds = same_log ∙ sym (append-nil h.log.receipts);
         adds_objects = t.receipt;
         enters = still;
-        part = part_claimed claim (part_made {step = step} adds t.commits.opening
-            (record { noted = n.1.noted; no_skip = n.1.no_skip; shows = λ clock is. n.1.shows clock (so clock is) }));
+        part = part_claimed claim (part_made {step = step} adds t.commits.opening n.1);
         kind = λ finish rearmed. is_body (fired_of c body finish (asks restart) rearmed) (inl (many + 1, n.0, refl), ap asks stops);
         holds = λ e joined goes before points. tt;
         span = λ e follows finish rearmed. (
           c.number - 1,
           omega (arith, claim.some),
-          span_made q e c.timer many step (follows c.timer)
-              (subst (λ ys. slice_get ys many ≡ Some step) (sym adds.last) (at_seam adds.before [] step)),
+          span_made q e c.timer many step (follows c.timer) (rw adds.last (at_seam adds.before [] step)),
         );
       }
 
@@ -139,28 +136,24 @@ module _ (IsSo : List ClockLine → Type 0) (s : Script) (x : ObjectsOf) (limit 
   refused_trigger : (call : ObjectCall) → ((n : ℕ) → object_entry_noted call (refused_at call n) ≡ None)
       → ((n : ℕ) → skip_generation call (refused_at call n) ≡ Some c.generation)
       → SkipsTrigger x p q h.object_log.receipts h'.object_log.receipts c.timer (spanned call (span_of c))
-      → BodyKept IsSo s label c reading claim restart v h h'
+      → BodyKept s label claim restart v h h'
   refused_trigger call no_entry skip t =
       let many = length (seen_of q c.timer) in
       let r : ObjectReceipt = record { object = c.timer; number = many; call = spanned call (span_of c); reply = refused_at call many } in
-      let note : SkipNote = record { label = label; object = c.timer; number = many; generation = c.generation } in
-      let no_notes : object_notes label (r ∷ []) ≡ [] =
-      ap (λ o. present (option_map (λ (y : ObjectEntry). record { label = label; object = c.timer; number = many; entry = y }) o ∷ [])) (no_entry many) in
-      let are : skip_notes label (r ∷ []) ≡ note ∷ [] =
-      ap (λ o. present (option_map (λ (y : ℕ). record { label = label; object = c.timer; number = many; generation = y }) o ∷ [])) (skip many) in
+      let no_notes : object_notes label (r ∷ []) ≡ [] = rw (no_entry many) refl in
+      let are : skip_notes label (r ∷ []) ≡ record { label = label; object = c.timer; number = many; generation = c.generation } ∷ [] = rw (skip many) refl in
       let body = Skipped c.timer many c.generation ∷ [] in
       let grows = objects_grow p q t.reads.pass.seen in
-      let part : IsObjectsPart IsSo label p q body (r ∷ []) = record {
+      let part : IsObjectsPart (HasRead reading) label p q body (r ∷ []) = record {
         makes = λ i. ap (made_on i) no_notes;
         rise = λ i. let le = grows i in rises_none (omega (arith, le));
-        seen = subst (AllByRecursion (IsNoteIn IsSo p q)) (sym no_notes) tt;
+        seen = rw no_notes tt;
         skips = λ i. ap (skips_on i) are;
-        skips_seen = subst (AllByRecursion (λ n. (0 < n.number) × (n.number ≤ length (seen_of q n.object)))) (sym are)
-            ((omega (arith, t.full, limit, some), omega arith), tt);
+        skips_seen = rw are ((omega (arith, t.full, limit, some), omega arith), tt);
         steps = one_falls c.timer many (λ i. length (seen_of p i)) (λ i. length (seen_of q i)) (grows c.timer) (omega arith) grows;
         goes_on = t.reads.pass.seen;
         opening = t.reads.opening;
-        mine = t.reads.pass.mine ∙ sym (append-nil p.knows.pass.mine) ∙ ap (λ ns. p.knows.pass.mine ++ map object_place ns) (sym no_notes);
+        mine = rw (no_notes, append-nil p.knows.pass.mine) t.reads.pass.mine;
       } in
       record {
         body = body;
@@ -179,5 +172,5 @@ module _ (IsSo : List ClockLine → Type 0) (s : Script) (x : ObjectsOf) (limit 
   -- law: what the claim of an object's timer does
   pub trigger_kept : (call : ObjectCall) → ((y : Object) → ObjectAllows y call → TriggerNoted call (object_answer y call) c.generation reading)
       → ((n : ℕ) → object_entry_noted call (refused_at call n) ≡ None) → ((n : ℕ) → skip_generation call (refused_at call n) ≡ Some c.generation)
-      → Triggers x p q h.object_log.receipts h'.object_log.receipts c call → BodyKept IsSo s label c reading claim restart v h h'
+      → Triggers x p q h.object_log.receipts h'.object_log.receipts c call → BodyKept s label claim restart v h h'
   trigger_kept call notes no_entry skip triggers = ⊎_elim (entered_trigger call notes) (refused_trigger call no_entry skip) triggers
