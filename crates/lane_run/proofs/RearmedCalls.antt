@@ -48,7 +48,6 @@ use Rattle.lane_run.specs.Worlds.{WorldOf}
 use Rattle.lane_run.proofs.Sights.{keeps_full, keeps_same}
 use Rattle.std.proofs.Common.{◌+◌, false, [], arith}
 use Rattle.ktime.specs.declared.mode.Mode.TheVariants as modes
-use Rattle.hr_timers.specs.Known.{timer_then}
 use Rattle.timer_objects.specs.Calls.{phase_of, wanted_by}
 use Rattle.timer_objects.specs.Steps.{object_step}
 use Rattle.record_text.specs.declared.record.Armed.{Armed}
@@ -57,7 +56,6 @@ use Rattle.script_text.specs.Told.{object_called}
 use Rattle.run_history.specs.Fits.{FitsCall}
 use Rattle.run_history.specs.Receipts.{Noted}
 use Rattle.run_history.specs.Runs.{course_of, Ending, IsJoined, moves_spans}
-use Rattle.run_history.specs.Truths.{IsSpanBy}
 use Rattle.run_history.proofs.Kept.{IsKept}
 use Rattle.run_history.proofs.ObjectsMade.{IsRearmed, rearming_actions}
 use Rattle.run_history.proofs.OthersMade.{plain}
@@ -69,8 +67,8 @@ use Rattle.lane_run.proofs.CallKept.{reads_begins}
 use Rattle.lane_run.proofs.Parts.{IsNotedAs, noted_at}
 use Rattle.lane_run.proofs.Declared.{declared_base}
 use Rattle.lane_run.proofs.Armed.{HasRead, places_inside}
-use Rattle.lane_run.proofs.ObjectMade.{empty_is, keeps_made, start_is, whole_span}
-use Rattle.lane_run.proofs.Rearmed.{like_restart, rearm_part, RearmPart, RearmSpan, wanted_timely}
+use Rattle.lane_run.proofs.ObjectMade.{keeps_made, rearm_span, start_is}
+use Rattle.lane_run.proofs.Rearmed.{like_restart, rearm_part, RearmPart, wanted_timely}
 use Rattle.script_text.specs.declared.script.Call.{Call}
 use Rattle.timer_objects.specs.declared.wanting.Rearming.{Rearming}
 use Rattle.script_text.specs.ObjectCalls.{Arms}
@@ -94,7 +92,7 @@ module _ {s : Script} {x : WorldOf} {l m : LaneOf} {call : Call} (next : IsNextC
       rearm_part next timer c.reading made.enters.commits.state.last (wanted_by r object c.reading) made.arm (wanted_timely r object c.reading) made.rearms
 
   rearmed : {e : Ending} → Follows m.pass e → IsJoined s e
-      → IsRearmed (course_of s e) l.label part.does.part.0 c.reading.stamp (length part.does.begin.seen) (length m.pass.timers.known.seen) timer
+      → IsRearmed (course_of s e) l.label part.does.part.0 c.reading.stamp (length part.begin.seen) (length m.pass.timers.known.seen) timer
       (arm_noted made.arm) part.does.start (length made.enters.commits.adds.before + 1)
   rearmed {e = e} follows joined =
       let w = course_of s e in
@@ -112,16 +110,8 @@ module _ {s : Script} {x : WorldOf} {l m : LaneOf} {call : Call} (next : IsNextC
         part = places_inside part.does.part.1.timers.enters;
         holds = start_is m next made.enters part.does follows joined false
             (like_restart x.timers.about m.pass.timers.known timer made.arm phase made.bears);
-        span = by_arm made.arm part.spans;
+        span = rearm_span m next made.enters part.does follows joined made.arm part.spans;
       }
-    where
-      by_arm : (arm : Arm) → RearmSpan (timer_then x.timers.about part.does.begin.seen timer) (timer_then x.timers.about m.pass.timers.known.seen timer) arm
-          made.span
-          → IsSpanBy (course_of s e) (length part.does.begin.seen) timer (length made.enters.commits.adds.before + 1) (arm_noted arm)
-          (length m.pass.timers.known.seen)
-      by_arm arms.NotAsked spans = empty_is m next made.enters part.does follows joined spans.0 spans.1
-      by_arm (arms.Armed generation) spans = whole_span m next made.enters part.does follows joined spans.0 spans.1
-      by_arm (arms.Unarmed stamp) spans = whole_span m next made.enters part.does follows joined spans.0 spans.1
 
   -- law: a lane keeps a call on an object that may arm the object's timer again and made an entry, where such calls fit
   pub keeps_rearming : (b : Answer) → object_stamp_in b ≡ [] → ((e : Ending) (begin last : ℕ) (arm : Armed) (start : List Action) (number : ℕ)
