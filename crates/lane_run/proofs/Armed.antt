@@ -67,6 +67,12 @@ use Rattle.lane_run.specs.Worlds.{WorldOf}
 use Rattle.lane_run.proofs.CallKept.{opened_timers}
 use Rattle.pass_names.specs.Passes.{Begins}
 use Rattle.lane_run.proofs.Parts.{part_then}
+use Rattle.std.proofs.Common.{nat_eq, if◌then◌else◌}
+use Rattle.std.proofs.Common.{true}
+use Rattle.timer_setting.specs.Arguments as settings
+use Rattle.timer_setting.specs.Arguments.{mode_by}
+use Rattle.timer_objects.specs.Arming.{ArmsFor}
+use Rattle.timer_core.specs.Kept.{step_all}
 
 -- a record's clock has a reading
 abbrev pub HasRead : ClockReading → List ClockLine → Type 0
@@ -132,11 +138,6 @@ abbrev pub IsIdleOr : Timer → Option (ℕ × ℕ) → Type 0
 IsIdleOr u None = IsIdle u
 IsIdleOr u (Some cancel) = Unit
 
--- the generation that a start answers
-abbrev generation_of : StartAnswer → ℕ
-generation_of (starts.Started was generation base outs clock expires) = generation
-generation_of (starts.Spent n) = n
-
 module _ {s : Script} {x : WorldOf} {l : LaneOf} {call : Call} (next : IsNextCall s x l call) (t : ℕ) (reading : ClockReading) {v w : KnownOfTimers} where
   -- the entries that the call made of its timer at a moment, with a receipt of each
   part_along : (at : List TimerEntry) (es : List Event) (actions : List Action) → MadeAt v w t at (entries_along (timer_then x.timers.about at t) es)
@@ -198,11 +199,13 @@ module _ {s : Script} {x : WorldOf} {l : LaneOf} {call : Call} (next : IsNextCal
       let as_told = started_so u t mode ns base reading (starts.Started was generation on outs clock expires) c.fits.2 in
       let told = as_told.told in
       let number : generation ≡ as_told.arming.number = cc in
+      let fits = c.fits.2 in
+      let stamp : (step_all u es).stamp ≡ generation = cc in
       let actions = arming_actions t mode ns reading.stamp base as_told.arming in
       started actions adds (as_told.arming, refl, number, as_told.just)
       (part_along next t reading c.at es actions c.made (λ clock has. start_reads mode ns base reading clock (moves_first u base) has) as_told.only
       as_told.lines)
-      (ap (λ (y : Timer). y.stamp) (timer_after x.timers.about v w t c.at (entries_along u es) c.made ∙ along u es) ∙ sym (ap generation_of c.fits.2))
+      (ap (λ (y : Timer). y.stamp) (timer_after x.timers.about v w t c.at (entries_along u es) c.made ∙ along u es) ∙ stamp)
 
   -- law: a start that was wanted
   pub start_part : {wanted : Wanted} {arm : Arm} → Starts x.timers.about v w t wanted base reading arm done log
@@ -210,6 +213,18 @@ module _ {s : Script} {x : WorldOf} {l : LaneOf} {call : Call} (next : IsNextCal
   start_part {wanted = wanted} c =
       subst (λ b. TimerPart x l t begin w wanted.mode wanted.ns base reading b cancel log) (sym c.outcome)
       (start_by wanted.mode wanted.ns c.answer c.starts c.receipts)
+
+  -- law: the start of a settime, where its value asks for one
+  pub settime_start : (flags ns : ℕ) (arm : Arm) → ArmsFor x.timers.about v w t (settings.start_by flags ns) base reading arm done log
+      → TimerPart x l t begin w (mode_by flags) ns base reading arm cancel log
+  settime_start flags ns arm = by_value (nat_eq ns 0)
+    where
+      by_value : (b : Bool)
+          → ArmsFor x.timers.about v w t (if b then None else Some (record { mode = mode_by flags; ns = ns })) base reading arm done log
+          → TimerPart x l t begin w (mode_by flags) ns base reading arm cancel log
+      by_value true none =
+          subst (λ y. TimerPart x l t begin w (mode_by flags) ns base reading y cancel log) (sym none.0) (start_none (mode_by flags) ns none.1 none.2)
+      by_value false start = start_part start
 
 -- ---- in the run
 
@@ -221,9 +236,8 @@ IsOutcomeAt w i (arms.Unarmed stamp) n = SawRefusal w i stamp n
 
 -- an object's phase bears a start that was made, as the timer has it
 abbrev pub IsLike : Bool → Arm → Option ArmedAs → Timer → Type 0
-IsLike on_clock arms.NotAsked armed s = Unit
 IsLike on_clock (arms.Armed generation) armed s = IsArmedLike on_clock armed generation s
-IsLike on_clock (arms.Unarmed stamp) armed s = Unit
+IsLike on_clock arm armed s = Unit
 
 -- law: what became of a start, where a pass has seen it end
 pub outcome_seen : (w : Course) (seen later : List TimerEntry) → entries_in w ≡ seen ++ later → (i : ℕ) (arm : Arm)

@@ -1,5 +1,5 @@
 -- A call on an object that made an entry, as its lane keeps it: it found the object's timer, perhaps cancelled and perhaps started it, and then made the entry.
-use Rattle.std.proofs.Common.{◌≤◌, ◌≡◌, ℕ, ◌+◌, Option, Some, List, [], ◌++◌, length, arith, refl, sym, ap, ◌∙◌, subst, ◌≤◌, Bool}
+use Rattle.std.proofs.Common.{◌≤◌, ◌≡◌, ℕ, ◌+◌, Option, Some, List, [], ◌++◌, length, arith, refl, sym, ap, ◌∙◌, subst, ◌≤◌, Bool, ◌∷◌}
 use Rattle.ktime.specs.Readings.{ClockReading}
 use Rattle.seq_timer.specs.Steps.{Timer}
 use Rattle.seq_timer.specs.declared.system.TimerEntry.{TimerEntry}
@@ -37,13 +37,17 @@ use Rattle.ktime.specs.declared.mode.Mode.{Mode}
 use Rattle.run_history.specs.Courses as courses
 use Rattle.lane_run.proofs.Armed.{HasRead, IsArmedSo, IsLike, IsOutcomeAt, IsRearmSpan, outcome_seen, start_true, TimerPart}
 use Rattle.lane_run.proofs.CallKept.{logged_from, reading_goes_on, reads_begins, unstamped}
-use Rattle.lane_run.proofs.ObjectEntered.{entered_phase, entered_span, part_entry}
+use Rattle.lane_run.proofs.ObjectEntered.{entered_phase, entered_span}
 use Rattle.lane_run.proofs.PartKept.{keeps_part, sees_part}
-use Rattle.lane_run.proofs.Parts.{IsNotedAs, IsPart, part_none, part_then}
+use Rattle.lane_run.proofs.Parts.{IsNotedAs, IsPart, part_made, part_none, part_then}
 use Rattle.lane_run.proofs.SeenMore.{goes_before}
 use Rattle.timer_objects.specs.Arming.{stamp_seen}
 use Rattle.timer_objects.specs.declared.cell.SpannedCall.{SpannedCall}
 use Rattle.timer_setting.specs.declared.arming.Arm.TheVariants as arms
+use Rattle.std.proofs.lemmas.List.{append-nil}
+use Rattle.timer_objects.specs.Steps.{object_answer}
+use Rattle.lane_run.specs.Kept.{ObjectMove}
+use Rattle.run_history.specs.Receipts.{Noted}
 
 module _ {s : Script} {x : WorldOf} {l : LaneOf} (m : LaneOf) {call : Call} (next : IsNextCall s x l call) {timer : ℕ} {log : List Receipt}
     {object_log : List ObjectReceipt} {made : SpannedCall} {reply : ObjectReply}
@@ -127,8 +131,16 @@ module _ {s : Script} {x : WorldOf} {l : LaneOf} (m : LaneOf) {call : Call} (nex
         let q = m.pass in
         let ds = settime_actions timer cancel k.start number entry in
         let trace = plain reading.stamp (length begin.seen) (length w.seen) ds in
-        let whole : IsPart (HasRead reading) l.label p.timers.known p.objects w q.objects ds k.part.0 log object_log =
-        part_then (part_none k.seen k.mine) (part_entry enters noted k.part.1 refl) in
+        let step : ObjectMove = record { call = made; reply = object_answer enters.commits.state.object made.call } in
+        let receipt_of : ObjectReply → ObjectReceipt = λ r. record { object = timer; number = number; call = made; reply = r } in
+        let log_is : object_log ≡ receipt_of step.reply ∷ [] = enters.object_log ∙ ap (λ r. receipt_of r ∷ []) enters.reply in
+        let as_told = subst (λ r. IsNotedAs (HasRead reading) made.call r entry) enters.reply noted in
+        let entered = part_made {v = w} {step = step} enters.commits.adds enters.commits.opening as_told in
+        let Whole : List Noted → List Receipt → List ObjectReceipt → Type 0 =
+        λ ns rs os. IsPart (HasRead reading) l.label p.timers.known p.objects w q.objects ds ns rs os in
+        let whole : Whole k.part.0 log object_log =
+        subst (λ ns. Whole ns log object_log) (append-nil k.part.0) (subst (λ rs. Whole (k.part.0 ++ []) rs object_log) (append-nil log)
+        (subst (Whole (k.part.0 ++ []) (log ++ [])) (sym log_is) (part_then (part_none k.seen k.mine) (part_then k.part.1 entered)))) in
         let clock = reads_begins p q reads.looks.seen in
         let logged = logged_from p q k.part.0 trace call a (sees_part p q whole clock) refl whole.timers.enters.made whole.timers.are reads.count
         whole.timers.no_write

@@ -2,35 +2,31 @@
 use Rattle.std.proofs.Common.{◌≡◌, ◌<◌, ℕ, ◌||◌, Bool, true, false, nat_eq, not, if◌then◌else◌, None, Some, List, arith, refl, sym, ap, subst}
 use Rattle.std.specs.Prelude.{MatchOption}
 use Rattle.std.proofs.lemmas.Bool.{eqb-true, leb-false, leb-true}
-use Rattle.ktime.specs.Readings.{ClockReading}
 use Rattle.ktime.specs.Times.{second}
 use Rattle.ktime.specs.declared.timespec.TimeSpec.{TimeSpec}
-use Rattle.timer_setting.specs.Arguments.{AreValid, bits_beyond, is_bad, mode_by, start_by}
+use Rattle.timer_setting.specs.Arguments.{AreValid, bits_beyond, is_bad, mode_by}
 use Rattle.timer_setting.specs.declared.arming.Arm.{Arm}
 use Rattle.timer_fd.specs.declared.answers.SettimeAnswer.TheVariants as settings
 use Rattle.timer_fd.specs.declared.answers.SettimeAnswer.{SettimeAnswer}
-use Rattle.expire_pass.specs.declared.log.Receipt.{Receipt}
 use Rattle.hr_timers.specs.Known.{KnownOfTimers}
-use Rattle.timer_objects.specs.Arming.{ArmsFor}
 use Rattle.timer_objects.specs.Calls.{flags_of}
 use Rattle.timer_objects.specs.Steps.{IsObjectOf}
 use Rattle.timer_objects.specs.declared.object.Kind.TheVariants as over
 use Rattle.timer_objects.specs.declared.object.Object.TheVariants as objects
 use Rattle.timer_objects.specs.declared.object.Object.{Object}
 use Rattle.record_text.specs.declared.record.Answer.TheVariants as answers
-use Rattle.script_text.specs.ObjectCalls.{AreValidFor, start_mode, cancels}
+use Rattle.script_text.specs.ObjectCalls.{AreValidFor, start_mode}
 use Rattle.script_text.specs.declared.script.Kind.TheVariants as kinds
 use Rattle.script_text.specs.declared.script.Kind.{Kind}
 use Rattle.lane_run.specs.Called.{settime_told}
-use Rattle.lane_run.proofs.Armed.{IsLike, start_none, start_part, TimerPart, TimersPart}
+use Rattle.lane_run.proofs.Armed.{IsLike}
 use Rattle.lane_run.proofs.Declared.{declared_over, over_of}
 use Rattle.script_text.specs.declared.script.Call.{Call}
 use Rattle.script_text.specs.declared.script.Script.{Script}
 use Rattle.lane_run.specs.Called.{LaneOf}
 use Rattle.lane_run.specs.Kept.{IsNextCall}
 use Rattle.lane_run.specs.Worlds.{WorldOf}
-use Rattle.pass_names.specs.Passes.{Begins}
-use Rattle.std.proofs.Common.{◌∙◌, length, Option}
+use Rattle.std.proofs.Common.{◌∙◌, length}
 use Rattle.script_text.specs.Told.{IsArmedLike}
 use Rattle.timer_objects.specs.Calls.{BearsStart}
 use Rattle.lane_run.specs.Kept.{ObjectMove}
@@ -94,24 +90,6 @@ raw_object {s = s} {x = x} next {t = t} {seen = seen} {state = state} at raw =
     by_object : (y : Object) → IsObjectOf (decl_at x.objects t) x.objects.limit (length seen) y → (y ≡ objects.Raw) × (length seen ≡ 0)
     by_object objects.Raw is = (refl, is.1)
     by_object y is = let kind = sym is.0 ∙ declared_over s x t next.world ∙ raw in absurd (cc)
-
--- ---- its start
-
--- law: a settime's start is a part of it, where the value asks for one
-pub settime_start : {s : Script} {x : WorldOf} {l : LaneOf} {c : Call} (next : IsNextCall s x l c) (t : ℕ) (reading : ClockReading)
-    {begin v w : KnownOfTimers} {cancel : Option (ℕ × ℕ)} {done log : List Receipt} → Begins l.pass.timers.known.seen begin.seen
-    → begin.mine ≡ l.pass.timers.known.mine → TimersPart l reading begin v (cancels t cancel) done → (flags ns base : ℕ) (arm : Arm)
-    → ArmsFor x.timers.about v w t (start_by flags ns) base reading arm done log → TimerPart x l t begin w (mode_by flags) ns base reading arm cancel log
-settime_start {x = x} {l = l} next t reading {begin = begin} {v = v} {w = w} {cancel = cancel} {done = done} {log = log} seen mine before flags ns base arm
-    a = by_value (nat_eq ns 0) a
-  where
-    by_value : (b : Bool)
-        → ArmsFor x.timers.about v w t (if b then None else Some (record { mode = mode_by flags; ns = ns })) base reading arm done log
-        → TimerPart x l t begin w (mode_by flags) ns base reading arm cancel log
-    by_value true none =
-        subst (λ y. TimerPart x l t begin w (mode_by flags) ns base reading y cancel log) (sym none.0)
-        (start_none next t reading seen mine before (mode_by flags) ns none.1 none.2)
-    by_value false start = start_part next t reading seen mine before start
 
 -- law: the object's phase after a settime has its timer's start
 pub like_start : (o : Opening) (k : KnownOfTimers) (t : ℕ) (arm : Arm) (phase : Phase) → BearsStart o k t arm phase

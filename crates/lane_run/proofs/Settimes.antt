@@ -37,10 +37,10 @@ use Rattle.timer_objects.specs.Steps.{ObjectAllows}
 use Rattle.timer_objects.specs.Arming.{receipts_of}
 use Rattle.hr_timers.specs.Calls.{cancel_entries}
 use Rattle.lane_run.proofs.SeenMore.{begins_same}
-use Rattle.lane_run.proofs.Armed.{disarmed_part, IsIdleOr, places_inside, TimerPart, TimersPart}
+use Rattle.lane_run.proofs.Armed.{disarmed_part, IsIdleOr, places_inside, settime_start, TimerPart, TimersPart}
 use Rattle.lane_run.proofs.ObjectMade.{keeps_made, outcome_is, start_is, timer_found, whole_span}
 use Rattle.lane_run.proofs.SettimeNoted.{settime_noted, SettimeNoted}
-use Rattle.lane_run.proofs.SettimeParts.{checked, IsRefusal, like_start, raw_object, settime_start, takes_valid, valid_for}
+use Rattle.lane_run.proofs.SettimeParts.{checked, IsRefusal, like_start, raw_object, takes_valid, valid_for}
 use Rattle.timer_objects.specs.declared.object.ObjectCall.{ObjectCall}
 use Rattle.hr_timers.specs.Known.{MadeAt}
 
@@ -77,8 +77,7 @@ module _ {s : Script} {x : WorldOf} {l : LaneOf} (m : LaneOf) {timer flags : ℕ
       (d.receipts ∙ ap (λ k. receipts_of timer k (cancel_entries d.answer)) d.from)
 
   part : TimerPart x l timer begin w (mode_by flags) (time_of value) (decl_at x.objects timer).base reading set.arm disarmed.0 log
-  part = settime_start next timer reading set.disarms.cancelled.made.from refl disarmed.1 flags (time_of value) (decl_at x.objects timer).base set.arm
-      set.arms
+  part = settime_start next timer reading set.disarms.cancelled.made.from refl disarmed.1 flags (time_of value) set.arm set.arms
 
   noted : SettimeNoted call set.reply flags (time_of value) (time_of interval) reading set.arm a
   noted =
