@@ -65,6 +65,14 @@ use Rattle.lane_run.specs.Called.{LaneOf}
 use Rattle.lane_run.specs.Kept.{IsNextCall}
 use Rattle.lane_run.specs.Worlds.{WorldOf}
 use Rattle.lane_run.proofs.CallKept.{opened_timers}
+use Rattle.pass_names.specs.Passes.{Begins}
+use Rattle.lane_run.proofs.Parts.{part_then}
+use Rattle.std.proofs.Common.{nat_eq, if◌then◌else◌}
+use Rattle.std.proofs.Common.{true}
+use Rattle.timer_setting.specs.Arguments as settings
+use Rattle.timer_setting.specs.Arguments.{mode_by}
+use Rattle.timer_objects.specs.Arming.{ArmsFor}
+use Rattle.timer_core.specs.Kept.{step_all}
 
 -- a record's clock has a reading
 abbrev pub HasRead : ClockReading → List ClockLine → Type 0
@@ -110,25 +118,25 @@ IsArmedSo arms.NotAsked s = Unit
 IsArmedSo (arms.Armed generation) s = s.stamp ≡ generation
 IsArmedSo (arms.Unarmed stamp) s = (s.stamp ≡ stamp) × Holds s observations.Spent × (s.moving ≡ false)
 
--- a start that was made or refused, or none, as a part of a call on an object: its actions, receipts and notes, and what became of it
-pub record StartPart (x : WorldOf) (l : LaneOf) (t : ℕ) (v w : KnownOfTimers) (mode : Mode) (ns base : ℕ) (reading : ClockReading) (arm : Arm)
-    (log log' : List Receipt) : Type 0 where
+-- what a call did to its object's timer, from where it had found it on: perhaps a cancel, and perhaps a start, with what became of it
+pub record TimerPart (x : WorldOf) (l : LaneOf) (t : ℕ) (begin w : KnownOfTimers) (mode : Mode) (ns base : ℕ) (reading : ClockReading) (arm : Arm)
+    (cancel : Option (ℕ × ℕ)) (log : List Receipt) : Type 0 where
+  pub seen : Begins l.pass.timers.known.seen begin.seen
+  pub mine : begin.mine ≡ l.pass.timers.known.mine
   pub start : List Action
-  pub more : List Receipt
-  pub adds : log' ≡ log ++ more
   pub arms : Arms t mode ns reading.stamp base (arm_noted arm) start
-  pub part : TimersPart l reading v w start more
+  pub part : TimersPart l reading begin w (cancels t cancel ++ start) log
   pub armed : IsArmedSo arm (timer_then x.timers.about w.seen t)
+
+-- the span of a call that starts the timer only where it has expired, by the timer where the call found it and where it left it
+abbrev pub IsRearmSpan : Timer → Timer → Arm → ℕ → ℕ → Type 0
+IsRearmSpan before now arms.NotAsked from to = (from ≡ to) × (now.running ≡ None → now.stamp ≤ from)
+IsRearmSpan before now arm from to = (from ≡ before.stamp) × (to ≡ now.stamp)
 
 -- a timer that nobody cancelled was idle
 abbrev pub IsIdleOr : Timer → Option (ℕ × ℕ) → Type 0
 IsIdleOr u None = IsIdle u
 IsIdleOr u (Some cancel) = Unit
-
--- the generation that a start answers
-abbrev generation_of : StartAnswer → ℕ
-generation_of (starts.Started was generation base outs clock expires) = generation
-generation_of (starts.Spent n) = n
 
 module _ {s : Script} {x : WorldOf} {l : LaneOf} {call : Call} (next : IsNextCall s x l call) (t : ℕ) (reading : ClockReading) {v w : KnownOfTimers} where
   -- the entries that the call made of its timer at a moment, with a receipt of each
@@ -162,42 +170,61 @@ module _ {s : Script} {x : WorldOf} {l : LaneOf} {call : Call} (next : IsNextCal
       (λ clock has. (tt, tt)) (tt, tt) refl in
       (cancel, subst (TimersPart l reading v w (cancels t cancel)) (sym (adds ∙ ap (λ k. receipts_of t u.stamp (entry k)) generation)) its, tt)
 
-  module _ {base : ℕ} {log log' : List Receipt} where
-    -- law: no start is a part too
-    pub start_none : (mode : Mode) (ns : ℕ) → w ≡ v → log' ≡ log → StartPart x l t v w mode ns base reading arms.NotAsked log log'
-    start_none mode ns alone same =
-        let part = part_none (begins_same (ap (λ k. k.seen) alone)) (ap (λ k. k.mine) alone) in
-        record { start = []; more = []; adds = same ∙ sym (append-nil log); arms = refl; part = ([], part); armed = tt }
+-- a start, or none, behind what the call had done to the timer by then
+module _ {s : Script} {x : WorldOf} {l : LaneOf} {call : Call} (next : IsNextCall s x l call) (t : ℕ) (reading : ClockReading) {begin v w : KnownOfTimers}
+    {cancel : Option (ℕ × ℕ)} {done log : List Receipt} (seen : Begins l.pass.timers.known.seen begin.seen)
+    (mine : begin.mine ≡ l.pass.timers.known.mine) (before : TimersPart l reading begin v (cancels t cancel) done) {base : ℕ} where
+  started : {mode : Mode} {ns : ℕ} {arm : Arm} (start : List Action) {more : List Receipt} → log ≡ done ++ more
+      → Arms t mode ns reading.stamp base (arm_noted arm) start → TimersPart l reading v w start more
+      → IsArmedSo arm (timer_then x.timers.about w.seen t) → TimerPart x l t begin w mode ns base reading arm cancel log
+  started start adds arms part armed =
+      let both = subst (TimersPart l reading begin w (cancels t cancel ++ start)) (sym adds) (before.0 ++ part.0, part_then before.1 part.1) in
+      record { seen = seen; mine = mine; start = start; arms = arms; part = both; armed = armed }
 
-    start_by : (mode : Mode) (ns : ℕ) (a : StartAnswer) (c : StartsTimer x.timers.about v w t mode ns base reading a)
-        → log' ≡ log ++ receipts_of t (timer_then x.timers.about c.at t).stamp (start_entries (timer_then x.timers.about c.at t) mode ns base reading a)
-        → StartPart x l t v w mode ns base reading (arm_of a) log log'
-    start_by mode ns (starts.Spent n) c adds =
-        let looks = looks_made c.made in
-        let armed = subst (IsArmedSo (arms.Unarmed n)) (sym (timer_after x.timers.about v w t c.at [] c.made)) (sym c.fits.2, c.fits.1, c.fits.0) in
-        record { start = []; more = []; adds = adds; arms = refl; part = ([], part_none looks.0 looks.1); armed = armed }
-    start_by mode ns (starts.Started was generation on outs clock expires) c adds =
-        let u = timer_then x.timers.about c.at t in
-        let es = start_events u mode ns base reading in
-        let as_told = started_so u t mode ns base reading (starts.Started was generation on outs clock expires) c.fits.2 in
-        let told = as_told.told in
-        let number : generation ≡ as_told.arming.number = cc in
-        let actions = arming_actions t mode ns reading.stamp base as_told.arming in
-        record {
-          start = actions;
-          more = receipts_of t u.stamp (entries_along u es);
-          adds = adds;
-          arms = (as_told.arming, refl, number, as_told.just);
-          part = part_along c.at es actions c.made (λ clock has. start_reads mode ns base reading clock (moves_first u base) has) as_told.only as_told.lines;
-          armed = ap (λ (x : Timer). x.stamp) (timer_after x.timers.about v w t c.at (entries_along u es) c.made ∙ along u es) ∙ sym (ap generation_of c.fits.2);
-        }
+  -- law: no start
+  pub start_none : (mode : Mode) (ns : ℕ) → w ≡ v → log ≡ done → TimerPart x l t begin w mode ns base reading arms.NotAsked cancel log
+  start_none mode ns alone same =
+      started [] (same ∙ sym (append-nil done)) refl ([], part_none (begins_same (ap (λ k. k.seen) alone)) (ap (λ k. k.mine) alone)) tt
 
-    -- law: a start that was wanted is a part of the call
-    pub start_part : {wanted : Wanted} {arm : Arm} → Starts x.timers.about v w t wanted base reading arm log log'
-        → StartPart x l t v w wanted.mode wanted.ns base reading arm log log'
-    start_part {wanted = wanted} c =
-        subst (λ b. StartPart x l t v w wanted.mode wanted.ns base reading b log log') (sym c.outcome)
-        (start_by wanted.mode wanted.ns c.answer c.starts c.receipts)
+  start_by : (mode : Mode) (ns : ℕ) (a : StartAnswer) (c : StartsTimer x.timers.about v w t mode ns base reading a)
+      → log ≡ done ++ receipts_of t (timer_then x.timers.about c.at t).stamp (start_entries (timer_then x.timers.about c.at t) mode ns base reading a)
+      → TimerPart x l t begin w mode ns base reading (arm_of a) cancel log
+  start_by mode ns (starts.Spent n) c adds =
+      let looks = looks_made c.made in
+      started [] adds refl ([], part_none looks.0 looks.1)
+      (subst (IsArmedSo (arms.Unarmed n)) (sym (timer_after x.timers.about v w t c.at [] c.made)) (sym c.fits.2, c.fits.1, c.fits.0))
+  start_by mode ns (starts.Started was generation on outs clock expires) c adds =
+      let u = timer_then x.timers.about c.at t in
+      let es = start_events u mode ns base reading in
+      let as_told = started_so u t mode ns base reading (starts.Started was generation on outs clock expires) c.fits.2 in
+      let told = as_told.told in
+      let number : generation ≡ as_told.arming.number = cc in
+      let fits = c.fits.2 in
+      let stamp : (step_all u es).stamp ≡ generation = cc in
+      let actions = arming_actions t mode ns reading.stamp base as_told.arming in
+      started actions adds (as_told.arming, refl, number, as_told.just)
+      (part_along next t reading c.at es actions c.made (λ clock has. start_reads mode ns base reading clock (moves_first u base) has) as_told.only
+      as_told.lines)
+      (ap (λ (y : Timer). y.stamp) (timer_after x.timers.about v w t c.at (entries_along u es) c.made ∙ along u es) ∙ stamp)
+
+  -- law: a start that was wanted
+  pub start_part : {wanted : Wanted} {arm : Arm} → Starts x.timers.about v w t wanted base reading arm done log
+      → TimerPart x l t begin w wanted.mode wanted.ns base reading arm cancel log
+  start_part {wanted = wanted} c =
+      subst (λ b. TimerPart x l t begin w wanted.mode wanted.ns base reading b cancel log) (sym c.outcome)
+      (start_by wanted.mode wanted.ns c.answer c.starts c.receipts)
+
+  -- law: the start of a settime, where its value asks for one
+  pub settime_start : (flags ns : ℕ) (arm : Arm) → ArmsFor x.timers.about v w t (settings.start_by flags ns) base reading arm done log
+      → TimerPart x l t begin w (mode_by flags) ns base reading arm cancel log
+  settime_start flags ns arm = by_value (nat_eq ns 0)
+    where
+      by_value : (b : Bool)
+          → ArmsFor x.timers.about v w t (if b then None else Some (record { mode = mode_by flags; ns = ns })) base reading arm done log
+          → TimerPart x l t begin w (mode_by flags) ns base reading arm cancel log
+      by_value true none =
+          subst (λ y. TimerPart x l t begin w (mode_by flags) ns base reading y cancel log) (sym none.0) (start_none (mode_by flags) ns none.1 none.2)
+      by_value false start = start_part start
 
 -- ---- in the run
 
@@ -209,9 +236,8 @@ IsOutcomeAt w i (arms.Unarmed stamp) n = SawRefusal w i stamp n
 
 -- an object's phase bears a start that was made, as the timer has it
 abbrev pub IsLike : Bool → Arm → Option ArmedAs → Timer → Type 0
-IsLike on_clock arms.NotAsked armed s = Unit
 IsLike on_clock (arms.Armed generation) armed s = IsArmedLike on_clock armed generation s
-IsLike on_clock (arms.Unarmed stamp) armed s = Unit
+IsLike on_clock arm armed s = Unit
 
 -- law: what became of a start, where a pass has seen it end
 pub outcome_seen : (w : Course) (seen later : List TimerEntry) → entries_in w ≡ seen ++ later → (i : ℕ) (arm : Arm)

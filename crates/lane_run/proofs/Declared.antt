@@ -1,5 +1,5 @@
 -- What a script's timers are declared as: the objects over them, their bases and their callbacks.
-use Rattle.std.proofs.Common.{◌≡◌, ℕ, zero, suc, List, [], ◌∷◌, map, get_or, refl, ap, ◌∙◌}
+use Rattle.std.proofs.Common.{◌≡◌, ℕ, List, map, get_or, refl, ap, ◌∙◌, sym}
 use Rattle.ktime.specs.declared.clock_id.ClockId.{ClockId}
 use Rattle.ktime.specs.declared.clock_id.ClockId.TheVariants as clocks
 use Rattle.timer_objects.specs.Known.{decl_at}
@@ -16,6 +16,7 @@ use Rattle.script_text.specs.declared.script.Kind.{Kind}
 use Rattle.script_text.specs.declared.script.Kind.TheVariants as kinds
 use Rattle.script_text.specs.declared.script.Script.{Script}
 use Rattle.lane_run.specs.Worlds.{callback_of, decl_as, decl_of, IsWorldOf, WorldOf}
+use Rattle.std.proofs.Math.ListN.{get_or-map}
 
 -- the kind of object over a timer of this kind
 abbrev pub over_of : Kind → object_kind.Kind
@@ -32,16 +33,16 @@ decl_as-parts (kinds.Fd base) clock = (refl, refl)
 abbrev pub no_decl : Decl
 no_decl = decl_as (kinds.Raw callbacks.Once) clocks.Monotonic
 
--- law: an object is declared by its kind and its clock
-pub declared_at : (ds : List Declaration) (i : ℕ) → get_or (map decl_of ds) i no_decl
-    ≡ decl_as (get_or (map (λ d. d.kind) ds) i (kinds.Raw callbacks.Once)) (get_or (map (λ d. d.clock) ds) i clocks.Monotonic)
-declared_at [] i = refl
-declared_at (x ∷ ds) zero = refl
-declared_at (x ∷ ds) (suc i) = declared_at ds i
+-- a timer that isn't declared
+abbrev none : Declaration
+none = record { clock = clocks.Monotonic; kind = kinds.Raw callbacks.Once }
 
--- law: the objects of a script's world are so declared
+-- law: the objects of a script's world are declared by their kinds and clocks
 pub declared_in : (s : Script) (x : WorldOf) (i : ℕ) → IsWorldOf s x → decl_at x.objects i ≡ decl_as (kind_of s i) (clock_of s i)
-declared_in s x i world = ap (λ (ds : List Decl). get_or ds i no_decl) world.decls ∙ declared_at s.timers i
+declared_in s x i world =
+    ap (λ (ds : List Decl). get_or ds i no_decl) world.decls ∙ get_or-map decl_of s.timers i none
+    ∙ ap (λ k. decl_as k (get_or s.timers i none).clock) (sym (get_or-map (λ d. d.kind) s.timers i none))
+    ∙ ap (decl_as (kind_of s i)) (sym (get_or-map (λ d. d.clock) s.timers i none))
 
 module _ (s : Script) (x : WorldOf) (i : ℕ) (is : IsWorldOf s x) where
   -- law: the kind of object that is declared over a timer
@@ -55,6 +56,4 @@ module _ (s : Script) (x : WorldOf) (i : ℕ) (is : IsWorldOf s x) where
 -- law: the callback of a timer is that of its declaration
 pub declared_callback : (ds : List Declaration) (i : ℕ) → get_or (map (λ d. callback_of d.kind) ds) i runs.Once
     ≡ callback_of (get_or (map (λ d. d.kind) ds) i (kinds.Raw callbacks.Once))
-declared_callback [] i = refl
-declared_callback (x ∷ ds) zero = refl
-declared_callback (x ∷ ds) (suc i) = declared_callback ds i
+declared_callback ds i = get_or-map (λ d. callback_of d.kind) ds i none ∙ ap callback_of (sym (get_or-map (λ d. d.kind) ds i none))

@@ -1,6 +1,5 @@
 -- A call on an object that made an entry, as its lane keeps it: it found the object's timer, perhaps cancelled and perhaps started it, and then made the entry.
-use Rattle.std.proofs.Common.{None, ◌≤◌, ◌≡◌, ℕ, ◌+◌, Option, Some, List, [], ◌++◌, length, arith, refl, sym, ap, ◌∙◌, subst, ◌≤◌, Bool}
-use Rattle.pass_names.specs.Passes.{Begins}
+use Rattle.std.proofs.Common.{◌≤◌, ◌≡◌, ℕ, ◌+◌, Option, Some, List, [], ◌++◌, length, arith, refl, sym, ap, ◌∙◌, subst, ◌≤◌, Bool, ◌∷◌}
 use Rattle.ktime.specs.Readings.{ClockReading}
 use Rattle.seq_timer.specs.Steps.{Timer}
 use Rattle.seq_timer.specs.declared.system.TimerEntry.{TimerEntry}
@@ -12,16 +11,14 @@ use Rattle.timer_objects.specs.Steps.{object_step}
 use Rattle.timer_objects.specs.declared.log.ObjectReceipt.{ObjectReceipt}
 use Rattle.record_text.specs.declared.record.Answer.{Answer}
 use Rattle.record_text.specs.declared.record.ObjectEntry.{ObjectEntry}
-use Rattle.script_text.specs.Actions.{Action}
 use Rattle.script_text.specs.Told.{object_stamp_in, object_called}
-use Rattle.script_text.specs.ObjectCalls.{Arms, cancels}
 use Rattle.script_text.specs.Objects.{armed_in_phase}
 use Rattle.script_text.specs.Order.{NeverFall}
 use Rattle.script_text.specs.declared.script.Script.{Script}
 use Rattle.lane_notes.specs.Arms.{arm_noted}
 use Rattle.run_history.specs.Courses.{entries_in}
 use Rattle.run_history.specs.Runs.{course_of, Ending, IsJoined, moves_spans}
-use Rattle.run_history.specs.Truths.{IsEmptySpan, IsSpan, IsTrueStart}
+use Rattle.run_history.specs.Truths.{IsSpan, IsSpanBy, IsTrueStart}
 use Rattle.run_history.proofs.ObjectsMade.{settime_actions}
 use Rattle.run_history.proofs.OthersMade.{plain}
 use Rattle.run_history.proofs.PassState.{state_seen, timer_seen}
@@ -38,31 +35,25 @@ use Rattle.run_history.specs.Fits.{FitsCall}
 use Rattle.run_history.proofs.Kept.{IsKept}
 use Rattle.ktime.specs.declared.mode.Mode.{Mode}
 use Rattle.run_history.specs.Courses as courses
-use Rattle.lane_run.proofs.Armed.{HasRead, IsArmedSo, IsLike, IsOutcomeAt, outcome_seen, start_true, TimersPart}
+use Rattle.lane_run.proofs.Armed.{HasRead, IsArmedSo, IsLike, IsOutcomeAt, IsRearmSpan, outcome_seen, start_true, TimerPart}
 use Rattle.lane_run.proofs.CallKept.{logged_from, reading_goes_on, reads_begins, unstamped}
-use Rattle.lane_run.proofs.ObjectEntered.{entered_phase, entered_span, part_entry}
+use Rattle.lane_run.proofs.ObjectEntered.{entered_phase, entered_span}
 use Rattle.lane_run.proofs.PartKept.{keeps_part, sees_part}
-use Rattle.lane_run.proofs.Parts.{IsNotedAs, IsPart, part_none, part_then}
+use Rattle.lane_run.proofs.Parts.{IsNotedAs, IsPart, part_made, part_none, part_then}
 use Rattle.lane_run.proofs.SeenMore.{goes_before}
 use Rattle.timer_objects.specs.Arming.{stamp_seen}
 use Rattle.timer_objects.specs.declared.cell.SpannedCall.{SpannedCall}
-
--- what a call did to its object's timer, from where it had found it on: perhaps a cancel, and perhaps a start
-pub record TimerPart (x : WorldOf) (l : LaneOf) (t : ℕ) (w : KnownOfTimers) (mode : Mode) (ns base : ℕ) (reading : ClockReading) (arm : Arm)
-    (cancel : Option (ℕ × ℕ)) (log : List Receipt) : Type 0 where
-  pub begin : KnownOfTimers
-  pub seen : Begins l.pass.timers.known.seen begin.seen
-  pub mine : begin.mine ≡ l.pass.timers.known.mine
-  pub start : List Action
-  pub arms : Arms t mode ns reading.stamp base (arm_noted arm) start
-  pub part : TimersPart l reading begin w (cancels t cancel ++ start) log
-  pub armed : IsArmedSo arm (timer_then x.timers.about w.seen t)
+use Rattle.timer_setting.specs.declared.arming.Arm.TheVariants as arms
+use Rattle.std.proofs.lemmas.List.{append-nil}
+use Rattle.timer_objects.specs.Steps.{object_answer}
+use Rattle.lane_run.specs.Kept.{ObjectMove}
+use Rattle.run_history.specs.Receipts.{Noted}
 
 module _ {s : Script} {x : WorldOf} {l : LaneOf} (m : LaneOf) {call : Call} (next : IsNextCall s x l call) {timer : ℕ} {log : List Receipt}
     {object_log : List ObjectReceipt} {made : SpannedCall} {reply : ObjectReply}
     (enters : EntersCall x.objects (caller_of l.pass [] []) (caller_of m.pass log object_log) timer made reply) {mode : Mode} {ns base : ℕ}
-    {reading : ClockReading} {arm : Arm} {cancel : Option (ℕ × ℕ)}
-    (k : TimerPart x l timer m.pass.timers.known mode ns base reading arm cancel log) where
+    {reading : ClockReading} {arm : Arm} {cancel : Option (ℕ × ℕ)} {begin : KnownOfTimers}
+    (k : TimerPart x l timer begin m.pass.timers.known mode ns base reading arm cancel log) where
   abbrev w : KnownOfTimers
   w = m.pass.timers.known
 
@@ -84,10 +75,10 @@ module _ {s : Script} {x : WorldOf} {l : LaneOf} (m : LaneOf) {call : Call} (nex
     timer_now = timer_seen (course_of s e) w.seen follows.timers.0 entries_are timer ∙ sym (timer_is w.seen)
 
     -- law: so it is where the call found it
-    pub timer_found : courses.timer_then (course_of s e) (length k.begin.seen) timer ≡ timer_then x.timers.about k.begin.seen timer
+    pub timer_found : courses.timer_then (course_of s e) (length begin.seen) timer ≡ timer_then x.timers.about begin.seen timer
     timer_found =
         let on = goes_before k.part.1.timers.enters.seen follows.timers in
-        timer_seen (course_of s e) k.begin.seen on.0 (seen_first k.begin.seen joined on) timer ∙ sym (timer_is k.begin.seen)
+        timer_seen (course_of s e) begin.seen on.0 (seen_first begin.seen joined on) timer ∙ sym (timer_is begin.seen)
 
     -- law: what became of its start
     pub outcome_is : IsOutcomeAt (course_of s e) timer arm (length w.seen)
@@ -108,22 +99,21 @@ module _ {s : Script} {x : WorldOf} {l : LaneOf} (m : LaneOf) {call : Call} (nex
     span_is = entered_span next.world enters (follows.objects timer)
 
     -- law: it is the whole part, where it goes from the timer as the call found it to the timer as it left it
-    pub whole_span : made.from ≡ stamp_seen x.timers.about k.begin timer → made.to ≡ stamp_seen x.timers.about w timer
-        → IsSpan (course_of s e) (length k.begin.seen) timer number (length w.seen)
+    pub whole_span : made.from ≡ stamp_seen x.timers.about begin timer → made.to ≡ stamp_seen x.timers.about w timer
+        → IsSpan (course_of s e) (length begin.seen) timer number (length w.seen)
     whole_span from to =
         span_is ∙ ap (λ n. (n, made.to)) (from ∙ sym (ap (λ (u : Timer). u.stamp) timer_found))
-        ∙ ap (λ n. ((courses.timer_then (course_of s e) (length k.begin.seen) timer).stamp, n)) (to ∙ sym (ap (λ (u : Timer). u.stamp) timer_now))
+        ∙ ap (λ n. ((courses.timer_then (course_of s e) (length begin.seen) timer).stamp, n)) (to ∙ sym (ap (λ (u : Timer). u.stamp) timer_now))
 
-    -- law: it is empty, where the call saw no entry of its timer behind it, unless the timer's function ran then
-    pub empty_is : made.from ≡ made.to
-        → ((timer_then x.timers.about w.seen timer).running ≡ None → (timer_then x.timers.about w.seen timer).stamp ≤ made.from)
-        → IsEmptySpan (course_of s e) timer number (length w.seen)
-    empty_is same quiet = record {
-      empty = ap (λ p. p.0) span_is ∙ same ∙ sym (ap (λ p. p.1) span_is);
-      seen = subst (λ (u : Timer). u.running ≡ None → u.stamp ≤ (e.spans timer number).0) (sym timer_now)
-          (subst (λ n. (timer_then x.timers.about w.seen timer).running ≡ None → (timer_then x.timers.about w.seen timer).stamp ≤ n)
-          (sym (ap (λ p. p.0) span_is)) quiet);
+    -- law: or as it is where the call starts the timer only if it has expired
+    pub rearm_span : (b : Arm) → IsRearmSpan (timer_then x.timers.about begin.seen timer) (timer_then x.timers.about w.seen timer) b made.from made.to
+        → IsSpanBy (course_of s e) (length begin.seen) timer number (arm_noted b) (length w.seen)
+    rearm_span arms.NotAsked spans = record {
+      empty = ap (λ p. p.0) span_is ∙ spans.0 ∙ sym (ap (λ p. p.1) span_is);
+      seen = λ none. let le = spans.1 (sym (ap (λ (u : Timer). u.running) timer_now) ∙ none) in
+          omega (arith, le, ap (λ (u : Timer). u.stamp) timer_now, ap (λ p. p.0) span_is);
     }
+    rearm_span b spans = whole_span spans.0 spans.1
 
   -- ---- the call
 
@@ -132,17 +122,25 @@ module _ {s : Script} {x : WorldOf} {l : LaneOf} (m : LaneOf) {call : Call} (nex
     -- law: a lane keeps the call, where it fits
     pub keeps_made : (a : Answer) → object_stamp_in a ≡ []
         → ((e : Ending) → Follows m.pass e → IsJoined s e → IsKept (course_of s e) (moves_spans e) l.label
-        (plain reading.stamp (length k.begin.seen) (length w.seen) (settime_actions timer cancel k.start number entry)) k.part.0 call a (seen_by l.pass)
-        (seen_by m.pass) → (moves_spans e).first l.label ≤ length k.begin.seen
+        (plain reading.stamp (length begin.seen) (length w.seen) (settime_actions timer cancel k.start number entry)) k.part.0 call a (seen_by l.pass)
+        (seen_by m.pass) → (moves_spans e).first l.label ≤ length begin.seen
         → FitsCall (course_of s e) l.label call a (seen_by l.pass) (seen_by m.pass))
         → KeepsCall s l call a m
     keeps_made a unstamps fits =
         let p = l.pass in
         let q = m.pass in
         let ds = settime_actions timer cancel k.start number entry in
-        let trace = plain reading.stamp (length k.begin.seen) (length w.seen) ds in
-        let whole : IsPart (HasRead reading) l.label p.timers.known p.objects w q.objects ds k.part.0 log object_log =
-        part_then (part_none k.seen k.mine) (part_entry enters noted k.part.1 refl) in
+        let trace = plain reading.stamp (length begin.seen) (length w.seen) ds in
+        let step : ObjectMove = record { call = made; reply = object_answer enters.commits.state.object made.call } in
+        let receipt_of : ObjectReply → ObjectReceipt = λ r. record { object = timer; number = number; call = made; reply = r } in
+        let log_is : object_log ≡ receipt_of step.reply ∷ [] = enters.object_log ∙ ap (λ r. receipt_of r ∷ []) enters.reply in
+        let as_told = subst (λ r. IsNotedAs (HasRead reading) made.call r entry) enters.reply noted in
+        let entered = part_made {v = w} {step = step} enters.commits.adds enters.commits.opening as_told in
+        let Whole : List Noted → List Receipt → List ObjectReceipt → Type 0 =
+        λ ns rs os. IsPart (HasRead reading) l.label p.timers.known p.objects w q.objects ds ns rs os in
+        let whole : Whole k.part.0 log object_log =
+        subst (λ ns. Whole ns log object_log) (append-nil k.part.0) (subst (λ rs. Whole (k.part.0 ++ []) rs object_log) (append-nil log)
+        (subst (Whole (k.part.0 ++ []) (log ++ [])) (sym log_is) (part_then (part_none k.seen k.mine) (part_then k.part.1 entered)))) in
         let clock = reads_begins p q reads.looks.seen in
         let logged = logged_from p q k.part.0 trace call a (sees_part p q whole clock) refl whole.timers.enters.made whole.timers.are reads.count
         whole.timers.no_write

@@ -4,8 +4,6 @@ use Rattle.std.proofs.lemmas.Option.{same_Some}
 use Rattle.ktime.specs.Readings.{ClockReading, value_of}
 use Rattle.ktime.specs.Times.{last_time, next_after, sat}
 use Rattle.ktime.specs.declared.mode.Mode.TheVariants as modes
-use Rattle.pass_names.specs.SharedHistory.{LooksOn}
-use Rattle.seq_timer.specs.Steps.{Timer}
 use Rattle.base_row.specs.declared.view.Opening.{Opening}
 use Rattle.expire_pass.specs.declared.log.Receipt.{Receipt}
 use Rattle.hr_timers.specs.Known.{KnownOfTimers, timer_then}
@@ -30,8 +28,9 @@ use Rattle.script_text.specs.declared.script.Script.{Script}
 use Rattle.lane_run.specs.Called.{LaneOf}
 use Rattle.lane_run.specs.Kept.{IsNextCall}
 use Rattle.lane_run.specs.Worlds.{WorldOf}
-use Rattle.lane_run.proofs.Armed.{IsLike, start_none, start_part, StartPart, TimersPart}
-use Rattle.lane_run.proofs.ObjectMade.{TimerPart}
+use Rattle.lane_run.proofs.Armed.{IsLike, IsRearmSpan, start_none, start_part, TimerPart}
+use Rattle.lane_run.proofs.Parts.{part_none}
+use Rattle.lane_run.proofs.SeenMore.{begins_same}
 
 -- ---- the start that is wanted
 
@@ -68,59 +67,42 @@ wanted_timely r object reading wanted is = absurd (cc)
 
 -- ---- as a part of the call
 
--- the span of such a call, by its timer where the call found it and where it left it
-abbrev pub RearmSpan : Timer → Timer → Arm → Span → Type 0
-RearmSpan before now arms.NotAsked span = (span.from ≡ span.to) × (now.running ≡ None → now.stamp ≤ span.from)
-RearmSpan before now arm span = (span.from ≡ before.stamp) × (span.to ≡ now.stamp)
-
--- what such a call did to its timer, and its span
+-- what such a call did to its timer, from where it had found it on, and its span
 pub record RearmPart (x : WorldOf) (l : LaneOf) (t : ℕ) (w : KnownOfTimers) (base : ℕ) (reading : ClockReading) (arm : Arm) (span : Span)
     (log : List Receipt) : Type 0 where
+  pub begin : KnownOfTimers
   pub ns : ℕ
   pub timely : ns ≤ last_time
-  pub does : TimerPart x l t w modes.Keep ns base reading arm None log
-  pub spans : RearmSpan (timer_then x.timers.about does.begin.seen t) (timer_then x.timers.about w.seen t) arm span
+  pub does : TimerPart x l t begin w modes.Keep ns base reading arm None log
+  pub spans : IsRearmSpan (timer_then x.timers.about begin.seen t) (timer_then x.timers.about w.seen t) arm span.from span.to
 
-module _ {s : Script} {x : WorldOf} {l : LaneOf} {call : Call} (next : IsNextCall s x l call) (t : ℕ) (reading : ClockReading) {w : KnownOfTimers}
-    {base : ℕ} {span : Span} {log : List Receipt} where
-  -- from where the call found the timer, it was started so
-  found_by : {begin : KnownOfTimers} {ns : ℕ} {arm : Arm} → LooksOn l.pass.timers.known begin → ns ≤ last_time
-      → StartPart x l t begin w modes.Keep ns base reading arm [] log
-      → RearmSpan (timer_then x.timers.about begin.seen t) (timer_then x.timers.about w.seen t) arm span → RearmPart x l t w base reading arm span log
-  found_by {begin = begin} {ns = ns} looks timely k spans = record {
-    ns = ns;
-    timely = timely;
-    does = record {
-      begin = begin;
-      seen = looks.seen;
-      mine = looks.mine;
-      start = k.start;
-      arms = k.arms;
-      part = subst (TimersPart l reading begin w k.start) (sym k.adds) k.part;
-      armed = k.armed;
-    };
-    spans = spans;
-  }
-
-  -- law: a start that is wanted where the timer has expired, or none, is a part of the call
-  pub rearm_part : (last : ℕ) (wanted : Option Wanted) (arm : Arm) → ((its : Wanted) → wanted ≡ Some its → IsTimely its)
-      → RearmsFor x.timers.about l.pass.timers.known w t last wanted base reading arm span [] log → RearmPart x l t w base reading arm span log
-  rearm_part last None arm timely r =
-      let now = timer_then x.timers.about w.seen t in
-      let seen : now.running ≡ None → now.stamp ≤ span.from =
-      λ none. let from = r.1.from ∙ ap (λ k. quiet_at last k now.stamp) none in omega (arith, from) in
-      subst (λ a. RearmPart x l t w base reading a span log) (sym r.0)
-      (found_by r.1.looks (omega arith) (start_none next t reading modes.Keep 0 refl r.2) (sym r.1.to, seen))
-  rearm_part last (Some wanted) arm timely r =
-      let its = timely wanted refl in
-      found_by r.looks its.1
-      (subst (λ k. StartPart x l t r.begin w k wanted.ns base reading arm [] log) its.0 (start_part next t reading r.starts))
-      (subst (λ a. RearmSpan (timer_then x.timers.about r.begin.seen t) (timer_then x.timers.about w.seen t) a span) (sym r.starts.outcome)
-      (started r.starts.answer))
-    where
-      started : (a : StartAnswer) → RearmSpan (timer_then x.timers.about r.begin.seen t) (timer_then x.timers.about w.seen t) (arm_of a) span
-      started (starts.Spent n) = (r.from, r.to)
-      started a = (r.from, r.to)
+-- law: a start that is wanted where the timer has expired, or none, is a part of the call
+pub rearm_part : {s : Script} {x : WorldOf} {l : LaneOf} {call : Call} (next : IsNextCall s x l call) (t : ℕ) (reading : ClockReading) {w : KnownOfTimers}
+    {base : ℕ} {span : Span} {log : List Receipt} (last : ℕ) (wanted : Option Wanted) (arm : Arm) → ((its : Wanted) → wanted ≡ Some its → IsTimely its)
+    → RearmsFor x.timers.about l.pass.timers.known w t last wanted base reading arm span [] log → RearmPart x l t w base reading arm span log
+rearm_part {x = x} {l = l} next t reading {w = w} {base = base} {span = span} {log = log} last None arm timely r =
+    let now = timer_then x.timers.about w.seen t in
+    let seen : now.running ≡ None → now.stamp ≤ span.from =
+    λ none. let from = r.1.from ∙ ap (λ k. quiet_at last k now.stamp) none in omega (arith, from) in
+    let does = start_none next t reading {cancel = None} r.1.looks.seen r.1.looks.mine ([], part_none (begins_same refl) refl) modes.Keep 0 refl r.2 in
+    subst (λ a. RearmPart x l t w base reading a span log) (sym r.0)
+    (record { begin = w; ns = 0; timely = omega arith; does = does; spans = (sym r.1.to, seen) })
+rearm_part {x = x} {l = l} next t reading {w = w} {base = base} {span = span} {log = log} last (Some wanted) arm timely r =
+    let its = timely wanted refl in
+    record {
+      begin = r.begin;
+      ns = wanted.ns;
+      timely = its.1;
+      does = subst (λ k. TimerPart x l t r.begin w k wanted.ns base reading arm None log) its.0
+          (start_part next t reading {cancel = None} r.looks.seen r.looks.mine ([], part_none (begins_same refl) refl) r.starts);
+      spans = subst (λ a. IsRearmSpan (timer_then x.timers.about r.begin.seen t) (timer_then x.timers.about w.seen t) a span.from span.to)
+          (sym r.starts.outcome) (spans r.starts.answer);
+    }
+  where
+    spans : (a : StartAnswer)
+        → IsRearmSpan (timer_then x.timers.about r.begin.seen t) (timer_then x.timers.about w.seen t) (arm_of a) span.from span.to
+    spans (starts.Spent n) = (r.from, r.to)
+    spans a = (r.from, r.to)
 
 -- law: the object's phase after the call has its timer's start
 pub like_restart : (o : Opening) (k : KnownOfTimers) (t : ℕ) (arm : Arm) (phase : Phase) → BearsRestart o k t arm phase

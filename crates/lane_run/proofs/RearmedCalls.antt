@@ -48,7 +48,6 @@ use Rattle.lane_run.specs.Worlds.{WorldOf}
 use Rattle.lane_run.proofs.Sights.{keeps_full, keeps_same}
 use Rattle.std.proofs.Common.{◌+◌, false, [], arith}
 use Rattle.ktime.specs.declared.mode.Mode.TheVariants as modes
-use Rattle.hr_timers.specs.Known.{timer_then}
 use Rattle.timer_objects.specs.Calls.{phase_of, wanted_by}
 use Rattle.timer_objects.specs.Steps.{object_step}
 use Rattle.record_text.specs.declared.record.Armed.{Armed}
@@ -57,7 +56,6 @@ use Rattle.script_text.specs.Told.{object_called}
 use Rattle.run_history.specs.Fits.{FitsCall}
 use Rattle.run_history.specs.Receipts.{Noted}
 use Rattle.run_history.specs.Runs.{course_of, Ending, IsJoined, moves_spans}
-use Rattle.run_history.specs.Truths.{IsSpanBy}
 use Rattle.run_history.proofs.Kept.{IsKept}
 use Rattle.run_history.proofs.ObjectsMade.{IsRearmed, rearming_actions}
 use Rattle.run_history.proofs.OthersMade.{plain}
@@ -66,16 +64,20 @@ use Rattle.pass_names.proofs.Passes.{begins_length}
 use Rattle.timer_objects.specs.Calls.{Caller}
 use Rattle.run_history.proofs.ObjectsMade.{rearming_actions}
 use Rattle.lane_run.proofs.CallKept.{reads_begins}
-use Rattle.lane_run.proofs.Parts.{IsNotedAs, noted_at}
+use Rattle.lane_run.proofs.Parts.{noted_at}
 use Rattle.lane_run.proofs.Declared.{declared_base}
-use Rattle.lane_run.proofs.Armed.{HasRead, places_inside}
-use Rattle.lane_run.proofs.ObjectMade.{empty_is, keeps_made, start_is, whole_span}
-use Rattle.lane_run.proofs.Rearmed.{like_restart, rearm_part, RearmPart, RearmSpan, wanted_timely}
+use Rattle.lane_run.proofs.Armed.{places_inside}
+use Rattle.lane_run.proofs.ObjectMade.{keeps_made, rearm_span, start_is}
+use Rattle.lane_run.proofs.Rearmed.{like_restart, rearm_part, RearmPart, wanted_timely}
 use Rattle.script_text.specs.declared.script.Call.{Call}
 use Rattle.timer_objects.specs.declared.wanting.Rearming.{Rearming}
 use Rattle.script_text.specs.ObjectCalls.{Arms}
 use Rattle.record_text.specs.declared.record.ObjectEntry.{ObjectEntry}
 use Rattle.timer_objects.specs.declared.object.ObjectReply.{ObjectReply}
+use Rattle.lane_notes.specs.Objects.{object_entry_noted, skip_generation}
+use Rattle.lane_run.specs.Kept.{ShowsObjectCall}
+use Rattle.std.proofs.Common.{None}
+use Rattle.record_text.specs.declared.record.ClockLine.{ClockLine}
 
 -- ---- a call that made an entry
 
@@ -87,14 +89,14 @@ arm_back arm = (refl, refl)
 module _ {s : Script} {x : WorldOf} {l m : LaneOf} {call : Call} (next : IsNextCall s x l call) {timer : ℕ} (on : object_called call ≡ Some timer)
     {a : Answer} {Does : Caller → Caller → ClockReading → Type 0} (c : CallsObject x l m a Does) {r : Rearming} {reply : ObjectReply}
     (made : MakesRearming x.objects x.timers.about (caller_of l.pass [] []) (caller_of m.pass c.log c.object_log) timer r c.reading reply)
-    (entry : Armed → ObjectEntry) (noted : (arm : Arm) → IsNotedAs (HasRead c.reading) (rearming_call r c.reading arm) reply (entry (arm_noted arm))) where
+    (entry : Armed → ObjectEntry) where
   part : RearmPart x l timer m.pass.timers.known (decl_at x.objects timer).base c.reading made.arm made.span c.log
   part =
       let object = made.enters.commits.state.object in
       rearm_part next timer c.reading made.enters.commits.state.last (wanted_by r object c.reading) made.arm (wanted_timely r object c.reading) made.rearms
 
   rearmed : {e : Ending} → Follows m.pass e → IsJoined s e
-      → IsRearmed (course_of s e) l.label part.does.part.0 c.reading.stamp (length part.does.begin.seen) (length m.pass.timers.known.seen) timer
+      → IsRearmed (course_of s e) l.label part.does.part.0 c.reading.stamp (length part.begin.seen) (length m.pass.timers.known.seen) timer
       (arm_noted made.arm) part.does.start (length made.enters.commits.adds.before + 1)
   rearmed {e = e} follows joined =
       let w = course_of s e in
@@ -112,26 +114,23 @@ module _ {s : Script} {x : WorldOf} {l m : LaneOf} {call : Call} (next : IsNextC
         part = places_inside part.does.part.1.timers.enters;
         holds = start_is m next made.enters part.does follows joined false
             (like_restart x.timers.about m.pass.timers.known timer made.arm phase made.bears);
-        span = by_arm made.arm part.spans;
+        span = rearm_span m next made.enters part.does follows joined made.arm part.spans;
       }
-    where
-      by_arm : (arm : Arm) → RearmSpan (timer_then x.timers.about part.does.begin.seen timer) (timer_then x.timers.about m.pass.timers.known.seen timer) arm
-          made.span
-          → IsSpanBy (course_of s e) (length part.does.begin.seen) timer (length made.enters.commits.adds.before + 1) (arm_noted arm)
-          (length m.pass.timers.known.seen)
-      by_arm arms.NotAsked spans = empty_is m next made.enters part.does follows joined spans.0 spans.1
-      by_arm (arms.Armed generation) spans = whole_span m next made.enters part.does follows joined spans.0 spans.1
-      by_arm (arms.Unarmed stamp) spans = whole_span m next made.enters part.does follows joined spans.0 spans.1
 
   -- law: a lane keeps a call on an object that may arm the object's timer again and made an entry, where such calls fit
-  pub keeps_rearming : (b : Answer) → object_stamp_in b ≡ [] → ((e : Ending) (begin last : ℕ) (arm : Armed) (start : List Action) (number : ℕ)
+  pub keeps_rearming : object_entry_noted (rearming_call r c.reading made.arm) reply ≡ Some (entry (arm_noted made.arm))
+      → skip_generation (rearming_call r c.reading made.arm) reply ≡ None
+      → ((clock : List ClockLine)
+      → ShowsObjectCall clock (rearming_call r (reading_at clock c.reading.stamp) made.arm) reply (entry (arm_noted made.arm)))
+      → (b : Answer) → object_stamp_in b ≡ [] → ((e : Ending) (begin last : ℕ) (arm : Armed) (start : List Action) (number : ℕ)
       (notes : List Noted) → IsKept (course_of s e) (moves_spans e) l.label
       (plain c.reading.stamp begin last (rearming_actions timer start number (entry arm))) notes call b (seen_by l.pass) (seen_by m.pass)
       → (moves_spans e).first l.label ≤ begin → IsRearmed (course_of s e) l.label notes c.reading.stamp begin last timer arm start number
       → FitsCall (course_of s e) l.label call b (seen_by l.pass) (seen_by m.pass))
       → KeepsCall s l call b m
-  keeps_rearming b unstamps fits =
-      keeps_made m next made.enters part.does on c.reads c.notes (noted made.arm) b unstamps
+  keeps_rearming noted no_skip shows b unstamps fits =
+      keeps_made m next made.enters part.does on c.reads c.notes
+      (noted_at c.reading (λ r'. rearming_call r r' made.arm) reply (entry (arm_noted made.arm)) noted no_skip shows) b unstamps
       (λ e follows joined kept low. fits e _ _ (arm_noted made.arm) part.does.start _ part.does.part.0 kept low (rearmed follows joined))
 
 -- ---- the calls
@@ -145,10 +144,8 @@ module _ {s : Script} {x : WorldOf} {l m : LaneOf} {a : Answer} {timer : ℕ} wh
   accept_kept next reply back unstamps c =
       let answered = posix_replies.Accept (accept_answer_of reply) in
       keeps_rearming next refl c c.does (λ arm. object_entries.Accept c.reading.stamp arm reply)
-      (λ arm. noted_at c.reading (λ r. rearming_call rearmings.Accepting r arm) (replies.Posix answered)
-      (object_entries.Accept c.reading.stamp (arm_noted arm) reply)
-      (ap (option_map (λ (r : AcceptReply). object_entries.Accept c.reading.stamp (arm_noted arm) r)) back) refl
-      (λ clock. ap (λ k. Some (record { call = posix_calls.Accept (reading_at clock c.reading.stamp) k; reply = answered })) (arm_back arm).0))
+      (ap (option_map (λ (r : AcceptReply). object_entries.Accept c.reading.stamp (arm_noted c.does.arm) r)) back) refl
+      (λ clock. ap (λ k. Some (record { call = posix_calls.Accept (reading_at clock c.reading.stamp) k; reply = answered })) (arm_back c.does.arm).0)
       (answer_of_accept reply) unstamps (λ e begin last arm start number notes kept low rearmed. accept_made reply kept low rearmed)
 
   -- law: a lane keeps an acceptance
@@ -172,10 +169,8 @@ module _ {s : Script} {x : WorldOf} {l m : LaneOf} {a : Answer} {timer len : ℕ
   read_kept next reply back unstamps c =
       let answered = fd_replies.Read (read_answer_of reply) in
       keeps_rearming next refl c c.does.1 (λ arm. object_entries.Read c.reading.stamp arm reply)
-      (λ arm. noted_at c.reading (λ r. rearming_call rearmings.Reading r arm) (replies.Fd answered)
-      (object_entries.Read c.reading.stamp (arm_noted arm) reply)
-      (ap (option_map (λ (r : ReadReply). object_entries.Read c.reading.stamp (arm_noted arm) r)) back) refl
-      (λ clock. ap (λ k. Some (record { call = fd_calls.Read (reading_at clock c.reading.stamp) k; reply = answered })) (arm_back arm).1))
+      (ap (option_map (λ (r : ReadReply). object_entries.Read c.reading.stamp (arm_noted c.does.1.arm) r)) back) refl
+      (λ clock. ap (λ k. Some (record { call = fd_calls.Read (reading_at clock c.reading.stamp) k; reply = answered })) (arm_back c.does.1.arm).1)
       (answer_of_read reply) unstamps (λ e begin last arm start number notes kept low rearmed. read_made len reply kept low rearmed c.does.0)
 
   -- law: a lane keeps a read
@@ -206,8 +201,6 @@ keeps_gettime-fd {s = s} {l = l} {m = m} {timer = timer} next kind (gettimes.Spe
 keeps_gettime-fd {s = s} {l = l} {m = m} {timer = timer} {base = base} next kind (gettimes.Left left interval stamp) c =
     let answered = fd_replies.Gettime (lefts.Left left interval) in
     subst (λ b. KeepsCall s l (calls.Gettime timer) b m) (sym c.does.1)
-    (keeps_rearming next refl c c.does.0.0 (λ arm. object_entries.Gettime c.reading.stamp arm left interval)
-    (λ arm. noted_at c.reading (λ r. rearming_call rearmings.Getting r arm) (replies.Fd answered)
-    (object_entries.Gettime c.reading.stamp (arm_noted arm) left interval) refl refl
-    (λ clock. ap (λ k. Some (record { call = fd_calls.Gettime (reading_at clock c.reading.stamp) k; reply = answered })) (arm_back arm).1))
+    (keeps_rearming next refl c c.does.0.0 (λ arm. object_entries.Gettime c.reading.stamp arm left interval) refl refl
+    (λ clock. ap (λ k. Some (record { call = fd_calls.Gettime (reading_at clock c.reading.stamp) k; reply = answered })) (arm_back c.does.0.0.arm).1)
     (answers.Left left interval) refl (λ e begin last arm start number notes kept low rearmed. gettime_made base left interval kept low rearmed kind))

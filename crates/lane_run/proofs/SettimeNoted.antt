@@ -34,13 +34,13 @@ use Rattle.record_text.specs.declared.record.ClockLine.{ClockLine}
 use Rattle.timer_objects.specs.declared.object.Kind.{Kind}
 use Rattle.timer_objects.specs.declared.object.Kind.TheVariants as over
 use Rattle.record_text.specs.declared.record.ObjectEntry.{ObjectEntry}
-use Rattle.lane_run.proofs.Armed.{IsOutcomeAt}
+use Rattle.lane_run.proofs.Armed.{HasRead, IsOutcomeAt}
 
 -- a settime that made an entry: the record's entry of it, its answer, and what it tells of a start that was refused
 pub record SettimeNoted (call : ObjectCall) (reply : ObjectReply) (flags value interval : ℕ) (reading : ClockReading) (arm : Arm)
     (answer : SettimeAnswer) : Type 0 where
   pub told : SettimeReply
-  pub noted : IsNotedAs (λ clock. reading_at clock reading.stamp ≡ reading) call reply
+  pub noted : IsNotedAs (HasRead reading) call reply
       (object_entries.Settime flags value interval reading.stamp (arm_noted arm) told)
   pub answers : settime_told answer ≡ answer_of_settime told
   pub refused : (w : Course) (timer last : ℕ) → IsOutcomeAt w timer arm last → RefusedBy w timer told last

@@ -2,19 +2,15 @@
 use Rattle.std.proofs.Common.{◌≡◌, ◌<◌, ℕ, ◌||◌, Bool, true, false, nat_eq, not, if◌then◌else◌, None, Some, List, arith, refl, sym, ap, subst}
 use Rattle.std.specs.Prelude.{MatchOption}
 use Rattle.std.proofs.lemmas.Bool.{eqb-true, leb-false, leb-true}
-use Rattle.ktime.specs.Readings.{ClockReading}
 use Rattle.ktime.specs.Times.{second}
 use Rattle.ktime.specs.declared.timespec.TimeSpec.{TimeSpec}
-use Rattle.timer_setting.specs.Arguments.{AreValid, bits_beyond, is_bad, mode_by, start_by}
+use Rattle.timer_setting.specs.Arguments.{AreValid, bits_beyond, is_bad, mode_by}
 use Rattle.timer_setting.specs.declared.arming.Arm.{Arm}
 use Rattle.timer_fd.specs.declared.answers.SettimeAnswer.TheVariants as settings
 use Rattle.timer_fd.specs.declared.answers.SettimeAnswer.{SettimeAnswer}
-use Rattle.expire_pass.specs.declared.log.Receipt.{Receipt}
 use Rattle.hr_timers.specs.Known.{KnownOfTimers}
-use Rattle.timer_objects.specs.Arming.{ArmsFor}
 use Rattle.timer_objects.specs.Calls.{flags_of}
 use Rattle.timer_objects.specs.Steps.{IsObjectOf}
-use Rattle.timer_objects.specs.declared.object.Decl.{Decl}
 use Rattle.timer_objects.specs.declared.object.Kind.TheVariants as over
 use Rattle.timer_objects.specs.declared.object.Object.TheVariants as objects
 use Rattle.timer_objects.specs.declared.object.Object.{Object}
@@ -23,13 +19,27 @@ use Rattle.script_text.specs.ObjectCalls.{AreValidFor, start_mode}
 use Rattle.script_text.specs.declared.script.Kind.TheVariants as kinds
 use Rattle.script_text.specs.declared.script.Kind.{Kind}
 use Rattle.lane_run.specs.Called.{settime_told}
-use Rattle.lane_run.proofs.Armed.{start_none, start_part, StartPart}
-use Rattle.lane_run.proofs.Declared.{over_of}
+use Rattle.lane_run.proofs.Armed.{IsLike}
+use Rattle.lane_run.proofs.Declared.{declared_over, over_of}
 use Rattle.script_text.specs.declared.script.Call.{Call}
 use Rattle.script_text.specs.declared.script.Script.{Script}
 use Rattle.lane_run.specs.Called.{LaneOf}
 use Rattle.lane_run.specs.Kept.{IsNextCall}
 use Rattle.lane_run.specs.Worlds.{WorldOf}
+use Rattle.std.proofs.Common.{◌∙◌, length}
+use Rattle.script_text.specs.Told.{IsArmedLike}
+use Rattle.timer_objects.specs.Calls.{BearsStart}
+use Rattle.lane_run.specs.Kept.{ObjectMove}
+use Rattle.timer_setting.specs.declared.arming.Arm.TheVariants as arms
+use Rattle.timer_objects.proofs.Counting.{state_is}
+use Rattle.timer_objects.specs.declared.cell.ObjectCell.{ObjectCell}
+use Rattle.base_row.specs.declared.view.Opening.{Opening}
+use Rattle.timer_setting.specs.declared.phase.Phase.{Phase}
+use Rattle.counted_row.specs.Views.{StateAfter}
+use Rattle.timer_objects.specs.Cells.{cell_meaning}
+use Rattle.script_text.specs.Objects.{armed_in_phase, kind_of}
+use Rattle.hr_timers.specs.Known.{timer_then}
+use Rattle.timer_objects.specs.Known.{decl_at}
 
 -- ---- its arguments
 
@@ -70,23 +80,20 @@ takes_valid k flags value interval object = (λ valid. valid, refl)
 
 -- ---- its object
 
--- law: a timer by itself is no object, and has no entries of one
-pub raw_object : (d : Decl) (limit n : ℕ) (y : Object) → IsObjectOf d limit n y → d.kind ≡ over.Raw → (y ≡ objects.Raw) × (n ≡ 0)
-raw_object d limit n objects.Raw is raw = (refl, is.1)
-raw_object d limit n y is raw = let other = is.0 in absurd (cc)
-
--- ---- its start
-
--- law: a settime's start is a part of it, where the value asks for one
-pub settime_start : {s : Script} {x : WorldOf} {l : LaneOf} {c : Call} (next : IsNextCall s x l c) (t flags ns base : ℕ) (reading : ClockReading)
-    {v w : KnownOfTimers} (arm : Arm) {log log' : List Receipt} → ArmsFor x.timers.about v w t (start_by flags ns) base reading arm log log'
-    → StartPart x l t v w (mode_by flags) ns base reading arm log log'
-settime_start {x = x} {l = l} next t flags ns base reading {v = v} {w = w} arm {log = log} {log' = log'} a = by_value (nat_eq ns 0) a
+-- law: what was seen over a timer by itself is no object, and it has no entries
+pub raw_object : {s : Script} {x : WorldOf} {l : LaneOf} {c : Call} (next : IsNextCall s x l c) {t : ℕ} {seen : List ObjectMove} {state : ObjectCell}
+    → StateAfter cell_meaning l.pass.objects.knows.opening t seen state → over_of (kind_of s t) ≡ over.Raw
+    → (state.object ≡ objects.Raw) × (length seen ≡ 0)
+raw_object {s = s} {x = x} next {t = t} {seen = seen} {state = state} at raw =
+    by_object state.object (state_is x.objects t seen state (subst (λ made. StateAfter cell_meaning made t seen state) next.objects at))
   where
-    by_value : (b : Bool)
-        → ArmsFor x.timers.about v w t (if b then None else Some (record { mode = mode_by flags; ns = ns })) base reading arm log log'
-        → StartPart x l t v w (mode_by flags) ns base reading arm log log'
-    by_value true none =
-        subst (λ y. StartPart x l t v w (mode_by flags) ns base reading y log log') (sym none.0)
-        (start_none next t reading (mode_by flags) ns none.1 none.2)
-    by_value false start = start_part next t reading start
+    by_object : (y : Object) → IsObjectOf (decl_at x.objects t) x.objects.limit (length seen) y → (y ≡ objects.Raw) × (length seen ≡ 0)
+    by_object objects.Raw is = (refl, is.1)
+    by_object y is = let kind = sym is.0 ∙ declared_over s x t next.world ∙ raw in absurd (cc)
+
+-- law: the object's phase after a settime has its timer's start
+pub like_start : (o : Opening) (k : KnownOfTimers) (t : ℕ) (arm : Arm) (phase : Phase) → BearsStart o k t arm phase
+    → IsLike true arm (armed_in_phase phase) (timer_then o k.seen t)
+like_start o k t (arms.Armed generation) phase bears =
+    subst (λ p. IsArmedLike true (armed_in_phase p) generation (timer_then o k.seen t)) (sym bears) (refl, refl, λ yes. refl)
+like_start o k t arm phase bears = tt

@@ -1,6 +1,6 @@
 -- What a start of a timer tells: its entries as the record has them, the notes of its receipts, and its answer.
 
-use Rattle.std.proofs.Common.{◌≡◌, ℕ, ◌+◌, ◌-◌, ◌^◌, zero, suc, nat_eq, Bool, true, false, is_some, if◌then◌else◌, None, Some, List, [], ◌∷◌, map, arith, refl, sym, ap, ◌∙◌, subst}
+use Rattle.std.proofs.Common.{◌≡◌, ℕ, ◌+◌, ◌-◌, ◌^◌, zero, suc, nat_eq, Bool, true, false, is_some, if◌then◌else◌, None, Some, List, [], ◌∷◌, map, arith, refl, sym, subst}
 use Rattle.std.specs.List.{AllByRecursion}
 use Rattle.std.proofs.lemmas.Bool.Decides.{nat_tests}
 use Rattle.ktime.specs.Readings.{ClockReading}
@@ -8,10 +8,8 @@ use Rattle.ktime.specs.declared.mode.Mode.{Mode}
 use Rattle.seq_timer.specs.Steps.{after, Timer}
 use Rattle.seq_timer.specs.declared.event.Event.TheVariants as events
 use Rattle.seq_timer.specs.declared.event.Event.{Event}
-use Rattle.seq_timer.specs.declared.event.Reply.TheVariants as replies
 use Rattle.timer_core.specs.Answers.{moves_first, start_events}
 use Rattle.timer_core.specs.Kept.{step_all}
-use Rattle.expire_pass.specs.declared.log.Receipt.{Receipt}
 use Rattle.hr_timers.specs.Calls.{start_answer}
 use Rattle.hr_timers.specs.declared.answer.StartAnswer.{StartAnswer}
 use Rattle.hr_timers.specs.declared.answer.StartAnswer.TheVariants as starts
@@ -23,7 +21,7 @@ use Rattle.script_text.specs.Starts.{Arming, arming_actions, IsJustBefore, was_a
 use Rattle.lane_notes.specs.Entries.{entry_notes, look_notes}
 use Rattle.run_history.specs.Traces.{all_entered}
 use Rattle.run_history.proofs.Known.{numbered}
-use Rattle.lane_run.specs.Called.{entry_receipt, start_receipt, start_receipts, start_told}
+use Rattle.lane_run.specs.Called.{start_receipts, start_told}
 use Rattle.lane_run.specs.Kept.{entry_in_note}
 use Rattle.lane_run.proofs.Entering.{HasReading, lines_along}
 use Rattle.lane_run.proofs.PartLists.{IsEntered}
@@ -67,47 +65,26 @@ starts_by false s timer mode ns asked reading =
       only = (tt, tt);
     }
 starts_by true s timer mode ns asked reading =
-    let moved = after s (events.Out asked) in
-    let now = after moved (events.Start mode ns reading asked) in
-    let answer = answer_by true s now asked in
-    let begun = start_receipt timer mode ns asked reading false answer in
-    let receipts : Bool → ℕ → List Receipt = λ b k. if b
-    then start_receipt timer mode ns asked reading (is_some s.armed) answer
-    else entry_receipt timer k (events.Out asked) (replies.Out (is_some s.armed)) ∷ begun in
-    let are : start_receipts timer mode ns asked reading answer ≡ receipts false (s.stamp + 1) =
-    ap (λ b. receipts b (s.stamp + 1 + 1 - 1)) (some_power asked) ∙ ap (receipts false) (one_less s.stamp) in
+    let n = s.stamp + 1 in
+    let now = step_all s (events_by true mode ns asked reading) in
+    let less : n + 1 - 1 ≡ n = omega arith in
     record {
-      arming = record {
-        out = Some (s.stamp + 1, is_some s.armed);
-        number = s.stamp + 1 + 1;
-        base = asked;
-        clock = now.clock;
-        expires = now.expires;
-        was_armed = false;
-      };
+      arming = record { out = Some (n, is_some s.armed); number = n + 1; base = asked; clock = now.clock; expires = now.expires; was_armed = false };
       lines = refl;
-      notes = λ label. ap (λ rs. map entry_in_note (entry_notes label rs)) are;
-      no_looks = λ label. ap (look_notes label) are;
+      notes = λ label. rw (some_power asked, less) refl;
+      no_looks = λ label. rw (some_power asked) refl;
       told = refl;
       just = refl;
       only = (tt, (tt, tt));
     }
-  where
-    one_less : (n : ℕ) → n + 1 + 1 - 1 ≡ n + 1
-    one_less n = omega arith
 
 -- law: what a start answers is what its entries say
-pub starts_as : (s : Timer) (timer : ℕ) (mode : Mode) (ns asked : ℕ) (reading : ClockReading)
-    → StartsAs s (start_events s mode ns asked reading) timer mode ns asked reading
-    (start_answer s (step_all s (start_events s mode ns asked reading)) asked)
-starts_as s timer mode ns asked reading = starts_by (moves_first s asked) s timer mode ns asked reading
-
--- law: the same of a start that answered so
 pub started_so : (s : Timer) (timer : ℕ) (mode : Mode) (ns asked : ℕ) (reading : ClockReading) (answer : StartAnswer)
     → answer ≡ start_answer s (step_all s (start_events s mode ns asked reading)) asked
     → StartsAs s (start_events s mode ns asked reading) timer mode ns asked reading answer
 started_so s timer mode ns asked reading answer is =
-    subst (StartsAs s (start_events s mode ns asked reading) timer mode ns asked reading) (sym is) (starts_as s timer mode ns asked reading)
+    subst (StartsAs s (start_events s mode ns asked reading) timer mode ns asked reading) (sym is)
+    (starts_by (moves_first s asked) s timer mode ns asked reading)
 
 -- a record's clock has the readings of a start's events where it has that of the start
 pub start_reads : (mode : Mode) (ns asked : ℕ) (reading : ClockReading) (clock : List ClockLine) (moves : Bool) → reading_at clock reading.stamp ≡ reading

@@ -1,18 +1,15 @@
 use Rattle.timer_objects.specs.Calls.{Accepts}
-use Rattle.lane_run.proofs.Objects.{calls_object, fresh_caller}
+use Rattle.lane_run.proofs.Objects.{calls_object}
 use Rattle.lane_run.proofs.object_calls.accept.Goals as goal
 
 pub returns-clause-call : goal.returns-clause-call
 returns-clause-call g c =
     let read = c.read-reading in
-    let made = c.accept-answer in
-    let logs = c.in_ok-logs in (
+    let made = c.accept-answer in (
       made.result,
       c.accept_answer.ensures,
-      calls_object _ _ _ _ _ _
-          (λ x old new reading. Accepts x.objects x.timers.about old new c.args.timer reading made.result)
-          _ read.result made.new.log.receipts made.new.object_log.receipts c.world.view_is c.note_logs.ensures.rest.3
-          (record { shows = read.ensures.reading; count = read.ensures.count; looks = read.ensures.looks })
-          (fresh_caller c.args.lane.now.pass logs.logs.timers logs.logs.objects logs.ensures.empty.0 logs.ensures.empty.1)
+      calls_object (λ x old new reading. Accepts x.objects x.timers.about old new c.args.timer reading made.result) read.result made.new.log.receipts
+          made.new.object_log.receipts c.world.view_is c.note_logs.ensures.rest.3
+          (record { shows = read.ensures.reading; count = read.ensures.count; looks = read.ensures.looks }) c.in_ok-logs.ensures.empty
           made.ensures.accepts c.in_ok-note_logs.ensures.notes,
     )
