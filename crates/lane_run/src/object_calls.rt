@@ -55,6 +55,32 @@ fn note_logs(lane: &mut Lane, logs: &Logs) -> Result<(), AllocError>
     note_object_receipts(&mut lane.notes, label, logs.objects.receipts())
 }
 
+/// A call on an object by a lane's passes, with these logs.
+macro_rules! on_object {
+    ($rt:ident, $world:ident, $lane:ident, $log:expr, $object_log:expr; $call:ident($($word:ident),+)) => {
+        $world.objects.$call(
+            $rt,
+            &$world.timers,
+            &mut $lane.pass.timers,
+            &mut $lane.pass.objects,
+            &mut $log,
+            &mut $object_log,
+            $($word),+
+        )
+    };
+}
+
+/// A call on an object with a reading of the clock and logs of its own, and the notes of these. It gives the answer and the reading.
+macro_rules! noted {
+    ($rt:ident, $alloc:ident, $world:ident, $lane:ident; $call:ident($($word:ident),+)) => {{
+        let mut logs = make_logs($alloc)?;
+        let reading = $world.clock.read($rt, &mut $lane.pass.clock);
+        let answer = on_object!($rt, $world, $lane, logs.timers, logs.objects; $call($($word),+, reading));
+        note_logs($lane, &logs)?;
+        (answer, reading)
+    }};
+}
+
 /// A settime.
 pub(crate) fn settime<R: Wait>(
     rt: &R,
@@ -74,22 +100,7 @@ pub(crate) fn settime<R: Wait>(
     ensures rest { (lane.new.label ≡ lane.old.label) × (lane.new.answers ≡ lane.old.answers) × (lane.new.wants_memory ≡ lane.old.wants_memory) }
     ensures call { IfOk result (λ a. (s : SettimeAnswer) × (a ≡ settime_told s) × CallsObject world.now (lane_of lane.old) (lane_of lane.new) a (λ old new reading. Settimes world.now.objects world.now.timers.about old new timer flags value interval reading s)) }
 {
-    let mut logs = make_logs(alloc)?;
-    let reading = world.clock.read(rt, &mut lane.pass.clock);
-    let answer = world.objects.settime(
-        rt,
-        &world.timers,
-        &mut lane.pass.timers,
-        &mut lane.pass.objects,
-        &mut logs.timers,
-        &mut logs.objects,
-        timer,
-        flags,
-        value,
-        interval,
-        reading,
-    );
-    note_logs(lane, &logs)?;
+    let (answer, _) = noted!(rt, alloc, world, lane; settime(timer, flags, value, interval));
     Ok(settime_answer(answer))
 }
 
@@ -122,19 +133,7 @@ pub(crate) fn gettime<R: Wait>(
     ensures rest { (lane.new.label ≡ lane.old.label) × (lane.new.answers ≡ lane.old.answers) × (lane.new.wants_memory ≡ lane.old.wants_memory) }
     ensures call { IfOk result (λ a. (g : Gettime) × CallsObject world.now (lane_of lane.old) (lane_of lane.new) a (λ old new reading. Gettimes world.now.objects world.now.timers.about old new timer reading (decl_at world.now.objects timer).kind g × (a ≡ gettime_told (decl_at world.now.objects timer).kind reading.stamp g))) }
 {
-    let mut logs = make_logs(alloc)?;
-    let reading = world.clock.read(rt, &mut lane.pass.clock);
-    let answer = world.objects.gettime(
-        rt,
-        &world.timers,
-        &mut lane.pass.timers,
-        &mut lane.pass.objects,
-        &mut logs.timers,
-        &mut logs.objects,
-        timer,
-        reading,
-    );
-    note_logs(lane, &logs)?;
+    let (answer, reading) = noted!(rt, alloc, world, lane; gettime(timer));
     Ok(gettime_answer(answer, world.objects.kind(timer), reading.stamp))
 }
 
@@ -177,19 +176,7 @@ pub(crate) fn accept<R: Wait>(
     ensures rest { (lane.new.label ≡ lane.old.label) × (lane.new.answers ≡ lane.old.answers) × (lane.new.wants_memory ≡ lane.old.wants_memory) }
     ensures call { IfOk result (λ a. (s : AcceptAnswer) × (a ≡ accept_told s) × CallsObject world.now (lane_of lane.old) (lane_of lane.new) a (λ old new reading. Accepts world.now.objects world.now.timers.about old new timer reading s)) }
 {
-    let mut logs = make_logs(alloc)?;
-    let reading = world.clock.read(rt, &mut lane.pass.clock);
-    let answer = world.objects.accept(
-        rt,
-        &world.timers,
-        &mut lane.pass.timers,
-        &mut lane.pass.objects,
-        &mut logs.timers,
-        &mut logs.objects,
-        timer,
-        reading,
-    );
-    note_logs(lane, &logs)?;
+    let (answer, _) = noted!(rt, alloc, world, lane; accept(timer));
     Ok(accept_answer(answer))
 }
 
@@ -221,20 +208,7 @@ pub(crate) fn read<R: Wait>(
     ensures rest { (lane.new.label ≡ lane.old.label) × (lane.new.answers ≡ lane.old.answers) × (lane.new.wants_memory ≡ lane.old.wants_memory) }
     ensures call { IfOk result (λ a. (s : ReadAnswer) × (a ≡ read_told s) × CallsObject world.now (lane_of lane.old) (lane_of lane.new) a (λ old new reading. ReadsFd world.now.objects world.now.timers.about old new timer len reading s)) }
 {
-    let mut logs = make_logs(alloc)?;
-    let reading = world.clock.read(rt, &mut lane.pass.clock);
-    let answer = world.objects.read(
-        rt,
-        &world.timers,
-        &mut lane.pass.timers,
-        &mut lane.pass.objects,
-        &mut logs.timers,
-        &mut logs.objects,
-        timer,
-        len,
-        reading,
-    );
-    note_logs(lane, &logs)?;
+    let (answer, _) = noted!(rt, alloc, world, lane; read(timer, len));
     Ok(read_answer(answer))
 }
 
@@ -269,15 +243,7 @@ pub(crate) fn overrun<R: Wait>(
 {
     let mut log = Log::make(alloc);
     let mut object_log = ObjectLog::make(alloc);
-    let found = world.objects.getoverrun(
-        rt,
-        &world.timers,
-        &mut lane.pass.timers,
-        &mut lane.pass.objects,
-        &mut log,
-        &mut object_log,
-        timer,
-    );
+    let found = on_object!(rt, world, lane, log, object_log; getoverrun(timer));
     Answer::Overrun {
         overrun: found.overrun,
         stamp: found.stamp,
@@ -303,16 +269,7 @@ pub(crate) fn readable<R: Wait>(
     let reading = world.clock.read(rt, &mut lane.pass.clock);
     let mut log = Log::make(alloc);
     let mut object_log = ObjectLog::make(alloc);
-    let found = world.objects.readable(
-        rt,
-        &world.timers,
-        &mut lane.pass.timers,
-        &mut lane.pass.objects,
-        &mut log,
-        &mut object_log,
-        timer,
-        reading,
-    );
+    let found = on_object!(rt, world, lane, log, object_log; readable(timer, reading));
     Answer::Readable {
         ready: found.ready,
         reading: reading.stamp,
