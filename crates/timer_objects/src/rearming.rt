@@ -182,23 +182,15 @@ fn call_of(kind: Kind, asked: &Asked, arm: Arm) -> ObjectCall
                 Kind::Fd => ObjectCall::Fd(timer_fd::Call::Settime(call)),
             }
         }
-        Asked::Rearming(Rearming::Accepting, reading) => {
-            ObjectCall::Posix(posix_timer::Call::Accept {
-                reading: *reading,
-                arm,
-            })
-        }
-        Asked::Rearming(Rearming::Reading, reading) => {
-            ObjectCall::Fd(timer_fd::Call::Read {
-                reading: *reading,
-                arm,
-            })
-        }
-        Asked::Rearming(Rearming::Getting, reading) => {
-            ObjectCall::Fd(timer_fd::Call::Gettime {
-                reading: *reading,
-                arm,
-            })
+        Asked::Rearming(call, reading) => {
+            let reading = *reading;
+            match call {
+                Rearming::Accepting => {
+                    ObjectCall::Posix(posix_timer::Call::Accept { reading, arm })
+                }
+                Rearming::Reading => ObjectCall::Fd(timer_fd::Call::Read { reading, arm }),
+                Rearming::Getting => ObjectCall::Fd(timer_fd::Call::Gettime { reading, arm }),
+            }
         }
     }
 }
