@@ -222,14 +222,9 @@ fn set<R: Wait>(
             let so_far = disarm(rt, timers, pass, log, timer, cell.last)?;
             let wants = wanted_by(valid.flags, valid.value);
             let outcome = arm(rt, timers, pass, log, timer, wants, base, valid.reading);
+            let from = so_far.from;
             let to = end_of(outcome, so_far.to);
-            Some((
-                outcome,
-                Span {
-                    from: so_far.from,
-                    to,
-                },
-            ))
+            Some((outcome, Span { from, to }))
         }
         Asked::Rearming(call, reading) => {
             let Some(start) = wanted(*call, &cell.object, *reading) else {
