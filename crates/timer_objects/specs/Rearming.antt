@@ -11,8 +11,6 @@ use Rattle.timer_fd.specs.declared.answers.ReadAnswer.{ReadAnswer}
 use Rattle.timer_fd.specs.declared.answers.ReadAnswer.TheVariants as reads
 use Rattle.timer_fd.specs.declared.answers.GettimeAnswer.TheVariants as lefts
 use Rattle.timer_fd.specs.declared.calls.Reply.TheVariants as fd_replies
-use Rattle.timer_objects.specs.declared.answers.Gettime.{Gettime}
-use Rattle.timer_objects.specs.declared.answers.Gettime.TheVariants as gettimes
 use Rattle.timer_objects.specs.declared.object.Kind.{Kind}
 use Rattle.timer_objects.specs.declared.object.Kind.TheVariants as kinds
 use Rattle.timer_objects.specs.declared.object.Object.{Object}
@@ -23,7 +21,6 @@ use Rattle.timer_objects.specs.declared.wanting.Rearming.{Rearming}
 use Rattle.timer_objects.specs.declared.wanting.Rearming.TheVariants as rearmings
 use Rattle.timer_objects.specs.declared.wanting.Ended.{Ended}
 use Rattle.timer_objects.specs.declared.wanting.Ended.TheVariants as ends
-use Rattle.posix_timer.specs.States.{setting_of}
 use Rattle.counted_row.specs.Calls.{ReadsValue}
 use Rattle.timer_objects.specs.Cells.{cell_meaning}
 use Rattle.timer_objects.specs.Logs.{ObjectLogOf}
@@ -160,9 +157,3 @@ pub record FindsObject (old new : ObjectsPass) (id : ℕ) (object : Object) (n :
   pub reads : ReadsValue cell_meaning old new id
   pub state : object ≡ reads.state.object
   pub stamp : n ≡ length (seen_of new id)
-
--- a POSIX timer was looked at, and its setting is the answer
-abbrev pub FindsSetting : ObjectsPass → ObjectsPass → ℕ → ClockReading → Gettime → Type 0
-FindsSetting old new id reading (gettimes.Left left interval stamp) =
-    (t : _) × FindsObject old new id (objects.Posix t) stamp × (record { left = left; interval = interval } ≡ setting_of t reading)
-FindsSetting old new id reading (gettimes.Spent stamp) = ⊥

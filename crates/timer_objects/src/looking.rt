@@ -5,7 +5,7 @@ ghost use Rattle.timer_objects.specs.declared.object.Kind.TheVariants as kinds;
 ghost use Rattle.timer_objects.specs.Known.{IsObjectsPass, Suits, decl_at};
 ghost use Rattle.timer_objects.specs.Steps.{IsObjectOf};
 ghost use Rattle.timer_objects.specs.Calls.{Gettimes, LooksOverrun, LooksReadable};
-ghost use Rattle.timer_objects.specs.Rearming.{FindsObject, FindsSetting, KeepsNames, caller_of};
+ghost use Rattle.timer_objects.specs.Rearming.{FindsObject, KeepsNames, caller_of};
 
 use crate::answers::{Gettime, Overrun, Readable};
 use crate::cell::ObjectCell;
@@ -48,7 +48,18 @@ impl Objects {
     {
         match self.kind(id) {
             Kind::Raw => unreachable!(),
-            Kind::Posix => self.gettime_posix(rt, objects_pass, id, reading),
+            Kind::Posix => {
+                let (object, stamp) = self.look_at(rt, objects_pass, id);
+                let Object::Posix(timer) = object else {
+                    unreachable!()
+                };
+                let setting = timer.gettime(reading);
+                Gettime::Left {
+                    left: setting.left,
+                    interval: setting.interval,
+                    stamp,
+                }
+            }
             Kind::Fd => {
                 let asked = &Asked::Rearming(Rearming::Getting, reading);
                 match self.ask(rt, timers, pass, objects_pass, log, object_log, id, asked) {
@@ -66,33 +77,6 @@ impl Objects {
                     Ended::Made { .. } => unreachable!(),
                 }
             }
-        }
-    }
-
-    /// The gettime of a POSIX timer.
-    fn gettime_posix<R: Wait>(
-        &self,
-        rt: &R,
-        objects_pass: &mut RowPass<ObjectCell>,
-        id: u32,
-        reading: Reading,
-    ) -> Gettime
-        requires objects { IsObjectsPass self.now objects_pass.old }
-        requires within { id < length self.now.decls }
-        requires kind { (decl_at self.now id).kind ≡ kinds.Posix }
-        ensures objects { IsObjectsPass self.now objects_pass.new }
-        ensures finds { FindsSetting objects_pass.old objects_pass.new id reading result }
-        ensures name { objects_pass.new.knows.pass.id ≡ objects_pass.old.knows.pass.id }
-    {
-        let (object, stamp) = self.look_at(rt, objects_pass, id);
-        let Object::Posix(timer) = object else {
-            unreachable!()
-        };
-        let setting = timer.gettime(reading);
-        Gettime::Left {
-            left: setting.left,
-            interval: setting.interval,
-            stamp,
         }
     }
 

@@ -182,23 +182,15 @@ fn call_of(kind: Kind, asked: &Asked, arm: Arm) -> ObjectCall
                 Kind::Fd => ObjectCall::Fd(timer_fd::Call::Settime(call)),
             }
         }
-        Asked::Rearming(Rearming::Accepting, reading) => {
-            ObjectCall::Posix(posix_timer::Call::Accept {
-                reading: *reading,
-                arm,
-            })
-        }
-        Asked::Rearming(Rearming::Reading, reading) => {
-            ObjectCall::Fd(timer_fd::Call::Read {
-                reading: *reading,
-                arm,
-            })
-        }
-        Asked::Rearming(Rearming::Getting, reading) => {
-            ObjectCall::Fd(timer_fd::Call::Gettime {
-                reading: *reading,
-                arm,
-            })
+        Asked::Rearming(call, reading) => {
+            let reading = *reading;
+            match call {
+                Rearming::Accepting => {
+                    ObjectCall::Posix(posix_timer::Call::Accept { reading, arm })
+                }
+                Rearming::Reading => ObjectCall::Fd(timer_fd::Call::Read { reading, arm }),
+                Rearming::Getting => ObjectCall::Fd(timer_fd::Call::Gettime { reading, arm }),
+            }
         }
     }
 }
@@ -230,14 +222,9 @@ fn set<R: Wait>(
             let so_far = disarm(rt, timers, pass, log, timer, cell.last)?;
             let wants = wanted_by(valid.flags, valid.value);
             let outcome = arm(rt, timers, pass, log, timer, wants, base, valid.reading);
+            let from = so_far.from;
             let to = end_of(outcome, so_far.to);
-            Some((
-                outcome,
-                Span {
-                    from: so_far.from,
-                    to,
-                },
-            ))
+            Some((outcome, Span { from, to }))
         }
         Asked::Rearming(call, reading) => {
             let Some(start) = wanted(*call, &cell.object, *reading) else {

@@ -270,6 +270,13 @@ fn triggered(number: u64, call: ObjectCall, reply: ObjectReply) -> ObjectReceipt
     }
 }
 
+/// Whether the trigger of an object is all that was noted, and no restart was asked for.
+fn is_alone(noting: &Noting, receipt: &ObjectReceipt) -> bool {
+    let alone = noting.object_log.receipts() == [*receipt].as_slice();
+    let stopped = ending(noting) == Some(Event::Finish { restart: false });
+    alone && stopped && noting.log.receipts().len() == 0
+}
+
 fn posix_trigger() -> ObjectCall {
     ObjectCall::Posix(posix_timer::Call::Trigger {
         generation: 1,
@@ -282,9 +289,7 @@ fn a_posix_timer_is_triggered(rt: HostRuntime) -> Result<(), Fail> {
     let noting = fired(&rt, rt.alloc(), Kind::Posix, Callback::Once, 100)?;
     let reply = ObjectReply::Posix(posix_timer::Reply::Trigger(TriggerAnswer::Counted));
     let receipt = triggered(2, posix_trigger(), reply);
-    assert_eq!(rt; noting.object_log.receipts(), [receipt].as_slice());
-    assert_eq!(rt; noting.log.receipts().len(), 0);
-    assert_eq!(rt; ending(&noting), Some(Event::Finish { restart: false }));
+    assert!(rt; is_alone(&noting, &receipt));
     Ok(())
 }
 
@@ -297,9 +302,7 @@ fn a_descriptor_is_triggered(rt: HostRuntime) -> Result<(), Fail> {
     });
     let reply = ObjectReply::Fd(timer_fd::Reply::Trigger(TriggerAnswer::Counted));
     let receipt = triggered(2, call, reply);
-    assert_eq!(rt; noting.object_log.receipts(), [receipt].as_slice());
-    assert_eq!(rt; noting.log.receipts().len(), 0);
-    assert_eq!(rt; ending(&noting), Some(Event::Finish { restart: false }));
+    assert!(rt; is_alone(&noting, &receipt));
     Ok(())
 }
 
@@ -309,7 +312,6 @@ fn an_object_whose_history_is_full_is_not_triggered(rt: HostRuntime) -> Result<(
     let spent = TriggerAnswer::Spent { stamp: 1 };
     let reply = ObjectReply::Posix(posix_timer::Reply::Trigger(spent));
     let receipt = triggered(1, posix_trigger(), reply);
-    assert_eq!(rt; noting.object_log.receipts(), [receipt].as_slice());
-    assert_eq!(rt; ending(&noting), Some(Event::Finish { restart: false }));
+    assert!(rt; is_alone(&noting, &receipt));
     Ok(())
 }

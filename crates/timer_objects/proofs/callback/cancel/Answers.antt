@@ -9,11 +9,10 @@ use Rattle.timer_objects.proofs.callback.cancel.Goals as goal
 
 pub unreachable-requires : goal.unreachable-requires
 unreachable-requires g c =
-    let o = c.args.timers.now.about in
-    let v = c.args.pass.now.known in
-    let w = c.try_to_cancel.new.pass.known in
-    let told = subst (λ t. Cancels o v w t c.try_to_cancel.result) c.timer-timer.ensures c.try_to_cancel.ensures.cancels in
-    let seen = seen_running o v w c.args.claim.now c.try_to_cancel.ensures.pass.knows c.requires.claim c.try_to_cancel.result told in
+    let told = c.try_to_cancel in
+    let cancels = subst (λ t. Cancels c.args.timers.now.about c.args.pass.now.known told.new.pass.known t told.result) c.timer-timer.ensures
+    told.ensures.cancels in
+    let seen = seen_running _ _ _ c.args.claim.now told.ensures.pass.knows c.requires.claim told.result cancels in
     c.in_default.not-Running seen.0 seen.1 seen.2
 
 pub returns-clause-runs : goal.returns-clause-runs
