@@ -11,7 +11,7 @@ use Rattle.timer_objects.specs.Known.{ObjectsPass, seen_of}
 use Rattle.timer_objects.specs.declared.log.ObjectReceipt.{ObjectReceipt}
 use Rattle.record_text.specs.declared.record.ClockLine.{ClockLine}
 use Rattle.record_text.specs.declared.record.Label.{Label}
-use Rattle.script_text.specs.Actions.{Action, looked, Made, made, numbers_of_object, skipped, wrote}
+use Rattle.script_text.specs.Actions.{Action, Entered, looked, Looked, Made, made, numbers_of_object, skipped, wrote}
 use Rattle.script_text.specs.Histories.{reading_at}
 use Rattle.ktime.specs.Readings.{ClockReading}
 use Rattle.script_text.specs.Objects.{present}
