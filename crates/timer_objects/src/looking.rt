@@ -80,6 +80,21 @@ impl Objects {
         }
     }
 
+    /// An object as it is, and how many entries its history has.
+    fn look_at<R: Wait>(&self, rt: &R, pass: &mut RowPass<ObjectCell>, id: u32) -> (Object, u64)
+        requires pass { IsObjectsPass self.now pass.old }
+        requires within { id < length self.now.decls }
+        ensures pass { IsObjectsPass self.now pass.new }
+        ensures finds { FindsObject pass.old pass.new id result.0 result.1 }
+        ensures name { pass.new.knows.pass.id ≡ pass.old.knows.pass.id }
+        ensures kind { IsObjectOf (decl_at self.now id) self.now.limit result.1 result.0 }
+    {
+        let held = self.lock(rt, pass, id);
+        let object = held.state().object;
+        let stamp = self.release(pass, held);
+        (object, stamp)
+    }
+
     /// Whether a descriptor is ready to be read (`poll(2)`). It touches no timer.
     pub fn readable<R: Wait>(
         &self,
@@ -137,20 +152,5 @@ impl Objects {
             overrun: timer.getoverrun(),
             stamp,
         }
-    }
-
-    /// An object as it is, and how many entries its history has.
-    fn look_at<R: Wait>(&self, rt: &R, pass: &mut RowPass<ObjectCell>, id: u32) -> (Object, u64)
-        requires pass { IsObjectsPass self.now pass.old }
-        requires within { id < length self.now.decls }
-        ensures pass { IsObjectsPass self.now pass.new }
-        ensures finds { FindsObject pass.old pass.new id result.0 result.1 }
-        ensures name { pass.new.knows.pass.id ≡ pass.old.knows.pass.id }
-        ensures kind { IsObjectOf (decl_at self.now id) self.now.limit result.1 result.0 }
-    {
-        let held = self.lock(rt, pass, id);
-        let object = held.state().object;
-        let stamp = self.release(pass, held);
-        (object, stamp)
     }
 }
