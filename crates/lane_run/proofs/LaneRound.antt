@@ -65,7 +65,7 @@ pub record Stands (past : List Seen) (p : WorldPass) (k : DoneCall) : Type 0 whe
 -- it is what the lane kept, by where rounds began and what passes have seen
 pub record IsKeptOf (s : Script) (past : List Seen) (p : WorldPass) (lane : ℕ) (d : LaneSoFar) : Type 0 where
   pub parts : calls_of s lane ≡ calls_in d.done ++ d.rest
-  pub promised : IsPromisedSoFar s lane (length (logs_of d.done)) (logs_of d.done) (Follows p) (seen_by p) d.rest (answers_in d.done)
+  pub promised : IsPromisedSoFar s lane (length d.done) (logs_of d.done) (Follows p) (seen_by p) d.rest (answers_in d.done)
   pub each : AllByRecursion (Stands past p) d.done
   pub next : (x : ListOf) (j : ℕ) (g h : DoneCall) → slice_get d.done j ≡ Some g → slice_get d.done (suc j) ≡ Some h → (x.span g.log).1 ≤ (x.span h.log).0
 
@@ -75,7 +75,7 @@ pub kept_later : {s : Script} {past : List Seen} {p q : WorldPass} {lane : ℕ} 
 kept_later {s} {p = p} {q = q} {lane = lane} {d = d} more kept = record {
   parts = kept.parts;
   promised = λ e follows has joined later fits. kept.promised e (follows_less more follows) has joined later
-      (fits_lane_behind (course_of s e) lane (length (logs_of d.done)) (seen_by p) (seen_by q) d.rest later (no_less more) fits);
+      (fits_lane_behind (course_of s e) lane (length d.done) (seen_by p) (seen_by q) d.rest later (no_less more) fits);
   each = each_weaker d.done (λ k is. record { stand = stand_later more is.stand; lies = λ x. lies_later (no_less more) (is.lies x) }) kept.each;
   next = kept.next;
 }
@@ -98,47 +98,6 @@ at_push [] x (suc j) y at = absurd (cc)
 at_push (z ∷ xs) x zero y at = inl at
 at_push (z ∷ xs) x (suc j) y at = ⊎_elim (λ there. inl there) (λ last. inr (ap suc last.0, last.1)) (at_push xs x j y at)
 
--- law: one more call
-kept_one : {s : Script} {l : LaneOf} {call : Call} {a : Answer} {m : LaneOf} (kept : KeepsCall s l call a m) (before : List Seen) (base : WorldPass)
-    (lane : ℕ) (done : List DoneCall) (rest : List CallInRound) → SeesMore base l.pass → l.label ≡ label_at lane (length done)
-    → IsKeptOf s (before ++ seen_by base ∷ []) l.pass lane (record { done = done; rest = record { round = length before; call = call } ∷ rest })
-    → IsKeptOf s (before ++ seen_by base ∷ []) m.pass lane (record {
-      done = done ++ record { at = record { round = length before; call = call }; log = log_of l.pass m.pass kept.notes kept.trace; answer = a } ∷ [];
-      rest = rest;
-    })
-kept_one {s} {l} {call} {a} {m} kept before base lane done rest sees label so_far =
-    let p = l.pass in
-    let q = m.pass in
-    let at : CallInRound = record { round = length before; call = call } in
-    let log = log_of p q kept.notes kept.trace in
-    let k : DoneCall = record { at = at; log = log; answer = a } in
-    let more = more_called kept.sees in
-    let counted : length (logs_of done) ≡ length done = length-map done (λ (d : DoneCall). d.log) in
-    let promise : IsPromised s lane (length (logs_of done)) log (Follows q) call a (seen_by p) (seen_by q) =
-    subst (λ (c : Label). IsPromised s c.lane c.call log (Follows q) call a (seen_by p) (seen_by q)) (label ∙ ap (label_at lane) (sym counted))
-    kept.promised in
-    let pushed = promised_push s lane (length (logs_of done)) (logs_of done) log (Follows p) (Follows q) (seen_by p) (seen_by q) at rest
-    (answers_in done) a refl (λ e follows. follows_less more follows) so_far.promised promise in
-    record {
-      parts = so_far.parts ∙ sym (append_assoc (calls_in done) (at ∷ []) rest)
-          ∙ ap (λ ps. ps ++ rest) (sym (map-append (λ (d : DoneCall). d.at) done (k ∷ [])));
-      promised = rw (
-        map-append (λ (d : DoneCall). d.log) done (k ∷ []),
-        map-append (λ (d : DoneCall). d.answer) done (k ∷ []),
-        length-append (logs_of done) (log ∷ []),
-      ) pushed;
-      each = All-append (Stands (before ++ seen_by base ∷ []) q) done (k ∷ []) (kept_later more so_far).each
-          (record { stand = kept.stand; lies = λ x. lies_new x before p q kept.notes kept.trace (no_less sees) (no_less more) }, tt);
-      next = λ x j g h this that.
-          let last = slice_get_within (done ++ k ∷ []) (suc j) h that in
-          ⊎_elim (λ there. ⊎_elim (λ behind. so_far.next x j g h there behind)
-          (λ new. let most = ((all_at (Stands (before ++ seen_by base ∷ []) p) done j g so_far.each there).lies x).most in
-          omega (arith, most, ap (λ n. n.0) (x.of_log p q kept.notes kept.trace), ap (λ (d : DoneCall). (x.span d.log).0) new.1))
-          (at_push done k (suc j) h that)) (λ new. absurd (omega (arith, new.0, last, length-append done (k ∷ [])))) (at_push done k j g this);
-    }
-
--- ---- its notes of a round
-
 -- what was kept of a call among these
 abbrev pub IsAt : List DoneCall → Label → CallLog → Type 0
 IsAt done c g = (k : DoneCall) × (slice_get done c.call ≡ Some k) × (k.log ≡ g)
@@ -147,21 +106,60 @@ IsAt done c g = (k : DoneCall) × (slice_get done c.call ≡ Some k) × (k.log �
 abbrev pub IsFrom : ℕ → ℕ → List DoneCall → Label → CallLog → Type 0
 IsFrom lane start done c g = (c.lane ≡ lane) × (start ≤ c.call) × IsAt done c g
 
--- law: one more call
-notes_one : {s : Script} {l : LaneOf} {call : Call} {a : Answer} {m : LaneOf} (kept : KeepsCall s l call a m) (lane start : ℕ) (done : List DoneCall)
-    (k : DoneCall) → log_of l.pass m.pass kept.notes kept.trace ≡ k.log → l.label ≡ label_at lane (length done) → start ≤ length done
-    → AreOf l.pass l.notes (IsFrom lane start done) → AreOf m.pass m.notes (IsFrom lane start (done ++ k ∷ []))
-notes_one {m = m} kept lane start done k is label low are =
-    subst (λ ns. AreOf m.pass ns (IsFrom lane start (done ++ k ∷ []))) (sym kept.joins)
-    (joined (more_called kept.sees) more_same are (call_notes kept)
-    (λ c g h old new. absurd (omega
-    (arith, slice_get_within done c.call old.2.0 old.2.1, ap (λ (d : Label). d.call) (new.0 ∙ label))))
-    (λ c g old. (old.0, old.1, (old.2.0, at_left done (k ∷ []) c.call old.2.0 old.2.1, old.2.2)))
-    (λ c g new. subst (λ (d : Label). IsFrom lane start (done ++ k ∷ []) d g) (sym (new.0 ∙ label))
-    (refl, low, (k, at_seam done [] k, sym is ∙ new.1)))
-    (λ c g both. ⊎_elim (λ there. inl (both.0, both.1, (both.2.0, there, both.2.2)))
-    (λ last. inr (ap (λ n. label_at n c.call) both.0 ∙ ap (label_at lane) last.0 ∙ sym label, is ∙ ap (λ (d : DoneCall). d.log) last.1 ∙ both.2.2))
-    (at_push done k c.call both.2.0 both.2.1)))
+-- ---- one more call
+
+module _ {s : Script} {l : LaneOf} {call : Call} {a : Answer} {m : LaneOf} (kept : KeepsCall s l call a m) (before : List Seen) (lane : ℕ)
+    (done : List DoneCall) (label : l.label ≡ label_at lane (length done)) where
+  abbrev log : CallLog
+  log = log_of l.pass m.pass kept.notes kept.trace
+
+  abbrev at : CallInRound
+  at = record { round = length before; call = call }
+
+  abbrev one : DoneCall
+  one = record { at = at; log = log; answer = a }
+
+  -- law: it was kept too
+  kept_one : (base : WorldPass) (rest : List CallInRound) → SeesMore base l.pass
+      → IsKeptOf s (before ++ seen_by base ∷ []) l.pass lane (record { done = done; rest = at ∷ rest })
+      → IsKeptOf s (before ++ seen_by base ∷ []) m.pass lane (record { done = done ++ one ∷ []; rest = rest })
+  kept_one base rest sees so_far =
+      let more = more_called kept.sees in
+      let promise : IsPromised s lane (length done) log (Follows m.pass) call a (seen_by l.pass) (seen_by m.pass) =
+      subst (λ (c : Label). IsPromised s c.lane c.call log (Follows m.pass) call a (seen_by l.pass) (seen_by m.pass)) label kept.promised in
+      let pushed = promised_push s lane (length done) (logs_of done) log (Follows l.pass) (Follows m.pass) (seen_by l.pass) (seen_by m.pass) at rest
+      (answers_in done) a (sym (length-map done (λ (d : DoneCall). d.log))) (λ e follows. follows_less more follows) so_far.promised promise in
+      record {
+        parts = so_far.parts ∙ sym (append_assoc (calls_in done) (at ∷ []) rest)
+            ∙ ap (λ ps. ps ++ rest) (sym (map-append (λ (d : DoneCall). d.at) done (one ∷ [])));
+        promised = rw (
+          map-append (λ (d : DoneCall). d.log) done (one ∷ []),
+          map-append (λ (d : DoneCall). d.answer) done (one ∷ []),
+          length-append done (one ∷ []),
+        ) pushed;
+        each = All-append (Stands (before ++ seen_by base ∷ []) m.pass) done (one ∷ []) (kept_later more so_far).each
+            (record { stand = kept.stand; lies = λ x. lies_new x before l.pass m.pass kept.notes kept.trace (no_less sees) (no_less more) }, tt);
+        next = λ x j g h this that.
+            let last = slice_get_within (done ++ one ∷ []) (suc j) h that in
+            ⊎_elim (λ there. ⊎_elim (λ behind. so_far.next x j g h there behind)
+            (λ new. let most = ((all_at (Stands (before ++ seen_by base ∷ []) l.pass) done j g so_far.each there).lies x).most in
+            omega (arith, most, ap (λ n. n.0) (x.of_log l.pass m.pass kept.notes kept.trace), ap (λ (d : DoneCall). (x.span d.log).0) new.1))
+            (at_push done one (suc j) h that)) (λ new. absurd (omega (arith, new.0, last, length-append done (one ∷ []))))
+            (at_push done one j g this);
+      }
+
+  -- law: and its notes are among the lane's
+  notes_one : (start : ℕ) → start ≤ length done → AreOf l.pass l.notes (IsFrom lane start done)
+      → AreOf m.pass m.notes (IsFrom lane start (done ++ one ∷ []))
+  notes_one start low are =
+      subst (λ ns. AreOf m.pass ns (IsFrom lane start (done ++ one ∷ []))) (sym kept.joins)
+      (joined (more_called kept.sees) more_same are (call_notes kept)
+      (λ c g h old new. absurd (omega (arith, slice_get_within done c.call old.2.0 old.2.1, ap (λ (d : Label). d.call) (new.0 ∙ label))))
+      (λ c g old. (old.0, old.1, (old.2.0, at_left done (one ∷ []) c.call old.2.0 old.2.1, old.2.2)))
+      (λ c g new. subst (λ (d : Label). IsFrom lane start (done ++ one ∷ []) d g) (sym (new.0 ∙ label)) (refl, low, (one, at_seam done [] one, new.1)))
+      (λ c g both. ⊎_elim (λ there. inl (both.0, both.1, (both.2.0, there, both.2.2)))
+      (λ last. inr (ap (λ n. label_at n c.call) both.0 ∙ ap (label_at lane) last.0 ∙ sym label, ap (λ (d : DoneCall). d.log) last.1 ∙ both.2.2))
+      (at_push done one c.call both.2.0 both.2.1)))
 
 -- ---- a round
 
@@ -207,7 +205,7 @@ module _ {s : Script} {x : WorldOf} (each : KeepsEach s x) (world : IsWorldOf s 
         there = subst (λ (d : Label). slice_get (calls_of s d.lane) d.call ≡ Some at) (sym label) there;
         is = refl;
       }) called in
-      let k : DoneCall = record { at = at; log = log_of l.pass n.pass kept.notes kept.trace; answer = a } in
+      let k = one kept before lane done label in
       record {
         all = done ++ k ∷ [];
         answers = map-append (λ (d : DoneCall). d.answer) done (k ∷ []);
@@ -219,8 +217,8 @@ module _ {s : Script} {x : WorldOf} (each : KeepsEach s x) (world : IsWorldOf s 
           opening = kept.sees.opening ∙ old.opening;
           sees = more_trans old.sees (more_called kept.sees);
           begins = begins_trans old.begins (begins_more done (k ∷ []));
-          kept = kept_one kept before base lane done rest old.sees label old.kept;
-          are = notes_one kept lane (length first) done k refl label (begins_length old.begins) old.are;
+          kept = kept_one kept before lane done label base rest old.sees old.kept;
+          are = notes_one kept before lane done label (length first) (begins_length old.begins) old.are;
           tallies = subst (Tallies n.pass) (sym kept.joins) (tallies_more l.notes kept.added old.tallies kept.places);
         };
       }
@@ -238,12 +236,12 @@ module _ {s : Script} {x : WorldOf} (each : KeepsEach s x) (world : IsWorldOf s 
   calls_made [] (a ∷ given) done rest old called = absurd called
   calls_made (c ∷ cs) [] done rest old called = absurd called
   calls_made (c ∷ cs) (a ∷ given) done rest old called =
-      let one = one_call done (in_round (length before) cs ++ rest) old called.1 called.2 in
-      let others = calls_made cs given one.all rest one.is called.3 in
+      let this = one_call done (in_round (length before) cs ++ rest) old called.1 called.2 in
+      let others = calls_made cs given this.all rest this.is called.3 in
       record {
         all = others.all;
-        answers = others.answers ∙ ap (λ zs. zs ++ given) one.answers ∙ append_assoc (answers_in done) (a ∷ []) given;
-        few = omega (arith, one.few, others.few);
+        answers = others.answers ∙ ap (λ zs. zs ++ given) this.answers ∙ append_assoc (answers_in done) (a ∷ []) given;
+        few = omega (arith, this.few, others.few);
         is = others.is;
       }
 

@@ -172,8 +172,8 @@ module _ {s : Script} {past : List Seen} {q : WorldPass} {left : LeftOf} (of : �
         let kept = so_far.kept lane in
         let done = (of lane).done in
         subst (FitsLane (course_of s e) lane 0 unseen (calls_of s lane)) (sym (so_far.given lane))
-        (promised_all s lane (length (logs_of done)) (logs_of done) (Follows q) (seen_by q) (answers_in done)
-        (subst (λ ps. IsPromisedSoFar s lane (length (logs_of done)) (logs_of done) (Follows q) (seen_by q) ps (answers_in done)) (rest lane) kept.promised)
+        (promised_all s lane (length done) (logs_of done) (Follows q) (seen_by q) (answers_in done)
+        (subst (λ ps. IsPromisedSoFar s lane (length done) (logs_of done) (Follows q) (seen_by q) ps (answers_in done)) (rest lane) kept.promised)
         e follows (has_from e lane 0 done (λ j k at. subst (λ n. HasLog e (label_at lane n) k.log) (omega arith)
         (subst (λ (h : DoneCall). HasLog e (label_at lane j) h.log) (get_or_from_slice_get done j k no_call at) (has (label_at lane j))))) joined);
   }

@@ -23,11 +23,7 @@ leaves_same = record { loan = record { objects = refl; callbacks = refl; lent = 
 
 pub leaves_trans : {h i j : Firing} → LeavesPass h i → LeavesPass i j → LeavesPass h j
 leaves_trans a b = record {
-  loan = record {
-    objects = b.loan.objects ∙ a.loan.objects;
-    callbacks = b.loan.callbacks ∙ a.loan.callbacks;
-    lent = b.loan.lent ∙ a.loan.lent;
-  };
+  loan = record { objects = b.loan.objects ∙ a.loan.objects; callbacks = b.loan.callbacks ∙ a.loan.callbacks; lent = b.loan.lent ∙ a.loan.lent };
   id = b.id ∙ a.id;
   knows = λ k. b.knows (a.knows k);
 }

@@ -101,6 +101,5 @@ keeps_part {l = l} next m a IsSo log object_log notes t part so clock clock_mine
         | WriteNotes ↦ tt
       ];
       stand = stand_from IsSo p q notes part.timers.enters t (λ e follows. so e follows.clock);
-      logged = logged;
       promised = promised_from next q notes t a logged fits;
     }

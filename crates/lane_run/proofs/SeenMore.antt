@@ -88,11 +88,7 @@ more_heard takes = record { timers = takes.timers.heard; clock = takes.clock.hea
 
 -- law: so they have seen no less
 pub no_less : {p q : WorldPass} → SeesMore p q → IsNoLess (seen_by p) (seen_by q)
-no_less more = record {
-  clock = begins_length more.clock;
-  moves = begins_length more.timers;
-  objects = λ i. begins_length (more.objects i);
-}
+no_less more = record { clock = begins_length more.clock; moves = begins_length more.timers; objects = λ i. begins_length (more.objects i) }
 
 -- law: a run that goes on from what the ones have seen goes on from what the others have
 pub follows_less : {p q : WorldPass} {e : Ending} → SeesMore p q → Follows q e → Follows p e
@@ -122,9 +118,7 @@ stand_later {log = log} more stand = record {
 -- law: what a note is of
 pub seen_later : (k : NoteKind) {p q : WorldPass} (log : CallLog) (n : NoteOf k) → SeesMore p q → IsSeen k p log n → IsSeen k q log n
 seen_later EntryNotes log n more is = tt
-seen_later LookNotes log n more is =
-    let few = count_begins n.timer more.timers in
-    record { some = is.some; seen = omega (arith, is.seen, few) }
+seen_later LookNotes log n more is = record { some = is.some; seen = omega (arith, is.seen, count_begins n.timer more.timers) }
 seen_later ObjectNotes log n more is = record {
   before = is.before;
   number = is.number;
@@ -133,9 +127,7 @@ seen_later ObjectNotes log n more is = record {
   there = stands_on is.before (more.objects n.object) is.there;
   shows = λ e on. is.shows e (goes_before more.clock on);
 }
-seen_later SkipNotes log n more is =
-    let few = begins_length (more.objects n.object) in
-    record { some = is.some; seen = omega (arith, is.seen, few) }
+seen_later SkipNotes log n more is = record { some = is.some; seen = omega (arith, is.seen, begins_length (more.objects n.object)) }
 seen_later WriteNotes {p = p} {q = q} log n more is =
     let inside = slice_get_within (writes p.clock.knows) is.before n.line.write is.there in
     let same : take n.stamp (writes q.clock.knows) ≡ take n.stamp (writes p.clock.knows) =

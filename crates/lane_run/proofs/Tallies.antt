@@ -12,45 +12,31 @@ use Rattle.lane_run.specs.Rounds.{HasSplit, TakesInPass}
 use Rattle.lane_run.specs.declared.world.WorldPass.{WorldPass}
 use Rattle.lane_run.specs.Kept.{Tallies, AddsPlaces}
 
-count_both : (test : ℕ × ℕ → Bool) (xs ys : List (ℕ × ℕ)) → count test (xs ++ ys) ≡ count test xs + count test ys
-count_both test xs ys = total-append (λ x. one_if (test x)) xs ys
+-- the places of two passes together
+mine_both : (test : ℕ × ℕ → Bool) (xs ys : List (ℕ × ℕ)) {zs : List (ℕ × ℕ)} → zs ≡ xs ++ ys → count test zs ≡ count test xs + count test ys
+mine_both test xs ys is = ap (count test) is ∙ total-append (λ x. one_if (test x)) xs ys
 
 -- the places of notes of one kind and of others
-places_both : {X : Type 0} (test : ℕ × ℕ → Bool) (place : X → ℕ × ℕ) (xs ys : List X)
+notes_both : {X : Type 0} (test : ℕ × ℕ → Bool) (place : X → ℕ × ℕ) (xs ys : List X)
     → count test (map place (xs ++ ys)) ≡ count test (map place xs) + count test (map place ys)
-places_both test place xs ys = ap (count test) (map-append place xs ys) ∙ count_both test (map place xs) (map place ys)
+notes_both test place xs ys = mine_both test (map place xs) (map place ys) (map-append place xs ys)
 
 -- law: places that were added are those of the notes that were added
 pub tallies_more : {p q : WorldPass} (a b : NotesOf) → Tallies p a → AddsPlaces p q b → Tallies q (both_noted a b)
 tallies_more a b so_far adds = record {
   timers = λ t n. omega
-      (arith, so_far.timers t n, adds.timers t n, places_both (is_place t n) (λ (e : EntryNote). (e.timer, e.number)) a.entries b.entries);
+      (arith, so_far.timers t n, adds.timers t n, notes_both (is_place t n) (λ (e : EntryNote). (e.timer, e.number)) a.entries b.entries);
   objects = λ i n. omega
-      (arith, so_far.objects i n, adds.objects i n, places_both (is_place i n) (λ (e : ObjectNote). (e.object, e.number)) a.objects b.objects);
-  clock = λ n. omega (arith, so_far.clock n, adds.clock n, places_both (is_place 0 n) (λ (e : WriteNote). (0, e.stamp)) a.writes b.writes);
+      (arith, so_far.objects i n, adds.objects i n, notes_both (is_place i n) (λ (e : ObjectNote). (e.object, e.number)) a.objects b.objects);
+  clock = λ n. omega (arith, so_far.clock n, adds.clock n, notes_both (is_place 0 n) (λ (e : WriteNote). (0, e.stamp)) a.writes b.writes);
 }
 
 -- law: a pass that has taken in another has added what that one had made
 pub adds_taken : {p other q : WorldPass} {b : NotesOf} → TakesInPass p other q → Tallies other b → AddsPlaces p q b
 adds_taken {p} {other} takes its = record {
-  timers = λ t n. omega (
-    arith,
-    its.timers t n,
-    ap (count (is_place t n)) takes.timers.mine,
-    count_both (is_place t n) p.timers.known.mine other.timers.known.mine,
-  );
-  objects = λ i n. omega (
-    arith,
-    its.objects i n,
-    ap (count (is_place i n)) takes.objects.mine,
-    count_both (is_place i n) p.objects.knows.pass.mine other.objects.knows.pass.mine,
-  );
-  clock = λ n. omega (
-    arith,
-    its.clock n,
-    ap (count (is_place 0 n)) takes.clock.mine,
-    count_both (is_place 0 n) p.clock.knows.pass.mine other.clock.knows.pass.mine,
-  );
+  timers = λ t n. omega (arith, its.timers t n, mine_both (is_place t n) p.timers.known.mine other.timers.known.mine takes.timers.mine);
+  objects = λ i n. omega (arith, its.objects i n, mine_both (is_place i n) p.objects.knows.pass.mine other.objects.knows.pass.mine takes.objects.mine);
+  clock = λ n. omega (arith, its.clock n, mine_both (is_place 0 n) p.clock.knows.pass.mine other.clock.knows.pass.mine takes.clock.mine);
 }
 
 -- law: passes that have made nothing

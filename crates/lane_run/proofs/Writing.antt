@@ -161,7 +161,6 @@ write_kept {s = s} {l = l} {m = m} {write = write} next (Ok r) w timers objects 
         )
       ];
       stand = stand_from (λ clock. Unit) p q [] enters t (λ e follows. tt);
-      logged = logged;
       promised = promised_from next q [] t (answers.Clock r.stamp) logged
           (λ e follows joined has kept low. wrote_made r.stamp write kept (ap length same_seen ∙ low));
     }

@@ -254,7 +254,6 @@ pub record KeepsCall (s : Script) (l : LaneOf) (call : Call) (a : Answer) (m : L
   pub seen : (k : NoteKind) → AllByRecursion (IsSeen k m.pass (log_of l.pass m.pass notes trace)) (list_of k added)
   pub stand : StandAt m.pass (log_of l.pass m.pass notes trace)
   -- the promise
-  pub logged : IsLogged (log_of l.pass m.pass notes trace) call a (seen_by l.pass) (seen_by m.pass)
   pub promised : IsPromised s l.label.lane l.label.call (log_of l.pass m.pass notes trace) (Follows m.pass) call a (seen_by l.pass) (seen_by m.pass)
 
 -- a lane has seen no less
