@@ -73,8 +73,11 @@ module _ {s : Script} {x : WorldOf} {q : WorldPass} {notes sorted : NotesOf} {lo
       let its = all_at (λ m. IsLabel s m.line.label × IsWriteLeft q (logs m.line.label) m) notes.writes st.0 n left.writes st.1 in (
         its.1.before,
         its.1.number,
-        ((its.0, its.1.inside.0, its.1.inside.1), its.1.there,
-            subst (λ m. ShowsReading n.line (reading_after (take m seen))) (sym its.1.number ∙ add-one its.1.before) its.1.shows),
+        (
+          (its.0, its.1.inside.0, its.1.inside.1),
+          its.1.there,
+          subst (λ m. ShowsReading n.line (reading_after (take m seen))) (sym its.1.number ∙ add-one its.1.before) its.1.shows,
+        ),
       ))
 
   -- law: the lines show the writes that were seen

@@ -93,16 +93,14 @@ module _ {U A : Type 0} (place : U → Place) (thing : U → A) where
             ∙ ap (λ ys. at_number k (u ∷ here) ++ ys) (sym (lower_hangs (k + 1) m u us (omega (arith, same))))) (IsPermutation-refl all)
         | false ↦ λ not.
             let more = strictly from (λ e. eqb-false (place u).number k not (sym e)) in
-            IsPermutation-trans (at_number k here ++ hung (k + 1) m (u ∷ us)) (at_number k here ++ shape u ∷ rest) all
-            (IsPermutation-append_right (at_number k here) (hung (k + 1) m (u ∷ us)) (shape u ∷ rest)
-            (one_hangs (k + 1) m u us (omega (arith, more)) (omega (arith, below)))) (IsPermutation-middle (at_number k here) (shape u) rest)
+            IsPermutation-trans _ _ _ (IsPermutation-append_right (at_number k here) _ _ (one_hangs (k + 1) m u us (omega (arith, more)) (omega (arith, below))))
+            (IsPermutation-middle (at_number k here) (shape u) rest)
       ] refl
 
   all_hang : (m : ℕ) (us : List U) → AllByRecursion (λ u. (1 ≤ (place u).number) × ((place u).number < 1 + m)) us → IsPermutation (hung 1 m us) (map shape us)
   all_hang m [] inside = subst (λ ys. IsPermutation ys []) (sym (none_hang 1 m)) (IsPermutation-refl [])
   all_hang m (u ∷ us) inside =
-      IsPermutation-trans (hung 1 m (u ∷ us)) (shape u ∷ hung 1 m us) (map shape (u ∷ us)) (one_hangs 1 m u us inside.0.0 inside.0.1)
-      (IsPermutation-cons (shape u) (hung 1 m us) (map shape us) (all_hang m us inside.1))
+      IsPermutation-trans _ _ _ (one_hangs 1 m u us inside.0.0 inside.0.1) (IsPermutation-cons (shape u) _ _ (all_hang m us inside.1))
 
   module _ {N L S : Type 0} (line : N → List U → L) (of : L → List S) (label : S → Label) (shown : S → A)
       (tells : (k : ℕ) (n : N) (us : List U) → map {B = Label × (ℕ × A)} (λ x. (label x, (k, shown x))) (of (line n us)) ≡ at_number k us) where

@@ -59,9 +59,8 @@ pub own_sorted : {X Y : Type 0} {place : X → Place} (l : ℕ) (c : Label) (tol
     → IsPermutation (map told (filter (λ n. is_label c (place n).label) (filter (is_of_list place l) sorted))) (map told (own_on place l c xs))
 own_sorted {X = X} {place = place} l c told {xs = xs} {sorted = sorted} is =
     let own : X → Bool = λ n. is_label c (place n).label in
-    IsPermutation-map told (filter own (filter (is_of_list place l) sorted)) (own_on place l c xs)
-    (subst (λ ys. IsPermutation ys (own_on place l c xs)) (sym (turn_filters own (is_of_list place l) sorted))
-    (filter_permuted (is_of_list place l) (filter own sorted) (filter own xs) (filter_permuted own sorted xs (IsPermutation-sym xs sorted is.same))))
+    IsPermutation-map told _ _ (subst (λ ys. IsPermutation ys (own_on place l c xs)) (sym (turn_filters own (is_of_list place l) sorted))
+    (filter_permuted (is_of_list place l) _ _ (filter_permuted own sorted xs (IsPermutation-sym xs sorted is.same))))
 
 -- ---- lines that show the sorted notes of a list
 
