@@ -124,8 +124,7 @@ module _ {s : Script} {x : WorldOf} {q : WorldPass} {notes sorted : NotesOf} {lo
   -- law: receipts are of calls of the script, in their calls' spans
   pub receipts_inside : (c : Label) → AllByRecursion (λ y. IsLabel s c × ((logs c).moves.0 ≤ y.place) × (y.place < (logs c).moves.1)) (logs c).notes
   receipts_inside c = each (λ y. IsLabel s c × ((logs c).moves.0 ≤ y.place) × (y.place < (logs c).moves.1)) (logs c).notes (λ j y at.
-      let t = is_told left c j y at in (
-        subst (IsLabel s) t.2 (all_at (λ n. IsLabel s n.label) notes.entries t.1.0 t.0 left.entries t.1.1),
-        all_at _ (logs c).notes j y (behind_all (logs c).moves.0 (logs c).moves.0 (logs c).notes (omega arith) (left.stand c).rise) at,
-        all_at _ (logs c).notes j y (left.stand c).below at,
-      ))
+      let t = is_told left c j y at in
+      let label = subst (IsLabel s) t.2 (all_at _ notes.entries t.1.0 t.0 left.entries t.1.1) in
+      let behind = behind_all (logs c).moves.0 (logs c).moves.0 (logs c).notes (omega arith) (left.stand c).rise in
+      (label, all_at _ (logs c).notes j y behind at, all_at _ (logs c).notes j y (left.stand c).below at))

@@ -93,7 +93,8 @@ module _ {U A : Type 0} (place : U → Place) (thing : U → A) where
             ∙ ap (λ ys. at_number k (u ∷ here) ++ ys) (sym (lower_hangs (k + 1) m u us (omega (arith, same))))) (IsPermutation-refl all)
         | false ↦ λ not.
             let more = strictly from (λ e. eqb-false (place u).number k not (sym e)) in
-            IsPermutation-trans _ _ _ (IsPermutation-append_right (at_number k here) _ _ (one_hangs (k + 1) m u us (omega (arith, more)) (omega (arith, below))))
+            IsPermutation-trans _ _ _
+            (IsPermutation-append_right (at_number k here) _ _ (one_hangs (k + 1) m u us (omega (arith, more)) (omega (arith, below))))
             (IsPermutation-middle (at_number k here) (shape u) rest)
       ] refl
 
@@ -122,16 +123,14 @@ module _ {U A : Type 0} (place : U → Place) (thing : U → A) where
         let f = filter_stands_in (is_of_list place l) sorted u (p, at) in
         inside u (stood_before xs sorted f.0.0 u is.same f.0.1) (eqb-true (place u).list l f.1))))
 
-  own_shapes : (c : Label) (us : List U) → of_call c (map shape us) ≡ map (λ u. ((place u).number, thing u)) (filter (λ u. is_label c (place u).label) us)
-  own_shapes c us = told_of (λ vs. of_call c (map shape vs)) (λ u. is_label c (place u).label) (λ u. ((place u).number, thing u)) refl
-      (λ u vs. sym (also-map (is_label c (place u).label) (λ e. e.1) (shape u) (filter (λ e. is_label c e.0) (map shape vs)) refl)) us
-
   -- law: those of a call are its notes on the list, in some order
   pub hung_own : (l : ℕ) (c : Label) {xs sorted : List U} → IsSortedOf place xs sorted
       → IsPermutation (of_call c (map shape (filter (is_of_list place l) sorted))) (map (λ u. ((place u).number, thing u)) (own_on place l c xs))
   hung_own l c {xs = xs} {sorted = sorted} is =
-      subst (λ ys. IsPermutation ys (map (λ u. ((place u).number, thing u)) (own_on place l c xs))) (sym (own_shapes c (filter (is_of_list place l) sorted)))
-      (own_sorted l c (λ u. ((place u).number, thing u)) is)
+      let told : U → ℕ × A = λ u. ((place u).number, thing u) in
+      subst (λ ys. IsPermutation ys (map told (own_on place l c xs))) (sym (told_of (λ vs. of_call c (map shape vs)) (λ u. is_label c (place u).label) told refl
+      (λ u vs. sym (also-map (is_label c (place u).label) (λ e. e.1) (shape u) (filter (λ e. is_label c e.0) (map shape vs)) refl))
+      (filter (is_of_list place l) sorted))) (own_sorted l c told is)
 
 -- ---- the labels under a line
 

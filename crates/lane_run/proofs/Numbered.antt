@@ -100,7 +100,8 @@ module _ {X : Type 0} (place : X → Place) (l : ℕ) where
             let here = once k (omega arith) (omega (arith, bounds.0, bounds.1)) in
             let apart : (m : ℕ) → (n ≡ m → ⊥) → is_at place l m x ≡ false = λ m differ. and_right _ _ (ne_eqb n m differ) in
             let first : n ≡ k = ⊎_elim
-            (λ (more : k < n). absurd (omega (arith, here, others k x xs (apart k (λ e. omega (arith, e, more))), ap length (none_lower k x xs order.0 of more))))
+            (λ (more : k < n). let none = ap length (none_lower k x xs order.0 of more) in
+            absurd (omega (arith, here, none, others k x xs (apart k (λ e. omega (arith, e, more))))))
             (λ (less : n ≤ k). omega (arith, less, bounds.0)) (cases_lt k n) in
             let none = AtMostOne-head (is_at place l k) x xs (and_from _ _ is (eq-eqb n k first)) (omega (arith, here)) in
             let differ : (y : X) → HasPlace xs y → (place y).list ≡ l → k ≡ (place y).number → ⊥ = λ y s is_of e. both_ways (is_at place l k y)

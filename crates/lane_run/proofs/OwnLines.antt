@@ -73,7 +73,8 @@ pub record ShowNotes {X L A : Type 0} (place : X → Place) (label : L → Label
   pub same : map {B = Label × A} (λ y. (label y, thing y)) lines ≡ map {B = Label × A} (λ n. ((place n).label, told n)) ns
 
 module _ {X L A : Type 0} {place : X → Place} {l many : ℕ} {xs sorted : List X} (is : IsSortedOf place xs sorted) (once : AreEachOnce place l many xs)
-    {label : L → Label} {thing : L → A} {told : X → A} {lines : List L} (show : ShowNotes place label thing told lines (filter (is_of_list place l) sorted)) where
+    {label : L → Label} {thing : L → A} {told : X → A} {lines : List L}
+    (show : ShowNotes place label thing told lines (filter (is_of_list place l) sorted)) where
   -- law: there are as many as numbers
   pub lines_long : length lines ≡ many
   lines_long = sym (length-map {B = Label × A} lines (λ y. (label y, thing y))) ∙ ap length show.same
@@ -111,6 +112,5 @@ module _ {X L A : Type 0} {place : X → Place} {l many : ℕ} {xs sorted : List
     own_lines items rise noted =
         same_risen (own label (λ y. f (thing y)) c 1 lines) items
         (subst (λ ys. IsPermutation ys items) (sym (own_numbered 1 lines (filter (is_of_list place l) sorted) (are_numbered is once) show.same))
-        (subst (IsPermutation (map (λ (n : X). ((place n).number, f (told n))) (filter (λ n. is_label c (place n).label) (filter (is_of_list place l) sorted)))) noted
-        (own_sorted l c (λ (n : X). ((place n).number, f (told n))) is)))
+        (subst (IsPermutation _) noted (own_sorted l c (λ (n : X). ((place n).number, f (told n))) is)))
         (own_rises label (λ y. f (thing y)) c 1 lines) (rise_in 1 items rise)
