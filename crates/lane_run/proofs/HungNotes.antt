@@ -24,6 +24,7 @@ use Rattle.lane_run.proofs.OwnLines.{filter_both, own_on, own_sorted, also-map, 
 -- ---- at most one look of a call at a number
 
 module _ {X : Type 0} (number : X → ℕ) (n : ℕ) where
+  -- numbers that rise stand once at most, and none of them below the first
   none_above : (k : ℕ) (xs : List X) → Rises k (map number xs) → n < k → length (filter (λ x. nat_eq (number x) n) xs) ≡ 0
   none_above k [] rise less = refl
   none_above k (x ∷ xs) rise less =

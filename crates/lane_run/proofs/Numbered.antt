@@ -70,6 +70,7 @@ number_at place k zero (y ∷ xs) x are at = ap (λ z. (place z).number) (sym (s
 number_at place k (suc j) (y ∷ xs) x are at = number_at place (k + 1) j xs x are.1 at ∙ add_later k j
 
 module _ {X : Type 0} (place : X → Place) (l : ℕ) where
+  -- a note that stands at another place isn't counted
   others : (n : ℕ) (x : X) (xs : List X) → is_at place l n x ≡ false → length (filter (is_at place l n) xs) ≡ length (filter (is_at place l n) (x ∷ xs))
   others n x xs not = ap (λ b. length (cond b (x ∷ filter (is_at place l n) xs) (filter (is_at place l n) xs))) (sym not)
 

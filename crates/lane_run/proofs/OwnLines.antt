@@ -90,7 +90,7 @@ module _ {X L A : Type 0} {place : X → Place} {l many : ℕ} {xs sorted : List
       let n = noted_at is once j m.0 m.1 in
       let b = holds m.0 n.0 n.1 in
       let before : b.0 ≡ j = omega (arith, b.1, n.2) in
-      subst (λ q. P q j) m.2 (subst (P ((place m.0).label, told m.0)) before b.2)
+      subst (λ q. P q j) m.2 (subst (P ((place m.0).label, told m.0)) {x = b.0} before b.2)
 
   module _ {B : Type 0} (f : A → B) (c : Label) where
     own_numbered : (k : ℕ) (ys : List L) (ns : List X) → AreNumbered place k ns
