@@ -14,13 +14,13 @@ use Rattle.record_text.specs.declared.record.ClockLine.{ClockLine}
 use Rattle.record_text.specs.declared.record.Label.{Label}
 use Rattle.script_text.specs.Actions.{own, wrote}
 use Rattle.script_text.specs.Histories.{AreWrites, ShowsReading}
-use Rattle.script_text.specs.Order.{is_label, IsLabel}
+use Rattle.script_text.specs.Order.{is_label}
 use Rattle.script_text.specs.declared.script.Script.{Script}
 use Rattle.run_history.specs.Promises.{GoesOnClock}
 use Rattle.run_history.specs.Runs.{CallLog, Ending}
 use Rattle.run_history.proofs.Lists.{all_at, map_get}
 use Rattle.run_history.proofs.Shown.{same_items as same_places}
-use Rattle.lane_run.specs.Kept.{IsWriteLeft, WriteNotes}
+use Rattle.lane_run.specs.Kept.{WriteNotes}
 use Rattle.lane_run.specs.Left.{AreLastOf, AreLeft}
 use Rattle.lane_run.specs.Worlds.{WorldOf}
 use Rattle.lane_run.specs.declared.world.WorldPass.{WorldPass}
@@ -35,11 +35,8 @@ writes_from : (lines : List ClockLine) (r : ClockReading) → AreAccepted r (map
     → ((k : ℕ) (line : ClockLine) → slice_get lines k ≡ Some line → ShowsReading line (clock_after r (take (suc k) (map (λ l. l.write) lines))))
     → AreWrites r lines
 writes_from [] r accepted shows = tt
-writes_from (line ∷ lines) r accepted shows = (
-  accepted.0,
-  shows 0 line refl,
-  writes_from lines (after_write r line.write) accepted.1 (λ k l at. shows (suc k) l at),
-)
+writes_from (line ∷ lines) r accepted shows =
+    (accepted.0, shows 0 line refl, writes_from lines (after_write r line.write) accepted.1 (λ k. shows (suc k)))
 
 -- the clock has one list
 all_of_clock : (ns : List WriteNote) → filter (is_of_list place_of_write 0) ns ≡ ns
@@ -71,12 +68,9 @@ module _ {s : Script} {x : WorldOf} {q : WorldPass} {notes sorted : NotesOf} {lo
 
   shows_at : (k : ℕ) (line : ClockLine) → slice_get clock_lines k ≡ Some line → Shows (line.label, line) k
   shows_at = at_line is.writes (writes_once last left) shown Shows (λ n st of.
-      let its = all_at (λ m. IsLabel s m.line.label × IsWriteLeft q (logs m.line.label) m) notes.writes st.0 n (left.seen WriteNotes) st.1 in (
-        its.1.before,
-        its.1.number,
-        ((its.0, its.1.inside.0, its.1.inside.1), its.1.there,
-            subst (λ m. ShowsReading n.line (reading_after (take m seen))) (sym its.1.number ∙ add-one its.1.before) its.1.shows),
-      ))
+      let its = all_at _ notes.writes st.0 n (left.seen WriteNotes) st.1 in
+      let shows = subst (λ m. ShowsReading n.line (reading_after (take m seen))) (sym its.1.number ∙ add-one its.1.before) its.1.shows in
+      (its.1.before, its.1.number, ((its.0, its.1.inside.0, its.1.inside.1), its.1.there, shows)))
 
   -- law: the lines show the writes that were seen
   pub clock_writes : map (λ line. line.write) clock_lines ≡ seen

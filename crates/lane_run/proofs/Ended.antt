@@ -1,63 +1,106 @@
--- The record of what all lanes leave is that of a run.
-use Rattle.std.proofs.Common.{◌≤◌, List, length, sym, subst, refl}
-use Rattle.std.proofs.lemmas.List.{length-map}
-use Rattle.seq_timer.specs.Systems.{AreSystemSteps, first_system, openings}
-use Rattle.base_row.specs.declared.view.Opening.{Opening}
+-- The record of the sorted notes has all that makes a run, and with where its calls stand by rounds and what its lanes promise it is that of a run.
+use Rattle.std.proofs.Common.{List, [], length, sym, refl, ◌∙◌, ◌≤◌, subst}
+use Rattle.std.proofs.lemmas.List.{append-nil, length-map}
 use Rattle.record_text.specs.declared.record.Answer.{Answer}
+use Rattle.record_text.specs.declared.record.ClockLine.{ClockLine}
 use Rattle.record_text.specs.declared.record.Label.{Label}
+use Rattle.record_text.specs.declared.record.ObjectLine.{ObjectLine}
+use Rattle.script_text.specs.Objects.{lines_of_object}
 use Rattle.script_text.specs.declared.script.Script.{Script}
 use Rattle.lane_notes.specs.Notes.{NotesOf}
 use Rattle.lane_notes.specs.Records.{record_from}
 use Rattle.lane_notes.specs.Sorted.{IsSortedFrom}
-use Rattle.lane_notes.proofs.Lists.{length-objects, length-timers}
-use Rattle.run_history.specs.Courses.{clocks_of}
-use Rattle.run_history.specs.Runs.{CallLog, IsEnding, IsRun, Starts, Ending}
-use Rattle.lane_run.specs.Left.{AreByRounds, AreLastOf, AreLeft, ending_of}
+use Rattle.run_history.specs.Runs.{CallLog, Starts, Ending, IsEnding, IsRun}
+use Rattle.lane_run.specs.Kept.{Follows}
+use Rattle.lane_run.specs.Left.{AreLastOf, AreLeft, ending_of, IsRecorded, AreByRounds}
 use Rattle.lane_run.specs.Worlds.{WorldOf}
 use Rattle.lane_run.specs.declared.world.WorldPass.{WorldPass}
-use Rattle.lane_run.proofs.HungLines.{looks_under, skips_under}
-use Rattle.lane_run.proofs.Recorded.{recorded}
+use Rattle.lane_run.proofs.ClockLines.{clock_accepted, clock_few, clock_goes_on, clock_in_span, clock_lines, clock_lines_long, clock_own}
+use Rattle.lane_run.proofs.FiledNotes.{are_filed, filed_notes, receipts_inside}
+use Rattle.lane_run.proofs.HungLines.{looks_own, skips_own, looks_under, skips_under}
+use Rattle.lane_run.proofs.ObjectLines.{object_histories, object_in_span, object_lines_long, object_lines_show, object_own}
+use Rattle.timer_objects.specs.Known.{seen_of}
+use Rattle.seq_timer.specs.Systems.{AreSystemSteps, first_system, openings}
+use Rattle.base_row.specs.declared.view.Opening.{Opening}
+use Rattle.lane_notes.proofs.Lists.{length-objects, length-timers}
+use Rattle.run_history.specs.Courses.{clocks_of}
 
-module _ {s : Script} {x : WorldOf} {q : WorldPass} {notes sorted : NotesOf} {logs : Label → CallLog} {starts : Starts} {answers : List (List Answer)}
-    (last : AreLastOf s x q) (left : AreLeft s q notes logs) (is : IsSortedFrom notes sorted) (rounds : AreByRounds s q logs starts answers) where
+module _ {s : Script} {x : WorldOf} {q : WorldPass} {notes sorted : NotesOf} {logs : Label → CallLog} (last : AreLastOf s x q) (left : AreLeft s q notes logs)
+    (is : IsSortedFrom notes sorted) (answers : List (List Answer)) (starts : Starts) where
   abbrev e : Ending
   e = ending_of (record_from sorted (length s.timers) answers) q logs starts
 
-  -- law: so it has the parts that make a run
-  pub is_ending : IsEnding s e
-  is_ending =
-      let all = recorded last left is answers starts in
-      record {
-        history = subst (λ n. AreSystemSteps s.bases n (first_system (openings (clocks_of s) s.limit)) q.timers.known.seen) (length-map (clocks_of s) _)
-            (subst (λ (o : Opening). AreSystemSteps o.bases (length o.timers) (first_system o.timers) q.timers.known.seen) last.world.timers
-            last.passes.timers.knows.history);
-        sorted = all.sorted;
-        filed = all.filed;
-        entries = all.entries;
-        ledger = rounds.moves e.run;
-        whole = rounds.moves_most;
-        inside = all.inside;
-        clock_laid = record {
-          inside = all.clock_inside;
-          ledger = rounds.clock e.run;
-          most = λ c label. subst (λ n. (logs c).clock.1 ≤ n) (sym all.clock_length) (rounds.clock_most c label);
-        };
-        writes = all.writes;
-        objects_laid = λ i. record {
-          inside = all.objects_inside i;
-          ledger = rounds.objects e.run i;
-          most = λ c label. subst (λ n. ((logs c).objects i).1 ≤ n) (sym (all.objects_length i)) (rounds.objects_most i c label);
-        };
-        object_histories = all.object_histories;
-        spans = all.spans;
-        looks = looks_under last left is answers;
-        skips = skips_under last left is answers;
-        timers = length-timers sorted (length s.timers) answers;
-        objects = length-objects sorted (length s.timers) answers;
-        lanes = rounds.lanes;
-        calls = λ lane joined. rounds.calls e all.follows all.has joined lane;
-      }
+  -- a run with this record goes on from what the last passes have seen, which is all
+  follows : Follows q e
+  follows = record {
+    few = clock_few last left is;
+    timers = ([], sym (append-nil q.timers.known.seen));
+    clock = clock_goes_on last left is e refl;
+    objects = λ i. record {
+      history = seen_of q.objects i;
+      goes_on = record { rest = []; whole = sym (append-nil (seen_of q.objects i)) };
+      lines = object_lines_show last left is answers starts i;
+    };
+  }
 
-  -- law: the record may be left by a run
-  pub is_run : IsRun s e.run
-  is_run = (e, refl, is_ending)
+  -- law: the record of the sorted notes has what the lanes have left
+  pub recorded : IsRecorded s q e
+  recorded = record {
+    sorted = filed_notes last left is answers;
+    filed = are_filed last left is answers;
+    entries = λ c. (left.stand c).shows e follows;
+    inside = receipts_inside last left is answers;
+    follows = follows;
+    has = λ c. record {
+      kept = refl;
+      clock = clock_own last left is c;
+      looks = looks_own last left is answers c;
+      objects = object_own last left is answers c;
+      skips = skips_own last left is answers c;
+    };
+    clock_inside = clock_in_span last left is;
+    clock_length = length-map (clock_lines last left is) (λ (line : ClockLine). line.label) ∙ clock_lines_long last left is;
+    writes = clock_accepted last left is;
+    objects_inside = object_in_span last left is answers;
+    objects_length = λ i. length-map (lines_of_object e.run i) (λ (line : ObjectLine). line.label) ∙ object_lines_long last left is answers i;
+    object_histories = λ i. (object_histories last left is answers starts i).0;
+    spans = λ i. (object_histories last left is answers starts i).1;
+  }
+
+  module _ (rounds : AreByRounds s q logs starts answers) where
+    -- law: so it has the parts that make a run
+    pub is_ending : IsEnding s e
+    is_ending = let all = recorded in record {
+      history = subst (λ n. AreSystemSteps s.bases n (first_system (openings (clocks_of s) s.limit)) q.timers.known.seen) (length-map (clocks_of s) _)
+          (subst (λ (o : Opening). AreSystemSteps o.bases (length o.timers) (first_system o.timers) q.timers.known.seen) last.world.timers
+          last.passes.timers.knows.history);
+      sorted = all.sorted;
+      filed = all.filed;
+      entries = all.entries;
+      ledger = rounds.moves e.run;
+      whole = rounds.moves_most;
+      inside = all.inside;
+      clock_laid = record {
+        inside = all.clock_inside;
+        ledger = rounds.clock e.run;
+        most = λ c label. subst (λ n. (logs c).clock.1 ≤ n) (sym all.clock_length) (rounds.clock_most c label);
+      };
+      writes = all.writes;
+      objects_laid = λ i. record {
+        inside = all.objects_inside i;
+        ledger = rounds.objects e.run i;
+        most = λ c label. subst (λ n. ((logs c).objects i).1 ≤ n) (sym (all.objects_length i)) (rounds.objects_most i c label);
+      };
+      object_histories = all.object_histories;
+      spans = all.spans;
+      looks = looks_under last left is answers;
+      skips = skips_under last left is answers;
+      timers = length-timers sorted (length s.timers) answers;
+      objects = length-objects sorted (length s.timers) answers;
+      lanes = rounds.lanes;
+      calls = λ lane joined. rounds.calls e all.follows all.has joined lane;
+    }
+
+    -- law: the record may be left by a run
+    pub is_run : IsRun s e.run
+    is_run = (e, refl, is_ending)

@@ -96,9 +96,11 @@ module _ {s : Script} {x : WorldOf} {q : WorldPass} {notes sorted : NotesOf} {lo
   each_filed c = each (λ y. (i : ℕ) × (slice_get filed_notes i ≡ Some (record { label = c; note = y }))) (logs c).notes (λ j y at.
       let t = is_told left c j y at in
       let st = stands_permuted notes.entries sorted.entries t.1.0 t.0 is.entries.same t.1.1 in
-      let m = map_get (λ (p : WithReceipt logs). p.0) pairs st.0 t.0 (ap (λ ns. slice_get ns st.0) (are_notes logs sorted.entries each_has) ∙ st.1) in
-      (st.0, at_map (file logs) pairs st.0 m.0 m.1 ∙ ap Some (file_is c j y at m.0 (ap (λ (n : EntryNote). n.label) m.2 ∙ t.2)
-      (t.3 ∙ ap (noted_at y.place) (sym m.2)))))
+      let m = map_get (λ (p : WithReceipt logs). p.0) pairs st.0 t.0 (ap (λ ns. slice_get ns st.0) (are_notes logs sorted.entries each_has) ∙ st.1) in (
+        st.0,
+        at_map (file logs) pairs st.0 m.0 m.1 ∙ ap Some (file_is c j y at m.0 (ap (λ (n : EntryNote). n.label) m.2 ∙ t.2)
+            (t.3 ∙ ap (noted_at y.place) (sym m.2))),
+      ))
 
   shapes : (t : ℕ) → map file_shape (files_on t filed_notes) ≡ map entry_note_shape (filter (is_of_list place_of_entry t) sorted.entries)
   shapes t = files_lines logs t pairs ∙ ap (λ ns. map entry_note_shape (filter (is_of_list place_of_entry t) ns)) (are_notes logs sorted.entries each_has)
@@ -123,9 +125,7 @@ module _ {s : Script} {x : WorldOf} {q : WorldPass} {notes sorted : NotesOf} {lo
   -- law: receipts are of calls of the script, in their calls' spans
   pub receipts_inside : (c : Label) → AllByRecursion (λ y. IsLabel s c × ((logs c).moves.0 ≤ y.place) × (y.place < (logs c).moves.1)) (logs c).notes
   receipts_inside c = each (λ y. IsLabel s c × ((logs c).moves.0 ≤ y.place) × (y.place < (logs c).moves.1)) (logs c).notes (λ j y at.
-      let t = is_told left c j y at in (
-        subst (IsLabel s) t.2 (all_at (λ n. IsLabel s n.label × Unit {0}) notes.entries t.1.0 t.0 (left.seen EntryNotes) t.1.1).0,
-        all_at (λ z. (logs c).moves.0 ≤ z.place) (logs c).notes j y
-            (behind_all (logs c).moves.0 (logs c).moves.0 (logs c).notes (omega arith) (left.stand c).rise) at,
-        all_at (λ z. z.place < (logs c).moves.1) (logs c).notes j y (left.stand c).below at,
-      ))
+      let t = is_told left c j y at in
+      let label = subst (IsLabel s) t.2 (all_at _ notes.entries t.1.0 t.0 (left.seen EntryNotes) t.1.1).0 in
+      let behind = behind_all (logs c).moves.0 (logs c).moves.0 (logs c).notes (omega arith) (left.stand c).rise in
+      (label, all_at _ (logs c).notes j y behind at, all_at _ (logs c).notes j y (left.stand c).below at))

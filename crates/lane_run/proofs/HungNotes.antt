@@ -24,6 +24,7 @@ use Rattle.lane_run.proofs.OwnLines.{filter_both, own_on, own_sorted, also-map, 
 -- ---- at most one look of a call at a number
 
 module _ {X : Type 0} (number : X → ℕ) (n : ℕ) where
+  -- numbers that rise stand once at most, and none of them below the first
   none_above : (k : ℕ) (xs : List X) → Rises k (map number xs) → n < k → length (filter (λ x. nat_eq (number x) n) xs) ≡ 0
   none_above k [] rise less = refl
   none_above k (x ∷ xs) rise less =
@@ -93,16 +94,15 @@ module _ {U A : Type 0} (place : U → Place) (thing : U → A) where
             ∙ ap (λ ys. at_number k (u ∷ here) ++ ys) (sym (lower_hangs (k + 1) m u us (omega (arith, same))))) (IsPermutation-refl all)
         | false ↦ λ not.
             let more = strictly from (λ e. eqb-false (place u).number k not (sym e)) in
-            IsPermutation-trans (at_number k here ++ hung (k + 1) m (u ∷ us)) (at_number k here ++ shape u ∷ rest) all
-            (IsPermutation-append_right (at_number k here) (hung (k + 1) m (u ∷ us)) (shape u ∷ rest)
-            (one_hangs (k + 1) m u us (omega (arith, more)) (omega (arith, below)))) (IsPermutation-middle (at_number k here) (shape u) rest)
+            IsPermutation-trans _ _ _
+            (IsPermutation-append_right (at_number k here) _ _ (one_hangs (k + 1) m u us (omega (arith, more)) (omega (arith, below))))
+            (IsPermutation-middle (at_number k here) (shape u) rest)
       ] refl
 
   all_hang : (m : ℕ) (us : List U) → AllByRecursion (λ u. (1 ≤ (place u).number) × ((place u).number < 1 + m)) us → IsPermutation (hung 1 m us) (map shape us)
   all_hang m [] inside = subst (λ ys. IsPermutation ys []) (sym (none_hang 1 m)) (IsPermutation-refl [])
   all_hang m (u ∷ us) inside =
-      IsPermutation-trans (hung 1 m (u ∷ us)) (shape u ∷ hung 1 m us) (map shape (u ∷ us)) (one_hangs 1 m u us inside.0.0 inside.0.1)
-      (IsPermutation-cons (shape u) (hung 1 m us) (map shape us) (all_hang m us inside.1))
+      IsPermutation-trans _ _ _ (one_hangs 1 m u us inside.0.0 inside.0.1) (IsPermutation-cons (shape u) _ _ (all_hang m us inside.1))
 
   module _ {N L S : Type 0} (line : N → List U → L) (of : L → List S) (label : S → Label) (shown : S → A)
       (tells : (k : ℕ) (n : N) (us : List U) → map {B = Label × (ℕ × A)} (λ x. (label x, (k, shown x))) (of (line n us)) ≡ at_number k us) where
@@ -124,16 +124,14 @@ module _ {U A : Type 0} (place : U → Place) (thing : U → A) where
         let f = filter_stands_in (is_of_list place l) sorted u (p, at) in
         inside u (stood_before xs sorted f.0.0 u is.same f.0.1) (eqb-true (place u).list l f.1))))
 
-  own_shapes : (c : Label) (us : List U) → of_call c (map shape us) ≡ map (λ u. ((place u).number, thing u)) (filter (λ u. is_label c (place u).label) us)
-  own_shapes c us = told_of (λ vs. of_call c (map shape vs)) (λ u. is_label c (place u).label) (λ u. ((place u).number, thing u)) refl
-      (λ u vs. sym (also-map (is_label c (place u).label) (λ e. e.1) (shape u) (filter (λ e. is_label c e.0) (map shape vs)) refl)) us
-
   -- law: those of a call are its notes on the list, in some order
   pub hung_own : (l : ℕ) (c : Label) {xs sorted : List U} → IsSortedOf place xs sorted
       → IsPermutation (of_call c (map shape (filter (is_of_list place l) sorted))) (map (λ u. ((place u).number, thing u)) (own_on place l c xs))
   hung_own l c {xs = xs} {sorted = sorted} is =
-      subst (λ ys. IsPermutation ys (map (λ u. ((place u).number, thing u)) (own_on place l c xs))) (sym (own_shapes c (filter (is_of_list place l) sorted)))
-      (own_sorted l c (λ u. ((place u).number, thing u)) is)
+      let told : U → ℕ × A = λ u. ((place u).number, thing u) in
+      subst (λ ys. IsPermutation ys (map told (own_on place l c xs))) (sym (told_of (λ vs. of_call c (map shape vs)) (λ u. is_label c (place u).label) told refl
+      (λ u vs. sym (also-map (is_label c (place u).label) (λ e. e.1) (shape u) (filter (λ e. is_label c e.0) (map shape vs)) refl))
+      (filter (is_of_list place l) sorted))) (own_sorted l c told is)
 
 -- ---- the labels under a line
 

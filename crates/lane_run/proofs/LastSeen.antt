@@ -8,16 +8,14 @@ use Rattle.std.proofs.lemmas.List.{get_or_past, length-map}
 use Rattle.std.proofs.lemmas.Option.{same_Some}
 use Rattle.clock_cell.specs.Views.{writes}
 use Rattle.pass_names.specs.Counts.{count, one_if}
-use Rattle.pass_names.specs.Passes.{within, is_place}
+use Rattle.pass_names.specs.Passes.{within}
 use Rattle.seq_timer.specs.Systems.{after_entry, AreSystemSteps, entries_of, System}
 use Rattle.seq_timer.specs.declared.system.TimerEntry.{TimerEntry}
 use Rattle.base_row.specs.declared.view.Opening.{Opening}
 use Rattle.timer_objects.specs.Known.{seen_of}
-use Rattle.timer_objects.specs.Cells.{opened_cell}
 use Rattle.lane_notes.specs.Notes.{NotesOf}
 use Rattle.lane_notes.specs.Sorted.{place_of_entry, place_of_object, place_of_write, IsSortedFrom}
 use Rattle.lane_notes.specs.declared.notes.EntryNote.{EntryNote}
-use Rattle.lane_notes.specs.declared.notes.WriteNote.{WriteNote}
 use Rattle.lane_notes.proofs.Rising.{is_at}
 use Rattle.lane_notes.proofs.Standing.{HasPlace, map_stands_in, stands_in_filter, stands_in_map, stands_permuted, stood_before, filter_stands_in}
 use Rattle.record_text.specs.declared.record.Entry.{Entry}
@@ -29,14 +27,13 @@ use Rattle.run_history.specs.Courses.{clocks_of}
 use Rattle.run_history.specs.Receipts.{IsMade, Noted, receipt}
 use Rattle.run_history.specs.Runs.{CallLog}
 use Rattle.run_history.proofs.Labels.{label_itself, same_label}
-use Rattle.run_history.proofs.Lists.{all_at, each}
+use Rattle.run_history.proofs.Lists.{all_at}
 use Rattle.lane_run.specs.Kept.{entry_in_note}
 use Rattle.lane_run.specs.Left.{AreLastOf, AreLeft}
 use Rattle.lane_run.specs.Worlds.{WorldOf}
 use Rattle.lane_run.specs.declared.world.WorldPass.{WorldPass}
 use Rattle.run_history.proofs.Shown.{entry_place}
-use Rattle.lane_notes.specs.declared.notes.ObjectNote.{ObjectNote}
-use Rattle.lane_run.proofs.Numbered.{AreEachOnce, count-map, nobody, as_many, lines_are, none_long}
+use Rattle.lane_run.proofs.Numbered.{AreEachOnce, nobody, as_many, lines_are, none_long, once_from}
 use Rattle.lane_notes.specs.Records.{noted_object_lines, noted_timer_lines, record_from, numbered_from}
 use Rattle.record_text.specs.declared.record.Answer.{Answer}
 use Rattle.script_text.specs.Histories.{lines_of_timer}
@@ -102,14 +99,12 @@ module _ {s : Script} {x : WorldOf} {q : WorldPass} (last : AreLastOf s x q) whe
   timer_within : (p : ℕ) (e : TimerEntry) → slice_get q.timers.known.seen p ≡ Some e → e.timer < length s.timers
   timer_within p e at = subst (λ n. e.timer < n) many_timers (entry_within _ _ _ q.timers.known.seen p e last.passes.timers.knows.history at)
 
-  pub many_objects : length x.objects.decls ≡ length s.timers
-  many_objects = ap length last.world.decls ∙ length-map s.timers _
+  pub many_objects : length q.objects.knows.opening ≡ length s.timers
+  many_objects = ap length last.passes.objects.row.made ∙ length-map x.objects.decls _ ∙ ap length last.world.decls ∙ length-map s.timers _
 
   -- law: no entries were seen of an object that isn't there
   pub objects_past : (i : ℕ) → length s.timers ≤ i → seen_of q.objects i ≡ []
-  objects_past i past = get_or_past q.objects.knows.pass.seen i [] (subst (λ n. n ≤ i)
-      (sym (last.passes.objects.knows.wide ∙ ap length last.passes.objects.row.made ∙ length-map x.objects.decls (opened_cell x.objects.limit) ∙ many_objects))
-      past)
+  objects_past i past = get_or_past q.objects.knows.pass.seen i [] (subst (λ n. n ≤ i) (sym (last.passes.objects.knows.wide ∙ many_objects)) past)
 
   -- law: nor of a timer that isn't there
   pub timers_past : (t : ℕ) → length s.timers ≤ t → receipts.count t q.timers.known.seen ≡ 0
@@ -120,31 +115,25 @@ module _ {s : Script} {x : WorldOf} {q : WorldPass} (last : AreLastOf s x q) whe
   module _ {notes : NotesOf} {logs : Label → CallLog} (left : AreLeft s q notes logs) where
     -- law: each entry of each timer is noted once
     pub entries_once : (t : ℕ) → AreEachOnce place_of_entry t (receipts.count t q.timers.known.seen) notes.entries
-    entries_once t = record {
-      each = λ n. ⊎_elim
-          (λ (less : t < length s.timers). sym (count-map (λ (m : EntryNote). (m.timer, m.number)) (is_place t n) notes.entries)
-          ∙ sym (left.places.timers t n) ∙ (last.passes.timers.knows.whole last.last.timers).once t n (subst (λ m. t < m) (sym many_timers) less))
-          (λ (past : length s.timers ≤ t). ap length (nobody (filter (is_at place_of_entry t n) notes.entries) (λ e st.
-          let f = filter_stands_in (is_at place_of_entry t n) notes.entries e st in
-          let made = note_made left e (has_receipt left e f.0) in
-          absurd (omega (arith, timer_within _ made.step made.there, made.timer, eqb-true e.timer t (and_parts _ _ f.1).0, past))))
-          ∙ sym (ap (λ k. one_if (within n k)) (timers_past t past) ∙ no_number n))
-          (cases_lt t (length s.timers));
-    }
+    entries_once t = ⊎_elim
+        (λ (less : t < length s.timers). once_from _ (left.places.timers t)
+        (λ n. (last.passes.timers.knows.whole last.last.timers).once t n (subst (λ m. t < m) (sym many_timers) less)))
+        (λ (past : length s.timers ≤ t). record {
+          each = λ n. ap length (nobody (filter (is_at place_of_entry t n) notes.entries) (λ e st.
+              let f = filter_stands_in (is_at place_of_entry t n) notes.entries e st in
+              let made = note_made left e (has_receipt left e f.0) in
+              absurd (omega (arith, timer_within _ made.step made.there, made.timer, eqb-true e.timer t (and_parts _ _ f.1).0, past))))
+              ∙ sym (ap (λ k. one_if (within n k)) (timers_past t past) ∙ no_number n);
+        })
+        (cases_lt t (length s.timers))
 
     -- law: each entry of each object is
     pub objects_once : (i : ℕ) → AreEachOnce place_of_object i (length (seen_of q.objects i)) notes.objects
-    objects_once i = record {
-      each = λ n. sym (count-map (λ (m : ObjectNote). (m.object, m.number)) (is_place i n) notes.objects) ∙ sym (left.places.objects i n)
-          ∙ (last.passes.objects.knows.all_entries last.last.objects).once i n;
-    }
+    objects_once i = once_from _ (left.places.objects i) ((last.passes.objects.knows.all_entries last.last.objects).once i)
 
     -- law: each write of the clock is
     pub writes_once : AreEachOnce place_of_write 0 (length (writes q.clock.knows)) notes.writes
-    writes_once = record {
-      each = λ n. sym (count-map (λ (m : WriteNote). (0, m.stamp)) (is_place 0 n) notes.writes) ∙ sym (left.places.clock n)
-          ∙ (last.passes.known.all_entries last.last.clock).once 0 n;
-    }
+    writes_once = once_from _ left.places.clock ((last.passes.known.all_entries last.last.clock).once 0)
 
     -- law: so the record's lines of a timer, and those of an object, are made of its sorted notes
     pub timer_lines_are : {sorted : NotesOf} → IsSortedFrom notes sorted → (answers : List (List Answer)) (t : ℕ)

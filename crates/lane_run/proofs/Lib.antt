@@ -49,7 +49,6 @@ pub mod ClockLines
 pub mod ObjectLines
 pub mod HungNotes
 pub mod HungLines
-pub mod Recorded
 pub mod Ended
 pub mod RunFits
 pub mod Starts

@@ -7,7 +7,7 @@ use Rattle.std.proofs.lemmas.Bool.{and_from, and_left, and_parts, and_right, bot
 use Rattle.std.proofs.lemmas.List.Sorted.{length_permutation}
 use Rattle.std.proofs.lemmas.Option.{same_Some, slice_get_within}
 use Rattle.pass_names.specs.Counts.{count, one_if}
-use Rattle.pass_names.specs.Passes.{within}
+use Rattle.pass_names.specs.Passes.{within, is_place}
 use Rattle.lane_notes.specs.Sorted.{comes_before, is_of_list, IsSortedOf, Place, StandInOrder}
 use Rattle.lane_notes.proofs.Rising.{is_at, strictly}
 use Rattle.lane_notes.proofs.Shelves.{add_later, add_none, each_below-past, get_or-each_below}
@@ -17,7 +17,7 @@ use Rattle.run_history.proofs.Permuted.{filter_permuted}
 use Rattle.lane_notes.specs.Records.{each_below}
 
 -- law: what is counted among things that are made of others
-pub count-map : {X Y : Type 0} (f : X → Y) (p : Y → Bool) (xs : List X) → count p (map f xs) ≡ length (filter (λ x. p (f x)) xs)
+count-map : {X Y : Type 0} (f : X → Y) (p : Y → Bool) (xs : List X) → count p (map f xs) ≡ length (filter (λ x. p (f x)) xs)
 count-map f p [] = refl
 count-map f p (x ∷ xs) =
     let rest = count-map f p xs in
@@ -38,6 +38,14 @@ none_long (x ∷ xs) none = absurd (omega (arith, none))
 -- of a list each number from 1 up to so many stands once among these notes, and no other number
 pub record AreEachOnce {X : Type 0} (place : X → Place) (l many : ℕ) (xs : List X) : Type 0 where
   pub each : (n : ℕ) → length (filter (is_at place l n) xs) ≡ one_if (within n many)
+
+-- law: so it is where they are the places of a pass that has each once
+pub once_from : {X : Type 0} {place : X → Place} {l many : ℕ} {xs : List X} (mine : List (ℕ × ℕ))
+    → ((n : ℕ) → count (is_place l n) mine ≡ count (is_place l n) (map (λ x. ((place x).list, (place x).number)) xs))
+    → ((n : ℕ) → count (is_place l n) mine ≡ one_if (within n many)) → AreEachOnce place l many xs
+once_from {place = place} {l = l} {xs = xs} mine same all = record {
+  each = λ n. sym (count-map (λ x. ((place x).list, (place x).number)) (is_place l n) xs) ∙ sym (same n) ∙ all n;
+}
 
 within_from : (n many : ℕ) → 1 ≤ n → n < 1 + many → one_if (within n many) ≡ 1
 within_from n many some most = ap one_if (and_from _ _ (lt-ltb 0 n (omega (arith, some))) (le-leb n many (omega (arith, most))))
@@ -62,11 +70,7 @@ number_at place k zero (y ∷ xs) x are at = ap (λ z. (place z).number) (sym (s
 number_at place k (suc j) (y ∷ xs) x are at = number_at place (k + 1) j xs x are.1 at ∙ add_later k j
 
 module _ {X : Type 0} (place : X → Place) (l : ℕ) where
-  -- each number of the list from k on below another stands once among these, and no other number
-  record StandOnce (k top : ℕ) (xs : List X) : Type 0 where
-    pub once : (n : ℕ) → k ≤ n → n < top → length (filter (is_at place l n) xs) ≡ 1
-    pub only : (x : X) → HasPlace xs x → (place x).list ≡ l → (k ≤ (place x).number) × ((place x).number < top)
-
+  -- a note that stands at another place isn't counted
   others : (n : ℕ) (x : X) (xs : List X) → is_at place l n x ≡ false → length (filter (is_at place l n) xs) ≡ length (filter (is_at place l n) (x ∷ xs))
   others n x xs not = ap (λ b. length (cond b (x ∷ filter (is_at place l n) xs) (filter (is_at place l n) xs))) (sym not)
 
@@ -80,38 +84,34 @@ module _ {X : Type 0} (place : X → Place) (l : ℕ) where
       (or_right _ _ (and_from _ _ (eq-eqb (place y).list (place x).list (eqb-true (place y).list l at.0 ∙ sym of))
       (or_left _ _ (lt-ltb (place y).number (place x).number (omega (arith, less, eqb-true (place y).number n at.1)))))))
 
-  numbered : (k top : ℕ) (xs : List X) → StandInOrder place xs → StandOnce k top xs → k ≤ top
+  -- where each number from k on below another stands once, and no other number, the notes have the numbers from k on
+  numbered : (k top : ℕ) (xs : List X) → StandInOrder place xs → ((n : ℕ) → k ≤ n → n < top → length (filter (is_at place l n) xs) ≡ 1)
+      → ((x : X) → HasPlace xs x → (place x).list ≡ l → (k ≤ (place x).number) × ((place x).number < top)) → k ≤ top
       → AreNumbered place k (filter (is_of_list place l) xs) × (k + length (filter (is_of_list place l) xs) ≡ top)
-  numbered k top [] order st le =
-      (tt, ⊎_elim (λ (less : k < top). absurd (omega (arith, st.once k (omega arith) less))) (λ (ge : top ≤ k). omega (arith, le, ge)) (cases_lt k top))
-  numbered k top (x ∷ xs) order st le =
+  numbered k top [] order once only le =
+      (tt, ⊎_elim (λ (less : k < top). absurd (omega (arith, once k (omega arith) less))) (λ (ge : top ≤ k). omega (arith, le, ge)) (cases_lt k top))
+  numbered k top (x ∷ xs) order once only le =
       let n = (place x).number in
       let of_list = filter (is_of_list place l) xs in
       elim (nat_eq (place x).list l) as (λ b. nat_eq (place x).list l ≡ b → AreNumbered place k (cond b (x ∷ of_list) of_list)
       × (k + length (cond b (x ∷ of_list) of_list) ≡ top)) [
         | true ↦ λ is.
             let of : (place x).list ≡ l = eqb-true (place x).list l is in
-            let bounds = st.only x (0, refl) of in
-            let here = st.once k (omega arith) (omega (arith, bounds.0, bounds.1)) in
+            let bounds = only x (0, refl) of in
+            let here = once k (omega arith) (omega (arith, bounds.0, bounds.1)) in
             let apart : (m : ℕ) → (n ≡ m → ⊥) → is_at place l m x ≡ false = λ m differ. and_right _ _ (ne_eqb n m differ) in
             let first : n ≡ k = ⊎_elim
-            (λ (more : k < n). absurd (omega (arith, here, others k x xs (apart k (λ e. omega (arith, e, more))),
-            ap length (none_lower k x xs order.0 of more))))
+            (λ (more : k < n). let none = ap length (none_lower k x xs order.0 of more) in
+            absurd (omega (arith, here, none, others k x xs (apart k (λ e. omega (arith, e, more))))))
             (λ (less : n ≤ k). omega (arith, less, bounds.0)) (cases_lt k n) in
             let none = AtMostOne-head (is_at place l k) x xs (and_from _ _ is (eq-eqb n k first)) (omega (arith, here)) in
-            let rest = numbered (k + 1) top xs order.1 (record {
-              once = λ m some less. others m x xs (apart m (λ e. omega (arith, e, first, some))) ∙ st.once m (omega (arith, some)) less;
-              only = λ y s is_of.
-                  let b = st.only y (suc s.0, s.1) is_of in
-                  let differ : k ≡ (place y).number → ⊥ = λ e. both_ways (is_at place l k y)
-                  (all_at (λ z. is_at place l k z ≡ false) xs s.0 y none s.1) (and_from _ _ (eq-eqb (place y).list l is_of) (eq-eqb (place y).number k (sym e))) in
-                  (omega (arith, strictly b.0 differ), b.1);
-            }) (omega (arith, bounds.0, bounds.1)) in
+            let differ : (y : X) → HasPlace xs y → (place y).list ≡ l → k ≡ (place y).number → ⊥ = λ y s is_of e. both_ways (is_at place l k y)
+            (all_at (λ z. is_at place l k z ≡ false) xs s.0 y none s.1) (and_from _ _ (eq-eqb (place y).list l is_of) (eq-eqb (place y).number k (sym e))) in
+            let rest = numbered (k + 1) top xs order.1
+            (λ m some less. others m x xs (apart m (λ e. omega (arith, e, first, some))) ∙ once m (omega (arith, some)) less)
+            (λ y s is_of. let b = only y (suc s.0, s.1) is_of in (omega (arith, strictly b.0 (differ y s is_of)), b.1)) (omega (arith, bounds.0, bounds.1)) in
             ((first, rest.0), omega (arith, rest.1))
-        | false ↦ λ not. numbered k top xs order.1 (record {
-            once = λ m some less. others m x xs (and_left _ _ not) ∙ st.once m some less;
-            only = λ y s. st.only y (suc s.0, s.1);
-          }) le
+        | false ↦ λ not. numbered k top xs order.1 (λ m some less. others m x xs (and_left _ _ not) ∙ once m some less) (λ y s. only y (suc s.0, s.1)) le
       ] refl
 
 -- ---- the sorted notes
@@ -129,11 +129,9 @@ module _ {X : Type 0} {place : X → Place} {l many : ℕ} {xs sorted : List X} 
   at_most_one n = subst (λ m. m ≤ 1) (sym (once.each n)) (one_most (within n many))
 
   all_numbered : AreNumbered place 1 (filter (is_of_list place l) sorted) × (1 + length (filter (is_of_list place l) sorted) ≡ 1 + many)
-  all_numbered = numbered place l 1 (1 + many) sorted is.order (record {
-    once = λ n some less. length_permutation (filter (is_at place l n) xs) (filter (is_at place l n) sorted)
-        (filter_permuted (is_at place l n) xs sorted is.same) ∙ once.each n ∙ within_from n many some less;
-    only = λ x s. number_within x (stood_before xs sorted s.0 x is.same s.1);
-  }) (omega arith)
+  all_numbered = numbered place l 1 (1 + many) sorted is.order
+      (λ n some less. length_permutation (filter (is_at place l n) xs) (filter (is_at place l n) sorted) (filter_permuted (is_at place l n) xs sorted is.same)
+      ∙ once.each n ∙ within_from n many some less) (λ x s. number_within x (stood_before xs sorted s.0 x is.same s.1)) (omega arith)
 
   -- law: they have the numbers from 1 on
   pub are_numbered : AreNumbered place 1 (filter (is_of_list place l) sorted)

@@ -1,11 +1,10 @@
 -- The record's lines of objects are the entries that the last pass has seen of each, each under the label of the call that made it.
 use Rattle.timer_objects.specs.declared.object.Object.TheVariants as objects
 use Rattle.script_text.specs.declared.script.Kind.TheVariants as kinds
-use Rattle.std.proofs.Common.{◌≡◌, ℕ, ◌+◌, ◌-◌, ◌<◌, ◌≤◌, Some, List, [], ◌∷◌, filter, length, map, arith, refl, sym, ap, ◌∙◌, subst, suc}
+use Rattle.std.proofs.Common.{◌≡◌, ℕ, ◌+◌, ◌<◌, ◌≤◌, Some, List, [], ◌∷◌, filter, length, map, arith, refl, sym, ap, ◌∙◌, subst, suc}
 use Rattle.std.specs.List.{slice_get}
 use Rattle.std.proofs.Math.Logic.{⊎_elim}
 use Rattle.std.proofs.lemmas.Bool.{cases_lt}
-use Rattle.std.proofs.lemmas.List.{get_or_past, length-map}
 use Rattle.std.proofs.lemmas.Option.{same_Some}
 use Rattle.counted_row.specs.Views.{StateAfter}
 use Rattle.clock_cell.specs.Views.{writes}
@@ -13,7 +12,7 @@ use Rattle.timer_objects.specs.Cells.{cell_meaning, opened_cell}
 use Rattle.timer_objects.specs.Known.{seen_of}
 use Rattle.timer_objects.specs.declared.cell.ObjectCell.{ObjectCell}
 use Rattle.lane_notes.specs.Notes.{NotesOf}
-use Rattle.lane_notes.specs.Records.{record_from, noted_object_lines, object_line}
+use Rattle.lane_notes.specs.Records.{record_from, object_line}
 use Rattle.lane_notes.specs.Sorted.{is_of_list, IsSortedFrom, place_of_object, place_of_skip}
 use Rattle.lane_notes.proofs.Lists.{object_line_shape, object_note_shape, noted_lines-shown}
 use Rattle.record_text.specs.declared.record.Answer.{Answer}
@@ -22,14 +21,13 @@ use Rattle.record_text.specs.declared.record.ObjectEntry.{ObjectEntry}
 use Rattle.record_text.specs.declared.record.ObjectLine.{ObjectLine}
 use Rattle.script_text.specs.Actions.{made, own}
 use Rattle.script_text.specs.Objects.{IsLegalObject, kind_of, lines_of_object}
-use Rattle.script_text.specs.Order.{is_label, IsLabel}
-use Rattle.script_text.specs.declared.script.Declaration.{Declaration}
+use Rattle.script_text.specs.Order.{is_label}
 use Rattle.script_text.specs.declared.script.Script.{Script}
 use Rattle.run_history.specs.Fits.{AreBehind}
 use Rattle.run_history.specs.Promises.{GoesOnClock}
 use Rattle.run_history.specs.Runs.{CallLog, Ending, Starts}
-use Rattle.run_history.proofs.Lists.{all_at, each, map_get}
-use Rattle.lane_run.specs.Kept.{AreObjectLines, IsObjectLeft, ObjectMove, ObjectNotes, ShowsObjectCall, made_on}
+use Rattle.run_history.proofs.Lists.{all_at, map_get}
+use Rattle.lane_run.specs.Kept.{AreObjectLines, ObjectMove, ObjectNotes, ShowsObjectCall, made_on}
 use Rattle.lane_run.specs.Left.{AreLastOf, AreLeft, ending_of, span_of}
 use Rattle.lane_run.specs.Worlds.{WorldOf, decl_as}
 use Rattle.lane_run.specs.declared.world.WorldPass.{WorldPass}
@@ -40,9 +38,9 @@ use Rattle.record_text.specs.declared.record.ClockLine.{ClockLine}
 use Rattle.record_text.specs.declared.record.RunRecord.{RunRecord}
 use Rattle.script_text.specs.Histories.{clock_of}
 use Rattle.script_text.specs.declared.script.Kind.{Kind}
-use Rattle.lane_notes.proofs.Shelves.{add_later, add_none, each_below-past}
+use Rattle.lane_notes.proofs.Shelves.{add_later, add_none}
 use Rattle.lane_run.proofs.ClockLines.{clock_goes_on}
-use Rattle.lane_run.proofs.LastSeen.{many_objects, objects_once, object_lines_are}
+use Rattle.lane_run.proofs.LastSeen.{many_objects, objects_once, object_lines_are, objects_past}
 use Rattle.lane_run.proofs.ObjectSeen.{fd_kind, leads_from, legal, posix_kind}
 use Rattle.lane_run.proofs.OwnLines.{at_line, InSpan, lines_long, own_lines, ShowNotes, told_of}
 
@@ -57,12 +55,10 @@ lines_from clock spans k [] [] long at = tt
 lines_from clock spans k [] (line ∷ lines) long at = absurd (omega (arith, long))
 lines_from clock spans k (h ∷ hs) [] long at = absurd (omega (arith, long))
 lines_from clock spans k (h ∷ hs) (line ∷ lines) long at =
-    let first = at 0 h line refl refl in (
-      first.0,
-      ap spans (add_none k) ∙ first.1,
-      lines_from clock spans (k + 1) hs lines (omega (arith, long)) (λ j g l at_h at_l.
-          let later = at (suc j) g l at_h at_l in (later.0, ap spans (add_later k j) ∙ later.1)),
-    )
+    let first = at 0 h line refl refl in
+    let rest = lines_from clock spans (k + 1) hs lines (omega (arith, long)) (λ j g l at_h at_l.
+    let later = at (suc j) g l at_h at_l in (later.0, ap spans (add_later k j) ∙ later.1)) in
+    (first.0, ap spans (add_none k) ∙ first.1, rest)
 
 -- spans of calls that lead on follow one another
 behind_leads : (clock : List ClockLine) (spans : ℕ → ℕ × ℕ) (k : ℕ) (from to : ObjectCell) (hs : List ObjectMove) (lines : List ObjectLine)
@@ -91,6 +87,21 @@ legal_lines s r i hs cell spans are (kinds.Posix base) leads =
 legal_lines s r i hs cell spans are (kinds.Fd base) leads =
     legal fd_kind r.clock spans 1 (fd_opening (clock_of s i) base s.limit) 0 cell hs (lines_of_object r i) leads are
 
+-- the entries that were seen of an object lead on from where its declaration opens it
+object_leads : {s : Script} {x : WorldOf} {q : WorldPass} → AreLastOf s x q → (i : ℕ)
+    → (cell : ObjectCell) × Leads cell_meaning (opened_cell s.limit (decl_as (kind_of s i) (clock_of s i))) (seen_of q.objects i) cell
+object_leads {s = s} {x = x} {q = q} last i = ⊎_elim
+    (λ (there : i < length s.timers).
+    let c = last.passes.objects.knows.legal i (subst (λ n. i < n) (sym (many_objects last)) there) in (
+      c.0,
+      leads_from s x last.world i (seen_of q.objects i) c.0
+          (subst (λ o. StateAfter cell_meaning o i (seen_of q.objects i) c.0) last.passes.objects.row.made c.1) (kind_of s i) refl,
+    ))
+    (λ (past : length s.timers ≤ i).
+    let opened = opened_cell s.limit (decl_as (kind_of s i) (clock_of s i)) in
+    (opened, subst (λ hs. Leads cell_meaning opened hs opened) (sym (objects_past last i past)) refl))
+    (cases_lt i (length s.timers))
+
 -- ---- the record's lines
 
 module _ {s : Script} {x : WorldOf} {q : WorldPass} {notes sorted : NotesOf} {logs : Label → CallLog} (last : AreLastOf s x q) (left : AreLeft s q notes logs)
@@ -98,7 +109,8 @@ module _ {s : Script} {x : WorldOf} {q : WorldPass} {notes sorted : NotesOf} {lo
   abbrev r : RunRecord
   r = record_from sorted (length s.timers) answers
 
-  shown : (i : ℕ) → ShowNotes place_of_object (λ y. y.label) (λ y. y.entry) (λ n. n.entry) (lines_of_object r i) (filter (is_of_list place_of_object i) sorted.objects)
+  shown : (i : ℕ) → ShowNotes place_of_object (λ y. y.label) (λ y. y.entry) (λ n. n.entry) (lines_of_object r i)
+      (filter (is_of_list place_of_object i) sorted.objects)
   shown i = record {
     same = ap (map object_line_shape) (object_lines_are last left is answers i)
         ∙ noted_lines-shown place_of_skip object_line place_of_object i sorted.objects sorted.skips object_line_shape object_note_shape (λ n us. refl);
@@ -115,11 +127,9 @@ module _ {s : Script} {x : WorldOf} {q : WorldPass} {notes sorted : NotesOf} {lo
 
   shows_at : (i j : ℕ) (line : ObjectLine) → slice_get (lines_of_object r i) j ≡ Some line → Shows i (line.label, line.entry) j
   shows_at i = at_line is.objects (objects_once last left i) (shown i) (Shows i) (λ n st of.
-      let its = all_at (λ o. IsLabel s o.label × IsObjectLeft q (logs o.label) o) notes.objects st.0 n (left.seen ObjectNotes) st.1 in (
-        its.1.before,
-        its.1.number,
-        subst (λ k. Shows k (n.label, n.entry) its.1.before) of ((its.0, its.1.inside.0, its.1.inside.1), (its.1.step, its.1.there, its.1.shows)),
-      ))
+      let its = all_at _ notes.objects st.0 n (left.seen ObjectNotes) st.1 in
+      let shows : Shows n.object (n.label, n.entry) its.1.before = ((its.0, its.1.inside.0, its.1.inside.1), (its.1.step, its.1.there, its.1.shows)) in
+      (its.1.before, its.1.number, subst (λ k. Shows k (n.label, n.entry) its.1.before) of shows))
 
   -- law: each is of a call of the script, in the call's span
   pub object_in_span : (i n : ℕ) (c : Label) → slice_get (map (λ line. line.label) (lines_of_object r i)) n ≡ Some c
@@ -143,28 +153,14 @@ module _ {s : Script} {x : WorldOf} {q : WorldPass} {notes sorted : NotesOf} {lo
     -- law: they show the entries, with their spans
     pub object_lines_show : (i : ℕ) → AreObjectLines r.clock (e.spans i) 1 (seen_of q.objects i) (lines_of_object r i)
     object_lines_show i = lines_from r.clock (e.spans i) 1 (seen_of q.objects i) (lines_of_object r i) (object_lines_long i) (λ j h line at_h at_l.
-        let its = (shows_at i j line at_l).1 in (
-          subst (λ (g : ObjectMove). ShowsObjectCall r.clock g.call.call g.reply line.entry) (same_Some its.0 h (sym its.1 ∙ at_h))
-              (its.2 e (clock_goes_on last left is e refl)),
-          ap (λ n. span_of (slice_get (seen_of q.objects i) n)) {y = j} (omega arith) ∙ ap span_of at_h,
-        ))
+        let its = (shows_at i j line at_l).1 in
+        let shows = subst (λ (g : ObjectMove). ShowsObjectCall r.clock g.call.call g.reply line.entry) (same_Some its.0 h (sym its.1 ∙ at_h))
+        (its.2 e (clock_goes_on last left is e refl)) in
+        (shows, ap (λ n. span_of (slice_get (seen_of q.objects i) n)) {y = j} (omega arith) ∙ ap span_of at_h))
 
     -- law: each object's lines are a history that such an object gives, and the spans of its entries follow one another
     pub object_histories : (i : ℕ) → IsLegalObject s r i (kind_of s i) × AreBehind (e.spans i) 1 0 (lines_of_object r i)
-    object_histories i = ⊎_elim
-        (λ (there : i < length s.timers).
-        let made_is = last.passes.objects.row.made in
-        let c = last.passes.objects.knows.legal i (subst (λ n. i < n) (sym (ap length made_is ∙ length-map x.objects.decls _ ∙ many_objects last)) there) in
-        let leads = leads_from s x last.world i (seen_of q.objects i) c.0 (subst (λ o. StateAfter cell_meaning o i (seen_of q.objects i) c.0) made_is c.1)
-        (kind_of s i) refl in (
-          legal_lines s r i (seen_of q.objects i) c.0 (e.spans i) (object_lines_show i) (kind_of s i) leads,
-          behind_leads r.clock (e.spans i) 1 (opened_cell s.limit (decl_as (kind_of s i) (clock_of s i))) c.0 (seen_of q.objects i) (lines_of_object r i)
-              leads (object_lines_show i),
-        ))
-        (λ (past : length s.timers ≤ i).
-        let none = each_below-past (λ j. noted_object_lines j sorted.objects sorted.skips) (length s.timers) i [] past in (
-          subst (IsLegalObject s r i) (sym (get_or_past (map (λ (d : Declaration). d.kind) s.timers) i _
-              (subst (λ n. n ≤ i) (sym (length-map s.timers (λ (d : Declaration). d.kind))) past))) none,
-          subst (AreBehind (e.spans i) 1 0) (sym none) tt,
-        ))
-        (cases_lt i (length s.timers))
+    object_histories i =
+        let c = object_leads last i in
+        let behind = behind_leads r.clock (e.spans i) 1 _ c.0 (seen_of q.objects i) (lines_of_object r i) c.1 (object_lines_show i) in
+        (legal_lines s r i (seen_of q.objects i) c.0 (e.spans i) (object_lines_show i) (kind_of s i) c.1, behind)

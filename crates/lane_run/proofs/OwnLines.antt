@@ -59,9 +59,8 @@ pub own_sorted : {X Y : Type 0} {place : X → Place} (l : ℕ) (c : Label) (tol
     → IsPermutation (map told (filter (λ n. is_label c (place n).label) (filter (is_of_list place l) sorted))) (map told (own_on place l c xs))
 own_sorted {X = X} {place = place} l c told {xs = xs} {sorted = sorted} is =
     let own : X → Bool = λ n. is_label c (place n).label in
-    IsPermutation-map told (filter own (filter (is_of_list place l) sorted)) (own_on place l c xs)
-    (subst (λ ys. IsPermutation ys (own_on place l c xs)) (sym (turn_filters own (is_of_list place l) sorted))
-    (filter_permuted (is_of_list place l) (filter own sorted) (filter own xs) (filter_permuted own sorted xs (IsPermutation-sym xs sorted is.same))))
+    IsPermutation-map told _ _ (subst (λ ys. IsPermutation ys (own_on place l c xs)) (sym (turn_filters own (is_of_list place l) sorted))
+    (filter_permuted (is_of_list place l) _ _ (filter_permuted own sorted xs (IsPermutation-sym xs sorted is.same))))
 
 -- ---- lines that show the sorted notes of a list
 
@@ -74,7 +73,8 @@ pub record ShowNotes {X L A : Type 0} (place : X → Place) (label : L → Label
   pub same : map {B = Label × A} (λ y. (label y, thing y)) lines ≡ map {B = Label × A} (λ n. ((place n).label, told n)) ns
 
 module _ {X L A : Type 0} {place : X → Place} {l many : ℕ} {xs sorted : List X} (is : IsSortedOf place xs sorted) (once : AreEachOnce place l many xs)
-    {label : L → Label} {thing : L → A} {told : X → A} {lines : List L} (show : ShowNotes place label thing told lines (filter (is_of_list place l) sorted)) where
+    {label : L → Label} {thing : L → A} {told : X → A} {lines : List L}
+    (show : ShowNotes place label thing told lines (filter (is_of_list place l) sorted)) where
   -- law: there are as many as numbers
   pub lines_long : length lines ≡ many
   lines_long = sym (length-map {B = Label × A} lines (λ y. (label y, thing y))) ∙ ap length show.same
@@ -90,7 +90,7 @@ module _ {X L A : Type 0} {place : X → Place} {l many : ℕ} {xs sorted : List
       let n = noted_at is once j m.0 m.1 in
       let b = holds m.0 n.0 n.1 in
       let before : b.0 ≡ j = omega (arith, b.1, n.2) in
-      subst (λ q. P q j) m.2 (subst (P ((place m.0).label, told m.0)) before b.2)
+      subst (λ q. P q j) m.2 (subst (P ((place m.0).label, told m.0)) {x = b.0} before b.2)
 
   module _ {B : Type 0} (f : A → B) (c : Label) where
     own_numbered : (k : ℕ) (ys : List L) (ns : List X) → AreNumbered place k ns
@@ -112,6 +112,5 @@ module _ {X L A : Type 0} {place : X → Place} {l many : ℕ} {xs sorted : List
     own_lines items rise noted =
         same_risen (own label (λ y. f (thing y)) c 1 lines) items
         (subst (λ ys. IsPermutation ys items) (sym (own_numbered 1 lines (filter (is_of_list place l) sorted) (are_numbered is once) show.same))
-        (subst (IsPermutation (map (λ (n : X). ((place n).number, f (told n))) (filter (λ n. is_label c (place n).label) (filter (is_of_list place l) sorted)))) noted
-        (own_sorted l c (λ (n : X). ((place n).number, f (told n))) is)))
+        (subst (IsPermutation _) noted (own_sorted l c (λ (n : X). ((place n).number, f (told n))) is)))
         (own_rises label (λ y. f (thing y)) c 1 lines) (rise_in 1 items rise)
