@@ -24,11 +24,11 @@ use Rattle.run_history.specs.Receipts.{Noted, Rises}
 use Rattle.run_history.specs.Runs.{course_of, Ending, IsJoined, moves_spans}
 use Rattle.run_history.proofs.Kept.{IsKept}
 use Rattle.lane_run.specs.Called.{LaneOf, with_done}
-use Rattle.lane_run.specs.Kept.{Follows, IsLookNote, IsNextCall, IsObjectNote, IsSkipNote, KeepsCall, log_of, seen_by, SeesOn}
+use Rattle.lane_run.specs.Kept.{Follows, IsNextCall, KeepsCall, log_of, seen_by, SeesOn}
 use Rattle.lane_run.specs.Worlds.{WorldOf}
 use Rattle.lane_run.specs.declared.world.WorldPass.{WorldPass}
 use Rattle.lane_run.proofs.CallKept.{no_places, notes_of, notes_of-bear, places_added, promised_from, stand_from, with_done-joins}
-use Rattle.lane_run.proofs.Parts.{IsNoteIn, IsPart, object_place}
+use Rattle.lane_run.proofs.Parts.{IsPart, object_place}
 use Rattle.lane_run.proofs.PartLists.{each_weaker, rises_lower}
 
 -- ---- the call
