@@ -1,12 +1,9 @@
 -- The callbacks of timers by themselves, behind the claims that they are run for.
-use Rattle.std.proofs.Common.{◌≡◌, ◌≤◌, ◌<◌, ℕ, inl, inr, Bool, true, false, not, ◌&&◌, is_some, nat_eq, if◌then◌else◌, ◌^◌, IsSome, None, Some, option_map, zero, suc, List, [], ◌∷◌, ◌++◌, length, map, arith, refl, sym, ap, ◌∙◌, subst}
-use Rattle.std.specs.List.{AllByRecursion}
-use Rattle.std.proofs.lemmas.Bool.{eqb-true}
+use Rattle.std.proofs.Common.{◌≡◌, ◌≤◌, ℕ, inl, inr, Bool, false, not, ◌&&◌, is_some, nat_eq, if◌then◌else◌, ◌^◌, IsSome, None, Some, zero, suc, List, [], ◌∷◌, ◌++◌, map, arith, refl, sym, ap, ◌∙◌, subst}
 use Rattle.std.proofs.lemmas.List.{append-nil}
 use Rattle.ktime.specs.Readings.{ClockReading}
 use Rattle.ktime.specs.declared.clock_id.ClockId.{ClockId}
 use Rattle.ktime.specs.declared.mode.Mode.TheVariants as modes
-use Rattle.pass_names.specs.Passes.{Begins}
 use Rattle.seq_timer.specs.Histories as seq
 use Rattle.seq_timer.specs.Histories.{Holds}
 use Rattle.seq_timer.specs.Steps.{after, Timer}
@@ -33,40 +30,30 @@ use Rattle.hr_timers.specs.declared.answer.StartAnswer.TheVariants as starts
 use Rattle.hr_timers.specs.declared.numbers.ClaimNumbers.{ClaimNumbers}
 use Rattle.expire_pass.specs.Handlers.{asks}
 use Rattle.expire_pass.specs.declared.handler.Restart.{Restart}
-use Rattle.expire_pass.specs.declared.log.Noted.TheVariants as noteds
 use Rattle.expire_pass.specs.declared.log.Receipt.{Receipt}
 use Rattle.timer_objects.specs.Callbacks.{forward_receipt, look_receipt, RunsCallback, start_receipt}
-use Rattle.timer_objects.specs.Known.{ObjectsPass, seen_of}
-use Rattle.timer_objects.specs.declared.log.ObjectReceipt.{ObjectReceipt}
 use Rattle.record_text.specs.declared.record.CallbackReply.TheVariants as replies
 use Rattle.record_text.specs.declared.record.CallbackReply.{CallbackReply}
-use Rattle.record_text.specs.declared.record.ClockLine.{ClockLine}
 use Rattle.record_text.specs.declared.record.Entry.TheVariants as entries
 use Rattle.record_text.specs.declared.record.Entry.{Entry}
 use Rattle.record_text.specs.declared.record.Label.{Label}
 use Rattle.record_text.specs.declared.record.Restart as line_restart
-use Rattle.script_text.specs.Actions.{Action, Entered, Looked, looked, Made, made, numbers_of_object, Skipped, skipped, wrote, Wrote}
+use Rattle.script_text.specs.Actions.{Action, Entered, Looked, made}
 use Rattle.script_text.specs.Told.{IsBelowLimit, observed}
-use Rattle.script_text.specs.Histories.{reading_at}
-use Rattle.script_text.specs.Objects.{kind_of, present}
-use Rattle.script_text.specs.Starts.{Arming, arming_actions}
+use Rattle.script_text.specs.Objects.{kind_of}
+use Rattle.script_text.specs.Starts.{Arming}
 use Rattle.script_text.specs.declared.script.Callback.TheVariants as callbacks
 use Rattle.script_text.specs.declared.script.Callback.{Callback}
 use Rattle.script_text.specs.declared.script.Kind.TheVariants as kinds
 use Rattle.script_text.specs.declared.script.Script.{Script}
 use Rattle.lane_notes.specs.Entries.{entry_notes, look_noted, look_notes}
-use Rattle.lane_notes.specs.declared.notes.LookNote.{LookNote}
 use Rattle.run_history.specs.Calls.{IsBody, IsCallback}
-use Rattle.run_history.specs.Courses.{clocks_of, Course, Fired}
-use Rattle.run_history.specs.Promises as promises
+use Rattle.run_history.specs.Courses.{clocks_of}
 use Rattle.run_history.specs.Receipts.{count, Noted, receipt}
-use Rattle.run_history.specs.Runs.{course_of, Ending, IsJoined}
-use Rattle.run_history.specs.Traces.{all_entered}
-use Rattle.run_history.specs.Truths.{IsClaimSpan, IsObjectPoint, Saw}
-use Rattle.run_history.proofs.Expires.{ReplyHolds}
+use Rattle.run_history.specs.Runs.{course_of}
 use Rattle.run_history.proofs.PassState.{saw_from, state_seen}
 use Rattle.run_history.proofs.Promise.{seen_first}
-use Rattle.lane_run.specs.Kept.{entry_in_note, FollowsObject, looks_on}
+use Rattle.lane_run.specs.Kept.{entry_in_note}
 use Rattle.lane_run.specs.Worlds.{callback_of}
 use Rattle.lane_run.proofs.Entering.{enters_along, enters_none, EntersNotes, stamp_counts}
 use Rattle.lane_run.proofs.SeenMore.{begins_same}
@@ -211,8 +198,8 @@ module _ (s : Script) (o : Opening) (is : o ≡ opening_of s.bases (clocks_of s)
           (along.are ∙ ap (forward_in_receipt c.timer reading.stamp interval) (sym f.fits.2)) logs refl refl
           (λ finish rearmed. (inl (number, passed_by, expires, refl), ap asks run.1))
   callback_kept callbacks.Cancels kind run =
-      looked_kept events.Cancel (observations.Running c.generation) (replies.Running c.generation) kind run.0.cancels.made refl refl run.0.receipt run.0.cancels.fits.1
-      run.0.cancels.fits.0 tt (λ finish rearmed. ((run.0.stamp, refl), ap asks run.1))
+      looked_kept events.Cancel (observations.Running c.generation) (replies.Running c.generation) kind run.0.cancels.made refl refl run.0.receipt
+      run.0.cancels.fits.1 run.0.cancels.fits.0 tt (λ finish rearmed. ((run.0.stamp, refl), ap asks run.1))
   callback_kept (callbacks.Starts ns asked) kind run = begins_kept run.0.answer run.0.starts run.0.runs run.0.receipt
     where
       begins_kept : (answer : StartAnswer) → (f : StartsTimer o v w c.timer modes.Rel ns asked reading answer)

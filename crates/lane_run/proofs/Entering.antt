@@ -1,5 +1,5 @@
 -- Entries that a call makes of a timer, as receipts: where they stand in what its pass has seen, and the record's entries that show them.
-use Rattle.std.proofs.Common.{◌≡◌, ℕ, ◌+◌, suc, is_some, unwrap_or, Bool, true, false, ◌&&◌, not, nat_lt, if◌then◌else◌, List, [], ◌∷◌, ◌++◌, length, map, arith, refl, sym, ap, ◌∙◌, subst}
+use Rattle.std.proofs.Common.{◌≡◌, ℕ, ◌+◌, suc, is_some, unwrap_or, Bool, List, [], ◌∷◌, ◌++◌, length, map, arith, refl, sym, ap, ◌∙◌, subst}
 use Rattle.std.specs.List.{AllByRecursion}
 use Rattle.std.proofs.lemmas.Grind.{common_steps}
 use Rattle.std.proofs.lemmas.Bool.Decides.{nat_tests}
@@ -9,10 +9,8 @@ use Rattle.ktime.specs.declared.clock_id.ClockId.{ClockId}
 use Rattle.pass_names.specs.Passes.{Begins, places}
 use Rattle.seq_timer.specs.declared.event.Event.TheVariants as events
 use Rattle.seq_timer.specs.declared.event.Event.{Event}
-use Rattle.seq_timer.specs.declared.event.Rearmed.TheVariants as rearmings
 use Rattle.seq_timer.specs.declared.event.Reply.TheVariants as replies
 use Rattle.seq_timer.specs.declared.system.TimerEntry.{TimerEntry}
-use Rattle.seq_timer.specs.Histories as histories
 use Rattle.seq_timer.specs.Steps.{Timer, after, now_of, rearmed_by, reply_to, started}
 use Rattle.seq_timer.specs.Systems.{entries_of, openings}
 use Rattle.seq_timer.specs.Tables.{timer_at}
@@ -109,8 +107,7 @@ enters-append {u = u} {v = v} {w = w} {xs = xs} {ys = ys} one two = record {
       (begins_length one.seen) (begins_length two.seen);
   mine = two.mine ∙ rw (one.mine, map-append place_of, append_assoc) refl;
   shows = λ r order later is so. All-append (ShowsEntry r order) xs ys
-      (one.shows r order (two.seen.rest ++ later) (is ∙ ap (λ zs. zs ++ later) two.seen.whole ∙ append_assoc v.seen two.seen.rest later) so)
-      (two.shows r order later is so);
+      (one.shows r order (two.seen.rest ++ later) (is ∙ rw (two.seen.whole, append_assoc) refl) so) (two.shows r order later is so);
 }
 
 -- a pass that only looked
@@ -180,12 +177,9 @@ pub enters_once : (IsSo : List ClockLine → Type 0) (o : Opening) (clocks : Lis
     → MadeAt v w t x (record { event = e; reply = reply_to (timer_then o x t) e } ∷ [])
     → ((clock : List ClockLine) → IsSo clock → HasReading clock e) → number ≡ (timer_then o x t).stamp + 1 → line_entry (timer_then o x t) e ≡ entry
     → (n : Noted) × EntersNotes IsSo v w (n ∷ []) × (receipt n ≡ (t, (number, entry)))
-enters_once IsSo o clocks limit {v = v} {w = w} {t = t} {x = x} e {number = number} {entry = entry} is made reads numbered shown =
+enters_once IsSo o clocks limit {t = t} e {number = number} {entry = entry} is made reads numbered shown =
     let along = enters_along IsSo o clocks limit (e ∷ []) is made (λ clock so. (reads clock so, tt)) in
-    let are : map receipt along.notes ≡ (t, (number, entry)) ∷ [] =
-    along.are ∙ ap (λ n. (t, (n, line_entry (timer_then o x t) e)) ∷ []) (sym numbered) ∙ ap (λ s. (t, (number, s)) ∷ []) shown in
-    let one = single along.notes (t, (number, entry)) are in
-    (one.0, subst (EntersNotes IsSo v w) one.1 along.enters, one.2)
+    let one = single along.notes (t, (number, entry)) (rw (numbered, ← shown) along.are) in (one.0, rw one.1 at along.enters, one.2)
 
 -- law: a call that made no entry of its timer saw more, and made none
 pub looks_made : {v w : KnownOfTimers} {t : ℕ} {at : List TimerEntry} → MadeAt v w t at [] → Begins v.seen w.seen × (w.mine ≡ v.mine)

@@ -5,7 +5,6 @@ use Rattle.std.proofs.lemmas.Bool.{eqb-true}
 use Rattle.std.proofs.lemmas.List.{append-nil}
 use Rattle.std.proofs.lemmas.Option.{slice_get_within}
 use Rattle.ktime.specs.Readings.{ClockReading}
-use Rattle.pass_names.specs.Passes.{Begins}
 use Rattle.pass_names.specs.SharedHistory.{LooksOn}
 use Rattle.seq_timer.specs.Contents.{running_on}
 use Rattle.seq_timer.specs.Steps.{Timer}
@@ -17,20 +16,17 @@ use Rattle.expire_pass.specs.declared.expiry.ExpireAnswer.{ExpireAnswer}
 use Rattle.expire_pass.specs.declared.expiry.ExpireAnswer.TheVariants as expiries
 use Rattle.expire_pass.specs.Expiring.{Expires, Turns}
 use Rattle.expire_pass.specs.declared.log.Receipt.{Receipt}
-use Rattle.timer_objects.specs.Firings.{Firing, firing}
-use Rattle.timer_objects.specs.Known.{ObjectsPass, seen_of}
+use Rattle.timer_objects.specs.Firings.{firing}
+use Rattle.timer_objects.specs.Known.{ObjectsPass}
 use Rattle.timer_objects.specs.declared.log.ObjectReceipt.{ObjectReceipt}
 use Rattle.record_text.specs.declared.record.Answer.TheVariants as answers
 use Rattle.record_text.specs.declared.record.Answer.{Answer}
-use Rattle.record_text.specs.declared.record.ClockLine.{ClockLine}
 use Rattle.record_text.specs.declared.record.Label.{Label}
 use Rattle.script_text.specs.Actions.{Action, numbers_of_object}
 use Rattle.script_text.specs.Histories.{reading_at}
-use Rattle.script_text.specs.Order.{calls_of, IsLabel, NeverFall}
+use Rattle.script_text.specs.Order.{calls_of, IsLabel}
 use Rattle.script_text.specs.declared.script.Call.TheVariants as calls
-use Rattle.script_text.specs.declared.script.Call.{Call}
 use Rattle.script_text.specs.declared.script.Script.{Script}
-use Rattle.lane_notes.specs.Entries.{entry_notes, look_notes}
 use Rattle.run_history.specs.Calls.{fires}
 use Rattle.run_history.specs.Courses as courses
 use Rattle.run_history.specs.Courses.{Course, Fired}
@@ -41,7 +37,7 @@ use Rattle.run_history.proofs.Expires.{expire_busy, expire_done, expire_more, ex
 use Rattle.run_history.proofs.Kept.{IsKept}
 use Rattle.run_history.proofs.PassState.{timer_seen}
 use Rattle.run_history.proofs.Promise.{object_point_from, seen_first}
-use Rattle.lane_run.specs.Called.{CallsExpire, claimed_in, expire_told, LaneOf, Reads, with_done}
+use Rattle.lane_run.specs.Called.{CallsExpire, claimed_in, expire_told, LaneOf}
 use Rattle.lane_run.specs.Kept.{Follows, IsNextCall, KeepsCall, seen_by}
 use Rattle.lane_run.specs.Worlds.{WorldOf}
 use Rattle.pass_names.proofs.Passes.{begins_length}
@@ -83,7 +79,8 @@ run_later {s = s} {label = label} {base = base} {reading = reading} {v = v} {p =
       claimed = run.claimed;
       part = rw (append-nil actions, append-nil run.notes, append-nil all, append-nil object_log) at part;
       have = λ e joined goes follows later behind points.
-          have_later (course_of s e) label e.order base reading.stamp [] (length v.seen) run.fired run.notes (length w.seen) (length w'.seen) (begins_length looks.seen)
+          have_later (course_of s e) label e.order base reading.stamp [] (length v.seen) run.fired run.notes (length w.seen) (length w'.seen)
+          (begins_length looks.seen)
           (run.have e joined (goes_before looks.seen goes) follows later behind points);
     }
 
@@ -180,4 +177,4 @@ module _ {s : Script} {x : WorldOf} {l m : LaneOf} {a : Answer} {base budget : �
 
   -- law: a lane keeps an expiry run
   pub keeps_expire : KeepsCall s l (calls.Expire base budget) a m
-  keeps_expire = rw c.told (answer_kept c.answer c.runs.expires)
+  keeps_expire = subst (λ a. KeepsCall s l (calls.Expire base budget) a m) (sym c.told) (answer_kept c.answer c.runs.expires)

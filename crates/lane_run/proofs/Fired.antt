@@ -1,18 +1,15 @@
 -- The callbacks of an expiry run: one with its claim and its finish, and all of them one behind the other.
-use Rattle.std.proofs.Common.{◌≡◌, ◌≤◌, ◌<◌, ℕ, ◌+◌, Bool, unwrap_or, List, [], ◌∷◌, ◌++◌, length, length-append, map, get_or, arith, refl, sym, ap, ◌∙◌, subst, zero, suc, Option}
+use Rattle.std.proofs.Common.{◌≡◌, ◌≤◌, ◌<◌, ℕ, unwrap_or, List, [], ◌∷◌, ◌++◌, length, length-append, map, get_or, arith, refl, sym, ap, ◌∙◌, subst, zero, suc, Option}
 use Rattle.std.specs.List.{AllByRecursion}
 use Rattle.std.specs.List.Sorted.{IsPermutation}
 use Rattle.std.proofs.lemmas.List.{append_assoc, append-nil, map-append}
 use Rattle.std.proofs.lemmas.List.Sorted.{IsPermutation-cons, IsPermutation-to_front, IsPermutation-append_comm, IsPermutation-append_left, IsPermutation-append_right}
 use Rattle.ktime.specs.Readings.{ClockReading}
-use Rattle.pass_names.specs.Passes.{Begins, GoesOn}
+use Rattle.pass_names.specs.Passes.{GoesOn}
 use Rattle.seq_timer.specs.Steps.{rearmed_by, reply_to}
 use Rattle.seq_timer.specs.Systems.{entries_of, openings}
-use Rattle.seq_timer.specs.declared.system.TimerEntry.{TimerEntry}
-use Rattle.lane_notes.specs.declared.notes.LookNote.{LookNote}
-use Rattle.timer_core.specs.declared.answer.Finished.{Finished}
 use Rattle.base_row.specs.declared.view.Opening.{Opening}
-use Rattle.hr_timers.specs.Calls.{ClaimsNextDue, Finishes}
+use Rattle.hr_timers.specs.Calls.{ClaimsNextDue}
 use Rattle.hr_timers.specs.Known.{KnownOfTimers, timer_then}
 use Rattle.hr_timers.specs.declared.numbers.ClaimNumbers.{ClaimNumbers}
 use Rattle.expire_pass.specs.Expiring.{claim_receipt, finish_receipt, Turn, Turns}
@@ -24,25 +21,22 @@ use Rattle.timer_objects.specs.Firings.{callback_at, Fires, FiresBy, Firing, fir
 use Rattle.timer_objects.specs.Known.{decl_at, ObjectsPass, seen_of}
 use Rattle.timer_objects.specs.Triggers.{trigger_of}
 use Rattle.timer_objects.specs.declared.log.ObjectReceipt.{ObjectReceipt}
-use Rattle.record_text.specs.declared.record.ClockLine.{ClockLine}
-use Rattle.record_text.specs.declared.record.Entry.{Entry}
 use Rattle.record_text.specs.declared.record.Label.{Label}
-use Rattle.script_text.specs.Actions.{Action, Entered, looked, made}
-use Rattle.script_text.specs.Histories.{reading_at}
+use Rattle.script_text.specs.Actions.{Action, Entered, made}
 use Rattle.script_text.specs.Objects.{kind_of, present}
 use Rattle.script_text.specs.declared.script.Kind.{Kind}
 use Rattle.script_text.specs.declared.script.Script.{Script}
 use Rattle.lane_notes.specs.Entries.{entry_notes, look_notes, restart_noted, entry_note, look_note}
-use Rattle.run_history.specs.Calls.{fires, IsBody}
+use Rattle.run_history.specs.Calls.{fires}
 use Rattle.run_history.specs.Courses.{clocks_of, Fired}
-use Rattle.run_history.specs.Receipts.{count, Noted, receipt}
+use Rattle.run_history.specs.Receipts.{Noted, receipt}
 use Rattle.run_history.specs.Runs.{course_of, Ending, IsJoined}
 use Rattle.run_history.specs.Truths.{IsObjectPoint}
-use Rattle.run_history.proofs.Actions.{all_entered-append, made-append}
+use Rattle.run_history.proofs.Actions.{made-append}
 use Rattle.run_history.proofs.Expires.{claim_of, finish_of, with_claim, HaveRun, run_push}
 use Rattle.run_history.proofs.Known.{made_goes_on}
-use Rattle.lane_run.specs.Called.{claimed_in, is_claim}
-use Rattle.lane_run.specs.Kept.{entry_in_note, FollowsObject}
+use Rattle.lane_run.specs.Called.{claimed_in}
+use Rattle.lane_run.specs.Kept.{FollowsObject}
 use Rattle.lane_run.specs.Worlds.{callback_of, IsWorldOf, WorldOf}
 use Rattle.lane_run.proofs.Declared.{declared_callback, declared_over, over_of}
 use Rattle.pass_names.proofs.Passes.{begins_length, begins_trans}
@@ -53,10 +47,9 @@ use Rattle.std.proofs.lemmas.List.Concat.{flat_map-append}
 use Rattle.lane_run.proofs.Claimed.{claimed_in-append}
 use Rattle.lane_run.proofs.Bodies.{callback_kept}
 use Rattle.lane_run.proofs.Parts.{BodyKept, fired_of, HasRead, IsClaimed, IsPart, objects_grow, part-append, part_entered, part_none}
-use Rattle.lane_run.proofs.PartLists.{also-append, each_joined, each_weaker, notes-append}
+use Rattle.lane_run.proofs.PartLists.{each_joined, each_weaker, notes-append}
 use Rattle.lane_run.proofs.Entering.{enters_once, EntersNotes}
 use Rattle.record_text.specs.declared.record.Restart as line_restart
-use Rattle.lane_notes.specs.declared.notes.EntryNote.{EntryNote}
 use Rattle.seq_timer.specs.declared.event.Event.TheVariants as events
 use Rattle.timer_objects.specs.declared.callback.Callback.TheVariants as runs
 use Rattle.timer_objects.specs.declared.object.ObjectCall.TheVariants as of_kind
@@ -238,8 +231,7 @@ module _ (s : Script) (x : WorldOf) (is : IsWorldOf s x) (some : 1 ≤ s.limit) 
       let part : IsPart (HasRead reading) label k1 p1 k' p' one notes (first ∷ last ∷ b.more) b.object_more =
       rw (append-nil b.object_more) at (part-append {all = first ∷ last ∷ b.more} b.part finishes turned
       (rw (notes-append (look_note label) b.more (last ∷ [])) (sym (append-nil _)))) in
-      let all : flat_map (fires base at) (run.fired ++ f ∷ []) ≡ done ++ one =
-      flat_map-append (fires base at) run.fired (f ∷ []) ∙ ap (λ ds. done ++ ds) (append-nil one) in
+      let all : flat_map (fires base at) (run.fired ++ f ∷ []) ≡ done ++ one = rw (flat_map-append (fires base at) run.fired (f ∷ []), append-nil one) refl in
       let cb = h.log.receipts in
       let more = first ∷ last ∷ [] in
       let order : IsPermutation (entry_notes label ((log ++ cb) ++ (more ++ b.more))) (entry_notes label ((log ++ more) ++ (cb ++ b.more))) =
@@ -260,20 +252,21 @@ module _ (s : Script) (x : WorldOf) (is : IsWorldOf s x) (some : 1 ≤ s.limit) 
             (subst (IsPart (HasRead reading) label k p k' p' (done ++ one) (run.notes ++ notes) ((log ++ more) ++ (cb ++ b.more))) (sym b.adds_objects)
             whole_part));
         have = λ e joined goes follows later behind points.
-            let whole : flat_map (fires base at) (run.fired ++ f ∷ []) ++ later ≡ done ++ (one ++ later) =
-            ap (λ ds. ds ++ later) all ∙ append_assoc done one later in
+            let whole : flat_map (fires base at) (run.fired ++ f ∷ []) ++ later ≡ done ++ (one ++ later) = rw (all, append_assoc done one later) refl in
             let grows = objects_grow p1 p' part.objects.goes_on in
             let before_run = run.have e joined (goes_before part.timers.enters.seen goes) (follows_before p1 p' e part.objects.goes_on follows) (one ++ later)
             (λ i. rw (made-append i one later)
             (each_joined (made i one) (made i later) (λ x le. omega (arith, le)) (λ x less. let le = grows i in omega (arith, less, le))
             (part.objects.rise i).above (behind i)))
-            (λ i m before rest parts low high below above. points i m before rest (whole ∙ parts) low (let le = grows i in omega (arith, high, le)) below above) in
+            (λ i m before rest parts low high below above.
+            points i m before rest (whole ∙ parts) low (let le = grows i in omega (arith, high, le)) below above) in
             let one_run = turn_ran s x is some label base reading claim b ran.finished.number rearmed finish e joined goes follows done
             (λ i none. let le = grows i in
             points i (length (seen_of p' i)) (with_claim base at f done) ((f.body ++ finishing) ++ later)
             (whole ∙ sym (append_assoc done claiming ((f.body ++ finishing) ++ later)))
             (let begun = objects_grow p p1 run.part.objects.goes_on i in omega (arith, le, begun)) (omega arith)
-            (rw (made-append i done claiming, append-nil (made i done)) (each_weaker (made i done) (λ x less. omega (arith, less, le)) (run.part.objects.rise i).below))
+            (rw (made-append i done claiming, append-nil (made i done))
+            (each_weaker (made i done) (λ x less. omega (arith, less, le)) (run.part.objects.rise i).below))
             (rw (made-append i (f.body ++ finishing) later, made-append i f.body finishing, none i) (behind i))) in
             rw one_run.1 (run_push (course_of s e) label e.order base at [] done (length k.seen) run.fired run.notes (length k1.seen) f (length k'.seen)
             before_run refl one_run.0);

@@ -2,15 +2,10 @@
 use Rattle.std.proofs.Common.{◌≡◌, ◌≤◌, ◌<◌, ℕ, ◌+◌, true, false, nat_eq, Option, List, [], ◌∷◌, ◌++◌, map, arith, refl, ap, ◌∙◌, Bool}
 use Rattle.std.specs.List.{AllByRecursion}
 use Rattle.std.proofs.lemmas.List.{map-append}
-use Rattle.expire_pass.specs.declared.log.Receipt.{Receipt}
-use Rattle.timer_objects.specs.declared.log.ObjectReceipt.{ObjectReceipt}
-use Rattle.record_text.specs.declared.record.Label.{Label}
 use Rattle.script_text.specs.Actions.{Action, also, Entered, Looked, looked, Made, numbers_of_object, Skipped, skipped, Wrote, wrote}
 use Rattle.script_text.specs.Objects.{present}
 use Rattle.script_text.specs.Order.{NeverFall}
 use Rattle.lane_notes.proofs.Receipts.{present-append}
-use Rattle.lane_notes.specs.Entries.{entry_note, entry_notes, look_note, look_notes}
-use Rattle.lane_notes.specs.Objects.{object_note, object_notes, skip_note, skip_notes}
 use Rattle.lane_notes.specs.declared.notes.LookNote.{LookNote}
 use Rattle.lane_notes.specs.declared.notes.ObjectNote.{ObjectNote}
 use Rattle.lane_notes.specs.declared.notes.SkipNote.{SkipNote}

@@ -1,9 +1,9 @@
 -- Parts of a call, one behind the other: their actions, with their receipts and notes.
-use Rattle.std.proofs.Common.{Bool, ◌≡◌, ◌≤◌, ◌<◌, ℕ, ◌+◌, true, nat_eq, Some, List, [], ◌∷◌, ◌++◌, length, map, arith, refl, sym, ap, ◌∙◌, subst, None, option_map, length-append}
+use Rattle.std.proofs.Common.{Bool, ◌≡◌, ◌≤◌, ◌<◌, ℕ, ◌+◌, Some, List, [], ◌∷◌, ◌++◌, length, map, arith, refl, sym, ap, ◌∙◌, subst, None, length-append}
 use Rattle.std.specs.List.{AllByRecursion, slice_get}
 use Rattle.std.specs.List.Sorted.{IsPermutation}
 use Rattle.std.proofs.lemmas.List.{append_assoc, append-nil, map-append}
-use Rattle.std.proofs.lemmas.List.Sorted.{IsPermutation-append, IsPermutation-map, IsPermutation-refl, IsPermutation-trans}
+use Rattle.std.proofs.lemmas.List.Sorted.{IsPermutation-append, IsPermutation-map, IsPermutation-trans}
 use Rattle.pass_names.specs.Passes.{Begins, GoesOn, Adds}
 use Rattle.expire_pass.specs.declared.log.Receipt.{Receipt}
 use Rattle.hr_timers.specs.Known.{KnownOfTimers}
@@ -14,7 +14,6 @@ use Rattle.record_text.specs.declared.record.Label.{Label}
 use Rattle.script_text.specs.Actions.{Action, Entered, looked, Looked, Made, made, numbers_of_object, skipped, wrote}
 use Rattle.script_text.specs.Histories.{reading_at}
 use Rattle.ktime.specs.Readings.{ClockReading}
-use Rattle.script_text.specs.Objects.{present}
 use Rattle.script_text.specs.Order.{NeverFall}
 use Rattle.lane_notes.specs.Entries.{entry_notes, look_notes}
 use Rattle.lane_notes.specs.Objects.{object_notes, skip_notes, object_entry_noted, skip_generation}
@@ -27,7 +26,6 @@ use Rattle.lane_run.specs.Kept.{entry_in_note, looks_on, made_on, ObjectMove, Sh
 use Rattle.lane_run.proofs.Entering.{enters-append, enters_none, EntersNotes}
 use Rattle.pass_names.proofs.Passes.{begins_length, begins_trans}
 use Rattle.lane_run.proofs.SeenMore.{begins_same, count_begins}
-use Rattle.std.proofs.lemmas.Bool.{eqb-true}
 use Rattle.record_text.specs.declared.record.ObjectEntry.{ObjectEntry}
 use Rattle.lane_run.proofs.PartLists.{same_order, IsEntered, no_other}
 use Rattle.timer_objects.specs.declared.object.ObjectCall.{ObjectCall}
@@ -291,15 +289,8 @@ HasRead reading clock = reading_at clock reading.stamp ≡ reading
 
 -- the record's callback of a claim, by its function's actions and what came of the finish
 abbrev pub fired_of : ClaimNumbers → List Action → ℕ → Bool → line_restart.Restart → Fired
-fired_of c body finish restart rearmed = record {
-  timer = c.timer;
-  claim = c.number;
-  generation = c.generation;
-  body = body;
-  finish = finish;
-  restart = restart;
-  rearmed = rearmed;
-}
+fired_of c body finish restart rearmed =
+    record { timer = c.timer; claim = c.number; generation = c.generation; body = body; finish = finish; restart = restart; rearmed = rearmed }
 
 -- a pass has made a claim, and seen it
 pub record IsClaimed (base : ℕ) (c : ClaimNumbers) (reading : ClockReading) (k v : KnownOfTimers) : Type 0 where

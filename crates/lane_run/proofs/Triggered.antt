@@ -1,10 +1,7 @@
 -- What the claim of an object's timer does: a trigger of the object, which made an entry of it or was refused.
-use Rattle.std.proofs.Common.{◌≡◌, ◌≤◌, ◌<◌, ◌-◌, ℕ, ◌+◌, Bool, true, false, if◌then◌else◌, nat_eq, None, Some, option_map, zero, suc, List, [], ◌∷◌, ◌++◌, length, map, arith, refl, sym, ap, ◌∙◌, subst, inl, inr}
-use Rattle.std.specs.List.{AllByRecursion, slice_get}
+use Rattle.std.proofs.Common.{◌≡◌, ◌≤◌, ◌-◌, ℕ, ◌+◌, Bool, true, false, if◌then◌else◌, None, Some, [], ◌∷◌, length, arith, refl, sym, ap, ◌∙◌, inl, inr}
 use Rattle.std.proofs.Math.Logic.{⊎_elim}
-use Rattle.std.proofs.lemmas.Bool.{eqb-true}
 use Rattle.std.proofs.lemmas.List.{append-nil}
-use Rattle.std.proofs.lemmas.Option.{same_Some}
 use Rattle.ktime.specs.Readings.{ClockReading}
 use Rattle.timer_setting.specs.Phases.{is_expiry_of}
 use Rattle.timer_setting.specs.declared.trigger_answer.TriggerAnswer.TheVariants as triggers
@@ -17,7 +14,6 @@ use Rattle.hr_timers.specs.declared.numbers.ClaimNumbers.{ClaimNumbers}
 use Rattle.expire_pass.specs.Handlers.{asks}
 use Rattle.expire_pass.specs.declared.handler.Restart.TheVariants as wishes
 use Rattle.expire_pass.specs.declared.handler.Restart.{Restart}
-use Rattle.expire_pass.specs.declared.log.Receipt.{Receipt}
 use Rattle.timer_objects.specs.Cells.{spanned}
 use Rattle.timer_objects.specs.Known.{ObjectsOf, ObjectsPass, seen_of}
 use Rattle.timer_objects.specs.Steps.{object_answer, ObjectAllows}
@@ -29,29 +25,23 @@ use Rattle.timer_objects.specs.declared.object.ObjectCall.TheVariants as of_kind
 use Rattle.timer_objects.specs.declared.object.ObjectCall.{ObjectCall}
 use Rattle.timer_objects.specs.declared.object.ObjectReply.TheVariants as replies
 use Rattle.timer_objects.specs.declared.object.ObjectReply.{ObjectReply}
-use Rattle.record_text.specs.declared.record.ClockLine.{ClockLine}
 use Rattle.record_text.specs.declared.record.Label.{Label}
 use Rattle.record_text.specs.declared.record.ObjectEntry.TheVariants as object_entries
-use Rattle.record_text.specs.declared.record.ObjectEntry.{ObjectEntry}
-use Rattle.record_text.specs.declared.record.ObjectLine.{ObjectLine}
 use Rattle.script_text.specs.Actions.{Made, Skipped}
 use Rattle.script_text.specs.Histories.{reading_at}
-use Rattle.script_text.specs.Objects.{kind_of, lines_of_object, present}
+use Rattle.script_text.specs.Objects.{kind_of}
 use Rattle.script_text.specs.declared.script.Script.{Script}
 use Rattle.lane_notes.specs.Objects.{object_entry_noted, object_notes, skip_generation, skip_notes}
-use Rattle.lane_notes.specs.declared.notes.SkipNote.{SkipNote}
 use Rattle.run_history.specs.Calls.{IsBody, IsTrigger}
 use Rattle.run_history.specs.Courses.{Fired}
-use Rattle.run_history.proofs.Lists.{at_left, at_seam}
-use Rattle.lane_run.specs.Kept.{AreObjectLines, made_on, ObjectMove, skips_on, FollowsObject}
-use Rattle.pass_names.proofs.Passes.{begins_length}
-use Rattle.run_history.specs.Runs.{Ending}
+use Rattle.run_history.proofs.Lists.{at_seam}
+use Rattle.lane_run.specs.Kept.{made_on, ObjectMove, skips_on}
 use Rattle.lane_run.proofs.ObjectSeen.{span_made}
 use Rattle.timer_objects.specs.Firings.{Firing}
 use Rattle.lane_run.proofs.Entering.{enters_none, EntersNotes}
 use Rattle.lane_run.proofs.PartLists.{one_falls, rises_none}
 use Rattle.lane_run.proofs.SeenMore.{begins_same}
-use Rattle.lane_run.proofs.Parts.{BodyKept, fired_of, HasRead, IsClaimed, IsNotedAs, IsNoteIn, IsObjectsPart, noted_at, object_place, objects_grow, part_claimed, part_made, part_of_objects}
+use Rattle.lane_run.proofs.Parts.{BodyKept, fired_of, HasRead, IsClaimed, IsNotedAs, IsObjectsPart, noted_at, objects_grow, part_claimed, part_made, part_of_objects}
 
 -- ---- the note of a trigger
 
@@ -64,35 +54,33 @@ TriggerNoted call reply generation reading =
 pub posix_noted : (x : Object) (generation : ℕ) (reading : ClockReading) → ObjectAllows x (of_kind.Posix (posix_calls.Trigger generation reading))
     → TriggerNoted (of_kind.Posix (posix_calls.Trigger generation reading)) (object_answer x (of_kind.Posix (posix_calls.Trigger generation reading)))
     generation reading
-posix_noted (objects.Posix t) generation reading allows = by_test (is_expiry_of t.phase generation reading)
-  where
-    call : ClockReading → ObjectCall
-    call r = of_kind.Posix (posix_calls.Trigger generation r)
-
-    by_test : (b : Bool) → TriggerNoted (call reading) (replies.Posix (posix_replies.Trigger (if b then triggers.Counted else triggers.Stale))) generation
-        reading
-    by_test true = (true, noted_at reading call _ _ refl refl (λ clock. refl))
-    by_test false = (false, noted_at reading call _ _ refl refl (λ clock. refl))
+posix_noted (objects.Posix t) generation reading allows =
+    let call : ClockReading → ObjectCall = λ r. of_kind.Posix (posix_calls.Trigger generation r) in
+    elim (is_expiry_of t.phase generation reading) as (λ b. TriggerNoted (call reading)
+    (replies.Posix (posix_replies.Trigger (if b then triggers.Counted else triggers.Stale))) generation reading) [
+      | true ↦ (true, noted_at reading call _ _ refl refl (λ clock. refl))
+      | false ↦ (false, noted_at reading call _ _ refl refl (λ clock. refl))
+    ]
 posix_noted x generation reading allows = absurd allows
 
 -- law: a trigger of a descriptor that made an entry is noted
 pub fd_noted : (x : Object) (generation : ℕ) (reading : ClockReading) → ObjectAllows x (of_kind.Fd (fd_calls.Trigger generation reading))
     → TriggerNoted (of_kind.Fd (fd_calls.Trigger generation reading)) (object_answer x (of_kind.Fd (fd_calls.Trigger generation reading))) generation reading
-fd_noted (objects.Fd t) generation reading allows = by_test (is_expiry_of t.phase generation reading)
-  where
-    call : ClockReading → ObjectCall
-    call r = of_kind.Fd (fd_calls.Trigger generation r)
-
-    by_test : (b : Bool) → TriggerNoted (call reading) (replies.Fd (fd_replies.Trigger (if b then triggers.Counted else triggers.Stale))) generation reading
-    by_test true = (true, noted_at reading call _ _ refl refl (λ clock. refl))
-    by_test false = (false, noted_at reading call _ _ refl refl (λ clock. refl))
+fd_noted (objects.Fd t) generation reading allows =
+    let call : ClockReading → ObjectCall = λ r. of_kind.Fd (fd_calls.Trigger generation r) in
+    elim (is_expiry_of t.phase generation reading) as (λ b. TriggerNoted (call reading)
+    (replies.Fd (fd_replies.Trigger (if b then triggers.Counted else triggers.Stale))) generation reading) [
+      | true ↦ (true, noted_at reading call _ _ refl refl (λ clock. refl))
+      | false ↦ (false, noted_at reading call _ _ refl refl (λ clock. refl))
+    ]
 fd_noted x generation reading allows = absurd allows
 
 -- ---- the trigger
 
 module _ (s : Script) (x : ObjectsOf) (limit : x.limit ≡ s.limit) (some : 1 ≤ s.limit) (label : Label) (c : ClaimNumbers)
-    (reading : ClockReading) {base : ℕ} {k v : KnownOfTimers} (claim : IsClaimed base c reading k v) (restart : Restart) (h h' : Firing) (same_log : h'.log.receipts ≡ h.log.receipts)
-    (stops : restart ≡ wishes.Stop) (is_body : (f : Fired) → IsTrigger reading.stamp f → IsBody (kind_of s c.timer) reading.stamp f) where
+    (reading : ClockReading) {base : ℕ} {k v : KnownOfTimers} (claim : IsClaimed base c reading k v) (restart : Restart) (h h' : Firing)
+    (same_log : h'.log.receipts ≡ h.log.receipts) (stops : restart ≡ wishes.Stop)
+    (is_body : (f : Fired) → IsTrigger reading.stamp f → IsBody (kind_of s c.timer) reading.stamp f) where
   abbrev p : ObjectsPass
   p = h.objects_pass.now
 
