@@ -40,7 +40,6 @@ use Rattle.run_history.specs.Receipts.{Noted}
 use Rattle.run_history.specs.Traces.{all_entered}
 use Rattle.run_history.specs.Truths.{IsTrueStart}
 use Rattle.run_history.proofs.Known.{numbered}
-use Rattle.run_history.proofs.PassState.{state_seen, timer_seen}
 use Rattle.lane_run.specs.Kept.{entry_in_note}
 use Rattle.lane_run.proofs.CallKept.{inside_of}
 use Rattle.lane_run.proofs.Entering.{enters_along, EntersNotes, HasReading, line_entry, lines_along}
@@ -59,8 +58,6 @@ use Rattle.script_text.specs.ObjectCalls.{cancels}
 use Rattle.script_text.specs.Objects.{ArmedAs}
 use Rattle.script_text.specs.declared.script.Call.{Call}
 use Rattle.run_history.specs.Courses as courses
-use Rattle.run_history.specs.Truths.{SawRefusal}
-use Rattle.run_history.proofs.ObjectsMade.{refusal_seen}
 use Rattle.lane_run.specs.Called.{LaneOf}
 use Rattle.lane_run.specs.Kept.{IsNextCall}
 use Rattle.lane_run.specs.Worlds.{WorldOf}
@@ -112,7 +109,7 @@ places_inside {v = v} {w = w} {notes = notes} enters =
 abbrev pub TimersPart : LaneOf → ClockReading → KnownOfTimers → KnownOfTimers → List Action → List Receipt → Type 0
 TimersPart l reading v w actions log = (notes : List Noted) × IsPart (HasRead reading) l.label v l.pass.objects w l.pass.objects actions notes log []
 
--- what became of a start, by the timer where its pass has seen it end
+-- what became of a start, by the timer where it ended
 abbrev pub IsArmedSo : Arm → Timer → Type 0
 IsArmedSo arms.NotAsked s = Unit
 IsArmedSo (arms.Armed generation) s = s.stamp ≡ generation
@@ -228,28 +225,15 @@ module _ {s : Script} {x : WorldOf} {l : LaneOf} {call : Call} (next : IsNextCal
 
 -- ---- in the run
 
--- what became of a start, at a moment of the run
-abbrev pub IsOutcomeAt : Course → ℕ → Arm → ℕ → Type 0
-IsOutcomeAt w i arms.NotAsked n = Unit
-IsOutcomeAt w i (arms.Armed generation) n = (courses.timer_then w n i).stamp ≡ generation
-IsOutcomeAt w i (arms.Unarmed stamp) n = SawRefusal w i stamp n
-
 -- an object's phase bears a start that was made, as the timer has it
 abbrev pub IsLike : Bool → Arm → Option ArmedAs → Timer → Type 0
 IsLike on_clock (arms.Armed generation) armed s = IsArmedLike on_clock armed generation s
 IsLike on_clock arm armed s = Unit
 
--- law: what became of a start, where a pass has seen it end
-pub outcome_seen : (w : Course) (seen later : List TimerEntry) → entries_in w ≡ seen ++ later → (i : ℕ) (arm : Arm)
-    → IsArmedSo arm (state_seen w.script seen i) → IsOutcomeAt w i arm (length seen)
-outcome_seen w seen later is i arms.NotAsked armed = tt
-outcome_seen w seen later is i (arms.Armed generation) armed = ap (λ (u : Timer). u.stamp) (timer_seen w seen later is i) ∙ armed
-outcome_seen w seen later is i (arms.Unarmed stamp) armed = refusal_seen w seen later is i stamp armed.0 armed.1 armed.2
-
 -- law: what an object's entry tells of its timer's start is true
-pub start_true : (w : Course) (i number n : ℕ) (on_clock : Bool) (arm : Arm) → IsOutcomeAt w i arm n
+pub start_true : (w : Course) (i number n : ℕ) (on_clock : Bool) (arm : Arm) → IsArmedSo arm (courses.timer_then w n i)
     → IsLike on_clock arm (object_armed_after w.script w.run i number (kind_of w.script i)) (courses.timer_then w n i)
     → IsTrueStart w i number on_clock (arm_noted arm) n
-start_true w i number n on_clock arms.NotAsked outcome like = tt
-start_true w i number n on_clock (arms.Armed generation) outcome like = (outcome, like)
-start_true w i number n on_clock (arms.Unarmed stamp) outcome like = (record { stamp = refl; holds = outcome.0.holds }, outcome.1)
+start_true w i number n on_clock arms.NotAsked armed like = tt
+start_true w i number n on_clock (arms.Armed generation) armed like = (armed, like)
+start_true w i number n on_clock (arms.Unarmed stamp) armed like = (record { stamp = refl; holds = armed.1 }, armed.2)

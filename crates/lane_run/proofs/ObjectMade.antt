@@ -21,7 +21,7 @@ use Rattle.run_history.specs.Runs.{course_of, Ending, IsJoined, moves_spans}
 use Rattle.run_history.specs.Truths.{IsSpan, IsSpanBy, IsTrueStart}
 use Rattle.run_history.proofs.ObjectsMade.{settime_actions}
 use Rattle.run_history.proofs.OthersMade.{plain}
-use Rattle.run_history.proofs.PassState.{state_seen, timer_seen}
+use Rattle.run_history.proofs.PassState.{timer_seen}
 use Rattle.run_history.proofs.Promise.{seen_first}
 use Rattle.lane_run.specs.Called.{caller_of, LaneOf, Reads, with_done}
 use Rattle.lane_run.specs.Kept.{Follows, IsNextCall, KeepsCall, seen_by}
@@ -35,7 +35,7 @@ use Rattle.run_history.specs.Fits.{FitsCall}
 use Rattle.run_history.proofs.Kept.{IsKept}
 use Rattle.ktime.specs.declared.mode.Mode.{Mode}
 use Rattle.run_history.specs.Courses as courses
-use Rattle.lane_run.proofs.Armed.{HasRead, IsArmedSo, IsLike, IsOutcomeAt, IsRearmSpan, outcome_seen, start_true, TimerPart}
+use Rattle.lane_run.proofs.Armed.{HasRead, IsArmedSo, IsLike, IsRearmSpan, start_true, TimerPart}
 use Rattle.lane_run.proofs.CallKept.{logged_from, reading_goes_on, reads_begins, unstamped}
 use Rattle.lane_run.proofs.ObjectEntered.{entered_phase, entered_span}
 use Rattle.lane_run.proofs.PartKept.{keeps_part, sees_part}
@@ -48,6 +48,7 @@ use Rattle.std.proofs.lemmas.List.{append-nil}
 use Rattle.timer_objects.specs.Steps.{object_answer}
 use Rattle.lane_run.specs.Kept.{ObjectMove}
 use Rattle.run_history.specs.Receipts.{Noted}
+use Rattle.run_history.specs.Promises as promises
 
 module _ {s : Script} {x : WorldOf} {l : LaneOf} (m : LaneOf) {call : Call} (next : IsNextCall s x l call) {timer : ℕ} {log : List Receipt}
     {object_log : List ObjectReceipt} {made : SpannedCall} {reply : ObjectReply}
@@ -64,25 +65,21 @@ module _ {s : Script} {x : WorldOf} {l : LaneOf} (m : LaneOf) {call : Call} (nex
   -- ---- in a run that goes on from there
 
   module _ {e : Ending} (follows : Follows m.pass e) (joined : IsJoined s e) where
-    entries_are : entries_in (course_of s e) ≡ w.seen ++ follows.timers.0
-    entries_are = seen_first w.seen joined follows.timers
-
     -- a timer as the lane knows it is the script's
-    timer_is : (ys : List TimerEntry) → timer_then x.timers.about ys timer ≡ state_seen s ys timer
-    timer_is ys = ap (λ (o : Opening). timer_then o ys timer) next.world.timers
+    timer_at : (ys : List TimerEntry) → promises.GoesOn ys e → courses.timer_then (course_of s e) (length ys) timer ≡ timer_then x.timers.about ys timer
+    timer_at ys on =
+        timer_seen (course_of s e) ys on.0 (seen_first ys joined on) timer ∙ sym (ap (λ (o : Opening). timer_then o ys timer) next.world.timers)
 
     timer_now : courses.timer_then (course_of s e) (length w.seen) timer ≡ timer_then x.timers.about w.seen timer
-    timer_now = timer_seen (course_of s e) w.seen follows.timers.0 entries_are timer ∙ sym (timer_is w.seen)
+    timer_now = timer_at w.seen follows.timers
 
     -- law: so it is where the call found it
     pub timer_found : courses.timer_then (course_of s e) (length begin.seen) timer ≡ timer_then x.timers.about begin.seen timer
-    timer_found =
-        let on = goes_before k.part.1.timers.enters.seen follows.timers in
-        timer_seen (course_of s e) begin.seen on.0 (seen_first begin.seen joined on) timer ∙ sym (timer_is begin.seen)
+    timer_found = timer_at begin.seen (goes_before k.part.1.timers.enters.seen follows.timers)
 
     -- law: what became of its start
-    pub outcome_is : IsOutcomeAt (course_of s e) timer arm (length w.seen)
-    outcome_is = outcome_seen (course_of s e) w.seen follows.timers.0 entries_are timer arm (subst (IsArmedSo arm) (timer_is w.seen) k.armed)
+    pub outcome_is : IsArmedSo arm (courses.timer_then (course_of s e) (length w.seen) timer)
+    outcome_is = subst (IsArmedSo arm) (sym timer_now) k.armed
 
     -- law: the object's entry tells the truth of it, where the object's phase bears it
     pub start_is : (on_clock : Bool) → IsLike on_clock arm (armed_in_phase (phase_of (object_step enters.commits.state.object made.call)))

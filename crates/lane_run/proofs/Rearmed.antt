@@ -48,20 +48,17 @@ next_timely (phases.Expired clock expires) interval reading wanted is =
     let timely : ns ≤ last_time = sat_timely _ in subst IsTimely (same_Some its wanted is) (refl, timely)
 next_timely phase interval reading wanted is = absurd (cc)
 
-if_wanted : (b : Bool) (o : Option Wanted) (wanted : Wanted) → (if b then o else None) ≡ Some wanted → o ≡ Some wanted
-if_wanted true o wanted is = is
-if_wanted false o wanted is = absurd (cc)
-
-unless_wanted : (b : Bool) (o : Option Wanted) (wanted : Wanted) → (if b then None else o) ≡ Some wanted → o ≡ Some wanted
-unless_wanted true o wanted is = absurd (cc)
-unless_wanted false o wanted is = is
+if_timely : (b : Bool) (o q : Option Wanted) (wanted : Wanted) → (o ≡ Some wanted → IsTimely wanted) → (q ≡ Some wanted → IsTimely wanted)
+    → (if b then o else q) ≡ Some wanted → IsTimely wanted
+if_timely true o q wanted one other is = one is
+if_timely false o q wanted one other is = other is
 
 -- law: the start that a call on an object wants, whose timer may have expired
 pub wanted_timely : (r : Rearming) (object : Object) (reading : ClockReading) (wanted : Wanted) → wanted_by r object reading ≡ Some wanted → IsTimely wanted
 wanted_timely rearmings.Accepting (objects.Posix t) reading wanted is =
-    next_timely t.phase t.interval reading wanted (if_wanted _ (next_start t.phase t.interval reading) wanted is)
+    if_timely _ (next_start t.phase t.interval reading) None wanted (next_timely t.phase t.interval reading wanted) (λ none. absurd (cc)) is
 wanted_timely rearmings.Reading (objects.Fd t) reading wanted is =
-    next_timely t.phase t.interval reading wanted (unless_wanted _ (next_start t.phase t.interval reading) wanted is)
+    if_timely _ None (next_start t.phase t.interval reading) wanted (λ none. absurd (cc)) (next_timely t.phase t.interval reading wanted) is
 wanted_timely rearmings.Getting (objects.Fd t) reading wanted is = next_timely t.phase t.interval reading wanted is
 wanted_timely r object reading wanted is = absurd (cc)
 

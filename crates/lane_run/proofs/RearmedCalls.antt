@@ -48,8 +48,7 @@ use Rattle.lane_run.specs.Worlds.{WorldOf}
 use Rattle.lane_run.proofs.Sights.{keeps_full, keeps_same}
 use Rattle.std.proofs.Common.{◌+◌, false, [], arith}
 use Rattle.ktime.specs.declared.mode.Mode.TheVariants as modes
-use Rattle.timer_objects.specs.Calls.{phase_of, wanted_by}
-use Rattle.timer_objects.specs.Steps.{object_step}
+use Rattle.timer_objects.specs.Calls.{wanted_by}
 use Rattle.record_text.specs.declared.record.Armed.{Armed}
 use Rattle.script_text.specs.Actions.{Action}
 use Rattle.script_text.specs.Told.{object_called}
@@ -98,24 +97,19 @@ module _ {s : Script} {x : WorldOf} {l m : LaneOf} {call : Call} (next : IsNextC
   rearmed : {e : Ending} → Follows m.pass e → IsJoined s e
       → IsRearmed (course_of s e) l.label part.does.part.0 c.reading.stamp (length part.begin.seen) (length m.pass.timers.known.seen) timer
       (arm_noted made.arm) part.does.start (length made.enters.commits.adds.before + 1)
-  rearmed {e = e} follows joined =
-      let w = course_of s e in
-      let seen = m.pass.timers.known.seen in
-      let number = length made.enters.commits.adds.before + 1 in
-      let phase = phase_of (object_step made.enters.commits.state.object (rearming_call r c.reading made.arm)) in
-      record {
-        ns = part.ns;
-        timely = part.timely;
-        arms = subst (λ b. Arms timer modes.Keep part.ns c.reading.stamp b (arm_noted made.arm) part.does.start) (declared_base s x timer next.world)
-            part.does.arms;
-        ends = length seen;
-        between = begins_length part.does.part.1.timers.enters.seen;
-        high = omega arith;
-        part = places_inside part.does.part.1.timers.enters;
-        holds = start_is m next made.enters part.does follows joined false
-            (like_restart x.timers.about m.pass.timers.known timer made.arm phase made.bears);
-        span = rearm_span m next made.enters part.does follows joined made.arm part.spans;
-      }
+  rearmed follows joined = record {
+    ns = part.ns;
+    timely = part.timely;
+    arms = subst (λ b. Arms timer modes.Keep part.ns c.reading.stamp b (arm_noted made.arm) part.does.start) (declared_base s x timer next.world)
+        part.does.arms;
+    ends = length m.pass.timers.known.seen;
+    between = begins_length part.does.part.1.timers.enters.seen;
+    high = omega arith;
+    part = places_inside part.does.part.1.timers.enters;
+    holds = start_is m next made.enters part.does follows joined false
+        (like_restart x.timers.about m.pass.timers.known timer made.arm _ made.bears);
+    span = rearm_span m next made.enters part.does follows joined made.arm part.spans;
+  }
 
   -- law: a lane keeps a call on an object that may arm the object's timer again and made an entry, where such calls fit
   pub keeps_rearming : object_entry_noted (rearming_call r c.reading made.arm) reply ≡ Some (entry (arm_noted made.arm))

@@ -3,11 +3,9 @@ use Rattle.std.proofs.Common.{◌≡◌, ℕ, Bool, true, false, if◌then◌els
 use Rattle.ktime.specs.Readings.{ClockReading}
 use Rattle.timer_setting.specs.declared.arming.Arm.TheVariants as arms
 use Rattle.timer_setting.specs.declared.arming.Arm.{Arm}
-use Rattle.posix_timer.specs.States.{posix_left, PosixTimer}
-use Rattle.posix_timer.specs.Steps.{posix_settime_answer}
-use Rattle.posix_timer.specs.declared.calls.Reply.TheVariants as posix_replies
-use Rattle.timer_fd.specs.States.{Descriptor, fd_left}
-use Rattle.timer_fd.specs.Steps.{answers_canceled, fd_settime_answer}
+use Rattle.posix_timer.specs.States.{posix_left}
+use Rattle.timer_fd.specs.States.{fd_left}
+use Rattle.timer_fd.specs.Steps.{answers_canceled}
 use Rattle.timer_fd.specs.declared.answers.SettimeAnswer.TheVariants as settings
 use Rattle.timer_fd.specs.declared.answers.SettimeAnswer.{SettimeAnswer}
 use Rattle.timer_fd.specs.declared.calls.Reply.TheVariants as fd_replies
@@ -34,7 +32,8 @@ use Rattle.record_text.specs.declared.record.ClockLine.{ClockLine}
 use Rattle.timer_objects.specs.declared.object.Kind.{Kind}
 use Rattle.timer_objects.specs.declared.object.Kind.TheVariants as over
 use Rattle.record_text.specs.declared.record.ObjectEntry.{ObjectEntry}
-use Rattle.lane_run.proofs.Armed.{HasRead, IsOutcomeAt}
+use Rattle.lane_run.proofs.Armed.{HasRead, IsArmedSo}
+use Rattle.run_history.specs.Courses.{timer_then}
 
 -- a settime that made an entry: the record's entry of it, its answer, and what it tells of a start that was refused
 pub record SettimeNoted (call : ObjectCall) (reply : ObjectReply) (flags value interval : ℕ) (reading : ClockReading) (arm : Arm)
@@ -43,7 +42,7 @@ pub record SettimeNoted (call : ObjectCall) (reply : ObjectReply) (flags value i
   pub noted : IsNotedAs (HasRead reading) call reply
       (object_entries.Settime flags value interval reading.stamp (arm_noted arm) told)
   pub answers : settime_told answer ≡ answer_of_settime told
-  pub refused : (w : Course) (timer last : ℕ) → IsOutcomeAt w timer arm last → RefusedBy w timer told last
+  pub refused : (w : Course) (timer last : ℕ) → IsArmedSo arm (timer_then w last timer) → RefusedBy w timer told last
 
 module _ (flags value interval : ℕ) (reading : ClockReading) (answer : SettimeAnswer) where
   -- a settime with its reading and the outcome of its start
@@ -61,38 +60,29 @@ module _ (flags value interval : ℕ) (reading : ClockReading) (answer : Settime
       → (object_entry_noted (call_by k arm reading) reply ≡ Some (entry_by arm told)) × (skip_generation (call_by k arm reading) reply ≡ None)
       × ((clock : List ClockLine) → ShowsObjectCall clock (call_by k arm (reading_at clock reading.stamp)) reply (entry_by arm told))
       → settime_told answer ≡ answer_of_settime told
-      → ((w : Course) (timer last : ℕ) → IsOutcomeAt w timer arm last → RefusedBy w timer told last) → Noted k arm reply
+      → ((w : Course) (timer last : ℕ) → IsArmedSo arm (timer_then w last timer) → RefusedBy w timer told last) → Noted k arm reply
   noted_so k arm reply told is tells refused =
       let noted = noted_at reading (call_by k arm) reply (entry_by arm told) is.0 is.1 is.2 in
       record { told = told; noted = noted; answers = tells; refused = refused }
 
-  -- of a POSIX timer
-  posix_noted : (t : PosixTimer) (arm : Arm) → SettimeTells (replies.Posix (posix_replies.Settime (posix_settime_answer t reading arm))) answer
-      → Noted over.Posix arm (replies.Posix (posix_replies.Settime (posix_settime_answer t reading arm)))
-  posix_noted t (arms.Unarmed stamp) tells =
-      noted_so over.Posix (arms.Unarmed stamp) _ (settimes.Unarmed stamp) (refl, refl, λ clock. refl) (ap settime_told tells) (λ w timer last saw. saw)
-  posix_noted t arm tells =
-      noted_so over.Posix arm _ (settimes.Old (posix_left t reading) t.interval) (refl, refl, λ clock. refl) (ap settime_told tells)
-      (λ w timer last saw. tt)
-
-  -- of a descriptor
-  fd_noted : (t : Descriptor) (arm : Arm) → answer ≡ fd_settime_answer t flags value reading arm
-      → Noted over.Fd arm (replies.Fd (fd_replies.Settime (fd_settime_answer t flags value reading arm)))
-  fd_noted t (arms.Unarmed stamp) tells =
-      noted_so over.Fd (arms.Unarmed stamp) _ (settimes.Unarmed stamp) (refl, refl, λ clock. refl) (ap settime_told tells) (λ w timer last saw. saw)
-  fd_noted t arm tells = old (answers_canceled t flags value reading) tells
-    where
-      old : (b : Bool) → answer ≡ (if b then settings.Canceled else settings.Old (fd_left t reading) t.interval)
-          → Noted over.Fd arm (replies.Fd (fd_replies.Settime (if b then settings.Canceled else settings.Old (fd_left t reading) t.interval)))
-      old true is = noted_so over.Fd arm _ settimes.Canceled (refl, refl, λ clock. refl) (ap settime_told is) (λ w timer last saw. tt)
-      old false is =
-          noted_so over.Fd arm _ (settimes.Old (fd_left t reading) t.interval) (refl, refl, λ clock. refl) (ap settime_told is)
-          (λ w timer last saw. tt)
-
   -- law: a settime of an object of either kind is noted
   pub settime_noted : (k : Kind) (x : Object) (arm : Arm) → ObjectAllows x (call_by k arm reading)
       → SettimeTells (object_answer x (call_by k arm reading)) answer → Noted k arm (object_answer x (call_by k arm reading))
-  settime_noted over.Raw (objects.Posix t) arm allows tells = posix_noted t arm tells
-  settime_noted over.Posix (objects.Posix t) arm allows tells = posix_noted t arm tells
-  settime_noted over.Fd (objects.Fd t) arm allows tells = fd_noted t arm tells
-  settime_noted k x arm allows tells = absurd allows
+  settime_noted k objects.Raw arm allows tells = absurd allows
+  settime_noted over.Raw (objects.Fd t) arm allows tells = absurd allows
+  settime_noted over.Posix (objects.Fd t) arm allows tells = absurd allows
+  settime_noted over.Fd (objects.Posix t) arm allows tells = absurd allows
+  settime_noted k x (arms.Unarmed stamp) allows tells =
+      noted_so k (arms.Unarmed stamp) _ (settimes.Unarmed stamp) (refl, refl, λ clock. refl) (ap settime_told tells)
+      (λ w timer last armed. (record { stamp = armed.0; holds = armed.1 }, armed.2))
+  settime_noted over.Fd (objects.Fd t) arm allows tells = old (answers_canceled t flags value reading) tells
+    where
+      old : (b : Bool) → answer ≡ (if b then settings.Canceled else settings.Old (fd_left t reading) t.interval)
+          → Noted over.Fd arm (replies.Fd (fd_replies.Settime (if b then settings.Canceled else settings.Old (fd_left t reading) t.interval)))
+      old true is = noted_so over.Fd arm _ settimes.Canceled (refl, refl, λ clock. refl) (ap settime_told is) (λ w timer last armed. tt)
+      old false is =
+          noted_so over.Fd arm _ (settimes.Old (fd_left t reading) t.interval) (refl, refl, λ clock. refl) (ap settime_told is)
+          (λ w timer last armed. tt)
+  settime_noted k (objects.Posix t) arm allows tells =
+      noted_so k arm _ (settimes.Old (posix_left t reading) t.interval) (refl, refl, λ clock. refl) (ap settime_told tells)
+      (λ w timer last armed. tt)

@@ -1,8 +1,7 @@
 -- A settime's arguments, the object that it is made on, and the start that it wants.
-use Rattle.std.proofs.Common.{◌≡◌, ◌<◌, ℕ, ◌||◌, Bool, true, false, nat_eq, not, if◌then◌else◌, None, Some, List, arith, refl, sym, ap, subst}
+use Rattle.std.proofs.Common.{◌≡◌, ℕ, ◌||◌, Bool, true, false, nat_eq, not, if◌then◌else◌, None, Some, List, arith, refl, sym, ap, subst}
 use Rattle.std.specs.Prelude.{MatchOption}
-use Rattle.std.proofs.lemmas.Bool.{eqb-true, leb-false, leb-true}
-use Rattle.ktime.specs.Times.{second}
+use Rattle.std.proofs.lemmas.Bool.{eqb-true}
 use Rattle.ktime.specs.declared.timespec.TimeSpec.{TimeSpec}
 use Rattle.timer_setting.specs.Arguments.{AreValid, bits_beyond, is_bad, mode_by}
 use Rattle.timer_setting.specs.declared.arming.Arm.{Arm}
@@ -40,6 +39,9 @@ use Rattle.timer_objects.specs.Cells.{cell_meaning}
 use Rattle.script_text.specs.Objects.{armed_in_phase, kind_of}
 use Rattle.hr_timers.specs.Known.{timer_then}
 use Rattle.timer_objects.specs.Known.{decl_at}
+use Rattle.timer_objects.specs.declared.object.Kind as object_kind
+use Rattle.std.proofs.lemmas.Bool.Decides.{nat_tests}
+use Rattle.std.proofs.lemmas.Grind.{common_steps}
 
 -- ---- its arguments
 
@@ -51,32 +53,30 @@ IsRefusal unknown value interval refusal = (settime_told refusal ≡ answers.Inv
 pub checked : (unknown : ℕ) (value interval : TimeSpec)
     → MatchOption (if not (nat_eq unknown 0) then Some settings.BadFlags else (if is_bad value || is_bad interval then Some settings.BadTime else None))
     (AreValid unknown value interval) (IsRefusal unknown value interval)
-checked unknown value interval = by_tests (nat_eq unknown 0) (is_bad value) (is_bad interval) refl refl refl
+checked unknown value interval = by_tests (nat_eq unknown 0) (is_bad value || is_bad interval) refl refl
   where
-    late : (time : TimeSpec) → is_bad time ≡ true → time.nsec < second → ⊥
-    late time bad good = let le = leb-true second time.nsec bad in omega (arith, le, good)
-
-    by_tests : (a b c : Bool) → nat_eq unknown 0 ≡ a → is_bad value ≡ b → is_bad interval ≡ c
-        → MatchOption (if not a then Some settings.BadFlags else (if b || c then Some settings.BadTime else None)) (AreValid unknown value interval)
+    by_tests : (a b : Bool) → nat_eq unknown 0 ≡ a → (is_bad value || is_bad interval) ≡ b
+        → MatchOption (if not a then Some settings.BadFlags else (if b then Some settings.BadTime else None)) (AreValid unknown value interval)
         (IsRefusal unknown value interval)
-    by_tests false b c flags bad_value bad_interval = (refl, λ v. let known = ap (λ n. nat_eq n 0) v.known in absurd (cc))
-    by_tests true true c flags bad_value bad_interval = (refl, λ v. late value bad_value v.good_value)
-    by_tests true false true flags bad_value bad_interval = (refl, λ v. late interval bad_interval v.good_interval)
-    by_tests true false false flags bad_value bad_interval =
-        let good = leb-false second value.nsec bad_value in
-        record { known = eqb-true unknown 0 flags; good_value = good; good_interval = leb-false second interval.nsec bad_interval }
+    by_tests false b flags bad = (refl, λ v. let known = ap (λ n. nat_eq n 0) v.known in absurd (cc))
+    by_tests true true flags bad = (refl, λ v. grind (arith, nat_tests, common_steps, bad, v.good_value, v.good_interval))
+    by_tests true false flags bad = record {
+      known = eqb-true unknown 0 flags;
+      good_value = grind (arith, nat_tests, common_steps, bad);
+      good_interval = grind (arith, nat_tests, common_steps, bad);
+    }
 
 -- law: what an object takes are valid arguments
-pub valid_for : (k : Kind) (flags : ℕ) (value interval : TimeSpec) → AreValidFor k flags value interval
-    → AreValid (bits_beyond (flags_of (over_of k)) flags) value interval
-valid_for (kinds.Raw callback) flags value interval valid = absurd valid
-valid_for k flags value interval valid = valid
+pub valid_for : (k : Kind) (d : object_kind.Kind) (flags : ℕ) (value interval : TimeSpec) → d ≡ over_of k → AreValidFor k flags value interval
+    → AreValid (bits_beyond (flags_of d) flags) value interval
+valid_for (kinds.Raw callback) d flags value interval is valid = absurd valid
+valid_for k d flags value interval is valid = subst (λ o. AreValid (bits_beyond (flags_of o) flags) value interval) (sym is) valid
 
 -- law: an object takes valid arguments, and its settime's flags give how its value is meant
-pub takes_valid : (k : Kind) (flags : ℕ) (value interval : TimeSpec) → (over_of k ≡ over.Raw → ⊥)
-    → (AreValid (bits_beyond (flags_of (over_of k)) flags) value interval → AreValidFor k flags value interval) × (start_mode k flags ≡ mode_by flags)
-takes_valid (kinds.Raw callback) flags value interval object = absurd (object refl)
-takes_valid k flags value interval object = (λ valid. valid, refl)
+pub takes_valid : (k : Kind) (d : object_kind.Kind) (flags : ℕ) (value interval : TimeSpec) → d ≡ over_of k → (over_of k ≡ over.Raw → ⊥)
+    → (AreValid (bits_beyond (flags_of d) flags) value interval → AreValidFor k flags value interval) × (start_mode k flags ≡ mode_by flags)
+takes_valid (kinds.Raw callback) d flags value interval is object = absurd (object refl)
+takes_valid k d flags value interval is object = (λ valid. subst (λ o. AreValid (bits_beyond (flags_of o) flags) value interval) is valid, refl)
 
 -- ---- its object
 

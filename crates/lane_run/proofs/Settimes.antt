@@ -30,9 +30,8 @@ use Rattle.lane_run.specs.Kept.{Follows, IsNextCall, KeepsCall}
 use Rattle.lane_run.specs.Worlds.{WorldOf}
 use Rattle.lane_run.proofs.CallKept.{reads_begins}
 use Rattle.pass_names.proofs.Passes.{begins_length}
-use Rattle.lane_run.proofs.Declared.{declared_base, declared_over, over_of}
+use Rattle.lane_run.proofs.Declared.{declared_base, declared_over}
 use Rattle.lane_run.proofs.Sights.{keeps_full, keeps_same}
-use Rattle.timer_objects.specs.declared.object.Kind.{Kind}
 use Rattle.timer_objects.specs.Steps.{ObjectAllows}
 use Rattle.timer_objects.specs.Arming.{receipts_of}
 use Rattle.hr_timers.specs.Calls.{cancel_entries}
@@ -54,10 +53,6 @@ module _ {s : Script} {x : WorldOf} {l : LaneOf} (m : LaneOf) {timer flags : ℕ
     (valid : AreValid (bits_beyond (flags_of (decl_at x.objects timer).kind) flags) value interval) where
   abbrev w : KnownOfTimers
   w = m.pass.timers.known
-
-  -- the number of the object's entry
-  abbrev number : ℕ
-  number = length set.enters.commits.adds.before + 1
 
   abbrev call : ObjectCall
   call = settime_by x.objects timer flags (time_of value) (time_of interval) reading set.arm
@@ -87,13 +82,12 @@ module _ {s : Script} {x : WorldOf} {l : LaneOf} (m : LaneOf) {timer flags : ℕ
 
   module _ {e : Ending} (follows : Follows m.pass e) (joined : IsJoined s e) where
     is_set : IsSet (course_of s e) l.label part.part.0 reading.stamp (length begin.seen) (length w.seen) timer flags value interval disarmed.0
-        (arm_noted set.arm) part.start number
+        (arm_noted set.arm) part.start (length set.enters.commits.adds.before + 1)
     is_set =
-        let takes = takes_valid (kind_of s timer) flags value interval
+        let takes = takes_valid (kind_of s timer) _ flags value interval (declared_over s x timer next.world)
         (λ raw. let none = raw_object next set.enters.commits.at raw in subst (λ y. ObjectAllows y call) none.0 set.enters.may.allowed) in
         record {
-          taken = takes.0
-              (subst (λ k. AreValid (bits_beyond (flags_of k) flags) value interval) (declared_over s x timer next.world) valid);
+          taken = takes.0 valid;
           arms = subst (λ b. Arms timer (start_mode (kind_of s timer) flags) (nanoseconds_of value) reading.stamp b (arm_noted set.arm) part.start)
               (declared_base s x timer next.world)
               (subst (λ k. Arms timer k (time_of value) reading.stamp (decl_at x.objects timer).base (arm_noted set.arm) part.start) (sym takes.1)
@@ -137,37 +131,31 @@ keeps_settime {s = s} {x = x} {l = l} {m = m} {a = a} {timer = timer} {flags = f
     c : CallsObject x l m a (λ old new reading. Settimes x.objects x.timers.about old new timer flags value interval reading called.0)
     c = called.2
 
-    -- valid arguments of its kind, in the world and in the script
-    Valid : Kind → Type 0
-    Valid k = AreValid (bits_beyond (flags_of k) flags) value interval
-
-    declared : (decl_at x.objects timer).kind ≡ over_of (kind_of s timer)
-    declared = declared_over s x timer next.world
+    Valid : Type 0
+    Valid = AreValid (bits_beyond (flags_of (decl_at x.objects timer).kind) flags) value interval
 
     Made : SettimeAnswer → Type 0
     Made answer =
         SettimeMade x.objects x.timers.about (caller_of l.pass [] []) (caller_of m.pass c.log c.object_log) timer flags (time_of value)
         (time_of interval) c.reading answer
 
-    by_answer : (answer : SettimeAnswer) → Valid (decl_at x.objects timer).kind → Made answer
+    by_answer : (answer : SettimeAnswer) → Valid → Made answer
         → KeepsCall s l (calls.Settime timer flags value interval) (settime_told answer) m
-    by_answer (settings.Old left old) valid made = keeps_set m next c.reads c.notes made valid
-    by_answer (settings.Unarmed n) valid made = keeps_set m next c.reads c.notes made valid
-    by_answer settings.Canceled valid made = keeps_set m next c.reads c.notes made valid
     by_answer (settings.Spent n) valid full =
-        let takes = takes_valid (kind_of s timer) flags value interval
+        let takes = takes_valid (kind_of s timer) _ flags value interval (declared_over s x timer next.world)
         (λ raw. let none = raw_object next full.reads.at raw in omega (arith, none.1, full.full, full.stamp, next.world.limit, next.range.limit.0)) in
         keeps_full next (answers.Spent n) timer n c.log c.object_log full (reads_begins l.pass m.pass c.reads.looks.seen) c.reads.looks.mine c.notes refl
-        refl (refl, takes.0 (subst Valid declared valid)) (λ e saw. saw)
-    by_answer answer valid made = absurd made
+        refl (refl, takes.0 valid) (λ e saw. saw)
+    by_answer settings.BadFlags valid made = absurd made
+    by_answer settings.BadTime valid made = absurd made
+    by_answer answer valid made = keeps_set m next c.reads c.notes made valid
 
     by_arguments : (refusal : Option SettimeAnswer)
-        → MatchOption refusal (Valid (decl_at x.objects timer).kind)
-        (IsRefusal (bits_beyond (flags_of (decl_at x.objects timer).kind) flags) value interval)
+        → MatchOption refusal Valid (IsRefusal (bits_beyond (flags_of (decl_at x.objects timer).kind) flags) value interval)
         → MatchOption refusal (Made called.0) (λ r. (called.0 ≡ r) × (caller_of m.pass c.log c.object_log ≡ caller_of l.pass [] []))
         → KeepsCall s l (calls.Settime timer flags value interval) (settime_told called.0) m
     by_arguments None valid made = by_answer called.0 valid made
     by_arguments (Some refusal) bad refused =
         subst (λ b. KeepsCall s l (calls.Settime timer flags value interval) b m) (sym (ap settime_told refused.0 ∙ bad.0))
         (keeps_same next answers.Invalid timer c.log c.object_log refused.1 (reads_begins l.pass m.pass c.reads.looks.seen) c.reads.looks.mine c.notes
-        refl refl (refl, λ v. bad.1 (subst Valid (sym declared) (valid_for (kind_of s timer) flags value interval v))) (λ e. tt))
+        refl refl (refl, λ v. bad.1 (valid_for (kind_of s timer) _ flags value interval (declared_over s x timer next.world) v)) (λ e. tt))
