@@ -1,24 +1,17 @@
 -- Cancels and starts of timers by themselves, as their lanes keep them.
-use Rattle.std.proofs.Common.{◌≡◌, ℕ, ◌+◌, ◌-◌, ◌^◌, zero, suc, nat_eq, Bool, true, false, is_some, unwrap_or, if◌then◌else◌, None, Some, List, [], ◌∷◌, length, map, arith, refl, sym, ap, ◌∙◌, subst}
-use Rattle.std.specs.List.{AllByRecursion}
-use Rattle.std.proofs.lemmas.Bool.Decides.{nat_tests}
+use Rattle.std.proofs.Common.{◌≡◌, ℕ, ◌+◌, unwrap_or, List, [], ◌∷◌, length, map, refl, sym, ap, ◌∙◌, subst}
 use Rattle.ktime.specs.Readings.{ClockReading}
 use Rattle.ktime.specs.declared.mode.Mode.{Mode}
 use Rattle.clock_cell.specs.Views.{writes}
-use Rattle.seq_timer.specs.Steps.{after, Timer}
-use Rattle.seq_timer.specs.Systems.{openings}
 use Rattle.seq_timer.specs.declared.event.Event.TheVariants as events
 use Rattle.seq_timer.specs.declared.event.Event.{Event}
 use Rattle.seq_timer.specs.declared.event.Reply.TheVariants as replies
 use Rattle.seq_timer.specs.declared.observation.Observation.TheVariants as observations
 use Rattle.timer_core.specs.Answers.{moves_first, start_events}
-use Rattle.timer_core.specs.Kept.{step_all}
 use Rattle.timer_core.specs.Runs.{entries_along}
 use Rattle.timer_core.specs.declared.answer.CancelAnswer.{CancelAnswer}
 use Rattle.timer_core.specs.declared.answer.CancelAnswer.TheVariants as cancels
-use Rattle.base_row.specs.declared.view.Opening.{Opening}
-use Rattle.expire_pass.specs.declared.log.Receipt.{Receipt}
-use Rattle.hr_timers.specs.Calls.{Cancels, start_answer, StartsTimer}
+use Rattle.hr_timers.specs.Calls.{Cancels, StartsTimer}
 use Rattle.hr_timers.specs.Known.{MadeAt, timer_then}
 use Rattle.hr_timers.specs.declared.answer.StartAnswer.{StartAnswer}
 use Rattle.hr_timers.specs.declared.answer.StartAnswer.TheVariants as starts
@@ -26,25 +19,19 @@ use Rattle.record_text.specs.declared.record.Answer.TheVariants as answers
 use Rattle.record_text.specs.declared.record.Answer.{Answer}
 use Rattle.record_text.specs.declared.record.Entry.TheVariants as entries
 use Rattle.record_text.specs.declared.record.ClockLine.{ClockLine}
-use Rattle.record_text.specs.declared.record.Label.{Label}
 use Rattle.script_text.specs.Actions.{Entered}
 use Rattle.script_text.specs.Histories.{reading_at}
-use Rattle.script_text.specs.Starts.{Arming, arming_actions, IsJustBefore, was_armed_before}
+use Rattle.script_text.specs.Starts.{arming_actions, was_armed_before}
 use Rattle.script_text.specs.declared.script.Call.TheVariants as calls
-use Rattle.script_text.specs.declared.script.Call.{Call}
 use Rattle.script_text.specs.declared.script.Script.{Script}
-use Rattle.lane_notes.specs.Entries.{entry_notes, look_notes}
 use Rattle.run_history.specs.Courses.{clocks_of}
 use Rattle.run_history.specs.Receipts.{receipt}
-use Rattle.run_history.specs.Traces.{all_entered}
-use Rattle.run_history.proofs.Known.{numbered}
 use Rattle.run_history.proofs.OthersMade.{cancelled_made, plain, started_made}
-use Rattle.lane_run.specs.Called.{CallsCancel, CallsStart, cancel_receipts, cancel_told, entry_receipt, LaneOf, Reads, start_receipt, start_receipts, start_told, with_done}
-use Rattle.lane_run.specs.Kept.{entry_in_note, IsNextCall, KeepsCall}
+use Rattle.lane_run.specs.Called.{CallsCancel, CallsStart, cancel_receipts, cancel_told, LaneOf, Reads, start_receipts, start_told, with_done}
+use Rattle.lane_run.specs.Kept.{IsNextCall, KeepsCall}
 use Rattle.lane_run.specs.Worlds.{WorldOf}
-use Rattle.lane_run.proofs.Entering.{enters_along, HasReading, lines_along}
+use Rattle.lane_run.proofs.Entering.{enters_along}
 use Rattle.lane_run.proofs.CallKept.{leaves_begins, reads_begins, reading_goes_on, opened_timers}
-use Rattle.lane_run.proofs.PartLists.{IsEntered}
 use Rattle.lane_run.proofs.Sights.{keeps_entered, keeps_quiet, saw_quiet, still_quiet, looks_at}
 use Rattle.lane_run.proofs.Sights.{notes_alone}
 use Rattle.lane_run.proofs.Starts.{started_so, start_reads}
