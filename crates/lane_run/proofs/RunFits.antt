@@ -29,10 +29,10 @@ run_recorded s x p r q range world first passes last run =
     let whole = whole_of s x range world in
     let left = left_by_rounds s x p q run.left (keeps_call s x) world range whole first run.rounds in
     let of : AreLastOf s x q = record { range = range; world = world; whole = whole; passes = passes; last = last } in
-    let r = record_from run.sorted (length s.timers) run.left.answers in
-    let e = ending_of r q left.0 left.1 in
+    let record_is = record_from run.sorted (length s.timers) run.left.answers in
+    let e = ending_of record_is q left.0 left.1 in
     subst (λ y. IsWholeRecord s y q) (sym run.shows) (record {
-      fits = run_fits s r (is_run of left.2 run.in_order run.left.answers left.1 left.3);
+      fits = run_fits s record_is (is_run of left.2 run.in_order run.left.answers left.1 left.3);
       shows = record {
         clock = clock_writes of left.2 run.in_order;
         timers = shows s e (is_ending of left.2 run.in_order run.left.answers left.1 left.3);
