@@ -1,73 +1,22 @@
 -- The whole record of sorted notes: each timer's and object's lines, and what stands under them.
-use mathlib.Core.Bool.{cond}
-use Rattle.std.proofs.Common.{◌≡◌, ℕ, ◌+◌, ◌<◌, ◌≤◌, suc, true, false, nat_eq, List, [], ◌∷◌, Some, filter, map, arith, refl, sym, ap, ◌∙◌, subst}
+use Rattle.std.proofs.Common.{◌≡◌, ℕ, ◌+◌, suc, List, [], ◌∷◌, Some, filter, map, refl, sym, ap, ◌∙◌, subst}
 use Rattle.std.specs.List.{AllByRecursion, slice_get}
-use Rattle.std.proofs.Math.Logic.{⊎_elim}
-use Rattle.std.proofs.lemmas.Bool.{cases_lt, eq-eqb, eqb-true}
-use Rattle.record_text.specs.declared.record.Answer.{Answer}
+use Rattle.std.proofs.lemmas.Bool.{eqb-true}
 use Rattle.record_text.specs.declared.record.Label.{Label}
 use Rattle.record_text.specs.declared.record.Look.{Look}
 use Rattle.record_text.specs.declared.record.Skip.{Skip}
 use Rattle.record_text.specs.declared.record.ObjectLine.{ObjectLine}
 use Rattle.record_text.specs.declared.record.TimerLine.{TimerLine}
 use Rattle.script_text.specs.Order.{AreSorted}
-use Rattle.script_text.specs.Histories.{lines_of_timer}
-use Rattle.script_text.specs.Objects.{lines_of_object}
 use Rattle.lane_notes.specs.declared.notes.EntryNote.{EntryNote}
 use Rattle.lane_notes.specs.declared.notes.LookNote.{LookNote}
 use Rattle.lane_notes.specs.declared.notes.ObjectNote.{ObjectNote}
 use Rattle.lane_notes.specs.declared.notes.SkipNote.{SkipNote}
-use Rattle.lane_notes.specs.Notes.{NotesOf}
 use Rattle.lane_notes.specs.Sorted.{IsSortedOf, Place, place_of_entry, is_of_list, is_of_number, place_of_look, place_of_object, place_of_skip}
-use Rattle.lane_notes.specs.Records.{look_of, noted_lines, noted_object_lines, noted_timer_lines, object_line, record_from, skip_of, timer_line}
-use Rattle.lane_notes.proofs.Lists.{
-  entry_note_shape,
-  lines_of_object-none,
-  lines_of_object-record_from,
-  lines_of_timer-none,
-  lines_of_timer-record_from,
-  noted_lines-shown,
-  noted_lines-under,
-  object_line_shape,
-  object_note_shape,
-  timer_line_shape,
-}
-use Rattle.lane_notes.proofs.Standing.{AtMostOne, HasPlace, filter_stands_in, map_stands_in, stands_in_filter, stands_in_map}
+use Rattle.lane_notes.specs.Records.{look_of, noted_lines, noted_object_lines, noted_timer_lines, object_line, skip_of, timer_line}
+use Rattle.lane_notes.proofs.Lists.{noted_lines-under}
+use Rattle.lane_notes.proofs.Standing.{AtMostOne, HasPlace, filter_stands_in, map_stands_in}
 use Rattle.lane_notes.proofs.UnderLines.{AreSorted-labels_at, is_of_call, labels_at}
-
--- notes of lists below a number are none of a list from there on
-none_past : {X : Type 0} (place : X → Place) (count l : ℕ) (xs : List X) → count ≤ l → AllByRecursion (λ x. (place x).list < count) xs
-    → filter (is_of_list place l) xs ≡ []
-none_past place count l [] past below = refl
-none_past place count l (x ∷ xs) past below =
-    elim (nat_eq (place x).list l) as (λ b. nat_eq (place x).list l ≡ b → cond b (x ∷ filter (is_of_list place l) xs) (filter (is_of_list place l) xs) ≡ []) [
-      | true ↦ λ is. absurd (omega (arith, past, below.0, eqb-true (place x).list l is))
-      | false ↦ λ not. none_past place count l xs past below.1
-    ] refl
-
--- law: lines of a list show its sorted notes, where all are of lists that are there and there are no others
-shown_by : {N U L A : Type 0} (under : U → Place) (line : N → List U → L) (place : N → Place) (shown : L → A) (told : N → A)
-    → ((n : N) (us : List U) → shown (line n us) ≡ told n) → (count l : ℕ) (notes : List N) (unders : List U) (lines : List L)
-    → (l < count → lines ≡ noted_lines under line place l notes unders) → (count ≤ l → lines ≡ []) → AllByRecursion (λ n. (place n).list < count) notes
-    → map shown lines ≡ map told (filter (is_of_list place l) notes)
-shown_by under line place shown told same count l notes unders lines there none below =
-    ⊎_elim (λ (less : l < count). ap (map shown) (there less) ∙ noted_lines-shown under line place l notes unders shown told same)
-    (λ (past : count ≤ l). ap (map shown) (none past) ∙ ap (map told) (sym (none_past place count l notes past below)))
-    (cases_lt l count)
-
--- law: each timer's lines show its sorted notes, where all are of timers that are there
-pub lines_shape : (s : NotesOf) (timers : ℕ) (answers : List (List Answer)) (t : ℕ) → AllByRecursion (λ n. n.timer < timers) s.entries
-    → map timer_line_shape (lines_of_timer (record_from s timers answers) t) ≡ map entry_note_shape (filter (is_of_list place_of_entry t) s.entries)
-lines_shape s timers answers t below =
-    shown_by place_of_look timer_line place_of_entry timer_line_shape entry_note_shape (λ n us. refl) timers t s.entries s.looks _
-    (lines_of_timer-record_from s timers answers t) (lines_of_timer-none s timers answers t) below
-
--- law: each object's lines do
-pub object_lines_shape : (s : NotesOf) (timers : ℕ) (answers : List (List Answer)) (i : ℕ) → AllByRecursion (λ n. n.object < timers) s.objects
-    → map object_line_shape (lines_of_object (record_from s timers answers) i) ≡ map object_note_shape (filter (is_of_list place_of_object i) s.objects)
-object_lines_shape s timers answers i below =
-    shown_by place_of_skip object_line place_of_object object_line_shape object_note_shape (λ n us. refl) timers i s.objects s.skips _
-    (lines_of_object-record_from s timers answers i) (lines_of_object-none s timers answers i) below
 
 -- ---- what stands under a line
 
@@ -82,12 +31,6 @@ at_number place l n xs x s =
     let outer = filter_stands_in (is_of_number place n) (filter (is_of_list place l) xs) x s in
     let inner = filter_stands_in (is_of_list place l) xs x outer.0 in
     (inner.0, eqb-true (place x).list l inner.1, eqb-true (place x).number n outer.1)
-
-number_at : {X : Type 0} (place : X → Place) (l n : ℕ) (xs : List X) (x : X) → HasPlace xs x → (place x).list ≡ l → (place x).number ≡ n
-    → HasPlace (filter (is_of_number place n) (filter (is_of_list place l) xs)) x
-number_at place l n xs x s is_list is_number =
-    stands_in_filter (is_of_number place n) (filter (is_of_list place l) xs) x (eq-eqb (place x).number n is_number)
-    (stands_in_filter (is_of_list place l) xs x (eq-eqb (place x).list l is_list) s)
 
 -- a note that stands, as it is told, under line k of a timer or of its object, which has the same number
 pub record IsUnder {U S : Type 0} (place : U → Place) (told : U → S) (l k : ℕ) (notes : List U) (s : S) : Type 0 where
@@ -113,10 +56,6 @@ module _ {N U L S : Type 0} (under : U → Place) (line : N → List U → L) (p
       let n = at_number under l (k + 1) unders m.0 m.1 in
       record { note = m.0; noted = n.0; timer = n.1; number = n.2; is = m.2 }
 
-  noted_stands : (u : U) → HasPlace unders u → (under u).list ≡ l → (under u).number ≡ k + 1 → HasPlace (of x) (told u)
-  noted_stands u s list number =
-      subst (λ ss. HasPlace ss (told u)) (sym told_here) (stands_in_map told here u (number_at under l (k + 1) unders u s list number))
-
   labels_under : (label : S → Label) → ((u : U) → label (told u) ≡ (under u).label) → map label (of x) ≡ labels_at under l (k + 1) unders
   labels_under label same = ap (map label) told_here ∙ labels here
     where
@@ -134,13 +73,6 @@ pub skip_is_noted : (i : ℕ) (entries : List ObjectNote) (skips : List SkipNote
     → slice_get (noted_object_lines i entries skips) k ≡ Some line → HasPlace line.skips x → IsUnder place_of_skip skip_of i k skips x
 skip_is_noted i entries skips k line x at =
     is_noted place_of_skip object_line place_of_object (λ y. y.skips) skip_of (λ n us. refl) i entries skips k line at x
-
--- law: each note of a line that is there stands under it
-pub noted_look_stands : (t : ℕ) (entries : List EntryNote) (looks : List LookNote) (k : ℕ) (line : TimerLine) (note : LookNote)
-    → slice_get (noted_timer_lines t entries looks) k ≡ Some line → HasPlace looks note → note.timer ≡ t → note.number ≡ k + 1
-    → HasPlace line.looks (look_of note)
-noted_look_stands t entries looks k line note at =
-    noted_stands place_of_look timer_line place_of_entry (λ x. x.looks) look_of (λ n us. refl) t entries looks k line at note
 
 -- law: under each line of a timer the labels stand in order, where each one looked once at most after each entry
 pub looks_sorted : (t : ℕ) (entries : List EntryNote) (noted looks : List LookNote) → IsSortedOf place_of_look noted looks

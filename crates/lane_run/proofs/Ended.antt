@@ -12,7 +12,7 @@ use Rattle.lane_notes.specs.Records.{record_from}
 use Rattle.lane_notes.specs.Sorted.{IsSortedFrom}
 use Rattle.run_history.specs.Runs.{CallLog, Starts, Ending, IsEnding, IsRun}
 use Rattle.lane_run.specs.Kept.{Follows}
-use Rattle.lane_run.specs.Left.{AreLastOf, AreLeft, ending_of, IsRecorded, AreByRounds}
+use Rattle.lane_run.specs.Left.{AreLastOf, AreLeft, ending_of, AreByRounds}
 use Rattle.lane_run.specs.Worlds.{WorldOf}
 use Rattle.lane_run.specs.declared.world.WorldPass.{WorldPass}
 use Rattle.lane_run.proofs.ClockLines.{clock_accepted, clock_few, clock_goes_on, clock_in_span, clock_lines, clock_lines_long, clock_own}
@@ -24,6 +24,11 @@ use Rattle.seq_timer.specs.Systems.{AreSystemSteps, first_system, openings}
 use Rattle.base_row.specs.declared.view.Opening.{Opening}
 use Rattle.lane_notes.proofs.Lists.{length-objects, length-timers}
 use Rattle.run_history.specs.Courses.{clocks_of}
+use Rattle.std.proofs.Common.{◌≡◌, ℕ}
+use Rattle.clock_cell.specs.Views.{writes}
+use Rattle.run_history.specs.Promises.{HasLog}
+use Rattle.script_text.specs.Histories.{clock_labels}
+use Rattle.script_text.specs.Objects.{object_labels}
 
 module _ {s : Script} {x : WorldOf} {q : WorldPass} {notes sorted : NotesOf} {logs : Label → CallLog} (last : AreLastOf s x q) (left : AreLeft s q notes logs)
     (is : IsSortedFrom notes sorted) (answers : List (List Answer)) (starts : Starts) where
@@ -43,62 +48,55 @@ module _ {s : Script} {x : WorldOf} {q : WorldPass} {notes sorted : NotesOf} {lo
     };
   }
 
-  -- law: the record of the sorted notes has what the lanes have left
-  pub recorded : IsRecorded s q e
-  recorded = record {
-    sorted = filed_notes last left is answers;
-    filed = are_filed last left is answers;
-    entries = λ c. (left.stand c).shows e follows;
-    inside = receipts_inside last left is answers;
-    follows = follows;
-    has = λ c. record {
-      kept = refl;
-      clock = clock_own last left is c;
-      looks = looks_own last left is answers c;
-      objects = object_own last left is answers c;
-      skips = skips_own last left is answers c;
-    };
-    clock_inside = clock_in_span last left is;
-    clock_length = length-map (clock_lines last left is) (λ (line : ClockLine). line.label) ∙ clock_lines_long last left is;
-    writes = clock_accepted last left is;
-    objects_inside = object_in_span last left is answers;
-    objects_length = λ i. length-map (lines_of_object e.run i) (λ (line : ObjectLine). line.label) ∙ object_lines_long last left is answers i;
-    object_histories = λ i. (object_histories last left is answers starts i).0;
-    spans = λ i. (object_histories last left is answers starts i).1;
+  -- law: it has of each call what its lane kept
+  has : (c : Label) → HasLog e c (logs c)
+  has c = record {
+    kept = refl;
+    clock = clock_own last left is c;
+    looks = looks_own last left is answers c;
+    objects = object_own last left is answers c;
+    skips = skips_own last left is answers c;
   }
+
+  -- the clock has as many lines as writes were seen, and each object as many as its entries
+  clock_long : length (clock_labels e.run) ≡ length (writes q.clock.knows)
+  clock_long = length-map (clock_lines last left is) (λ (line : ClockLine). line.label) ∙ clock_lines_long last left is
+
+  objects_long : (i : ℕ) → length (object_labels e.run i) ≡ length (seen_of q.objects i)
+  objects_long i = length-map (lines_of_object e.run i) (λ (line : ObjectLine). line.label) ∙ object_lines_long last left is answers i
 
   module _ (rounds : AreByRounds s q logs starts answers) where
     -- law: so it has the parts that make a run
     pub is_ending : IsEnding s e
-    is_ending = let all = recorded in record {
+    is_ending = record {
       history = subst (λ n. AreSystemSteps s.bases n (first_system (openings (clocks_of s) s.limit)) q.timers.known.seen) (length-map (clocks_of s) _)
           (subst (λ (o : Opening). AreSystemSteps o.bases (length o.timers) (first_system o.timers) q.timers.known.seen) last.world.timers
           last.passes.timers.knows.history);
-      sorted = all.sorted;
-      filed = all.filed;
-      entries = all.entries;
+      sorted = filed_notes last left is answers;
+      filed = are_filed last left is answers;
+      entries = λ c. (left.stand c).shows e follows;
       ledger = rounds.moves e.run;
       whole = rounds.moves_most;
-      inside = all.inside;
+      inside = receipts_inside last left is answers;
       clock_laid = record {
-        inside = all.clock_inside;
+        inside = clock_in_span last left is;
         ledger = rounds.clock e.run;
-        most = λ c label. subst (λ n. (logs c).clock.1 ≤ n) (sym all.clock_length) (rounds.clock_most c label);
+        most = λ c label. subst (λ n. (logs c).clock.1 ≤ n) (sym clock_long) (rounds.clock_most c label);
       };
-      writes = all.writes;
+      writes = clock_accepted last left is;
       objects_laid = λ i. record {
-        inside = all.objects_inside i;
+        inside = object_in_span last left is answers i;
         ledger = rounds.objects e.run i;
-        most = λ c label. subst (λ n. ((logs c).objects i).1 ≤ n) (sym (all.objects_length i)) (rounds.objects_most i c label);
+        most = λ c label. subst (λ n. ((logs c).objects i).1 ≤ n) (sym (objects_long i)) (rounds.objects_most i c label);
       };
-      object_histories = all.object_histories;
-      spans = all.spans;
+      object_histories = λ i. (object_histories last left is answers starts i).0;
+      spans = λ i. (object_histories last left is answers starts i).1;
       looks = looks_under last left is answers;
       skips = skips_under last left is answers;
       timers = length-timers sorted (length s.timers) answers;
       objects = length-objects sorted (length s.timers) answers;
       lanes = rounds.lanes;
-      calls = λ lane joined. rounds.calls e all.follows all.has joined lane;
+      calls = λ lane joined. rounds.calls e follows has joined lane;
     }
 
     -- law: the record may be left by a run

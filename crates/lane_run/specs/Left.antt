@@ -69,23 +69,6 @@ ending_of r q logs starts = record {
   starts = starts;
 }
 
--- what the record of the notes has: all that makes a run but where its calls stand by rounds, and what its lanes promise
-pub record IsRecorded (s : Script) (q : WorldPass) (e : Ending) : Type 0 where
-  pub sorted : List Filed
-  pub filed : AreFiled e.run e.order (notes_in e) sorted
-  pub entries : (c : Label) → AllByRecursion (ShowsEntry e.run e.order) (notes_in e c)
-  pub inside : (c : Label) → AllByRecursion (λ x. IsLabel s c × ((e.logs c).moves.0 ≤ x.place) × (x.place < (e.logs c).moves.1)) (notes_in e c)
-  pub follows : Follows q e
-  pub has : (c : Label) → HasLog e c (e.logs c)
-  pub clock_inside : (n : ℕ) (c : Label) → slice_get (clock_labels e.run) n ≡ Some c → IsLabel s c × ((e.logs c).clock.0 ≤ n) × (n < (e.logs c).clock.1)
-  pub clock_length : length (clock_labels e.run) ≡ length (writes q.clock.knows)
-  pub writes : AreWrites (at_stamp 0) e.run.clock
-  pub objects_inside : (i n : ℕ) (c : Label) → slice_get (object_labels e.run i) n ≡ Some c
-      → IsLabel s c × (((e.logs c).objects i).0 ≤ n) × (n < ((e.logs c).objects i).1)
-  pub objects_length : (i : ℕ) → length (object_labels e.run i) ≡ length (seen_of q.objects i)
-  pub object_histories : (i : ℕ) → IsLegalObject s e.run i (kind_of s i)
-  pub spans : (i : ℕ) → AreBehind (e.spans i) 1 0 (lines_of_object e.run i)
-
 -- where calls stand by rounds, and what lanes promise, whatever the record
 pub record AreByRounds (s : Script) (q : WorldPass) (logs : Label → CallLog) (starts : Starts) (answers : List (List Answer)) : Type 0 where
   pub moves : (r : RunRecord) → IsLedger s (moves_spans (ending_of r q logs starts))
