@@ -7,24 +7,24 @@ ghost use Rattle.hrt_app.specs.Streams.{HasCause};
 use crate::stream::{Failed, Sink, Source};
 use std::io::{Read, Write};
 
-/// A reader of std, with a count of its errors.
+/// A reader or a writer of std, with a count of its errors and of the writes that took nothing.
 #[derive(Drop)]
-pub struct ReaderSource<R> {
-    inner: R,
+pub struct Counted<S> {
+    inner: S,
     faults: u64,
 }
 
-impl<R: Read> ReaderSource<R> {
-    /// The reader as a source that hasn't failed yet.
-    pub fn new(inner: R) -> Self
+impl<S> Counted<S> {
+    /// The reader or writer, as a source or a sink that hasn't failed yet.
+    pub fn new(inner: S) -> Self
         ensures inner { result.inner ≡ inner }
         ensures faults { result.faults ≡ 0 }
     {
-        ReaderSource { inner, faults: 0 }
+        Counted { inner, faults: 0 }
     }
 }
 
-impl<R: Read> Source for ReaderSource<R> {
+impl<R: Read> Source for Counted<R> {
     ghost left = { λ s. R.remaining s.inner };
 
     ghost faults = { λ s. s.faults };
@@ -40,24 +40,7 @@ impl<R: Read> Source for ReaderSource<R> {
     }
 }
 
-/// A writer of std, with a count of its errors and of the writes that took nothing.
-#[derive(Drop)]
-pub struct WriterSink<W> {
-    inner: W,
-    faults: u64,
-}
-
-impl<W: Write> WriterSink<W> {
-    /// The writer as a sink that hasn't failed yet.
-    pub fn new(inner: W) -> Self
-        ensures inner { result.inner ≡ inner }
-        ensures faults { result.faults ≡ 0 }
-    {
-        WriterSink { inner, faults: 0 }
-    }
-}
-
-impl<W: Write> Sink for WriterSink<W> {
+impl<W: Write> Sink for Counted<W> {
     ghost taken = { λ _. None };
 
     ghost faults = { λ s. s.faults };
@@ -113,26 +96,26 @@ mod tests {
         rt: HostRuntime,
     ) -> Result<(), Fail> {
         let mut buf = [0u8; 4];
-        let mut source = ReaderSource::new(b"hrt".as_slice());
+        let mut source = Counted::new(b"hrt".as_slice());
         assert_eq!(rt; source.read(&mut buf), Ok(3));
         assert_eq!(rt; buf, *b"hrt\0");
         assert_eq!(rt; source.read(&mut buf), Ok(0));
         assert_eq!(rt; source.faults, 0);
-        let mut source = ReaderSource::new(Broken);
+        let mut source = Counted::new(Broken);
         assert_eq!(rt; source.read(&mut buf), Err(Failed));
         assert_eq!(rt; source.faults, 1);
 
-        let mut sink = WriterSink::new(Vec::new(rt.alloc()));
+        let mut sink = Counted::new(Vec::new(rt.alloc()));
         assert_eq!(rt; sink.write(b"hrt"), Ok(3));
         assert_eq!(rt; sink.write(b""), Ok(0));
         assert_eq!(rt; sink.inner.as_slice(), b"hrt".as_slice());
         assert_eq!(rt; sink.faults, 0);
         let mut room = [0u8; 2];
-        let mut full = WriterSink::new(room.as_mut_slice());
+        let mut full = Counted::new(room.as_mut_slice());
         assert_eq!(rt; full.write(b"hrt"), Ok(2));
         assert_eq!(rt; full.write(b"t"), Err(Failed));
         assert_eq!(rt; full.faults, 1);
-        let mut sink = WriterSink::new(Broken);
+        let mut sink = Counted::new(Broken);
         assert_eq!(rt; sink.write(b"hrt"), Err(Failed));
         assert_eq!(rt; sink.faults, 1);
         Ok(())

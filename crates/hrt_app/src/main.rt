@@ -13,14 +13,14 @@ mod tests;
 mod top;
 mod transfer;
 
-use adapters::{ReaderSource, WriterSink};
+use adapters::Counted;
 use lane_run::OpenGate;
 use std::env;
 use std::process::ExitCode;
 
 fn main(rt: HostRuntime) -> ExitCode {
-    let mut source = ReaderSource::new(rt.stdin());
-    let mut sink = WriterSink::new(rt.stdout());
+    let mut source = Counted::new(rt.stdin());
+    let mut sink = Counted::new(rt.stdout());
     let status = match command::words(rt.alloc(), env::args(&rt)) {
         Ok(words) => top::top(&rt, &words, &mut source, &mut sink, &OpenGate),
         Err(status) => status,

@@ -11,7 +11,7 @@ use std::thread::Threads;
 
 /// How a run ended: the status; how often the source was called and its count of faults; and both of the sink.
 #[derive(Clone, Copy, Debug, PartialEq, Eq)]
-struct End {
+pub struct End {
     status: Status,
     source: (u64, u64),
     sink: (u64, u64),
@@ -19,7 +19,7 @@ struct End {
 
 /// A run over streams that move at most so many bytes a call and fail at the listed calls, and how it ends.
 #[derive(Clone, Copy)]
-struct Case<'a> {
+pub struct Case<'a> {
     bytes: &'a [u8],
     reads: (usize, &'a [u64]),
     writes: (usize, &'a [u64]),
@@ -28,7 +28,7 @@ struct Case<'a> {
 }
 
 /// The first of these cases that ended otherwise, and how.
-fn first_other<R: Threads + Wait + Sync + AllocGlobal>(
+pub fn first_other<R: Threads + Wait + Sync + AllocGlobal>(
     rt: &R,
     cases: &[Case<'_>],
 ) -> Result<Option<(usize, End)>, Fail> {
@@ -48,42 +48,6 @@ fn first_other<R: Threads + Wait + Sync + AllocGlobal>(
     }
     Ok(None)
 }
-
-/// Bytes that are no script, and the line that refuses them.
-const REFUSED: [(&[u8], &[u8]); 14] = [
-    (b"", b"line 1: Unfinished\n"),
-    (b"hrt 2\n", b"line 1: Version\n"),
-    (b"hrt  1\n", b"line 1: BadSpace\n"),
-    (b"hrt 1 1\n", b"line 1: WordCount\n"),
-    (b"hrt 1\nbas", b"line 2: UnknownWord\n"),
-    (b"hrt 1\nbases 01\n", b"line 2: BadNumber\n"),
-    (b"hrt 1\nbases 9\n", b"line 2: BaseLimit\n"),
-    (b"hrt 1\nlanes 1\n", b"line 2: BadPlace\n"),
-    (
-        b"hrt 1\nbases 1\nlanes 1\nlimit 100\nraw 1 monotonic once\n",
-        b"line 5: BadId\n",
-    ),
-    (
-        b"hrt 1\nbases 1\nlanes 1\nlimit 100\n0 peek 0\n",
-        b"line 5: BadPlace\n",
-    ),
-    (
-        b"hrt 1\nbases 1\nlanes 1\nlimit 100\nround\n1 advance 5\n",
-        b"line 6: LaneLimit\n",
-    ),
-    (
-        b"hrt 1\nbases 1\nlanes 1\nlimit 100\nround\n0 peek 0\n",
-        b"line 6: NoTimer\n",
-    ),
-    (
-        b"hrt 1\nbases 1\nlanes 1\nlimit 100\nround\n0 expire 0 4097\n",
-        b"line 6: BudgetLimit\n",
-    ),
-    (
-        b"hrt 1\nbases 1\nlanes 1\nlimit 100\nraw 0 monotonic once\nround\n0 read 0 8\n",
-        b"line 7: WrongKind\n",
-    ),
-];
 
 /// Runs over a script of 126 bytes whose record has 260, and over bytes that are refused.
 const STREAMS: [Case<'_>; 8] = [
@@ -178,7 +142,7 @@ const STREAMS: [Case<'_>; 8] = [
 ];
 
 /// A run over bytes that are read so many at a time, where the listed reads fail.
-fn reading<'a>(
+pub fn reading<'a>(
     bytes: &'a [u8],
     most: usize,
     failing: &'a [u64],
@@ -196,7 +160,7 @@ fn reading<'a>(
 }
 
 /// The end of a run whose bytes are refused after so many reads.
-fn refused(reads: u64) -> End {
+pub fn refused(reads: u64) -> End {
     End {
         status: Status::Refused,
         source: (reads, 0),
@@ -231,14 +195,8 @@ fn first_other_at_the_greatest_size<R: Threads + Wait + Sync + AllocGlobal>(
 }
 
 #[test]
-fn failing_streams_and_refused_scripts(rt: HostRuntime) -> Result<(), Fail> {
+fn failing_streams_and_bytes_of_the_greatest_size(rt: HostRuntime) -> Result<(), Fail> {
     assert_eq!(rt; first_other(&rt, &STREAMS)?, None);
-    // One byte a read, and a last read that finds the end.
-    for (bytes, line) in REFUSED {
-        let end = refused((bytes.len() as u64).saturating_add(1));
-        let case = reading(bytes, 1, &[], end, line);
-        assert_eq!(rt; first_other(&rt, &[case])?, None);
-    }
     assert_eq!(rt; first_other_at_the_greatest_size(&rt)?, None);
     Ok(())
 }

@@ -1,54 +1,118 @@
 //! Bytes that no script has: each is refused by its first line that isn't read and the first cause against that.
+use super::ends::{first_other, reading, refused};
 use super::run_words;
 use crate::status::Status;
 use crate::top::on_bytes;
 use lane_run::OpenGate;
 use std::alloc::{AllocError, Global};
+use std::sync::Wait;
 use std::test::Fail;
+use std::thread::Threads;
 
-/// Bytes, and the line that refuses them.
-type Refused<'a> = (&'a [u8], &'a [u8]);
+/// A script's first four lines.
+const HEAD: &[u8] = b"hrt 1\nbases 1\nlanes 1\nlimit 100\n";
+
+/// Bytes that no script has, a case a line: the number of the line and the cause that refuse them; `|`; and the bytes, where `@` stands for
+/// a script's first four lines and `/` for a newline.
+const REFUSED: &[u8] = b"\
+1: Unfinished|
+1: Version|hrt 2/
+1: BadSpace|hrt  1/
+1: WordCount|hrt 1 1/
+2: UnknownWord|hrt 1/bas
+2: BadNumber|hrt 1/bases 01/
+2: BaseLimit|hrt 1/bases 9/
+2: BadPlace|hrt 1/lanes 1/
+5: BadId|@raw 1 monotonic once/
+5: BadPlace|@0 peek 0/
+6: LaneLimit|@round/1 advance 5/
+6: NoTimer|@round/0 peek 0/
+6: BudgetLimit|@round/0 expire 0 4097/
+7: WrongKind|@raw 0 monotonic once/round/0 read 0 8/
+";
 
 /// Zero bytes, carriage returns, tabs, and bytes past 126, in UTF-8 or not.
-const STRANGE: [Refused<'_>; 12] = [
-    (b"\x00", b"line 1: BadByte\n"),
-    (b"hrt 1\n\x00\n", b"line 2: BadByte\n"),
-    (b"hrt 1\x00\n", b"line 1: BadByte\n"),
-    (b"hrt 1\r\nbases 1\r\n", b"line 1: BadByte\n"),
-    (b"hrt 1\rbases 1\n", b"line 1: BadByte\n"),
-    (b"hrt 1\n\r\nbases 1\n", b"line 2: BadByte\n"),
-    (b"hrt 1\n\tbases 1\n", b"line 2: BadByte\n"),
-    (b"hrt 1\x7f\n", b"line 1: BadByte\n"),
-    (b"\xef\xbb\xbfhrt 1\n", b"line 1: BadByte\n"),
-    (b"hrt 1\nb\xc3\xa4ses 1\n", b"line 2: BadByte\n"),
-    (b"hrt 1\nbases\xc2\xa01\n", b"line 2: BadByte\n"),
-    (b"hrt 1\n\xff\xfe\n", b"line 2: BadByte\n"),
-];
+const STRANGE: &[u8] = b"\
+1: BadByte|\x00
+2: BadByte|hrt 1/\x00/
+1: BadByte|hrt 1\x00/
+1: BadByte|hrt 1\r/bases 1\r/
+1: BadByte|hrt 1\rbases 1/
+2: BadByte|hrt 1/\r/bases 1/
+2: BadByte|hrt 1/\tbases 1/
+1: BadByte|hrt 1\x7f/
+1: BadByte|\xef\xbb\xbfhrt 1/
+2: BadByte|hrt 1/b\xc3\xa4ses 1/
+2: BadByte|hrt 1/bases\xc2\xa01/
+2: BadByte|hrt 1/\xff\xfe/
+";
 
 /// Lines against which there are two causes or more. The first in the order of causes is told.
-const TWO_CAUSES: [Refused<'_>; 12] = [
-    (b"hrt 1\n bases\x00 1\n", b"line 2: BadByte\n"),
-    (b" nothing of this kind\n", b"line 1: BadSpace\n"),
-    (b"nothing  of this kind\n", b"line 1: BadSpace\n"),
-    (b"nothing 01 01\n", b"line 1: UnknownWord\n"),
-    (b"hrt 01 1\n", b"line 1: WordCount\n"),
-    (b"lanes 01\n", b"line 1: BadNumber\n"),
-    (b"raw 01 hourly once\n", b"line 1: BadNumber\n"),
-    (b"raw 0 hourly every 01\n", b"line 1: UnknownWord\n"),
-    (b"lanes 17\n", b"line 1: BadPlace\n"),
-    (
-        b"hrt 1\nbases 1\nlanes 1\nlimit 100\nround\n1 read 0 8\n",
-        b"line 6: LaneLimit\n",
-    ),
-    (
-        b"hrt 1\nbases 1\nlanes 1\nlimit 100\nround\n0 expire 1 4097\n",
-        b"line 6: BaseLimit\n",
-    ),
-    (
-        b"hrt 1\nbases 1\nlanes 1\nlimit 100\nraw 0 monotonic once\nround\n0 start 0 abs 5 1\n0 read 0 8\n",
-        b"line 7: BaseLimit\n",
-    ),
-];
+const TWO_CAUSES: &[u8] = b"\
+2: BadByte|hrt 1/ bases\x00 1/
+1: BadSpace| nothing of this kind/
+1: BadSpace|nothing  of this kind/
+1: UnknownWord|nothing 01 01/
+1: WordCount|hrt 01 1/
+1: BadNumber|lanes 01/
+1: BadNumber|raw 01 hourly once/
+1: UnknownWord|raw 0 hourly every 01/
+1: BadPlace|lanes 17/
+6: LaneLimit|@round/1 read 0 8/
+6: BaseLimit|@round/0 expire 1 4097/
+7: BaseLimit|@raw 0 monotonic once/round/0 start 0 abs 5 1/0 read 0 8/
+";
+
+/// What stands before the first of a byte, and what stands behind it.
+fn cut(text: &[u8], at: u8) -> (&[u8], &[u8]) {
+    for (i, byte) in text.iter().enumerate() {
+        if *byte == at {
+            return (
+                text.get(..i).unwrap_or(b""),
+                text.get(i + 1..).unwrap_or(b""),
+            );
+        }
+    }
+    (text, b"")
+}
+
+/// The bytes that a case writes.
+fn written(alloc: Global, text: &[u8]) -> Result<Vec<u8>, AllocError> {
+    let mut bytes = Vec::new(alloc);
+    for byte in text {
+        match byte {
+            b'@' => bytes.extend_from_slice(HEAD)?,
+            b'/' => bytes.push(b'\n')?,
+            _ => bytes.push(*byte)?,
+        }
+    }
+    Ok(bytes)
+}
+
+/// How many of these cases are refused by the line that they name, at the end of a source of one byte a read, and with no fault.
+fn refused_as_named<R: Threads + Wait + Sync + AllocGlobal>(
+    rt: &R,
+    cases: &[u8],
+) -> Result<u32, Fail> {
+    let mut as_named: u32 = 0;
+    let mut rest = cases;
+    for _ in 0..u32::MAX {
+        if rest.is_empty() {
+            break;
+        }
+        let (case, after) = cut(rest, b'\n');
+        let (told, text) = cut(case, b'|');
+        let line = joined(rt.alloc(), b"line ", told, 1, b"\n")?;
+        let bytes = written(rt.alloc(), text)?;
+        // A last read finds the end.
+        let end = refused((bytes.len() as u64).saturating_add(1));
+        if first_other(rt, &[reading(&bytes, 1, &[], end, &line)])?.is_none() {
+            as_named = as_named.saturating_add(1);
+        }
+        rest = after;
+    }
+    Ok(as_named)
+}
 
 /// Bytes that are made of a front, a piece that is repeated so often, and a back; and the line that refuses them.
 const LONG: [(&[u8], &[u8], usize, &[u8], &[u8]); 14] = [
@@ -99,12 +163,9 @@ fn joined(
 
 #[test]
 fn bytes_that_no_script_has_are_refused_by_line_and_cause(rt: HostRuntime) -> Result<(), Fail> {
-    let words = run_words(rt.alloc())?;
-    for (bytes, line) in STRANGE.iter().chain(TWO_CAUSES.iter()) {
-        let (status, sink) = on_bytes(&rt, &words, bytes, &OpenGate);
-        assert_eq!(rt; status, Status::Refused);
-        assert_eq!(rt; sink.kept.bytes(), Some(*line));
-    }
+    assert_eq!(rt; refused_as_named(&rt, REFUSED)?, 14);
+    assert_eq!(rt; refused_as_named(&rt, STRANGE)?, 12);
+    assert_eq!(rt; refused_as_named(&rt, TWO_CAUSES)?, 12);
     Ok(())
 }
 
