@@ -44,13 +44,7 @@ has_from e lane index (k ∷ done) has = (
 abbrev pub no_call : DoneCall
 no_call = record {
   at = record { round = 0; call = calls.Cancel 0 };
-  log = record {
-    notes = [];
-    trace = record { at = 0; fired = []; actions = []; first = 0; last = 0 };
-    moves = (0, 0);
-    clock = (0, 0);
-    objects = λ i. (0, 0);
-  };
+  log = record { notes = []; trace = record { at = 0; fired = []; actions = []; first = 0; last = 0 }; moves = (0, 0); clock = (0, 0); objects = λ i. (0, 0) };
   answer = answers.NoSignal;
 }
 
@@ -58,15 +52,7 @@ no_call = record {
 tell_none : TellLog no_call.log no_notes
 tell_none = record {
   receipts = IsPermutation-refl [];
-  tells = record {
-    writes = refl;
-    looks = λ t. refl;
-    objects = λ i. refl;
-    skips = λ i. refl;
-    writes_rise = tt;
-    looks_rise = λ t. tt;
-    objects_rise = λ i. tt;
-  };
+  tells = record { writes = refl; looks = λ t. refl; objects = λ i. refl; skips = λ i. refl; writes_rise = tt; looks_rise = λ t. tt; objects_rise = λ i. tt };
 }
 
 stand_none : (q : WorldPass) → StandAt q no_call.log

@@ -63,8 +63,7 @@ module _ {s : Script} {x : WorldOf} (each : KeepsEach s x) (world : IsWorldOf s 
     (calls : (j : ℕ) → (was j).rest ≡ in_round (length before) (lane_calls j r) ++ rest j) where
   -- a lane of this number leaves this of the round
   abbrev Leaves : ℕ → Lane → Type 0
-  Leaves j l =
-      MakesInRound s x before base (was j).done j (lane_of l) (was j).done (rest j) l.answers.items (many_calls r j) × (j < s.lanes)
+  Leaves j l = MakesInRound s x before base (was j).done j (lane_of l) (was j).done (rest j) l.answers.items (many_calls r j) × (j < s.lanes)
 
   -- each does that has calls in it
   each_leaves : (begun ended : List Lane) → length ended ≡ length begun → AllByRecursion (BeginsRound base left) begun
@@ -107,9 +106,8 @@ module _ {s : Script} {x : WorldOf} (each : KeepsEach s x) (world : IsWorldOf s 
       → Taken (a + 1) m mid → Taken a q (with_lane mid lane)
   one_lane {a} {mid = mid} lane here its takes those =
       let name = name_of lane in
-      let leaves = (subst (λ (d : LaneSoFar).
-      MakesInRound s x before base d.done name (lane_of lane) d.done (rest name) lane.answers.items (many_calls r name))
-      (sym (those.free name (omega (arith, here)))) its.0) in
+      let leaves = subst (λ (d : LaneSoFar). MakesInRound s x before base d.done name (lane_of lane) d.done (rest name) lane.answers.items (many_calls r name))
+      (sym (those.free name (omega (arith, here)))) its.0 in
       let end : LaneSoFar = record { done = leaves.all; rest = rest name } in
       record {
         of = put those.of name end;
@@ -118,14 +116,7 @@ module _ {s : Script} {x : WorldOf} (each : KeepsEach s x) (world : IsWorldOf s 
             (λ other. those.free j (omega (arith, less)));
         taken = λ j le. put_at (λ (e : LaneSoFar). e.rest ≡ rest j) those.of name end j (λ is. ap rest (sym is))
             (λ other. those.taken j (omega (arith, le, here, other)));
-        few = omega (
-          arith,
-          those.few,
-          its.0.few,
-          ap (many_calls r) here,
-          lane_and_behind r a,
-          length-append mid.notes.writes lane.notes.writes,
-        );
+        few = omega (arith, those.few, its.0.few, ap (many_calls r) here, lane_and_behind r a, length-append mid.notes.writes lane.notes.writes);
       }
 
   -- all of them, the last one first
