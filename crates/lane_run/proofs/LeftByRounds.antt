@@ -170,9 +170,7 @@ pub left_by_rounds : (s : Script) (x : WorldOf) (p q : WorldPass) (left : LeftOf
     → MakesRounds x s.rounds p (none_left s.lanes) q left
     → (logs : Label → CallLog) × (starts : Starts) × AreLeft s q left.notes logs × AreByRounds s q logs starts left.answers
 left_by_rounds s x p q left each world range whole first makes =
-    let rounds = rounds_left each world range whole s.rounds [] (left_first s first) (λ j. refl)
-    range.callers makes in
-    let all = rounds.1 in (
+    let all = rounds_left each world range whole s.rounds [] (left_first s first) (λ j. refl) range.callers makes in (
       log_in all.of all.all all.behind,
       all_starts all.of all.all all.behind,
       are_left all.of all.all all.behind (omega (arith, all.few)) range,
