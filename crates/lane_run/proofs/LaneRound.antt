@@ -22,9 +22,9 @@ use Rattle.lane_run.specs.declared.world.WorldPass.{WorldPass}
 use Rattle.lane_run.proofs.CallingLanes.{calls_bound, in_round}
 use Rattle.lane_run.proofs.Chains.{lies_later, lies_pushed, ListOf, lies_new, LiesIn}
 use Rattle.lane_run.proofs.LaneKept.{KeepsEach, fits_lane_behind}
-use Rattle.lane_run.proofs.NotesJoined.{AreOf, call_notes, joined, none_noted}
+use Rattle.lane_run.proofs.NotesJoined.{are_later, AreOf, call_notes, joined, none_noted}
 use Rattle.lane_run.proofs.PartLists.{each_weaker}
-use Rattle.lane_run.proofs.SeenMore.{follows_less, more_begun, more_called, more_same, more_trans, no_less, SeesMore, stand_later}
+use Rattle.lane_run.proofs.SeenMore.{follows_less, more_begun, more_called, more_trans, no_less, SeesMore, stand_later}
 use Rattle.lane_run.proofs.Tallies.{tallies_none, tallies_more}
 use Rattle.std.proofs.lemmas.Option.{slice_get_within, same_Some}
 use Rattle.pass_names.specs.Passes.{Begins}
@@ -153,7 +153,7 @@ module _ {s : Script} {l : LaneOf} {call : Call} {a : Answer} {m : LaneOf} (kept
       → AreOf m.pass m.notes (IsFrom lane start (done ++ one ∷ []))
   notes_one start low are =
       subst (λ ns. AreOf m.pass ns (IsFrom lane start (done ++ one ∷ []))) (sym kept.joins)
-      (joined (more_called kept.sees) more_same are (call_notes kept)
+      (joined (are_later (more_called kept.sees) are) (call_notes kept)
       (λ c g h old new. absurd (omega (arith, slice_get_within done c.call old.2.0 old.2.1, ap (λ (d : Label). d.call) (new.0 ∙ label))))
       (λ c g old. (old.0, old.1, (old.2.0, at_left done (one ∷ []) c.call old.2.0 old.2.1, old.2.2)))
       (λ c g new. subst (λ (d : Label). IsFrom lane start (done ++ one ∷ []) d g) (sym (new.0 ∙ label)) (refl, low, (one, at_seam done [] one, new.1)))
@@ -196,21 +196,13 @@ module _ {s : Script} {x : WorldOf} (each : KeepsEach s x) (world : IsWorldOf s 
       let within = slice_get_within (calls_of s lane) (length done) at there in
       let label : l.label ≡ label_at lane (length done) =
       old.label ∙ ap (label_at lane) (omega (arith, within, calls_bound s lane range)) in
-      let kept = each l n c a (record {
-        world = world;
-        range = range;
-        whole = whole;
-        objects = old.opening;
-        at = at;
-        there = subst (λ (d : Label). slice_get (calls_of s d.lane) d.call ≡ Some at) (sym label) there;
-        is = refl;
-      }) called in
+      let has = subst (λ (d : Label). slice_get (calls_of s d.lane) d.call ≡ Some at) (sym label) there in
+      let kept = each l n c a (record { world = world; range = range; whole = whole; objects = old.opening; at = at; there = has; is = refl }) called in
       let k = one kept before lane done label in
       record {
         all = done ++ k ∷ [];
         answers = map-append (λ (d : DoneCall). d.answer) done (k ∷ []);
-        few = omega
-            (arith, ap (λ (ns : NotesOf). length ns.writes) kept.joins, length-append l.notes.writes kept.added.writes, kept.few);
+        few = omega (arith, ap (λ (ns : NotesOf). length ns.writes) kept.joins, length-append l.notes.writes kept.added.writes, kept.few);
         is = record {
           label = ap (λ (d : Label). label_at d.lane (as_index (d.call + 1))) (same ∙ label)
               ∙ ap (λ i. label_at lane (as_index i)) (sym (length-append done (k ∷ [])));

@@ -13,7 +13,7 @@ use Rattle.lane_run.specs.declared.lane.Lane.{Lane}
 use Rattle.lane_run.specs.declared.world.WorldPass.{WorldPass}
 use Rattle.lane_run.proofs.Chains.{AreUpTo, up_to_later}
 use Rattle.lane_run.proofs.LaneRound.{IsFrom, IsKeptOf, kept_later, LaneSoFar, IsAt, answers_in, MakesInRound}
-use Rattle.lane_run.proofs.NotesJoined.{AreOf, joined}
+use Rattle.lane_run.proofs.NotesJoined.{are_later, AreOf, joined}
 use Rattle.lane_run.proofs.SeenMore.{more_heard, more_taken, no_less, stands_on}
 use Rattle.lane_run.proofs.Tallies.{tallies_more, adds_taken}
 use Rattle.lane_run.specs.Worlds.{WorldOf}
@@ -101,7 +101,8 @@ given_taken answers lane given of end within is same j =
 -- law: what a lane leaves of a round is added
 pub left_taken : {s : Script} {x : WorldOf} {before : List Seen} {base p q : WorldPass} {left : LeftOf} (of : ℕ → LaneSoFar) (lane : Lane)
     {rest : List CallInRound} {most : ℕ} → let first = (of lane.label.lane).done in
-    (leaves : MakesInRound s x before base first lane.label.lane (lane_of lane) first rest lane.answers.items most) → lane.label.lane < s.lanes → TakesInPass p lane.pass q → AreLeftSoFar s (before ++ seen_by base ∷ []) p left of
+    (leaves : MakesInRound s x before base first lane.label.lane (lane_of lane) first rest lane.answers.items most) → lane.label.lane < s.lanes
+    → TakesInPass p lane.pass q → AreLeftSoFar s (before ++ seen_by base ∷ []) p left of
     → AreLeftSoFar s (before ++ seen_by base ∷ []) q (with_lane left lane) (put of lane.label.lane (record { done = leaves.all; rest = rest }))
 left_taken {s = s} {before = before} {base = base} {q = q} {left = left} of lane {rest = rest} leaves within takes so_far =
     let name = lane.label.lane in
@@ -116,7 +117,7 @@ left_taken {s = s} {before = before} {base = base} {q = q} {left = left} of lane
       given = given_taken left.answers name given of end (subst (λ n. name < n) (sym so_far.lanes) within) leaves.answers so_far.given;
       kept = λ j. put_at (IsKeptOf s past q j) of name end j
           (λ here. subst (λ i. IsKeptOf s past q i end) (sym here) (kept_later heard leaves.is.kept)) (λ other. kept_later grows (so_far.kept j));
-      are = joined grows heard so_far.are leaves.is.are (apart of name end begins) (still of name end begins) (now of name end begins)
+      are = joined (are_later grows so_far.are) (are_later heard leaves.is.are) (apart of name end begins) (still of name end begins) (now of name end begins)
           (either of name end begins);
       tallies = tallies_more left.notes lane.notes so_far.tallies (adds_taken takes leaves.is.tallies);
       rise = up_to_later past (no_less grows) so_far.rise;

@@ -44,13 +44,7 @@ has_from e lane index (k ∷ done) has = (
 abbrev pub no_call : DoneCall
 no_call = record {
   at = record { round = 0; call = calls.Cancel 0 };
-  log = record {
-    notes = [];
-    trace = record { at = 0; fired = []; actions = []; first = 0; last = 0 };
-    moves = (0, 0);
-    clock = (0, 0);
-    objects = λ i. (0, 0);
-  };
+  log = record { notes = []; trace = record { at = 0; fired = []; actions = []; first = 0; last = 0 }; moves = (0, 0); clock = (0, 0); objects = λ i. (0, 0) };
   answer = answers.NoSignal;
 }
 
@@ -58,15 +52,7 @@ no_call = record {
 tell_none : TellLog no_call.log no_notes
 tell_none = record {
   receipts = IsPermutation-refl [];
-  tells = record {
-    writes = refl;
-    looks = λ t. refl;
-    objects = λ i. refl;
-    skips = λ i. refl;
-    writes_rise = tt;
-    looks_rise = λ t. tt;
-    objects_rise = λ i. tt;
-  };
+  tells = record { writes = refl; looks = λ t. refl; objects = λ i. refl; skips = λ i. refl; writes_rise = tt; looks_rise = λ t. tt; objects_rise = λ i. tt };
 }
 
 stand_none : (q : WorldPass) → StandAt q no_call.log
@@ -184,9 +170,7 @@ pub left_by_rounds : (s : Script) (x : WorldOf) (p q : WorldPass) (left : LeftOf
     → MakesRounds x s.rounds p (none_left s.lanes) q left
     → (logs : Label → CallLog) × (starts : Starts) × AreLeft s q left.notes logs × AreByRounds s q logs starts left.answers
 left_by_rounds s x p q left each world range whole first makes =
-    let rounds = rounds_left each world range whole s.rounds [] (left_first s first) (λ j. refl)
-    range.callers makes in
-    let all = rounds.1 in (
+    let all = rounds_left each world range whole s.rounds [] (left_first s first) (λ j. refl) range.callers makes in (
       log_in all.of all.all all.behind,
       all_starts all.of all.all all.behind,
       are_left all.of all.all all.behind (omega (arith, all.few)) range,

@@ -96,8 +96,8 @@ each_both ObjectNotes P a b = All-append P a.objects b.objects
 each_both SkipNotes P a b = All-append P a.skips b.skips
 each_both WriteNotes P a b = All-append P a.writes b.writes
 
-module _ {p q m : WorldPass} {a b : NotesOf} {Of Also Both : Label → CallLog → Type 0} (first : SeesMore p m) (second : SeesMore q m)
-    (one : AreOf p a Of) (two : AreOf q b Also) (apart : (c : Label) (g h : CallLog) → Of c g → Also c h → ⊥)
+module _ {p : WorldPass} {a b : NotesOf} {Of Also Both : Label → CallLog → Type 0} (one : AreOf p a Of) (two : AreOf p b Also)
+    (apart : (c : Label) (g h : CallLog) → Of c g → Also c h → ⊥)
     (left : (c : Label) (g : CallLog) → Of c g → Both c g) (right : (c : Label) (g : CallLog) → Also c g → Both c g)
     (parts : (c : Label) (g : CallLog) → Both c g → Of c g ⊎ Also c g) where
   own_left : (c : Label) (g : CallLog) → Of c g → own_notes c a ≡ own_notes c (both_noted a b)
@@ -109,13 +109,12 @@ module _ {p q m : WorldPass} {a b : NotesOf} {Of Also Both : Label → CallLog �
       sym (own_notes-both c a b ∙ ap (λ ns. both_noted ns (own_notes c b)) (own_notes-none c one (λ h of. apart c h g of also)))
 
   -- law: both together are of both calls
-  pub joined : AreOf m (both_noted a b) Both
+  pub joined : AreOf p (both_noted a b) Both
   joined = record {
     tell = λ c g both. ⊎_elim (λ of. subst (TellLog g) (own_left c g of) (one.tell c g of))
         (λ also. subst (TellLog g) (own_right c g also) (two.tell c g also)) (parts c g both);
-    seen = λ k. each_both k _ a b
-        (each_weaker (list_of k a) (λ n is. (is.0, left (label_of k n) is.0 is.1, seen_later k is.0 n first is.2)) (one.seen k))
-        (each_weaker (list_of k b) (λ n is. (is.0, right (label_of k n) is.0 is.1, seen_later k is.0 n second is.2)) (two.seen k));
+    seen = λ k. each_both k _ a b (each_weaker (list_of k a) (λ n is. (is.0, left (label_of k n) is.0 is.1, is.2)) (one.seen k))
+        (each_weaker (list_of k b) (λ n is. (is.0, right (label_of k n) is.0 is.1, is.2)) (two.seen k));
   }
 
 -- ---- one call

@@ -66,7 +66,8 @@ module _ {s : Script} {x : WorldOf} (range : IsInRange s) (is : IsWorldOf s x) w
   can_call (calls.Readable timer) ok = on_object timer forms.Readable (λ k. k ≡ over.Fd) ok (λ c e. absurd cc) (λ b e. absurd cc) (λ b e. refl)
 
   -- so can those of each round
-  pub round_can : (rs : List Round) (i : ℕ) (r : Round) → i < length rs → AllByRecursion (λ (c : LaneCall). IsCallInRange s.bases s.timers c.call) (all_calls rs)
+  pub round_can : (rs : List Round) (i : ℕ) (r : Round) → i < length rs
+      → AllByRecursion (λ (c : LaneCall). IsCallInRange s.bases s.timers c.call) (all_calls rs)
       → AllByRecursion (λ (c : LaneCall). CanCall x c.call) (get_or rs i r).calls
   round_can [] i r here all = absurd (omega (arith, here))
   round_can (y ∷ rs) zero r here all = each_weaker y.calls (λ c. can_call c.call) (All-front _ y.calls (all_calls rs) all)

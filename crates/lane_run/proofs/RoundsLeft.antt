@@ -13,7 +13,7 @@ use Rattle.script_text.specs.declared.script.LaneCall.{LaneCall}
 use Rattle.script_text.specs.declared.script.Round.{Round}
 use Rattle.script_text.specs.declared.script.Script.{Script}
 use Rattle.lane_run.specs.Kept.{seen_by}
-use Rattle.lane_run.specs.Rounds.{BeginsRound, calling_from, has_calls, HasSplit, IsLaneOf, lane_calls, LeftOf, MakesLane, MakesRound, MakesRounds, none_left, TakesInLanes, TakesInPass, with_lane}
+use Rattle.lane_run.specs.Rounds.{BeginsRound, calling_from, has_calls, HasSplit, IsLaneOf, lane_calls, LeftOf, MakesLane, MakesRounds, none_left, TakesInLanes, TakesInPass, with_lane}
 use Rattle.lane_run.specs.Worlds.{AreFirst, IsWhole, IsWorldOf, WorldOf}
 use Rattle.lane_run.specs.declared.lane.Lane.{Lane}
 use Rattle.lane_run.specs.declared.world.WorldPass.{WorldPass}
@@ -63,8 +63,7 @@ module _ {s : Script} {x : WorldOf} (each : KeepsEach s x) (world : IsWorldOf s 
     (calls : (j : ℕ) → (was j).rest ≡ in_round (length before) (lane_calls j r) ++ rest j) where
   -- a lane of this number leaves this of the round
   abbrev Leaves : ℕ → Lane → Type 0
-  Leaves j l =
-      MakesInRound s x before base (was j).done j (lane_of l) (was j).done (rest j) l.answers.items (many_calls r j) × (j < s.lanes)
+  Leaves j l = MakesInRound s x before base (was j).done j (lane_of l) (was j).done (rest j) l.answers.items (many_calls r j) × (j < s.lanes)
 
   -- each does that has calls in it
   each_leaves : (begun ended : List Lane) → length ended ≡ length begun → AllByRecursion (BeginsRound base left) begun
@@ -107,9 +106,8 @@ module _ {s : Script} {x : WorldOf} (each : KeepsEach s x) (world : IsWorldOf s 
       → Taken (a + 1) m mid → Taken a q (with_lane mid lane)
   one_lane {a} {mid = mid} lane here its takes those =
       let name = name_of lane in
-      let leaves = (subst (λ (d : LaneSoFar).
-      MakesInRound s x before base d.done name (lane_of lane) d.done (rest name) lane.answers.items (many_calls r name))
-      (sym (those.free name (omega (arith, here)))) its.0) in
+      let leaves = subst (λ (d : LaneSoFar). MakesInRound s x before base d.done name (lane_of lane) d.done (rest name) lane.answers.items (many_calls r name))
+      (sym (those.free name (omega (arith, here)))) its.0 in
       let end : LaneSoFar = record { done = leaves.all; rest = rest name } in
       record {
         of = put those.of name end;
@@ -118,14 +116,7 @@ module _ {s : Script} {x : WorldOf} (each : KeepsEach s x) (world : IsWorldOf s 
             (λ other. those.free j (omega (arith, less)));
         taken = λ j le. put_at (λ (e : LaneSoFar). e.rest ≡ rest j) those.of name end j (λ is. ap rest (sym is))
             (λ other. those.taken j (omega (arith, le, here, other)));
-        few = omega (
-          arith,
-          those.few,
-          its.0.few,
-          ap (many_calls r) here,
-          lane_and_behind r a,
-          length-append mid.notes.writes lane.notes.writes,
-        );
+        few = omega (arith, those.few, its.0.few, ap (many_calls r) here, lane_and_behind r a, length-append mid.notes.writes lane.notes.writes);
       }
 
   -- all of them, the last one first
@@ -156,61 +147,46 @@ module _ {s : Script} {x : WorldOf} (each : KeepsEach s x) (world : IsWorldOf s 
 
 -- ---- rounds in turn
 
--- what all lanes have left when some rounds are over, of so many calls; these are left of each lane
-pub record AreAllLeft (s : Script) (rest : ℕ → List CallInRound) (left : LeftOf) (calls : ℕ) (past : List Seen) (q : WorldPass) (now : LeftOf) : Type 0 where
+-- what all lanes have left in the end, of so many calls
+pub record AreAllLeft (s : Script) (left : LeftOf) (calls : ℕ) (q : WorldPass) (now : LeftOf) : Type 0 where
+  pub past : List Seen
   pub of : ℕ → LaneSoFar
   pub all : AreLeftSoFar s past q now of
-  pub behind : (j : ℕ) → (of j).rest ≡ rest j
+  pub behind : (j : ℕ) → (of j).rest ≡ []
   pub few : length now.notes.writes ≤ length left.notes.writes + calls
 
-module _ {s : Script} {x : WorldOf} (each : KeepsEach s x) (world : IsWorldOf s x) (range : IsInRange s) (whole : IsWhole x) where
-  -- law: a round
-  round_left : {before : List Seen} {p : WorldPass} {left : LeftOf} {of : ℕ → LaneSoFar} {r : Round} (rs : List Round) {q : WorldPass} {now : LeftOf}
-      → AreLeftSoFar s before p left of → ((j : ℕ) → (of j).rest ≡ calls_from j (length before) (r ∷ rs))
-      → AllByRecursion (λ c. c.lane < s.lanes) r.calls → MakesRound x r p left q now
-      → AreAllLeft s (λ j. calls_from j (length before + 1) rs) left (length r.calls) (before ++ seen_by p ∷ []) q now
-  round_left {before} {p} {left} {of} {r} rs {q} {now} so_far calls callers makes =
-      let rest : ℕ → List CallInRound = λ j. calls_from j (length before + 1) rs in
-      let firsts : (j : ℕ) → (of j).rest ≡ in_round (length before) (lane_calls j r) ++ rest j =
-      λ j. calls j ∙ round_first j (length before) r rs in
-      let those = each_leaves each world range whole before p left of so_far r callers rest firsts makes.begun makes.ended makes.as_many
-      (recursion_from_All (BeginsRound p left) makes.begun makes.begins) (recursion_from_All (IsLaneOf x) makes.begun makes.of) makes.made in
-      let taken = lanes_taken each world range whole before p left of so_far r callers rest firsts makes.split (round_begun makes.main so_far)
-      (length left.answers) 0 makes.ended q now (omega (arith, so_far.lanes)) those.0 (those.1 ∙ makes.lanes) makes.taken in
-      record {
-        of = taken.of;
-        all = taken.left;
-        behind = λ j. taken.taken j (omega arith);
-        few = omega (arith, taken.few, many_most r 0);
-      }
-
-  -- law: rounds in turn
-  pub rounds_left : (rs : List Round) (before : List Seen) {p : WorldPass} {left : LeftOf} {of : ℕ → LaneSoFar} {q : WorldPass} {now : LeftOf}
-      → AreLeftSoFar s before p left of → ((j : ℕ) → (of j).rest ≡ calls_from j (length before) rs)
-      → AllByRecursion (λ c. c.lane < s.lanes) (all_calls rs) → MakesRounds x rs p left q now
-      → (past : List Seen) × AreAllLeft s (λ j. []) left (length (all_calls rs)) past q now
-  rounds_left [] before {p} {of = of} {now = now} so_far calls callers makes = (
-    before,
+-- law: rounds in turn
+pub rounds_left : {s : Script} {x : WorldOf} (each : KeepsEach s x) (world : IsWorldOf s x) (range : IsInRange s) (whole : IsWhole x) (rs : List Round)
+    (before : List Seen) {p : WorldPass} {left : LeftOf} {of : ℕ → LaneSoFar} {q : WorldPass} {now : LeftOf} → AreLeftSoFar s before p left of
+    → ((j : ℕ) → (of j).rest ≡ calls_from j (length before) rs) → AllByRecursion (λ c. c.lane < s.lanes) (all_calls rs) → MakesRounds x rs p left q now
+    → AreAllLeft s left (length (all_calls rs)) q now
+rounds_left {s = s} each world range whole [] before {p} {of = of} {now = now} so_far calls callers makes = record {
+  past = before;
+  of = of;
+  all = subst (λ k. AreLeftSoFar s before k now of) (sym makes.0) (subst (λ k. AreLeftSoFar s before p k of) (sym makes.1) so_far);
+  behind = calls;
+  few = omega (arith, ap (λ (k : LeftOf). length k.notes.writes) makes.1);
+}
+rounds_left {s = s} {x = x} each world range whole (r ∷ rs) before {p} {left} {of} so_far calls callers makes =
+    let round = makes.2 in
+    let rest : ℕ → List CallInRound = λ j. calls_from j (length before + 1) rs in
+    let firsts : (j : ℕ) → (of j).rest ≡ in_round (length before) (lane_calls j r) ++ rest j =
+    λ j. calls j ∙ round_first j (length before) r rs in
+    let here = All-front (λ (c : LaneCall). c.lane < s.lanes) r.calls (all_calls rs) callers in
+    let those = each_leaves each world range whole before p left of so_far r here rest firsts round.begun round.ended round.as_many
+    (recursion_from_All (BeginsRound p left) round.begun round.begins) (recursion_from_All (IsLaneOf x) round.begun round.of) round.made in
+    let taken = lanes_taken each world range whole before p left of so_far r here rest firsts round.split (round_begun round.main so_far)
+    (length left.answers) 0 round.ended makes.0 makes.1 (omega (arith, so_far.lanes)) those.0 (those.1 ∙ round.lanes) round.taken in
+    let others = rounds_left each world range whole rs (before ++ seen_by p ∷ []) taken.left
+    (λ j. taken.taken j (omega arith) ∙ ap (λ n. calls_from j n rs) (sym (length-append before (seen_by p ∷ []))))
+    (All-back (λ (c : LaneCall). c.lane < s.lanes) r.calls (all_calls rs) callers) makes.3 in
     record {
-      of = of;
-      all = subst (λ k. AreLeftSoFar s before k now of) (sym makes.0) (subst (λ k. AreLeftSoFar s before p k of) (sym makes.1) so_far);
-      behind = calls;
-      few = omega (arith, ap (λ (k : LeftOf). length k.notes.writes) makes.1);
-    },
-  )
-  rounds_left (r ∷ rs) before {p} so_far calls callers makes =
-      let one = round_left rs so_far calls (All-front (λ (c : LaneCall). c.lane < s.lanes) r.calls (all_calls rs) callers) makes.2 in
-      let others = rounds_left rs (before ++ seen_by p ∷ []) one.all
-      (λ j. one.behind j ∙ ap (λ n. calls_from j n rs) (sym (length-append before (seen_by p ∷ []))))
-      (All-back (λ (c : LaneCall). c.lane < s.lanes) r.calls (all_calls rs) callers) makes.3 in (
-        others.0,
-        record {
-          of = others.1.of;
-          all = others.1.all;
-          behind = others.1.behind;
-          few = omega (arith, one.few, others.1.few, length-append r.calls (all_calls rs));
-        },
-      )
+      past = others.past;
+      of = others.of;
+      all = others.all;
+      behind = others.behind;
+      few = omega (arith, taken.few, many_most r 0, others.few, length-append r.calls (all_calls rs));
+    }
 
 -- ---- before the first round
 

@@ -96,11 +96,8 @@ follows_less more follows = record {
   few = follows.few;
   timers = goes_before more.timers follows.timers;
   clock = goes_before more.clock follows.clock;
-  objects = λ i. record {
-    history = (follows.objects i).history;
-    goes_on = begins_trans (more.objects i) (follows.objects i).goes_on;
-    lines = (follows.objects i).lines;
-  };
+  objects = λ i. let its = follows.objects i in
+      record { history = its.history; goes_on = begins_trans (more.objects i) its.goes_on; lines = its.lines };
 }
 
 -- ---- what stands in what was seen

@@ -1,7 +1,7 @@
 -- Lanes that get passes of their own, one after another.
-use Rattle.std.proofs.Common.{◌≡◌, ◌<◌, ◌+◌, ◌-◌, ℕ, true, false, List, [], ◌∷◌, ◌++◌, length, map, get_or, refl, sym, ap, ◌∙◌, subst, arith}
+use Rattle.std.proofs.Common.{◌≡◌, ◌<◌, ◌+◌, ℕ, suc, true, false, List, [], ◌∷◌, ◌++◌, length, map, get_or, refl, sym, ap, ◌∙◌, subst, arith}
 use Rattle.std.specs.Prelude.{All}
-use Rattle.std.proofs.lemmas.List.{append-nil, map-append}
+use Rattle.std.proofs.lemmas.List.{append_assoc, map-append}
 use Rattle.std.proofs.lemmas.List.Elements.{All-push}
 use Rattle.record_text.specs.declared.record.Label.{Label}
 use Rattle.script_text.specs.declared.script.Round.{Round}
@@ -11,7 +11,11 @@ use Rattle.lane_run.specs.declared.world.WorldPass.{WorldPass}
 use Rattle.lane_run.specs.Rounds.{BeginsRound, HasSplit, IsLaneOf, IsMain, LeftOf, as_index, calling_from, has_calls}
 use Rattle.lane_run.specs.Worlds.{WorldOf}
 use Rattle.lane_run.proofs.Mains.{lane_new, main_split, SplitsLane}
-use Rattle.lane_run.proofs.Taking.{calling_next}
+use Rattle.script_text.specs.Actions.{also}
+
+-- the numbers of lanes
+abbrev pub lane_names : List Lane → List ℕ
+lane_names lanes = map (λ l. l.label.lane) lanes
 
 -- of the numbers below this one, the lanes that have calls in a round have passes of their own
 pub record SplitsSoFar (x : WorldOf) (r : Round) (p : WorldPass) (left : LeftOf) (number : ℕ) (q : WorldPass) (made : List Lane) : Type 0 where
@@ -19,7 +23,8 @@ pub record SplitsSoFar (x : WorldOf) (r : Round) (p : WorldPass) (left : LeftOf)
   pub split : HasSplit p q
   pub lanes : All (λ (l : Lane). IsLaneOf x l) made
   pub begins : All (λ (l : Lane). BeginsRound p left l) made
-  pub names : map (λ (l : Lane). l.label.lane) made ++ calling_from r number (length left.answers - number) ≡ calling_from r 0 (length left.answers)
+  pub names : (n : ℕ) → number + n ≡ length left.answers
+      → lane_names made ++ calling_from r number n ≡ calling_from r 0 (length left.answers)
 
 pub splits_none : {x : WorldOf} {r : Round} {p : WorldPass} {left : LeftOf} → IsMain x p [] → SplitsSoFar x r p left 0 p []
 splits_none {r = r} is = record {
@@ -27,7 +32,7 @@ splits_none {r = r} is = record {
   split = record { timers = refl; timers_mine = refl; objects = refl; objects_mine = refl; clock = refl; clock_mine = refl };
   lanes = λ k d h. absurd (omega (arith, h));
   begins = λ k d h. absurd (omega (arith, h));
-  names = ap (calling_from r 0) (omega arith);
+  names = λ n all. ap (calling_from r 0) (omega (arith, all));
 }
 
 -- a lane that was just made with passes that were just split off
@@ -37,15 +42,15 @@ pub record IsFresh (left : LeftOf) (number : ℕ) (lane : Lane) : Type 0 where
   pub answers : lane.answers.items ≡ []
 
 -- past a lane without calls
-pub splits_past : {x : WorldOf} {r : Round} {p : WorldPass} {left : LeftOf} {i : ℕ} {q : WorldPass} {lanes : List Lane} → i < length left.answers
+pub splits_past : {x : WorldOf} {r : Round} {p : WorldPass} {left : LeftOf} {i : ℕ} {q : WorldPass} {lanes : List Lane}
     → has_calls r i ≡ false → SplitsSoFar x r p left i q lanes → SplitsSoFar x r p left (i + 1) q lanes
-splits_past {r = r} {left = left} {i = i} {lanes = lanes} here none so_far = record {
+splits_past {r = r} {left = left} {i = i} {lanes = lanes} none so_far = record {
   main = so_far.main;
   split = so_far.split;
   lanes = so_far.lanes;
   begins = so_far.begins;
-  names = ap (λ ns. ns ++ calling_from r (i + 1) (length left.answers - (i + 1))) (sym (append-nil (map (λ (l : Lane). l.label.lane) lanes)))
-      ∙ calling_next r (map (λ (l : Lane). l.label.lane) lanes) _ i (length left.answers) false here none so_far.names;
+  names = λ n all. subst (λ b. lane_names lanes ++ also b i (calling_from r (i + 1) n) ≡ calling_from r 0 (length left.answers)) none
+      (so_far.names (suc n) (omega (arith, all)));
 }
 
 -- with one more
@@ -53,8 +58,7 @@ pub splits_more : {x : WorldOf} {r : Round} {p : WorldPass} {left : LeftOf} {i :
     → i < length left.answers → has_calls r i ≡ true → SplitsLane x m q lane → IsFresh left i lane → SplitsSoFar x r p left i m lanes
     → SplitsSoFar x r p left (i + 1) q (lanes ++ lane ∷ [])
 splits_more {x} {r} {p} {left} {i} {lanes = lanes} lane here calls split fresh so_far =
-    let s = split.splits in
-    let names = map (λ (l : Lane). l.label.lane) lanes in record {
+    let s = split.splits in record {
       main = main_split lane so_far.main split;
       split = record {
         timers = ap (λ k. k.seen) s.timers ∙ so_far.split.timers;
@@ -78,7 +82,9 @@ splits_more {x} {r} {p} {left} {i} {lanes = lanes} lane here calls split fresh s
         notes = fresh.notes;
         answers = fresh.answers;
       });
-      names = ap (λ ns. ns ++ calling_from r (i + 1) (length left.answers - (i + 1)))
-          (map-append (λ (l : Lane). l.label.lane) lanes (lane ∷ []) ∙ ap (λ (l : Label). names ++ l.lane ∷ []) fresh.label)
-          ∙ calling_next r names _ i (length left.answers) true here calls so_far.names;
+      names = λ n all. ap (λ ns. ns ++ calling_from r (i + 1) n)
+          (map-append (λ (l : Lane). l.label.lane) lanes (lane ∷ []) ∙ ap (λ (l : Label). lane_names lanes ++ l.lane ∷ []) fresh.label)
+          ∙ append_assoc (lane_names lanes) (i ∷ []) (calling_from r (i + 1) n)
+          ∙ subst (λ b. lane_names lanes ++ also b i (calling_from r (i + 1) n) ≡ calling_from r 0 (length left.answers)) calls
+          (so_far.names (suc n) (omega (arith, all)));
     }

@@ -1,14 +1,13 @@
 -- Lanes that are taken in one after another, the last one first; and rounds in turn.
-use Rattle.std.proofs.Common.{length, get_or, ◌≡◌, ◌<◌, ◌+◌, ◌-◌, ℕ, suc, Bool, true, false, List, [], ◌∷◌, ◌++◌, refl, sym, ap, ◌∙◌, subst, arith}
+use Rattle.std.proofs.Common.{length, get_or, ◌≡◌, ◌<◌, Bool, false, List, [], ◌∷◌, ◌++◌, refl, sym, ap, ◌∙◌, subst, arith}
 use Rattle.std.specs.Prelude.{All, Some}
 use Rattle.std.proofs.lemmas.List.Elements.{All-cons, All-pop}
 use Rattle.lane_run.proofs.Mains.{main_takes}
 use Rattle.std.proofs.lemmas.List.{append-nil, append_assoc}
-use Rattle.script_text.specs.Actions.{also}
 use Rattle.script_text.specs.declared.script.Round.{Round}
 use Rattle.lane_run.specs.declared.lane.Lane.{Lane}
 use Rattle.lane_run.specs.declared.world.WorldPass.{WorldPass}
-use Rattle.lane_run.specs.Rounds.{IsLaneOf, IsMain, LeftOf, MakesRound, MakesRounds, TakesInLanes, TakesInPass, calling_from, has_calls, with_lane}
+use Rattle.lane_run.specs.Rounds.{IsLaneOf, IsMain, LeftOf, MakesRound, MakesRounds, TakesInLanes, TakesInPass, with_lane}
 use Rattle.lane_run.specs.Worlds.{ArePassesOf, WorldOf}
 
 -- of all lanes these are left, and the others were taken in; none of them wants memory
@@ -52,23 +51,6 @@ takes_one {x} {lanes = lanes} {m = m} {n = n} lane so_far pop pass takes count q
         taken = (m, n, rest.taken, takes, (quiet none).2);
       };
     }
-
--- ---- the lanes of a round
-
--- one more number was looked at
-pub calling_next : (r : Round) (names all : List ℕ) (i n : ℕ) (b : Bool) → i < n → has_calls r i ≡ b → names ++ calling_from r i (n - i) ≡ all
-    → (names ++ also b i []) ++ calling_from r (i + 1) (n - (i + 1)) ≡ all
-calling_next r names all i n b here has so_far =
-    let rest = calling_from r (i + 1) (n - (i + 1)) in
-    append_assoc names (also b i []) rest
-    ∙ ap (λ xs. names ++ xs) (joined b rest ∙ ap (λ t. also t i rest) (sym has) ∙ sym (ap (calling_from r i) (more here))) ∙ so_far
-  where
-    joined : (b : Bool) (rest : List ℕ) → also b i [] ++ rest ≡ also b i rest
-    joined true rest = refl
-    joined false rest = refl
-
-    more : i < n → n - i ≡ suc (n - (i + 1))
-    more less = omega (arith, less)
 
 -- ---- rounds
 

@@ -24,8 +24,7 @@ notes_both test place xs ys = mine_both test (map place xs) (map place ys) (map-
 -- law: places that were added are those of the notes that were added
 pub tallies_more : {p q : WorldPass} (a b : NotesOf) → Tallies p a → AddsPlaces p q b → Tallies q (both_noted a b)
 tallies_more a b so_far adds = record {
-  timers = λ t n. omega
-      (arith, so_far.timers t n, adds.timers t n, notes_both (is_place t n) (λ (e : EntryNote). (e.timer, e.number)) a.entries b.entries);
+  timers = λ t n. omega (arith, so_far.timers t n, adds.timers t n, notes_both (is_place t n) (λ (e : EntryNote). (e.timer, e.number)) a.entries b.entries);
   objects = λ i n. omega
       (arith, so_far.objects i n, adds.objects i n, notes_both (is_place i n) (λ (e : ObjectNote). (e.object, e.number)) a.objects b.objects);
   clock = λ n. omega (arith, so_far.clock n, adds.clock n, notes_both (is_place 0 n) (λ (e : WriteNote). (0, e.stamp)) a.writes b.writes);

@@ -2,7 +2,7 @@ use Rattle.std.proofs.Common.{◌≡◌, List, ◌<◌, ◌+◌, [], ◌∷◌, 
 use Rattle.record_text.specs.declared.record.Answer.{Answer}
 use Rattle.lane_run.specs.declared.lane.Lane.{Lane}
 use Rattle.lane_run.specs.Rounds.{IsMain, LeftOf, TakesInPass, as_index}
-use Rattle.std.proofs.lemmas.List.{get_or_default}
+use Rattle.std.proofs.lemmas.List.{append-nil, get_or_default}
 use Rattle.lane_run.specs.Worlds.{AnswerFor}
 use Rattle.lane_run.proofs.Mains.{answers_last, lane_new, main_split, main_takes, splits_lane}
 use Rattle.lane_run.specs.declared.world.WorldPass.{WorldPass}
@@ -17,6 +17,9 @@ loop-number-init g c = record {
       (splits_none c.requires.main);
 }
 
+pub returns-clause-names : goal.returns-clause-names
+returns-clause-names g c = sym (append-nil _) ∙ c.loop-number.invariant.so_far.names 0 (search rules)
+
 pub take_in-requires-clause-answers : goal.take_in-requires-clause-answers
 take_in-requires-clause-answers g c =
     let lane = c.new_lane-lane.result in
@@ -27,7 +30,6 @@ take_in-requires-clause-answers g c =
 pub take_in_lanes-requires-clause-main : goal.take_in_lanes-requires-clause-main
 take_in_lanes-requires-clause-main g c =
     let lane = c.new_lane-lane.result in
-    let same = sym c.in-Err.ensures.value_returned in
     let split = splits_lane lane c.new_lane-lane.ensures.fields.1 c.split.ensures.pass c.split.ensures.splits in
     subst (IsMain c.args.world.now c.take_in.new.main) (sym c.in-Err.ensures.items)
     (main_takes c.loop-number.lanes.items (main_split lane c.loop-number.invariant.so_far.main split) (lane_new split) c.take_in.ensures.pass
@@ -56,6 +58,6 @@ loop-number-preserved g c =
             old.invariant.so_far))
         | else-has_calls w ↦
             subst (λ ls. so_far ls c.if-has_calls.main) (sym (ap (λ v. v.items) w.lanes-is)) (subst (so_far old.lanes.items) (sym w.main-is)
-            (splits_past here (sym c.has_calls.ensures ∙ w.if-has_calls.false) old.invariant.so_far))
+            (splits_past (sym c.has_calls.ensures ∙ w.if-has_calls.false) old.invariant.so_far))
       ];
     }

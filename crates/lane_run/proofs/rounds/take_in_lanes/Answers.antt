@@ -16,7 +16,8 @@ loop-lane-init g c = record {
 }
 
 pub take_in_lane-requires-clause-lane : goal.take_in_lane-requires-clause-lane
-take_in_lane-requires-clause-lane g c = (last_of (λ l. IsLaneOf c.args.world.now l) c.pop.new.self.items c.in-Some.lane c.in-Some.ensures.items c.loop-lane.invariant.lanes).1.pass
+take_in_lane-requires-clause-lane g c =
+    (last_of (IsLaneOf c.args.world.now) c.pop.new.self.items c.in-Some.lane c.in-Some.ensures.items c.loop-lane.invariant.lanes).1.pass
 
 pub take_in_lane-requires-clause-answers : goal.take_in_lane-requires-clause-answers
 take_in_lane-requires-clause-answers g c =
