@@ -1,5 +1,5 @@
 -- The callbacks of timers by themselves, behind the claims that they are run for.
-use Rattle.std.proofs.Common.{◌≡◌, ◌≤◌, ℕ, inl, inr, Bool, false, not, ◌&&◌, is_some, nat_eq, if◌then◌else◌, ◌^◌, IsSome, None, Some, zero, suc, List, [], ◌∷◌, ◌++◌, map, arith, refl, sym, ap, ◌∙◌, subst}
+use Rattle.std.proofs.Common.{◌≡◌, ◌≤◌, ℕ, inl, inr, false, not, ◌&&◌, is_some, nat_eq, IsSome, None, Some, zero, suc, List, [], ◌∷◌, ◌++◌, map, arith, refl, sym, ap, ◌∙◌, subst}
 use Rattle.std.proofs.lemmas.List.{append-nil}
 use Rattle.ktime.specs.Readings.{ClockReading}
 use Rattle.ktime.specs.declared.clock_id.ClockId.{ClockId}
@@ -16,7 +16,6 @@ use Rattle.seq_timer.specs.declared.observation.Observation.TheVariants as obser
 use Rattle.seq_timer.specs.declared.observation.Observation.{Observation}
 use Rattle.seq_timer.specs.declared.system.TimerEntry.{TimerEntry}
 use Rattle.timer_core.specs.Answers.{moves_first}
-use Rattle.timer_core.specs.Kept.{step_all}
 use Rattle.timer_core.specs.Runs.{entries_along}
 use Rattle.timer_core.specs.declared.answer.ForwardAnswer.{ForwardAnswer}
 use Rattle.timer_core.specs.declared.answer.ForwardAnswer.TheVariants as forwards
