@@ -1,5 +1,5 @@
 -- The callbacks of timers by themselves, behind the claims that they are run for.
-use Rattle.std.proofs.Common.{◌≡◌, ◌≤◌, ℕ, inl, inr, Bool, false, not, ◌&&◌, is_some, nat_eq, if◌then◌else◌, ◌^◌, IsSome, None, Some, zero, suc, List, [], ◌∷◌, ◌++◌, map, arith, refl, sym, ap, ◌∙◌, subst}
+use Rattle.std.proofs.Common.{◌≡◌, ◌≤◌, ℕ, inl, inr, false, not, ◌&&◌, is_some, nat_eq, IsSome, None, Some, zero, suc, List, [], ◌∷◌, ◌++◌, map, arith, refl, sym, ap, ◌∙◌, subst}
 use Rattle.std.proofs.lemmas.List.{append-nil}
 use Rattle.ktime.specs.Readings.{ClockReading}
 use Rattle.ktime.specs.declared.clock_id.ClockId.{ClockId}
@@ -16,7 +16,6 @@ use Rattle.seq_timer.specs.declared.observation.Observation.TheVariants as obser
 use Rattle.seq_timer.specs.declared.observation.Observation.{Observation}
 use Rattle.seq_timer.specs.declared.system.TimerEntry.{TimerEntry}
 use Rattle.timer_core.specs.Answers.{moves_first}
-use Rattle.timer_core.specs.Kept.{step_all}
 use Rattle.timer_core.specs.Runs.{entries_along}
 use Rattle.timer_core.specs.declared.answer.ForwardAnswer.{ForwardAnswer}
 use Rattle.timer_core.specs.declared.answer.ForwardAnswer.TheVariants as forwards
@@ -97,8 +96,7 @@ module _ (s : Script) (o : Opening) (is : o ≡ opening_of s.bases (clocks_of s)
   limit_within x t =
       let same : (timer_then o x t).limit ≡ (timer_at o.timers t).limit =
       ap (λ (u : Timer). u.limit) (timer_own o x t) ∙ after_all-limit (timer_at o.timers t) (entries_of t x) in
-      let first : (timer_at o.timers t).limit ≤ s.limit =
-      rw on (opened_limit (clocks_of s) s.limit t some) in
+      let first : (timer_at o.timers t).limit ≤ s.limit = rw on (opened_limit (clocks_of s) s.limit t some) in
       omega (arith, same, first)
 
   -- the function's actions are those of the timer's callback
@@ -211,14 +209,10 @@ module _ (s : Script) (o : Opening) (is : o ≡ opening_of s.bases (clocks_of s)
       begins_kept (starts.Started was generation base outs clock expires) f runs logs =
           let u = timer_then o f.at c.timer in
           let stays : moves_first u asked ≡ false = ap (λ r. not (is_some r) && not (nat_eq u.base asked)) runs in
-          let es : Bool → List Event = λ b. if b
-          then events.Out asked ∷ events.Start modes.Rel ns reading asked ∷ []
-          else events.Start modes.Rel ns reading asked ∷ [] in
-          let made : MadeAt v w c.timer f.at (entries_along u (es false)) = subst (λ b. MadeAt v w c.timer f.at (entries_along u (es b))) stays f.made in
-          let told : Bool → StartAnswer = λ b. starts.Started (is_some u.armed) (step_all u (es b)).stamp (step_all u (es b)).base
-          (if b then 2 ^ asked else 0) (step_all u (es b)).clock (step_all u (es b)).expires in
-          let along = enters_along (HasRead reading) o (clocks_of s) s.limit (es false) on made (λ clock has. (has, tt)) in
+          let es = events.Start modes.Rel ns reading asked ∷ [] in
+          let made : MadeAt v w c.timer f.at (entries_along u es) = rw stays at f.made in
+          let along = enters_along (HasRead reading) o (clocks_of s) s.limit es on made (λ clock has. (has, tt)) in
           let arming : Arming = record { out = None; number = generation; base = base; clock = clock; expires = expires; was_armed = was } in
           entered_kept (start_receipt c reading ns asked (starts.Started was generation base outs clock expires)) kind along.enters
-          (along.are ∙ ap (start_in_receipt c.timer reading.stamp ns asked) (sym (f.fits.2 ∙ ap told stays))) logs refl refl
+          (along.are ∙ ap (start_in_receipt c.timer reading.stamp ns asked) (sym (rw stays at f.fits.2))) logs refl refl
           (λ finish rearmed. (inl (arming, refl), ap asks run.1))

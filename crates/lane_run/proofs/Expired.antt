@@ -101,19 +101,15 @@ module _ {s : Script} {x : WorldOf} {l m : LaneOf} {a : Answer} {base budget : �
   Run n w = RunKept s l.label base c.reading n l.pass.timers.known l.pass.objects w
       m.pass.objects c.log c.callback_log c.object_log
 
-  -- what makes the call fit, by its callbacks in the run that goes on from there
-  abbrev FitsRun : Answer → List Fired → List Noted → Type 0
-  FitsRun told fired notes =
-      (e : Ending) → Follows m.pass e → IsJoined s e
+  -- a lane keeps the call, where its callbacks make it fit in every run that goes on from there
+  keeps_run : {n : ℕ} (told : List ℕ → Answer) (run : Run n m.pass.timers.known)
+      → ((e : Ending) → Follows m.pass e → IsJoined s e
       → IsKept (course_of s e) (moves_spans e) l.label
-      (expiring base c.reading.stamp (length l.pass.timers.known.seen) (length m.pass.timers.known.seen) fired) notes (calls.Expire base budget) told
-      (seen_by l.pass) (seen_by m.pass)
-      → length l.pass.timers.known.seen ≡ (moves_spans e).first l.label
-      → HaveRun (course_of s e) l.label e.order base c.reading.stamp [] (length l.pass.timers.known.seen) fired notes (length m.pass.timers.known.seen)
-      → FitsCall (course_of s e) l.label (calls.Expire base budget) told (seen_by l.pass) (seen_by m.pass)
-
-  -- a lane keeps the call, by its callbacks
-  keeps_run : {n : ℕ} (told : List ℕ → Answer) (run : Run n m.pass.timers.known) → FitsRun (told (map (λ f. f.timer) run.fired)) run.fired run.notes
+      (expiring base c.reading.stamp (length l.pass.timers.known.seen) (length m.pass.timers.known.seen) run.fired) run.notes (calls.Expire base budget)
+      (told (map (λ f. f.timer) run.fired)) (seen_by l.pass) (seen_by m.pass) → length l.pass.timers.known.seen ≡ (moves_spans e).first l.label
+      → HaveRun (course_of s e) l.label e.order base c.reading.stamp [] (length l.pass.timers.known.seen) run.fired run.notes
+      (length m.pass.timers.known.seen)
+      → FitsCall (course_of s e) l.label (calls.Expire base budget) (told (map (λ f. f.timer) run.fired)) (seen_by l.pass) (seen_by m.pass))
       → KeepsCall s l (calls.Expire base budget) (told (claimed_in c.log)) m
   keeps_run told run fits =
       let p = l.pass in

@@ -73,7 +73,35 @@ four : {R N : Type 0} (note : R → Option N) (a b c d : List R) → present (ma
     ≡ (present (map note a) ++ present (map note b)) ++ (present (map note c) ++ present (map note d))
 four note a b c d = rw (notes-append note (a ++ b) (c ++ d), notes-append note a b, notes-append note c d) refl
 
--- ---- one callback
+-- ---- the callbacks so far
+
+-- a point of an object's list by the call's actions before and behind it
+abbrev pub HasPoints : Script → Ending → Label → ObjectsPass → ObjectsPass → List Action → Type 0
+HasPoints s e label p q all =
+    (i n : ℕ) (before rest : List Action) → all ≡ before ++ rest → length (seen_of p i) ≤ n → n ≤ length (seen_of q i)
+    → AllByRecursion (λ x. x.0 ≤ n) (made i before) → AllByRecursion (λ x. n < x.0) (made i rest) → IsObjectPoint (course_of s e) label before i n
+
+-- callbacks of an expiry run from its beginning on: their actions, as a part of the call, and that they ran in every run that goes on from there
+pub record RunKept (s : Script) (label : Label) (base : ℕ) (reading : ClockReading) (n : ℕ) (k : KnownOfTimers) (p : ObjectsPass) (k' : KnownOfTimers)
+    (p' : ObjectsPass) (log callback_log : List Receipt) (object_log : List ObjectReceipt) : Type 0 where
+  pub fired : List Fired
+  pub many : length fired ≡ n
+  pub notes : List Noted
+  pub no_looks : look_notes label log ≡ []
+  pub claimed : claimed_in log ≡ map (λ f. f.timer) fired
+  pub part : IsPart (HasRead reading) label k p k' p' (flat_map (fires base reading.stamp) fired) notes (log ++ callback_log) object_log
+  pub have : (e : Ending) → IsJoined s e → promises.GoesOn k'.seen e → ((i : ℕ) → FollowsObject e i (seen_of p' i)) → (later : List Action)
+      → ((i : ℕ) → AllByRecursion (λ x. length (seen_of p' i) < x.0) (made i later))
+      → HasPoints s e label p p' (flat_map (fires base reading.stamp) fired ++ later)
+      → HaveRun (course_of s e) label e.order base reading.stamp [] (length k.seen) fired notes (length k'.seen)
+
+-- a run goes on from what was seen of objects before
+follows_before : (p q : ObjectsPass) (e : Ending) → GoesOn p.knows.pass.seen q.knows.pass.seen → ((i : ℕ) → FollowsObject e i (seen_of q i)) → (i : ℕ)
+    → FollowsObject e i (seen_of p i)
+follows_before p q e goes_on follows i =
+    let its = follows i in record { history = its.history; goes_on = begins_trans (goes_on.each i) its.goes_on; lines = its.lines }
+
+-- ---- one callback behind them
 
 module _ (s : Script) (x : WorldOf) (is : IsWorldOf s x) (some : 1 ≤ s.limit) (label : Label) (base : ℕ) (reading : ClockReading) where
   abbrev o : Opening
@@ -163,51 +191,22 @@ module _ (s : Script) (x : WorldOf) (is : IsWorldOf s x) (some : 1 ≤ s.limit) 
         refl,
       )
 
--- ---- the callbacks so far
-
--- a point of an object's list by the call's actions before and behind it
-abbrev pub HasPoints : Script → Ending → Label → ObjectsPass → ObjectsPass → List Action → Type 0
-HasPoints s e label p q all =
-    (i n : ℕ) (before rest : List Action) → all ≡ before ++ rest → length (seen_of p i) ≤ n → n ≤ length (seen_of q i)
-    → AllByRecursion (λ x. x.0 ≤ n) (made i before) → AllByRecursion (λ x. n < x.0) (made i rest) → IsObjectPoint (course_of s e) label before i n
-
--- callbacks of an expiry run from its beginning on: their actions, as a part of the call, and that they ran in every run that goes on from there
-pub record RunKept (s : Script) (label : Label) (base : ℕ) (reading : ClockReading) (n : ℕ) (k : KnownOfTimers) (p : ObjectsPass) (k' : KnownOfTimers)
-    (p' : ObjectsPass) (log callback_log : List Receipt) (object_log : List ObjectReceipt) : Type 0 where
-  pub fired : List Fired
-  pub many : length fired ≡ n
-  pub notes : List Noted
-  pub no_looks : look_notes label log ≡ []
-  pub claimed : claimed_in log ≡ map (λ f. f.timer) fired
-  pub part : IsPart (HasRead reading) label k p k' p' (flat_map (fires base reading.stamp) fired) notes (log ++ callback_log) object_log
-  pub have : (e : Ending) → IsJoined s e → promises.GoesOn k'.seen e → ((i : ℕ) → FollowsObject e i (seen_of p' i)) → (later : List Action)
-      → ((i : ℕ) → AllByRecursion (λ x. length (seen_of p' i) < x.0) (made i later))
-      → HasPoints s e label p p' (flat_map (fires base reading.stamp) fired ++ later)
-      → HaveRun (course_of s e) label e.order base reading.stamp [] (length k.seen) fired notes (length k'.seen)
-
--- a run goes on from what was seen of objects before
-follows_before : (p q : ObjectsPass) (e : Ending) → GoesOn p.knows.pass.seen q.knows.pass.seen → ((i : ℕ) → FollowsObject e i (seen_of q i)) → (i : ℕ)
-    → FollowsObject e i (seen_of p i)
-follows_before p q e goes_on follows i =
-    let its = follows i in record { history = its.history; goes_on = begins_trans (goes_on.each i) its.goes_on; lines = its.lines }
-
-module _ (s : Script) (x : WorldOf) (is : IsWorldOf s x) (some : 1 ≤ s.limit) (label : Label) (base : ℕ) (reading : ClockReading) where
   -- one more callback behind those that ran
   run_more : {n : ℕ} {k : KnownOfTimers} {p : ObjectsPass} {k1 : KnownOfTimers} (h : Firing) {k' : KnownOfTimers} (h' : Firing) {log log' : List Receipt}
       → h.objects.now ≡ x.objects → h.callbacks.now ≡ x.callbacks
       → RunKept s label base reading n k p k1 h.objects_pass.now log h.log.receipts h.object_log.receipts
-      → Turn firing x.timers.about base reading k1 h log k' h' log'
+      → Turn firing o base reading k1 h log k' h' log'
       → RunKept s label base reading (suc n) k p k' h'.objects_pass.now log' h'.log.receipts h'.object_log.receipts
   run_more {k = k} {p = p} {k1 = k1} h {k' = k'} h' {log = log} objects handlers run turn =
       let c = turn.claim in
       let ran = turn.ran in
       let restart = asks ran.restart in
       let rearmed = restart_noted ran.finished.rearmed in
-      let claim : IsClaimed base c reading k1 turn.claimed = claim_made s x is some label base reading turn.claims in
-      let b = fires_kept s x is some label base reading h h' ran.done claim ran.restart objects handlers ran.did in
+      let claim : IsClaimed base c reading k1 turn.claimed = claim_made turn.claims in
+      let b = fires_kept h h' ran.done claim ran.restart objects handlers ran.did in
       let f = fired_of c b.body ran.finished.number restart rearmed in
-      let u = timer_then x.timers.about ran.finishes.at c.timer in
-      let finish = enters_once (HasRead reading) x.timers.about (clocks_of s) s.limit (events.Finish restart) (ap (λ (y : Opening). y.timers) is.timers)
+      let u = timer_then o ran.finishes.at c.timer in
+      let finish = enters_once (HasRead reading) o (clocks_of s) s.limit (events.Finish restart) on
       ran.finishes.made (λ clock has. tt) ran.finishes.number
       (ap (λ g. entries.Finish restart (unwrap_or g 0) (restart_noted (rearmed_by u restart))) ran.finishes.runs
       ∙ ap (λ r. entries.Finish restart c.generation (restart_noted r)) (sym ran.finishes.rearmed)) in
@@ -260,7 +259,7 @@ module _ (s : Script) (x : WorldOf) (is : IsWorldOf s x) (some : 1 ≤ s.limit) 
             (part.objects.rise i).above (behind i)))
             (λ i m before rest parts low high below above.
             points i m before rest (whole ∙ parts) low (let le = grows i in omega (arith, high, le)) below above) in
-            let one_run = turn_ran s x is some label base reading claim b ran.finished.number rearmed finish e joined goes follows done
+            let one_run = turn_ran claim b ran.finished.number rearmed finish e joined goes follows done
             (λ i none. let le = grows i in
             points i (length (seen_of p' i)) (with_claim base at f done) ((f.body ++ finishing) ++ later)
             (whole ∙ sym (append_assoc done claiming ((f.body ++ finishing) ++ later)))
@@ -274,7 +273,7 @@ module _ (s : Script) (x : WorldOf) (is : IsWorldOf s x) (some : 1 ≤ s.limit) 
 
   -- law: so many turns, from empty logs on
   pub turns_kept : (n : ℕ) (h h' : Firing) (k k' : KnownOfTimers) (log' : List Receipt) → h.objects.now ≡ x.objects → h.callbacks.now ≡ x.callbacks
-      → h.log.receipts ≡ [] → h.object_log.receipts ≡ [] → Turns firing x.timers.about base reading n k h [] k' h' log'
+      → h.log.receipts ≡ [] → h.object_log.receipts ≡ [] → Turns firing o base reading n k h [] k' h' log'
       → RunKept s label base reading n k h.objects_pass.now k' h'.objects_pass.now log' h'.log.receipts h'.object_log.receipts
       × (h'.objects.now ≡ x.objects) × (h'.callbacks.now ≡ x.callbacks)
   turns_kept zero h h' k k' log' objects handlers fresh fresh_objects turns =

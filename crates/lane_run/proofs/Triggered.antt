@@ -80,7 +80,10 @@ fd_noted x generation reading allows = absurd allows
 module _ (s : Script) (x : ObjectsOf) (limit : x.limit ≡ s.limit) (some : 1 ≤ s.limit) (label : Label) (c : ClaimNumbers)
     (reading : ClockReading) {base : ℕ} {k v : KnownOfTimers} (claim : IsClaimed base c reading k v) (restart : Restart) (h h' : Firing)
     (same_log : h'.log.receipts ≡ h.log.receipts) (stops : restart ≡ wishes.Stop)
-    (is_body : (f : Fired) → IsTrigger reading.stamp f → IsBody (kind_of s c.timer) reading.stamp f) where
+    (is_body : (f : Fired) → IsTrigger reading.stamp f → IsBody (kind_of s c.timer) reading.stamp f) (call : ObjectCall)
+    (noted : (y : Object) → ObjectAllows y call → TriggerNoted call (object_answer y call) c.generation reading)
+    (no_entry : (n : ℕ) → object_entry_noted call (refused_at call n) ≡ None)
+    (skip : (n : ℕ) → skip_generation call (refused_at call n) ≡ Some c.generation) where
   abbrev p : ObjectsPass
   p = h.objects_pass.now
 
@@ -92,13 +95,12 @@ module _ (s : Script) (x : ObjectsOf) (limit : x.limit ≡ s.limit) (some : 1 �
   still = enters_none (begins_same refl) refl
 
   -- a trigger that made an entry
-  entered_trigger : (call : ObjectCall) → ((y : Object) → ObjectAllows y call → TriggerNoted call (object_answer y call) c.generation reading)
-      → EntersTrigger x p q h.object_log.receipts h'.object_log.receipts c.timer (spanned call (span_of c))
+  entered_trigger : EntersTrigger x p q h.object_log.receipts h'.object_log.receipts c.timer (spanned call (span_of c))
       → BodyKept s label claim restart v h h'
-  entered_trigger call notes t =
+  entered_trigger t =
       let adds = t.commits.adds in
       let state = t.commits.state in
-      let n = notes state.object t.may.allowed in
+      let n = noted state.object t.may.allowed in
       let many = length adds.before in
       let step : ObjectMove = record { call = spanned call (span_of c); reply = object_answer state.object call } in
       let body = Made c.timer (many + 1) (object_entries.Trigger c.generation reading.stamp n.0) ∷ [] in
@@ -121,11 +123,9 @@ module _ (s : Script) (x : ObjectsOf) (limit : x.limit ≡ s.limit) (some : 1 �
       }
 
   -- a trigger that a full history refused
-  refused_trigger : (call : ObjectCall) → ((n : ℕ) → object_entry_noted call (refused_at call n) ≡ None)
-      → ((n : ℕ) → skip_generation call (refused_at call n) ≡ Some c.generation)
-      → SkipsTrigger x p q h.object_log.receipts h'.object_log.receipts c.timer (spanned call (span_of c))
+  refused_trigger : SkipsTrigger x p q h.object_log.receipts h'.object_log.receipts c.timer (spanned call (span_of c))
       → BodyKept s label claim restart v h h'
-  refused_trigger call no_entry skip t =
+  refused_trigger t =
       let many = length (seen_of q c.timer) in
       let r : ObjectReceipt = record { object = c.timer; number = many; call = spanned call (span_of c); reply = refused_at call many } in
       let no_notes : object_notes label (r ∷ []) ≡ [] = rw (no_entry many) refl in
@@ -158,7 +158,5 @@ module _ (s : Script) (x : ObjectsOf) (limit : x.limit ≡ s.limit) (some : 1 �
       }
 
   -- law: what the claim of an object's timer does
-  pub trigger_kept : (call : ObjectCall) → ((y : Object) → ObjectAllows y call → TriggerNoted call (object_answer y call) c.generation reading)
-      → ((n : ℕ) → object_entry_noted call (refused_at call n) ≡ None) → ((n : ℕ) → skip_generation call (refused_at call n) ≡ Some c.generation)
-      → Triggers x p q h.object_log.receipts h'.object_log.receipts c call → BodyKept s label claim restart v h h'
-  trigger_kept call notes no_entry skip triggers = ⊎_elim (entered_trigger call notes) (refused_trigger call no_entry skip) triggers
+  pub trigger_kept : Triggers x p q h.object_log.receipts h'.object_log.receipts c call → BodyKept s label claim restart v h h'
+  trigger_kept triggers = ⊎_elim entered_trigger refused_trigger triggers
