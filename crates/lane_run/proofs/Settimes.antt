@@ -74,11 +74,12 @@ module _ {s : Script} {x : WorldOf} {l : LaneOf} (m : LaneOf) {timer flags : ℕ
   part : TimerPart x l timer begin w (mode_by flags) (time_of value) (decl_at x.objects timer).base reading set.arm disarmed.0 log
   part = settime_start next timer reading set.disarms.cancelled.made.from refl disarmed.1 flags (time_of value) set.arm set.arms
 
-  noted : SettimeNoted call set.reply flags (time_of value) (time_of interval) reading set.arm a
+  noted : SettimeNoted flags (time_of value) (time_of interval) reading a (decl_at x.objects timer).kind set.arm set.reply
   noted =
-      subst (λ r. SettimeNoted call r flags (time_of value) (time_of interval) reading set.arm a) (sym set.enters.reply)
-      (settime_noted flags (time_of value) (time_of interval) reading a (decl_at x.objects timer).kind set.enters.commits.state.object set.arm
-      set.enters.may.allowed (subst (λ r. SettimeTells r a) set.enters.reply set.answer))
+      let d = decl_at x.objects timer in
+      subst (SettimeNoted flags (time_of value) (time_of interval) reading a d.kind set.arm) (sym set.enters.reply)
+      (settime_noted flags (time_of value) (time_of interval) reading a d.kind set.enters.commits.state.object set.arm set.enters.may.allowed
+      (subst (λ r. SettimeTells r a) set.enters.reply set.answer))
 
   module _ {e : Ending} (follows : Follows m.pass e) (joined : IsJoined s e) where
     is_set : IsSet (course_of s e) l.label part.part.0 reading.stamp (length begin.seen) (length w.seen) timer flags value interval disarmed.0
