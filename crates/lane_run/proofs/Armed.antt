@@ -130,11 +130,6 @@ abbrev pub IsRearmSpan : Timer → Timer → Arm → ℕ → ℕ → Type 0
 IsRearmSpan before now arms.NotAsked from to = (from ≡ to) × (now.running ≡ None → now.stamp ≤ from)
 IsRearmSpan before now arm from to = (from ≡ before.stamp) × (to ≡ now.stamp)
 
--- a timer that nobody cancelled was idle
-abbrev pub IsIdleOr : Timer → Option (ℕ × ℕ) → Type 0
-IsIdleOr u None = IsIdle u
-IsIdleOr u (Some cancel) = Unit
-
 module _ {s : Script} {x : WorldOf} {l : LaneOf} {call : Call} (next : IsNextCall s x l call) (t : ℕ) (reading : ClockReading) {v w : KnownOfTimers} where
   -- the entries that the call made of its timer at a moment, with a receipt of each
   part_along : (at : List TimerEntry) (es : List Event) (actions : List Action) → MadeAt v w t at (entries_along (timer_then x.timers.about at t) es)
@@ -153,10 +148,10 @@ module _ {s : Script} {x : WorldOf} {l : LaneOf} {call : Call} (next : IsNextCal
   -- law: the disarming of a settime is a part of it: the cancel of its timer, or a look at an idle one
   pub disarmed_part : {log : List Receipt} (answer : CancelAnswer) (c : Cancels x.timers.about v w t answer) → ((g n : ℕ) → answer ≡ cancelled.Running g n → ⊥)
       → log ≡ receipts_of t (timer_then x.timers.about c.at t).stamp (cancel_entries answer)
-      → (cancel : Option (ℕ × ℕ)) × TimersPart l reading v w (cancels t cancel) log × IsIdleOr (timer_then x.timers.about c.at t) cancel
+      → (cancel : Option (ℕ × ℕ)) × TimersPart l reading v w (cancels t cancel) log × (cancel ≡ None → IsIdle (timer_then x.timers.about c.at t))
   disarmed_part (cancelled.Idle n) c ended adds =
       let looks = looks_made c.made in
-      (None, subst (TimersPart l reading v w []) (sym adds) ([], part_none looks.0 looks.1), c.fits.0)
+      (None, subst (TimersPart l reading v w []) (sym adds) ([], part_none looks.0 looks.1), λ none. c.fits.0)
   disarmed_part (cancelled.Running g n) c ended adds = absurd (ended g n refl)
   disarmed_part (cancelled.Cancelled g n) c ended adds =
       let u = timer_then x.timers.about c.at t in
@@ -164,8 +159,11 @@ module _ {s : Script} {x : WorldOf} {l : LaneOf} {call : Call} (next : IsNextCal
       let entry : ℕ → List histories.Entry = λ k. record { event = events.Cancel; reply = replies.Cancel k } ∷ [] in
       let generation : g ≡ unwrap_or u.armed 0 = sym (ap (λ a. unwrap_or a 0) c.fits.0) in
       let its = part_along c.at (events.Cancel ∷ []) (cancels t cancel) (subst (λ k. MadeAt v w t c.at (entry k)) generation c.made)
-      (λ clock has. (tt, tt)) (tt, tt) refl in
-      (cancel, subst (TimersPart l reading v w (cancels t cancel)) (sym (adds ∙ ap (λ k. receipts_of t u.stamp (entry k)) generation)) its, tt)
+      (λ clock has. (tt, tt)) (tt, tt) refl in (
+        cancel,
+        subst (TimersPart l reading v w (cancels t cancel)) (sym (adds ∙ ap (λ k. receipts_of t u.stamp (entry k)) generation)) its,
+        λ none. let no : Some (u.stamp + 1, unwrap_or u.armed 0) ≡ None = none in absurd (cc),
+      )
 
 -- a start, or none, behind what the call had done to the timer by then
 module _ {s : Script} {x : WorldOf} {l : LaneOf} {call : Call} (next : IsNextCall s x l call) (t : ℕ) (reading : ClockReading) {begin v w : KnownOfTimers}

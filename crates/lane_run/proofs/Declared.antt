@@ -26,8 +26,7 @@ over_of (kinds.Fd base) = over.Fd
 
 decl_as-parts : (k : Kind) (clock : ClockId) → ((decl_as k clock).kind ≡ over_of k) × ((decl_as k clock).base ≡ base_of k)
 decl_as-parts (kinds.Raw callback) clock = (refl, refl)
-decl_as-parts (kinds.Posix base) clock = (refl, refl)
-decl_as-parts (kinds.Fd base) clock = (refl, refl)
+decl_as-parts k clock = (refl, refl)
 
 -- what stands over a timer that isn't declared
 abbrev pub no_decl : Decl

@@ -25,7 +25,6 @@ pub mod ObjectSeen
 pub mod ObjectLooks
 pub mod ObjectMade
 pub mod Armed
-pub mod ObjectEntered
 pub mod Sights
 pub mod Rearmed
 pub mod RearmedCalls

@@ -42,33 +42,32 @@ use Rattle.record_text.specs.declared.record.RunRecord.{RunRecord}
 use Rattle.timer_fd.specs.States.{Descriptor}
 use Rattle.lane_run.specs.Called.{CallsObject}
 
--- law: a lane keeps a call that looked at an object, where its answer holds of the object as the record has it after so many entries
-pub keeps_look : {s : Script} {x : WorldOf} {l m : LaneOf} {call : Call} (next : IsNextCall s x l call) (a : Answer) {i : ℕ} {object : Object} {stamp : ℕ}
+module _ {s : Script} {x : WorldOf} {l : LaneOf} (m : LaneOf) {call : Call} (next : IsNextCall s x l call) (a : Answer) {i : ℕ} {object : Object} {stamp : ℕ}
     {log : List Receipt} {object_log : List ObjectReceipt}
-    → LooksAtObject (caller_of l.pass [] []) (caller_of m.pass log object_log) i object stamp
-    → Begins (writes l.pass.clock.knows) (writes m.pass.clock.knows) → m.pass.clock.knows.pass.mine ≡ l.pass.clock.knows.pass.mine
-    → m.notes ≡ with_done l.notes l.label log object_log → object_called call ≡ Some i → object_stamp_in a ≡ stamp ∷ []
-    → Does s (length (writes m.pass.clock.knows)) call a [] []
-    → ((e : Ending) → Follows m.pass e → IsObjectPoint (course_of s e) l.label [] i stamp → object ≡ object_after s e.run i stamp (kind_of s i)
-    → IsSeen (course_of s e) (length m.pass.timers.known.seen) (length m.pass.timers.known.seen) l.label (length (writes m.pass.clock.knows)) [] call a)
-    → KeepsCall s l call a m
-keeps_look {s = s} {x = x} {l = l} {m = m} {call = call} next a {i = i} {object = object} {stamp = stamp} {log = log} {object_log = object_log} looks clock
-    clock_mine notes on stamps does seen =
-    let only : LooksOnly l m = record {
-      timers = begins_same (ap (λ k. k.seen) looks.timers);
-      timers_mine = ap (λ k. k.mine) looks.timers;
-      objects = looks.reads.pass.seen;
-      mine = looks.reads.pass.mine;
-      opening = looks.reads.opening;
-      clock = clock;
-      clock_mine = clock_mine;
-      notes = notes_alone l m log object_log looks.log looks.object_log notes;
-    } in
-    let at = subst (λ made. StateAfter cell_meaning made i (seen_of m.pass.objects i) looks.reads.state) next.objects looks.reads.at in
-    keeps_sight next a only (stamped only call a i stamp looks.stamp on stamps) does
-    (λ e follows joined has. seen e follows (point_seen next only _ refl i stamp looks.stamp e joined has)
-    (looks.state ∙ object_seen s x next.world i (seen_of m.pass.objects i) looks.reads.state at e (follows.objects i)
-    ∙ ap (λ n. object_after s e.run i n (kind_of s i)) (sym looks.stamp)))
+    (looks : LooksAtObject (caller_of l.pass [] []) (caller_of m.pass log object_log) i object stamp)
+    (clock : Begins (writes l.pass.clock.knows) (writes m.pass.clock.knows)) (clock_mine : m.pass.clock.knows.pass.mine ≡ l.pass.clock.knows.pass.mine)
+    (notes : m.notes ≡ with_done l.notes l.label log object_log) (on : object_called call ≡ Some i) where
+  -- law: a lane keeps a call that looked at an object, where its answer holds of the object as the record has it after so many entries
+  pub keeps_look : object_stamp_in a ≡ stamp ∷ [] → Does s (length (writes m.pass.clock.knows)) call a [] []
+      → ((e : Ending) → Follows m.pass e → IsObjectPoint (course_of s e) l.label [] i stamp → object ≡ object_after s e.run i stamp (kind_of s i)
+      → IsSeen (course_of s e) (length m.pass.timers.known.seen) (length m.pass.timers.known.seen) l.label (length (writes m.pass.clock.knows)) [] call a)
+      → KeepsCall s l call a m
+  keeps_look stamps does seen =
+      let only : LooksOnly l m = record {
+        timers = begins_same (ap (λ k. k.seen) looks.timers);
+        timers_mine = ap (λ k. k.mine) looks.timers;
+        objects = looks.reads.pass.seen;
+        mine = looks.reads.pass.mine;
+        opening = looks.reads.opening;
+        clock = clock;
+        clock_mine = clock_mine;
+        notes = notes_alone l m log object_log looks.log looks.object_log notes;
+      } in
+      let at = subst (λ made. StateAfter cell_meaning made i (seen_of m.pass.objects i) looks.reads.state) next.objects looks.reads.at in
+      keeps_sight next a only (stamped only call a i stamp looks.stamp on stamps) does
+      (λ e follows joined has. seen e follows (point_seen next only _ refl i stamp looks.stamp e joined has)
+      (looks.state ∙ object_seen s x next.world i (seen_of m.pass.objects i) looks.reads.state at e (follows.objects i)
+      ∙ ap (λ n. object_after s e.run i n (kind_of s i)) (sym looks.stamp)))
 
 -- a POSIX timer that was looked at, or a descriptor, is what the record has of that kind
 posix_looked : (s : Script) (r : RunRecord) (i n : ℕ) (k : Kind) {t : PosixTimer} → objects.Posix t ≡ object_after s r i n k
@@ -85,7 +84,7 @@ pub keeps_overrun : {s : Script} {x : WorldOf} {l m : LaneOf} {a : Answer} {time
     → KeepsCall s l (calls.Overrun timer) a m
 keeps_overrun {s = s} {l = l} {m = m} {timer = timer} next c =
     subst (λ a. KeepsCall s l (calls.Overrun timer) a m) (sym c.told)
-    (keeps_look next (answers.Overrun c.found.overrun c.found.stamp) c.looks.1 (leaves_begins l.pass m.pass c.clock) (ap (λ o. o.knows.pass.mine) c.clock)
+    (keeps_look m next (answers.Overrun c.found.overrun c.found.stamp) c.looks.1 (leaves_begins l.pass m.pass c.clock) (ap (λ o. o.knows.pass.mine) c.clock)
     (c.notes ∙ no_notes-joins l.notes ∙ sym (with_done-joins l.notes l.label [] [])) refl refl refl (λ e follows point is. (
       point,
       ap (λ (u : PosixTimer). u.overrun) (sym (posix_looked s e.run timer c.found.stamp (kind_of s timer) is)) ∙ sym c.looks.2,
@@ -99,7 +98,7 @@ keeps_readable {s = s} {l = l} {m = m} {timer = timer} next called =
     let found = called.0 in
     let ws = writes m.pass.clock.knows in
     subst (λ a. KeepsCall s l (calls.Readable timer) a m) (sym c.does.1)
-    (keeps_look next (answers.Readable found.ready c.reading.stamp found.stamp) c.does.0.1 (reads_begins l.pass m.pass c.reads.looks.seen)
+    (keeps_look m next (answers.Readable found.ready c.reading.stamp found.stamp) c.does.0.1 (reads_begins l.pass m.pass c.reads.looks.seen)
     c.reads.looks.mine c.notes refl refl (refl, c.reads.count) (λ e follows point is. (
       point,
       ap (λ u. is_readable u (reading_at e.run.clock (length ws))) (sym (fd_looked s e.run timer found.stamp (kind_of s timer) is))
@@ -116,7 +115,7 @@ keeps_gettime-posix next kind (gettimes.Spent stamp) c = absurd c.does.0
 keeps_gettime-posix {s = s} {l = l} {m = m} {timer = timer} next kind (gettimes.Left left interval stamp) c =
     let ws = writes m.pass.clock.knows in
     subst (λ b. KeepsCall s l (calls.Gettime timer) b m) (sym c.does.1)
-    (keeps_look next (answers.LeftAt left interval c.reading.stamp stamp) c.does.0.1 (reads_begins l.pass m.pass c.reads.looks.seen) c.reads.looks.mine
+    (keeps_look m next (answers.LeftAt left interval c.reading.stamp stamp) c.does.0.1 (reads_begins l.pass m.pass c.reads.looks.seen) c.reads.looks.mine
     c.notes refl refl
     (subst (λ k. DoesGettime k timer (length ws) (answers.LeftAt left interval c.reading.stamp stamp) []) (sym kind) (refl, c.reads.count))
     (λ e follows point is. (

@@ -37,7 +37,6 @@ use Rattle.ktime.specs.declared.mode.Mode.{Mode}
 use Rattle.run_history.specs.Courses as courses
 use Rattle.lane_run.proofs.Armed.{HasRead, IsArmedSo, IsLike, IsRearmSpan, start_true, TimerPart}
 use Rattle.lane_run.proofs.CallKept.{logged_from, reading_goes_on, reads_begins, unstamped}
-use Rattle.lane_run.proofs.ObjectEntered.{entered_phase, entered_span}
 use Rattle.lane_run.proofs.PartKept.{keeps_part, sees_part}
 use Rattle.lane_run.proofs.Parts.{IsNotedAs, IsPart, part_made, part_none, part_then}
 use Rattle.lane_run.proofs.SeenMore.{goes_before}
@@ -49,6 +48,25 @@ use Rattle.timer_objects.specs.Steps.{object_answer}
 use Rattle.lane_run.specs.Kept.{ObjectMove}
 use Rattle.run_history.specs.Receipts.{Noted}
 use Rattle.run_history.specs.Promises as promises
+use Rattle.std.proofs.Common.{length-append}
+use Rattle.std.specs.List.{slice_get}
+use Rattle.counted_row.specs.Views.{StateAfter}
+use Rattle.counted_row.proofs.Histories.{after_push}
+use Rattle.timer_objects.specs.Cells.{cell_meaning, opened_cells}
+use Rattle.timer_objects.specs.declared.cell.ObjectCell.{ObjectCell}
+use Rattle.script_text.specs.Objects.{kind_of, object_armed_after}
+use Rattle.script_text.specs.declared.script.Kind.TheVariants as kinds
+use Rattle.script_text.specs.declared.script.Kind.{Kind}
+use Rattle.run_history.proofs.Lists.{at_seam}
+use Rattle.lane_run.proofs.ObjectSeen.{span_made}
+use Rattle.record_text.specs.declared.record.RunRecord.{RunRecord}
+use Rattle.lane_run.proofs.ObjectSeen.{object_after, object_seen}
+use Rattle.timer_setting.specs.declared.phase.Phase.{Phase}
+
+-- how an object after its first so many entries has armed its timer
+armed_after : (s : Script) (r : RunRecord) (i n : ℕ) (k : Kind) → object_armed_after s r i n k ≡ armed_in_phase (phase_of (object_after s r i n k))
+armed_after s r i n (kinds.Raw callback) = refl
+armed_after s r i n k = refl
 
 module _ {s : Script} {x : WorldOf} {l : LaneOf} (m : LaneOf) {call : Call} (next : IsNextCall s x l call) {timer : ℕ} {log : List Receipt}
     {object_log : List ObjectReceipt} {made : SpannedCall} {reply : ObjectReply}
@@ -61,6 +79,13 @@ module _ {s : Script} {x : WorldOf} {l : LaneOf} (m : LaneOf) {call : Call} (nex
   -- the number of the object's entry
   abbrev number : ℕ
   number = length enters.commits.adds.before + 1
+
+  -- the entry, and the object's phase behind it
+  abbrev step : ObjectMove
+  step = record { call = made; reply = object_answer enters.commits.state.object made.call }
+
+  abbrev phase : Phase
+  phase = phase_of (object_step enters.commits.state.object made.call)
 
   -- ---- in a run that goes on from there
 
@@ -81,19 +106,35 @@ module _ {s : Script} {x : WorldOf} {l : LaneOf} (m : LaneOf) {call : Call} (nex
     pub outcome_is : IsArmedSo arm (courses.timer_then (course_of s e) (length w.seen) timer)
     outcome_is = subst (IsArmedSo arm) (sym timer_now) k.armed
 
+    -- the object after the entry is the record's
+    phase_is : object_armed_after s e.run timer number (kind_of s timer) ≡ armed_in_phase phase
+    phase_is =
+        let made_cells = opened_cells x.objects.decls x.objects.limit in
+        let before = enters.commits.adds.before in
+        let cell : ObjectCell = record { object = object_step enters.commits.state.object made.call; last = made.to } in
+        let at = subst (λ cells. StateAfter cell_meaning cells timer before enters.commits.state) next.objects enters.commits.at in
+        let after = subst (λ ys. StateAfter cell_meaning made_cells timer ys cell) (sym enters.commits.adds.last)
+        (after_push cell_meaning made_cells timer before step enters.commits.state at enters.may refl) in
+        let count : length (seen_of m.pass.objects timer) ≡ number =
+        omega (arith, ap length enters.commits.adds.last, length-append before (step ∷ [])) in
+        armed_after s e.run timer number (kind_of s timer)
+        ∙ ap (λ n. armed_in_phase (phase_of (object_after s e.run timer n (kind_of s timer)))) (sym count)
+        ∙ ap (λ o. armed_in_phase (phase_of o)) (sym (object_seen s x next.world timer (seen_of m.pass.objects timer) cell after e (follows.objects timer)))
+
     -- law: the object's entry tells the truth of it, where the object's phase bears it
-    pub start_is : (on_clock : Bool) → IsLike on_clock arm (armed_in_phase (phase_of (object_step enters.commits.state.object made.call)))
-        (timer_then x.timers.about w.seen timer)
+    pub start_is : (on_clock : Bool) → IsLike on_clock arm (armed_in_phase phase) (timer_then x.timers.about w.seen timer)
         → IsTrueStart (course_of s e) timer number on_clock (arm_noted arm) (length w.seen)
     start_is on_clock like =
         start_true (course_of s e) timer number (length w.seen) on_clock arm outcome_is
-        (subst (λ o. IsLike on_clock arm o (courses.timer_then (course_of s e) (length w.seen) timer))
-        (sym (entered_phase next.world enters (follows.objects timer) next.objects))
-        (subst (IsLike on_clock arm (armed_in_phase (phase_of (object_step enters.commits.state.object made.call)))) (sym timer_now) like))
+        (subst (λ o. IsLike on_clock arm o (courses.timer_then (course_of s e) (length w.seen) timer)) (sym phase_is)
+        (subst (IsLike on_clock arm (armed_in_phase phase)) (sym timer_now) like))
 
-    -- law: the run has the entry's span
-    pub span_is : e.spans timer number ≡ (made.from, made.to)
-    span_is = entered_span next.world enters (follows.objects timer)
+    -- the run has the entry's span
+    span_is : e.spans timer number ≡ (made.from, made.to)
+    span_is =
+        span_made m.pass.objects e timer (length enters.commits.adds.before) step (follows.objects timer)
+        (subst (λ ys. slice_get ys (length enters.commits.adds.before) ≡ Some step) (sym enters.commits.adds.last)
+        (at_seam enters.commits.adds.before [] step))
 
     -- law: it is the whole part, where it goes from the timer as the call found it to the timer as it left it
     pub whole_span : made.from ≡ stamp_seen x.timers.about begin timer → made.to ≡ stamp_seen x.timers.about w timer
@@ -128,7 +169,6 @@ module _ {s : Script} {x : WorldOf} {l : LaneOf} (m : LaneOf) {call : Call} (nex
         let q = m.pass in
         let ds = settime_actions timer cancel k.start number entry in
         let trace = plain reading.stamp (length begin.seen) (length w.seen) ds in
-        let step : ObjectMove = record { call = made; reply = object_answer enters.commits.state.object made.call } in
         let receipt_of : ObjectReply → ObjectReceipt = λ r. record { object = timer; number = number; call = made; reply = r } in
         let log_is : object_log ≡ receipt_of step.reply ∷ [] = enters.object_log ∙ ap (λ r. receipt_of r ∷ []) enters.reply in
         let as_told = subst (λ r. IsNotedAs (HasRead reading) made.call r entry) enters.reply noted in

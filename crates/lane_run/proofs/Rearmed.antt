@@ -32,8 +32,6 @@ use Rattle.lane_run.proofs.Armed.{IsLike, IsRearmSpan, start_none, start_part, T
 use Rattle.lane_run.proofs.Parts.{part_none}
 use Rattle.lane_run.proofs.SeenMore.{begins_same}
 
--- ---- the start that is wanted
-
 -- it keeps the timer's clock, and its time isn't past the end of time
 abbrev pub IsTimely : Wanted → Type 0
 IsTimely wanted = (wanted.mode ≡ modes.Keep) × (wanted.ns ≤ last_time)
@@ -61,8 +59,6 @@ wanted_timely rearmings.Reading (objects.Fd t) reading wanted is =
     if_timely _ None (next_start t.phase t.interval reading) wanted (λ none. absurd (cc)) (next_timely t.phase t.interval reading wanted) is
 wanted_timely rearmings.Getting (objects.Fd t) reading wanted is = next_timely t.phase t.interval reading wanted is
 wanted_timely r object reading wanted is = absurd (cc)
-
--- ---- as a part of the call
 
 -- what such a call did to its timer, from where it had found it on, and its span
 pub record RearmPart (x : WorldOf) (l : LaneOf) (t : ℕ) (w : KnownOfTimers) (base : ℕ) (reading : ClockReading) (arm : Arm) (span : Span)

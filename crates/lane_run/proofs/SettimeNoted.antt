@@ -35,15 +35,6 @@ use Rattle.record_text.specs.declared.record.ObjectEntry.{ObjectEntry}
 use Rattle.lane_run.proofs.Armed.{HasRead, IsArmedSo}
 use Rattle.run_history.specs.Courses.{timer_then}
 
--- a settime that made an entry: the record's entry of it, its answer, and what it tells of a start that was refused
-pub record SettimeNoted (call : ObjectCall) (reply : ObjectReply) (flags value interval : ℕ) (reading : ClockReading) (arm : Arm)
-    (answer : SettimeAnswer) : Type 0 where
-  pub told : SettimeReply
-  pub noted : IsNotedAs (HasRead reading) call reply
-      (object_entries.Settime flags value interval reading.stamp (arm_noted arm) told)
-  pub answers : settime_told answer ≡ answer_of_settime told
-  pub refused : (w : Course) (timer last : ℕ) → IsArmedSo arm (timer_then w last timer) → RefusedBy w timer told last
-
 module _ (flags value interval : ℕ) (reading : ClockReading) (answer : SettimeAnswer) where
   -- a settime with its reading and the outcome of its start
   abbrev call_by : Kind → Arm → ClockReading → ObjectCall
@@ -53,21 +44,25 @@ module _ (flags value interval : ℕ) (reading : ClockReading) (answer : Settime
   abbrev entry_by : Arm → SettimeReply → ObjectEntry
   entry_by arm told = object_entries.Settime flags value interval reading.stamp (arm_noted arm) told
 
-  abbrev Noted : Kind → Arm → ObjectReply → Type 0
-  Noted k arm reply = SettimeNoted (call_by k arm reading) reply flags value interval reading arm answer
+  -- a settime that made an entry: what the record's entry tells, its answer, and what it tells of a start that was refused
+  pub record SettimeNoted (k : Kind) (arm : Arm) (reply : ObjectReply) : Type 0 where
+    pub told : SettimeReply
+    pub noted : IsNotedAs (HasRead reading) (call_by k arm reading) reply (entry_by arm told)
+    pub answers : settime_told answer ≡ answer_of_settime told
+    pub refused : (w : Course) (timer last : ℕ) → IsArmedSo arm (timer_then w last timer) → RefusedBy w timer told last
 
   noted_so : (k : Kind) (arm : Arm) (reply : ObjectReply) (told : SettimeReply)
       → (object_entry_noted (call_by k arm reading) reply ≡ Some (entry_by arm told)) × (skip_generation (call_by k arm reading) reply ≡ None)
       × ((clock : List ClockLine) → ShowsObjectCall clock (call_by k arm (reading_at clock reading.stamp)) reply (entry_by arm told))
       → settime_told answer ≡ answer_of_settime told
-      → ((w : Course) (timer last : ℕ) → IsArmedSo arm (timer_then w last timer) → RefusedBy w timer told last) → Noted k arm reply
+      → ((w : Course) (timer last : ℕ) → IsArmedSo arm (timer_then w last timer) → RefusedBy w timer told last) → SettimeNoted k arm reply
   noted_so k arm reply told is tells refused =
       let noted = noted_at reading (call_by k arm) reply (entry_by arm told) is.0 is.1 is.2 in
       record { told = told; noted = noted; answers = tells; refused = refused }
 
   -- law: a settime of an object of either kind is noted
   pub settime_noted : (k : Kind) (x : Object) (arm : Arm) → ObjectAllows x (call_by k arm reading)
-      → SettimeTells (object_answer x (call_by k arm reading)) answer → Noted k arm (object_answer x (call_by k arm reading))
+      → SettimeTells (object_answer x (call_by k arm reading)) answer → SettimeNoted k arm (object_answer x (call_by k arm reading))
   settime_noted k objects.Raw arm allows tells = absurd allows
   settime_noted over.Raw (objects.Fd t) arm allows tells = absurd allows
   settime_noted over.Posix (objects.Fd t) arm allows tells = absurd allows
@@ -78,7 +73,7 @@ module _ (flags value interval : ℕ) (reading : ClockReading) (answer : Settime
   settime_noted over.Fd (objects.Fd t) arm allows tells = old (answers_canceled t flags value reading) tells
     where
       old : (b : Bool) → answer ≡ (if b then settings.Canceled else settings.Old (fd_left t reading) t.interval)
-          → Noted over.Fd arm (replies.Fd (fd_replies.Settime (if b then settings.Canceled else settings.Old (fd_left t reading) t.interval)))
+          → SettimeNoted over.Fd arm (replies.Fd (fd_replies.Settime (if b then settings.Canceled else settings.Old (fd_left t reading) t.interval)))
       old true is = noted_so over.Fd arm _ settimes.Canceled (refl, refl, λ clock. refl) (ap settime_told is) (λ w timer last armed. tt)
       old false is =
           noted_so over.Fd arm _ (settimes.Old (fd_left t reading) t.interval) (refl, refl, λ clock. refl) (ap settime_told is)

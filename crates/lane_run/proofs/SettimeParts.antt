@@ -1,4 +1,4 @@
--- A settime's arguments, the object that it is made on, and the start that it wants.
+-- A settime's arguments, the object that it is made on, and how that bears its start.
 use Rattle.std.proofs.Common.{◌≡◌, ℕ, ◌||◌, Bool, true, false, nat_eq, not, if◌then◌else◌, None, Some, List, arith, refl, sym, ap, subst}
 use Rattle.std.specs.Prelude.{MatchOption}
 use Rattle.std.proofs.lemmas.Bool.{eqb-true}
@@ -43,8 +43,6 @@ use Rattle.timer_objects.specs.declared.object.Kind as object_kind
 use Rattle.std.proofs.lemmas.Bool.Decides.{nat_tests}
 use Rattle.std.proofs.lemmas.Grind.{common_steps}
 
--- ---- its arguments
-
 -- arguments of a settime that are refused are no valid ones, and the answer says so
 abbrev pub IsRefusal : ℕ → TimeSpec → TimeSpec → SettimeAnswer → Type 0
 IsRefusal unknown value interval refusal = (settime_told refusal ≡ answers.Invalid) × (AreValid unknown value interval → ⊥)
@@ -77,8 +75,6 @@ pub takes_valid : (k : Kind) (d : object_kind.Kind) (flags : ℕ) (value interva
     → (AreValid (bits_beyond (flags_of d) flags) value interval → AreValidFor k flags value interval) × (start_mode k flags ≡ mode_by flags)
 takes_valid (kinds.Raw callback) d flags value interval is object = absurd (object refl)
 takes_valid k d flags value interval is object = (λ valid. subst (λ o. AreValid (bits_beyond (flags_of o) flags) value interval) is valid, refl)
-
--- ---- its object
 
 -- law: what was seen over a timer by itself is no object, and it has no entries
 pub raw_object : {s : Script} {x : WorldOf} {l : LaneOf} {c : Call} (next : IsNextCall s x l c) {t : ℕ} {seen : List ObjectMove} {state : ObjectCell}

@@ -36,7 +36,7 @@ use Rattle.timer_objects.specs.Steps.{ObjectAllows}
 use Rattle.timer_objects.specs.Arming.{receipts_of}
 use Rattle.hr_timers.specs.Calls.{cancel_entries}
 use Rattle.lane_run.proofs.SeenMore.{begins_same}
-use Rattle.lane_run.proofs.Armed.{disarmed_part, IsIdleOr, places_inside, settime_start, TimerPart, TimersPart}
+use Rattle.lane_run.proofs.Armed.{disarmed_part, places_inside, settime_start, TimerPart, TimersPart}
 use Rattle.lane_run.proofs.ObjectMade.{keeps_made, outcome_is, start_is, timer_found, whole_span}
 use Rattle.lane_run.proofs.SettimeNoted.{settime_noted, SettimeNoted}
 use Rattle.lane_run.proofs.SettimeParts.{checked, IsRefusal, like_start, raw_object, takes_valid, valid_for}
@@ -62,7 +62,7 @@ module _ {s : Script} {x : WorldOf} {l : LaneOf} (m : LaneOf) {timer flags : ℕ
   begin = let v = l.pass.timers.known in record v { seen = set.disarms.cancelled.at }
 
   disarmed : (cancel : Option (ℕ × ℕ)) × TimersPart l reading begin set.disarmed (cancels timer cancel) set.cancel_log
-      × IsIdleOr (timer_then x.timers.about begin.seen timer) cancel
+      × (cancel ≡ None → IsIdle (timer_then x.timers.about begin.seen timer))
   disarmed =
       let d = set.disarms in
       let c = d.cancelled in
@@ -74,11 +74,12 @@ module _ {s : Script} {x : WorldOf} {l : LaneOf} (m : LaneOf) {timer flags : ℕ
   part : TimerPart x l timer begin w (mode_by flags) (time_of value) (decl_at x.objects timer).base reading set.arm disarmed.0 log
   part = settime_start next timer reading set.disarms.cancelled.made.from refl disarmed.1 flags (time_of value) set.arm set.arms
 
-  noted : SettimeNoted call set.reply flags (time_of value) (time_of interval) reading set.arm a
+  noted : SettimeNoted flags (time_of value) (time_of interval) reading a (decl_at x.objects timer).kind set.arm set.reply
   noted =
-      subst (λ r. SettimeNoted call r flags (time_of value) (time_of interval) reading set.arm a) (sym set.enters.reply)
-      (settime_noted flags (time_of value) (time_of interval) reading a (decl_at x.objects timer).kind set.enters.commits.state.object set.arm
-      set.enters.may.allowed (subst (λ r. SettimeTells r a) set.enters.reply set.answer))
+      let d = decl_at x.objects timer in
+      subst (SettimeNoted flags (time_of value) (time_of interval) reading a d.kind set.arm) (sym set.enters.reply)
+      (settime_noted flags (time_of value) (time_of interval) reading a d.kind set.enters.commits.state.object set.arm set.enters.may.allowed
+      (subst (λ r. SettimeTells r a) set.enters.reply set.answer))
 
   module _ {e : Ending} (follows : Follows m.pass e) (joined : IsJoined s e) where
     is_set : IsSet (course_of s e) l.label part.part.0 reading.stamp (length begin.seen) (length w.seen) timer flags value interval disarmed.0
@@ -101,9 +102,9 @@ module _ {s : Script} {x : WorldOf} {l : LaneOf} (m : LaneOf) {timer flags : ℕ
           span = whole_span m next set.enters part follows joined (set.from ∙ set.disarms.from) set.to;
         }
       where
-        found : (cancel : Option (ℕ × ℕ)) → IsIdleOr (timer_then x.timers.about begin.seen timer) cancel
+        found : (cancel : Option (ℕ × ℕ)) → (cancel ≡ None → IsIdle (timer_then x.timers.about begin.seen timer))
             → FoundIdle (course_of s e) timer cancel (length begin.seen)
-        found None idle = subst IsIdle (sym (timer_found m next set.enters part follows joined)) idle
+        found None idle = subst IsIdle (sym (timer_found m next set.enters part follows joined)) (idle refl)
         found (Some cancel) idle = tt
 
   -- law: the lane keeps it

@@ -9,7 +9,6 @@ returns-clause-call g c =
       made.result,
       c.accept_answer.ensures,
       calls_object (λ x old new reading. Accepts x.objects x.timers.about old new c.args.timer reading made.result) read.result made.new.log.receipts
-          made.new.object_log.receipts c.world.view_is c.note_logs.ensures.rest.3
-          (record { shows = read.ensures.reading; count = read.ensures.count; looks = read.ensures.looks }) c.in_ok-logs.ensures.empty
-          made.ensures.accepts c.in_ok-note_logs.ensures.notes,
+          made.new.object_log.receipts c.world.view_is c.note_logs.ensures.rest.3 read.ensures.reading read.ensures.count read.ensures.looks
+          c.in_ok-logs.ensures.empty made.ensures.accepts c.in_ok-note_logs.ensures.notes,
     )

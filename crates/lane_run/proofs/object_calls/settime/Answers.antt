@@ -8,9 +8,7 @@ returns-clause-call g c =
     let made = c.settime-answer in (
       made.result,
       c.settime_answer.ensures,
-      calls_object
-          (λ x old new reading. Settimes x.objects x.timers.about old new c.args.timer c.args.flags c.args.value c.args.interval reading made.result)
-          read.result made.new.log.receipts made.new.object_log.receipts c.world.view_is c.note_logs.ensures.rest.3
-          (record { shows = read.ensures.reading; count = read.ensures.count; looks = read.ensures.looks }) c.in_ok-logs.ensures.empty
-          made.ensures.settimes c.in_ok-note_logs.ensures.notes,
+      calls_object (λ x old new reading. Settimes x.objects x.timers.about old new c.args.timer c.args.flags c.args.value c.args.interval reading made.result)
+          read.result made.new.log.receipts made.new.object_log.receipts c.world.view_is c.note_logs.ensures.rest.3 read.ensures.reading read.ensures.count
+          read.ensures.looks c.in_ok-logs.ensures.empty made.ensures.settimes c.in_ok-note_logs.ensures.notes,
     )
