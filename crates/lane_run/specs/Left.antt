@@ -7,16 +7,12 @@ use Rattle.lane_notes.specs.Notes.{NotesOf}
 use Rattle.record_text.specs.declared.record.Label.{Label}
 use Rattle.record_text.specs.declared.record.RunRecord.{RunRecord}
 use Rattle.run_history.specs.Promises.{HasLog}
-use Rattle.run_history.specs.Receipts.{AreFiled, Filed, ShowsEntry}
-use Rattle.run_history.specs.Runs.{CallLog, Ending, IsJoined, Starts, course_of, clock_spans, moves_spans, notes_in, object_spans}
+use Rattle.run_history.specs.Runs.{CallLog, Ending, IsJoined, Starts, course_of, clock_spans, moves_spans, object_spans}
 use Rattle.run_history.specs.Rounds.{IsLedger}
-use Rattle.run_history.specs.Fits.{AreBehind, FitsLane, unseen}
-use Rattle.script_text.specs.Histories.{AreWrites, clock_labels}
-use Rattle.script_text.specs.Objects.{IsLegalObject, kind_of, lines_of_object, object_labels}
+use Rattle.run_history.specs.Fits.{FitsLane, unseen}
 use Rattle.script_text.specs.Order.{calls_of, IsLabel, is_label}
 use Rattle.script_text.specs.Scripts.{IsInRange}
 use Rattle.script_text.specs.declared.script.Script.{Script}
-use Rattle.clock_model.specs.Clocks.{at_stamp}
 use Rattle.record_text.specs.declared.record.Answer.{Answer}
 use Rattle.timer_objects.specs.Known.{seen_of}
 use Rattle.lane_run.specs.Kept.{Follows, IsSeen, NoteKind, ObjectMove, StandAt, Tallies, TellLog, label_of, list_of}
