@@ -14,29 +14,23 @@ use Rattle.lane_run.proofs.expiring.run_gated.Goals as goal
 
 pub returns-clause-objects : goal.returns-clause-objects
 returns-clause-objects g c =
-    let ready = c.reserve-2.new.self in
     let ran = c.run_with-answer in
-    let left = ran.ensures.runs.leaves in
-    let was : ready.objects_pass.now ≡ c.args.objects_pass.now = c.reserve-2.ensures.pass ∙ c.make-firing.ensures.pass in
+    let was = c.reserve-2.ensures.pass ∙ c.make-firing.ensures.pass in
     subst (λ (p : ObjectsPass). IsObjectsPass c.args.world.now.objects p) (search rules)
-    (pass_after c.args.world.now.objects ready ran.new.firing
-    (c.reserve-2.ensures.loan.objects ∙ c.make-firing.ensures.objects ∙ ap (λ (x : WorldOf). x.objects) c.world.view_is) left
+    (pass_after c.args.world.now.objects c.reserve-2.new.self ran.new.firing
+    (c.reserve-2.ensures.loan.objects ∙ c.make-firing.ensures.objects ∙ ap (λ (x : WorldOf). x.objects) c.world.view_is) ran.ensures.runs.leaves
     (subst (λ (p : ObjectsPass). Knows cell_meaning p.knows) (sym was) c.requires.objects.knows))
 
 pub returns-clause-name : goal.returns-clause-name
 returns-clause-name g c =
-    let ready = c.reserve-2.new.self in
-    let ran = c.run_with-answer in
-    let left = ran.ensures.runs.leaves in
-    let was : ready.objects_pass.now ≡ c.args.objects_pass.now = c.reserve-2.ensures.pass ∙ c.make-firing.ensures.pass in
-    let same : KeepsName c.args.objects_pass.now ran.new.firing.objects_pass.now = record { id = left.id ∙ ap (λ (p : ObjectsPass). p.knows.pass.id) was } in
-    subst (λ (p : ObjectsPass). KeepsName c.args.objects_pass.now p) (search rules) same
+    let was = c.reserve-2.ensures.pass ∙ c.make-firing.ensures.pass in
+    subst (λ (p : ObjectsPass). KeepsName c.args.objects_pass.now p) {x = c.run_with-answer.new.firing.objects_pass.now} (search rules)
+    (record { id = c.run_with-answer.ensures.runs.leaves.id ∙ ap (λ (p : ObjectsPass). p.knows.pass.id) was })
 
 pub returns-clause-runs : goal.returns-clause-runs
 returns-clause-runs g c =
     let ready = c.reserve-2.new.self in
     let ran = c.run_with-answer in
-    let was : ready.objects_pass.now ≡ c.args.objects_pass.now = c.reserve-2.ensures.pass ∙ c.make-firing.ensures.pass in
     let empty : c.reserve.new.self.receipts ≡ [] = search rules in
     subst (λ (p : ObjectsPass). RunsGated c.args.world.now c.args.pass.now.known c.args.objects_pass.now ran.new.pass.known p c.args.base c.args.budget
     c.args.reading ran.new.log.receipts c.into_logs-callback_log.result.0.receipts c.into_logs-callback_log.result.1.receipts ran.result) (search rules)
@@ -50,7 +44,7 @@ returns-clause-runs g c =
       objects = c.reserve-2.ensures.loan.objects ∙ c.make-firing.ensures.objects ∙ ap (λ (x : WorldOf). x.objects) c.world.view_is;
       callbacks = c.reserve-2.ensures.loan.callbacks ∙ c.make-firing.ensures.callbacks ∙ c.deref.ensures.value
           ∙ ap (λ (x : WorldOf). x.callbacks) c.world.view_is;
-      pass = was;
+      pass = c.reserve-2.ensures.pass ∙ c.make-firing.ensures.pass;
       back = refl;
       fresh = (c.reserve-2.ensures.logs.0 ∙ c.make-firing.ensures.logs.0, c.reserve-2.ensures.logs.1 ∙ c.make-firing.ensures.logs.1);
       logs = (
