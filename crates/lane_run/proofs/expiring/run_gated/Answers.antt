@@ -30,7 +30,6 @@ pub returns-clause-runs : goal.returns-clause-runs
 returns-clause-runs g c =
     let ready = c.reserve-2.new.self in
     let ran = c.run_with-answer in
-    let was : ready.objects_pass.now ≡ c.args.objects_pass.now = c.reserve-2.ensures.pass ∙ c.make-firing.ensures.pass in
     let empty : c.reserve.new.self.receipts ≡ [] = search rules in
     subst (λ (p : ObjectsPass). RunsGated c.args.world.now c.args.pass.now.known c.args.objects_pass.now ran.new.pass.known p c.args.base c.args.budget
     c.args.reading ran.new.log.receipts c.into_logs-callback_log.result.0.receipts c.into_logs-callback_log.result.1.receipts ran.result) (search rules)
@@ -44,7 +43,7 @@ returns-clause-runs g c =
       objects = c.reserve-2.ensures.loan.objects ∙ c.make-firing.ensures.objects ∙ ap (λ (x : WorldOf). x.objects) c.world.view_is;
       callbacks = c.reserve-2.ensures.loan.callbacks ∙ c.make-firing.ensures.callbacks ∙ c.deref.ensures.value
           ∙ ap (λ (x : WorldOf). x.callbacks) c.world.view_is;
-      pass = was;
+      pass = c.reserve-2.ensures.pass ∙ c.make-firing.ensures.pass;
       back = refl;
       fresh = (c.reserve-2.ensures.logs.0 ∙ c.make-firing.ensures.logs.0, c.reserve-2.ensures.logs.1 ∙ c.make-firing.ensures.logs.1);
       logs = (
