@@ -1,12 +1,12 @@
 -- What a call on an object does to the object's timer, as parts of the call: its disarming, a start, the receipts of both, and the timer after them.
-use Rattle.std.proofs.Common.{Bool, false, ◌≡◌, ◌≤◌, ◌<◌, ℕ, ◌+◌, Some, List, [], ◌∷◌, ◌++◌, length, map, option_map, arith, refl, sym, ap, ◌∙◌, subst}
+use Rattle.std.proofs.Common.{Bool, false, ◌≡◌, ◌≤◌, ◌<◌, ℕ, ◌+◌, Some, List, [], ◌∷◌, ◌++◌, length, map, arith, refl, sym, ap, ◌∙◌, subst}
 use Rattle.std.specs.List.{AllByRecursion}
 use Rattle.std.proofs.lemmas.List.{append-nil}
 use Rattle.ktime.specs.Readings.{ClockReading}
 use Rattle.ktime.specs.declared.mode.Mode.{Mode}
 use Rattle.seq_timer.specs.Histories as histories
 use Rattle.seq_timer.specs.Histories.{Holds}
-use Rattle.seq_timer.specs.Steps.{after, reply_to, Timer}
+use Rattle.seq_timer.specs.Steps.{after, Timer}
 use Rattle.seq_timer.specs.declared.event.Event.TheVariants as events
 use Rattle.seq_timer.specs.declared.event.Event.{Event}
 use Rattle.seq_timer.specs.declared.observation.Observation.TheVariants as observations
@@ -24,17 +24,16 @@ use Rattle.timer_setting.specs.declared.arming.Arm.{Arm}
 use Rattle.timer_setting.specs.declared.arming.Wanted.{Wanted}
 use Rattle.timer_objects.specs.Arming.{arm_of, receipts_of, Starts}
 use Rattle.record_text.specs.declared.record.ClockLine.{ClockLine}
-use Rattle.record_text.specs.declared.record.Entry.{Entry}
 use Rattle.record_text.specs.declared.record.Label.{Label}
 use Rattle.script_text.specs.Actions.{Action}
 use Rattle.script_text.specs.Told.{IsArmedLike}
 use Rattle.script_text.specs.Histories.{reading_at}
 use Rattle.script_text.specs.ObjectCalls.{Arms}
-use Rattle.script_text.specs.Objects.{kind_of, object_armed_after, present}
+use Rattle.script_text.specs.Objects.{kind_of, object_armed_after}
 use Rattle.script_text.specs.Starts.{arming_actions}
 use Rattle.script_text.specs.declared.script.Script.{Script}
 use Rattle.lane_notes.specs.Arms.{arm_noted}
-use Rattle.lane_notes.specs.Entries.{entry_note, entry_noted, entry_notes, look_notes}
+use Rattle.lane_notes.specs.Entries.{entry_notes, look_notes}
 use Rattle.run_history.specs.Courses.{clocks_of, Course, entries_in}
 use Rattle.run_history.specs.Receipts.{Noted}
 use Rattle.run_history.specs.Traces.{all_entered}
@@ -77,20 +76,13 @@ HasRead reading clock = reading_at clock reading.stamp ≡ reading
 
 -- ---- receipts of entries
 
--- an event with its reply is noted as the record's entry of it
-entry_noted-line : (s : Timer) (event : Event) → entry_noted event (reply_to s event) ≡ Some (line_entry s event)
-entry_noted-line s events.Cancel = refl
-entry_noted-line s event = refl
-
 -- receipts of a timer's entries are noted as the record's entries, by number
 receipts_of-noted : (label : Label) (t n : ℕ) (s : Timer) (es : List Event)
     → map entry_in_note (entry_notes label (receipts_of t n (entries_along s es))) ≡ numbered t n (lines_along s es)
 receipts_of-noted label t n s [] = refl
-receipts_of-noted label t n s (e ∷ es) =
-    let more = map (entry_note label) (receipts_of t (n + 1) (entries_along (after s e) es)) in
-    ap (λ o. map entry_in_note (present (option_map (λ (y : Entry). record { label = label; timer = t; number = n + 1; entry = y }) o ∷ more)))
-    (entry_noted-line s e)
-    ∙ ap (λ xs. (t, (n + 1, line_entry s e)) ∷ xs) (receipts_of-noted label t (n + 1) (after s e) es)
+receipts_of-noted label t n s (events.Cancel ∷ es) =
+    ap (λ xs. (t, (n + 1, line_entry s events.Cancel)) ∷ xs) (receipts_of-noted label t (n + 1) (after s events.Cancel) es)
+receipts_of-noted label t n s (e ∷ es) = ap (λ xs. (t, (n + 1, line_entry s e)) ∷ xs) (receipts_of-noted label t (n + 1) (after s e) es)
 
 -- they are no looks
 receipts_of-no_looks : (label : Label) (t n : ℕ) (es : List histories.Entry) → look_notes label (receipts_of t n es) ≡ []

@@ -1,8 +1,8 @@
 -- What a call does to its object's timer that may have expired: a start that keeps the timer's clock, or none; as a part of the call, and in the run.
 use Rattle.std.proofs.Common.{◌≡◌, ◌≤◌, ℕ, Bool, true, false, if◌then◌else◌, Option, None, Some, List, [], arith, refl, sym, ap, ◌∙◌, subst}
 use Rattle.std.proofs.lemmas.Option.{same_Some}
-use Rattle.ktime.specs.Readings.{ClockReading, value_of}
-use Rattle.ktime.specs.Times.{last_time, next_after, sat}
+use Rattle.ktime.specs.Readings.{ClockReading}
+use Rattle.ktime.specs.Times.{last_time}
 use Rattle.ktime.specs.declared.mode.Mode.TheVariants as modes
 use Rattle.base_row.specs.declared.view.Opening.{Opening}
 use Rattle.expire_pass.specs.declared.log.Receipt.{Receipt}
@@ -36,14 +36,8 @@ use Rattle.lane_run.proofs.SeenMore.{begins_same}
 abbrev pub IsTimely : Wanted → Type 0
 IsTimely wanted = (wanted.mode ≡ modes.Keep) × (wanted.ns ≤ last_time)
 
-sat_timely : (n : ℕ) → sat n ≤ last_time
-sat_timely n = omega arith
-
 next_timely : (phase : Phase) (interval : ℕ) (reading : ClockReading) (wanted : Wanted) → next_start phase interval reading ≡ Some wanted → IsTimely wanted
-next_timely (phases.Expired clock expires) interval reading wanted is =
-    let ns = next_after expires (value_of clock reading) interval in
-    let its : Wanted = record { mode = modes.Keep; ns = ns } in
-    let timely : ns ≤ last_time = sat_timely _ in subst IsTimely (same_Some its wanted is) (refl, timely)
+next_timely (phases.Expired clock expires) interval reading wanted is = subst IsTimely (same_Some _ wanted is) (refl, omega arith)
 next_timely phase interval reading wanted is = absurd (cc)
 
 if_timely : (b : Bool) (o q : Option Wanted) (wanted : Wanted) → (o ≡ Some wanted → IsTimely wanted) → (q ≡ Some wanted → IsTimely wanted)

@@ -41,7 +41,6 @@ use Rattle.hr_timers.specs.Known.{timer_then}
 use Rattle.timer_objects.specs.Known.{decl_at}
 use Rattle.timer_objects.specs.declared.object.Kind as object_kind
 use Rattle.std.proofs.lemmas.Bool.Decides.{nat_tests}
-use Rattle.std.proofs.lemmas.Grind.{common_steps}
 
 -- arguments of a settime that are refused are no valid ones, and the answer says so
 abbrev pub IsRefusal : ℕ → TimeSpec → TimeSpec → SettimeAnswer → Type 0
@@ -57,12 +56,9 @@ checked unknown value interval = by_tests (nat_eq unknown 0) (is_bad value || is
         → MatchOption (if not a then Some settings.BadFlags else (if b then Some settings.BadTime else None)) (AreValid unknown value interval)
         (IsRefusal unknown value interval)
     by_tests false b flags bad = (refl, λ v. let known = ap (λ n. nat_eq n 0) v.known in absurd (cc))
-    by_tests true true flags bad = (refl, λ v. grind (arith, nat_tests, common_steps, bad, v.good_value, v.good_interval))
-    by_tests true false flags bad = record {
-      known = eqb-true unknown 0 flags;
-      good_value = grind (arith, nat_tests, common_steps, bad);
-      good_interval = grind (arith, nat_tests, common_steps, bad);
-    }
+    by_tests true true flags bad = (refl, λ v. grind (arith, nat_tests, bad, v.good_value, v.good_interval))
+    by_tests true false flags bad =
+        record { known = eqb-true unknown 0 flags; good_value = grind (arith, nat_tests, bad); good_interval = grind (arith, nat_tests, bad) }
 
 -- law: what an object takes are valid arguments
 pub valid_for : (k : Kind) (d : object_kind.Kind) (flags : ℕ) (value interval : TimeSpec) → d ≡ over_of k → AreValidFor k flags value interval
