@@ -9,7 +9,7 @@ use Rattle.ktime.specs.Readings.{ClockReading}
 use Rattle.clock_model.specs.Clocks.{at_stamp, clock_after}
 use Rattle.clock_cell.specs.Views.{writes}
 use Rattle.pass_names.specs.Counts.{count, one_if, total}
-use Rattle.pass_names.specs.Passes.{Begins, GoesOn, is_place}
+use Rattle.pass_names.specs.Passes.{Begins, GoesOn, is_place, Looks}
 use Rattle.pass_names.proofs.Counts.{total-append}
 use Rattle.expire_pass.specs.declared.log.Receipt.{Receipt}
 use Rattle.timer_objects.specs.Known.{seen_of}
@@ -146,13 +146,18 @@ no_places p mine new is = let same = ap (count p) is in omega (arith, same)
 
 -- ---- what the passes saw
 
--- the clock was left alone
-pub leaves_begins : (p q : WorldPass) → LeavesClock p q → Begins (writes p.clock.knows) (writes q.clock.knows)
-leaves_begins p q leaves = begins_same (ap (λ c. writes c.knows) leaves)
+-- of the clock no less was seen, and no write of it was made
+pub record LooksAtClock (p q : WorldPass) : Type 0 where
+  pub seen : Begins (writes p.clock.knows) (writes q.clock.knows)
+  pub mine : q.clock.knows.pass.mine ≡ p.clock.knows.pass.mine
 
--- the clock was read
-pub reads_begins : (p q : WorldPass) → GoesOn p.clock.knows.pass.seen q.clock.knows.pass.seen → Begins (writes p.clock.knows) (writes q.clock.knows)
-reads_begins p q goes_on = goes_on.each 0
+-- it was left alone
+pub clock_left : {p q : WorldPass} → LeavesClock p q → LooksAtClock p q
+clock_left left = record { seen = begins_same (ap (λ c. writes c.knows) left); mine = ap (λ c. c.knows.pass.mine) left }
+
+-- it was read
+pub clock_read : {p q : WorldPass} → Looks p.clock.knows.pass q.clock.knows.pass → LooksAtClock p q
+clock_read looks = record { seen = looks.seen.each 0; mine = looks.mine }
 
 -- the objects were left alone
 pub same_objects : (p q : WorldPass) → q.objects ≡ p.objects → GoesOn p.objects.knows.pass.seen q.objects.knows.pass.seen
@@ -217,14 +222,18 @@ logged_from p q notes t call a sees last made are at none objects =
       object_steps = objects;
     }
 
--- law: a call keeps its promise that fits, in every run that goes on from there, by what its lane kept of it
-pub promised_from : {s : Script} {x : WorldOf} {l : LaneOf} {call : Call} (next : IsNextCall s x l call) (q : WorldPass) (notes : List Noted) (t : Trace)
-    (a : Answer) → IsLogged (log_of l.pass q notes t) call a (seen_by l.pass) (seen_by q)
-    → ((e : Ending) → Follows q e → IsJoined s e → HasLog e l.label (log_of l.pass q notes t)
-    → IsKept (course_of s e) (moves_spans e) l.label t notes call a (seen_by l.pass) (seen_by q)
-    → length l.pass.timers.known.seen ≡ (moves_spans e).first l.label → FitsCall (course_of s e) l.label call a (seen_by l.pass) (seen_by q))
-    → IsPromised s l.label.lane l.label.call (log_of l.pass q notes t) (Follows q) call a (seen_by l.pass) (seen_by q)
-promised_from {s = s} {l = l} next q notes t a logged fits e follows has joined =
+-- a call fits, by what its lane kept of it, in every run that goes on from there
+abbrev pub FitsOn : Script → LaneOf → LaneOf → Call → Answer → List Noted → Trace → Type 0
+FitsOn s l m call a notes t =
+    (e : Ending) → Follows m.pass e → IsJoined s e → HasLog e l.label (log_of l.pass m.pass notes t)
+    → IsKept (course_of s e) (moves_spans e) l.label t notes call a (seen_by l.pass) (seen_by m.pass)
+    → length l.pass.timers.known.seen ≡ (moves_spans e).first l.label → FitsCall (course_of s e) l.label call a (seen_by l.pass) (seen_by m.pass)
+
+-- law: it keeps its promise then
+pub promised_from : {s : Script} {x : WorldOf} {l : LaneOf} {call : Call} (next : IsNextCall s x l call) (m : LaneOf) (notes : List Noted) (t : Trace)
+    (a : Answer) → IsLogged (log_of l.pass m.pass notes t) call a (seen_by l.pass) (seen_by m.pass) → FitsOn s l m call a notes t
+    → IsPromised s l.label.lane l.label.call (log_of l.pass m.pass notes t) (Follows m.pass) call a (seen_by l.pass) (seen_by m.pass)
+promised_from {s = s} {l = l} next m notes t a logged fits e follows has joined =
     let is : IsLabel s l.label = slice_get_within (calls_of s l.label.lane) l.label.call next.at next.there in
     fits e follows joined has (kept_from joined is has logged) (sym (ap (λ (g : CallLog). g.moves.0) has.kept))
 

@@ -42,9 +42,9 @@ use Rattle.lane_run.specs.Kept.{Follows, IsNextCall, KeepsCall, seen_by}
 use Rattle.lane_run.specs.Worlds.{WorldOf}
 use Rattle.pass_names.proofs.Passes.{begins_length}
 use Rattle.lane_run.proofs.SeenMore.{goes_before}
-use Rattle.lane_run.proofs.CallKept.{logged_from, reading_followed, reading_goes_on, reads_begins}
-use Rattle.lane_run.proofs.PartKept.{keeps_part, sees_part}
-use Rattle.lane_run.proofs.Parts.{HasRead, part_none, part_then}
+use Rattle.lane_run.proofs.CallKept.{clock_read, reading_followed, reading_goes_on}
+use Rattle.lane_run.proofs.PartKept.{keeps_part}
+use Rattle.lane_run.proofs.Parts.{part_none, part_then}
 use Rattle.lane_run.proofs.Fired.{RunKept, turns_kept}
 
 -- ---- a run that looked on
@@ -114,18 +114,12 @@ module _ {s : Script} {x : WorldOf} {l m : LaneOf} {a : Answer} {base budget : �
   keeps_run told run fits =
       let p = l.pass in
       let q = m.pass in
-      let call = calls.Expire base budget in
       let answer = told (map (λ f. f.timer) run.fired) in
       let actions = flat_map (fires base c.reading.stamp) run.fired in
       let t = expiring base c.reading.stamp (length p.timers.known.seen) (length q.timers.known.seen) run.fired in
-      let part = run.part in
-      let clock = reads_begins p q c.reads.looks.seen in
-      let logged = logged_from p q run.notes t call answer (sees_part p q part clock) refl part.timers.enters.made part.timers.are c.reads.count
-      part.timers.no_write
-      (λ i. rw (append-nil (numbers_of_object i actions)) (part.objects.steps i)) in
       let is : IsLabel s l.label = slice_get_within (calls_of s l.label.lane) l.label.call next.at next.there in
-      rw run.claimed (keeps_part next m answer (HasRead c.reading) (c.log ++ c.callback_log) c.object_log run.notes t part
-      (reading_goes_on p q c.reading c.reads) clock c.reads.looks.mine c.notes logged
+      rw run.claimed (keeps_part next m answer t run.part (reading_goes_on p q c.reading c.reads) (clock_read c.reads.looks) c.notes refl c.reads.count
+      (λ i. rw (append-nil (numbers_of_object i actions)) (run.part.objects.steps i))
       (λ e follows joined has kept low. fits e follows joined kept low
       (run.have e joined follows.timers follows.objects [] (λ i. tt)
       (λ i k before rest parts low high below behind. object_point_from joined is has i k before rest (sym (append-nil actions) ∙ parts) low high below

@@ -2,7 +2,6 @@
 use Rattle.std.proofs.Common.{◌≡◌, ℕ, Some, List, [], ◌∷◌, length, refl, sym, ap, ◌∙◌, subst}
 use Rattle.clock_cell.specs.Views.{writes}
 use Rattle.counted_row.specs.Views.{StateAfter}
-use Rattle.pass_names.specs.Passes.{Begins}
 use Rattle.posix_timer.specs.States.{PosixTimer, setting_of}
 use Rattle.timer_fd.specs.States.{is_readable}
 use Rattle.timer_objects.specs.Calls.{Gettimes, LooksAtObject}
@@ -27,15 +26,15 @@ use Rattle.script_text.specs.declared.script.Kind.TheVariants as kinds
 use Rattle.script_text.specs.declared.script.Script.{Script}
 use Rattle.run_history.specs.Calls.{Does}
 use Rattle.run_history.specs.Runs.{course_of, Ending}
-use Rattle.run_history.specs.Truths.{IsObjectPoint, IsSeen}
+use Rattle.run_history.specs.Truths.{IsObjectPoint}
 use Rattle.lane_run.specs.Called.{Called, caller_of, CallsOverrun, gettime_told, LaneOf, with_done}
 use Rattle.lane_run.specs.Kept.{Follows, IsNextCall, KeepsCall}
 use Rattle.lane_run.specs.Worlds.{WorldOf}
-use Rattle.lane_run.proofs.CallKept.{leaves_begins, reads_begins, with_done-joins}
+use Rattle.lane_run.proofs.CallKept.{clock_left, clock_read, LooksAtClock, with_done-joins}
 use Rattle.lane_run.proofs.PartLists.{no_notes-joins}
 use Rattle.lane_run.proofs.ObjectSeen.{object_after, object_seen}
-use Rattle.lane_run.proofs.Sights.{keeps_sight, LooksOnly, point_seen, stamped, notes_alone}
-use Rattle.lane_run.proofs.CallKept.{reading_of_seen}
+use Rattle.lane_run.proofs.Sights.{IsToldSo, keeps_sight, LooksOnly, point_seen, stamped, notes_alone}
+use Rattle.lane_run.proofs.CallKept.{clock_left, clock_read, LooksAtClock, reading_of_seen}
 use Rattle.lane_run.proofs.SeenMore.{begins_same}
 use Rattle.script_text.specs.declared.script.Kind.{Kind}
 use Rattle.record_text.specs.declared.record.RunRecord.{RunRecord}
@@ -45,12 +44,11 @@ use Rattle.lane_run.specs.Called.{CallsObject}
 module _ {s : Script} {x : WorldOf} {l : LaneOf} (m : LaneOf) {call : Call} (next : IsNextCall s x l call) (a : Answer) {i : ℕ} {object : Object} {stamp : ℕ}
     {log : List Receipt} {object_log : List ObjectReceipt}
     (looks : LooksAtObject (caller_of l.pass [] []) (caller_of m.pass log object_log) i object stamp)
-    (clock : Begins (writes l.pass.clock.knows) (writes m.pass.clock.knows)) (clock_mine : m.pass.clock.knows.pass.mine ≡ l.pass.clock.knows.pass.mine)
-    (notes : m.notes ≡ with_done l.notes l.label log object_log) (on : object_called call ≡ Some i) where
+    (clock : LooksAtClock l.pass m.pass) (notes : m.notes ≡ with_done l.notes l.label log object_log) (on : object_called call ≡ Some i) where
   -- law: a lane keeps a call that looked at an object, where its answer holds of the object as the record has it after so many entries
   pub keeps_look : object_stamp_in a ≡ stamp ∷ [] → Does s (length (writes m.pass.clock.knows)) call a [] []
       → ((e : Ending) → Follows m.pass e → IsObjectPoint (course_of s e) l.label [] i stamp → object ≡ object_after s e.run i stamp (kind_of s i)
-      → IsSeen (course_of s e) (length m.pass.timers.known.seen) (length m.pass.timers.known.seen) l.label (length (writes m.pass.clock.knows)) [] call a)
+      → IsToldSo s l m call a e)
       → KeepsCall s l call a m
   keeps_look stamps does seen =
       let only : LooksOnly l m = record {
@@ -60,8 +58,7 @@ module _ {s : Script} {x : WorldOf} {l : LaneOf} (m : LaneOf) {call : Call} (nex
         mine = looks.reads.pass.mine;
         opening = looks.reads.opening;
         clock = clock;
-        clock_mine = clock_mine;
-        notes = notes_alone l m log object_log looks.log looks.object_log notes;
+        notes = notes_alone l m looks.log looks.object_log notes;
       } in
       let at = subst (λ made. StateAfter cell_meaning made i (seen_of m.pass.objects i) looks.reads.state) next.objects looks.reads.at in
       keeps_sight next a only (stamped only call a i stamp looks.stamp on stamps) does
@@ -84,7 +81,7 @@ pub keeps_overrun : {s : Script} {x : WorldOf} {l m : LaneOf} {a : Answer} {time
     → KeepsCall s l (calls.Overrun timer) a m
 keeps_overrun {s = s} {l = l} {m = m} {timer = timer} next c =
     subst (λ a. KeepsCall s l (calls.Overrun timer) a m) (sym c.told)
-    (keeps_look m next (answers.Overrun c.found.overrun c.found.stamp) c.looks.1 (leaves_begins l.pass m.pass c.clock) (ap (λ o. o.knows.pass.mine) c.clock)
+    (keeps_look m next (answers.Overrun c.found.overrun c.found.stamp) c.looks.1 (clock_left c.clock)
     (c.notes ∙ no_notes-joins l.notes ∙ sym (with_done-joins l.notes l.label [] [])) refl refl refl (λ e follows point is. (
       point,
       ap (λ (u : PosixTimer). u.overrun) (sym (posix_looked s e.run timer c.found.stamp (kind_of s timer) is)) ∙ sym c.looks.2,
@@ -98,8 +95,8 @@ keeps_readable {s = s} {l = l} {m = m} {timer = timer} next called =
     let found = called.0 in
     let ws = writes m.pass.clock.knows in
     subst (λ a. KeepsCall s l (calls.Readable timer) a m) (sym c.does.1)
-    (keeps_look m next (answers.Readable found.ready c.reading.stamp found.stamp) c.does.0.1 (reads_begins l.pass m.pass c.reads.looks.seen)
-    c.reads.looks.mine c.notes refl refl (refl, c.reads.count) (λ e follows point is. (
+    (keeps_look m next (answers.Readable found.ready c.reading.stamp found.stamp) c.does.0.1 (clock_read c.reads.looks)
+    c.notes refl refl (refl, c.reads.count) (λ e follows point is. (
       point,
       ap (λ u. is_readable u (reading_at e.run.clock (length ws))) (sym (fd_looked s e.run timer found.stamp (kind_of s timer) is))
           ∙ ap (is_readable c.does.0.0) (reading_of_seen e ws follows.clock ∙ sym c.reads.shows) ∙ sym c.does.0.2,
@@ -115,8 +112,7 @@ keeps_gettime-posix next kind (gettimes.Spent stamp) c = absurd c.does.0
 keeps_gettime-posix {s = s} {l = l} {m = m} {timer = timer} next kind (gettimes.Left left interval stamp) c =
     let ws = writes m.pass.clock.knows in
     subst (λ b. KeepsCall s l (calls.Gettime timer) b m) (sym c.does.1)
-    (keeps_look m next (answers.LeftAt left interval c.reading.stamp stamp) c.does.0.1 (reads_begins l.pass m.pass c.reads.looks.seen) c.reads.looks.mine
-    c.notes refl refl
+    (keeps_look m next (answers.LeftAt left interval c.reading.stamp stamp) c.does.0.1 (clock_read c.reads.looks) c.notes refl refl
     (subst (λ k. DoesGettime k timer (length ws) (answers.LeftAt left interval c.reading.stamp stamp) []) (sym kind) (refl, c.reads.count))
     (λ e follows point is. (
       point,

@@ -36,8 +36,8 @@ use Rattle.run_history.proofs.Kept.{IsKept}
 use Rattle.ktime.specs.declared.mode.Mode.{Mode}
 use Rattle.run_history.specs.Courses as courses
 use Rattle.lane_run.proofs.Armed.{HasRead, IsArmedSo, IsLike, IsRearmSpan, start_true, TimerPart}
-use Rattle.lane_run.proofs.CallKept.{logged_from, reading_goes_on, reads_begins, unstamped}
-use Rattle.lane_run.proofs.PartKept.{keeps_part, sees_part}
+use Rattle.lane_run.proofs.CallKept.{clock_read, reading_goes_on, unstamped}
+use Rattle.lane_run.proofs.PartKept.{keeps_part}
 use Rattle.lane_run.proofs.Parts.{IsNotedAs, IsPart, part_made, part_none, part_then}
 use Rattle.lane_run.proofs.SeenMore.{goes_before}
 use Rattle.timer_objects.specs.Arming.{stamp_seen}
@@ -178,10 +178,7 @@ module _ {s : Script} {x : WorldOf} {l : LaneOf} (m : LaneOf) {call : Call} (nex
         let whole : Whole k.part.0 log object_log =
         subst (λ ns. Whole ns log object_log) (append-nil k.part.0) (subst (λ rs. Whole (k.part.0 ++ []) rs object_log) (append-nil log)
         (subst (Whole (k.part.0 ++ []) (log ++ [])) (sym log_is) (part_then (part_none k.seen k.mine) (part_then k.part.1 entered)))) in
-        let clock = reads_begins p q reads.looks.seen in
-        let logged = logged_from p q k.part.0 trace call a (sees_part p q whole clock) refl whole.timers.enters.made whole.timers.are reads.count
-        whole.timers.no_write
+        keeps_part next m a trace whole (reading_goes_on p q reading reads) (clock_read reads.looks) notes refl reads.count
         (λ i. subst (λ ns. NeverFall (length (seen_of p.objects i)) ns (length (seen_of q.objects i))) (sym (unstamped i call a timer ds on unstamps))
-        (whole.objects.steps i)) in
-        keeps_part next m a (HasRead reading) log object_log k.part.0 trace whole (reading_goes_on p q reading reads) clock reads.looks.mine notes logged
+        (whole.objects.steps i))
         (λ e follows joined has kept low. let le = begins_length k.seen in fits e follows joined kept (omega (arith, le, low)))

@@ -62,7 +62,7 @@ use Rattle.lane_run.specs.Kept.{Follows, seen_by}
 use Rattle.pass_names.proofs.Passes.{begins_length}
 use Rattle.timer_objects.specs.Calls.{Caller}
 use Rattle.run_history.proofs.ObjectsMade.{rearming_actions}
-use Rattle.lane_run.proofs.CallKept.{reads_begins}
+use Rattle.lane_run.proofs.CallKept.{clock_read}
 use Rattle.lane_run.proofs.Parts.{noted_at}
 use Rattle.lane_run.proofs.Declared.{declared_base}
 use Rattle.lane_run.proofs.Armed.{places_inside}
@@ -149,7 +149,7 @@ module _ {s : Script} {x : WorldOf} {l m : LaneOf} {a : Answer} {timer : ℕ} wh
       by_answer : (g : AcceptAnswer) → CallsObject x l m a (λ old new reading. Accepts x.objects x.timers.about old new timer reading g)
           → KeepsCall s l (calls.Accept timer) (accept_told g) m
       by_answer (accept_answers.Spent n) c =
-          keeps_full next (answers.Spent n) timer n c.log c.object_log c.does (reads_begins l.pass m.pass c.reads.looks.seen) c.reads.looks.mine c.notes
+          keeps_full next (answers.Spent n) timer n c.does (clock_read c.reads.looks) c.notes
           refl refl refl (λ e saw. saw)
       by_answer (accept_answers.Accepted overrun) c = accept_kept next (acceptances.Accepted overrun) refl refl c
       by_answer accept_answers.NoSignal c = accept_kept next acceptances.NoSignal refl refl c
@@ -174,10 +174,10 @@ module _ {s : Script} {x : WorldOf} {l m : LaneOf} {a : Answer} {timer len : ℕ
       by_answer : (g : ReadAnswer) → CallsObject x l m a (λ old new reading. ReadsFd x.objects x.timers.about old new timer len reading g)
           → KeepsCall s l (calls.Read timer len) (read_told g) m
       by_answer read_answers.ShortBuffer c =
-          keeps_same next answers.Invalid timer c.log c.object_log c.does.1 (reads_begins l.pass m.pass c.reads.looks.seen) c.reads.looks.mine c.notes
+          keeps_same next answers.Invalid timer c.does.1 (clock_read c.reads.looks) c.notes
           refl refl (refl, c.does.0) (λ e. tt)
       by_answer (read_answers.Spent n) c =
-          keeps_full next (answers.Spent n) timer n c.log c.object_log c.does.1 (reads_begins l.pass m.pass c.reads.looks.seen) c.reads.looks.mine c.notes
+          keeps_full next (answers.Spent n) timer n c.does.1 (clock_read c.reads.looks) c.notes
           refl refl (refl, c.does.0) (λ e saw. saw)
       by_answer (read_answers.Count total) c = read_kept next (reads.Count total) refl refl c
       by_answer read_answers.Canceled c = read_kept next reads.Canceled refl refl c
@@ -190,7 +190,7 @@ pub keeps_gettime-fd : {s : Script} {x : WorldOf} {l m : LaneOf} {a : Answer} {t
     → KeepsCall s l (calls.Gettime timer) a m
 keeps_gettime-fd {s = s} {l = l} {m = m} {timer = timer} next kind (gettimes.Spent n) c =
     subst (λ b. KeepsCall s l (calls.Gettime timer) b m) (sym c.does.1)
-    (keeps_full next (answers.Spent n) timer n c.log c.object_log c.does.0 (reads_begins l.pass m.pass c.reads.looks.seen) c.reads.looks.mine c.notes refl
+    (keeps_full next (answers.Spent n) timer n c.does.0 (clock_read c.reads.looks) c.notes refl
     refl (subst (λ k. DoesGettime k timer (length (writes m.pass.clock.knows)) (answers.Spent n) []) (sym kind) refl) (λ e saw. saw))
 keeps_gettime-fd {s = s} {l = l} {m = m} {timer = timer} {base = base} next kind (gettimes.Left left interval stamp) c =
     let answered = fd_replies.Gettime (lefts.Left left interval) in

@@ -28,7 +28,7 @@ use Rattle.run_history.proofs.ObjectsMade.{FoundIdle, IsSet, settime_made}
 use Rattle.lane_run.specs.Called.{Called, caller_of, CallsObject, LaneOf, Reads, settime_told, with_done}
 use Rattle.lane_run.specs.Kept.{Follows, IsNextCall, KeepsCall}
 use Rattle.lane_run.specs.Worlds.{WorldOf}
-use Rattle.lane_run.proofs.CallKept.{reads_begins}
+use Rattle.lane_run.proofs.CallKept.{clock_read}
 use Rattle.pass_names.proofs.Passes.{begins_length}
 use Rattle.lane_run.proofs.Declared.{declared_base, declared_over}
 use Rattle.lane_run.proofs.Sights.{keeps_full, keeps_same}
@@ -145,7 +145,7 @@ keeps_settime {s = s} {x = x} {l = l} {m = m} {a = a} {timer = timer} {flags = f
     by_answer (settings.Spent n) valid full =
         let takes = takes_valid (kind_of s timer) _ flags value interval (declared_over s x timer next.world)
         (λ raw. let none = raw_object next full.reads.at raw in omega (arith, none.1, full.full, full.stamp, next.world.limit, next.range.limit.0)) in
-        keeps_full next (answers.Spent n) timer n c.log c.object_log full (reads_begins l.pass m.pass c.reads.looks.seen) c.reads.looks.mine c.notes refl
+        keeps_full next (answers.Spent n) timer n full (clock_read c.reads.looks) c.notes refl
         refl (refl, takes.0 valid) (λ e saw. saw)
     by_answer settings.BadFlags valid made = absurd made
     by_answer settings.BadTime valid made = absurd made
@@ -158,5 +158,5 @@ keeps_settime {s = s} {x = x} {l = l} {m = m} {a = a} {timer = timer} {flags = f
     by_arguments None valid made = by_answer called.0 valid made
     by_arguments (Some refusal) bad refused =
         subst (λ b. KeepsCall s l (calls.Settime timer flags value interval) b m) (sym (ap settime_told refused.0 ∙ bad.0))
-        (keeps_same next answers.Invalid timer c.log c.object_log refused.1 (reads_begins l.pass m.pass c.reads.looks.seen) c.reads.looks.mine c.notes
+        (keeps_same next answers.Invalid timer refused.1 (clock_read c.reads.looks) c.notes
         refl refl (refl, λ v. bad.1 (valid_for (kind_of s timer) _ flags value interval (declared_over s x timer next.world) v)) (λ e. tt))

@@ -17,21 +17,19 @@ use Rattle.script_text.specs.declared.script.Script.{Script}
 use Rattle.run_history.specs.Calls.{Does}
 use Rattle.run_history.specs.Courses.{Trace}
 use Rattle.run_history.specs.Promises.{HasLog}
-use Rattle.run_history.specs.Runs.{course_of, Ending, IsJoined, moves_spans}
+use Rattle.run_history.specs.Runs.{course_of, Ending, IsJoined}
 use Rattle.run_history.specs.Truths.{IsObjectPoint, IsSeen, SawFull}
 use Rattle.run_history.proofs.OthersMade.{plain, quiet_made}
 use Rattle.run_history.proofs.Promise.{object_point_from}
 use Rattle.lane_run.specs.Called.{caller_of, LaneOf, with_done}
-use Rattle.lane_run.specs.Kept.{Follows, IsNextCall, KeepsCall, log_of, seen_by}
+use Rattle.lane_run.specs.Kept.{Follows, IsNextCall, KeepsCall, log_of}
 use Rattle.lane_run.specs.Worlds.{WorldOf}
 use Rattle.pass_names.proofs.Passes.{begins_length}
 use Rattle.lane_run.proofs.SeenMore.{begins_same}
-use Rattle.lane_run.proofs.CallKept.{logged_from, same_objects, with_done-joins, unstamped}
+use Rattle.lane_run.proofs.CallKept.{clock_left, FitsOn, LooksAtClock, same_objects, unstamped, with_done-joins}
 use Rattle.lane_run.proofs.PartLists.{no_notes-joins}
-use Rattle.lane_run.proofs.PartKept.{keeps_part, sees_part}
+use Rattle.lane_run.proofs.PartKept.{keeps_part}
 use Rattle.lane_run.proofs.Parts.{part_seen, IsPart}
-use Rattle.run_history.proofs.Kept.{IsKept}
-use Rattle.run_history.specs.Fits.{FitsCall}
 use Rattle.std.proofs.Common.{None, map}
 use Rattle.std.specs.List.{AllByRecursion}
 use Rattle.hr_timers.proofs.Moments.{timer_after}
@@ -58,7 +56,7 @@ use Rattle.lane_run.specs.Called.{CallsPeek}
 use Rattle.lane_run.specs.Kept.{entry_in_note}
 use Rattle.lane_run.specs.declared.world.WorldPass.{WorldPass}
 use Rattle.lane_run.proofs.Entering.{EntersNotes, looks_made}
-use Rattle.lane_run.proofs.CallKept.{leaves_begins}
+use Rattle.lane_run.proofs.CallKept.{clock_left, FitsOn, LooksAtClock, same_objects, unstamped, with_done-joins}
 use Rattle.lane_run.proofs.Parts.{part_entered}
 use Rattle.lane_run.proofs.PartLists.{IsEntered, no_other}
 
@@ -71,8 +69,7 @@ pub record LooksOnly (l m : LaneOf) : Type 0 where
   pub objects : GoesOn l.pass.objects.knows.pass.seen m.pass.objects.knows.pass.seen
   pub mine : m.pass.objects.knows.pass.mine ≡ l.pass.objects.knows.pass.mine
   pub opening : m.pass.objects.knows.opening ≡ l.pass.objects.knows.opening
-  pub clock : Begins (writes l.pass.clock.knows) (writes m.pass.clock.knows)
-  pub clock_mine : m.pass.clock.knows.pass.mine ≡ l.pass.clock.knows.pass.mine
+  pub clock : LooksAtClock l.pass m.pass
   pub notes : m.notes ≡ l.notes
 
 -- an object has no fewer entries for it
@@ -80,24 +77,22 @@ grown : {l m : LaneOf} → LooksOnly l m → (j : ℕ) → length (seen_of l.pas
 grown {l = l} {m = m} only j = begins_length (only.objects.each j)
 
 -- law: a call that left objects alone, and made nothing of timers and the clock
-pub looks_alone : (l m : LaneOf) → Begins l.pass.timers.known.seen m.pass.timers.known.seen → m.pass.timers.known.mine ≡ l.pass.timers.known.mine
-    → m.pass.objects ≡ l.pass.objects → Begins (writes l.pass.clock.knows) (writes m.pass.clock.knows)
-    → m.pass.clock.knows.pass.mine ≡ l.pass.clock.knows.pass.mine → m.notes ≡ l.notes → LooksOnly l m
-looks_alone l m timers timers_mine same clock clock_mine notes = record {
+pub looks_alone : {l m : LaneOf} → Begins l.pass.timers.known.seen m.pass.timers.known.seen → m.pass.timers.known.mine ≡ l.pass.timers.known.mine
+    → m.pass.objects ≡ l.pass.objects → LooksAtClock l.pass m.pass → m.notes ≡ l.notes → LooksOnly l m
+looks_alone {l} {m} timers timers_mine same clock notes = record {
   timers = timers;
   timers_mine = timers_mine;
   objects = same_objects l.pass m.pass same;
   mine = ap (λ o. o.knows.pass.mine) same;
   opening = ap (λ o. o.knows.opening) same;
   clock = clock;
-  clock_mine = clock_mine;
   notes = notes;
 }
 
 -- law: receipts of none leave the notes as they were
-pub notes_alone : (l m : LaneOf) (log : List Receipt) (object_log : List ObjectReceipt) → log ≡ [] → object_log ≡ []
+pub notes_alone : (l m : LaneOf) {log : List Receipt} {object_log : List ObjectReceipt} → log ≡ [] → object_log ≡ []
     → m.notes ≡ with_done l.notes l.label log object_log → m.notes ≡ l.notes
-notes_alone l m log object_log none no_objects notes =
+notes_alone l m {object_log = object_log} none no_objects notes =
     notes ∙ ap (λ rs. with_done l.notes l.label rs object_log) none ∙ ap (λ rs. with_done l.notes l.label [] rs) no_objects
     ∙ with_done-joins l.notes l.label [] [] ∙ sym (no_notes-joins l.notes)
 
@@ -138,50 +133,34 @@ looking m = plain (length (writes m.pass.clock.knows)) (length m.pass.timers.kno
 -- law: a lane keeps a call that only looked, where it fits in every run that goes on from what it saw
 pub keeps_looking : {s : Script} {x : WorldOf} {l m : LaneOf} {call : Call} (next : IsNextCall s x l call) (a : Answer) → LooksOnly l m
     → ((j : ℕ) → NeverFall (length (seen_of l.pass.objects j)) (object_steps_on j call a []) (length (seen_of m.pass.objects j)))
-    → ((e : Ending) → Follows m.pass e → IsJoined s e → HasLog e l.label (log_of l.pass m.pass [] (looking m))
-    → IsKept (course_of s e) (moves_spans e) l.label (looking m) [] call a (seen_by l.pass) (seen_by m.pass)
-    → length l.pass.timers.known.seen ≡ (moves_spans e).first l.label → FitsCall (course_of s e) l.label call a (seen_by l.pass) (seen_by m.pass))
-    → KeepsCall s l call a m
-keeps_looking {l = l} {m = m} {call = call} next a only steps fits =
-    let p = l.pass in
-    let q = m.pass in
-    let part : IsPart (λ c. Unit) l.label p.timers.known p.objects q.timers.known q.objects [] [] [] [] =
+    → FitsOn s l m call a [] (looking m) → KeepsCall s l call a m
+keeps_looking {l = l} {m = m} next a only steps fits =
+    let part : IsPart (λ c. Unit) l.label l.pass.timers.known l.pass.objects m.pass.timers.known m.pass.objects [] [] [] [] =
     part_seen only.timers only.timers_mine only.objects only.mine only.opening in
-    let logged = logged_from p q [] (looking m) call a (sees_part p q part only.clock) refl part.timers.enters.made refl refl refl steps in
-    keeps_part next m a (λ c. Unit) [] [] [] (looking m) part (λ e goes. tt) only.clock only.clock_mine
-    (only.notes ∙ no_notes-joins l.notes ∙ sym (with_done-joins l.notes l.label [] [])) logged fits
+    keeps_part next m a (looking m) part (λ e goes. tt) only.clock
+    (only.notes ∙ no_notes-joins l.notes ∙ sym (with_done-joins l.notes l.label [] [])) refl refl steps fits
 
--- law: the same where its answer holds in every such run
+-- what its answer tells of is so, when it ends
+abbrev pub IsToldSo : Script → LaneOf → LaneOf → Call → Answer → Ending → Type 0
+IsToldSo s l m call a e =
+    let last = length m.pass.timers.known.seen in IsSeen (course_of s e) last last l.label (length (writes m.pass.clock.knows)) [] call a
+
+-- law: the same where it is so in every such run
 pub keeps_sight : {s : Script} {x : WorldOf} {l m : LaneOf} {call : Call} (next : IsNextCall s x l call) (a : Answer) → LooksOnly l m
     → ((j : ℕ) → NeverFall (length (seen_of l.pass.objects j)) (object_steps_on j call a []) (length (seen_of m.pass.objects j)))
     → Does s (length (writes m.pass.clock.knows)) call a [] []
-    → ((e : Ending) → Follows m.pass e → IsJoined s e → HasLog e l.label (log_of l.pass m.pass [] (looking m))
-    → IsSeen (course_of s e) (length m.pass.timers.known.seen) (length m.pass.timers.known.seen) l.label (length (writes m.pass.clock.knows)) [] call a)
+    → ((e : Ending) → Follows m.pass e → IsJoined s e → HasLog e l.label (log_of l.pass m.pass [] (looking m)) → IsToldSo s l m call a e)
     → KeepsCall s l call a m
 keeps_sight next a only steps does seen =
     keeps_looking next a only steps (λ e follows joined has kept low. quiet_made kept does (seen e follows joined has))
 
--- law: the same of a call whose answer tells no stamp of an object
-pub keeps_unstamped : {s : Script} {x : WorldOf} {l m : LaneOf} {call : Call} (next : IsNextCall s x l call) (a : Answer) (i : ℕ) → LooksOnly l m
-    → object_called call ≡ Some i → object_stamp_in a ≡ [] → Does s (length (writes m.pass.clock.knows)) call a [] []
-    → ((e : Ending)
-    → IsSeen (course_of s e) (length m.pass.timers.known.seen) (length m.pass.timers.known.seen) l.label (length (writes m.pass.clock.knows)) [] call a)
-    → KeepsCall s l call a m
-keeps_unstamped {l = l} {m = m} {call = call} next a i only on none does seen =
-    keeps_sight next a only
-    (λ j. subst (λ ns. NeverFall (length (seen_of l.pass.objects j)) ns (length (seen_of m.pass.objects j))) (sym (unstamped j call a i [] on none))
-    (grown only j)) does (λ e follows joined has. seen e)
-
 -- law: a lane keeps a call on an object that found its history full
-pub keeps_full : {s : Script} {x : WorldOf} {l m : LaneOf} {call : Call} (next : IsNextCall s x l call) (a : Answer) (i n : ℕ) (log : List Receipt)
-    (object_log : List ObjectReceipt) → FindsFull x.objects (caller_of l.pass [] []) (caller_of m.pass log object_log) i n
-    → Begins (writes l.pass.clock.knows) (writes m.pass.clock.knows) → m.pass.clock.knows.pass.mine ≡ l.pass.clock.knows.pass.mine
-    → m.notes ≡ with_done l.notes l.label log object_log → object_called call ≡ Some i → object_stamp_in a ≡ n ∷ []
-    → Does s (length (writes m.pass.clock.knows)) call a [] []
-    → ((e : Ending) → SawFull (course_of s e) l.label [] i n
-    → IsSeen (course_of s e) (length m.pass.timers.known.seen) (length m.pass.timers.known.seen) l.label (length (writes m.pass.clock.knows)) [] call a)
+pub keeps_full : {s : Script} {x : WorldOf} {l m : LaneOf} {call : Call} {log : List Receipt} {object_log : List ObjectReceipt}
+    (next : IsNextCall s x l call) (a : Answer) (i n : ℕ) → FindsFull x.objects (caller_of l.pass [] []) (caller_of m.pass log object_log) i n
+    → LooksAtClock l.pass m.pass → m.notes ≡ with_done l.notes l.label log object_log → object_called call ≡ Some i → object_stamp_in a ≡ n ∷ []
+    → Does s (length (writes m.pass.clock.knows)) call a [] [] → ((e : Ending) → SawFull (course_of s e) l.label [] i n → IsToldSo s l m call a e)
     → KeepsCall s l call a m
-keeps_full {l = l} {m = m} {call = call} next a i n log object_log full clock clock_mine notes on stamps does seen =
+keeps_full {l = l} {m = m} {call = call} next a i n full clock notes on stamps does seen =
     let only : LooksOnly l m = record {
       timers = full.looks.seen;
       timers_mine = full.looks.mine;
@@ -189,26 +168,23 @@ keeps_full {l = l} {m = m} {call = call} next a i n log object_log full clock cl
       mine = full.reads.pass.mine;
       opening = full.reads.opening;
       clock = clock;
-      clock_mine = clock_mine;
-      notes = notes_alone l m log object_log full.log full.object_log notes;
+      notes = notes_alone l m full.log full.object_log notes;
     } in
     keeps_sight next a only (stamped only call a i n full.stamp on stamps) does
     (λ e follows joined has. seen e (point_seen next only _ refl i n full.stamp e joined has, subst (λ k. k ≤ n) next.world.limit full.full))
 
 -- law: a lane keeps a call on an object after which nothing of timers, objects and logs is other than before
-pub keeps_same : {s : Script} {x : WorldOf} {l m : LaneOf} {call : Call} (next : IsNextCall s x l call) (a : Answer) (i : ℕ) (log : List Receipt)
-    (object_log : List ObjectReceipt) → caller_of m.pass log object_log ≡ caller_of l.pass [] []
-    → Begins (writes l.pass.clock.knows) (writes m.pass.clock.knows) → m.pass.clock.knows.pass.mine ≡ l.pass.clock.knows.pass.mine
+pub keeps_same : {s : Script} {x : WorldOf} {l m : LaneOf} {call : Call} {log : List Receipt} {object_log : List ObjectReceipt}
+    (next : IsNextCall s x l call) (a : Answer) (i : ℕ) → caller_of m.pass log object_log ≡ caller_of l.pass [] [] → LooksAtClock l.pass m.pass
     → m.notes ≡ with_done l.notes l.label log object_log → object_called call ≡ Some i → object_stamp_in a ≡ []
-    → Does s (length (writes m.pass.clock.knows)) call a [] []
-    → ((e : Ending)
-    → IsSeen (course_of s e) (length m.pass.timers.known.seen) (length m.pass.timers.known.seen) l.label (length (writes m.pass.clock.knows)) [] call a)
-    → KeepsCall s l call a m
-keeps_same {l = l} {m = m} next a i log object_log same clock clock_mine notes on none does seen =
-    let timers = ap (λ (c : Caller). c.timers) same in
-    keeps_unstamped next a i (looks_alone l m (begins_same (ap (λ k. k.seen) timers))
-    (ap (λ k. k.mine) timers) (ap (λ (c : Caller). c.objects) same) clock clock_mine
-    (notes_alone l m log object_log (ap (λ (c : Caller). c.log) same) (ap (λ (c : Caller). c.object_log) same) notes)) on none does seen
+    → Does s (length (writes m.pass.clock.knows)) call a [] [] → ((e : Ending) → IsToldSo s l m call a e) → KeepsCall s l call a m
+keeps_same {l = l} {m = m} {call = call} next a i same clock notes on none does seen =
+    let only : LooksOnly l m = looks_alone (begins_same (ap (λ (c : Caller). c.timers.seen) same)) (ap (λ (c : Caller). c.timers.mine) same)
+    (ap (λ (c : Caller). c.objects) same) clock
+    (notes_alone l m (ap (λ (c : Caller). c.log) same) (ap (λ (c : Caller). c.object_log) same) notes) in
+    keeps_sight next a only
+    (λ j. subst (λ ns. NeverFall (length (seen_of l.pass.objects j)) ns (length (seen_of m.pass.objects j))) (sym (unstamped j call a i [] on none))
+    (grown only j)) does (λ e follows joined has. seen e)
 
 -- law: a call that is on no object, and made no entry of one, leaves its lane's numbers of objects
 pub no_object_steps : (p q : WorldPass) (call : Call) (a : Answer) (ds : List Action) → ((i : ℕ) → numbers_of_object i ds ≡ [])
@@ -223,69 +199,54 @@ no_object_steps p q call a ds none on_none goes_on i =
 -- ---- the call
 
 -- law: a lane keeps a call on no object that made entries of timers and nothing else, where it fits in every run that goes on from there
-pub keeps_entered : {s : Script} {x : WorldOf} {l : LaneOf} {call : Call} (next : IsNextCall s x l call) (m : LaneOf) (a : Answer)
-    (IsSo : List ClockLine → Type 0) (log : List Receipt) (notes : List Noted) (t : Trace)
-    → EntersNotes IsSo l.pass.timers.known m.pass.timers.known notes → ((e : Ending) → GoesOnClock (writes m.pass.clock.knows) e → IsSo e.run.clock)
-    → Begins (writes l.pass.clock.knows) (writes m.pass.clock.knows) → m.pass.clock.knows.pass.mine ≡ l.pass.clock.knows.pass.mine
-    → m.pass.objects ≡ l.pass.objects → m.notes ≡ with_done l.notes l.label log [] → AllByRecursion IsEntered t.actions
-    → map receipt notes ≡ all_entered t.actions → map receipt notes ≡ map entry_in_note (entry_notes l.label log) → look_notes l.label log ≡ []
-    → t.last ≡ length m.pass.timers.known.seen → t.at ≡ length (writes m.pass.clock.knows) → object_called call ≡ None
-    → ((e : Ending) → Follows m.pass e → IsJoined s e → HasLog e l.label (log_of l.pass m.pass notes t)
-    → IsKept (course_of s e) (moves_spans e) l.label t notes call a (seen_by l.pass) (seen_by m.pass)
-    → length l.pass.timers.known.seen ≡ (moves_spans e).first l.label → FitsCall (course_of s e) l.label call a (seen_by l.pass) (seen_by m.pass))
-    → KeepsCall s l call a m
-keeps_entered {l = l} {call = call} next m a IsSo log notes t enters so clock clock_mine objects joins only are told looks last at on_none fits =
-    let p = l.pass in
-    let q = m.pass in
-    let part : IsPart IsSo l.label p.timers.known p.objects q.timers.known q.objects t.actions notes log [] =
+pub keeps_entered : {s : Script} {x : WorldOf} {l : LaneOf} {call : Call} {IsSo : List ClockLine → Type 0} {notes : List Noted}
+    (next : IsNextCall s x l call) (m : LaneOf) (a : Answer) (log : List Receipt) (t : Trace) → EntersNotes IsSo l.pass.timers.known m.pass.timers.known notes
+    → ((e : Ending) → GoesOnClock (writes m.pass.clock.knows) e → IsSo e.run.clock) → LooksAtClock l.pass m.pass → m.pass.objects ≡ l.pass.objects
+    → m.notes ≡ with_done l.notes l.label log [] → AllByRecursion IsEntered t.actions → map receipt notes ≡ all_entered t.actions
+    → map receipt notes ≡ map entry_in_note (entry_notes l.label log) → look_notes l.label log ≡ [] → t.last ≡ length m.pass.timers.known.seen
+    → t.at ≡ length (writes m.pass.clock.knows) → object_called call ≡ None → FitsOn s l m call a notes t → KeepsCall s l call a m
+keeps_entered {l = l} {call = call} {IsSo = IsSo} {notes = notes} next m a log t enters so clock objects joins only are told looks last at on_none =
+    let part : IsPart IsSo l.label l.pass.timers.known l.pass.objects m.pass.timers.known m.pass.objects t.actions notes log [] =
     part_entered enters objects only are told looks in
-    keeps_part next m a IsSo log [] notes t part so clock clock_mine joins
-    (logged_from p q notes t call a (sees_part p q part clock) last enters.made are at part.timers.no_write
-    (no_object_steps p q call a t.actions (no_other t.actions only).numbers on_none part.objects.goes_on)) fits
+    keeps_part next m a t part so clock joins last at
+    (no_object_steps l.pass m.pass call a t.actions (no_other t.actions only).numbers on_none part.objects.goes_on)
 
 -- law: a lane keeps a call on no object that only looked, where what it saw holds when it ended
 pub keeps_quiet : {s : Script} {x : WorldOf} {l m : LaneOf} {call : Call} (next : IsNextCall s x l call) (a : Answer) → LooksOnly l m
     → object_called call ≡ None → Does s (length (writes m.pass.clock.knows)) call a [] []
-    → ((e : Ending) → Follows m.pass e → IsJoined s e → IsSeen (course_of s e) (length m.pass.timers.known.seen) (length m.pass.timers.known.seen) l.label
-    (length (writes m.pass.clock.knows)) [] call a)
-    → KeepsCall s l call a m
+    → ((e : Ending) → Follows m.pass e → IsJoined s e → IsToldSo s l m call a e) → KeepsCall s l call a m
 keeps_quiet {l = l} {m = m} {call = call} next a only on_none does seen =
     keeps_sight next a only (no_object_steps l.pass m.pass call a [] (λ i. refl) on_none only.objects) does
     (λ e follows joined has. seen e follows joined)
 
 -- ---- what a call saw of a timer
 
--- law: a timer at a call's moment, behind which the call made no entry of it, is that which the call had seen when it ended
-pub state_quiet : {s : Script} {x : WorldOf} {l : LaneOf} {call : Call} (next : IsNextCall s x l call) (q : WorldPass) (v : KnownOfTimers) (t : ℕ)
-    (at : List TimerEntry) → MadeAt v q.timers.known t at [] → timer_then x.timers.about at t ≡ state_seen s q.timers.known.seen t
-state_quiet {x = x} next q v t at made =
-    sym (timer_after x.timers.about v q.timers.known t at [] made) ∙ ap (λ (o : Opening). timer_then o q.timers.known.seen t) next.world.timers
+module _ {s : Script} {x : WorldOf} {l : LaneOf} {call : Call} (next : IsNextCall s x l call) (q : WorldPass) {v : KnownOfTimers} {t : ℕ}
+    {at : List TimerEntry} (made : MadeAt v q.timers.known t at []) where
+  -- law: a timer at a call's moment, behind which the call made no entry of it, is that which the call had seen when it ended
+  pub state_quiet : timer_then x.timers.about at t ≡ state_seen s q.timers.known.seen t
+  state_quiet =
+      sym (timer_after x.timers.about v q.timers.known t at [] made) ∙ ap (λ (o : Opening). timer_then o q.timers.known.seen t) next.world.timers
 
--- law: an observation that held of it holds when the call ends
-pub saw_quiet : {s : Script} {x : WorldOf} {l : LaneOf} {call : Call} (next : IsNextCall s x l call) (q : WorldPass) (v : KnownOfTimers) (t : ℕ)
-    (at : List TimerEntry) (number : ℕ) (observation : Observation) → MadeAt v q.timers.known t at []
-    → number ≡ (timer_then x.timers.about at t).stamp → Holds (timer_then x.timers.about at t) observation
-    → (e : Ending) → Follows q e → IsJoined s e → Saw (course_of s e) t number observation (length q.timers.known.seen)
-saw_quiet {s = s} {x = x} next q v t at number observation made stamp holds e follows joined =
-    let same = state_quiet next q v t at made in
-    saw_from (course_of s e) q.timers.known.seen follows.timers.0 (seen_first q.timers.known.seen joined follows.timers) t number observation
-    (ap (λ (u : Timer). u.stamp) (sym same) ∙ sym stamp) (subst (λ u. Holds u observation) same holds)
+  -- law: an observation that held of it holds when the call ends
+  pub saw_quiet : (number : ℕ) (observation : Observation) → number ≡ (timer_then x.timers.about at t).stamp
+      → Holds (timer_then x.timers.about at t) observation
+      → (e : Ending) → Follows q e → IsJoined s e → Saw (course_of s e) t number observation (length q.timers.known.seen)
+  saw_quiet number observation stamp holds e follows joined =
+      saw_from (course_of s e) q.timers.known.seen follows.timers.0 (seen_first q.timers.known.seen joined follows.timers) t number observation
+      (ap (λ (u : Timer). u.stamp) (sym state_quiet) ∙ sym stamp) (subst (λ u. Holds u observation) state_quiet holds)
 
--- law: it was not on the move then
-pub still_quiet : {s : Script} {x : WorldOf} {l : LaneOf} {call : Call} (next : IsNextCall s x l call) (q : WorldPass) (v : KnownOfTimers) (t : ℕ)
-    (at : List TimerEntry) → MadeAt v q.timers.known t at [] → (timer_then x.timers.about at t).moving ≡ false
-    → (e : Ending) → Follows q e → IsJoined s e → (courses.timer_then (course_of s e) (length q.timers.known.seen) t).moving ≡ false
-still_quiet {s = s} {x = x} next q v t at made still e follows joined =
-    ap (λ (u : Timer). u.moving)
-    (timer_seen (course_of s e) q.timers.known.seen follows.timers.0 (seen_first q.timers.known.seen joined follows.timers) t
-    ∙ sym (state_quiet next q v t at made)) ∙ still
+  -- law: it was not on the move then
+  pub still_quiet : (timer_then x.timers.about at t).moving ≡ false → (e : Ending) → Follows q e → IsJoined s e
+      → (courses.timer_then (course_of s e) (length q.timers.known.seen) t).moving ≡ false
+  still_quiet still e follows joined =
+      ap (λ (u : Timer). u.moving)
+      (timer_seen (course_of s e) q.timers.known.seen follows.timers.0 (seen_first q.timers.known.seen joined follows.timers) t ∙ sym state_quiet) ∙ still
 
--- law: it only looked, where it left objects alone
-pub looks_at : (l m : LaneOf) (t : ℕ) (at : List TimerEntry) → MadeAt l.pass.timers.known m.pass.timers.known t at []
-    → m.pass.objects ≡ l.pass.objects → Begins (writes l.pass.clock.knows) (writes m.pass.clock.knows)
-    → m.pass.clock.knows.pass.mine ≡ l.pass.clock.knows.pass.mine → m.notes ≡ l.notes → LooksOnly l m
-looks_at l m t at made =
-    let looks = looks_made made in looks_alone l m looks.0 looks.1
+-- law: a call that made no entry of a timer only looked, where it left objects alone
+pub looks_at : {l m : LaneOf} {t : ℕ} {at : List TimerEntry} → MadeAt l.pass.timers.known m.pass.timers.known t at []
+    → m.pass.objects ≡ l.pass.objects → LooksAtClock l.pass m.pass → m.notes ≡ l.notes → LooksOnly l m
+looks_at made = let looks = looks_made made in looks_alone looks.0 looks.1
 
 -- ---- peek
 
@@ -296,5 +257,5 @@ keeps_peek {s = s} {l = l} {m = m} {timer = timer} next c =
     let made = c.peeks.made in
     subst (λ a. KeepsCall s l (calls.Peek timer) a m) (sym c.told)
     (keeps_quiet next (answers.Peek c.seen.stamp c.seen.base c.seen.enqueued c.seen.running c.seen.moving)
-    (looks_at l m timer c.peeks.at made c.objects (leaves_begins l.pass m.pass c.clock) (ap (λ o. o.knows.pass.mine) c.clock) c.notes) refl refl
-    (saw_quiet next m.pass l.pass.timers.known timer c.peeks.at c.seen.stamp (observations.Peek c.seen) made (ap (λ p. p.stamp) c.peeks.fits) c.peeks.fits))
+    (looks_at made c.objects (clock_left c.clock) c.notes) refl refl
+    (saw_quiet next m.pass made c.seen.stamp (observations.Peek c.seen) (ap (λ p. p.stamp) c.peeks.fits) c.peeks.fits))

@@ -31,7 +31,7 @@ use Rattle.lane_run.specs.Called.{CallsCancel, CallsStart, cancel_receipts, canc
 use Rattle.lane_run.specs.Kept.{IsNextCall, KeepsCall}
 use Rattle.lane_run.specs.Worlds.{WorldOf}
 use Rattle.lane_run.proofs.Entering.{enters_along}
-use Rattle.lane_run.proofs.CallKept.{leaves_begins, reads_begins, reading_goes_on, opened_timers}
+use Rattle.lane_run.proofs.CallKept.{clock_left, clock_read, reading_goes_on, opened_timers}
 use Rattle.lane_run.proofs.Sights.{keeps_entered, keeps_quiet, saw_quiet, still_quiet, looks_at}
 use Rattle.lane_run.proofs.Sights.{notes_alone}
 use Rattle.lane_run.proofs.Starts.{started_so, start_reads}
@@ -42,13 +42,11 @@ cancel_kept : {s : Script} {x : WorldOf} {l m : LaneOf} {timer : ℕ} → IsNext
     → (answer : CancelAnswer) → Cancels x.timers.about l.pass.timers.known m.pass.timers.known timer answer → m.pass.objects ≡ l.pass.objects
     → m.notes ≡ with_done l.notes l.label (cancel_receipts timer answer) [] → KeepsCall s l (calls.Cancel timer) (cancel_told answer) m
 cancel_kept {l = l} {m = m} {timer = timer} next clock (cancels.Idle n) c objects notes =
-    keeps_quiet next (answers.Idle n) (looks_at l m timer c.at c.made objects (leaves_begins l.pass m.pass clock) (ap (λ o. o.knows.pass.mine) clock)
-    (notes_alone l m [] [] refl refl notes)) refl refl
-    (saw_quiet next m.pass l.pass.timers.known timer c.at n observations.Idle c.made c.fits.1 c.fits.0)
+    keeps_quiet next (answers.Idle n) (looks_at c.made objects (clock_left clock) (notes_alone l m refl refl notes)) refl refl
+    (saw_quiet next m.pass c.made n observations.Idle c.fits.1 c.fits.0)
 cancel_kept {l = l} {m = m} {timer = timer} next clock (cancels.Running g n) c objects notes =
-    keeps_quiet next (answers.Running g n) (looks_at l m timer c.at c.made objects (leaves_begins l.pass m.pass clock) (ap (λ o. o.knows.pass.mine) clock)
-    (notes_alone l m [] [] refl refl notes)) refl refl
-    (saw_quiet next m.pass l.pass.timers.known timer c.at n (observations.Running g) c.made c.fits.1 c.fits.0)
+    keeps_quiet next (answers.Running g n) (looks_at c.made objects (clock_left clock) (notes_alone l m refl refl notes)) refl refl
+    (saw_quiet next m.pass c.made n (observations.Running g) c.fits.1 c.fits.0)
 cancel_kept {s = s} {x = x} {l = l} {m = m} {timer = timer} next clock (cancels.Cancelled g n) c objects notes =
     let v = l.pass.timers.known in
     let w = m.pass.timers.known in
@@ -62,9 +60,9 @@ cancel_kept {s = s} {x = x} {l = l} {m = m} {timer = timer} next clock (cancels.
     let along = enters_along (λ clock. Unit) o (clocks_of s) s.limit es (opened_timers next) made (λ clock so. (tt, tt)) in
     let are : map receipt along.notes ≡ (timer, (n, entries.Cancel g)) ∷ [] =
     along.are ∙ ap (λ k. (timer, (u.stamp + 1, entries.Cancel k)) ∷ []) generation ∙ ap (λ k. (timer, (k, entries.Cancel g)) ∷ []) number in
-    keeps_entered next m (answers.Cancelled g) (λ clock. Unit) (cancel_receipts timer (cancels.Cancelled g n)) along.notes
+    keeps_entered next m (answers.Cancelled g) (cancel_receipts timer (cancels.Cancelled g n))
     (plain (length (writes m.pass.clock.knows)) (length v.seen) (length w.seen) (Entered timer n (entries.Cancel g) ∷ [])) along.enters (λ e goes. tt)
-    (leaves_begins l.pass m.pass clock) (ap (λ o. o.knows.pass.mine) clock) objects notes (tt, tt) are are refl refl refl refl
+    (clock_left clock) objects notes (tt, tt) are are refl refl refl refl
     (λ e follows joined has kept low. cancelled_made timer n g kept low)
 
 -- law: a lane keeps a cancel
@@ -81,11 +79,10 @@ start_kept : {s : Script} {x : WorldOf} {l m : LaneOf} {timer ns base : ℕ} {mo
     → m.notes ≡ with_done l.notes l.label (start_receipts timer mode ns base reading answer) []
     → KeepsCall s l (calls.Start timer mode ns base) (start_told answer) m
 start_kept {s = s} {x = x} {l = l} {m = m} {timer = timer} {ns = ns} {base = base} {mode = mode} next reading reads (starts.Spent n) c objects notes =
-    let v = l.pass.timers.known in
-    keeps_quiet next (answers.Spent n) (looks_at l m timer c.at c.made objects (reads_begins l.pass m.pass reads.looks.seen) reads.looks.mine
-    (notes_alone l m [] [] refl refl notes)) refl refl (λ e follows joined. (
-      saw_quiet next m.pass v timer c.at n observations.Spent c.made c.fits.2 c.fits.1 e follows joined,
-      still_quiet next m.pass v timer c.at c.made c.fits.0 e follows joined,
+    keeps_quiet next (answers.Spent n) (looks_at c.made objects (clock_read reads.looks) (notes_alone l m refl refl notes)) refl refl
+    (λ e follows joined. (
+      saw_quiet next m.pass c.made n observations.Spent c.fits.2 c.fits.1 e follows joined,
+      still_quiet next m.pass c.made c.fits.0 e follows joined,
     ))
 start_kept {s = s} {x = x} {l = l} {m = m} {timer = timer} {ns = ns} {base = base} {mode = mode} next reading reads
     (starts.Started was generation on outs clock expires) c objects notes =
@@ -99,12 +96,11 @@ start_kept {s = s} {x = x} {l = l} {m = m} {timer = timer} {ns = ns} {base = bas
     let so = started_so u timer mode ns base reading answer c.fits.2 in
     let along = enters_along IsSo o (clocks_of s) s.limit es (opened_timers next) c.made
     (λ clock has. start_reads mode ns base reading clock (moves_first u base) has) in
-    let log = start_receipts timer mode ns base reading answer in
     let actions = arming_actions timer mode ns reading.stamp base so.arming in
     subst (λ a. KeepsCall s l (calls.Start timer mode ns base) a m) (sym so.told)
-    (keeps_entered next m (answers.Started so.arming.number so.arming.base (was_armed_before so.arming.out so.arming.was_armed)) IsSo log along.notes
-    (plain reading.stamp (length v.seen) (length w.seen) actions) along.enters (reading_goes_on l.pass m.pass reading reads)
-    (reads_begins l.pass m.pass reads.looks.seen) reads.looks.mine objects notes so.only (along.are ∙ so.lines)
+    (keeps_entered next m (answers.Started so.arming.number so.arming.base (was_armed_before so.arming.out so.arming.was_armed))
+    (start_receipts timer mode ns base reading answer) (plain reading.stamp (length v.seen) (length w.seen) actions) along.enters (reading_goes_on l.pass m.pass reading reads) (clock_read reads.looks)
+    objects notes so.only (along.are ∙ so.lines)
     (along.are ∙ so.lines ∙ sym (so.notes l.label)) (so.no_looks l.label) refl reads.count refl
     (λ e follows joined has kept low. started_made timer ns base mode so.arming kept low so.just))
 

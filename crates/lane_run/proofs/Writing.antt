@@ -31,7 +31,7 @@ use Rattle.lane_run.specs.Worlds.{WorldOf}
 use Rattle.lane_run.proofs.Entering.{enters_none}
 use Rattle.pass_names.proofs.Passes.{begins_length}
 use Rattle.lane_run.proofs.SeenMore.{begins_same}
-use Rattle.lane_run.proofs.CallKept.{no_places, promised_from, reads_begins, same_objects, stand_from, take_whole, reading_of_seen}
+use Rattle.lane_run.proofs.CallKept.{clock_read, no_places, promised_from, same_objects, stand_from, take_whole, reading_of_seen}
 use Rattle.lane_run.proofs.PartLists.{same_order}
 use Rattle.lane_run.proofs.Sights.{keeps_quiet, no_object_steps}
 use Rattle.lane_run.proofs.Sights.{LooksOnly, looks_alone, keeps_looking}
@@ -59,8 +59,7 @@ writes_within e ws on = omega (arith, length-map e.run.clock (λ (line : ClockLi
 refused : (l m : LaneOf) → Looks l.pass.clock.knows.pass m.pass.clock.knows.pass → m.pass.timers ≡ l.pass.timers → m.pass.objects ≡ l.pass.objects
     → m.notes ≡ l.notes → LooksOnly l m
 refused l m looks timers objects notes =
-    looks_alone l m (begins_same (ap (λ t. t.known.seen) timers)) (ap (λ t. t.known.mine) timers) objects
-    (reads_begins l.pass m.pass looks.seen) looks.mine notes
+    looks_alone (begins_same (ap (λ t. t.known.seen) timers)) (ap (λ t. t.known.mine) timers) objects (clock_read looks) notes
 
 write_kept : {s : Script} {x : WorldOf} {l m : LaneOf} {write : Write} (next : IsNextCall s x l (calls.Clock write)) (answer : Result ClockReading ClockFault)
     → AnswersWrite write l.pass.clock.knows m.pass.clock.knows answer → m.pass.timers ≡ l.pass.timers → m.pass.objects ≡ l.pass.objects
@@ -95,7 +94,7 @@ write_kept {s = s} {l = l} {m = m} {write = write} next (Ok r) w timers objects 
     enters_none (begins_same same_seen) (ap (λ t. t.known.mine) timers) in
     let sees : SeesOn p q = record {
       timers = enters.seen;
-      clock = reads_begins p q adds.seen;
+      clock = adds.seen.each 0;
       objects = same_objects p q objects;
       opening = ap (λ o. o.knows.opening) objects;
     } in
@@ -161,7 +160,7 @@ write_kept {s = s} {l = l} {m = m} {write = write} next (Ok r) w timers objects 
         )
       ];
       stand = stand_from (λ clock. Unit) p q [] enters t (λ e follows. tt);
-      promised = promised_from next q [] t (answers.Clock r.stamp) logged
+      promised = promised_from next m [] t (answers.Clock r.stamp) logged
           (λ e follows joined has kept low. wrote_made r.stamp write kept (ap length same_seen ∙ low));
     }
 
