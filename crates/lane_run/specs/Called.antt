@@ -47,7 +47,7 @@ use Rattle.lane_notes.specs.Notes.{NotesOf, with_write_note}
 use Rattle.lane_notes.specs.Entries.{with_receipts}
 use Rattle.lane_notes.specs.Objects.{with_object_receipts}
 use Rattle.lane_run.specs.Expiries.{RunsGated}
-use Rattle.lane_run.specs.Worlds.{WorldOf}
+use Rattle.lane_run.specs.Worlds.{ArePassesOf, KeepPasses, WorldOf}
 use Rattle.lane_run.specs.declared.lane.Lane.{Lane}
 use Rattle.lane_run.specs.declared.world.WorldPass.{WorldPass}
 
@@ -61,6 +61,14 @@ abbrev pub lane_of : Lane → LaneOf
 lane_of l = record { label = l.label; pass = l.pass; notes = l.notes }
 
 -- ---- what all calls share
+
+-- a call leaves its lane's passes of this world, under their names, and the lane's label and answers as they were
+pub record LeavesLane (x : WorldOf) (old new : Lane) : Type 0 where
+  pub pass : ArePassesOf x new.pass
+  pub keeps : KeepPasses old.pass new.pass
+  pub label : new.label ≡ old.label
+  pub answers : new.answers ≡ old.answers
+  pub wants : new.wants_memory ≡ old.wants_memory
 
 -- notes of what one call did: its entries and looks, its entries of objects, and its write of the clock
 abbrev pub with_done : NotesOf → Label → List Receipt → List ObjectReceipt → NotesOf

@@ -6,9 +6,9 @@ ghost use Rattle.expire_pass.specs.Handlers.{CanServe};
 ghost use Rattle.timer_objects.specs.Firings.{firing as firing_meaning, ready_of};
 ghost use Rattle.timer_objects.specs.Known.{IsObjectsPass};
 ghost use Rattle.script_text.specs.Scripts.{most_budget};
-ghost use Rattle.lane_run.specs.Called.{CallsExpire, claimed_in, expire_told, is_claim, lane_of};
+ghost use Rattle.lane_run.specs.Called.{CallsExpire, LeavesLane, claimed_in, expire_told, is_claim, lane_of};
 ghost use Rattle.lane_run.specs.Expiries.{KeepsName, RunsGated, RunsWith};
-ghost use Rattle.lane_run.specs.Worlds.{ArePassesOf, KeepPasses};
+ghost use Rattle.lane_run.specs.Worlds.{ArePassesOf};
 
 use crate::gate::{Gate, Point};
 use crate::lane::Lane;
@@ -76,9 +76,7 @@ pub(crate) fn expire<R: Wait, G: Gate>(
     requires pass { ArePassesOf world.now lane.old.pass }
     requires base { base < world.now.timers.about.bases }
     requires budget { budget ≤ most_budget }
-    ensures pass { ArePassesOf world.now lane.new.pass }
-    ensures keeps { KeepPasses lane.old.pass lane.new.pass }
-    ensures rest { (lane.new.label ≡ lane.old.label) × (lane.new.answers ≡ lane.old.answers) × (lane.new.wants_memory ≡ lane.old.wants_memory) }
+    ensures leaves { LeavesLane world.now lane.old lane.new }
     ensures call { IfOk result (λ a. CallsExpire world.now (lane_of lane.old) (lane_of lane.new) a base budget) }
 {
     let reading = world.clock.read(rt, &mut lane.pass.clock);

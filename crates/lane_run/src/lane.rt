@@ -2,7 +2,7 @@
 ghost use Rattle.std.specs.Prelude.{◌≡◌, ◌≤◌, ◌<◌, ◌∷◌, [], false, IfOk, OnOk, length};
 ghost use Rattle.std.specs.List.{AllByRecursion};
 ghost use Rattle.script_text.specs.Scripts.{IsCallInRange};
-ghost use Rattle.lane_run.specs.Called.{Called, lane_of};
+ghost use Rattle.lane_run.specs.Called.{Called, LeavesLane, lane_of};
 ghost use Rattle.lane_run.specs.Rounds.{Answers, MakesCalls, lane_calls};
 ghost use Rattle.lane_run.specs.Worlds.{ArePassesOf, CanCall, KeepPasses};
 
@@ -110,9 +110,7 @@ fn make<R: Wait, G: Gate>(
 ) -> Result<Answer, AllocError>
     requires pass { ArePassesOf world.now lane.old.pass }
     requires call { CanCall world.now call }
-    ensures pass { ArePassesOf world.now lane.new.pass }
-    ensures keeps { KeepPasses lane.old.pass lane.new.pass }
-    ensures rest { (lane.new.label ≡ lane.old.label) × (lane.new.answers ≡ lane.old.answers) × (lane.new.wants_memory ≡ lane.old.wants_memory) }
+    ensures leaves { LeavesLane world.now lane.old lane.new }
     ensures call { IfOk result (λ a. Called world.now (lane_of lane.old) call a (lane_of lane.new)) }
 {
     match call {

@@ -9,8 +9,8 @@ ghost use Rattle.timer_fd.specs.declared.answers.SettimeAnswer.{SettimeAnswer};
 ghost use Rattle.timer_objects.specs.declared.answers.Gettime.{Gettime};
 ghost use Rattle.timer_objects.specs.declared.answers.Readable.{Readable};
 ghost use Rattle.record_text.specs.declared.record.Answer.TheVariants as answers;
-ghost use Rattle.lane_run.specs.Called.{CallsObject, CallsOverrun, accept_told, gettime_told, lane_of, read_told, settime_told, with_done};
-ghost use Rattle.lane_run.specs.Worlds.{ArePassesOf, KeepPasses};
+ghost use Rattle.lane_run.specs.Called.{CallsObject, CallsOverrun, LeavesLane, accept_told, gettime_told, lane_of, read_told, settime_told, with_done};
+ghost use Rattle.lane_run.specs.Worlds.{ArePassesOf};
 
 use crate::lane::Lane;
 use crate::world::World;
@@ -95,9 +95,7 @@ pub(crate) fn settime<R: Wait>(
     requires pass { ArePassesOf world.now lane.old.pass }
     requires timer { timer < length world.now.objects.decls }
     requires kind { (decl_at world.now.objects timer).kind ≢ over.Raw }
-    ensures pass { ArePassesOf world.now lane.new.pass }
-    ensures keeps { KeepPasses lane.old.pass lane.new.pass }
-    ensures rest { (lane.new.label ≡ lane.old.label) × (lane.new.answers ≡ lane.old.answers) × (lane.new.wants_memory ≡ lane.old.wants_memory) }
+    ensures leaves { LeavesLane world.now lane.old lane.new }
     ensures call { IfOk result (λ a. (s : SettimeAnswer) × (a ≡ settime_told s) × CallsObject world.now (lane_of lane.old) (lane_of lane.new) a (λ old new reading. Settimes world.now.objects world.now.timers.about old new timer flags value interval reading s)) }
 {
     let (answer, _) = noted!(rt, alloc, world, lane; settime(timer, flags, value, interval));
@@ -128,9 +126,7 @@ pub(crate) fn gettime<R: Wait>(
     requires pass { ArePassesOf world.now lane.old.pass }
     requires timer { timer < length world.now.objects.decls }
     requires kind { (decl_at world.now.objects timer).kind ≢ over.Raw }
-    ensures pass { ArePassesOf world.now lane.new.pass }
-    ensures keeps { KeepPasses lane.old.pass lane.new.pass }
-    ensures rest { (lane.new.label ≡ lane.old.label) × (lane.new.answers ≡ lane.old.answers) × (lane.new.wants_memory ≡ lane.old.wants_memory) }
+    ensures leaves { LeavesLane world.now lane.old lane.new }
     ensures call { IfOk result (λ a. (g : Gettime) × CallsObject world.now (lane_of lane.old) (lane_of lane.new) a (λ old new reading. Gettimes world.now.objects world.now.timers.about old new timer reading (decl_at world.now.objects timer).kind g × (a ≡ gettime_told (decl_at world.now.objects timer).kind reading.stamp g))) }
 {
     let (answer, reading) = noted!(rt, alloc, world, lane; gettime(timer));
@@ -171,9 +167,7 @@ pub(crate) fn accept<R: Wait>(
     requires pass { ArePassesOf world.now lane.old.pass }
     requires timer { timer < length world.now.objects.decls }
     requires kind { (decl_at world.now.objects timer).kind ≡ over.Posix }
-    ensures pass { ArePassesOf world.now lane.new.pass }
-    ensures keeps { KeepPasses lane.old.pass lane.new.pass }
-    ensures rest { (lane.new.label ≡ lane.old.label) × (lane.new.answers ≡ lane.old.answers) × (lane.new.wants_memory ≡ lane.old.wants_memory) }
+    ensures leaves { LeavesLane world.now lane.old lane.new }
     ensures call { IfOk result (λ a. (s : AcceptAnswer) × (a ≡ accept_told s) × CallsObject world.now (lane_of lane.old) (lane_of lane.new) a (λ old new reading. Accepts world.now.objects world.now.timers.about old new timer reading s)) }
 {
     let (answer, _) = noted!(rt, alloc, world, lane; accept(timer));
@@ -203,9 +197,7 @@ pub(crate) fn read<R: Wait>(
     requires pass { ArePassesOf world.now lane.old.pass }
     requires timer { timer < length world.now.objects.decls }
     requires kind { (decl_at world.now.objects timer).kind ≡ over.Fd }
-    ensures pass { ArePassesOf world.now lane.new.pass }
-    ensures keeps { KeepPasses lane.old.pass lane.new.pass }
-    ensures rest { (lane.new.label ≡ lane.old.label) × (lane.new.answers ≡ lane.old.answers) × (lane.new.wants_memory ≡ lane.old.wants_memory) }
+    ensures leaves { LeavesLane world.now lane.old lane.new }
     ensures call { IfOk result (λ a. (s : ReadAnswer) × (a ≡ read_told s) × CallsObject world.now (lane_of lane.old) (lane_of lane.new) a (λ old new reading. ReadsFd world.now.objects world.now.timers.about old new timer len reading s)) }
 {
     let (answer, _) = noted!(rt, alloc, world, lane; read(timer, len));
@@ -236,9 +228,7 @@ pub(crate) fn overrun<R: Wait>(
     requires pass { ArePassesOf world.now lane.old.pass }
     requires timer { timer < length world.now.objects.decls }
     requires kind { (decl_at world.now.objects timer).kind ≡ over.Posix }
-    ensures pass { ArePassesOf world.now lane.new.pass }
-    ensures keeps { KeepPasses lane.old.pass lane.new.pass }
-    ensures rest { (lane.new.label ≡ lane.old.label) × (lane.new.answers ≡ lane.old.answers) × (lane.new.wants_memory ≡ lane.old.wants_memory) }
+    ensures leaves { LeavesLane world.now lane.old lane.new }
     ensures call { CallsOverrun world.now (lane_of lane.old) (lane_of lane.new) result timer }
 {
     let mut log = Log::make(alloc);
@@ -261,9 +251,7 @@ pub(crate) fn readable<R: Wait>(
     requires pass { ArePassesOf world.now lane.old.pass }
     requires timer { timer < length world.now.objects.decls }
     requires kind { (decl_at world.now.objects timer).kind ≡ over.Fd }
-    ensures pass { ArePassesOf world.now lane.new.pass }
-    ensures keeps { KeepPasses lane.old.pass lane.new.pass }
-    ensures rest { (lane.new.label ≡ lane.old.label) × (lane.new.answers ≡ lane.old.answers) × (lane.new.wants_memory ≡ lane.old.wants_memory) }
+    ensures leaves { LeavesLane world.now lane.old lane.new }
     ensures call { (found : Readable) × CallsObject world.now (lane_of lane.old) (lane_of lane.new) result (λ old new reading. LooksReadable old new timer reading found × (result ≡ answers.Readable found.ready reading.stamp found.stamp)) }
 {
     let reading = world.clock.read(rt, &mut lane.pass.clock);

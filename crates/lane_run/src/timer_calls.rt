@@ -1,8 +1,8 @@
 //! The calls on timers by themselves, and the writes of the clock.
 ghost use Rattle.std.specs.Prelude.{◌≡◌, ◌<◌, [], ◌∷◌, IfOk, OnOk, length};
 ghost use Rattle.lane_notes.specs.Entries.{with_receipts};
-ghost use Rattle.lane_run.specs.Called.{CallsCancel, CallsPeek, CallsStart, CallsWrite, cancel_receipts, cancel_told, entry_receipt, lane_of, start_receipts, start_told, with_done};
-ghost use Rattle.lane_run.specs.Worlds.{ArePassesOf, KeepPasses};
+ghost use Rattle.lane_run.specs.Called.{CallsCancel, CallsPeek, CallsStart, CallsWrite, LeavesLane, cancel_receipts, cancel_told, entry_receipt, lane_of, start_receipts, start_told, with_done};
+ghost use Rattle.lane_run.specs.Worlds.{ArePassesOf};
 
 use crate::lane::Lane;
 use crate::world::World;
@@ -30,9 +30,7 @@ pub(crate) fn start<R: Wait>(
     requires pass { ArePassesOf world.now lane.old.pass }
     requires timer { timer < length world.now.timers.about.timers }
     requires base { base < world.now.timers.about.bases }
-    ensures pass { ArePassesOf world.now lane.new.pass }
-    ensures keeps { KeepPasses lane.old.pass lane.new.pass }
-    ensures rest { (lane.new.label ≡ lane.old.label) × (lane.new.answers ≡ lane.old.answers) × (lane.new.wants_memory ≡ lane.old.wants_memory) }
+    ensures leaves { LeavesLane world.now lane.old lane.new }
     ensures call { IfOk result (λ a. CallsStart world.now (lane_of lane.old) (lane_of lane.new) a timer mode ns base) }
 {
     let reading = world.clock.read(rt, &mut lane.pass.clock);
@@ -115,9 +113,7 @@ pub(crate) fn cancel<R: Wait>(
 ) -> Result<Answer, AllocError>
     requires pass { ArePassesOf world.now lane.old.pass }
     requires timer { timer < length world.now.timers.about.timers }
-    ensures pass { ArePassesOf world.now lane.new.pass }
-    ensures keeps { KeepPasses lane.old.pass lane.new.pass }
-    ensures rest { (lane.new.label ≡ lane.old.label) × (lane.new.answers ≡ lane.old.answers) × (lane.new.wants_memory ≡ lane.old.wants_memory) }
+    ensures leaves { LeavesLane world.now lane.old lane.new }
     ensures call { IfOk result (λ a. CallsCancel world.now (lane_of lane.old) (lane_of lane.new) a timer) }
 {
     let answer = world.timers.try_to_cancel(rt, &mut lane.pass.timers, timer);
@@ -148,9 +144,7 @@ fn cancel_answer(answer: CancelAnswer) -> Answer
 pub(crate) fn peek(world: &World, lane: &mut Lane, timer: u32) -> Answer
     requires pass { ArePassesOf world.now lane.old.pass }
     requires timer { timer < length world.now.timers.about.timers }
-    ensures pass { ArePassesOf world.now lane.new.pass }
-    ensures keeps { KeepPasses lane.old.pass lane.new.pass }
-    ensures rest { (lane.new.label ≡ lane.old.label) × (lane.new.answers ≡ lane.old.answers) × (lane.new.wants_memory ≡ lane.old.wants_memory) }
+    ensures leaves { LeavesLane world.now lane.old lane.new }
     ensures call { CallsPeek world.now (lane_of lane.old) (lane_of lane.new) result timer }
 {
     let seen = world.timers.peek(&mut lane.pass.timers, timer);
@@ -171,9 +165,7 @@ pub(crate) fn write<R: Wait>(
     write: Write,
 ) -> Result<Answer, AllocError>
     requires pass { ArePassesOf world.now lane.old.pass }
-    ensures pass { ArePassesOf world.now lane.new.pass }
-    ensures keeps { KeepPasses lane.old.pass lane.new.pass }
-    ensures rest { (lane.new.label ≡ lane.old.label) × (lane.new.answers ≡ lane.old.answers) × (lane.new.wants_memory ≡ lane.old.wants_memory) }
+    ensures leaves { LeavesLane world.now lane.old lane.new }
     ensures call { IfOk result (λ a. CallsWrite world.now (lane_of lane.old) (lane_of lane.new) a write) }
 {
     match world.clock.write(rt, &mut lane.pass.clock, write) {
