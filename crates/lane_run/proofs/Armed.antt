@@ -39,10 +39,9 @@ use Rattle.run_history.specs.Receipts.{Noted}
 use Rattle.run_history.specs.Traces.{all_entered}
 use Rattle.run_history.specs.Truths.{IsTrueStart}
 use Rattle.run_history.proofs.Known.{numbered}
-use Rattle.lane_run.specs.Kept.{entry_in_note}
+use Rattle.lane_run.proofs.Kept.{entry_in_note, begins_same, IsNextCall}
 use Rattle.lane_run.proofs.CallKept.{inside_of}
 use Rattle.lane_run.proofs.Entering.{enters_along, EntersNotes, HasReading, line_entry, lines_along}
-use Rattle.lane_run.proofs.SeenMore.{begins_same}
 use Rattle.lane_run.proofs.Parts.{IsPart, part_none, part_entered}
 use Rattle.lane_run.proofs.PartLists.{IsEntered}
 use Rattle.lane_run.proofs.Entering.{looks_made}
@@ -58,7 +57,6 @@ use Rattle.script_text.specs.Objects.{ArmedAs}
 use Rattle.script_text.specs.declared.script.Call.{Call}
 use Rattle.run_history.specs.Courses as courses
 use Rattle.lane_run.specs.Called.{LaneOf}
-use Rattle.lane_run.specs.Kept.{IsNextCall}
 use Rattle.lane_run.specs.Worlds.{WorldOf}
 use Rattle.lane_run.proofs.CallKept.{opened_timers}
 use Rattle.pass_names.specs.Passes.{Begins}

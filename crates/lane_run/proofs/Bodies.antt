@@ -52,13 +52,11 @@ use Rattle.run_history.specs.Receipts.{count, Noted, receipt}
 use Rattle.run_history.specs.Runs.{course_of}
 use Rattle.run_history.proofs.PassState.{saw_from, state_seen}
 use Rattle.run_history.proofs.Promise.{seen_first}
-use Rattle.lane_run.specs.Kept.{entry_in_note}
+use Rattle.lane_run.proofs.Kept.{entry_in_note, begins_same, count_begins}
 use Rattle.lane_run.specs.Worlds.{callback_of}
 use Rattle.lane_run.proofs.Entering.{enters_along, enters_none, EntersNotes, stamp_counts}
-use Rattle.lane_run.proofs.SeenMore.{begins_same}
 use Rattle.lane_run.proofs.Parts.{BodyKept, HasRead, IsClaimed, fired_of, part_claimed, part_entered, part_looked}
 use Rattle.timer_objects.specs.Firings.{Firing}
-use Rattle.lane_run.proofs.SeenMore.{count_begins}
 use Rattle.lane_run.proofs.Entering.{looks_made}
 
 -- ---- timers by themselves

@@ -39,12 +39,11 @@ use Rattle.run_history.proofs.Kept.{IsKept}
 use Rattle.run_history.proofs.Known.{AreMade}
 use Rattle.run_history.proofs.Promise.{kept_from, reading_seen}
 use Rattle.lane_run.specs.Called.{LaneOf, LeavesClock, Reads, with_done}
-use Rattle.lane_run.specs.Kept.{entry_in_note, Follows, IsNextCall, log_of, seen_by, SeesOn, StandAt, EntryNotes, LookNotes, ObjectNotes, SkipNotes, WriteNotes, NoteKind, label_of, list_of}
+use Rattle.lane_run.proofs.Kept.{entry_in_note, Follows, IsNextCall, log_of, seen_by, SeesOn, StandAt, EntryNotes, LookNotes, ObjectNotes, SkipNotes, WriteNotes, NoteKind, label_of, list_of, begins_same}
 use Rattle.lane_run.specs.Worlds.{WorldOf}
 use Rattle.lane_run.specs.declared.world.WorldPass.{WorldPass}
 use Rattle.lane_run.proofs.Entering.{EntersNotes, place_of}
 use Rattle.pass_names.proofs.Passes.{begins_length}
-use Rattle.lane_run.proofs.SeenMore.{begins_same}
 use Rattle.std.proofs.Common.{true, false, nat_eq, if◌then◌else◌}
 use Rattle.script_text.specs.Actions.{Action, numbers_of_object}
 use Rattle.script_text.specs.Told.{object_called, object_stamp_in, stamps_on}

@@ -5,7 +5,7 @@ use Rattle.run_history.specs.Courses.{Trace}
 use Rattle.run_history.specs.Fits.{Seen}
 use Rattle.run_history.specs.Receipts.{Noted}
 use Rattle.run_history.specs.Runs.{CallLog}
-use Rattle.lane_run.specs.Kept.{IsNoLess, log_of, seen_by}
+use Rattle.lane_run.proofs.Kept.{IsNoLess, log_of, seen_by}
 use Rattle.lane_run.specs.declared.world.WorldPass.{WorldPass}
 
 -- one of the lists: how much of it was seen, and where a call's span stands on it

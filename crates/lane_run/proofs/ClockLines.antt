@@ -20,8 +20,8 @@ use Rattle.run_history.specs.Promises.{GoesOnClock}
 use Rattle.run_history.specs.Runs.{CallLog, Ending}
 use Rattle.run_history.proofs.Lists.{all_at, map_get}
 use Rattle.run_history.proofs.Shown.{same_items as same_places}
-use Rattle.lane_run.specs.Kept.{WriteNotes}
-use Rattle.lane_run.specs.Left.{AreLastOf, AreLeft}
+use Rattle.lane_run.proofs.Kept.{WriteNotes}
+use Rattle.lane_run.proofs.Left.{AreLastOf, AreLeft}
 use Rattle.lane_run.specs.Worlds.{WorldOf}
 use Rattle.lane_run.specs.declared.world.WorldPass.{WorldPass}
 use Rattle.lane_run.proofs.LastSeen.{writes_once}

@@ -11,8 +11,8 @@ use Rattle.lane_notes.specs.Notes.{NotesOf}
 use Rattle.lane_notes.specs.Records.{record_from}
 use Rattle.lane_notes.specs.Sorted.{IsSortedFrom}
 use Rattle.run_history.specs.Runs.{CallLog, Starts, Ending, IsEnding, IsRun}
-use Rattle.lane_run.specs.Kept.{Follows}
-use Rattle.lane_run.specs.Left.{AreLastOf, AreLeft, ending_of, AreByRounds}
+use Rattle.lane_run.proofs.Kept.{Follows}
+use Rattle.lane_run.proofs.Left.{AreLastOf, AreLeft, ending_of, AreByRounds}
 use Rattle.lane_run.specs.Worlds.{WorldOf}
 use Rattle.lane_run.specs.declared.world.WorldPass.{WorldPass}
 use Rattle.lane_run.proofs.ClockLines.{clock_accepted, clock_few, clock_goes_on, clock_in_span, clock_lines, clock_lines_long, clock_own}

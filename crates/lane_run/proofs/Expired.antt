@@ -38,10 +38,9 @@ use Rattle.run_history.proofs.Kept.{IsKept}
 use Rattle.run_history.proofs.PassState.{timer_seen}
 use Rattle.run_history.proofs.Promise.{object_point_from, seen_first}
 use Rattle.lane_run.specs.Called.{CallsExpire, claimed_in, expire_told, LaneOf}
-use Rattle.lane_run.specs.Kept.{Follows, IsNextCall, KeepsCall, seen_by}
+use Rattle.lane_run.proofs.Kept.{Follows, IsNextCall, KeepsCall, seen_by, goes_before}
 use Rattle.lane_run.specs.Worlds.{WorldOf}
 use Rattle.pass_names.proofs.Passes.{begins_length}
-use Rattle.lane_run.proofs.SeenMore.{goes_before}
 use Rattle.lane_run.proofs.CallKept.{clock_read, reading_followed, reading_goes_on}
 use Rattle.lane_run.proofs.PartKept.{keeps_part}
 use Rattle.lane_run.proofs.Parts.{part_none, part_then}

@@ -22,8 +22,8 @@ use Rattle.run_history.specs.Runs.{CallLog}
 use Rattle.run_history.proofs.Known.{behind_all}
 use Rattle.run_history.proofs.Laid.{same_place}
 use Rattle.run_history.proofs.Lists.{all_at, each, at_map, map_get}
-use Rattle.lane_run.specs.Kept.{EntryNotes}
-use Rattle.lane_run.specs.Left.{AreLastOf, AreLeft}
+use Rattle.lane_run.proofs.Kept.{EntryNotes}
+use Rattle.lane_run.proofs.Left.{AreLastOf, AreLeft}
 use Rattle.lane_run.specs.Worlds.{WorldOf}
 use Rattle.lane_run.specs.declared.world.WorldPass.{WorldPass}
 use Rattle.lane_run.proofs.LastSeen.{entries_once, has_receipt, HasReceipt, is_told, note_made, noted_at, timer_lines_are}

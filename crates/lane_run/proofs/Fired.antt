@@ -36,11 +36,10 @@ use Rattle.run_history.proofs.Actions.{made-append}
 use Rattle.run_history.proofs.Expires.{claim_of, finish_of, with_claim, HaveRun, run_push}
 use Rattle.run_history.proofs.Known.{made_goes_on}
 use Rattle.lane_run.specs.Called.{claimed_in}
-use Rattle.lane_run.specs.Kept.{FollowsObject}
+use Rattle.lane_run.proofs.Kept.{FollowsObject, count_begins, goes_before, begins_same}
 use Rattle.lane_run.specs.Worlds.{callback_of, IsWorldOf, WorldOf}
 use Rattle.lane_run.proofs.Declared.{declared_callback, declared_over, over_of}
 use Rattle.pass_names.proofs.Passes.{begins_length, begins_trans}
-use Rattle.lane_run.proofs.SeenMore.{count_begins, goes_before, begins_same}
 use Rattle.lane_run.proofs.Triggered.{fd_noted, posix_noted, trigger_kept}
 use Rattle.std.specs.Prelude.{flat_map}
 use Rattle.std.proofs.lemmas.List.Concat.{flat_map-append}

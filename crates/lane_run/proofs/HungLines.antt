@@ -26,8 +26,8 @@ use Rattle.run_history.specs.Receipts.{Rises}
 use Rattle.run_history.specs.Runs.{CallLog}
 use Rattle.run_history.proofs.Lists.{all_at, each}
 use Rattle.run_history.proofs.Looks.{of_call, own_looks_are, own_skips_are}
-use Rattle.lane_run.specs.Kept.{IsLookNote, IsSkipNote, LookNotes, SkipNotes, looks_on, skips_on}
-use Rattle.lane_run.specs.Left.{AreLastOf, AreLeft}
+use Rattle.lane_run.proofs.Kept.{IsLookNote, IsSkipNote, LookNotes, SkipNotes, looks_on, skips_on}
+use Rattle.lane_run.proofs.Left.{AreLastOf, AreLeft}
 use Rattle.lane_run.specs.Worlds.{WorldOf}
 use Rattle.lane_run.specs.declared.world.WorldPass.{WorldPass}
 use Rattle.std.proofs.lemmas.Simd.{map-map}

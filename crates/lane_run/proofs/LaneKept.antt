@@ -11,10 +11,9 @@ use Rattle.run_history.specs.Courses.{Course}
 use Rattle.run_history.specs.Fits.{FitsCall, FitsLane, Seen}
 use Rattle.run_history.specs.Rounds.{label_at}
 use Rattle.lane_run.specs.Called.{Called, LaneOf}
-use Rattle.lane_run.specs.Kept.{IsNextCall, IsNoLess, KeepsCall}
+use Rattle.lane_run.proofs.Kept.{IsNextCall, IsNoLess, KeepsCall, no_less}
 use Rattle.lane_run.specs.Worlds.{WorldOf}
 use Rattle.lane_run.proofs.PartLists.{falls_lower}
-use Rattle.lane_run.proofs.SeenMore.{no_less}
 
 -- each call that a lane makes it keeps
 abbrev pub KeepsEach : Script → WorldOf → Type 0

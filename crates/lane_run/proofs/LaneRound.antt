@@ -14,7 +14,7 @@ use Rattle.script_text.specs.declared.script.Call.{Call}
 use Rattle.script_text.specs.declared.script.Round.{Round}
 use Rattle.script_text.specs.declared.script.Script.{Script}
 use Rattle.lane_run.specs.Called.{lane_of, LaneOf, Called}
-use Rattle.lane_run.specs.Kept.{Follows, KeepsCall, log_of, seen_by, StandAt, Tallies}
+use Rattle.lane_run.proofs.Kept.{Follows, KeepsCall, log_of, seen_by, StandAt, Tallies, follows_less, more_begun, more_called, more_trans, no_less, SeesMore, stand_later}
 use Rattle.lane_run.specs.Rounds.{as_index, BeginsRound, IsLaneOf, lane_calls, LeftOf, MakesLane, next_of, CalledAll}
 use Rattle.lane_run.specs.Worlds.{IsWhole, IsWorldOf, WorldOf}
 use Rattle.lane_run.specs.declared.lane.Lane.{Lane}
@@ -24,7 +24,6 @@ use Rattle.lane_run.proofs.Chains.{lies_later, lies_pushed, ListOf, lies_new, Li
 use Rattle.lane_run.proofs.LaneKept.{KeepsEach, fits_lane_behind}
 use Rattle.lane_run.proofs.NotesJoined.{are_later, AreOf, call_notes, joined, none_noted}
 use Rattle.lane_run.proofs.PartLists.{each_weaker}
-use Rattle.lane_run.proofs.SeenMore.{follows_less, more_begun, more_called, more_trans, no_less, SeesMore, stand_later}
 use Rattle.lane_run.proofs.Tallies.{tallies_none, tallies_more}
 use Rattle.std.proofs.lemmas.Option.{slice_get_within, same_Some}
 use Rattle.pass_names.specs.Passes.{Begins}

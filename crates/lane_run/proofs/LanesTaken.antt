@@ -7,14 +7,13 @@ use Rattle.run_history.specs.Fits.{Seen}
 use Rattle.run_history.specs.Runs.{CallLog}
 use Rattle.script_text.specs.Order.{CallInRound}
 use Rattle.script_text.specs.declared.script.Script.{Script}
-use Rattle.lane_run.specs.Kept.{seen_by, Tallies}
+use Rattle.lane_run.proofs.Kept.{seen_by, Tallies, more_heard, more_taken, no_less, stands_on}
 use Rattle.lane_run.specs.Rounds.{LeftOf, TakesInPass, with_lane}
 use Rattle.lane_run.specs.declared.lane.Lane.{Lane}
 use Rattle.lane_run.specs.declared.world.WorldPass.{WorldPass}
 use Rattle.lane_run.proofs.Chains.{AreUpTo, up_to_later}
 use Rattle.lane_run.proofs.LaneRound.{IsFrom, IsKeptOf, kept_later, LaneSoFar, IsAt, answers_in, MakesInRound}
 use Rattle.lane_run.proofs.NotesJoined.{are_later, AreOf, joined}
-use Rattle.lane_run.proofs.SeenMore.{more_heard, more_taken, no_less, stands_on}
 use Rattle.lane_run.proofs.Tallies.{tallies_more, adds_taken}
 use Rattle.lane_run.specs.Worlds.{WorldOf}
 use Rattle.lane_run.specs.Called.{lane_of}

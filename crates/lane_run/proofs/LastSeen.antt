@@ -28,8 +28,8 @@ use Rattle.run_history.specs.Receipts.{IsMade, Noted, receipt}
 use Rattle.run_history.specs.Runs.{CallLog}
 use Rattle.run_history.proofs.Labels.{label_itself, same_label}
 use Rattle.run_history.proofs.Lists.{all_at}
-use Rattle.lane_run.specs.Kept.{entry_in_note}
-use Rattle.lane_run.specs.Left.{AreLastOf, AreLeft}
+use Rattle.lane_run.proofs.Kept.{entry_in_note}
+use Rattle.lane_run.proofs.Left.{AreLastOf, AreLeft}
 use Rattle.lane_run.specs.Worlds.{WorldOf}
 use Rattle.lane_run.specs.declared.world.WorldPass.{WorldPass}
 use Rattle.run_history.proofs.Shown.{entry_place}

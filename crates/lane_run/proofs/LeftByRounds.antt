@@ -18,8 +18,8 @@ use Rattle.script_text.specs.Scripts.{all_calls, IsInRange}
 use Rattle.script_text.specs.declared.script.Call.TheVariants as calls
 use Rattle.script_text.specs.declared.script.Script.{Script}
 use Rattle.record_text.specs.declared.record.Answer.TheVariants as answers
-use Rattle.lane_run.specs.Kept.{Follows, seen_by, label_of, StandAt, list_of, IsSeen, TellLog}
-use Rattle.lane_run.specs.Left.{AreByRounds, AreLeft, own_notes}
+use Rattle.lane_run.proofs.Kept.{Follows, seen_by, label_of, StandAt, list_of, IsSeen, TellLog, own_notes}
+use Rattle.lane_run.proofs.Left.{AreByRounds, AreLeft}
 use Rattle.lane_run.specs.Rounds.{LeftOf, MakesRounds, none_left}
 use Rattle.lane_run.specs.Worlds.{AreFirst, IsWhole, IsWorldOf, WorldOf}
 use Rattle.lane_run.specs.declared.world.WorldPass.{WorldPass}

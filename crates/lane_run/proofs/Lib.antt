@@ -31,7 +31,7 @@ pub mod RearmedCalls
 pub mod SettimeNoted
 pub mod SettimeParts
 pub mod Settimes
-pub mod SeenMore
+pub mod Kept
 pub mod NotesJoined
 pub mod Tallies
 pub mod Chains
@@ -39,6 +39,7 @@ pub mod CallingLanes
 pub mod LaneRound
 pub mod LanesTaken
 pub mod RoundsLeft
+pub mod Left
 pub mod LeftByRounds
 pub mod Numbered
 pub mod OwnLines
@@ -51,4 +52,3 @@ pub mod HungLines
 pub mod Ended
 pub mod RunFits
 pub mod Starts
-pub mod EachCall

@@ -12,11 +12,9 @@ use Rattle.script_text.specs.Order.{is_label}
 use Rattle.script_text.specs.declared.script.Call.{Call}
 use Rattle.script_text.specs.declared.script.Script.{Script}
 use Rattle.lane_run.specs.Called.{LaneOf}
-use Rattle.lane_run.specs.Kept.{KeepsCall, log_of, label_of, list_of, IsSeen, TellLog, SkipNotes, ObjectNotes, LookNotes, EntryNotes, NoteOf, NoteKind, WriteNotes}
-use Rattle.lane_run.specs.Left.{own_notes}
+use Rattle.lane_run.proofs.Kept.{KeepsCall, log_of, label_of, list_of, IsSeen, TellLog, SkipNotes, ObjectNotes, LookNotes, EntryNotes, NoteOf, NoteKind, WriteNotes, SeesMore, seen_later, own_notes}
 use Rattle.lane_run.specs.declared.world.WorldPass.{WorldPass}
 use Rattle.lane_run.proofs.PartLists.{no_notes-joins, notes_same, each_weaker}
-use Rattle.lane_run.proofs.SeenMore.{SeesMore, seen_later}
 use Rattle.record_text.proofs.Lists.{All-append}
 use Rattle.script_text.specs.Actions.{also}
 

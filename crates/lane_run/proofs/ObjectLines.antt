@@ -27,8 +27,9 @@ use Rattle.run_history.specs.Fits.{AreBehind}
 use Rattle.run_history.specs.Promises.{GoesOnClock}
 use Rattle.run_history.specs.Runs.{CallLog, Ending, Starts}
 use Rattle.run_history.proofs.Lists.{all_at, map_get}
-use Rattle.lane_run.specs.Kept.{AreObjectLines, ObjectMove, ObjectNotes, ShowsObjectCall, made_on}
-use Rattle.lane_run.specs.Left.{AreLastOf, AreLeft, ending_of, span_of}
+use Rattle.lane_run.specs.Runs.{AreObjectLines, ObjectMove, ShowsObjectCall}
+use Rattle.lane_run.proofs.Kept.{ObjectNotes, made_on}
+use Rattle.lane_run.proofs.Left.{AreLastOf, AreLeft, ending_of, span_of}
 use Rattle.lane_run.specs.Worlds.{WorldOf, decl_as}
 use Rattle.lane_run.specs.declared.world.WorldPass.{WorldPass}
 use Rattle.counted_row.specs.Meaning.{Leads}

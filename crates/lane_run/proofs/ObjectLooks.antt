@@ -28,14 +28,13 @@ use Rattle.run_history.specs.Calls.{Does}
 use Rattle.run_history.specs.Runs.{course_of, Ending}
 use Rattle.run_history.specs.Truths.{IsObjectPoint}
 use Rattle.lane_run.specs.Called.{Called, caller_of, CallsOverrun, gettime_told, LaneOf, with_done}
-use Rattle.lane_run.specs.Kept.{Follows, IsNextCall, KeepsCall}
+use Rattle.lane_run.proofs.Kept.{Follows, IsNextCall, KeepsCall, begins_same}
 use Rattle.lane_run.specs.Worlds.{WorldOf}
 use Rattle.lane_run.proofs.CallKept.{clock_left, clock_read, LooksAtClock, with_done-joins}
 use Rattle.lane_run.proofs.PartLists.{no_notes-joins}
 use Rattle.lane_run.proofs.ObjectSeen.{object_after, object_seen}
 use Rattle.lane_run.proofs.Sights.{IsToldSo, keeps_sight, LooksOnly, point_seen, stamped, notes_alone}
 use Rattle.lane_run.proofs.CallKept.{clock_left, clock_read, LooksAtClock, reading_of_seen}
-use Rattle.lane_run.proofs.SeenMore.{begins_same}
 use Rattle.script_text.specs.declared.script.Kind.{Kind}
 use Rattle.record_text.specs.declared.record.RunRecord.{RunRecord}
 use Rattle.timer_fd.specs.States.{Descriptor}

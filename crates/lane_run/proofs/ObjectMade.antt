@@ -24,7 +24,7 @@ use Rattle.run_history.proofs.OthersMade.{plain}
 use Rattle.run_history.proofs.PassState.{timer_seen}
 use Rattle.run_history.proofs.Promise.{seen_first}
 use Rattle.lane_run.specs.Called.{caller_of, LaneOf, Reads, with_done}
-use Rattle.lane_run.specs.Kept.{Follows, IsNextCall, KeepsCall, seen_by}
+use Rattle.lane_run.proofs.Kept.{Follows, IsNextCall, KeepsCall, seen_by, goes_before}
 use Rattle.lane_run.specs.Worlds.{WorldOf}
 use Rattle.pass_names.proofs.Passes.{begins_length}
 use Rattle.base_row.specs.declared.view.Opening.{Opening}
@@ -39,13 +39,12 @@ use Rattle.lane_run.proofs.Armed.{HasRead, IsArmedSo, IsLike, IsRearmSpan, start
 use Rattle.lane_run.proofs.CallKept.{clock_read, reading_goes_on, unstamped}
 use Rattle.lane_run.proofs.PartKept.{keeps_part}
 use Rattle.lane_run.proofs.Parts.{IsNotedAs, IsPart, part_made, part_none, part_then}
-use Rattle.lane_run.proofs.SeenMore.{goes_before}
 use Rattle.timer_objects.specs.Arming.{stamp_seen}
 use Rattle.timer_objects.specs.declared.cell.SpannedCall.{SpannedCall}
 use Rattle.timer_setting.specs.declared.arming.Arm.TheVariants as arms
 use Rattle.std.proofs.lemmas.List.{append-nil}
 use Rattle.timer_objects.specs.Steps.{object_answer}
-use Rattle.lane_run.specs.Kept.{ObjectMove}
+use Rattle.lane_run.specs.Runs.{ObjectMove}
 use Rattle.run_history.specs.Receipts.{Noted}
 use Rattle.run_history.specs.Promises as promises
 use Rattle.std.proofs.Common.{length-append}

@@ -33,7 +33,8 @@ use Rattle.lane_notes.specs.PosixNotes.{posix_as_told}
 use Rattle.lane_notes.proofs.FdAgain.{FdAllows-told, fd_answer-told, fd_step-told}
 use Rattle.lane_notes.proofs.PosixAgain.{PosixAllows-told, posix_answer-told, posix_step-told}
 use Rattle.run_history.specs.Runs.{Ending}
-use Rattle.lane_run.specs.Kept.{AreObjectLines, FollowsObject, ObjectMove, ShowsObjectCall}
+use Rattle.lane_run.specs.Runs.{AreObjectLines, ObjectMove, ShowsObjectCall}
+use Rattle.lane_run.proofs.Kept.{FollowsObject}
 use Rattle.script_text.specs.declared.script.Kind.{Kind}
 use Rattle.timer_objects.specs.declared.object.Object.{Object}
 use Rattle.posix_timer.specs.declared.calls.Reply as posix_reply

@@ -25,7 +25,7 @@ use Rattle.run_history.specs.Runs.{Ending}
 use Rattle.lane_run.specs.Called.{LaneOf, with_done}
 use Rattle.std.specs.List.{AllByRecursion}
 use Rattle.std.proofs.lemmas.Option.{slice_get_within}
-use Rattle.lane_run.specs.Kept.{IsNextCall, IsSeen, list_of, EntryNotes, LookNotes, ObjectNotes, SkipNotes, WriteNotes, KeepsCall, log_of, SeesOn}
+use Rattle.lane_run.proofs.Kept.{IsNextCall, IsSeen, list_of, EntryNotes, LookNotes, ObjectNotes, SkipNotes, WriteNotes, KeepsCall, log_of, SeesOn}
 use Rattle.lane_run.specs.Worlds.{WorldOf}
 use Rattle.lane_run.proofs.CallKept.{FitsOn, logged_from, LooksAtClock, no_places, notes_of, notes_of-bear, places_added, promised_from, stand_from, with_done-joins}
 use Rattle.lane_run.proofs.Parts.{IsPart, object_place}

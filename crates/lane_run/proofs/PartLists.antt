@@ -6,11 +6,7 @@ use Rattle.script_text.specs.Actions.{Action, also, Entered, Looked, looked, Mad
 use Rattle.script_text.specs.Objects.{present}
 use Rattle.script_text.specs.Order.{NeverFall}
 use Rattle.lane_notes.proofs.Receipts.{present-append}
-use Rattle.lane_notes.specs.declared.notes.LookNote.{LookNote}
-use Rattle.lane_notes.specs.declared.notes.ObjectNote.{ObjectNote}
-use Rattle.lane_notes.specs.declared.notes.SkipNote.{SkipNote}
 use Rattle.run_history.specs.Receipts.{Rises}
-use Rattle.lane_run.specs.Kept.{looks_on, made_on, skips_on}
 use Rattle.record_text.proofs.Lists.{All-append}
 use Rattle.std.proofs.Common.{subst}
 use Rattle.std.specs.List.Sorted.{IsPermutation}
@@ -127,19 +123,6 @@ pub wrote-append : (ds es : List Action) → wrote ds ≡ [] → wrote es ≡ []
 wrote-append [] es one two = two
 wrote-append (Wrote number write ∷ ds) es one two = absurd (cc)
 wrote-append (d ∷ ds) es one two = wrote-append ds es one two
-
--- the looks in two lists of notes, the entries of an object, and the expiries that it refused
-pub looks_on-append : (t : ℕ) (xs ys : List LookNote) → looks_on t (xs ++ ys) ≡ looks_on t xs ++ looks_on t ys
-looks_on-append t [] ys = refl
-looks_on-append t (n ∷ xs) ys = also-append (nat_eq n.timer t) (n.number, n.reply) _ _ _ (looks_on-append t xs ys)
-
-pub made_on-append : (i : ℕ) (xs ys : List ObjectNote) → made_on i (xs ++ ys) ≡ made_on i xs ++ made_on i ys
-made_on-append i [] ys = refl
-made_on-append i (n ∷ xs) ys = also-append (nat_eq n.object i) (n.number, n.entry) _ _ _ (made_on-append i xs ys)
-
-pub skips_on-append : (i : ℕ) (xs ys : List SkipNote) → skips_on i (xs ++ ys) ≡ skips_on i xs ++ skips_on i ys
-skips_on-append i [] ys = refl
-skips_on-append i (n ∷ xs) ys = also-append (nat_eq n.object i) (n.number, n.generation) _ _ _ (skips_on-append i xs ys)
 
 -- the notes of two logs, of each kind
 pub notes-append : {R N : Type 0} (note : R → Option N) (xs ys : List R) → present (map note (xs ++ ys)) ≡ present (map note xs) ++ present (map note ys)

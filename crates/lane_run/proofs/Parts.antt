@@ -1,5 +1,5 @@
 -- Parts of a call, one behind the other: their actions, with their receipts and notes.
-use Rattle.std.proofs.Common.{Bool, ◌≡◌, ◌≤◌, ◌<◌, ℕ, ◌+◌, Some, List, [], ◌∷◌, ◌++◌, length, map, arith, refl, sym, ap, ◌∙◌, subst, None, length-append}
+use Rattle.std.proofs.Common.{Bool, nat_eq, ◌≡◌, ◌≤◌, ◌<◌, ℕ, ◌+◌, Some, List, [], ◌∷◌, ◌++◌, length, map, arith, refl, sym, ap, ◌∙◌, subst, None, length-append}
 use Rattle.std.specs.List.{AllByRecursion, slice_get}
 use Rattle.std.specs.List.Sorted.{IsPermutation}
 use Rattle.std.proofs.lemmas.List.{append_assoc, append-nil, map-append}
@@ -17,20 +17,22 @@ use Rattle.ktime.specs.Readings.{ClockReading}
 use Rattle.script_text.specs.Order.{NeverFall}
 use Rattle.lane_notes.specs.Entries.{entry_notes, look_notes}
 use Rattle.lane_notes.specs.Objects.{object_notes, skip_notes, object_entry_noted, skip_generation}
+use Rattle.lane_notes.specs.declared.notes.LookNote.{LookNote}
 use Rattle.lane_notes.specs.declared.notes.ObjectNote.{ObjectNote}
+use Rattle.lane_notes.specs.declared.notes.SkipNote.{SkipNote}
 use Rattle.run_history.specs.Receipts.{count, Noted, receipt}
 use Rattle.run_history.specs.Traces.{all_entered}
 use Rattle.run_history.proofs.Actions.{all_entered-append, made-append}
 use Rattle.run_history.proofs.Lists.{at_left, at_seam}
-use Rattle.lane_run.specs.Kept.{entry_in_note, looks_on, made_on, ObjectMove, ShowsObjectCall, skips_on}
+use Rattle.lane_run.specs.Runs.{ObjectMove, ShowsObjectCall}
+use Rattle.lane_run.proofs.Kept.{entry_in_note, looks_on, made_on, skips_on, begins_same, count_begins, FollowsObject}
 use Rattle.lane_run.proofs.Entering.{enters-append, enters_none, EntersNotes}
 use Rattle.pass_names.proofs.Passes.{begins_length, begins_trans}
-use Rattle.lane_run.proofs.SeenMore.{begins_same, count_begins}
 use Rattle.record_text.specs.declared.record.ObjectEntry.{ObjectEntry}
 use Rattle.lane_run.proofs.PartLists.{same_order, IsEntered, no_other}
 use Rattle.timer_objects.specs.declared.object.ObjectCall.{ObjectCall}
 use Rattle.timer_objects.specs.declared.object.ObjectReply.{ObjectReply}
-use Rattle.lane_run.proofs.PartLists.{each_joined, falls_on, looked-append, looks_on-append, made_on-append, numbers-append, one_falls, one_rises, rises_on, RisesTo, skipped-append, skips_on-append, wrote-append}
+use Rattle.lane_run.proofs.PartLists.{each_joined, falls_on, looked-append, numbers-append, one_falls, one_rises, rises_on, RisesTo, skipped-append, also-append, wrote-append}
 use Rattle.seq_timer.specs.declared.event.Event.{Event}
 use Rattle.seq_timer.specs.declared.observation.Observation.{Observation}
 use Rattle.hr_timers.specs.declared.numbers.ClaimNumbers.{ClaimNumbers}
@@ -53,8 +55,22 @@ use Rattle.run_history.specs.Promises as promises
 use Rattle.run_history.specs.Runs.{course_of, Ending, IsJoined}
 use Rattle.run_history.specs.Truths.{IsClaimSpan, IsObjectPoint}
 use Rattle.run_history.proofs.Expires.{ReplyHolds}
-use Rattle.lane_run.specs.Kept.{FollowsObject}
 use Rattle.lane_run.proofs.PartLists.{notes-append, rises_none}
+
+-- ---- lists of notes in two parts
+
+-- the looks in two lists of notes, the entries of an object, and the expiries that it refused
+pub looks_on-append : (t : ℕ) (xs ys : List LookNote) → looks_on t (xs ++ ys) ≡ looks_on t xs ++ looks_on t ys
+looks_on-append t [] ys = refl
+looks_on-append t (n ∷ xs) ys = also-append (nat_eq n.timer t) (n.number, n.reply) _ _ _ (looks_on-append t xs ys)
+
+pub made_on-append : (i : ℕ) (xs ys : List ObjectNote) → made_on i (xs ++ ys) ≡ made_on i xs ++ made_on i ys
+made_on-append i [] ys = refl
+made_on-append i (n ∷ xs) ys = also-append (nat_eq n.object i) (n.number, n.entry) _ _ _ (made_on-append i xs ys)
+
+pub skips_on-append : (i : ℕ) (xs ys : List SkipNote) → skips_on i (xs ++ ys) ≡ skips_on i xs ++ skips_on i ys
+skips_on-append i [] ys = refl
+skips_on-append i (n ∷ xs) ys = also-append (nat_eq n.object i) (n.number, n.generation) _ _ _ (skips_on-append i xs ys)
 
 -- ---- notes of objects
 

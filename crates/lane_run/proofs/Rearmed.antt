@@ -26,11 +26,10 @@ use Rattle.script_text.specs.Objects.{armed_in_phase}
 use Rattle.script_text.specs.declared.script.Call.{Call}
 use Rattle.script_text.specs.declared.script.Script.{Script}
 use Rattle.lane_run.specs.Called.{LaneOf}
-use Rattle.lane_run.specs.Kept.{IsNextCall}
+use Rattle.lane_run.proofs.Kept.{IsNextCall, begins_same}
 use Rattle.lane_run.specs.Worlds.{WorldOf}
 use Rattle.lane_run.proofs.Armed.{IsLike, IsRearmSpan, start_none, start_part, TimerPart}
 use Rattle.lane_run.proofs.Parts.{part_none}
-use Rattle.lane_run.proofs.SeenMore.{begins_same}
 
 -- it keeps the timer's clock, and its time isn't past the end of time
 abbrev pub IsTimely : Wanted → Type 0

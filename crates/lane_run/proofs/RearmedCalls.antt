@@ -43,7 +43,7 @@ use Rattle.lane_notes.specs.FdNotes.{read_noted}
 use Rattle.lane_notes.specs.PosixNotes.{accept_noted}
 use Rattle.run_history.proofs.ObjectsMade.{accept_made, gettime_made, read_made}
 use Rattle.lane_run.specs.Called.{accept_told, Called, caller_of, CallsObject, gettime_told, LaneOf, read_told}
-use Rattle.lane_run.specs.Kept.{IsNextCall, KeepsCall}
+use Rattle.lane_run.proofs.Kept.{IsNextCall, KeepsCall, Follows, seen_by}
 use Rattle.lane_run.specs.Worlds.{WorldOf}
 use Rattle.lane_run.proofs.Sights.{keeps_full, keeps_same}
 use Rattle.std.proofs.Common.{◌+◌, false, [], arith}
@@ -58,7 +58,6 @@ use Rattle.run_history.specs.Runs.{course_of, Ending, IsJoined, moves_spans}
 use Rattle.run_history.proofs.Kept.{IsKept}
 use Rattle.run_history.proofs.ObjectsMade.{IsRearmed, rearming_actions}
 use Rattle.run_history.proofs.OthersMade.{plain}
-use Rattle.lane_run.specs.Kept.{Follows, seen_by}
 use Rattle.pass_names.proofs.Passes.{begins_length}
 use Rattle.timer_objects.specs.Calls.{Caller}
 use Rattle.run_history.proofs.ObjectsMade.{rearming_actions}
@@ -74,7 +73,7 @@ use Rattle.script_text.specs.ObjectCalls.{Arms}
 use Rattle.record_text.specs.declared.record.ObjectEntry.{ObjectEntry}
 use Rattle.timer_objects.specs.declared.object.ObjectReply.{ObjectReply}
 use Rattle.lane_notes.specs.Objects.{object_entry_noted, skip_generation}
-use Rattle.lane_run.specs.Kept.{ShowsObjectCall}
+use Rattle.lane_run.specs.Runs.{ShowsObjectCall}
 use Rattle.std.proofs.Common.{None}
 use Rattle.record_text.specs.declared.record.ClockLine.{ClockLine}
 

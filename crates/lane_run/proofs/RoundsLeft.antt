@@ -12,7 +12,7 @@ use Rattle.script_text.specs.Scripts.{all_calls, IsInRange}
 use Rattle.script_text.specs.declared.script.LaneCall.{LaneCall}
 use Rattle.script_text.specs.declared.script.Round.{Round}
 use Rattle.script_text.specs.declared.script.Script.{Script}
-use Rattle.lane_run.specs.Kept.{seen_by}
+use Rattle.lane_run.proofs.Kept.{seen_by, more_split, no_less}
 use Rattle.lane_run.specs.Rounds.{BeginsRound, calling_from, has_calls, HasSplit, IsLaneOf, lane_calls, LeftOf, MakesLane, MakesRounds, none_left, TakesInLanes, TakesInPass, with_lane}
 use Rattle.lane_run.specs.Worlds.{AreFirst, IsWhole, IsWorldOf, WorldOf}
 use Rattle.lane_run.specs.declared.lane.Lane.{Lane}
@@ -23,7 +23,6 @@ use Rattle.lane_run.proofs.LaneKept.{KeepsEach, fits_lane_behind}
 use Rattle.lane_run.proofs.LaneRound.{IsKeptOf, kept_later, kept_pushed, LaneSoFar, leaves_round, MakesInRound}
 use Rattle.lane_run.proofs.LanesTaken.{AreLeftSoFar, left_taken, put, put_at}
 use Rattle.lane_run.proofs.NotesJoined.{are_later, none_noted}
-use Rattle.lane_run.proofs.SeenMore.{more_split, no_less}
 use Rattle.lane_run.proofs.Tallies.{tallies_split, tallies_none}
 use Rattle.run_history.specs.Runs.{course_of}
 use Rattle.script_text.specs.Actions.{also}

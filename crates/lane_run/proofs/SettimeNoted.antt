@@ -27,7 +27,7 @@ use Rattle.run_history.proofs.ObjectsMade.{RefusedBy}
 use Rattle.lane_run.specs.Called.{settime_told}
 use Rattle.lane_run.proofs.Parts.{IsNotedAs, noted_at}
 use Rattle.lane_notes.specs.Objects.{object_entry_noted, skip_generation}
-use Rattle.lane_run.specs.Kept.{ShowsObjectCall}
+use Rattle.lane_run.specs.Runs.{ShowsObjectCall}
 use Rattle.record_text.specs.declared.record.ClockLine.{ClockLine}
 use Rattle.timer_objects.specs.declared.object.Kind.{Kind}
 use Rattle.timer_objects.specs.declared.object.Kind.TheVariants as over

@@ -23,12 +23,12 @@ use Rattle.lane_run.proofs.Declared.{declared_over, over_of}
 use Rattle.script_text.specs.declared.script.Call.{Call}
 use Rattle.script_text.specs.declared.script.Script.{Script}
 use Rattle.lane_run.specs.Called.{LaneOf}
-use Rattle.lane_run.specs.Kept.{IsNextCall}
+use Rattle.lane_run.proofs.Kept.{IsNextCall}
 use Rattle.lane_run.specs.Worlds.{WorldOf}
 use Rattle.std.proofs.Common.{◌∙◌, length}
 use Rattle.script_text.specs.Told.{IsArmedLike}
 use Rattle.timer_objects.specs.Calls.{BearsStart}
-use Rattle.lane_run.specs.Kept.{ObjectMove}
+use Rattle.lane_run.specs.Runs.{ObjectMove}
 use Rattle.timer_setting.specs.declared.arming.Arm.TheVariants as arms
 use Rattle.timer_objects.proofs.Counting.{state_is}
 use Rattle.timer_objects.specs.declared.cell.ObjectCell.{ObjectCell}

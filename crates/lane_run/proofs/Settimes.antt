@@ -26,7 +26,7 @@ use Rattle.lane_notes.specs.Arms.{arm_noted}
 use Rattle.run_history.specs.Runs.{course_of, Ending, IsJoined}
 use Rattle.run_history.proofs.ObjectsMade.{FoundIdle, IsSet, settime_made}
 use Rattle.lane_run.specs.Called.{Called, caller_of, CallsObject, LaneOf, Reads, settime_told, with_done}
-use Rattle.lane_run.specs.Kept.{Follows, IsNextCall, KeepsCall}
+use Rattle.lane_run.proofs.Kept.{Follows, IsNextCall, KeepsCall, begins_same}
 use Rattle.lane_run.specs.Worlds.{WorldOf}
 use Rattle.lane_run.proofs.CallKept.{clock_read}
 use Rattle.pass_names.proofs.Passes.{begins_length}
@@ -35,7 +35,6 @@ use Rattle.lane_run.proofs.Sights.{keeps_full, keeps_same}
 use Rattle.timer_objects.specs.Steps.{ObjectAllows}
 use Rattle.timer_objects.specs.Arming.{receipts_of}
 use Rattle.hr_timers.specs.Calls.{cancel_entries}
-use Rattle.lane_run.proofs.SeenMore.{begins_same}
 use Rattle.lane_run.proofs.Armed.{disarmed_part, places_inside, settime_start, TimerPart, TimersPart}
 use Rattle.lane_run.proofs.ObjectMade.{keeps_made, outcome_is, start_is, timer_found, whole_span}
 use Rattle.lane_run.proofs.SettimeNoted.{settime_noted, SettimeNoted}

@@ -22,10 +22,9 @@ use Rattle.run_history.specs.Truths.{IsObjectPoint, IsSeen, SawFull}
 use Rattle.run_history.proofs.OthersMade.{plain, quiet_made}
 use Rattle.run_history.proofs.Promise.{object_point_from}
 use Rattle.lane_run.specs.Called.{caller_of, LaneOf, with_done}
-use Rattle.lane_run.specs.Kept.{Follows, IsNextCall, KeepsCall, log_of}
+use Rattle.lane_run.proofs.Kept.{Follows, IsNextCall, KeepsCall, log_of, begins_same, entry_in_note}
 use Rattle.lane_run.specs.Worlds.{WorldOf}
 use Rattle.pass_names.proofs.Passes.{begins_length}
-use Rattle.lane_run.proofs.SeenMore.{begins_same}
 use Rattle.lane_run.proofs.CallKept.{clock_left, FitsOn, LooksAtClock, same_objects, unstamped, with_done-joins}
 use Rattle.lane_run.proofs.PartLists.{no_notes-joins}
 use Rattle.lane_run.proofs.PartKept.{keeps_part}
@@ -53,7 +52,6 @@ use Rattle.run_history.specs.Truths.{Saw}
 use Rattle.run_history.proofs.PassState.{saw_from, state_seen, timer_seen}
 use Rattle.run_history.proofs.Promise.{seen_first}
 use Rattle.lane_run.specs.Called.{CallsPeek}
-use Rattle.lane_run.specs.Kept.{entry_in_note}
 use Rattle.lane_run.specs.declared.world.WorldPass.{WorldPass}
 use Rattle.lane_run.proofs.Entering.{EntersNotes, looks_made}
 use Rattle.lane_run.proofs.CallKept.{clock_left, FitsOn, LooksAtClock, same_objects, unstamped, with_done-joins}

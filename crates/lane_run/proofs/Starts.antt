@@ -22,7 +22,7 @@ use Rattle.lane_notes.specs.Entries.{entry_notes, look_notes}
 use Rattle.run_history.specs.Traces.{all_entered}
 use Rattle.run_history.proofs.Known.{numbered}
 use Rattle.lane_run.specs.Called.{start_receipts, start_told}
-use Rattle.lane_run.specs.Kept.{entry_in_note}
+use Rattle.lane_run.proofs.Kept.{entry_in_note}
 use Rattle.lane_run.proofs.Entering.{HasReading, lines_along}
 use Rattle.lane_run.proofs.PartLists.{IsEntered}
 

@@ -10,7 +10,7 @@ use Rattle.pass_names.specs.Passes.{is_place}
 use Rattle.pass_names.proofs.Counts.{total-append}
 use Rattle.lane_run.specs.Rounds.{HasSplit, TakesInPass}
 use Rattle.lane_run.specs.declared.world.WorldPass.{WorldPass}
-use Rattle.lane_run.specs.Kept.{Tallies, AddsPlaces}
+use Rattle.lane_run.proofs.Kept.{Tallies, AddsPlaces}
 
 -- the places of two passes together
 mine_both : (test : ℕ × ℕ → Bool) (xs ys : List (ℕ × ℕ)) {zs : List (ℕ × ℕ)} → zs ≡ xs ++ ys → count test zs ≡ count test xs + count test ys

@@ -28,7 +28,7 @@ use Rattle.run_history.specs.Courses.{clocks_of}
 use Rattle.run_history.specs.Receipts.{receipt}
 use Rattle.run_history.proofs.OthersMade.{cancelled_made, plain, started_made}
 use Rattle.lane_run.specs.Called.{CallsCancel, CallsStart, cancel_receipts, cancel_told, LaneOf, Reads, start_receipts, start_told, with_done}
-use Rattle.lane_run.specs.Kept.{IsNextCall, KeepsCall}
+use Rattle.lane_run.proofs.Kept.{IsNextCall, KeepsCall}
 use Rattle.lane_run.specs.Worlds.{WorldOf}
 use Rattle.lane_run.proofs.Entering.{enters_along}
 use Rattle.lane_run.proofs.CallKept.{clock_left, clock_read, reading_goes_on, opened_timers}

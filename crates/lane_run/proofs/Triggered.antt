@@ -35,12 +35,12 @@ use Rattle.lane_notes.specs.Objects.{object_entry_noted, object_notes, skip_gene
 use Rattle.run_history.specs.Calls.{IsBody, IsTrigger}
 use Rattle.run_history.specs.Courses.{Fired}
 use Rattle.run_history.proofs.Lists.{at_seam}
-use Rattle.lane_run.specs.Kept.{made_on, ObjectMove, skips_on}
+use Rattle.lane_run.specs.Runs.{ObjectMove}
+use Rattle.lane_run.proofs.Kept.{made_on, skips_on, begins_same}
 use Rattle.lane_run.proofs.ObjectSeen.{span_made}
 use Rattle.timer_objects.specs.Firings.{Firing}
 use Rattle.lane_run.proofs.Entering.{enters_none, EntersNotes}
 use Rattle.lane_run.proofs.PartLists.{one_falls, rises_none}
-use Rattle.lane_run.proofs.SeenMore.{begins_same}
 use Rattle.lane_run.proofs.Parts.{BodyKept, fired_of, HasRead, IsClaimed, IsNotedAs, IsObjectsPart, noted_at, objects_grow, part_claimed, part_made, part_of_objects}
 
 -- ---- the note of a trigger

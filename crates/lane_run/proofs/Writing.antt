@@ -26,11 +26,10 @@ use Rattle.run_history.proofs.Lists.{at_seam}
 use Rattle.run_history.proofs.OthersMade.{plain, wrote_made}
 use Rattle.lane_run.specs.Called.{CallsWrite, LaneOf, line_of_write, with_write_told, write_told}
 use Rattle.std.specs.List.{AllByRecursion}
-use Rattle.lane_run.specs.Kept.{IsSeen, label_of, list_of, EntryNotes, LookNotes, ObjectNotes, SkipNotes, WriteNotes, IsNextCall, KeepsCall, log_of, seen_by, SeesOn}
+use Rattle.lane_run.proofs.Kept.{IsSeen, label_of, list_of, EntryNotes, LookNotes, ObjectNotes, SkipNotes, WriteNotes, IsNextCall, KeepsCall, log_of, seen_by, SeesOn, begins_same}
 use Rattle.lane_run.specs.Worlds.{WorldOf}
 use Rattle.lane_run.proofs.Entering.{enters_none}
 use Rattle.pass_names.proofs.Passes.{begins_length}
-use Rattle.lane_run.proofs.SeenMore.{begins_same}
 use Rattle.lane_run.proofs.CallKept.{clock_read, no_places, promised_from, same_objects, stand_from, take_whole, reading_of_seen}
 use Rattle.lane_run.proofs.PartLists.{same_order}
 use Rattle.lane_run.proofs.Sights.{keeps_quiet, no_object_steps}

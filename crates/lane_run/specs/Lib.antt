@@ -3,5 +3,3 @@ pub mod Expiries
 pub mod Called
 pub mod Rounds
 pub mod Runs
-pub mod Kept
-pub mod Left

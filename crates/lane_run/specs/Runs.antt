@@ -1,5 +1,5 @@
 -- A whole run: the rounds of a script from its first passes on, and the record of what all lanes have left, which shows all that the last passes have seen.
-use Rattle.std.specs.Prelude.{ℕ, ◌≡◌, length, map}
+use Rattle.std.specs.Prelude.{ℕ, ◌≡◌, length, map, ◌+◌, Some, List, [], ◌∷◌}
 use Rattle.clock_cell.specs.Views.{writes}
 use Rattle.record_text.specs.declared.record.RunRecord.{RunRecord}
 use Rattle.script_text.specs.declared.script.Script.{Script}
@@ -10,10 +10,22 @@ use Rattle.script_text.specs.Histories.{history_of}
 use Rattle.script_text.specs.Objects.{lines_of_object}
 use Rattle.seq_timer.specs.Systems.{entries_of}
 use Rattle.timer_objects.specs.Known.{seen_of}
-use Rattle.lane_run.specs.Kept.{AreObjectLines}
 use Rattle.lane_run.specs.Rounds.{LeftOf, MakesRounds, none_left}
 use Rattle.lane_run.specs.Worlds.{WorldOf}
 use Rattle.lane_run.specs.declared.world.WorldPass.{WorldPass}
+use Rattle.counted_row.specs.declared.view.Entry.{Entry}
+use Rattle.lane_notes.specs.FdNotes.{fd_as_told}
+use Rattle.lane_notes.specs.PosixNotes.{posix_as_told}
+use Rattle.record_text.specs.declared.record.ClockLine.{ClockLine}
+use Rattle.record_text.specs.declared.record.ObjectEntry.{ObjectEntry}
+use Rattle.record_text.specs.declared.record.ObjectLine.{ObjectLine}
+use Rattle.script_text.specs.FdHistories.{fd_entry}
+use Rattle.script_text.specs.PosixHistories.{posix_entry}
+use Rattle.timer_objects.specs.declared.cell.SpannedCall.{SpannedCall}
+use Rattle.timer_objects.specs.declared.object.ObjectCall.TheVariants as of_kind
+use Rattle.timer_objects.specs.declared.object.ObjectCall.{ObjectCall}
+use Rattle.timer_objects.specs.declared.object.ObjectReply.TheVariants as replies
+use Rattle.timer_objects.specs.declared.object.ObjectReply.{ObjectReply}
 
 -- the rounds were made in turn, and the record shows the notes and answers that they left, the notes in order
 pub record MakesRun (x : WorldOf) (s : Script) (p : WorldPass) (r : RunRecord) (q : WorldPass) : Type 0 where
@@ -22,6 +34,26 @@ pub record MakesRun (x : WorldOf) (s : Script) (p : WorldPass) (r : RunRecord) (
   pub sorted : NotesOf
   pub in_order : IsSortedFrom left.notes sorted
   pub shows : r ≡ record_from sorted (length s.timers) left.answers
+
+-- ---- what it shows
+
+-- an entry of an object, with its span
+abbrev pub ObjectMove : Type 0
+ObjectMove = Entry SpannedCall ObjectReply
+
+-- an entry of an object as the record's line has it, by the readings that the line's stamps name; of a start that was refused the line may have no stamp
+abbrev pub ShowsObjectCall : List ClockLine → ObjectCall → ObjectReply → ObjectEntry → Type 0
+ShowsObjectCall clock (of_kind.Posix call) (replies.Posix reply) e = posix_entry clock e ≡ Some (record { call = posix_as_told call; reply = reply })
+ShowsObjectCall clock (of_kind.Fd call) (replies.Fd reply) e = fd_entry clock e ≡ Some (record { call = fd_as_told call; reply = reply })
+ShowsObjectCall clock call reply e = ⊥
+
+-- an object's lines, from a number of entry on, show these entries, and the run has their spans
+abbrev pub AreObjectLines : List ClockLine → (ℕ → ℕ × ℕ) → ℕ → List ObjectMove → List ObjectLine → Type 0
+AreObjectLines clock spans number [] [] = Unit
+AreObjectLines clock spans number (h ∷ hs) (line ∷ lines) =
+    ShowsObjectCall clock h.call.call h.reply line.entry × (spans number ≡ (h.call.from, h.call.to)) × AreObjectLines clock spans (number + 1) hs lines
+AreObjectLines clock spans number [] (line ∷ lines) = ⊥
+AreObjectLines clock spans number (h ∷ hs) [] = ⊥
 
 -- The record's histories are the whole of what these passes have seen: the clock's writes, each timer's entries, and each object's with their spans.
 pub record ShowsAllSeen (r : RunRecord) (q : WorldPass) : Type 0 where

@@ -1,59 +1,54 @@
 -- What a lane keeps of one call, of each kind the same: its log, the notes that it added, and the promise that the call fits in every run that goes on
--- from what the lane's passes have seen.
+-- from what the lane's passes have seen. And what is carried to passes that have seen more.
 use Rattle.std.specs.List.{AllByRecursion, slice_get}
 use Rattle.std.specs.List.Sorted.{IsPermutation}
-use Rattle.std.specs.Prelude.{ℕ, ◌≡◌, ◌≤◌, ◌<◌, ◌+◌, nat_eq, Some, List, [], ◌∷◌, length, map, take}
+use Rattle.std.proofs.Common.{ℕ, ◌≡◌, ◌≤◌, ◌<◌, ◌+◌, nat_eq, Some, List, [], ◌∷◌, length, map, take, arith, refl, sym, ap, ◌∙◌, subst, ◌++◌, filter}
 use Rattle.clock_cell.specs.Views.{reading_after, writes}
 use Rattle.clock_model.specs.Clocks.{last_stamp}
 use Rattle.counted_row.specs.declared.view.Entry.{Entry}
-use Rattle.lane_notes.specs.FdNotes.{fd_as_told}
 use Rattle.lane_notes.specs.Notes.{NotesOf, both_noted}
-use Rattle.lane_notes.specs.PosixNotes.{posix_as_told}
 use Rattle.lane_notes.specs.declared.notes.EntryNote.{EntryNote}
 use Rattle.lane_notes.specs.declared.notes.LookNote.{LookNote}
 use Rattle.lane_notes.specs.declared.notes.ObjectNote.{ObjectNote}
 use Rattle.lane_notes.specs.declared.notes.SkipNote.{SkipNote}
 use Rattle.lane_notes.specs.declared.notes.WriteNote.{WriteNote}
 use Rattle.pass_names.specs.Counts.{count}
-use Rattle.pass_names.specs.Passes.{Begins, GoesOn, is_place}
+use Rattle.pass_names.specs.Passes.{Begins, GoesOn, is_place, entries}
 use Rattle.record_text.specs.declared.record.Answer.{Answer}
 use Rattle.record_text.specs.declared.record.CallbackReply.{CallbackReply}
-use Rattle.record_text.specs.declared.record.ClockLine.{ClockLine}
 use Rattle.record_text.specs.declared.record.Entry as entry
 use Rattle.record_text.specs.declared.record.Label.{Label}
 use Rattle.record_text.specs.declared.record.ObjectEntry.{ObjectEntry}
-use Rattle.record_text.specs.declared.record.ObjectLine.{ObjectLine}
 use Rattle.run_history.specs.Courses.{Trace}
 use Rattle.run_history.specs.Fits.{Seen}
 use Rattle.run_history.specs.Promises as promises
-use Rattle.run_history.specs.Promises.{GoesOnClock, IsLogged, IsPromised}
+use Rattle.run_history.specs.Promises.{GoesOnClock, IsPromised}
 use Rattle.run_history.specs.Receipts as receipts
 use Rattle.run_history.specs.Receipts.{IsMade, Noted, receipt, Rises, ShowsEntry}
 use Rattle.run_history.specs.Runs.{CallLog, Ending}
 use Rattle.script_text.specs.Actions.{Action, also, looked, made, skipped, wrote}
-use Rattle.script_text.specs.FdHistories.{fd_entry}
 use Rattle.script_text.specs.Histories.{ShowsReading}
 use Rattle.script_text.specs.Objects.{lines_of_object}
-use Rattle.script_text.specs.Order.{CallInRound, calls_of}
-use Rattle.script_text.specs.PosixHistories.{posix_entry}
+use Rattle.script_text.specs.Order.{CallInRound, calls_of, is_label}
 use Rattle.script_text.specs.Scripts.{IsInRange}
 use Rattle.script_text.specs.declared.script.Call.{Call}
 use Rattle.script_text.specs.declared.script.Script.{Script}
 use Rattle.timer_objects.specs.Known.{row_of, seen_of}
-use Rattle.timer_objects.specs.declared.cell.SpannedCall.{SpannedCall}
-use Rattle.timer_objects.specs.declared.object.ObjectCall.TheVariants as of_kind
-use Rattle.timer_objects.specs.declared.object.ObjectCall.{ObjectCall}
-use Rattle.timer_objects.specs.declared.object.ObjectReply.TheVariants as replies
-use Rattle.timer_objects.specs.declared.object.ObjectReply.{ObjectReply}
 use Rattle.lane_run.specs.Called.{LaneOf}
 use Rattle.lane_run.specs.Worlds.{IsWhole, IsWorldOf, WorldOf}
 use Rattle.lane_run.specs.declared.world.WorldPass.{WorldPass}
+use Rattle.std.proofs.lemmas.List.{take-append-le, append-nil, append_assoc}
+use Rattle.std.proofs.lemmas.Option.{slice_get_within}
+use Rattle.run_history.proofs.Known.{made_goes_on}
+use Rattle.run_history.proofs.Lists.{at_left}
+use Rattle.lane_run.specs.Rounds.{BeginsRound, HasSplit, LeftOf, TakesInPass}
+use Rattle.lane_run.specs.declared.lane.Lane.{Lane}
+use Rattle.pass_names.proofs.Passes.{begins_length, begins_trans}
+use Rattle.seq_timer.specs.declared.system.TimerEntry.{TimerEntry}
+use Rattle.base_row.proofs.Begun.{entries_of-begins}
+use Rattle.lane_run.specs.Runs.{AreObjectLines, ObjectMove, ShowsObjectCall}
 
 -- ---- what passes have seen
-
--- an entry of an object, with its span
-abbrev pub ObjectMove : Type 0
-ObjectMove = Entry SpannedCall ObjectReply
 
 -- how much a lane's passes have seen of each list
 abbrev pub seen_by : WorldPass → Seen
@@ -77,20 +72,6 @@ log_of p q notes trace = record {
 }
 
 -- ---- the runs in which a lane may still end
-
--- an entry of an object as the record's line has it, by the readings that the line's stamps name; of a start that was refused the line may have no stamp
-abbrev pub ShowsObjectCall : List ClockLine → ObjectCall → ObjectReply → ObjectEntry → Type 0
-ShowsObjectCall clock (of_kind.Posix call) (replies.Posix reply) e = posix_entry clock e ≡ Some (record { call = posix_as_told call; reply = reply })
-ShowsObjectCall clock (of_kind.Fd call) (replies.Fd reply) e = fd_entry clock e ≡ Some (record { call = fd_as_told call; reply = reply })
-ShowsObjectCall clock call reply e = ⊥
-
--- an object's lines, from a number of entry on, show these entries, and the run has their spans
-abbrev pub AreObjectLines : List ClockLine → (ℕ → ℕ × ℕ) → ℕ → List ObjectMove → List ObjectLine → Type 0
-AreObjectLines clock spans number [] [] = Unit
-AreObjectLines clock spans number (h ∷ hs) (line ∷ lines) =
-    ShowsObjectCall clock h.call.call h.reply line.entry × (spans number ≡ (h.call.from, h.call.to)) × AreObjectLines clock spans (number + 1) hs lines
-AreObjectLines clock spans number [] (line ∷ lines) = ⊥
-AreObjectLines clock spans number (h ∷ hs) [] = ⊥
 
 -- the run goes on from what a pass has seen of an object: the object's whole history begins with it, and the record shows that
 pub record FollowsObject (e : Ending) (i : ℕ) (seen : List ObjectMove) : Type 0 where
@@ -135,6 +116,16 @@ label_of LookNotes n = n.label
 label_of ObjectNotes n = n.label
 label_of SkipNotes n = n.label
 label_of WriteNotes n = n.line.label
+
+-- the notes of one call among those of all
+abbrev pub own_notes : Label → NotesOf → NotesOf
+own_notes c notes = record {
+  entries = filter (λ n. is_label c n.label) notes.entries;
+  looks = filter (λ n. is_label c n.label) notes.looks;
+  objects = filter (λ n. is_label c n.label) notes.objects;
+  skips = filter (λ n. is_label c n.label) notes.skips;
+  writes = filter (λ n. is_label c n.line.label) notes.writes;
+}
 
 -- what a note of an entry says but for its label
 abbrev pub entry_in_note : EntryNote → ℕ × (ℕ × entry.Entry)
@@ -261,3 +252,122 @@ pub record IsNoLess (before after : Seen) : Type 0 where
   pub clock : before.clock ≤ after.clock
   pub moves : before.moves ≤ after.moves
   pub objects : (i : ℕ) → before.objects i ≤ after.objects i
+
+-- ---- passes that have seen more than others
+
+-- law: a run that goes on from what was seen goes on from what was seen before
+pub goes_before : {A : Type 0} {xs ys all : List A} → Begins xs ys → (later : List A) × (all ≡ ys ++ later) → (later : List A) × (all ≡ xs ++ later)
+goes_before {xs = xs} begins on = (begins.rest ++ on.0, on.1 ∙ ap (λ zs. zs ++ on.0) begins.whole ∙ append_assoc xs begins.rest on.0)
+
+-- a timer has no fewer entries where more was seen
+pub count_begins : (t : ℕ) {xs ys : List TimerEntry} → Begins xs ys → receipts.count t xs ≤ receipts.count t ys
+count_begins t {xs} {ys} begins = begins_length (entries_of-begins t xs ys begins)
+
+-- an equal list begins with it
+pub begins_same : {A : Type 0} {xs ys : List A} → ys ≡ xs → Begins xs ys
+begins_same {xs = xs} same = record { rest = []; whole = same ∙ sym (append-nil xs) }
+
+-- an item of a list stands in each that begins with it
+pub stands_on : {X : Type 0} {xs ys : List X} (i : ℕ) {x : X} → Begins xs ys → slice_get xs i ≡ Some x → slice_get ys i ≡ Some x
+stands_on {xs = xs} i {x} begins at = ap (λ zs. slice_get zs i) begins.whole ∙ at_left xs begins.rest i x at
+
+-- of each list what was seen goes on
+pub record SeesMore (p q : WorldPass) : Type 0 where
+  pub timers : Begins p.timers.known.seen q.timers.known.seen
+  pub clock : Begins (writes p.clock.knows) (writes q.clock.knows)
+  pub objects : (i : ℕ) → Begins (seen_of p.objects i) (seen_of q.objects i)
+
+-- ---- which have seen more
+
+-- where they have seen the same
+more_equal : {p q : WorldPass} → q.timers.known.seen ≡ p.timers.known.seen → q.objects.knows.pass.seen ≡ p.objects.knows.pass.seen
+    → q.clock.knows.pass.seen ≡ p.clock.knows.pass.seen → SeesMore p q
+more_equal timers objects clock = record {
+  timers = begins_same timers;
+  clock = begins_same (ap (λ seen. entries 0 seen) clock);
+  objects = λ i. begins_same (ap (λ seen. entries i seen) objects);
+}
+
+-- the same passes
+pub more_same : {p : WorldPass} → SeesMore p p
+more_same = more_equal refl refl refl
+
+-- twice more
+pub more_trans : {p q r : WorldPass} → SeesMore p q → SeesMore q r → SeesMore p r
+more_trans one two = record {
+  timers = begins_trans one.timers two.timers;
+  clock = begins_trans one.clock two.clock;
+  objects = λ i. begins_trans (one.objects i) (two.objects i);
+}
+
+-- a lane's passes after a call
+pub more_called : {p q : WorldPass} → SeesOn p q → SeesMore p q
+more_called sees = record { timers = sees.timers; clock = sees.clock; objects = λ i. sees.objects.each i }
+
+-- passes that others were split off
+pub more_split : {p q : WorldPass} → HasSplit p q → SeesMore p q
+more_split split = more_equal split.timers split.objects split.clock
+
+-- a lane's passes at the begin of a round
+pub more_begun : {p : WorldPass} {left : LeftOf} {lane : Lane} → BeginsRound p left lane → SeesMore p lane.pass
+more_begun begins = more_equal begins.timers begins.objects begins.clock
+
+-- law: passes that have taken in others have seen more than before
+pub more_taken : {p other q : WorldPass} → TakesInPass p other q → SeesMore p q
+more_taken takes = record { timers = takes.timers.seen; clock = takes.clock.seen.each 0; objects = λ i. takes.objects.seen.each i }
+
+-- and than those have that they took in
+pub more_heard : {p other q : WorldPass} → TakesInPass p other q → SeesMore other q
+more_heard takes = record { timers = takes.timers.heard; clock = takes.clock.heard.each 0; objects = λ i. takes.objects.heard.each i }
+
+-- ---- what follows of it
+
+-- law: so they have seen no less
+pub no_less : {p q : WorldPass} → SeesMore p q → IsNoLess (seen_by p) (seen_by q)
+no_less more = record { clock = begins_length more.clock; moves = begins_length more.timers; objects = λ i. begins_length (more.objects i) }
+
+-- law: a run that goes on from what the ones have seen goes on from what the others have
+pub follows_less : {p q : WorldPass} {e : Ending} → SeesMore p q → Follows q e → Follows p e
+follows_less more follows = record {
+  few = follows.few;
+  timers = goes_before more.timers follows.timers;
+  clock = goes_before more.clock follows.clock;
+  objects = λ i. let its = follows.objects i in
+      record { history = its.history; goes_on = begins_trans (more.objects i) its.goes_on; lines = its.lines };
+}
+
+-- ---- what stands in what was seen
+
+-- law: a call's receipts
+pub stand_later : {p q : WorldPass} {log : CallLog} → SeesMore p q → StandAt p log → StandAt q log
+stand_later {log = log} more stand = record {
+  rise = stand.rise;
+  below = stand.below;
+  made = (made_goes_on _ _ more.timers.rest log.moves.0 log.moves.1 log.notes more.timers.whole
+      (record { rise = stand.rise; below = stand.below; made = stand.made })).made;
+  shows = λ e follows. stand.shows e (follows_less more follows);
+}
+
+-- law: what a note is of
+pub seen_later : (k : NoteKind) {p q : WorldPass} (log : CallLog) (n : NoteOf k) → SeesMore p q → IsSeen k p log n → IsSeen k q log n
+seen_later EntryNotes log n more is = tt
+seen_later LookNotes log n more is = record { some = is.some; seen = omega (arith, is.seen, count_begins n.timer more.timers) }
+seen_later ObjectNotes log n more is = record {
+  before = is.before;
+  number = is.number;
+  inside = is.inside;
+  step = is.step;
+  there = stands_on is.before (more.objects n.object) is.there;
+  shows = λ e on. is.shows e (goes_before more.clock on);
+}
+seen_later SkipNotes log n more is = record { some = is.some; seen = omega (arith, is.seen, begins_length (more.objects n.object)) }
+seen_later WriteNotes {p = p} {q = q} log n more is =
+    let inside = slice_get_within (writes p.clock.knows) is.before n.line.write is.there in
+    let same : take n.stamp (writes q.clock.knows) ≡ take n.stamp (writes p.clock.knows) =
+    ap (take n.stamp) more.clock.whole ∙ take-append-le n.stamp (writes p.clock.knows) more.clock.rest (omega (arith, inside, is.number)) in record {
+      before = is.before;
+      number = is.number;
+      inside = is.inside;
+      there = stands_on is.before more.clock is.there;
+      shows = subst (λ ws. ShowsReading n.line (reading_after ws)) (sym same) is.shows;
+    }

@@ -1,6 +1,6 @@
 -- What all lanes leave together at the end of a run: of each call what its lane kept, all notes, and what the last passes have seen.
 use Rattle.std.specs.List.{AllByRecursion, slice_get}
-use Rattle.std.specs.Prelude.{ℕ, ◌≡◌, ◌≤◌, ◌<◌, ◌-◌, Option, None, Some, List, [], filter, get_or, length}
+use Rattle.std.specs.Prelude.{ℕ, ◌≡◌, ◌≤◌, ◌<◌, ◌-◌, Option, None, Some, List, get_or, length}
 use Rattle.clock_cell.specs.Views.{writes}
 use Rattle.clock_model.specs.Clocks.{last_stamp}
 use Rattle.lane_notes.specs.Notes.{NotesOf}
@@ -10,26 +10,17 @@ use Rattle.run_history.specs.Promises.{HasLog}
 use Rattle.run_history.specs.Runs.{CallLog, Ending, IsJoined, Starts, course_of, clock_spans, moves_spans, object_spans}
 use Rattle.run_history.specs.Rounds.{IsLedger}
 use Rattle.run_history.specs.Fits.{FitsLane, unseen}
-use Rattle.script_text.specs.Order.{calls_of, IsLabel, is_label}
+use Rattle.script_text.specs.Order.{calls_of, IsLabel}
 use Rattle.script_text.specs.Scripts.{IsInRange}
 use Rattle.script_text.specs.declared.script.Script.{Script}
 use Rattle.record_text.specs.declared.record.Answer.{Answer}
 use Rattle.timer_objects.specs.Known.{seen_of}
-use Rattle.lane_run.specs.Kept.{Follows, IsSeen, NoteKind, ObjectMove, StandAt, Tallies, TellLog, label_of, list_of}
+use Rattle.lane_run.specs.Runs.{ObjectMove}
+use Rattle.lane_run.proofs.Kept.{Follows, IsSeen, NoteKind, StandAt, Tallies, TellLog, label_of, list_of, own_notes}
 use Rattle.lane_run.specs.Worlds.{AreLast, ArePassesOf, IsWhole, IsWorldOf, WorldOf}
 use Rattle.lane_run.specs.declared.world.WorldPass.{WorldPass}
 
 -- ---- what is left
-
--- the notes of one call among those of all
-abbrev pub own_notes : Label → NotesOf → NotesOf
-own_notes c notes = record {
-  entries = filter (λ n. is_label c n.label) notes.entries;
-  looks = filter (λ n. is_label c n.label) notes.looks;
-  objects = filter (λ n. is_label c n.label) notes.objects;
-  skips = filter (λ n. is_label c n.label) notes.skips;
-  writes = filter (λ n. is_label c n.line.label) notes.writes;
-}
 
 -- All notes with what lanes kept of their calls: each note is of a call of the script and of something that the last passes have seen, and the places
 -- that these passes have made are those of the notes.
