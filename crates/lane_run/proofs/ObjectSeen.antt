@@ -1,7 +1,5 @@
 -- An object as a pass has seen it is the record's, in every run that goes on from there.
 use Rattle.std.proofs.Common.{◌≡◌, ℕ, true, is_some, Option, ◌+◌, zero, suc, Some, List, [], ◌∷◌, ◌++◌, length, map, take, get_or, refl, sym, ap, ◌∙◌, subst}
-use mathlib.Core.Option.{some, some-injective, some-ne-none}
-use lib.ListN.{get_elem?}
 use Rattle.counted_row.specs.Meaning.{Leads}
 use Rattle.counted_row.specs.Views.{StateAfter}
 use Rattle.posix_timer.specs.States.{posix_opening, PosixTimer}
@@ -14,7 +12,7 @@ use Rattle.timer_setting.specs.StepTables.{after_calls, AnsweredCall, AreCalls, 
 use Rattle.timer_objects.specs.Cells.{cell_meaning, opened_cell, opened_cells}
 use Rattle.timer_objects.specs.Steps.{object_answer, object_step, ObjectAllows}
 use Rattle.timer_objects.specs.declared.cell.ObjectCell.{ObjectCell}
-use Rattle.timer_objects.specs.declared.object.Decl.{Decl}
+use Rattle.timer_objects.proofs.Counting.{opened_at}
 use Rattle.timer_objects.specs.declared.object.Object.TheVariants as objects
 use Rattle.timer_objects.specs.declared.object.ObjectCall.TheVariants as of_kind
 use Rattle.timer_objects.specs.declared.object.ObjectCall.{ObjectCall}
@@ -148,13 +146,6 @@ abbrev pub object_after : Script → RunRecord → ℕ → ℕ → Kind → Obje
 object_after s r i n (kinds.Raw callback) = objects.Raw
 object_after s r i n (kinds.Posix base) = objects.Posix (posix_after s r i base n)
 object_after s r i n (kinds.Fd base) = objects.Fd (fd_after s r i base n)
-
--- law: an object that was just made is that of its declaration
-opened_at : (limit : ℕ) (ds : List Decl) (i : ℕ) (c : ObjectCell) (d : Decl) → get_elem? (map (opened_cell limit) ds) i ≡ some c
-    → c ≡ opened_cell limit (get_or ds i d)
-opened_at limit [] i c d e = absurd (some-ne-none c (sym e))
-opened_at limit (y ∷ ys) zero c d e = some-injective c (opened_cell limit y) (sym e)
-opened_at limit (y ∷ ys) (suc i) c d e = opened_at limit ys i c d e
 
 module _ (s : Script) (x : WorldOf) (world : IsWorldOf s x) (i : ℕ) (seen : List ObjectMove) (cell : ObjectCell)
     (after : StateAfter cell_meaning (opened_cells x.objects.decls x.objects.limit) i seen cell) where

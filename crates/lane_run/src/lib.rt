@@ -12,7 +12,5 @@ mod lane;
 mod object_calls;
 mod rounds;
 mod running;
-#[cfg(test)]
-mod tests;
 mod timer_calls;
 mod world;

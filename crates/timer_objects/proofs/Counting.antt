@@ -73,7 +73,8 @@ opened_is d limit kinds.Raw e = (e, refl)
 opened_is d limit kinds.Posix e = (e, refl, refl, refl, refl)
 opened_is d limit kinds.Fd e = (e, refl, refl, refl, refl)
 
-opened_at : (limit : ℕ) (ds : List Decl) (i : ℕ) (x : ObjectCell) (d : Decl) → get_elem? (map (opened_cell limit) ds) i ≡ some x
+-- law: an object that was just made is that of its declaration
+pub opened_at : (limit : ℕ) (ds : List Decl) (i : ℕ) (x : ObjectCell) (d : Decl) → get_elem? (map (opened_cell limit) ds) i ≡ some x
     → x ≡ opened_cell limit (get_or ds i d)
 opened_at limit [] i x d e = absurd (some-ne-none x (sym e))
 opened_at limit (y ∷ ys) zero x d e = some-injective x (opened_cell limit y) (sym e)
