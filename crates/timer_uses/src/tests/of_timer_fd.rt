@@ -1,12 +1,13 @@
-//! Tests of a descriptor's calls.
+//! Tests of `timer_fd`: a descriptor's calls.
 ghost use Rattle.std.specs.Prelude.{◌≡◌, ◌≤◌};
 ghost use Rattle.ktime.specs.Readings.{latest};
 
-use crate::{
-    Arm, BadArgument, Call, FdState, GettimeAnswer, Phase, ReadAnswer, Reply, SettimeAnswer,
-    SettimeCall, TriggerAnswer, Wanted, few_entries, one_more_entry, times_of,
-};
+use super::{armed, ns, wanted};
 use ktime::{ClockId, Mode, Reading, TimeSpec};
+use timer_fd::{
+    Arm, BadArgument, Call, FdState, GettimeAnswer, Phase, ReadAnswer, Reply, SettimeAnswer,
+    SettimeCall, TriggerAnswer, few_entries, one_more_entry, times_of,
+};
 
 /// A reading in which the real-time clock has been set so often, to this time, and nothing else has happened.
 fn set_to(real: u64, changes: u64) -> Reading
@@ -22,28 +23,9 @@ fn set_to(real: u64, changes: u64) -> Reading
     }
 }
 
-fn ns(nsec: u64) -> TimeSpec
-    ensures { result ≡ record { sec = 0; nsec = nsec } }
-{
-    TimeSpec { sec: 0, nsec }
-}
-
-/// The start that a step wants.
-fn wanted(mode: Mode, ns: u64) -> Option<Wanted> {
-    Some(Wanted { mode, ns })
-}
-
 /// The setting before a settime, as it answers it.
 fn old(left: u64, interval: u64) -> SettimeAnswer {
     SettimeAnswer::Old { left, interval }
-}
-
-fn armed(generation: u64, clock: ClockId, expires: u64) -> Phase {
-    Phase::Armed {
-        generation,
-        clock,
-        expires,
-    }
 }
 
 #[test]
