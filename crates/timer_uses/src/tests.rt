@@ -19,7 +19,7 @@ use std::alloc::AllocError;
 use timer_core::Core;
 use timer_fd::FdState;
 use timer_queue::ListQueue;
-use timer_setting::{Phase, Wanted};
+use timer_setting::{ObjectTimer, Phase, Wanted};
 
 fn ns(nsec: u64) -> TimeSpec
     ensures { result ≡ record { sec = 0; nsec = nsec } }
@@ -30,6 +30,18 @@ fn ns(nsec: u64) -> TimeSpec
 /// The start that a step wants.
 fn wanted(mode: Mode, ns: u64) -> Option<Wanted> {
     Some(Wanted { mode, ns })
+}
+
+/// What an object of the real-time clock on base 3 keeps that was just made with the limit 100.
+fn just_made() -> ObjectTimer {
+    ObjectTimer {
+        clock: ClockId::Realtime,
+        base: 3,
+        interval: 0,
+        phase: Phase::Idle,
+        stamp: 0,
+        limit: 100,
+    }
 }
 
 fn armed(generation: u64, clock: ClockId, expires: u64) -> Phase {

@@ -1,5 +1,5 @@
 //! Tests of `posix_timer`: a POSIX timer's calls.
-use super::{armed, ns, wanted};
+use super::{armed, just_made, ns, wanted};
 use ktime::{ClockId, Mode, Reading, TimeSpec};
 use posix_timer::{
     AcceptAnswer, Arm, BadArgument, Call, Phase, PosixState, Reply, SettimeAnswer, SettimeCall,
@@ -18,13 +18,9 @@ fn setting(left: u64, interval: u64) -> Setting {
 #[test]
 fn a_new_timer_is_disarmed(rt: HostRuntime) {
     let timer = PosixState::make(ClockId::Realtime, 3, 100);
-    assert_eq!(rt; timer.timer().clock, ClockId::Realtime);
-    assert_eq!(rt; timer.timer().base, 3);
-    assert_eq!(rt; timer.timer().phase, Phase::Idle);
+    assert_eq!(rt; timer.timer(), just_made());
     assert!(rt; !timer.is_pending());
     assert_eq!(rt; timer.getoverrun(), 0);
-    assert_eq!(rt; timer.timer().stamp, 0);
-    assert_eq!(rt; timer.timer().limit, 100);
     assert_eq!(rt; timer.gettime(Reading::at(5)), setting(0, 0));
 }
 
@@ -67,8 +63,7 @@ fn the_overrun_stops_at_its_greatest_value(rt: HostRuntime) {
             overrun: 2_147_483_647
         }
     );
-    let phase = armed(2, ClockId::Monotonic, next);
-    assert_eq!(rt; timer.timer().phase, phase);
+    assert_eq!(rt; timer.timer().phase, armed(2, ClockId::Monotonic, next));
 }
 
 #[test]
