@@ -3,7 +3,7 @@ use Rattle.std.proofs.lemmas.List.{get_or_read}
 use Rattle.seq_timer.specs.Contents.{first_due}
 use Rattle.seq_timer.specs.Bases.{BaseState, empty_base}
 use Rattle.timer_core.specs.Kept.{Kept, IsConsistent, content_at}
-use Rattle.timer_core.proofs.Due.{kept-next, kept-within, kept-expires, kept-none}
+use Rattle.timer_core.proofs.Due.{kept-first}
 use Rattle.timer_core.proofs.timers.Core.first.Goals as goal
 
 pub returns : goal.returns
@@ -13,13 +13,8 @@ returns g c =
     let reading = c.args.reading in
     let there = subst (λ (k : Kept). base < length k.bases) (sym c.self.view_is) c.requires in
     let here = get_or_read c.self.inside.bases.items base c.index-here.result.now there c.index-here.ensures (empty_base 0) in
-    let all = subst IsConsistent c.self.view_is c.self.invariant in
     let first : c.first.result ≡ first_due (content_at k base) reading =
     subst (λ (k : Kept). c.first.result ≡ first_due (content_at k base) reading) c.self.view_is
-    (c.first.ensures ∙ ap (λ (b : BaseState). first_due b.content reading) here) in record {
-      first = first;
-      within = kept-within k base reading c.first.result all first;
-      next = kept-next k base reading c.first.result all first;
-      expires = kept-expires k base reading c.first.result all first;
-      none = kept-none k base reading c.first.result all first;
-    }
+    (c.first.ensures ∙ ap (λ (b : BaseState). first_due b.content reading) here) in
+    let kept = kept-first k base reading c.first.result (subst IsConsistent c.self.view_is c.self.invariant) first in
+    record { first = first; within = kept.0; next = kept.1; expires = kept.2; none = kept.3 }
