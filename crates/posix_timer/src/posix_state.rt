@@ -103,10 +103,8 @@ impl PosixState {
             Err(BadArgument::Flags) => return SettimeAnswer::BadFlags,
             Err(BadArgument::Time) => return SettimeAnswer::BadTime,
         };
-        if self.timer.is_spent() {
-            return SettimeAnswer::Spent {
-                stamp: self.timer.stamp,
-            };
+        if let Some(stamp) = self.timer.spent() {
+            return SettimeAnswer::Spent { stamp };
         }
         self.set(SettimeCall {
             flags,
@@ -143,7 +141,7 @@ impl PosixState {
     pub fn accept_wants(&self, reading: Reading) -> Option<Wanted>
         ensures { result ≡ accept_wanted self.now reading }
     {
-        if !self.pending || self.timer.is_spent() {
+        if !self.pending {
             return None;
         }
         self.timer.next_start(reading)
@@ -154,10 +152,8 @@ impl PosixState {
         requires outcome { IsOutcomeOf arm (accept_wanted self.old reading) }
         ensures { IsAnswered posix_table (accept_refusal self.old) self.old (calls.Accept reading arm) (replies.Accept result) self.new }
     {
-        if self.timer.is_spent() {
-            return AcceptAnswer::Spent {
-                stamp: self.timer.stamp,
-            };
+        if let Some(stamp) = self.timer.spent() {
+            return AcceptAnswer::Spent { stamp };
         }
         self.take(reading, arm)
     }

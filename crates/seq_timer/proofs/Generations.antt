@@ -41,33 +41,24 @@ gone-after t (events.Finish restart) generation gone =
 untold : (t : Timer) (generation : ℕ) → IsSome t.armed → (t.armed ≡ Some generation → ⊥) → nat_eq (unwrap_or t.armed 0) generation ≡ false
 untold t generation armed gone = ne_eqb (unwrap_or t.armed 0) generation (λ e. gone (some_of t.armed armed ∙ ap (λ n. Some n) e))
 
-pub gone-unclaimed : (t : Timer) (e : Event) (generation : ℕ) → Needs t e → IsGone t generation → is_told generation (claim_in (reply_to t e)) ≡ false
-gone-unclaimed t (events.Out base) generation needs gone = refl
-gone-unclaimed t (events.Start mode ns reading asked) generation needs gone = refl
-gone-unclaimed t events.Cancel generation needs gone = refl
-gone-unclaimed t (events.Claim base reading) generation needs gone = untold t generation needs.0 gone.unarmed
-gone-unclaimed t (events.Forward reading interval) generation needs gone = refl
-gone-unclaimed t (events.Finish restart) generation needs gone = refl
+pub gone-untold : (t : Timer) (e : Event) (generation : ℕ) → Needs t e → IsGone t generation
+    → (is_told generation (claim_in (reply_to t e)) ≡ false) × (is_told generation (cancel_in (reply_to t e)) ≡ false)
+gone-untold t (events.Out base) generation needs gone = (refl, refl)
+gone-untold t (events.Start mode ns reading asked) generation needs gone = (refl, refl)
+gone-untold t events.Cancel generation needs gone = (refl, untold t generation needs.0 gone.unarmed)
+gone-untold t (events.Claim base reading) generation needs gone = (untold t generation needs.0 gone.unarmed, refl)
+gone-untold t (events.Forward reading interval) generation needs gone = (refl, refl)
+gone-untold t (events.Finish restart) generation needs gone = (refl, refl)
 
-pub gone-uncancelled : (t : Timer) (e : Event) (generation : ℕ) → Needs t e → IsGone t generation → is_told generation (cancel_in (reply_to t e)) ≡ false
-gone-uncancelled t (events.Out base) generation needs gone = refl
-gone-uncancelled t (events.Start mode ns reading asked) generation needs gone = refl
-gone-uncancelled t events.Cancel generation needs gone = untold t generation needs.0 gone.unarmed
-gone-uncancelled t (events.Claim base reading) generation needs gone = refl
-gone-uncancelled t (events.Forward reading interval) generation needs gone = refl
-gone-uncancelled t (events.Finish restart) generation needs gone = refl
-
-pub gone-claims : (t : Timer) (generation : ℕ) (history : List Entry) → AreSteps t history → IsGone t generation → is_claimed generation history ≡ false
-gone-claims t generation [] steps gone = refl
-gone-claims t generation (e ∷ es) steps gone = or_from (is_told generation (claim_in e.reply)) (is_claimed generation es)
-    (ap (λ r. is_told generation (claim_in r)) steps.1 ∙ gone-unclaimed t e.event generation steps.0 gone)
-    (gone-claims (after t e.event) generation es steps.2 (gone-after t e.event generation gone))
-
-pub gone-cancels : (t : Timer) (generation : ℕ) (history : List Entry) → AreSteps t history → IsGone t generation → is_cancelled generation history ≡ false
-gone-cancels t generation [] steps gone = refl
-gone-cancels t generation (e ∷ es) steps gone = or_from (is_told generation (cancel_in e.reply)) (is_cancelled generation es)
-    (ap (λ r. is_told generation (cancel_in r)) steps.1 ∙ gone-uncancelled t e.event generation steps.0 gone)
-    (gone-cancels (after t e.event) generation es steps.2 (gone-after t e.event generation gone))
+pub gone-later : (t : Timer) (generation : ℕ) (history : List Entry) → AreSteps t history → IsGone t generation
+    → (is_claimed generation history ≡ false) × (is_cancelled generation history ≡ false)
+gone-later t generation [] steps gone = (refl, refl)
+gone-later t generation (e ∷ es) steps gone =
+    let now = gone-untold t e.event generation steps.0 gone in
+    let later = gone-later (after t e.event) generation es steps.2 (gone-after t e.event generation gone) in (
+      or_from (is_told generation (claim_in e.reply)) (is_claimed generation es) (ap (λ r. is_told generation (claim_in r)) steps.1 ∙ now.0) later.0,
+      or_from (is_told generation (cancel_in e.reply)) (is_cancelled generation es) (ap (λ r. is_told generation (cancel_in r)) steps.1 ∙ now.1) later.1,
+    )
 
 pub old-after : (t : Timer) (e : Event) → IsOld t → IsOld (after t e)
 old-after t (events.Out base) old generation is = absurd (cc)
@@ -119,12 +110,12 @@ never_claimed t generation (e ∷ es) old steps cancelled =
     ⊎_elim
     (λ (now : is_told generation (cancel_in e.reply) ≡ true).
     let gone = cancelled-gone t e.event generation steps.0 old (sym cancels_now ∙ now) in
-    or_from (is_told generation (claim_in e.reply)) (is_claimed generation es) (claims_now ∙ gone.1) (gone-claims next generation es steps.2 gone.0))
+    or_from (is_told generation (claim_in e.reply)) (is_claimed generation es) (claims_now ∙ gone.1) (gone-later next generation es steps.2 gone.0).0)
     (λ (later : is_told generation (cancel_in e.reply) ≡ false).
     let rest : is_cancelled generation es ≡ true = sym (ap (λ b. b || is_cancelled generation es) later) ∙ cancelled in
     ⊎_elim
     (λ (now : is_told generation (claim_in e.reply) ≡ true). absurd
-    (false≢true (sym (gone-cancels next generation es steps.2 (claimed-gone t e.event generation steps.0 old (sym claims_now ∙ now))) ∙ rest)))
+    (false≢true (sym (gone-later next generation es steps.2 (claimed-gone t e.event generation steps.0 old (sym claims_now ∙ now))).1 ∙ rest)))
     (λ (no_claim : is_told generation (claim_in e.reply) ≡ false). or_from (is_told generation (claim_in e.reply))
     (is_claimed generation es) no_claim (never_claimed next generation es (old-after t e.event old) steps.2 rest))
     (cases_Bool (is_told generation (claim_in e.reply))))

@@ -64,9 +64,11 @@ same_queues : (m m' r r' b b' : List (ℕ × ℕ)) (running : Option (ℕ × ℕ
 same_queues m m' r r' b b' running em er eb = ap (λ q. content_of q r b running) em ∙ ap (λ q. content_of m' q b running) er
     ∙ ap (λ q. content_of m' r' q running) eb
 
-not_queued : (t : Timer) (its clock : ClockId) → t.clock ≡ its → nat_eq (rank its) (rank clock) ≡ false → is_queued clock t ≡ false
-not_queued t its clock is apart = and_right (is_some t.armed) (nat_eq (rank t.clock) (rank clock))
-    (subst (λ k. nat_eq (rank k) (rank clock) ≡ false) (sym is) apart)
+-- a timer isn't in the queue of another clock than its own
+away : (id : ℕ) (t : Timer) (its clock : ClockId) (queue : List (ℕ × ℕ)) → t.clock ≡ its → nat_eq (rank its) (rank clock) ≡ false
+    → has_id id queue ≡ is_queued clock t → queue ≡ without id queue
+away id t its clock queue is apart here = sym (without_absent id queue (here ∙ and_right (is_some t.armed) (nat_eq (rank t.clock) (rank clock))
+    (subst (λ k. nat_eq (rank k) (rank clock) ≡ false) (sym is) apart)))
 
 -- a timer that isn't armed is in none of them
 pub dequeued-unarmed : (id : ℕ) (t : Timer) (c : Content) → IsQueuedAs id t c → is_some t.armed ≡ false → c ≡ dequeued id c
@@ -76,33 +78,28 @@ dequeued-unarmed id t c here none =
     (sym (without_absent id c.monotonic (here.monotonic ∙ off clocks.Monotonic)))
     (sym (without_absent id c.realtime (here.realtime ∙ off clocks.Realtime))) (sym (without_absent id c.boottime (here.boottime ∙ off clocks.Boottime)))
 
+-- the queue of a clock put in the place of the one that is there
+abbrev with_queue : ClockId → List (ℕ × ℕ) → Content → Content
+with_queue clocks.Monotonic queue c = record c { monotonic = queue }
+with_queue clocks.Realtime queue c = record c { realtime = queue }
+with_queue clocks.Boottime queue c = record c { boottime = queue }
+
 -- one that is, is in its clock's
-pub dequeued-monotonic : (id : ℕ) (t : Timer) (m r b queue : List (ℕ × ℕ)) (running : Option (ℕ × ℕ)) (c : Content) → content_of m r b running ≡ c
-    → IsQueuedAs id t c → t.clock ≡ clocks.Monotonic → queue ≡ without id m → content_of queue r b running ≡ dequeued id c
-dequeued-monotonic id t m r b queue running c is here on off =
-    let queued = subst (IsQueuedAs id t) (sym is) here in
-    same_queues queue (without id m) r (without id r) b (without id b) running
-    off
-    (sym (without_absent id r (queued.realtime ∙ not_queued t clocks.Monotonic clocks.Realtime on refl)))
-    (sym (without_absent id b (queued.boottime ∙ not_queued t clocks.Monotonic clocks.Boottime on refl)))
-    ∙ ap (dequeued id) is
+dequeued_there : (id : ℕ) (t : Timer) (its : ClockId) (queue : List (ℕ × ℕ)) (c : Content) → IsQueuedAs id t c → t.clock ≡ its
+    → queue ≡ without id (queue_of c its) → with_queue its queue c ≡ dequeued id c
+dequeued_there id t clocks.Monotonic queue c here on off =
+    same_queues queue (without id c.monotonic) c.realtime (without id c.realtime) c.boottime (without id c.boottime) c.running off
+    (away id t clocks.Monotonic clocks.Realtime c.realtime on refl here.realtime)
+    (away id t clocks.Monotonic clocks.Boottime c.boottime on refl here.boottime)
+dequeued_there id t clocks.Realtime queue c here on off =
+    same_queues c.monotonic (without id c.monotonic) queue (without id c.realtime) c.boottime (without id c.boottime) c.running
+    (away id t clocks.Realtime clocks.Monotonic c.monotonic on refl here.monotonic) off
+    (away id t clocks.Realtime clocks.Boottime c.boottime on refl here.boottime)
+dequeued_there id t clocks.Boottime queue c here on off =
+    same_queues c.monotonic (without id c.monotonic) c.realtime (without id c.realtime) queue (without id c.boottime) c.running
+    (away id t clocks.Boottime clocks.Monotonic c.monotonic on refl here.monotonic)
+    (away id t clocks.Boottime clocks.Realtime c.realtime on refl here.realtime) off
 
-pub dequeued-realtime : (id : ℕ) (t : Timer) (m r b queue : List (ℕ × ℕ)) (running : Option (ℕ × ℕ)) (c : Content) → content_of m r b running ≡ c
-    → IsQueuedAs id t c → t.clock ≡ clocks.Realtime → queue ≡ without id r → content_of m queue b running ≡ dequeued id c
-dequeued-realtime id t m r b queue running c is here on off =
-    let queued = subst (IsQueuedAs id t) (sym is) here in
-    same_queues m (without id m) queue (without id r) b (without id b) running
-    (sym (without_absent id m (queued.monotonic ∙ not_queued t clocks.Realtime clocks.Monotonic on refl)))
-    off
-    (sym (without_absent id b (queued.boottime ∙ not_queued t clocks.Realtime clocks.Boottime on refl)))
-    ∙ ap (dequeued id) is
-
-pub dequeued-boottime : (id : ℕ) (t : Timer) (m r b queue : List (ℕ × ℕ)) (running : Option (ℕ × ℕ)) (c : Content) → content_of m r b running ≡ c
-    → IsQueuedAs id t c → t.clock ≡ clocks.Boottime → queue ≡ without id b → content_of m r queue running ≡ dequeued id c
-dequeued-boottime id t m r b queue running c is here on off =
-    let queued = subst (IsQueuedAs id t) (sym is) here in
-    same_queues m (without id m) r (without id r) queue (without id b) running
-    (sym (without_absent id m (queued.monotonic ∙ not_queued t clocks.Boottime clocks.Monotonic on refl)))
-    (sym (without_absent id r (queued.realtime ∙ not_queued t clocks.Boottime clocks.Realtime on refl)))
-    off
-    ∙ ap (dequeued id) is
+pub dequeued-armed : (id : ℕ) (t : Timer) (its : ClockId) (queue : List (ℕ × ℕ)) (old c : Content) → old ≡ c → IsQueuedAs id t c → t.clock ≡ its
+    → queue ≡ without id (queue_of old its) → with_queue its queue old ≡ dequeued id c
+dequeued-armed id t its queue old c is here on off = dequeued_there id t its queue old (subst (IsQueuedAs id t) (sym is) here) on off ∙ ap (dequeued id) is

@@ -19,6 +19,4 @@ mod event;
 mod laws;
 mod observation;
 mod system;
-#[cfg(test)]
-mod tests;
 mod timer_state;

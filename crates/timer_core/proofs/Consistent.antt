@@ -45,6 +45,10 @@ timer-other k id other e apart = get_or-set_other k.timers id other (after (time
 pub changes : (k : Kept) (id : ℕ) (e : Event) → id < length k.timers → Changes (timer_in k) (timer_in (after_event k id e)) id (after (timer_in k id) e)
 changes k id e within = record { itself = timer-itself k id e within; others = λ other apart. timer-other k id other e apart }
 
+-- an event of a state that is seen as another
+pub after_event-seen : (k seen new : Kept) (id : ℕ) (e : Event) → k ≡ seen → new ≡ after_event k id e → new ≡ after_event seen id e
+after_event-seen k seen new id e is made = made ∙ ap (λ m. after_event m id e) is
+
 pub size-after : (k : Kept) (id : ℕ) (e : Event) → IsSameSize k (after_event k id e)
 size-after k id e = record {
   timers = length-set k.timers id (after (timer_in k id) e);

@@ -17,23 +17,11 @@ due-there timers base id reading due =
     (λ past. absurd (false≢true (subst (λ (t : Timer). is_due_on base reading t ≡ true) (get_or_past timers id no_timer past) due)))
     (cases_lt id (length timers))
 
-pub kept-next : (k : Kept) (base : ℕ) (reading : ClockReading) (r : Option (ℕ × ℕ)) → IsConsistent k
-    → r ≡ first_due (content_at k base) reading → IfSome r (λ p. IsNextDue (timer_in k) base reading p.1)
-kept-next k base reading None all is = tt
-kept-next k base reading (Some p) all is = (first_due-next (timer_in k) base reading (content_at k base) p (all.contents base) (sym is)).0
-
-pub kept-within : (k : Kept) (base : ℕ) (reading : ClockReading) (r : Option (ℕ × ℕ)) → IsConsistent k
-    → r ≡ first_due (content_at k base) reading → IfSome r (λ p. p.1 < length k.timers)
-kept-within k base reading None all is = tt
-kept-within k base reading (Some p) all is = due-there k.timers base p.1 reading
-    (first_due-next (timer_in k) base reading (content_at k base) p (all.contents base) (sym is)).0.due
-
-pub kept-expires : (k : Kept) (base : ℕ) (reading : ClockReading) (r : Option (ℕ × ℕ)) → IsConsistent k
-    → r ≡ first_due (content_at k base) reading → IfSome r (λ p. p.0 ≡ (timer_in k p.1).expires)
-kept-expires k base reading None all is = tt
-kept-expires k base reading (Some p) all is = (first_due-next (timer_in k) base reading (content_at k base) p (all.contents base) (sym is)).1
-
-pub kept-none : (k : Kept) (base : ℕ) (reading : ClockReading) (r : Option (ℕ × ℕ)) → IsConsistent k
-    → r ≡ first_due (content_at k base) reading → IfNone r ((id : ℕ) → is_due_on base reading (timer_in k id) ≡ false)
-kept-none k base reading None all is = first_due-none (timer_in k) base reading (content_at k base) (all.contents base) (sym is)
-kept-none k base reading (Some p) all is = tt
+-- what holds of the first pair, and where there is none
+pub kept-first : (k : Kept) (base : ℕ) (reading : ClockReading) (r : Option (ℕ × ℕ)) → IsConsistent k → r ≡ first_due (content_at k base) reading
+    → IfSome r (λ p. p.1 < length k.timers) × IfSome r (λ p. IsNextDue (timer_in k) base reading p.1)
+    × IfSome r (λ p. p.0 ≡ (timer_in k p.1).expires) × IfNone r ((id : ℕ) → is_due_on base reading (timer_in k id) ≡ false)
+kept-first k base reading None all is = (tt, tt, tt, first_due-none (timer_in k) base reading (content_at k base) (all.contents base) (sym is))
+kept-first k base reading (Some p) all is =
+    let next = first_due-next (timer_in k) base reading (content_at k base) p (all.contents base) (sym is) in
+    (due-there k.timers base p.1 reading next.0.due, next.0, next.1, tt)

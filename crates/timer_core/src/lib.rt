@@ -8,6 +8,4 @@ pub use timers::Core;
 mod answer;
 mod calls;
 mod laws;
-#[cfg(test)]
-mod tests;
 mod timers;

@@ -104,10 +104,8 @@ impl FdState {
             Err(BadArgument::Flags) => return SettimeAnswer::BadFlags,
             Err(BadArgument::Time) => return SettimeAnswer::BadTime,
         };
-        if self.timer.is_spent() {
-            return SettimeAnswer::Spent {
-                stamp: self.timer.stamp,
-            };
+        if let Some(stamp) = self.timer.spent() {
+            return SettimeAnswer::Spent { stamp };
         }
         self.set(SettimeCall {
             flags,
@@ -133,10 +131,7 @@ impl FdState {
     pub fn read_wants(&self, len: u64, reading: Reading) -> Option<Wanted>
         ensures { result ≡ read_wanted self.now len reading }
     {
-        if len < COUNT_LENGTH || self.timer.is_spent() {
-            return None;
-        }
-        if self.is_canceled(reading) || self.count == 0 {
+        if len < COUNT_LENGTH || self.is_canceled(reading) || self.count == 0 {
             return None;
         }
         self.timer.next_start(reading)
@@ -150,10 +145,8 @@ impl FdState {
         if len < COUNT_LENGTH {
             return ReadAnswer::ShortBuffer;
         }
-        if self.timer.is_spent() {
-            return ReadAnswer::Spent {
-                stamp: self.timer.stamp,
-            };
+        if let Some(stamp) = self.timer.spent() {
+            return ReadAnswer::Spent { stamp };
         }
         self.take(reading, arm)
     }
@@ -162,9 +155,6 @@ impl FdState {
     pub fn gettime_wants(&self, reading: Reading) -> Option<Wanted>
         ensures { result ≡ gettime_wanted self.now reading }
     {
-        if self.timer.is_spent() {
-            return None;
-        }
         self.timer.next_start(reading)
     }
 
@@ -174,10 +164,8 @@ impl FdState {
         requires outcome { IsOutcomeOf arm (gettime_wanted self.old reading) }
         ensures { IsAnswered fd_table (gettime_refusal self.old) self.old (calls.Gettime reading arm) (replies.Gettime result) self.new }
     {
-        if self.timer.is_spent() {
-            return GettimeAnswer::Spent {
-                stamp: self.timer.stamp,
-            };
+        if let Some(stamp) = self.timer.spent() {
+            return GettimeAnswer::Spent { stamp };
         }
         self.get(reading, arm)
     }

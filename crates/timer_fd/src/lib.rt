@@ -13,5 +13,3 @@ mod calls;
 mod fd_state;
 mod laws;
 mod settime_arguments;
-#[cfg(test)]
-mod tests;

@@ -6,5 +6,3 @@ pub use queue::Queue;
 
 mod list;
 mod queue;
-#[cfg(test)]
-mod tests;

@@ -16,6 +16,4 @@ mod object_timer;
 mod phase;
 mod settime_call;
 mod setting;
-#[cfg(test)]
-mod tests;
 mod trigger_answer;

@@ -1,5 +1,5 @@
 //! The timer that an object keeps: its setting, its phase, and how many entries the object's history has.
-ghost use Rattle.std.specs.Prelude.{◌≡◌, ◌≤◌, ◌<◌, ◌+◌, ◌↔◌, IsTrue};
+ghost use Rattle.std.specs.Prelude.{◌≡◌, ◌≤◌, ◌<◌, ◌+◌, ◌↔◌, IfNone, IfSome, None, nat_lt, if◌then◌else◌};
 ghost use Rattle.ktime.specs.Times.{last_time};
 ghost use Rattle.timer_setting.specs.Phases.{HasTimelyExpiry, expired, is_expiry_of, left_in, next_start, periods_in, phase_by, rearmed};
 ghost use Rattle.timer_setting.specs.Settimes.{made_timer, most_entries, start_wanted, timer_expired, trigger_answer};
@@ -37,11 +37,12 @@ impl ObjectTimer {
         }
     }
 
-    /// Whether the object's history is full.
-    pub fn is_spent(&self) -> bool
-        ensures { IsTrue result ↔ (self.now.limit ≤ self.now.stamp) }
+    /// How many entries the object's history has, where it is full.
+    pub fn spent(&self) -> Option<u64>
+        ensures full { IfSome result (λ stamp. (stamp ≡ self.now.stamp) × (self.now.limit ≤ self.now.stamp)) }
+        ensures room { IfNone result (self.now.stamp < self.now.limit) }
     {
-        self.stamp >= self.limit
+        (self.stamp >= self.limit).then_some(self.stamp)
     }
 
     /// The start that a settime with these arguments wants: none where it is refused, and none where its value is zero. `unknown` has
@@ -56,7 +57,7 @@ impl ObjectTimer {
         ensures { result ≡ start_wanted self.now.stamp self.now.limit unknown flags value interval }
     {
         let (value, _) = times_of(unknown, value, interval).ok()?;
-        if self.is_spent() {
+        if self.spent().is_some() {
             return None;
         }
         start_for(flags, value)
@@ -85,11 +86,14 @@ impl ObjectTimer {
         }
     }
 
-    /// The start for the next expiry, where the timer is periodic and has expired.
+    /// The start for the next expiry, where the timer is periodic and has expired; none where the object's history is full.
     pub fn next_start(&self, reading: Reading) -> Option<Wanted>
         requires expires { HasTimelyExpiry self.now.phase }
-        ensures { result ≡ next_start self.now.phase self.now.interval reading }
+        ensures { result ≡ (if nat_lt self.now.stamp self.now.limit then next_start self.now.phase self.now.interval reading else None) }
     {
+        if self.spent().is_some() {
+            return None;
+        }
         let Phase::Expired { clock, expires } = self.phase else {
             return None;
         };
@@ -117,8 +121,8 @@ impl ObjectTimer {
         ensures timer { self.old.stamp < self.old.limit → self.new ≡ timer_expired self.old generation reading }
         ensures answer { self.old.stamp < self.old.limit → result ≡ trigger_answer self.old.phase generation reading }
     {
-        if self.is_spent() {
-            return TriggerAnswer::Spent { stamp: self.stamp };
+        if let Some(stamp) = self.spent() {
+            return TriggerAnswer::Spent { stamp };
         }
         self.stamp += 1;
         if !self.phase.is_expiry(generation, reading) {

@@ -13,6 +13,4 @@ mod node;
 mod repair;
 mod rotate;
 mod steps;
-#[cfg(test)]
-mod tests;
 mod tree;

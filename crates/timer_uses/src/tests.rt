@@ -1,21 +1,55 @@
-//! The callers, run.
+//! The callers, run; and the tests of the crates below, one module each.
 ghost use Rattle.std.specs.Prelude.{◌≡◌};
+
+mod of_posix_timer;
+mod of_seq_timer;
+mod of_timer_core;
+mod of_timer_fd;
+mod of_timer_queue;
+mod of_timer_setting;
+mod of_timer_tree;
 
 use crate::{
     Tick, accept_signal, arm_periodic, descriptor_expired, expire_once, expire_periodic,
     read_count, set_descriptor, signal_expired, start_once,
 };
-use ktime::{ClockId, Reading, TimeSpec};
+use ktime::{ClockId, Mode, Reading, TimeSpec};
 use posix_timer::PosixState;
 use std::alloc::AllocError;
 use timer_core::Core;
 use timer_fd::FdState;
 use timer_queue::ListQueue;
+use timer_setting::{ObjectTimer, Phase, Wanted};
 
 fn ns(nsec: u64) -> TimeSpec
     ensures { result ≡ record { sec = 0; nsec = nsec } }
 {
     TimeSpec { sec: 0, nsec }
+}
+
+/// The start that a step wants.
+fn wanted(mode: Mode, ns: u64) -> Option<Wanted> {
+    Some(Wanted { mode, ns })
+}
+
+/// What an object of the real-time clock on base 3 keeps that was just made with the limit 100.
+fn just_made() -> ObjectTimer {
+    ObjectTimer {
+        clock: ClockId::Realtime,
+        base: 3,
+        interval: 0,
+        phase: Phase::Idle,
+        stamp: 0,
+        limit: 100,
+    }
+}
+
+fn armed(generation: u64, clock: ClockId, expires: u64) -> Phase {
+    Phase::Armed {
+        generation,
+        clock,
+        expires,
+    }
 }
 
 #[test]

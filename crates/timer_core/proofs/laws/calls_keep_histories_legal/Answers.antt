@@ -1,8 +1,8 @@
-use Rattle.timer_core.proofs.Runs.{legal_along, kept_along}
+use Rattle.timer_core.proofs.Runs.{legal_along}
 use Rattle.timer_core.proofs.laws.calls_keep_histories_legal.Goals as goal
 
-pub returns-clause-legal : goal.returns-clause-legal
-returns-clause-legal c = legal_along
-
-pub returns-clause-kept : goal.returns-clause-kept
-returns-clause-kept c = kept_along
+pub returns : goal.returns
+returns c = record {
+  legal = λ bases limit id list calls end run there. (legal_along bases limit id list calls end run there).0;
+  kept = λ bases limit id list calls end run there. (legal_along bases limit id list calls end run there).1;
+}

@@ -1,7 +1,6 @@
-//! Tests of queues, of any kind.
-use crate::list::ListQueue;
-use crate::queue::Queue;
+//! Tests of `timer_queue`: queues, of any kind.
 use std::alloc::{AllocError, Global};
+use timer_queue::{ListQueue, Queue};
 
 /// The timers 0 to 3 in the order in which they come out of a queue of any kind, with these expiries.
 fn in_order<Q: Queue + Drop>(

@@ -1,6 +1,6 @@
 use Rattle.std.proofs.Common.{arith, ap, length, ◌∙◌, ◌*◌, ◌%◌}
 use Rattle.timer_queue.proofs.Pairs.{length-put}
-use Rattle.timer_tree.proofs.tests.thousand.Goals as goal
+use Rattle.timer_uses.proofs.tests.of_timer_tree.thousand.Goals as goal
 
 pub loop-id-preserved : goal.loop-id-preserved
 loop-id-preserved g c = (

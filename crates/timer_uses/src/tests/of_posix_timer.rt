@@ -1,17 +1,10 @@
-//! Tests of a POSIX timer's calls.
-ghost use Rattle.std.specs.Prelude.{◌≡◌};
-
-use crate::{
-    AcceptAnswer, Arm, BadArgument, Call, Phase, PosixState, Reply, SettimeAnswer, SettimeCall,
-    Setting, TriggerAnswer, Wanted, few_entries, one_more_entry, times_of,
-};
+//! Tests of `posix_timer`: a POSIX timer's calls.
+use super::{armed, just_made, ns, wanted};
 use ktime::{ClockId, Mode, Reading, TimeSpec};
-
-fn ns(nsec: u64) -> TimeSpec
-    ensures { result ≡ record { sec = 0; nsec = nsec } }
-{
-    TimeSpec { sec: 0, nsec }
-}
+use posix_timer::{
+    AcceptAnswer, Arm, BadArgument, Call, Phase, PosixState, Reply, SettimeAnswer, SettimeCall,
+    Setting, TriggerAnswer, few_entries, one_more_entry, times_of,
+};
 
 /// The setting before a settime, as it answers it.
 fn old(left: u64, interval: u64) -> SettimeAnswer {
@@ -22,21 +15,12 @@ fn setting(left: u64, interval: u64) -> Setting {
     Setting { left, interval }
 }
 
-/// The start that a step wants.
-fn wanted(mode: Mode, ns: u64) -> Option<Wanted> {
-    Some(Wanted { mode, ns })
-}
-
 #[test]
 fn a_new_timer_is_disarmed(rt: HostRuntime) {
     let timer = PosixState::make(ClockId::Realtime, 3, 100);
-    assert_eq!(rt; timer.timer().clock, ClockId::Realtime);
-    assert_eq!(rt; timer.timer().base, 3);
-    assert_eq!(rt; timer.timer().phase, Phase::Idle);
+    assert_eq!(rt; timer.timer(), just_made());
     assert!(rt; !timer.is_pending());
     assert_eq!(rt; timer.getoverrun(), 0);
-    assert_eq!(rt; timer.timer().stamp, 0);
-    assert_eq!(rt; timer.timer().limit, 100);
     assert_eq!(rt; timer.gettime(Reading::at(5)), setting(0, 0));
 }
 
@@ -79,12 +63,7 @@ fn the_overrun_stops_at_its_greatest_value(rt: HostRuntime) {
             overrun: 2_147_483_647
         }
     );
-    let phase = Phase::Armed {
-        generation: 2,
-        clock: ClockId::Monotonic,
-        expires: next,
-    };
-    assert_eq!(rt; timer.timer().phase, phase);
+    assert_eq!(rt; timer.timer().phase, armed(2, ClockId::Monotonic, next));
 }
 
 #[test]
@@ -146,11 +125,7 @@ fn a_relative_time_of_day_is_kept_on_the_monotonic_clock(rt: HostRuntime) {
     });
     let reply = timer.apply(call);
     assert_eq!(rt; reply, Reply::Settime(old(0, 0)));
-    let phase = Phase::Armed {
-        generation: 1,
-        clock: ClockId::Monotonic,
-        expires: 1_000_000_015,
-    };
+    let phase = armed(1, ClockId::Monotonic, 1_000_000_015);
     assert_eq!(rt; timer.timer().phase, phase);
     let reply = timer.apply(Call::Trigger {
         generation: 1,

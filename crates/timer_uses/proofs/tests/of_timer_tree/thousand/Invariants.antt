@@ -1,5 +1,5 @@
 use Rattle.std.proofs.Common.{◌≡◌, length}
-use Rattle.timer_tree.proofs.tests.thousand.Given as goal
+use Rattle.timer_uses.proofs.tests.of_timer_tree.thousand.Given as goal
 
 -- each timer so far is in the tree
 abbrev pub invariant-loop-id : goal.invariant-loop-id

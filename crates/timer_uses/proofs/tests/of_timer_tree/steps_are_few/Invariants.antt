@@ -1,4 +1,4 @@
-use Rattle.timer_tree.proofs.tests.steps_are_few.Given as goal
+use Rattle.timer_uses.proofs.tests.of_timer_tree.steps_are_few.Given as goal
 
 -- the ledgers of the three counts
 abbrev pub ghosts-count_in_small : goal.ghosts-count_in_small

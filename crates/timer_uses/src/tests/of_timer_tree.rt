@@ -1,14 +1,13 @@
-//! The tree beside the plain list, and the bounds on its count.
+//! Tests of `timer_tree`: the tree beside the plain list, and the bounds on its count.
 ghost use Rattle.std.specs.Prelude.{◌≡◌, ◌+◌, ◌<◌, ◌≤◌, false, IsTrue, length, IfOk, OnOk};
 ghost use Rattle.timer_queue.specs.Pairs.{has_id};
 
-use crate::steps::Steps;
-use crate::tree::TimerTree;
 use std::alloc::{AllocError, Global};
 use std::marker::Brand;
 use std::process::Abort;
 use std::sync::ledger::{Blank, Ledger};
 use timer_queue::{ListQueue, Queue};
+use timer_tree::{Steps, TimerTree};
 
 #[test]
 fn it_gives_what_a_list_gives(rt: HostRuntime) -> Result<(), AllocError> {

@@ -1,14 +1,14 @@
-//! Tests of one timer, and of a base.
+//! Tests of `seq_timer`: one timer, and a base.
 ghost use Rattle.std.specs.Prelude.{◌≡◌, ◌≤◌};
 ghost use Rattle.ktime.specs.Readings.{latest};
 ghost use Rattle.seq_timer.specs.declared.event.Event.TheVariants as events;
 
-use crate::{
+use ktime::{ClockId, Mode, Reading};
+use seq_timer::{
     Base, Event, Observation, Peek, Rearmed, Reply, TimerState, a_cancelled_generation_never_runs,
     a_span_has_one_generation, a_stamp_counts_entries, histories_end,
     running_is_told_inside_the_span, spans_do_not_overlap,
 };
-use ktime::{ClockId, Mode, Reading};
 use std::alloc::AllocError;
 use timer_queue::ListQueue;
 

@@ -1,15 +1,15 @@
-//! Tests of the calls: each fails where a call answers another thing than is wanted, a refusal or nothing due among them.
+//! Tests of `timer_core`: each fails where a call answers another thing than is wanted, a refusal or nothing due among them.
 ghost use Rattle.std.specs.Prelude.{◌<◌, length, IsSome};
 ghost use Rattle.timer_core.specs.Kept.{IsSameSize, timer_in};
 
-use crate::{
-    CancelAnswer, ClaimAnswer, Core, Finished, ForwardAnswer, StartAnswer,
-    calls_keep_histories_legal,
-};
 use ktime::{ClockId, Mode, Reading};
 use seq_timer::{Peek, Rearmed};
 use std::alloc::AllocError;
 use std::process::Abort;
+use timer_core::{
+    CancelAnswer, ClaimAnswer, Core, Finished, ForwardAnswer, StartAnswer,
+    calls_keep_histories_legal,
+};
 use timer_queue::ListQueue;
 
 /// Claims the next timer of a base, and fails where none is claimed.

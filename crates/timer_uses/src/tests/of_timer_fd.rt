@@ -1,12 +1,13 @@
-//! Tests of a descriptor's calls.
+//! Tests of `timer_fd`: a descriptor's calls.
 ghost use Rattle.std.specs.Prelude.{◌≡◌, ◌≤◌};
 ghost use Rattle.ktime.specs.Readings.{latest};
 
-use crate::{
-    Arm, BadArgument, Call, FdState, GettimeAnswer, Phase, ReadAnswer, Reply, SettimeAnswer,
-    SettimeCall, TriggerAnswer, Wanted, few_entries, one_more_entry, times_of,
-};
+use super::{armed, just_made, ns, wanted};
 use ktime::{ClockId, Mode, Reading, TimeSpec};
+use timer_fd::{
+    Arm, BadArgument, Call, FdState, GettimeAnswer, Phase, ReadAnswer, Reply, SettimeAnswer,
+    SettimeCall, TriggerAnswer, few_entries, one_more_entry, times_of,
+};
 
 /// A reading in which the real-time clock has been set so often, to this time, and nothing else has happened.
 fn set_to(real: u64, changes: u64) -> Reading
@@ -22,39 +23,16 @@ fn set_to(real: u64, changes: u64) -> Reading
     }
 }
 
-fn ns(nsec: u64) -> TimeSpec
-    ensures { result ≡ record { sec = 0; nsec = nsec } }
-{
-    TimeSpec { sec: 0, nsec }
-}
-
-/// The start that a step wants.
-fn wanted(mode: Mode, ns: u64) -> Option<Wanted> {
-    Some(Wanted { mode, ns })
-}
-
 /// The setting before a settime, as it answers it.
 fn old(left: u64, interval: u64) -> SettimeAnswer {
     SettimeAnswer::Old { left, interval }
 }
 
-fn armed(generation: u64, clock: ClockId, expires: u64) -> Phase {
-    Phase::Armed {
-        generation,
-        clock,
-        expires,
-    }
-}
-
 #[test]
 fn a_new_descriptor_is_disarmed(rt: HostRuntime) {
     let descriptor = FdState::make(ClockId::Realtime, 3, 100);
-    assert_eq!(rt; descriptor.timer().clock, ClockId::Realtime);
-    assert_eq!(rt; descriptor.timer().base, 3);
-    assert_eq!(rt; descriptor.timer().phase, Phase::Idle);
+    assert_eq!(rt; descriptor.timer(), just_made());
     assert_eq!(rt; descriptor.count(), 0);
-    assert_eq!(rt; descriptor.timer().stamp, 0);
-    assert_eq!(rt; descriptor.timer().limit, 100);
     assert!(rt; !descriptor.readable(set_to(50, 1)));
 }
 
@@ -147,14 +125,12 @@ fn a_set_clock_cancels(rt: HostRuntime) {
     assert_eq!(rt; second, ReadAnswer::Again);
     let third = descriptor.settime(3, ns(200), ns(0), set_to(60, 2), Arm::Armed(3));
     assert_eq!(rt; third, SettimeAnswer::Canceled);
-    let phase = armed(3, ClockId::Realtime, 200);
-    assert_eq!(rt; descriptor.timer().phase, phase);
+    assert_eq!(rt; descriptor.timer().phase, armed(3, ClockId::Realtime, 200));
     let fourth = descriptor.settime(2, ns(10), ns(0), set_to(60, 2), Arm::Armed(5));
     assert_eq!(rt; fourth, old(140, 0));
     let fifth = descriptor.read(8, set_to(70, 3), Arm::NotAsked);
     assert_eq!(rt; fifth, ReadAnswer::Again);
-    let phase = armed(5, ClockId::Monotonic, 10);
-    assert_eq!(rt; descriptor.timer().phase, phase);
+    assert_eq!(rt; descriptor.timer().phase, armed(5, ClockId::Monotonic, 10));
 }
 
 #[test]
@@ -169,8 +145,7 @@ fn an_expiry_that_the_set_clock_took_back_is_not_counted(rt: HostRuntime) {
     assert_eq!(rt; start, wanted(Mode::Keep, 1000));
     let again = descriptor.read(8, set_to(500, 2), Arm::Armed(4));
     assert_eq!(rt; again, ReadAnswer::Again);
-    let phase = armed(4, ClockId::Realtime, 1000);
-    assert_eq!(rt; descriptor.timer().phase, phase);
+    assert_eq!(rt; descriptor.timer().phase, armed(4, ClockId::Realtime, 1000));
 }
 
 #[test]

@@ -1,6 +1,6 @@
-//! Tests of what both kinds of object share.
-use crate::{BadArgument, times_of};
+//! Tests of `timer_setting`: what both kinds of object share.
 use ktime::TimeSpec;
+use timer_setting::{BadArgument, times_of};
 
 #[test]
 fn flags_are_looked_at_before_times(rt: HostRuntime) {
