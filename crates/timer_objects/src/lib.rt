@@ -20,7 +20,5 @@ mod object;
 mod objects;
 mod rearming;
 mod settime;
-#[cfg(test)]
-mod tests;
 mod trigger;
 mod wanting;
