@@ -16,7 +16,7 @@ use Rattle.timer_fd.specs.declared.answers.ReadAnswer.TheVariants as reads
 use Rattle.timer_fd.specs.declared.calls.Call.TheVariants as fd_calls
 use Rattle.timer_fd.specs.declared.calls.Reply.TheVariants as fd_replies
 use Rattle.timer_fd.specs.States.{Descriptor, is_canceled}
-use Rattle.timer_fd.specs.Steps.{fd_read, total_in}
+use Rattle.timer_fd.specs.Steps.{total_in}
 use Rattle.base_row.specs.declared.view.Opening.{Opening}
 use Rattle.counted_row.specs.Calls.{Commits}
 use Rattle.timer_objects.specs.declared.cell.SpannedCall.{SpannedCall}
