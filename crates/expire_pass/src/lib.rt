@@ -4,8 +4,6 @@
 mod expiry;
 mod handler;
 mod log;
-#[cfg(test)]
-mod tests;
 
 pub use expiry::{ExpireAnswer, cancel, expire};
 pub use handler::{Handler, Restart};

@@ -16,7 +16,7 @@ use Rattle.timer_fd.specs.declared.answers.ReadAnswer.TheVariants as reads
 use Rattle.timer_fd.specs.declared.calls.Call.TheVariants as fd_calls
 use Rattle.timer_fd.specs.declared.calls.Reply.TheVariants as fd_replies
 use Rattle.timer_fd.specs.States.{Descriptor, is_canceled}
-use Rattle.timer_fd.specs.Steps.{fd_read, total_in}
+use Rattle.timer_fd.specs.Steps.{total_in}
 use Rattle.base_row.specs.declared.view.Opening.{Opening}
 use Rattle.counted_row.specs.Calls.{Commits}
 use Rattle.timer_objects.specs.declared.cell.SpannedCall.{SpannedCall}
@@ -31,7 +31,7 @@ use Rattle.timer_objects.specs.Calls.{Accepts, Caller, MakesRearming, ReadsFd}
 use Rattle.timer_objects.specs.Cells.{cell_meaning}
 use Rattle.timer_objects.specs.Known.{ObjectsOf, ObjectsPass}
 use Rattle.timer_objects.specs.Steps.{object_answer}
-use Rattle.object_uses.specs.Callers.{AcceptFits, EndsWith, ReadFits, TakesCount, TakesSignal}
+use Rattle.object_uses.specs.Callers.{AcceptFits, EndsWith, HasCounted, HasSignal, ReadFits, TakesCount, TakesSignal}
 
 -- the number that a reply has
 abbrev number_in : ObjectReply → Option ℕ
@@ -47,9 +47,9 @@ module _ (reading : ClockReading) (arm : Arm) (n : ℕ) where
   signal_by t false is e = absurd (none-some n (sym e))
 
   signal_of : (object : Object) → Some n ≡ number_in (object_answer object (calls.Posix (posix_calls.Accept reading arm)))
-      → (t : PosixTimer) × (object ≡ objects.Posix t) × (t.pending ≡ true) × (n ≡ overrun_of (periods_in t.phase t.interval reading))
+      → HasSignal object reading n
   signal_of objects.Raw e = absurd (none-some n (sym e))
-  signal_of (objects.Posix t) e = let by = signal_by t t.pending refl e in (t, refl, by.0, by.1)
+  signal_of (objects.Posix t) e = let by = signal_by t t.pending refl e in record { timer = t; is = refl; pending = by.0; overrun = by.1 }
   signal_of (objects.Fd t) e = absurd (none-some n (sym e))
 
   count_by : (t : Descriptor) (off none nil : Bool) (a b c : Descriptor) → c.count ≡ 0
@@ -62,46 +62,31 @@ module _ (reading : ClockReading) (arm : Arm) (n : ℕ) where
   count_by t false false false a b c z e = (ap (λ m. unwrap_or m 0) e, z)
 
   count_of : (object : Object) → Some n ≡ number_in (object_answer object (calls.Fd (fd_calls.Read reading arm)))
-      → (t : Descriptor) × (object ≡ objects.Fd t) × (n ≡ total_in t reading) × ((fd_read t reading arm).count ≡ 0)
+      → HasCounted object (calls.Fd (fd_calls.Read reading arm)) reading n
   count_of objects.Raw e = absurd (none-some n (sym e))
   count_of (objects.Posix t) e = absurd (none-some n (sym e))
   count_of (objects.Fd t) e =
-      let by = count_by t (is_canceled t reading) (nat_eq t.count 0) (nat_eq (total_in t reading) 0) _ _ _ refl e in (t, refl, by.0, by.1)
+      let by = count_by t (is_canceled t reading) (nat_eq t.count 0) (nat_eq (total_in t reading) 0) _ _ _ refl e in record {
+        arm = arm;
+        is_read = refl;
+        descriptor = t;
+        is = refl;
+        total = by.0;
+        left = by.1;
+      }
 
-ends_with : (p q : ObjectsPass) (id : ℕ) (call : SpannedCall) (commits : Commits cell_meaning p q id call)
-    → EndsWith p q id commits.state (record { call = call; reply = cell_meaning.reply commits.state call })
-ends_with p q id call commits = record { before = commits.adds.before; seen = commits.adds.begins; at = commits.at; last = commits.adds.last }
+abbrev ends_with : (p q : ObjectsPass) (id : ℕ) (call : SpannedCall) (commits : Commits cell_meaning p q id call)
+    → EndsWith p q id
+ends_with p q id call commits = record { state = commits.state; entry = record { call = call; reply = cell_meaning.reply commits.state call }; before = commits.adds.before; seen = commits.adds.begins; at = commits.at; last = commits.adds.last }
 
 module _ (x : ObjectsOf) (o : Opening) (old new : Caller) (id : ℕ) (reading : ClockReading) (n : ℕ) where
   takes_signal : MakesRearming x o old new id rearmings.Accepting reading (replies.Posix (posix_replies.Accept (acceptances.Accepted n)))
       → TakesSignal old.objects new.objects id reading n
-  takes_signal made =
-      let taken = signal_of reading made.arm n made.enters.commits.state.object (ap number_in made.enters.reply) in
-      record {
-        state = made.enters.commits.state;
-        call = _;
-        ends = ends_with _ _ _ _ made.enters.commits;
-        timer = taken.0;
-        is = taken.1;
-        pending = taken.2;
-        overrun = taken.3;
-      }
+  takes_signal made = record { ends = ends_with _ _ _ _ made.enters.commits; had = signal_of reading made.arm n _ (ap number_in made.enters.reply) }
 
   takes_count : MakesRearming x o old new id rearmings.Reading reading (replies.Fd (fd_replies.Read (reads.Count n)))
       → TakesCount old.objects new.objects id reading n
-  takes_count made =
-      let taken = count_of reading made.arm n made.enters.commits.state.object (ap number_in made.enters.reply) in
-      record {
-        state = made.enters.commits.state;
-        call = _;
-        ends = ends_with _ _ _ _ made.enters.commits;
-        arm = made.arm;
-        is_read = refl;
-        descriptor = taken.0;
-        is = taken.1;
-        total = taken.2;
-        left = taken.3;
-      }
+  takes_count made = record { ends = ends_with _ _ _ _ made.enters.commits; had = count_of reading made.arm n _ (ap number_in made.enters.reply) }
 
   adds_one : (r : Rearming) (reply : ObjectReply) → MakesRearming x o old new id r reading reply
       → length new.objects.knows.pass.mine ≡ length old.objects.knows.pass.mine + 1

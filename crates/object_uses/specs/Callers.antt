@@ -23,7 +23,9 @@ use Rattle.counted_row.specs.declared.view.Entry.{Entry}
 use Rattle.counted_row.specs.Views.{StateAfter}
 use Rattle.timer_objects.specs.declared.cell.ObjectCell.{ObjectCell}
 use Rattle.timer_objects.specs.declared.cell.SpannedCall.{SpannedCall}
+use Rattle.timer_objects.specs.declared.object.Object.{Object}
 use Rattle.timer_objects.specs.declared.object.Object.TheVariants as objects
+use Rattle.timer_objects.specs.declared.object.ObjectCall.{ObjectCall}
 use Rattle.timer_objects.specs.declared.object.ObjectCall.TheVariants as calls
 use Rattle.timer_objects.specs.declared.object.ObjectReply.{ObjectReply}
 use Rattle.timer_objects.specs.declared.callback.Callback.{Callback}
@@ -77,34 +79,40 @@ pub record HasHeard {E : Type 0} (first second new : Pass E) : Type 0 where
 abbrev pub KeepsBoth : Caller → Caller → Type 0
 KeepsBoth old new = KeepsPass old.timers new.timers × KeepsObjectsPass old.objects new.objects
 
--- an object was in this state when this entry was made, which then stands last among those that the pass has seen
-pub record EndsWith (p q : ObjectsPass) (id : ℕ) (state : ObjectCell) (entry : Entry SpannedCall ObjectReply) : Type 0 where
+-- an object was in a state when an entry was made, which then stands last among those that the pass has seen
+pub record EndsWith (p q : ObjectsPass) (id : ℕ) : Type 0 where
+  pub state : ObjectCell
+  pub entry : Entry SpannedCall ObjectReply
   pub before : List (Entry SpannedCall ObjectReply)
   pub seen : Begins (seen_of p id) before
   pub at : StateAfter cell_meaning p.knows.opening id before state
   pub last : seen_of q id ≡ before ++ entry ∷ []
 
--- a signal was accepted at this reading: it was pending, and the overrun is by the periods that had passed
-pub record TakesSignal (p q : ObjectsPass) (id : ℕ) (reading : ClockReading) (n : ℕ) : Type 0 where
-  pub state : ObjectCell
-  pub call : Entry SpannedCall ObjectReply
-  pub ends : EndsWith p q id state call
+-- a POSIX timer's signal is pending, and the overrun is by the periods that have passed at this reading
+pub record HasSignal (object : Object) (reading : ClockReading) (n : ℕ) : Type 0 where
   pub timer : PosixTimer
-  pub is : state.object ≡ objects.Posix timer
+  pub is : object ≡ objects.Posix timer
   pub pending : timer.pending ≡ true
   pub overrun : n ≡ overrun_of (periods_in timer.phase timer.interval reading)
 
--- A count was read at this reading: it is all that the descriptor had counted, and the periods that had passed. None is left in the state after it.
-pub record TakesCount (p q : ObjectsPass) (id : ℕ) (reading : ClockReading) (n : ℕ) : Type 0 where
-  pub state : ObjectCell
-  pub call : Entry SpannedCall ObjectReply
-  pub ends : EndsWith p q id state call
+-- A call reads a descriptor at this reading: the count is all that it had counted, and the periods that had passed. None is left in the state after it.
+pub record HasCounted (object : Object) (call : ObjectCall) (reading : ClockReading) (n : ℕ) : Type 0 where
   pub arm : Arm
-  pub is_read : call.call.call ≡ calls.Fd (fd_calls.Read reading arm)
+  pub is_read : call ≡ calls.Fd (fd_calls.Read reading arm)
   pub descriptor : Descriptor
-  pub is : state.object ≡ objects.Fd descriptor
+  pub is : object ≡ objects.Fd descriptor
   pub total : n ≡ total_in descriptor reading
   pub left : (fd_read descriptor reading arm).count ≡ 0
+
+-- a signal was accepted at this reading: it was pending in the state before the call
+pub record TakesSignal (p q : ObjectsPass) (id : ℕ) (reading : ClockReading) (n : ℕ) : Type 0 where
+  pub ends : EndsWith p q id
+  pub had : HasSignal ends.state.object reading n
+
+-- a count was read at this reading, of the state before the call
+pub record TakesCount (p q : ObjectsPass) (id : ℕ) (reading : ClockReading) (n : ℕ) : Type 0 where
+  pub ends : EndsWith p q id
+  pub had : HasCounted ends.state.object ends.entry.call.call reading n
 
 -- what an acceptance answers
 abbrev pub AcceptFits : ObjectsPass → ObjectsPass → ℕ → ClockReading → AcceptAnswer → Type 0

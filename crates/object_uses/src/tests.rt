@@ -2,6 +2,8 @@
 mod answers;
 mod beside;
 mod expected;
+mod of_expire_pass;
+mod of_timer_objects;
 mod passes;
 mod stand;
 mod waiting;

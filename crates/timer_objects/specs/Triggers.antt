@@ -2,7 +2,6 @@
 use Rattle.std.specs.Prelude.{ℕ, ◌≡◌, ◌+◌, ◌-◌, ◌<◌, ◌≤◌, ◌⊎◌, List, [], ◌∷◌, ◌++◌, length, Option, Some, None}
 use Rattle.ktime.specs.Readings.{ClockReading}
 use Rattle.hr_timers.specs.declared.numbers.ClaimNumbers.{ClaimNumbers}
-use Rattle.pass_names.specs.Passes.{Begins, GoesOn}
 use Rattle.timer_setting.specs.declared.trigger_answer.TriggerAnswer.TheVariants as triggers
 use Rattle.counted_row.specs.Calls.{Commits, ReadsValue}
 use Rattle.posix_timer.specs.declared.calls.Call.TheVariants as posix_calls
@@ -20,7 +19,7 @@ use Rattle.timer_objects.specs.declared.object.ObjectReply.{ObjectReply}
 use Rattle.timer_objects.specs.declared.object.ObjectReply.TheVariants as replies
 use Rattle.timer_objects.specs.Steps.{object_answer}
 use Rattle.timer_objects.specs.Cells.{MaySpan, cell_meaning, spanned}
-use Rattle.timer_objects.specs.Known.{IsObjectsPass, ObjectsOf, ObjectsPass, seen_of}
+use Rattle.timer_objects.specs.Known.{ObjectsOf, ObjectsPass, seen_of}
 
 -- the trigger of an object of this kind by a claim of its timer, at this reading; a timer by itself has none
 abbrev pub trigger_of : Kind → ClaimNumbers → ClockReading → Option ObjectCall
@@ -56,10 +55,3 @@ module _ (x : ObjectsOf) (p q : ObjectsPass) (log log' : List ObjectReceipt) whe
   -- a claim of its timer triggers the object, unless that one's history is full
   abbrev pub Triggers : ClaimNumbers → ObjectCall → Type 0
   Triggers c call = EntersTrigger c.timer (spanned call (span_of c)) ⊎ SkipsTrigger c.timer (spanned call (span_of c))
-
--- what a pass of objects knows goes on, under the same name and with no claim, and is true still
-pub record KeepsObjects (x : ObjectsOf) (p q : ObjectsPass) : Type 0 where
-  pub pass : IsObjectsPass x q
-  pub id : q.knows.pass.id ≡ p.knows.pass.id
-  pub seen : GoesOn p.knows.pass.seen q.knows.pass.seen
-  pub mine : Begins p.knows.pass.mine q.knows.pass.mine

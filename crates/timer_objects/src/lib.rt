@@ -13,14 +13,12 @@ mod answers;
 mod arming;
 mod callback;
 mod cell;
+mod entries;
 mod firing;
 mod log;
 mod looking;
 mod object;
 mod objects;
-mod rearming;
 mod settime;
-#[cfg(test)]
-mod tests;
 mod trigger;
 mod wanting;

@@ -2,8 +2,8 @@
 ghost use Rattle.std.specs.Prelude.{◌<◌, ◌≤◌};
 
 use super::expected::{
-    NONE, cancel, fd_read, fd_set, fired, old, posix, posix_old, posix_set, ran, settime, start,
-    taken,
+    NONE, cancel, fd_read, fd_set, fired, old, posix, posix_old, posix_set, posix_triggered, ran,
+    settime, start, taken,
 };
 use super::stand::{FD, POSIX, Stand, Step, Told};
 use expire_pass::Receipt;
@@ -132,15 +132,8 @@ fn a_periodic_timer_tells_its_overrun(rt: HostRuntime) -> Result<(), Fail> {
     let objects = (ClockId::Monotonic, 100);
     let (other, triggers) = taken_steps(&rt, objects, &cases, &entries, &calls)?;
     assert_eq!(rt; other, None);
-    let trigger = posix_timer::Call::Trigger {
-        generation: 1,
-        reading: due,
-    };
-    let counted = posix_timer::Reply::Trigger(TriggerAnswer::Counted);
-    assert_eq!(rt;
-        triggers.receipts(),
-        [posix(2, trigger, 1, 2, counted)].as_slice()
-    );
+    let trigger = posix_triggered(2, due, TriggerAnswer::Counted);
+    assert_eq!(rt; triggers.receipts(), [trigger].as_slice());
     Ok(())
 }
 

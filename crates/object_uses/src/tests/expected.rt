@@ -5,7 +5,7 @@ use ktime::{ClockId, Mode, Reading};
 use seq_timer::{Event, Rearmed, Reply};
 use timer_fd::{ReadAnswer, SettimeAnswer};
 use timer_objects::{ObjectCall, ObjectReceipt, ObjectReply, SpannedCall};
-use timer_setting::{Arm, SettimeCall};
+use timer_setting::{Arm, SettimeCall, TriggerAnswer};
 
 /// What a settime of the descriptor tells that replaces no setting.
 pub(super) const NONE: SettimeAnswer = SettimeAnswer::Old {
@@ -179,6 +179,36 @@ pub(super) fn fd_read(
 ) -> ObjectReceipt {
     let call = timer_fd::Call::Read { reading, arm };
     fd(number, call, from, to, timer_fd::Reply::Read(answer))
+}
+
+/// The receipt of the trigger of the POSIX timer by generation 1, which was armed as its first entry.
+pub(super) fn posix_triggered(
+    number: u64,
+    reading: Reading,
+    answer: TriggerAnswer,
+) -> ObjectReceipt {
+    let call = posix_timer::Call::Trigger {
+        generation: 1,
+        reading,
+    };
+    posix(number, call, 1, 2, posix_timer::Reply::Trigger(answer))
+}
+
+/// The receipt of such a trigger of a descriptor, as its second entry.
+pub(super) fn fd_triggered(object: u32, reading: Reading) -> ObjectReceipt {
+    let call = timer_fd::Call::Trigger {
+        generation: 1,
+        reading,
+    };
+    let reply = timer_fd::Reply::Trigger(TriggerAnswer::Counted);
+    call_of(
+        object,
+        2,
+        ObjectCall::Fd(call),
+        1,
+        2,
+        ObjectReply::Fd(reply),
+    )
 }
 
 /// What a run tells that found so many timers due and no more.

@@ -77,7 +77,7 @@ impl Model for Stand {
 }
 
 /// An object of this kind over a timer on this clock.
-fn decl_of(kind: Kind, clock: ClockId) -> Decl
+pub fn decl_of(kind: Kind, clock: ClockId) -> Decl
     ensures { result ≡ record { kind = kind; clock = clock; base = 0 } }
 {
     Decl {

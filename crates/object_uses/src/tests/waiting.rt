@@ -7,7 +7,7 @@ ghost use Rattle.timer_objects.specs.declared.object.Kind.TheVariants as kinds;
 ghost use Rattle.timer_objects.specs.Known.{IsObjectsPass, decl_at};
 ghost use Rattle.object_uses.specs.Callers.{HasPasses, KeepsPasses, MayCall};
 
-use super::expected::{NONE, fd, fd_set, old, ran, settime, start};
+use super::expected::{NONE, fd_set, fd_triggered, old, ran, settime, start};
 use super::stand::{FD, POSIX, Stand, Step};
 use crate::set_timer;
 use counted_row::RowPass;
@@ -20,7 +20,7 @@ use std::test::Fail;
 use std::thread::{Threads, join_mut};
 use timer_fd::SettimeAnswer;
 use timer_objects::{Callback, Firing, ObjectCell, ObjectLog, Objects};
-use timer_setting::{Arm, TriggerAnswer};
+use timer_setting::Arm;
 
 /// How often a thread looks for what the other one does.
 const TURNS: u32 = 50_000_000;
@@ -299,15 +299,8 @@ fn settime_waits_for_the_trigger(rt: HostRuntime) -> Result<(), Fail> {
         start(FD, 4, Mode::Abs, 500, due, ClockId::Monotonic, 500),
     ];
     assert_eq!(rt; stand.log.receipts(), entries.as_slice());
-    let trigger = timer_fd::Call::Trigger {
-        generation: 1,
-        reading: due,
-    };
-    let counted = timer_fd::Reply::Trigger(TriggerAnswer::Counted);
-    assert_eq!(rt;
-        triggers.receipts(),
-        [fd(2, trigger, 1, 2, counted)].as_slice()
-    );
+    let trigger = fd_triggered(FD, due);
+    assert_eq!(rt; triggers.receipts(), [trigger].as_slice());
     let first = settime(1, 100, 0, zero, Arm::Armed(1));
     let late = settime(1, 500, 0, due, Arm::Armed(4));
     assert_eq!(rt;

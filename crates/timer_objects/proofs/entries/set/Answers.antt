@@ -1,6 +1,6 @@
 use Rattle.std.proofs.Common.{sym, ◌∙◌}
 use Rattle.timer_objects.proofs.Restarting.{rearms_by}
-use Rattle.timer_objects.proofs.rearming.set.Goals as goal
+use Rattle.timer_objects.proofs.entries.set.Goals as goal
 
 pub returns-in_ok-from-in-Rearming-clause-sets : goal.returns-in_ok-from-in-Rearming-clause-sets
 returns-in_ok-from-in-Rearming-clause-sets g c =

@@ -1,4 +1,4 @@
-//! How a call makes its entry of an object and sets the timer before that; accept and read, which arm a periodic timer again.
+//! The calls that make an entry of an object, and may set its timer before that; accept and read, which arm a periodic timer again.
 ghost use Rattle.std.specs.Prelude.{◌≡◌, ◌≤◌, ◌<◌, ◌+◌, length, IfNone, IfSome, IsSome, MatchOption};
 ghost use Rattle.pass_names.specs.SharedHistory.{LooksOn};
 ghost use Rattle.hr_timers.specs.Known.{IsPassOf};

@@ -1,5 +1,6 @@
-//! The log as callers use it.
-use crate::{Log, Noted, Receipt};
+//! The log of `expire_pass` as callers use it.
+use super::expected::{cancel, entry};
+use expire_pass::{Log, Noted, Receipt};
 use seq_timer::{Event, Observation, Rearmed, Reply};
 use std::test::Fail;
 
@@ -8,21 +9,13 @@ fn receipts_stand_in_the_order_of_their_notes(rt: HostRuntime) -> Result<(), Fai
     let mut log = Log::make(rt.alloc());
     assert_eq!(rt; log.spare(), 0);
     log.reserve(3)?;
-    let first = Receipt {
-        timer: 3,
-        number: 7,
-        event: Event::Cancel,
-        reply: Noted::Entry(Reply::Cancel { generation: 6 }),
+    let finish = Event::Finish { restart: true };
+    let finished = Reply::Finish {
+        generation: 1,
+        rearmed: Rearmed::No,
     };
-    let second = Receipt {
-        timer: 4,
-        number: 2,
-        event: Event::Finish { restart: true },
-        reply: Noted::Entry(Reply::Finish {
-            generation: 1,
-            rearmed: Rearmed::No,
-        }),
-    };
+    let first = cancel(3, 7, 6);
+    let second = entry(4, 2, finish, finished);
     let third = Receipt {
         timer: 3,
         number: 7,

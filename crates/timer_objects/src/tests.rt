@@ -1,2 +1,0 @@
-//! Objects as callers use them.
-mod firing;
