@@ -10,8 +10,6 @@ mod row;
 mod slot;
 mod slots;
 mod steps;
-#[cfg(test)]
-mod tests;
 mod view;
 
 pub use held::{HeldBase, Pass};

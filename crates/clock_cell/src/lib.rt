@@ -6,8 +6,6 @@ mod pass;
 mod plays;
 mod shared;
 mod steps;
-#[cfg(test)]
-mod tests;
 mod view;
 mod words;
 

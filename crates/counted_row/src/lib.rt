@@ -9,8 +9,6 @@ mod plays;
 mod row;
 mod slots;
 mod steps;
-#[cfg(test)]
-mod tests;
 mod view;
 
 pub use handles::{Held, RowPass};

@@ -3,6 +3,8 @@ ghost use Rattle.std.specs.Prelude.{◌≡◌, [], length, IfOk};
 ghost use Rattle.pass_names.specs.Names.{IsLast};
 ghost use Rattle.counted_row_uses.specs.Lanes.{IsMain};
 
+mod of_counted_row;
+
 use crate::counter::Counter;
 use crate::lanes::{count_in_lanes, lanes_of, retire_all};
 use crate::threads::{Totals, count_anew};

@@ -8,6 +8,8 @@ mod callers;
 mod claims;
 mod drawn;
 mod functions;
+mod of_base_row;
+mod of_clock_cell;
 mod threads;
 
 use expire_pass::Log;

@@ -6,7 +6,7 @@ ghost use Rattle.seq_timer.specs.Systems.{IsOn};
 ghost use Rattle.base_row.specs.Calls.{IsBasePassOf, timer_seen};
 ghost use Rattle.base_row.specs.Rests.{Rests};
 
-use crate::{BaseRow, HeldBase, Pass};
+use base_row::{BaseRow, HeldBase, Pass};
 use ktime::{Mode, Reading};
 use seq_timer::{Event, TimerState};
 use std::sync::Wait;

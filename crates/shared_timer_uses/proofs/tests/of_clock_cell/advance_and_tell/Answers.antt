@@ -5,7 +5,7 @@ use Rattle.clock_model.specs.declared.write.Write.TheVariants.{Advance}
 use Rattle.pass_names.proofs.Passes.{begins_length}
 use Rattle.clock_cell.specs.Views.{Accepts}
 use Rattle.clock_cell.proofs.Longer.{of_one}
-use Rattle.clock_cell.proofs.tests.advance_and_tell.Goals as goal
+use Rattle.shared_timer_uses.proofs.tests.of_clock_cell.advance_and_tell.Goals as goal
 
 pub returns-clause-later : goal.returns-clause-later
 returns-clause-later g c =

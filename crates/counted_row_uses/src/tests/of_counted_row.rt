@@ -1,9 +1,9 @@
-//! Each call of a row once, by one thread, on values that keep the last number that they were given.
+//! Each call of a `counted_row` once, by one thread, on values that keep the last number that they were given.
 ghost use Rattle.std.specs.Prelude.{◌≡◌, ◌<◌, [], None, length, IfOk};
 ghost use Rattle.pass_names.specs.Names.{IsLast};
 ghost use Rattle.counted_row.specs.Views.{IsPassOfRow, MayLock, Sees};
 
-use crate::{Object, Row, RowPass};
+use counted_row::{Object, Row, RowPass};
 use std::alloc::{AllocError, Global};
 use std::sync::Wait;
 use std::test::Fail;

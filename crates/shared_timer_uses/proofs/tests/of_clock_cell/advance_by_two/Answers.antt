@@ -1,7 +1,7 @@
 use Rattle.std.proofs.Common.{length, ap, rules, arith}
 use Rattle.pass_names.specs.Names.{IsLast}
 use Rattle.clock_cell.proofs.Counting.{all_made, made, made_joined}
-use Rattle.clock_cell.proofs.tests.advance_by_two.Goals as goal
+use Rattle.shared_timer_uses.proofs.tests.of_clock_cell.advance_by_two.Goals as goal
 
 pub returns : goal.returns
 returns g c =

@@ -1,6 +1,6 @@
 use Rattle.std.proofs.Common.{◌≡◌, ◌+◌, ◌≤◌, length}
 use Rattle.clock_cell.specs.Views.{IsPassOfClock}
-use Rattle.clock_cell.proofs.tests.advance_often.Given as goal
+use Rattle.shared_timer_uses.proofs.tests.of_clock_cell.advance_often.Given as goal
 
 abbrev pub invariant-loop : goal.invariant-loop
 invariant-loop g l = record {

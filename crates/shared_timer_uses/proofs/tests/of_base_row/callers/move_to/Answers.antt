@@ -2,7 +2,7 @@ use Rattle.std.proofs.Common.{ap, sym, ◌∙◌}
 use Rattle.base_row.specs.declared.view.BaseView.{BaseView}
 use Rattle.seq_timer.specs.Systems.{BaseContent}
 use Rattle.base_row.proofs.Calling.{seen_same}
-use Rattle.base_row.proofs.tests.callers.move_to.Goals as goal
+use Rattle.shared_timer_uses.proofs.tests.of_base_row.callers.move_to.Goals as goal
 
 pub bring-requires-clause-state : goal.bring-requires-clause-state
 bring-requires-clause-state g c =

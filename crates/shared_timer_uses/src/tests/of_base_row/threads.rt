@@ -5,7 +5,7 @@ ghost use Rattle.base_row.specs.Calls.{IsBasePassOf};
 ghost use Rattle.base_row.specs.Rests.{Rests};
 
 use super::callers::{cancel, move_to, run, start};
-use crate::{BaseRow, Pass};
+use base_row::{BaseRow, Pass};
 use ktime::Reading;
 use std::sync::Wait;
 use std::thread::{Threads, join_mut};

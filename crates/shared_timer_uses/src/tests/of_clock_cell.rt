@@ -1,8 +1,8 @@
-//! Callers of a shared clock, proved and run: one thread, two threads, and passes that meet.
+//! Callers of the shared clock of `clock_cell`, proved and run: one thread, two threads, and passes that meet.
 ghost use Rattle.std.specs.Prelude.{◌≡◌, ◌+◌, ◌^◌, ◌<◌, ◌≤◌, length, IfOk};
 ghost use Rattle.clock_cell.specs.Views.{IsPassOfClock};
 
-use crate::{ClockPass, SharedClock};
+use clock_cell::{ClockPass, SharedClock};
 use clock_model::ClockFault;
 use ktime::Reading;
 use std::alloc::{AllocError, Global};

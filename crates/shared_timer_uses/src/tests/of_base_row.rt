@@ -1,4 +1,4 @@
-//! Rows as callers use them: by one pass, by two, and by two threads.
+//! The rows of `base_row` as callers use them: by one pass, by two, and by two threads.
 ghost use Rattle.std.specs.Prelude.{◌≡◌, IfOk, [], length};
 ghost use Rattle.pass_names.specs.Names.{IsLast};
 ghost use Rattle.base_row.specs.Calls.{IsBasePassOf};
@@ -7,24 +7,13 @@ ghost use Rattle.base_row.specs.Rests.{Rests};
 mod callers;
 mod threads;
 
-use crate::{BaseRow, Pass};
+use base_row::{BaseRow, Pass};
 use callers::{cancel, move_to, run, start};
 use ktime::{ClockId, Reading};
 use std::alloc::{AllocError, Global};
 use std::test::Fail;
 use threads::turns_of_two;
 use timer_word::TimerWord;
-
-/// A reading in which all clocks show 1000.
-fn reading() -> Reading {
-    Reading {
-        stamp: 0,
-        mono: 1000,
-        real: 1000,
-        boot: 1000,
-        changes: 0,
-    }
-}
 
 /// Two bases and three timers, one on each clock.
 fn three_timers(alloc: Global) -> Result<(BaseRow, Pass), AllocError>
@@ -48,9 +37,9 @@ fn word(stamp: u64, base: u32, enqueued: bool) -> TimerWord {
 #[test]
 fn a_timer_starts_moves_and_is_cancelled(rt: HostRuntime) -> Result<(), Fail> {
     let (row, mut pass) = three_timers(rt.alloc())?;
-    assert!(rt; start(&rt, &row, &mut pass, 0, 1, 500, reading()));
+    assert!(rt; start(&rt, &row, &mut pass, 0, 1, 500, Reading::at(1000)));
     assert_eq!(rt; row.load_word(&mut pass, 1), word(1, 0, true));
-    assert!(rt; move_to(&rt, &row, &mut pass, 0, 1, 1, 700, reading()));
+    assert!(rt; move_to(&rt, &row, &mut pass, 0, 1, 1, 700, Reading::at(1000)));
     assert_eq!(rt; row.load_word(&mut pass, 1), word(3, 1, true));
     assert!(rt; cancel(&rt, &row, &mut pass, 1, 1));
     assert_eq!(rt; row.load_word(&mut pass, 1), word(4, 1, false));
@@ -62,12 +51,12 @@ fn a_timer_starts_moves_and_is_cancelled(rt: HostRuntime) -> Result<(), Fail> {
 #[test]
 fn a_due_timer_is_claimed_and_finished(rt: HostRuntime) -> Result<(), Fail> {
     let (row, mut pass) = three_timers(rt.alloc())?;
-    assert!(rt; start(&rt, &row, &mut pass, 0, 1, 500, reading()));
-    assert!(rt; !run(&rt, &row, &mut pass, 1, reading()));
+    assert!(rt; start(&rt, &row, &mut pass, 0, 1, 500, Reading::at(1000)));
+    assert!(rt; !run(&rt, &row, &mut pass, 1, Reading::at(1000)));
     assert_eq!(rt; row.load_word(&mut pass, 1), word(1, 0, true));
-    assert!(rt; run(&rt, &row, &mut pass, 0, reading()));
+    assert!(rt; run(&rt, &row, &mut pass, 0, Reading::at(1000)));
     assert_eq!(rt; row.load_word(&mut pass, 1), word(3, 0, false));
-    assert!(rt; !run(&rt, &row, &mut pass, 0, reading()));
+    assert!(rt; !run(&rt, &row, &mut pass, 0, Reading::at(1000)));
     assert_eq!(rt; row.load_word(&mut pass, 1), word(3, 0, false));
     row.close(pass);
     Ok(())
@@ -99,7 +88,7 @@ fn a_base_held_by_one_pass_is_missed_by_another(rt: HostRuntime) -> Result<(), F
 #[test]
 fn two_threads_lose_no_entry(rt: HostRuntime) -> Result<(), Fail> {
     let (row, mut pass) = three_timers(rt.alloc())?;
-    let made = turns_of_two(&rt, &row, &mut pass, reading());
+    let made = turns_of_two(&rt, &row, &mut pass, Reading::at(1000));
     let stamps = row
         .load_word(&mut pass, 0)
         .stamp

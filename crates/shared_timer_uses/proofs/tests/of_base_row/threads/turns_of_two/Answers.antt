@@ -5,7 +5,7 @@ use Rattle.pass_names.specs.Names.{IsLast, after_retire, after_split, child_of, 
 use Rattle.pass_names.proofs.Names.{answers_split, same-refl}
 use Rattle.seq_timer.specs.Systems.{BaseContent}
 use Rattle.base_row.specs.declared.view.BaseView.{BaseView}
-use Rattle.base_row.proofs.tests.threads.turns_of_two.Goals as goal
+use Rattle.shared_timer_uses.proofs.tests.of_base_row.threads.turns_of_two.Goals as goal
 
 last_again : (l : PassId) → IsLast l → IsLast (after_retire (after_split l) (child_of l))
 last_again l last = record {

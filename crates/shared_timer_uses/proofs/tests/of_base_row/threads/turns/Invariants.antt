@@ -1,7 +1,7 @@
 use Rattle.std.proofs.Common.{◌≡◌, ◌*◌, ◌≤◌, []}
 use Rattle.base_row.specs.Calls.{IsBasePassOf}
 use Rattle.base_row.specs.Rests.{Rests}
-use Rattle.base_row.proofs.tests.threads.turns.Given as goal
+use Rattle.shared_timer_uses.proofs.tests.of_base_row.threads.turns.Given as goal
 
 abbrev pub invariant-loop-number : goal.invariant-loop-number
 invariant-loop-number g l = record {
