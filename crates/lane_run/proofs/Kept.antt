@@ -5,7 +5,6 @@ use Rattle.std.specs.List.Sorted.{IsPermutation}
 use Rattle.std.proofs.Common.{ℕ, ◌≡◌, ◌≤◌, ◌<◌, ◌+◌, nat_eq, Some, List, [], ◌∷◌, length, map, take, arith, refl, sym, ap, ◌∙◌, subst, ◌++◌, filter}
 use Rattle.clock_cell.specs.Views.{reading_after, writes}
 use Rattle.clock_model.specs.Clocks.{last_stamp}
-use Rattle.counted_row.specs.declared.view.Entry.{Entry}
 use Rattle.lane_notes.specs.Notes.{NotesOf, both_noted}
 use Rattle.lane_notes.specs.declared.notes.EntryNote.{EntryNote}
 use Rattle.lane_notes.specs.declared.notes.LookNote.{LookNote}

@@ -1,6 +1,6 @@
 -- What all lanes leave together at the end of a run: of each call what its lane kept, all notes, and what the last passes have seen.
 use Rattle.std.specs.List.{AllByRecursion, slice_get}
-use Rattle.std.specs.Prelude.{ℕ, ◌≡◌, ◌≤◌, ◌<◌, ◌-◌, Option, None, Some, List, get_or, length}
+use Rattle.std.specs.Prelude.{ℕ, ◌≡◌, ◌≤◌, ◌<◌, ◌-◌, Option, None, Some, List, [], get_or, length}
 use Rattle.clock_cell.specs.Views.{writes}
 use Rattle.clock_model.specs.Clocks.{last_stamp}
 use Rattle.lane_notes.specs.Notes.{NotesOf}
