@@ -1,5 +1,5 @@
 -- The clock after one write and after a list of writes, and when a write is refused.
-use Rattle.std.specs.Prelude.{◌≡◌, ℕ, ◌+◌, ◌^◌, ◌≤◌, ◌<◌, ◌↔◌, max, nat_eq, if◌then◌else◌, List, [], ◌∷◌, Result, Err, take}
+use Rattle.std.specs.Prelude.{◌≡◌, ℕ, ◌+◌, ◌^◌, ◌≤◌, ◌<◌, ◌↔◌, max, nat_eq, if◌then◌else◌, List, [], ◌∷◌, Result, Err, IfOk, OnErr, take}
 use Rattle.ktime.specs.Readings.{ClockReading, latest}
 use Rattle.clock_model.specs.declared.write.Write.{Write}
 use Rattle.clock_model.specs.declared.write.Write.TheVariants as writes
@@ -44,6 +44,12 @@ pub record IsRefusedAs {T : Type 0} (r : ClockReading) (w : Write) (result : Res
   pub spent : (result ≡ Err ClockSpent) ↔ (last_stamp ≤ r.stamp)
   pub range : (would_be : ℕ)
       → (result ≡ Err (ClockRange would_be)) ↔ ((r.stamp < last_stamp) × (latest < would_be) × (would_be ≡ greatest (after_write r w)))
+
+-- a write, made or refused: it answers the reading after it, which the clock then shows, and a refusal changes nothing
+pub record MakesWrite (w : Write) (old new : ClockReading) (result : Result ClockReading ClockFault) : Type 0 where
+  pub ok : IfOk result (λ r. (r ≡ after_write old w) × (new ≡ r))
+  pub refused : IsRefusedAs old w result
+  pub err : OnErr result (new ≡ old)
 
 -- the reading after a list of writes
 abbrev pub clock_after : ClockReading → List Write → ClockReading

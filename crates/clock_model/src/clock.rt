@@ -1,7 +1,7 @@
 //! The clock as a value: three times and a count of writes, each write checked before it is made.
-ghost use Rattle.std.specs.Prelude.{◌≡◌, ◌+◌, ◌≤◌, if◌then◌else◌, IfOk, OnErr};
+ghost use Rattle.std.specs.Prelude.{◌≡◌, ◌+◌, ◌≤◌, if◌then◌else◌};
 ghost use Rattle.ktime.specs.Readings.{ClockReading, latest};
-ghost use Rattle.clock_model.specs.Clocks.{after_write, at_stamp, greatest, last_stamp, IsRefusedAs};
+ghost use Rattle.clock_model.specs.Clocks.{after_write, at_stamp, greatest, last_stamp, MakesWrite};
 ghost use Rattle.clock_model.specs.declared.write.Write.TheVariants.{Advance, Set, Suspend};
 
 use crate::write::{ClockFault, Write};
@@ -71,36 +71,28 @@ impl Clock {
 
     /// Time passes, in nanoseconds.
     pub fn advance(&mut self, by: u64) -> Result<Reading, ClockFault>
-        ensures ok { IfOk result (λ r. (r ≡ after_write self.old (Advance by)) × (self.new ≡ r)) }
-        ensures refused { IsRefusedAs self.old (Advance by) result }
-        ensures err { OnErr result (self.new ≡ self.old) }
+        ensures { MakesWrite (Advance by) self.old self.new result }
     {
         self.write(Write::Advance { by })
     }
 
     /// Sets the time of day, in nanoseconds.
     pub fn set_real(&mut self, to: u64) -> Result<Reading, ClockFault>
-        ensures ok { IfOk result (λ r. (r ≡ after_write self.old (Set to)) × (self.new ≡ r)) }
-        ensures refused { IsRefusedAs self.old (Set to) result }
-        ensures err { OnErr result (self.new ≡ self.old) }
+        ensures { MakesWrite (Set to) self.old self.new result }
     {
         self.write(Write::Set { to })
     }
 
     /// The machine sleeps, for so many nanoseconds.
     pub fn suspend(&mut self, by: u64) -> Result<Reading, ClockFault>
-        ensures ok { IfOk result (λ r. (r ≡ after_write self.old (Suspend by)) × (self.new ≡ r)) }
-        ensures refused { IsRefusedAs self.old (Suspend by) result }
-        ensures err { OnErr result (self.new ≡ self.old) }
+        ensures { MakesWrite (Suspend by) self.old self.new result }
     {
         self.write(Write::Suspend { by })
     }
 
     /// Makes one write.
     pub fn write(&mut self, write: Write) -> Result<Reading, ClockFault>
-        ensures ok { IfOk result (λ r. (r ≡ after_write self.old write) × (self.new ≡ r)) }
-        ensures refused { IsRefusedAs self.old write result }
-        ensures err { OnErr result (self.new ≡ self.old) }
+        ensures { MakesWrite write self.old self.new result }
     {
         let was = self.reading;
         if was.stamp >= LAST_STAMP {

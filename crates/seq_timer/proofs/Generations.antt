@@ -8,8 +8,8 @@ use Rattle.ktime.specs.declared.clock_id.ClockId.{ClockId}
 use Rattle.seq_timer.specs.declared.event.Event.{Event}
 use Rattle.seq_timer.specs.declared.event.Event.TheVariants as events
 use Rattle.seq_timer.specs.Steps.{Timer, opening, Needs, after, reply_to, arms_again}
-use Rattle.seq_timer.specs.Histories.{Entry, AreSteps, IsLegal, claim_in, next_finish, with_span, spans_from}
-use Rattle.seq_timer.specs.Laws.{cancel_in, is_told, is_cancelled, is_claimed}
+use Rattle.seq_timer.specs.Histories.{Entry, AreSteps, IsLegal, claim_in, cancel_in, next_finish, with_span, spans_from}
+use Rattle.seq_timer.specs.Laws.{is_told, is_cancelled, is_claimed}
 use Rattle.seq_timer.proofs.StepKinds.{some_of}
 
 -- the armed generation is a number of an entry

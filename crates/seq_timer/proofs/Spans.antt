@@ -5,8 +5,8 @@ use Rattle.std.proofs.Math.Logic.{⊎_elim}
 use Rattle.std.proofs.lemmas.Option.{same_Some}
 use Rattle.ktime.specs.declared.clock_id.ClockId.{ClockId}
 use Rattle.seq_timer.specs.Steps.{Timer, opening, after, reply_to}
-use Rattle.seq_timer.specs.Histories.{Entry, AreSteps, IsLegal, after_all, claim_in, is_finish, next_finish, Span, with_span, spans_from, spans_of, IsInside}
-use Rattle.seq_timer.specs.Laws.{finish_in, AreApart, IsInOne, IsOfOneGeneration}
+use Rattle.seq_timer.specs.Histories.{Entry, AreSteps, IsLegal, after_all, claim_in, finish_in, is_finish, next_finish, Span, with_span, spans_from, spans_of, IsInside}
+use Rattle.seq_timer.specs.Laws.{AreApart, IsInOne, IsOfOneGeneration}
 use Rattle.seq_timer.proofs.StepKinds.{IsClaiming, IsFinishing, IsPassing, kind_of}
 
 -- ---- spans do not overlap

@@ -4,8 +4,7 @@ use Rattle.std.proofs.lemmas.Bool.{false≢true}
 use Rattle.seq_timer.specs.declared.event.Event.{Event}
 use Rattle.seq_timer.specs.declared.event.Event.TheVariants as events
 use Rattle.seq_timer.specs.Steps.{Timer, Needs, after, reply_to}
-use Rattle.seq_timer.specs.Histories.{claim_in, is_finish}
-use Rattle.seq_timer.specs.Laws.{finish_in}
+use Rattle.seq_timer.specs.Histories.{claim_in, finish_in, is_finish}
 
 pub record IsClaiming (t : Timer) (e : Event) : Type 0 where
   pub generation : ℕ

@@ -55,14 +55,23 @@ Holds t seen.Spent = t.limit ≤ t.stamp
 abbrev pub HoldsAt : ClockId → ℕ → List Entry → ℕ → Observation → Type 0
 HoldsAt clock limit history stamp observation = Holds (state_after clock limit (take stamp history)) observation
 
--- the generation that a claim answers
+-- the generation that a claim answers, that a cancel does, and that a finish does
+abbrev pub told_in : Reply → Option ℕ × Option ℕ × Option ℕ
+told_in (replies.Claim generation) = (Some generation, None, None)
+told_in (replies.Cancel generation) = (None, Some generation, None)
+told_in (replies.Finish generation rearmed) = (None, None, Some generation)
+told_in (replies.Out was_armed) = (None, None, None)
+told_in (replies.Start base clock expires was_armed) = (None, None, None)
+told_in (replies.Forward count expires) = (None, None, None)
+
 abbrev pub claim_in : Reply → Option ℕ
-claim_in (replies.Claim generation) = Some generation
-claim_in (replies.Out was_armed) = None
-claim_in (replies.Start base clock expires was_armed) = None
-claim_in (replies.Cancel generation) = None
-claim_in (replies.Forward count expires) = None
-claim_in (replies.Finish generation rearmed) = None
+claim_in reply = (told_in reply).0
+
+abbrev pub cancel_in : Reply → Option ℕ
+cancel_in reply = (told_in reply).1
+
+abbrev pub finish_in : Reply → Option ℕ
+finish_in reply = (told_in reply).2
 
 -- whether an event is a finish
 abbrev pub is_finish : Event → Bool

@@ -2,27 +2,7 @@
 use Rattle.std.specs.Prelude.{ℕ, ◌≡◌, ◌<◌, ◌≤◌, ◌-◌, ◌⊎◌, Bool, false, nat_eq, Option, Some, None, List, [], ◌∷◌, length, take, slice_get}
 use Rattle.std.specs.List.{AllByRecursion, list_any}
 use Rattle.ktime.specs.declared.clock_id.ClockId.{ClockId}
-use Rattle.seq_timer.specs.declared.event.Reply.{Reply}
-use Rattle.seq_timer.specs.declared.event.Reply.TheVariants as replies
-use Rattle.seq_timer.specs.Histories.{Entry, Span, IsInside, claim_in, state_after}
-
--- the generation that a cancel answers
-abbrev pub cancel_in : Reply → Option ℕ
-cancel_in (replies.Cancel generation) = Some generation
-cancel_in (replies.Out was_armed) = None
-cancel_in (replies.Start base clock expires was_armed) = None
-cancel_in (replies.Claim generation) = None
-cancel_in (replies.Forward count expires) = None
-cancel_in (replies.Finish generation rearmed) = None
-
--- the generation that a finish answers
-abbrev pub finish_in : Reply → Option ℕ
-finish_in (replies.Finish generation rearmed) = Some generation
-finish_in (replies.Out was_armed) = None
-finish_in (replies.Start base clock expires was_armed) = None
-finish_in (replies.Cancel generation) = None
-finish_in (replies.Claim generation) = None
-finish_in (replies.Forward count expires) = None
+use Rattle.seq_timer.specs.Histories.{Entry, Span, IsInside, claim_in, cancel_in, finish_in, state_after}
 
 -- whether this generation is told
 abbrev pub is_told : ℕ → Option ℕ → Bool

@@ -12,28 +12,6 @@ use Rattle.seq_timer.specs.Contents.{IsContentOf, IsFreeFor}
 use Rattle.seq_timer.proofs.Contents.{Changes, IsContentOf-after, IsContentOf-elsewhere, IsQueuedAs-from, apart-after}
 use Rattle.timer_core.specs.Kept.{Agrees, AreAllowed, IsConsistent, IsSameSize, Kept, Makes, Permits, after_event, base_at, content_at, step_all, timer_in}
 
--- ---- consistent, and agreeing while a timer may be on the move
-
-pub agrees : (k : Kept) → IsConsistent k → Agrees k
-agrees k all = record {
-  contents = all.contents;
-  rooms = all.rooms;
-  placed = all.placed;
-  apart = λ id moves. absurd (true≢false (sym moves ∙ all.still id));
-  few_bases = all.few_bases;
-  few_timers = all.few_timers;
-}
-
-pub consistent : (k : Kept) → Agrees k → ((id : ℕ) → (timer_in k id).moving ≡ false) → IsConsistent k
-consistent k all still = record {
-  contents = all.contents;
-  rooms = all.rooms;
-  placed = all.placed;
-  still = still;
-  few_bases = all.few_bases;
-  few_timers = all.few_timers;
-}
-
 -- ---- the timers and bases after an event
 
 pub timer-itself : (k : Kept) (id : ℕ) (e : Event) → id < length k.timers → timer_in (after_event k id e) id ≡ after (timer_in k id) e
@@ -173,8 +151,10 @@ permits-moving k id (events.Finish restart) needs moves = tt
 pub consistent-one : (k : Kept) (id : ℕ) (e : Event) → IsConsistent k → id < length k.timers → Needs (timer_in k id) e → Permits k id e
     → (after (timer_in k id) e).moving ≡ false → IsConsistent (after_event k id e)
 consistent-one k id e all within needs permits still =
-    consistent (after_event k id e) (agrees-after k id e (agrees k all) within needs permits)
-    (still-after k (after_event k id e) id (e ∷ []) (makes-one k id e within needs) all.still still)
+    record {
+      agrees = agrees-after k id e all.agrees within needs permits;
+      still = still-after k (after_event k id e) id (e ∷ []) (makes-one k id e within needs) all.still still;
+    }
 
 -- what a second event of the timer needs, of the state that the first has led to
 pub needs-next : (k : Kept) (id : ℕ) (d e : Event) → id < length k.timers → Needs (after (timer_in k id) d) e → Needs (timer_in (after_event k id d) id) e
@@ -194,6 +174,7 @@ consistent-two k id base e all within inside allowed still =
     let mid = after_event k id out in
     let needs = needs-next k id out e within allowed.1.0 in
     let there = subst (λ n. id < n) (sym (size-after k id out).timers) within in
-    consistent (after_event mid id e)
-    (agrees-after mid id e (agrees-after k id out (agrees k all) within allowed.0 inside) there needs (permits-next k id base e within allowed.1.0))
-    (still-after k (after_event mid id e) id (out ∷ e ∷ []) (makes-two k id out e within allowed) all.still still)
+    let all_mid = agrees-after k id out all.agrees within allowed.0 inside in record {
+      agrees = agrees-after mid id e all_mid there needs (permits-next k id base e within allowed.1.0);
+      still = still-after k (after_event mid id e) id (out ∷ e ∷ []) (makes-two k id out e within allowed) all.still still;
+    }

@@ -21,7 +21,7 @@ due-there timers base id reading due =
 pub kept-first : (k : Kept) (base : ℕ) (reading : ClockReading) (r : Option (ℕ × ℕ)) → IsConsistent k → r ≡ first_due (content_at k base) reading
     → IfSome r (λ p. p.1 < length k.timers) × IfSome r (λ p. IsNextDue (timer_in k) base reading p.1)
     × IfSome r (λ p. p.0 ≡ (timer_in k p.1).expires) × IfNone r ((id : ℕ) → is_due_on base reading (timer_in k id) ≡ false)
-kept-first k base reading None all is = (tt, tt, tt, first_due-none (timer_in k) base reading (content_at k base) (all.contents base) (sym is))
+kept-first k base reading None all is = (tt, tt, tt, first_due-none (timer_in k) base reading (content_at k base) (all.agrees.contents base) (sym is))
 kept-first k base reading (Some p) all is =
-    let next = first_due-next (timer_in k) base reading (content_at k base) p (all.contents base) (sym is) in
+    let next = first_due-next (timer_in k) base reading (content_at k base) p (all.agrees.contents base) (sym is) in
     (due-there k.timers base p.1 reading next.0.due, next.0, next.1, tt)

@@ -1,5 +1,5 @@
 -- Bases without timers and timers of which nothing has happened yet agree.
-use Rattle.std.proofs.Common.{◌≡◌, ◌<◌, ◌≤◌, ℕ, false, List, [], None, map, length, get_or, replicate, arith, refl, sym, ap, ◌∙◌, subst}
+use Rattle.std.proofs.Common.{◌≡◌, ◌<◌, ◌≤◌, ℕ, false, List, [], None, map, length, get_or, replicate, arith, refl, sym, ap, ◌∙◌, subst, true≢false}
 use Rattle.std.specs.List.{IsDistinct}
 use Rattle.std.proofs.Math.Logic.{⊎_elim}
 use Rattle.std.proofs.lemmas.Bool.{cases_lt}
@@ -55,14 +55,20 @@ empty-agrees list limit base = record {
 pub consistent-opened : (bases : ℕ) (list : List ClockId) (limit : ℕ) → 1 ≤ bases → bases ≤ 8 → length list ≤ 256 → IsConsistent (opened bases list limit)
 consistent-opened bases list limit some few timers =
     let room = length list in
-    let many = length-replicate bases (empty_base room) in record {
-      contents = λ base. subst (IsContentOf (timer_at (map (λ clock. opening clock limit) list)) base) (sym (empty-at bases base room))
-          (empty-agrees list limit base);
-      rooms = λ base below. ap (λ (b : BaseState). b.room)
-          (get_or-replicate bases base (empty_base room) (empty_base 0) (subst (λ n. base < n) many below))
-          ∙ sym (length-map list (λ clock. opening clock limit));
-      placed = λ id. each_opening (λ t. t.base < length (replicate bases (empty_base room))) (λ c l. subst (λ n. 0 < n) (sym many) some) list limit id;
-      still = λ id. each_opening (λ t. t.moving ≡ false) (λ c l. refl) list limit id;
-      few_bases = subst (λ n. n ≤ 8) (sym many) few;
-      few_timers = subst (λ n. n ≤ 256) (sym (length-map list (λ clock. opening clock limit))) timers;
+    let many = length-replicate bases (empty_base room) in
+    let still : (id : ℕ) → (timer_at (map (λ clock. opening clock limit) list) id).moving ≡ false =
+    λ id. each_opening (λ t. t.moving ≡ false) (λ c l. refl) list limit id in
+    record {
+      agrees = record {
+        contents = λ base. subst (IsContentOf (timer_at (map (λ clock. opening clock limit) list)) base) (sym (empty-at bases base room))
+            (empty-agrees list limit base);
+        rooms = λ base below. ap (λ (b : BaseState). b.room)
+            (get_or-replicate bases base (empty_base room) (empty_base 0) (subst (λ n. base < n) many below))
+            ∙ sym (length-map list (λ clock. opening clock limit));
+        placed = λ id. each_opening (λ t. t.base < length (replicate bases (empty_base room))) (λ c l. subst (λ n. 0 < n) (sym many) some) list limit id;
+        apart = λ id moves. absurd (true≢false (sym moves ∙ still id));
+        few_bases = subst (λ n. n ≤ 8) (sym many) few;
+        few_timers = subst (λ n. n ≤ 256) (sym (length-map list (λ clock. opening clock limit))) timers;
+      };
+      still = still;
     }

@@ -95,11 +95,7 @@ pub record Agrees (k : Kept) : Type 0 where
   pub few_bases : length k.bases ≤ 8
   pub few_timers : length k.timers ≤ 256
 
--- each base agrees with the timers, its queues have room for all of them, and no timer is on the move
+-- the same, and no timer is on the move
 pub record IsConsistent (k : Kept) : Type 0 where
-  pub contents : (base : ℕ) → IsContentOf (timer_in k) base (content_at k base)
-  pub rooms : (base : ℕ) → base < length k.bases → (base_at k base).room ≡ length k.timers
-  pub placed : (id : ℕ) → (timer_in k id).base < length k.bases
+  pub agrees : Agrees k
   pub still : (id : ℕ) → (timer_in k id).moving ≡ false
-  pub few_bases : length k.bases ≤ 8
-  pub few_timers : length k.timers ≤ 256
