@@ -1,9 +1,10 @@
 -- Passes of a row while its bases are timed.
-use Rattle.std.specs.Prelude.{◌≡◌, ℕ, ◌+◌, [], length}
+use Rattle.std.specs.Prelude.{◌≡◌, ℕ, ◌+◌, ◌≤◌, [], length, None, Some}
 use Rattle.ktime.specs.Readings.{ClockReading}
 use Rattle.pass_names.specs.Names.{after_split, child_of, first_pass_id}
 use Rattle.seq_timer.specs.Systems.{BaseContent}
 use Rattle.base_row.specs.declared.view.BaseView.{BaseView}
+use Rattle.base_row.specs.declared.view.HeldContent.{HeldContent}
 use Rattle.base_row.specs.Calls.{BaseRowOf, BasePassOf, IsBasePassOf}
 use Rattle.base_row.specs.Rests.{Rests}
 
@@ -24,9 +25,21 @@ pub record AreBoth (row : BaseRowOf) (main other : BasePassOf) : Type 0 where
   pub splitter : main.knows.id ≡ after_split first_pass_id
   pub child : other.knows.id ≡ child_of first_pass_id
 
+-- a pass holds this base of the row, and carries no timer
+pub record Holds (row : BaseRowOf) (pass : BasePassOf) (base : HeldContent BaseContent) : Type 0 where
+  pub pass_of : IsBasePassOf row pass
+  pub held : pass.knows.held ≡ Some base
+  pub free : pass.knows.carry ≡ None
+
 -- a pass has made so many entries, under so many takes of a lock
 pub record Worked (entries locks : ℕ) (v w : BaseView BaseContent) : Type 0 where
   pub mine : length w.mine ≡ length v.mine + entries
   pub takes : length w.takes ≡ length v.takes + locks
   pub claims : w.claims ≡ v.claims
   pub id : w.id ≡ v.id
+
+-- at most one entry was made on a base that stays held
+pub record WorkedOn (entries : ℕ) (old new : HeldContent BaseContent) (v w : BaseView BaseContent) : Type 0 where
+  pub base : new.base ≡ old.base
+  pub worked : Worked entries 0 v w
+  pub most : entries ≤ 1
