@@ -1,7 +1,7 @@
 -- Passes of a row while its bases are timed.
 use Rattle.std.specs.Prelude.{◌≡◌, ℕ, ◌+◌, ◌≤◌, [], length, None, Some}
 use Rattle.ktime.specs.Readings.{ClockReading}
-use Rattle.pass_names.specs.Names.{after_split, child_of, first_pass_id}
+use Rattle.pass_names.specs.Names.{AreFirstTwo}
 use Rattle.seq_timer.specs.Systems.{BaseContent}
 use Rattle.base_row.specs.declared.view.BaseView.{BaseView}
 use Rattle.base_row.specs.declared.view.HeldContent.{HeldContent}
@@ -22,8 +22,7 @@ pub record IsReady (row : BaseRowOf) (pass : BasePassOf) : Type 0 where
 pub record AreBoth (row : BaseRowOf) (main other : BasePassOf) : Type 0 where
   pub first : IsReady row main
   pub second : IsReady row other
-  pub splitter : main.knows.id ≡ after_split first_pass_id
-  pub child : other.knows.id ≡ child_of first_pass_id
+  pub ids : AreFirstTwo main.knows.id other.knows.id
 
 -- a pass holds this base of the row, and carries no timer
 pub record Holds (row : BaseRowOf) (pass : BasePassOf) (base : HeldContent BaseContent) : Type 0 where
