@@ -1,6 +1,6 @@
 -- What a base has when it is let go, by what its last holder has then seen.
-use Rattle.std.proofs.Common.{◌≡◌, ℕ, refl, ap, sym, ◌∙◌, subst, true, false, arith}
-use Rattle.std.specs.Prelude.{Option, Some, None, Bool, nat_eq, is_some, ◌&&◌, if◌then◌else◌}
+use Rattle.std.proofs.Common.{◌≡◌, ℕ, ap, sym, ◌∙◌, subst, false, arith}
+use Rattle.std.specs.Prelude.{Some, None, nat_eq}
 use Rattle.std.proofs.lemmas.Bool.Decides.{nat_tests}
 use Rattle.ktime.specs.Readings.{ClockReading}
 use Rattle.seq_timer.specs.Tables.{is_due_on, runs_on}
@@ -12,6 +12,7 @@ use Rattle.seq_timer.specs.Systems.{BaseContent}
 use Rattle.base_row.specs.Rules.{number_of}
 use Rattle.base_row.specs.Plays.{KnowsBases}
 use Rattle.base_row.specs.Calls.{AreFresh, LetsGo, timer_seen}
+use Rattle.base_row.proofs.Placed.{none_runs}
 use Rattle.seq_timer.proofs.Agreement.{agrees}
 use Rattle.seq_timer.proofs.Due.{first_due-none}
 
@@ -22,12 +23,7 @@ module _ (o : Opening) (h : HeldContent BaseContent) (v w : BaseView BaseContent
       ((agrees o.bases o.timers w.seen fresh.each knows.allowed).contents h.base)
 
   pub left_idle : h.content.content.running ≡ None → (t : ℕ) → runs_on h.base (timer_seen o w t) ≡ false
-  left_idle is t = none_there (timer_seen o w t).running (nat_eq (timer_seen o w t).base h.base) (sym (content.running t) ∙ ap (generation_in t) is)
-    where
-      none_there : (r : Option ℕ) (there : Bool) → (if there then r else None) ≡ None → (is_some r && there) ≡ false
-      none_there r true e = ap (λ q. is_some q && true) e
-      none_there None false e = refl
-      none_there (Some g) false e = refl
+  left_idle is t = none_runs (timer_seen o w t).running (nat_eq (timer_seen o w t).base h.base) (sym (content.running t) ∙ ap (generation_in t) is)
 
   pub left_busy : (t g : ℕ) → h.content.content.running ≡ Some (t, g) → running_on h.base (timer_seen o w t) ≡ Some g
   left_busy t g is = sym (content.running t) ∙ (ap (generation_in t) is ∙ named_here)
