@@ -2,6 +2,7 @@
 use Rattle.base_row.specs.Places.{lock_at, word_at}
 use Rattle.std.specs.Prelude.{◌≡◌, ℕ, ◌+◌, ◌<◌, ◌≤◌, ◌==◌, true, List, [], ◌∷◌, ◌++◌, length, set}
 use Rattle.std.specs.Prelude.{slice_index, max, replicate, ◌≢◌, ◌⊎◌, ◌^◌, ◌-◌, Option, Some, None, MatchBool, unwrap_or, if◌then◌else◌}
+use Rattle.atomic_table.specs.Seated.{TableId}
 use Rattle.atomic_table.specs.Table.{Me, Step, rest}
 use Rattle.pass_names.specs.Counts.{one_if, count, without_first}
 use Rattle.pass_names.specs.Names.{IsLast, first_pass_id, gone_pass_id, after_split, child_of, after_retire}
@@ -20,6 +21,17 @@ use Rattle.base_row.specs.Rules.{is_base_claim, carried_in, number_of, now, runs
 -- what a pass's seat has: what the pass knows, and the slots that it carries
 abbrev pub SeatState : Type 0
 SeatState = Me (Option BaseContent) (BaseView BaseContent)
+
+-- this seat's pass holds no base and carries no slot, and may try the lock of a base, whose word in the table is this one
+pub record MayTryLock (table : TableId) (bases : ℕ) (opened : List Timer) (of : TableId) (me : SeatState) (base word : ℕ) : Type 0 where
+  pub same : of ≡ table
+  pub about : me.0.opening ≡ record { bases = bases; timers = opened }
+  pub at : word ≡ lock_at base
+  pub inside : word < table.words
+  pub within : base < bases
+  pub live : me.0.id.live ≡ true
+  pub idle : me.0.held ≡ None
+  pub empty : me.1 ≡ []
 
 -- what a step tells of the seat before, the number found or stored, and the seat after
 abbrev pub StepMeaning : Type 1

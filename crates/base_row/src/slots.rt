@@ -1,7 +1,6 @@
 //! Getting a base out of its slot, and putting it back.
-ghost use Rattle.base_row.specs.Places.{lock_at};
 ghost use Rattle.std.specs.Prelude.{◌≡◌, ◌+◌, ◌-◌, ◌^◌, ◌%◌, ◌<◌, true, None, Some, [], ◌∷◌, slice_index, MatchOption};
-ghost use Rattle.base_row.specs.Plays.{GotBase, Lost};
+ghost use Rattle.base_row.specs.Plays.{GotBase, Lost, MayTryLock};
 ghost use Rattle.seq_timer.specs.Systems.{BaseContent};
 
 use crate::held::HeldBase;
@@ -43,11 +42,7 @@ fn take_free(
     word: usize,
     first: u64,
 ) -> Option<HeldBase>
-    requires same { seat.old.table_id ≡ cells.now.table_id }
-    requires about { seat.old.me.0.opening ≡ record { bases = cells.now.key.0; timers = cells.now.key.1.value.items } }
-    requires word { (word ≡ lock_at base) × (word < cells.now.table_id.words) × (base < cells.now.key.0) }
-    requires live { seat.old.me.0.id.live ≡ true }
-    requires idle { (seat.old.me.0.held ≡ None) × (seat.old.me.1 ≡ []) }
+    requires may { MayTryLock cells.now.table_id cells.now.key.0 cells.now.key.1.value.items seat.old.table_id seat.old.me base word }
     requires known { (slice_index seat.old.me.0.met base ≡ first) × (first % 2 ≡ 0) × (first < 2 ^ 64 - 2) }
     ensures same { seat.new.table_id ≡ seat.old.table_id }
     ensures taken { MatchOption result
@@ -68,11 +63,7 @@ fn take_free(
 
 /// Looks at a lock, and takes it if it is free.
 pub fn attempt(cells: &BaseCells, seat: &mut BaseSeat, base: u32, word: usize) -> Option<HeldBase>
-    requires same { seat.old.table_id ≡ cells.now.table_id }
-    requires about { seat.old.me.0.opening ≡ record { bases = cells.now.key.0; timers = cells.now.key.1.value.items } }
-    requires word { (word ≡ lock_at base) × (word < cells.now.table_id.words) × (base < cells.now.key.0) }
-    requires live { seat.old.me.0.id.live ≡ true }
-    requires idle { (seat.old.me.0.held ≡ None) × (seat.old.me.1 ≡ []) }
+    requires may { MayTryLock cells.now.table_id cells.now.key.0 cells.now.key.1.value.items seat.old.table_id seat.old.me base word }
     ensures same { seat.new.table_id ≡ seat.old.table_id }
     ensures taken { MatchOption result
         (Lost seat.old.me.0.opening base seat.old.me seat.new.me)

@@ -8,7 +8,7 @@ ghost use Rattle.seq_timer.specs.Steps.{after};
 ghost use Rattle.base_row.specs.Rules.{number_of};
 ghost use Rattle.seq_timer.specs.Systems.{BaseContent};
 ghost use Rattle.base_row.specs.declared.view.HeldContent.{HeldContent};
-ghost use Rattle.base_row.specs.Plays.{MayEnter, OwnNeeds, EntersAs, Met, TookBase, FoundTaken, LooksOwn, FreesOwn, KnowsBases, entry_of_event, seen_timer};
+ghost use Rattle.base_row.specs.Plays.{MayEnter, OwnNeeds, EntersAs, MayTryLock, Met, TookBase, FoundTaken, LooksOwn, FreesOwn, KnowsBases, entry_of_event, seen_timer};
 ghost use Rattle.base_row.specs.Calls.{LearnsFrom, Absorbs};
 
 use crate::cell::BaseCell;
@@ -59,11 +59,7 @@ pub fn look(cells: &BaseCells, seat: &mut BaseSeat, word: usize) -> u64
 
 /// Loads a base's lock word.
 pub fn meet_lock(cells: &BaseCells, seat: &mut BaseSeat, base: u32, word: usize) -> u64
-    requires same { seat.old.table_id ≡ cells.now.table_id }
-    requires about { seat.old.me.0.opening ≡ record { bases = cells.now.key.0; timers = cells.now.key.1.value.items } }
-    requires word { (word ≡ lock_at base) × (word < cells.now.table_id.words) × (base < cells.now.key.0) }
-    requires live { seat.old.me.0.id.live ≡ true }
-    requires idle { seat.old.me.0.held ≡ None }
+    requires may { MayTryLock cells.now.table_id cells.now.key.0 cells.now.key.1.value.items seat.old.table_id seat.old.me base word }
     ensures same { seat.new.table_id ≡ seat.old.table_id }
     ensures met { Met cells.now.key.0 cells.now.key.1.value.items number_of base seat.old.me result seat.new.me }
 {
@@ -72,11 +68,7 @@ pub fn meet_lock(cells: &BaseCells, seat: &mut BaseSeat, base: u32, word: usize)
 
 /// Takes a base's lock, if its word still is as it was met.
 pub fn take(cells: &BaseCells, seat: &mut BaseSeat, base: u32, word: usize, first: u64) -> bool
-    requires same { seat.old.table_id ≡ cells.now.table_id }
-    requires about { seat.old.me.0.opening ≡ record { bases = cells.now.key.0; timers = cells.now.key.1.value.items } }
-    requires word { (word ≡ lock_at base) × (word < cells.now.table_id.words) × (base < cells.now.key.0) }
-    requires live { seat.old.me.0.id.live ≡ true }
-    requires idle { (seat.old.me.0.held ≡ None) × (seat.old.me.1 ≡ []) }
+    requires may { MayTryLock cells.now.table_id cells.now.key.0 cells.now.key.1.value.items seat.old.table_id seat.old.me base word }
     requires known { (slice_index seat.old.me.0.met base ≡ first) × (first % 2 ≡ 0) × (first < 2 ^ 64 - 2) }
     ensures same { seat.new.table_id ≡ seat.old.table_id }
     ensures took { MatchBool result

@@ -1,9 +1,10 @@
 -- Passes of a row while its bases are timed.
-use Rattle.std.specs.Prelude.{◌≡◌, ℕ, ◌+◌, [], length}
+use Rattle.std.specs.Prelude.{◌≡◌, ℕ, ◌+◌, ◌≤◌, [], length, None, Some}
 use Rattle.ktime.specs.Readings.{ClockReading}
-use Rattle.pass_names.specs.Names.{after_split, child_of, first_pass_id}
+use Rattle.pass_names.specs.Names.{AreFirstTwo}
 use Rattle.seq_timer.specs.Systems.{BaseContent}
 use Rattle.base_row.specs.declared.view.BaseView.{BaseView}
+use Rattle.base_row.specs.declared.view.HeldContent.{HeldContent}
 use Rattle.base_row.specs.Calls.{BaseRowOf, BasePassOf, IsBasePassOf}
 use Rattle.base_row.specs.Rests.{Rests}
 
@@ -21,8 +22,13 @@ pub record IsReady (row : BaseRowOf) (pass : BasePassOf) : Type 0 where
 pub record AreBoth (row : BaseRowOf) (main other : BasePassOf) : Type 0 where
   pub first : IsReady row main
   pub second : IsReady row other
-  pub splitter : main.knows.id ≡ after_split first_pass_id
-  pub child : other.knows.id ≡ child_of first_pass_id
+  pub ids : AreFirstTwo main.knows.id other.knows.id
+
+-- a pass holds this base of the row, and carries no timer
+pub record Holds (row : BaseRowOf) (pass : BasePassOf) (base : HeldContent BaseContent) : Type 0 where
+  pub pass_of : IsBasePassOf row pass
+  pub held : pass.knows.held ≡ Some base
+  pub free : pass.knows.carry ≡ None
 
 -- a pass has made so many entries, under so many takes of a lock
 pub record Worked (entries locks : ℕ) (v w : BaseView BaseContent) : Type 0 where
@@ -30,3 +36,9 @@ pub record Worked (entries locks : ℕ) (v w : BaseView BaseContent) : Type 0 wh
   pub takes : length w.takes ≡ length v.takes + locks
   pub claims : w.claims ≡ v.claims
   pub id : w.id ≡ v.id
+
+-- at most one entry was made on a base that stays held
+pub record WorkedOn (entries : ℕ) (old new : HeldContent BaseContent) (v w : BaseView BaseContent) : Type 0 where
+  pub base : new.base ≡ old.base
+  pub worked : Worked entries 0 v w
+  pub most : entries ≤ 1

@@ -1,9 +1,8 @@
 //! What the threads do: a timer is started and cancelled under one lock of its base, so many times.
-ghost use Rattle.std.specs.Prelude.{◌≡◌, ◌*◌, ◌^◌, ◌<◌, ◌≤◌, length, Some, None};
+ghost use Rattle.std.specs.Prelude.{◌≡◌, ◌*◌, ◌^◌, ◌<◌, ◌≤◌, length};
 ghost use Rattle.ktime.specs.declared.mode.Mode.TheVariants.{Abs};
 ghost use Rattle.seq_timer.specs.declared.event.Event.TheVariants as events;
-ghost use Rattle.base_row.specs.Calls.{IsBasePassOf};
-ghost use Rattle.base_row_bench.specs.Working.{AreBoth, IsReady, Worked, beginning};
+ghost use Rattle.base_row_bench.specs.Working.{AreBoth, Holds, IsReady, Worked, WorkedOn, beginning};
 
 use base_row::{BaseRow, HeldBase, Pass};
 use bench_cases::{Random, Workers};
@@ -34,14 +33,10 @@ pub fn start_event(base: u32, ns: u64) -> Event
 
 /// Starts a timer of a held base, and answers how many entries that made.
 pub fn start(row: &BaseRow, pass: &mut Pass, held: &mut HeldBase, timer: u32, ns: u64) -> u64
-    requires row { IsBasePassOf row.now pass.old }
+    requires holds { Holds row.now pass.old held.old }
     requires within { timer < length row.now.about.timers }
-    requires held { (pass.old.knows.held ≡ Some held.old) × (pass.old.knows.carry ≡ None) }
-    ensures row { IsBasePassOf row.now pass.new }
-    ensures held { (pass.new.knows.held ≡ Some held.new) × (pass.new.knows.carry ≡ None) }
-    ensures base { held.new.base ≡ held.old.base }
-    ensures worked { Worked result 0 pass.old.knows pass.new.knows }
-    ensures most { result ≤ 1 }
+    ensures holds { Holds row.now pass.new held.new }
+    ensures worked { WorkedOn result held.old held.new pass.old.knows pass.new.knows }
 {
     let base = held.base();
     let state = row.state(pass, held, timer);
@@ -54,14 +49,10 @@ pub fn start(row: &BaseRow, pass: &mut Pass, held: &mut HeldBase, timer: u32, ns
 
 /// Cancels a timer that is armed on a held base, and answers how many entries that made.
 fn cancel(row: &BaseRow, pass: &mut Pass, held: &mut HeldBase, timer: u32) -> u64
-    requires row { IsBasePassOf row.now pass.old }
+    requires holds { Holds row.now pass.old held.old }
     requires within { timer < length row.now.about.timers }
-    requires held { (pass.old.knows.held ≡ Some held.old) × (pass.old.knows.carry ≡ None) }
-    ensures row { IsBasePassOf row.now pass.new }
-    ensures held { (pass.new.knows.held ≡ Some held.new) × (pass.new.knows.carry ≡ None) }
-    ensures base { held.new.base ≡ held.old.base }
-    ensures worked { Worked result 0 pass.old.knows pass.new.knows }
-    ensures most { result ≤ 1 }
+    ensures holds { Holds row.now pass.new held.new }
+    ensures worked { WorkedOn result held.old held.new pass.old.knows pass.new.knows }
 {
     let state = row.state(pass, held, timer);
     if state.base() != held.base() || state.is_moving() {

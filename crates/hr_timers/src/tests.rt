@@ -3,6 +3,7 @@ ghost use Rattle.std.specs.Prelude.{◌≡◌, [], length, IfOk};
 ghost use Rattle.pass_names.specs.Names.{IsLast, first_pass_id};
 ghost use Rattle.hr_timers.specs.Known.{IsPassOf};
 
+mod answers;
 mod callers;
 mod claims;
 mod limits;
@@ -10,8 +11,8 @@ mod passes;
 mod threads;
 
 use crate::{NowAnswer, Pass, StartAnswer, Timers};
+use answers::{cancelled, moved, word};
 use ktime::{ClockId, Mode, Reading};
-use seq_timer::Peek;
 use std::alloc::{AllocError, Global};
 use std::sync::Wait;
 use std::test::Fail;
@@ -49,35 +50,12 @@ fn two_started<R: Wait>(
 fn a_timer_moves_and_is_cancelled(rt: HostRuntime) -> Result<(), Fail> {
     let (timers, mut pass) = two_timers(rt.alloc())?;
     let started = timers.start(&rt, &mut pass, 0, Mode::Rel, 7, 1, Reading::at(1000));
-    assert_eq!(rt;
-        started,
-        StartAnswer::Started {
-            was_armed: false,
-            generation: 2,
-            base: 1,
-            outs: 2,
-            clock: ClockId::Monotonic,
-            expires: 1007
-        }
-    );
+    assert_eq!(rt; started, moved(1007));
     let peek = timers.peek(&mut pass, 0);
-    assert_eq!(rt;
-        peek,
-        Peek {
-            stamp: 2,
-            base: 1,
-            enqueued: true,
-            running: false,
-            moving: false
-        }
-    );
-    let cancelled = CancelAnswer::Cancelled {
-        generation: 2,
-        number: 3,
-    };
+    assert_eq!(rt; peek, word(2, 1, true, false));
     assert_eq!(rt;
         timers.cancel_now(&mut pass, 0),
-        NowAnswer::Tried(cancelled)
+        NowAnswer::Tried(cancelled(2, 3))
     );
     assert_eq!(rt;
         timers.try_to_cancel(&rt, &mut pass, 0),
@@ -95,11 +73,7 @@ fn a_start_at_the_limit_is_refused(rt: HostRuntime) -> Result<(), Fail> {
         timers.start(&rt, &mut pass, 0, Mode::Abs, 8, 0, Reading::at(1000)),
         StartAnswer::Spent { stamp: 1 }
     );
-    let cancelled = CancelAnswer::Cancelled {
-        generation: 1,
-        number: 2,
-    };
-    assert_eq!(rt; timers.try_to_cancel(&rt, &mut pass, 0), cancelled);
+    assert_eq!(rt; timers.try_to_cancel(&rt, &mut pass, 0), cancelled(1, 2));
     timers.close(pass);
     Ok(())
 }

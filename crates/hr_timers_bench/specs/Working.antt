@@ -1,6 +1,6 @@
 -- Passes of timers while their calls are timed.
 use Rattle.std.specs.Prelude.{◌≡◌, ℕ, ◌+◌, ◌==◌, [], length, if◌then◌else◌}
-use Rattle.pass_names.specs.Names.{after_split, child_of, first_pass_id}
+use Rattle.pass_names.specs.Names.{AreFirstTwo}
 use Rattle.base_row.specs.Calls.{BaseRowOf}
 use Rattle.hr_timers.specs.declared.answer.StartAnswer.{StartAnswer}
 use Rattle.hr_timers.specs.declared.answer.StartAnswer.TheVariants as starts
@@ -15,8 +15,7 @@ pub record IsUnclaimed (timers : BaseRowOf) (pass : PassOf) : Type 0 where
 pub record AreTwoPasses (timers : BaseRowOf) (main other : PassOf) : Type 0 where
   pub first : IsUnclaimed timers main
   pub second : IsUnclaimed timers other
-  pub splitter : main.known.id ≡ after_split first_pass_id
-  pub child : other.known.id ≡ child_of first_pass_id
+  pub ids : AreFirstTwo main.known.id other.known.id
 
 -- a pass has made so many entries
 pub record MadeEntries (entries : ℕ) (v w : PassOf) : Type 0 where

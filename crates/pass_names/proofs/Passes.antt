@@ -12,6 +12,12 @@ use Rattle.pass_names.proofs.Counts.{total-append, count-without_first, count-wi
 pub within_more : (k n : ℕ) → one_if (within k (n + 1)) ≡ one_if (within k n) + one_if (eqb (n + 1) k)
 within_more k n = grind (arith, nat_tests)
 
+-- a place that neither pass has added is counted as before, once the second one, which had no places, is taken in
+pub count_joined : (i k : ℕ) (joined first second was : List (ℕ × ℕ)) → joined ≡ first ++ second
+    → count (is_place i k) first ≡ count (is_place i k) was → count (is_place i k) second ≡ 0 → count (is_place i k) joined ≡ count (is_place i k) was
+count_joined i k joined first second was e same none =
+    omega (arith, ap (count (is_place i k)) e, total-append (λ (p : ℕ × ℕ). one_if (is_place i k p)) first second, same, none)
+
 -- the count of a place after one more
 pub count_place : (i j k n : ℕ) (mine : List (ℕ × ℕ))
     → count (is_place j k) (mine ++ (i, n) ∷ []) ≡ count (is_place j k) mine + one_if (eqb i j && eqb n k)

@@ -41,6 +41,11 @@ child_of l = record { live = true; name = next_name l; made = 0; split = [] }
 abbrev pub after_split : PassId → PassId
 after_split l = record l { made = l.made + 1; split = l.split ++ next_name l ∷ [] }
 
+-- the first pass after it has split one off, and that one
+pub record AreFirstTwo (first second : PassId) : Type 0 where
+  pub splitter : first ≡ after_split first_pass_id
+  pub child : second ≡ child_of first_pass_id
+
 -- the pass after it has taken in another, for which it answered
 abbrev pub after_retire : PassId → PassId → PassId
 after_retire l other = record l { split = without_first (same other.name) l.split ++ other.split }

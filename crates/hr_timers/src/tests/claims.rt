@@ -1,11 +1,12 @@
 //! Claims: when a timer is due, what its function finds while it runs, and what its end leaves.
+use super::answers::{finished, running, word};
 use super::callers::{Found, claim, claimed_timer, finish, forward, run};
 use super::{two_started, two_timers};
 use crate::{ClaimNumbers, NowAnswer};
 use ktime::{Mode, Reading};
-use seq_timer::{Peek, Rearmed};
+use seq_timer::Rearmed;
 use std::test::Fail;
-use timer_core::{CancelAnswer, Finished, ForwardAnswer};
+use timer_core::ForwardAnswer;
 
 #[test]
 fn a_timer_runs_at_its_expiry_and_once(rt: HostRuntime) -> Result<(), Fail> {
@@ -31,11 +32,10 @@ fn a_timer_runs_at_its_expiry_and_once(rt: HostRuntime) -> Result<(), Fail> {
         number: 2,
     };
     assert_eq!(rt; claim.numbers(), numbers);
-    let finished = Finished {
-        number: 3,
-        rearmed: Rearmed::No,
-    };
-    assert_eq!(rt; finish(&rt, &timers, &mut pass, claim, false), finished);
+    assert_eq!(rt;
+        finish(&rt, &timers, &mut pass, claim, false),
+        finished(3, Rearmed::No)
+    );
     assert_eq!(rt;
         run(&rt, &timers, &mut pass, 0, Reading::at(2000)),
         Found::NoneDue
@@ -69,20 +69,12 @@ fn of_two_timers_the_earlier_runs_first(rt: HostRuntime) -> Result<(), Fail> {
 #[test]
 fn a_timer_whose_function_runs_is_not_cancelled(rt: HostRuntime) -> Result<(), Fail> {
     let (timers, mut pass, claim) = claimed_timer(&rt, rt.alloc())?;
-    let running = CancelAnswer::Running {
-        generation: 1,
-        stamp: 2,
-    };
-    assert_eq!(rt; timers.try_to_cancel(&rt, &mut pass, 0), running);
-    assert_eq!(rt; timers.cancel_now(&mut pass, 0), NowAnswer::Tried(running));
-    let peek = Peek {
-        stamp: 2,
-        base: 0,
-        enqueued: false,
-        running: true,
-        moving: false,
-    };
-    assert_eq!(rt; timers.peek(&mut pass, 0), peek);
+    assert_eq!(rt; timers.try_to_cancel(&rt, &mut pass, 0), running(2));
+    assert_eq!(rt;
+        timers.cancel_now(&mut pass, 0),
+        NowAnswer::Tried(running(2))
+    );
+    assert_eq!(rt; timers.peek(&mut pass, 0), word(2, 0, false, true));
     finish(&rt, &timers, &mut pass, claim, false);
     timers.close(pass);
     Ok(())
@@ -99,11 +91,10 @@ fn a_periodic_timer_goes_past_the_reading(rt: HostRuntime) -> Result<(), Fail> {
             expires: 1037
         }
     );
-    let finished = Finished {
-        number: 4,
-        rearmed: Rearmed::Again { generation: 4 },
-    };
-    assert_eq!(rt; finish(&rt, &timers, &mut pass, claim, true), finished);
+    assert_eq!(rt;
+        finish(&rt, &timers, &mut pass, claim, true),
+        finished(4, Rearmed::Again { generation: 4 })
+    );
     assert_eq!(rt;
         run(&rt, &timers, &mut pass, 0, Reading::at(1036)),
         Found::NoneDue

@@ -4,14 +4,15 @@ ghost use Rattle.pass_names.specs.Names.{IsLast, first_pass_id};
 ghost use Rattle.seq_timer.specs.Steps.{greatest_limit};
 ghost use Rattle.hr_timers.specs.Known.{IsPassOf, claimed_as};
 
+use super::answers::{cancelled, finished, moved, running, word};
 use super::callers::{claim, finish, forward};
 use crate::{Claim, Pass, StartAnswer, Timers};
 use ktime::{ClockId, Mode, Reading};
-use seq_timer::{Peek, Rearmed};
+use seq_timer::Rearmed;
 use std::alloc::Global;
 use std::sync::Wait;
 use std::test::Fail;
-use timer_core::{CancelAnswer, Finished, ForwardAnswer};
+use timer_core::ForwardAnswer;
 
 /// One timer on two bases, started to expire at once on one of them, what the start answered, and the timer's claim.
 fn claimed_on<R: Wait>(
@@ -50,17 +51,6 @@ fn started_again(expires: u64) -> StartAnswer {
     }
 }
 
-/// The state word of a timer at rest.
-fn at_rest(stamp: u64, base: u32) -> Peek {
-    Peek {
-        stamp,
-        base,
-        enqueued: false,
-        running: false,
-        moving: false,
-    }
-}
-
 #[test]
 fn a_start_of_a_running_timer_is_kept_by_its_finish(rt: HostRuntime) -> Result<(), Fail> {
     let (timers, mut pass, _, claim) = claimed_on(&rt, rt.alloc(), 100, Mode::Abs, 0)?;
@@ -72,22 +62,13 @@ fn a_start_of_a_running_timer_is_kept_by_its_finish(rt: HostRuntime) -> Result<(
         stamp: 3,
     };
     assert_eq!(rt; forward(&rt, &timers, &mut pass, &claim, now, 10), armed);
-    let running = CancelAnswer::Running {
-        generation: 1,
-        stamp: 3,
-    };
-    assert_eq!(rt; timers.try_to_cancel(&rt, &mut pass, 0), running);
-    let finished = Finished {
-        number: 4,
-        rearmed: Rearmed::No,
-    };
-    assert_eq!(rt; finish(&rt, &timers, &mut pass, claim, true), finished);
-    let cancelled = CancelAnswer::Cancelled {
-        generation: 3,
-        number: 5,
-    };
-    assert_eq!(rt; timers.try_to_cancel(&rt, &mut pass, 0), cancelled);
-    assert_eq!(rt; timers.peek(&mut pass, 0), at_rest(5, 0));
+    assert_eq!(rt; timers.try_to_cancel(&rt, &mut pass, 0), running(3));
+    assert_eq!(rt;
+        finish(&rt, &timers, &mut pass, claim, true),
+        finished(4, Rearmed::No)
+    );
+    assert_eq!(rt; timers.try_to_cancel(&rt, &mut pass, 0), cancelled(3, 5));
+    assert_eq!(rt; timers.peek(&mut pass, 0), word(5, 0, false, false));
     timers.close(pass);
     Ok(())
 }
@@ -107,17 +88,16 @@ fn a_full_history_refuses_the_rearming(rt: HostRuntime) -> Result<(), Fail> {
     assert_eq!(rt; (second.generation(), second.number()), (3, 5));
     let spent = ForwardAnswer::Spent { stamp: 5 };
     assert_eq!(rt; forward(&rt, &timers, &mut pass, &second, now, 10), spent);
-    let refused = Finished {
-        number: 6,
-        rearmed: Rearmed::Spent { stamp: 5 },
-    };
-    assert_eq!(rt; finish(&rt, &timers, &mut pass, second, true), refused);
+    assert_eq!(rt;
+        finish(&rt, &timers, &mut pass, second, true),
+        finished(6, Rearmed::Spent { stamp: 5 })
+    );
     let spent = StartAnswer::Spent { stamp: 6 };
     assert_eq!(rt;
         timers.start(&rt, &mut pass, 0, Mode::Rel, 0, 0, now),
         spent
     );
-    assert_eq!(rt; timers.peek(&mut pass, 0), at_rest(6, 0));
+    assert_eq!(rt; timers.peek(&mut pass, 0), word(6, 0, false, false));
     timers.close(pass);
     Ok(())
 }
@@ -125,25 +105,16 @@ fn a_full_history_refuses_the_rearming(rt: HostRuntime) -> Result<(), Fail> {
 #[test]
 fn a_start_that_moves_its_timer_is_whole_at_the_limit(rt: HostRuntime) -> Result<(), Fail> {
     let (timers, mut pass, started, claim) = claimed_on(&rt, rt.alloc(), 1, Mode::Rel, 1)?;
-    let moved = StartAnswer::Started {
-        was_armed: false,
-        generation: 2,
-        base: 1,
-        outs: 2,
-        clock: ClockId::Monotonic,
-        expires: 0,
-    };
-    assert_eq!(rt; started, moved);
+    assert_eq!(rt; started, moved(0));
     assert_eq!(rt;
         (claim.generation(), claim.base(), claim.number()),
         (2, 1, 3)
     );
-    let refused = Finished {
-        number: 4,
-        rearmed: Rearmed::Spent { stamp: 3 },
-    };
-    assert_eq!(rt; finish(&rt, &timers, &mut pass, claim, true), refused);
-    assert_eq!(rt; timers.peek(&mut pass, 0), at_rest(4, 1));
+    assert_eq!(rt;
+        finish(&rt, &timers, &mut pass, claim, true),
+        finished(4, Rearmed::Spent { stamp: 3 })
+    );
+    assert_eq!(rt; timers.peek(&mut pass, 0), word(4, 1, false, false));
     timers.close(pass);
     Ok(())
 }

@@ -1,8 +1,9 @@
 //! Two passes: what one does while the other holds a base, moves a timer or runs a function.
+use super::answers::{busy, cancelled, moved, running};
 use super::callers::{Found, claim, finish, retire, run};
 use super::{two_started, two_timers};
-use crate::{NowAnswer, Pass, StartAnswer};
-use ktime::{ClockId, Mode, Reading};
+use crate::{NowAnswer, Pass};
+use ktime::{Mode, Reading};
 use seq_timer::Rearmed;
 use std::test::Fail;
 use timer_core::CancelAnswer;
@@ -13,11 +14,7 @@ fn a_base_where_a_function_runs_is_busy(rt: HostRuntime) -> Result<(), Fail> {
     let now = Reading::at(1000);
     let mut other = timers.split(&mut pass);
     if let Some(claim) = claim(&rt, &timers, &mut pass, 0, now) {
-        let busy = Found::Busy {
-            timer: 0,
-            generation: 1,
-        };
-        assert_eq!(rt; run(&rt, &timers, &mut other, 0, now), busy);
+        assert_eq!(rt; run(&rt, &timers, &mut other, 0, now), busy(1));
         assert_eq!(rt; run(&rt, &timers, &mut other, 1, now), Found::NoneDue);
         finish(&rt, &timers, &mut pass, claim, false);
     }
@@ -37,16 +34,8 @@ fn one_pass_runs_what_another_has_started(rt: HostRuntime) -> Result<(), Fail> {
     timers.start(&rt, &mut pass, 0, Mode::Rel, 0, 0, now);
     let mut other = timers.split(&mut pass);
     if let Some(claim) = claim(&rt, &timers, &mut other, 0, now) {
-        let running = CancelAnswer::Running {
-            generation: 1,
-            stamp: 2,
-        };
-        assert_eq!(rt; timers.try_to_cancel(&rt, &mut pass, 0), running);
-        let busy = Found::Busy {
-            timer: 0,
-            generation: 1,
-        };
-        assert_eq!(rt; run(&rt, &timers, &mut pass, 0, now), busy);
+        assert_eq!(rt; timers.try_to_cancel(&rt, &mut pass, 0), running(2));
+        assert_eq!(rt; run(&rt, &timers, &mut pass, 0, now), busy(1));
         let finished = finish(&rt, &timers, &mut other, claim, false);
         assert_eq!(rt; finished.rearmed, Rearmed::No);
     }
@@ -61,28 +50,16 @@ fn one_pass_runs_what_another_has_started(rt: HostRuntime) -> Result<(), Fail> {
 fn a_function_on_one_base_leaves_the_other_free(rt: HostRuntime) -> Result<(), Fail> {
     let (timers, mut pass) = two_timers(rt.alloc())?;
     let now = Reading::at(0);
-    let started = StartAnswer::Started {
-        was_armed: false,
-        generation: 2,
-        base: 1,
-        outs: 2,
-        clock: ClockId::Monotonic,
-        expires: 0,
-    };
     assert_eq!(rt;
         timers.start(&rt, &mut pass, 0, Mode::Rel, 0, 1, now),
-        started
+        moved(0)
     );
     let mut other = timers.split(&mut pass);
     if let Some(claim) = claim(&rt, &timers, &mut pass, 1, now) {
         timers.start(&rt, &mut other, 1, Mode::Rel, 0, 0, now);
         let ran = run(&rt, &timers, &mut other, 0, now);
         assert_eq!(rt; ran, Found::Ran { timer: 1 });
-        let busy = Found::Busy {
-            timer: 0,
-            generation: 2,
-        };
-        assert_eq!(rt; run(&rt, &timers, &mut other, 1, now), busy);
+        assert_eq!(rt; run(&rt, &timers, &mut other, 1, now), busy(2));
         finish(&rt, &timers, &mut pass, claim, false);
     }
     assert_eq!(rt; timers.peek(&mut pass, 0).stamp, 4);
@@ -105,22 +82,17 @@ fn a_held_base_is_contended_and_no_other(rt: HostRuntime) -> Result<(), Fail> {
     );
     assert!(rt; timers.peek(&mut pass, 0).enqueued);
     assert!(rt; timers.peek(&mut pass, 1).enqueued);
-    let free = CancelAnswer::Cancelled {
-        generation: 2,
-        number: 3,
-    };
-    assert_eq!(rt; timers.cancel_now(&mut pass, 1), NowAnswer::Tried(free));
+    assert_eq!(rt;
+        timers.cancel_now(&mut pass, 1),
+        NowAnswer::Tried(cancelled(2, 3))
+    );
     timers.base_row().unlock_base(&mut inner, held);
     let other = Pass { inner };
     timers.check(&other);
     retire(&timers, &mut pass, other);
-    let cancelled = CancelAnswer::Cancelled {
-        generation: 1,
-        number: 2,
-    };
     assert_eq!(rt;
         timers.cancel_now(&mut pass, 0),
-        NowAnswer::Tried(cancelled)
+        NowAnswer::Tried(cancelled(1, 2))
     );
     timers.close(pass);
     Ok(())

@@ -10,11 +10,11 @@ load-requires c =
     let seat = c.args.seat.now in
     let key = c.args.cells.now.key in
     let told =
-    meets_by key.0 key.1.value.items seat.id seat.me.0 c.requires.about c.requires.live c.args.cells.now.table_id.slots seat.me.1 c.args.base
-    c.args.word c.requires.word.0 c.requires.word.2 c.requires.idle in
-    (c.requires.same, c.requires.word.1, told)
+    meets_by key.0 key.1.value.items seat.id seat.me.0 c.requires.may.about c.requires.may.live c.args.cells.now.table_id.slots seat.me.1 c.args.base
+    c.args.word c.requires.may.at c.requires.may.within c.requires.may.idle in
+    (c.requires.may.same, c.requires.may.inside, told)
 
 pub returns-clause-met : goal.returns-clause-met
 returns-clause-met c =
-    subst (λ (o : Opening). Met o.bases o.timers number_of c.args.base c.args.seat.now.me c.load.result c.load.new.seat.me) c.requires.about
-    (c.load.ensures.2 c.args.base c.requires.word.0)
+    subst (λ (o : Opening). Met o.bases o.timers number_of c.args.base c.args.seat.now.me c.load.result c.load.new.seat.me) c.requires.may.about
+    (c.load.ensures.2 c.args.base c.requires.may.at)

@@ -12,11 +12,11 @@ compare_exchange-requires c =
     let seat = c.args.seat.now in
     let key = c.args.cells.now.key in
     let half : c.args.first ≡ c.args.first / 2 + c.args.first / 2 = omega (arith, c.requires.known.1) in (
-      c.requires.same,
-      c.requires.word.1,
-      rw (c.requires.idle.1)
-          (takes_by key.0 key.1.value.items seat.id seat.me.0 c.requires.about c.requires.live c.args.cells.now.table_id.slots c.args.base
-          c.args.word (c.args.first / 2) c.args.first (c.args.first + 1) c.requires.word.0 c.requires.word.2 c.requires.idle.0
+      c.requires.may.same,
+      c.requires.may.inside,
+      rw (c.requires.may.empty)
+          (takes_by key.0 key.1.value.items seat.id seat.me.0 c.requires.may.about c.requires.may.live c.args.cells.now.table_id.slots c.args.base
+          c.args.word (c.args.first / 2) c.args.first (c.args.first + 1) c.requires.may.at c.requires.may.within c.requires.may.idle
           (c.requires.known.0 ∙ half) half (omega arith)),
     )
 
@@ -36,4 +36,4 @@ returns-clause-took c =
     (subst (λ (o : Opening). MatchBool (nat_eq c.compare_exchange.result c.args.first) ((k : ℕ) × (c.args.first + 2 ≡ k + k)
     × TookBase o.bases o.timers number_of c.args.base k (c.args.first + 1) c.args.seat.now.me c.compare_exchange.new.seat.me)
     (FoundTaken o.bases o.timers number_of c.args.base c.args.first c.args.seat.now.me c.compare_exchange.result
-    c.compare_exchange.new.seat.me)) c.requires.about (c.compare_exchange.ensures.2 c.args.base c.requires.word.0))
+    c.compare_exchange.new.seat.me)) c.requires.may.about (c.compare_exchange.ensures.2 c.args.base c.requires.may.at))

@@ -1,7 +1,7 @@
-use Rattle.std.proofs.Common.{ℕ, ap, arith, ◌∙◌}
-use Rattle.pass_names.specs.Counts.{count, one_if}
+use Rattle.std.proofs.Common.{ap, ◌∙◌}
+use Rattle.pass_names.specs.Counts.{count}
 use Rattle.pass_names.specs.Passes.{is_place}
-use Rattle.pass_names.proofs.Counts.{total-append}
+use Rattle.pass_names.proofs.Passes.{count_joined}
 use Rattle.pass_names.proofs.Names.{answers_split}
 use Rattle.hr_timers.specs.Known.{KnownOfTimers}
 use Rattle.shared_timer_uses.proofs.threads.start_by_two.Goals as goal
@@ -16,12 +16,6 @@ retire-requires-clause-answers g c =
 pub returns-clause-elsewhere : goal.returns-clause-elsewhere
 returns-clause-elsewhere g c = λ i k apart.
     let made = c.start_both-made.ensures.made in
-    omega (
-      arith,
-      ap (count (is_place i k)) c.retire.ensures.retires.mine,
-      total-append (λ (p : ℕ × ℕ). one_if (is_place i k p)) c.start_both-made.new.first.known.mine c.start_both-made.new.second.known.mine,
-      made.0.elsewhere i k apart,
-      made.1.elsewhere i k apart,
-      ap (λ (v : KnownOfTimers). count (is_place i k) v.mine) c.split-other.ensures.splitter,
-      ap (λ (v : KnownOfTimers). count (is_place i k) v.mine) c.split-other.ensures.new,
-    )
+    count_joined i k _ _ _ _ c.retire.ensures.retires.mine
+    (made.0.elsewhere i k apart ∙ ap (λ (v : KnownOfTimers). count (is_place i k) v.mine) c.split-other.ensures.splitter)
+    (made.1.elsewhere i k apart ∙ ap (λ (v : KnownOfTimers). count (is_place i k) v.mine) c.split-other.ensures.new)
