@@ -1,17 +1,18 @@
 //! Scripts that are read whole, and the refusals of others.
-use super::laws::{at_most_one_script_is_read, bytes_are_read_or_refused};
-use super::parsing::parse;
-use crate::refusal::ParseError;
-use crate::script::{Call, Callback, Declaration, Kind, LaneCall};
 use clock_model::Write;
 use ktime::{ClockId, Mode, TimeSpec};
+use script_text::{
+    Call, Callback, Declaration, Kind, LaneCall, ParseError, Round, at_most_one_script_is_read,
+    bytes_are_read_or_refused, parse,
+};
 use std::alloc::Global;
 use std::process::Abort;
 
 const HEADER: &str = "hrt 1\nbases 1\nlanes 1\nlimit 100\n";
 
-/// A timer of each kind, and a round's beginning.
-const KINDS: &str = "raw 0 monotonic once\nposix 1 realtime 0\nfd 2 boottime 0\nround\n";
+/// The header, a timer of each kind, and a round's beginning.
+const KINDS: &str = "hrt 1\nbases 1\nlanes 1\nlimit 100\n\
+    raw 0 monotonic once\nposix 1 realtime 0\nfd 2 boottime 0\nround\n";
 
 const WHOLE: &str = "#\u{7} anything\n\nhrt 1\nbases 2\nlanes 1\nlimit 281474976710640\n\
     raw 0 monotonic once\nraw 1 realtime every 10\n# more\nraw 2 boottime cancels\n\
@@ -23,7 +24,7 @@ const WHOLE: &str = "#\u{7} anything\n\nhrt 1\nbases 2\nlanes 1\nlimit 281474976
     0 expire 1 4096\n0 advance 1\n0 set 2\n0 suspend 3";
 
 /// The line that tells the refusal of these bytes; nothing where they are read.
-fn refusal(rt: &impl Abort, alloc: Global, bytes: &[u8]) -> String {
+pub(super) fn refusal(rt: &impl Abort, alloc: Global, bytes: &[u8]) -> String {
     match parse(alloc, bytes) {
         Err(ParseError::Refused(refused)) => refused.text(alloc).expect(rt, "memory"),
         Err(ParseError::OutOfMemory) => panic!(rt; "memory"),
@@ -31,67 +32,70 @@ fn refusal(rt: &impl Abort, alloc: Global, bytes: &[u8]) -> String {
     }
 }
 
-const REFUSED: [(&str, &str, &str); 27] = [
-    ("", "", "line 1: Unfinished\n"),
-    ("", "hrt 2\n", "line 1: Version\n"),
-    ("", "hrt  1\n", "line 1: BadSpace\n"),
-    ("", "hrt 1 1\n", "line 1: WordCount\n"),
-    ("", "hrt 1\nbas", "line 2: UnknownWord\n"),
-    ("", "hrt 1\nbases 01\n", "line 2: BadNumber\n"),
-    ("", "hrt 1\nbases 9\n", "line 2: BaseLimit\n"),
-    ("", "hrt 1\nlanes 1\n", "line 2: BadPlace\n"),
-    (HEADER, "raw 1 monotonic once\n", "line 5: BadId\n"),
-    (HEADER, "0 peek 0\n", "line 5: BadPlace\n"),
-    (HEADER, "round\n1 advance 5\n", "line 6: LaneLimit\n"),
-    (HEADER, "round\n0 peek 0\n", "line 6: NoTimer\n"),
-    (HEADER, "round\n0 expire 0 4097\n", "line 6: BudgetLimit\n"),
+/// Compares what is told of these bytes.
+fn shows(rt: &impl Abort, alloc: Global, bytes: &[u8], told: &str) {
+    let text = refusal(rt, alloc, bytes);
+    assert_eq!(rt; text.as_str(), told);
+}
+
+/// Compares what is told of each of these lines behind the ones before.
+fn tells(rt: &impl Abort, alloc: Global, before: &str, lines: &[(&str, &str)]) {
+    for (rest, told) in lines {
+        let script = format!(in alloc; "{before}{rest}").expect(rt, "memory");
+        let text = refusal(rt, alloc, script.as_bytes());
+        assert_eq!(rt; text.as_str(), *told, "{rest}");
+    }
+}
+
+const FROM_THE_FIRST_LINE: [(&str, &str); 13] = [
+    ("", "line 1: Unfinished\n"),
+    ("hrt 2\n", "line 1: Version\n"),
+    ("hrt  1\n", "line 1: BadSpace\n"),
+    ("hrt 1 1\n", "line 1: WordCount\n"),
+    ("hrt 1\nbas", "line 2: UnknownWord\n"),
+    ("hrt 1\nbases 01\n", "line 2: BadNumber\n"),
+    ("hrt 1\nbases 9\n", "line 2: BaseLimit\n"),
+    ("hrt 1\nlanes 1\n", "line 2: BadPlace\n"),
+    ("\n# none\nhrt 1\n", "line 4: Unfinished\n"),
+    ("hrt 1\nbases 1\nlanes 17\n", "line 3: LaneLimit\n"),
+    ("hrt 1\nbases 1\nlanes 0\n", "line 3: LaneLimit\n"),
     (
-        HEADER,
-        "raw 0 monotonic once\nround\n0 read 0 8\n",
-        "line 7: WrongKind\n",
-    ),
-    ("", "\n# none\nhrt 1\n", "line 4: Unfinished\n"),
-    ("", "hrt 1\nbases 1\nlanes 17\n", "line 3: LaneLimit\n"),
-    ("", "hrt 1\nbases 1\nlanes 0\n", "line 3: LaneLimit\n"),
-    (
-        "",
         "hrt 1\nbases 1\nlanes 16\nlimit 9\nround\n15 set 7\n16 set 7\n",
         "line 7: LaneLimit\n",
     ),
     (
-        "",
         "hrt 1\nbases 1\nlanes 1\nlimit 281474976710641\n",
         "line 4: EventLimit\n",
     ),
-    (HEADER, "raw 1 monotonic starts 5 1\n", "line 5: BadId\n"),
+];
+
+const BEHIND_THE_HEADER: [(&str, &str); 14] = [
+    ("raw 1 monotonic once\n", "line 5: BadId\n"),
+    ("0 peek 0\n", "line 5: BadPlace\n"),
+    ("round\n1 advance 5\n", "line 6: LaneLimit\n"),
+    ("round\n0 peek 0\n", "line 6: NoTimer\n"),
+    ("round\n0 expire 0 4097\n", "line 6: BudgetLimit\n"),
     (
-        HEADER,
-        "raw 0 monotonic starts 5 1\n",
-        "line 5: BaseLimit\n",
+        "raw 0 monotonic once\nround\n0 read 0 8\n",
+        "line 7: WrongKind\n",
     ),
-    (HEADER, "posix 0 realtime 1\n", "line 5: BaseLimit\n"),
-    (HEADER, "fd 0 boottime 1\n", "line 5: BaseLimit\n"),
-    (HEADER, "fd 0 boottime\n", "line 5: WordCount\n"),
+    ("raw 1 monotonic starts 5 1\n", "line 5: BadId\n"),
+    ("raw 0 monotonic starts 5 1\n", "line 5: BaseLimit\n"),
+    ("posix 0 realtime 1\n", "line 5: BaseLimit\n"),
+    ("fd 0 boottime 1\n", "line 5: BaseLimit\n"),
+    ("fd 0 boottime\n", "line 5: WordCount\n"),
+    ("round\nraw 7 monotonic once\n", "line 6: BadPlace\n"),
     (
-        HEADER,
-        "round\nraw 7 monotonic once\n",
-        "line 6: BadPlace\n",
-    ),
-    (
-        HEADER,
         "round\n\n#\nround\n0 expire 1 4097\n",
         "line 9: BaseLimit\n",
     ),
-    (HEADER, "round", ""),
+    ("round", ""),
 ];
 
 #[test]
 fn tells_the_first_line_that_is_refused_and_why(rt: HostRuntime) {
-    for (before, rest, told) in REFUSED {
-        let script = format!(in rt.alloc(); "{before}{rest}").expect(&rt, "memory");
-        let text = refusal(&rt, rt.alloc(), script.as_bytes());
-        assert_eq!(rt; text.as_str(), told, "{rest}");
-    }
+    tells(&rt, rt.alloc(), "", &FROM_THE_FIRST_LINE);
+    tells(&rt, rt.alloc(), HEADER, &BEHIND_THE_HEADER);
 }
 
 const WRONG_KINDS: [(&str, &str); 12] = [
@@ -114,44 +118,39 @@ const WRONG_KINDS: [(&str, &str); 12] = [
 
 #[test]
 fn refuses_a_call_that_is_not_for_the_kind_of_its_timer(rt: HostRuntime) {
-    for (calls, told) in WRONG_KINDS {
-        let script = format!(in rt.alloc(); "{HEADER}{KINDS}{calls}").expect(&rt, "memory");
-        let text = refusal(&rt, rt.alloc(), script.as_bytes());
-        assert_eq!(rt; text.as_str(), told, "{calls}");
+    tells(&rt, rt.alloc(), KINDS, &WRONG_KINDS);
+}
+
+fn counts_bytes(rt: &impl Abort, alloc: Global) {
+    let most = vec![in alloc; b'#'; 1048576].expect(rt, "memory");
+    shows(rt, alloc, &most, "line 2: Unfinished\n");
+    let more = vec![in alloc; b'#'; 1048577].expect(rt, "memory");
+    shows(rt, alloc, &more, "line 0: TooLong\n");
+}
+
+fn counts_timers(rt: &impl Abort, alloc: Global) {
+    let mut script = format!(in alloc; "{HEADER}").expect(rt, "memory");
+    for timer in 0..257 {
+        writeln!(script, "raw {timer} monotonic once").expect(rt, "memory");
     }
+    shows(rt, alloc, script.as_bytes(), "line 261: TimerLimit\n");
+}
+
+fn counts_calls(rt: &impl Abort, alloc: Global) {
+    let mut script = format!(in alloc; "{HEADER}round\n").expect(rt, "memory");
+    for _ in 0..65536 {
+        script.push_str("0 set 7\n").expect(rt, "memory");
+    }
+    shows(rt, alloc, script.as_bytes(), "");
+    script.push_str("1 set 7\n").expect(rt, "memory");
+    shows(rt, alloc, script.as_bytes(), "line 65542: CallLimit\n");
 }
 
 #[test]
 fn counts_bytes_timers_and_calls(rt: HostRuntime) {
-    let most = vec![in rt.alloc(); b'#'; 1048576].expect(&rt, "memory");
-    assert_eq!(rt;
-        refusal(&rt, rt.alloc(), &most).as_str(),
-        "line 2: Unfinished\n"
-    );
-    let more = vec![in rt.alloc(); b'#'; 1048577].expect(&rt, "memory");
-    assert_eq!(rt;
-        refusal(&rt, rt.alloc(), &more).as_str(),
-        "line 0: TooLong\n"
-    );
-    let mut script = format!(in rt.alloc(); "{HEADER}").expect(&rt, "memory");
-    for timer in 0..257 {
-        let line = format!(in rt.alloc(); "raw {timer} monotonic once\n").expect(&rt, "memory");
-        script.push_str(&line).expect(&rt, "memory");
-    }
-    assert_eq!(rt;
-        refusal(&rt, rt.alloc(), script.as_bytes()).as_str(),
-        "line 261: TimerLimit\n"
-    );
-    let mut script = format!(in rt.alloc(); "{HEADER}round\n").expect(&rt, "memory");
-    for _ in 0..65536 {
-        script.push_str("0 set 7\n").expect(&rt, "memory");
-    }
-    assert_eq!(rt; refusal(&rt, rt.alloc(), script.as_bytes()).as_str(), "");
-    script.push_str("1 set 7\n").expect(&rt, "memory");
-    assert_eq!(rt;
-        refusal(&rt, rt.alloc(), script.as_bytes()).as_str(),
-        "line 65542: CallLimit\n"
-    );
+    counts_bytes(&rt, rt.alloc());
+    counts_timers(&rt, rt.alloc());
+    counts_calls(&rt, rt.alloc());
 }
 
 #[test]
@@ -164,15 +163,19 @@ fn reads_a_script_whole(rt: HostRuntime) {
         (2, 1, 281474976710640)
     );
     assert_eq!(rt; script.timers.as_slice(), declarations().as_slice());
-    let [a, b, c, d] = script.rounds.as_slice() else {
+    has_rounds(&rt, script.rounds.as_slice());
+    at_most_one_script_is_read();
+    bytes_are_read_or_refused();
+}
+
+fn has_rounds(rt: &impl Abort, rounds: &[Round]) {
+    let [a, b, c, d] = rounds else {
         panic!(rt; "rounds");
     };
     assert_eq!(rt; a.calls.as_slice(), raw_calls().as_slice());
     assert_eq!(rt; b.calls.as_slice(), object_calls().as_slice());
     assert_eq!(rt; c.calls.as_slice().len(), 0);
     assert_eq!(rt; d.calls.as_slice(), last_calls().as_slice());
-    at_most_one_script_is_read();
-    bytes_are_read_or_refused();
 }
 
 fn declarations() -> [Declaration; 6] {
@@ -232,11 +235,11 @@ fn declared(clock: ClockId, kind: Kind) -> Declaration {
     Declaration { clock, kind }
 }
 
-fn raw(clock: ClockId, callback: Callback) -> Declaration {
+pub(super) fn raw(clock: ClockId, callback: Callback) -> Declaration {
     declared(clock, Kind::Raw { callback })
 }
 
-fn start(timer: u32, mode: Mode, ns: u64, base: u32) -> Call {
+pub(super) fn start(timer: u32, mode: Mode, ns: u64, base: u32) -> Call {
     Call::Start {
         timer,
         mode,

@@ -1,8 +1,5 @@
 //! Scripts that are generated, and that they are read.
-use super::generate;
-use crate::reading::parsing::parse;
-use crate::script::{Call, LaneCall};
-use ktime::Mode;
+use script_text::{generate, parse};
 
 const ONE_LANE: &str = "hrt 1\nbases 1\nlanes 1\nlimit 1000000\n\
     raw 0 monotonic every 100\nraw 1 monotonic once\nround\n0 advance 50\nround\n\

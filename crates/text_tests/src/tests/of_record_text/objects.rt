@@ -1,12 +1,11 @@
 //! Records of POSIX timers and of descriptors, and their texts.
-use crate::item_list::ItemList;
-use crate::record::{
-    AcceptReply, Answer, Armed, ClockLine, Entry, Label, ObjectEntry, ObjectLine, ReadReply,
-    Restart, RunRecord, SettimeReply, Skip,
-};
-use crate::writing::tests::{one, shows, timer_lines};
+use super::{one, shows, timer_lines};
 use clock_model::Write;
 use ktime::{ClockId, Mode};
+use record_text::{
+    AcceptReply, Answer, Armed, ClockLine, Entry, ItemList, Label, ObjectEntry, ObjectLine,
+    ReadReply, Restart, RunRecord, SettimeReply, Skip,
+};
 use std::alloc::{AllocError, Global};
 use std::process::Abort;
 
