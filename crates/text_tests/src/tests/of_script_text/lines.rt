@@ -1,8 +1,7 @@
 //! Lines of scripts by themselves.
-use super::reading::{raw, refusal, start};
+use super::reading::{raw, shows, start, tells_all};
 use ktime::{ClockId, Mode};
-use script_text::Cause::{self, BadByte, BadNumber, BadSpace, UnknownWord, WordCount};
-use script_text::{Callback, LaneCall, ParseError, Refused, number, parse};
+use script_text::{Callback, LaneCall, number, parse};
 
 /// A script whose limit is the end of time: the line is read, and the limit is too great.
 const FAR: &str = "hrt 1\nbases 1\nlanes 1\nlimit 9223372036854775807\n";
@@ -14,8 +13,7 @@ const EACH_PART: &str =
 fn reads_a_line_of_each_part(rt: HostRuntime) {
     let far = number(b"9223372036854775807");
     assert_eq!(rt; far, Some(9223372036854775807));
-    let text = refusal(&rt, rt.alloc(), FAR.as_bytes());
-    assert_eq!(rt; text.as_str(), "line 4: EventLimit\n");
+    shows(&rt, rt.alloc(), FAR.as_bytes(), "line 4: EventLimit\n");
     let Ok(script) = parse(rt.alloc(), EACH_PART.as_bytes()) else {
         panic!(rt; "refused");
     };
@@ -32,33 +30,33 @@ fn reads_a_line_of_each_part(rt: HostRuntime) {
     assert_eq!(rt; round.calls.as_slice(), [call].as_slice());
 }
 
-/// Lines that are refused wherever they stand, each with the first cause against it.
-const REFUSED: [(&str, Cause); 17] = [
-    (" hrt\t1", BadByte),
-    ("hrt 01\u{7f}", BadByte),
-    ("bas ", BadSpace),
-    ("hrt  01", BadSpace),
-    ("bas", UnknownWord),
-    ("0 stop", UnknownWord),
-    ("raw 00 tai never", UnknownWord),
-    ("0", WordCount),
-    ("raw 0 tai", WordCount),
-    ("hrt 01 1", WordCount),
-    ("0 read 0", WordCount),
-    ("00 peek 0", BadNumber),
-    ("raw 00 tai once", BadNumber),
-    ("0 advance 9223372036854775808", BadNumber),
-    ("raw 0 tai every 01", UnknownWord),
-    ("fd 0 tai 01", UnknownWord),
-    ("0 start 0 keep 01 0", UnknownWord),
+// Lines that are refused wherever they stand, by the first cause against them.
+const BAD_BYTES: [&str; 2] = [" hrt\t1", "hrt 01\u{7f}"];
+
+const BAD_SPACES: [&str; 2] = ["bas ", "hrt  01"];
+
+const UNKNOWN_WORDS: [&str; 6] = [
+    "bas",
+    "0 stop",
+    "raw 00 tai never",
+    "raw 0 tai every 01",
+    "fd 0 tai 01",
+    "0 start 0 keep 01 0",
+];
+
+const WORD_COUNTS: [&str; 4] = ["0", "raw 0 tai", "hrt 01 1", "0 read 0"];
+
+const BAD_NUMBERS: [&str; 3] = [
+    "00 peek 0",
+    "raw 00 tai once",
+    "0 advance 9223372036854775808",
 ];
 
 #[test]
 fn tells_the_first_cause_against_a_line(rt: HostRuntime) {
-    for (text, cause) in REFUSED {
-        let Err(ParseError::Refused(refused)) = parse(rt.alloc(), text.as_bytes()) else {
-            panic!(rt; "{text}");
-        };
-        assert_eq!(rt; refused, Refused { line: 1, cause }, "{text}");
-    }
+    tells_all(&rt, rt.alloc(), "", "line 1: BadByte\n", &BAD_BYTES);
+    tells_all(&rt, rt.alloc(), "", "line 1: BadSpace\n", &BAD_SPACES);
+    tells_all(&rt, rt.alloc(), "", "line 1: UnknownWord\n", &UNKNOWN_WORDS);
+    tells_all(&rt, rt.alloc(), "", "line 1: WordCount\n", &WORD_COUNTS);
+    tells_all(&rt, rt.alloc(), "", "line 1: BadNumber\n", &BAD_NUMBERS);
 }

@@ -24,26 +24,40 @@ const WHOLE: &str = "#\u{7} anything\n\nhrt 1\nbases 2\nlanes 1\nlimit 281474976
     0 expire 1 4096\n0 advance 1\n0 set 2\n0 suspend 3";
 
 /// The line that tells the refusal of these bytes; nothing where they are read.
-pub(super) fn refusal(rt: &impl Abort, alloc: Global, bytes: &[u8]) -> String {
-    match parse(alloc, bytes) {
-        Err(ParseError::Refused(refused)) => refused.text(alloc).expect(rt, "memory"),
-        Err(ParseError::OutOfMemory) => panic!(rt; "memory"),
-        Ok(_) => String::new(alloc),
-    }
+fn refusal(rt: &impl Abort, alloc: Global, bytes: &[u8]) -> String {
+    let Err(error) = parse(alloc, bytes) else {
+        return String::new(alloc);
+    };
+    let ParseError::Refused(refused) = error else {
+        panic!(rt; "memory");
+    };
+    refused.text(alloc).expect(rt, "memory")
 }
 
 /// Compares what is told of these bytes.
-fn shows(rt: &impl Abort, alloc: Global, bytes: &[u8], told: &str) {
+pub(super) fn shows(rt: &impl Abort, alloc: Global, bytes: &[u8], told: &str) {
     let text = refusal(rt, alloc, bytes);
     assert_eq!(rt; text.as_str(), told);
 }
 
-/// Compares what is told of each of these lines behind the ones before.
-fn tells(rt: &impl Abort, alloc: Global, before: &str, lines: &[(&str, &str)]) {
+/// Compares what is told of these lines behind the ones before.
+fn tells(rt: &impl Abort, alloc: Global, before: &str, rest: &str, told: &str) {
+    let script = format!(in alloc; "{before}{rest}").expect(rt, "memory");
+    let text = refusal(rt, alloc, script.as_bytes());
+    assert_eq!(rt; text.as_str(), told, "{rest}");
+}
+
+/// The same of each of these, by what is told of it.
+fn tells_each(rt: &impl Abort, alloc: Global, before: &str, lines: &[(&str, &str)]) {
     for (rest, told) in lines {
-        let script = format!(in alloc; "{before}{rest}").expect(rt, "memory");
-        let text = refusal(rt, alloc, script.as_bytes());
-        assert_eq!(rt; text.as_str(), *told, "{rest}");
+        tells(rt, alloc, before, rest, told);
+    }
+}
+
+/// The same of each of these, of which one thing is told.
+pub(super) fn tells_all(rt: &impl Abort, alloc: Global, before: &str, told: &str, lines: &[&str]) {
+    for rest in lines {
+        tells(rt, alloc, before, rest, told);
     }
 }
 
@@ -94,19 +108,22 @@ const BEHIND_THE_HEADER: [(&str, &str); 14] = [
 
 #[test]
 fn tells_the_first_line_that_is_refused_and_why(rt: HostRuntime) {
-    tells(&rt, rt.alloc(), "", &FROM_THE_FIRST_LINE);
-    tells(&rt, rt.alloc(), HEADER, &BEHIND_THE_HEADER);
+    tells_each(&rt, rt.alloc(), "", &FROM_THE_FIRST_LINE);
+    tells_each(&rt, rt.alloc(), HEADER, &BEHIND_THE_HEADER);
 }
 
-const WRONG_KINDS: [(&str, &str); 12] = [
-    ("0 settime 0 0 1 0 0 0\n", "line 9: WrongKind\n"),
-    ("0 gettime 0\n", "line 9: WrongKind\n"),
-    ("0 start 2 rel 5 0\n", "line 9: WrongKind\n"),
-    ("0 cancel 1\n", "line 9: WrongKind\n"),
-    ("0 accept 2\n", "line 9: WrongKind\n"),
-    ("0 overrun 2\n", "line 9: WrongKind\n"),
-    ("0 read 1 8\n", "line 9: WrongKind\n"),
-    ("0 readable 1\n", "line 9: WrongKind\n"),
+const WRONG_KINDS: [&str; 8] = [
+    "0 settime 0 0 1 0 0 0\n",
+    "0 gettime 0\n",
+    "0 start 2 rel 5 0\n",
+    "0 cancel 1\n",
+    "0 accept 2\n",
+    "0 overrun 2\n",
+    "0 read 1 8\n",
+    "0 readable 1\n",
+];
+
+const OTHER_CALLS: [(&str, &str); 4] = [
     ("0 start 2 rel 5 1\n", "line 9: BaseLimit\n"),
     ("0 read 3 8\n", "line 9: NoTimer\n"),
     (
@@ -118,7 +135,8 @@ const WRONG_KINDS: [(&str, &str); 12] = [
 
 #[test]
 fn refuses_a_call_that_is_not_for_the_kind_of_its_timer(rt: HostRuntime) {
-    tells(&rt, rt.alloc(), KINDS, &WRONG_KINDS);
+    tells_all(&rt, rt.alloc(), KINDS, "line 9: WrongKind\n", &WRONG_KINDS);
+    tells_each(&rt, rt.alloc(), KINDS, &OTHER_CALLS);
 }
 
 fn counts_bytes(rt: &impl Abort, alloc: Global) {
@@ -172,10 +190,23 @@ fn has_rounds(rt: &impl Abort, rounds: &[Round]) {
     let [a, b, c, d] = rounds else {
         panic!(rt; "rounds");
     };
-    assert_eq!(rt; a.calls.as_slice(), raw_calls().as_slice());
-    assert_eq!(rt; b.calls.as_slice(), object_calls().as_slice());
-    assert_eq!(rt; c.calls.as_slice().len(), 0);
-    assert_eq!(rt; d.calls.as_slice(), last_calls().as_slice());
+    has_calls(rt, a, &raw_calls());
+    has_calls(rt, b, &object_calls());
+    has_calls(rt, c, &[]);
+    has_calls(rt, d, &LAST_CALLS);
+}
+
+/// Compares the calls of a round, which are all of lane 0.
+fn has_calls(rt: &impl Abort, round: &Round, want: &[Call]) {
+    let calls = round.calls.as_slice();
+    assert_eq!(rt; calls.len(), want.len());
+    for (found, call) in calls.iter().zip(want) {
+        let wanted = LaneCall {
+            lane: 0,
+            call: *call,
+        };
+        assert_eq!(rt; *found, wanted);
+    }
 }
 
 fn declarations() -> [Declaration; 6] {
@@ -190,32 +221,34 @@ fn declarations() -> [Declaration; 6] {
 }
 
 /// The calls of the first round.
-fn raw_calls() -> [LaneCall; 4] {
+fn raw_calls() -> [Call; 4] {
     [
         start(0, Mode::Rel, 100, 0),
         start(1, Mode::Abs, 9223372036854775807, 1),
         Call::Cancel { timer: 2 },
         Call::Peek { timer: 3 },
     ]
-    .map(|call| LaneCall { lane: 0, call })
 }
 
 /// The calls of the last round.
-fn last_calls() -> [LaneCall; 4] {
-    [
-        Call::Expire {
-            base: 1,
-            budget: 4096,
-        },
-        write(Write::Advance { by: 1 }),
-        write(Write::Set { to: 2 }),
-        write(Write::Suspend { by: 3 }),
-    ]
-    .map(|call| LaneCall { lane: 0, call })
-}
+const LAST_CALLS: [Call; 4] = [
+    Call::Expire {
+        base: 1,
+        budget: 4096,
+    },
+    Call::Clock {
+        write: Write::Advance { by: 1 },
+    },
+    Call::Clock {
+        write: Write::Set { to: 2 },
+    },
+    Call::Clock {
+        write: Write::Suspend { by: 3 },
+    },
+];
 
 /// The calls of the second round.
-fn object_calls() -> [LaneCall; 10] {
+fn object_calls() -> [Call; 10] {
     [
         settime(4, 1, (5, 999999999), (0, 7)),
         settime(5, 3, (8, 0), (9223372036854775807, 1000000000)),
@@ -228,7 +261,6 @@ fn object_calls() -> [LaneCall; 10] {
         Call::Peek { timer: 4 },
         Call::Peek { timer: 5 },
     ]
-    .map(|call| LaneCall { lane: 0, call })
 }
 
 fn declared(clock: ClockId, kind: Kind) -> Declaration {
@@ -261,8 +293,4 @@ fn settime(timer: u32, flags: u64, value: (u64, u64), interval: (u64, u64)) -> C
             nsec: interval.1,
         },
     }
-}
-
-fn write(write: Write) -> Call {
-    Call::Clock { write }
 }
