@@ -1,5 +1,5 @@
 -- What the record's lists have of the sorted notes.
-use Rattle.std.proofs.Common.{◌≡◌, ℕ, ◌+◌, ◌<◌, ◌≤◌, zero, suc, List, [], ◌∷◌, Some, filter, length, map, arith, refl, sym, ap, ◌∙◌}
+use Rattle.std.proofs.Common.{◌≡◌, ℕ, ◌+◌, zero, suc, List, [], ◌∷◌, Some, filter, length, map, arith, refl, sym, ap, ◌∙◌}
 use Rattle.std.specs.List.{slice_get}
 use Rattle.std.proofs.lemmas.Option.{same_Some}
 use Rattle.record_text.specs.declared.record.Answer.{Answer}
@@ -8,34 +8,12 @@ use Rattle.record_text.specs.declared.record.Label.{Label}
 use Rattle.record_text.specs.declared.record.ObjectEntry.{ObjectEntry}
 use Rattle.record_text.specs.declared.record.ObjectLine.{ObjectLine}
 use Rattle.record_text.specs.declared.record.TimerLine.{TimerLine}
-use Rattle.script_text.specs.Histories.{lines_of_timer}
-use Rattle.script_text.specs.Objects.{lines_of_object}
 use Rattle.lane_notes.specs.declared.notes.EntryNote.{EntryNote}
 use Rattle.lane_notes.specs.declared.notes.ObjectNote.{ObjectNote}
 use Rattle.lane_notes.specs.Notes.{NotesOf}
 use Rattle.lane_notes.specs.Sorted.{Place, is_of_list, is_of_number}
 use Rattle.lane_notes.specs.Records.{line_at_number, noted_lines, noted_object_lines, noted_timer_lines, numbered_from, record_from}
-use Rattle.lane_notes.proofs.Shelves.{add_later, add_none, each_below-past, get_or-each_below, length-each_below}
-
--- ---- lists by their number
-
--- law: a timer's lines are made of its notes, so are an object's
-pub lines_of_timer-record_from : (notes : NotesOf) (timers : ℕ) (answers : List (List Answer)) (t : ℕ) → t < timers
-    → lines_of_timer (record_from notes timers answers) t ≡ noted_timer_lines t notes.entries notes.looks
-lines_of_timer-record_from notes timers answers t less = get_or-each_below (λ u. noted_timer_lines u notes.entries notes.looks) timers t [] less
-
-pub lines_of_object-record_from : (notes : NotesOf) (timers : ℕ) (answers : List (List Answer)) (i : ℕ) → i < timers
-    → lines_of_object (record_from notes timers answers) i ≡ noted_object_lines i notes.objects notes.skips
-lines_of_object-record_from notes timers answers i less = get_or-each_below (λ j. noted_object_lines j notes.objects notes.skips) timers i [] less
-
--- law: there are none of a timer or of an object that isn't there
-pub lines_of_timer-none : (notes : NotesOf) (timers : ℕ) (answers : List (List Answer)) (t : ℕ) → timers ≤ t
-    → lines_of_timer (record_from notes timers answers) t ≡ []
-lines_of_timer-none notes timers answers t past = each_below-past (λ u. noted_timer_lines u notes.entries notes.looks) timers t [] past
-
-pub lines_of_object-none : (notes : NotesOf) (timers : ℕ) (answers : List (List Answer)) (i : ℕ) → timers ≤ i
-    → lines_of_object (record_from notes timers answers) i ≡ []
-lines_of_object-none notes timers answers i past = each_below-past (λ j. noted_object_lines j notes.objects notes.skips) timers i [] past
+use Rattle.lane_notes.proofs.Shelves.{add_later, add_none, length-each_below}
 
 -- law: there is one list for each timer, and one for its object
 pub length-timers : (notes : NotesOf) (timers : ℕ) (answers : List (List Answer)) → length (record_from notes timers answers).timers ≡ timers

@@ -1,5 +1,5 @@
 -- The whole record of sorted notes: each timer's and object's lines, and what stands under them.
-use Rattle.std.proofs.Common.{◌≡◌, ℕ, ◌+◌, suc, List, [], ◌∷◌, Some, filter, map, refl, sym, ap, ◌∙◌, subst}
+use Rattle.std.proofs.Common.{◌≡◌, ℕ, ◌+◌, List, [], ◌∷◌, Some, filter, map, refl, sym, ap, ◌∙◌, subst}
 use Rattle.std.specs.List.{AllByRecursion, slice_get}
 use Rattle.std.proofs.lemmas.Bool.{eqb-true}
 use Rattle.record_text.specs.declared.record.Label.{Label}
@@ -8,6 +8,7 @@ use Rattle.record_text.specs.declared.record.Skip.{Skip}
 use Rattle.record_text.specs.declared.record.ObjectLine.{ObjectLine}
 use Rattle.record_text.specs.declared.record.TimerLine.{TimerLine}
 use Rattle.script_text.specs.Order.{AreSorted}
+use Rattle.script_text.proofs.Lists.{each}
 use Rattle.lane_notes.specs.declared.notes.EntryNote.{EntryNote}
 use Rattle.lane_notes.specs.declared.notes.LookNote.{LookNote}
 use Rattle.lane_notes.specs.declared.notes.ObjectNote.{ObjectNote}
@@ -19,10 +20,6 @@ use Rattle.lane_notes.proofs.Standing.{AtMostOne, HasPlace, filter_stands_in, ma
 use Rattle.lane_notes.proofs.UnderLines.{AreSorted-labels_at, is_of_call, labels_at}
 
 -- ---- what stands under a line
-
-each : {X : Type 0} (P : X → Type 0) (xs : List X) → ((p : ℕ) (x : X) → slice_get xs p ≡ Some x → P x) → AllByRecursion P xs
-each P [] at = tt
-each P (x ∷ xs) at = (at 0 x refl, each P xs (λ p. at (suc p)))
 
 -- the notes at a number of a list
 at_number : {X : Type 0} (place : X → Place) (l n : ℕ) (xs : List X) (x : X)

@@ -16,5 +16,3 @@ mod objects;
 mod placed;
 mod posix;
 mod record;
-#[cfg(test)]
-mod tests;

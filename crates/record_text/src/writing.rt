@@ -7,10 +7,6 @@ mod answers;
 mod entries;
 mod lines;
 mod object_entries;
-#[cfg(test)]
-mod object_tests;
 mod sections;
-#[cfg(test)]
-mod tests;
 mod unique;
 mod words;

@@ -3,7 +3,7 @@ use Rattle.std.proofs.Common.{◌≡◌, ℕ, true, false, [], ◌∷◌, List, 
 use Rattle.ktime.specs.Times.{passed}
 use Rattle.ktime.specs.declared.mode.Mode.TheVariants as modes
 use Rattle.clock_model.specs.declared.write.Write.TheVariants as writes
-use Rattle.seq_timer.specs.Systems.{after_entry, changed}
+use Rattle.seq_timer.specs.Systems.{after_entry, changed, IsSystemHistory}
 use Rattle.record_text.specs.declared.record.Answer.TheVariants as answers
 use Rattle.record_text.specs.declared.record.Answer.{Answer}
 use Rattle.record_text.specs.declared.record.Armed.TheVariants as armings
@@ -13,7 +13,7 @@ use Rattle.record_text.specs.declared.record.RunRecord.{RunRecord}
 use Rattle.script_text.specs.declared.script.Call.TheVariants as calls
 use Rattle.script_text.specs.Actions.{Entered, Looked, Made, Wrote}
 use Rattle.script_text.specs.Order.{calls_of}
-use Rattle.run_history.specs.Courses.{Course, Trace}
+use Rattle.run_history.specs.Courses.{clocks_of, Course, entries_in, Trace}
 use Rattle.run_history.specs.Fits.{Fits}
 use Rattle.run_cases.specs.Fitting.{accept_entry, accepted_record, accepted_script, beside, beside_script, cancelled_record, expired_lines, idle_record, idle_script, kept_start, late_record, moved_record, moved_script, moved_start, next_start, none_entry, running_record, set_entry, told_record, told_script, trigger_entry}
 use Rattle.run_cases.specs.Lines.{at, start}
@@ -60,6 +60,12 @@ abbrev told_course : Course
 told_course = course_by told_script told_record (0 ∷ 0 ∷ 0 ∷ []) ((did 0 (Entered 0 1 (start modes.Rel 0 0) ∷ []) 0 1
     ∷ ran 0 0 (fired 2 1 (Looked 0 2 (replies.Running 1) ∷ []) 3 false ∷ []) 1 3 ∷ []) ∷ []) (λ i k. (0, 0))
 
+-- a start, the claim at the same time and the finish are a history
+at_once : IsSystemHistory told_script.bases (clocks_of told_script) told_script.limit (entries_in told_course)
+unfolding after_entry changed
+at_once = two (step refl (inr refl, inl (lt refl)) refl tt)
+    (two (step refl (refl, refl, refl, refl, le refl) refl (refl, refl)) (two (step refl refl refl tt) tt))
+
 -- law: it fits
 pub told_fits : Fits told_script told_record
 unfolding after_entry changed
@@ -67,8 +73,7 @@ told_fits = fits_by told_course (record {
   passed = refl;
   writes = tt;
   all = (refl, tt);
-  history = two (step refl (inr refl, inl (lt refl)) refl tt)
-      (two (step refl (refl, refl, refl, refl, le refl) refl (refl, refl)) (two (step refl refl refl tt) tt));
+  history = at_once;
   object_histories = (refl, tt);
   object_spans = (tt, tt);
   placed = (refl, tt);
@@ -164,8 +169,7 @@ expired_fits told moment placed cancel = fits_by (expired_course told moment) (r
   passed = refl;
   writes = tt;
   all = (refl, tt);
-  history = two (step refl (inr refl, inl (lt refl)) refl tt)
-      (two (step refl (refl, refl, refl, refl, le refl) refl (refl, refl)) (two (step refl refl refl tt) tt));
+  history = at_once;
   object_histories = (refl, tt);
   object_spans = (tt, tt);
   placed = (placed, (refl, tt));

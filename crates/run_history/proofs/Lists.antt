@@ -3,11 +3,7 @@ use Rattle.std.proofs.Common.{◌∙◌, ◌≡◌, ◌<◌, ◌≤◌, ℕ, zer
 use Rattle.std.specs.List.{AllByRecursion, slice_get}
 use Rattle.std.specs.Option.{option_map}
 use Rattle.std.proofs.lemmas.Option.{same_Some, slice_get-map}
-
--- what holds at each place holds along the list
-pub each : {X : Type 0} (P : X → Type 0) (xs : List X) → ((p : ℕ) (x : X) → slice_get xs p ≡ Some x → P x) → AllByRecursion P xs
-each P [] at = tt
-each P (x ∷ xs) at = (at 0 x refl, each P xs (λ p. at (suc p)))
+pub use Rattle.script_text.proofs.Lists.{each}
 
 pub each_take : {X : Type 0} (P : X → Type 0) (n : ℕ) (xs : List X) → ((p : ℕ) (x : X) → slice_get xs p ≡ Some x → p < n → P x)
     → AllByRecursion P (take n xs)

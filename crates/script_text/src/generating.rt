@@ -7,9 +7,6 @@ ghost use Rattle.std.specs.List.{flat_map, range_with_len};
 
 use std::alloc::{AllocError, Global};
 
-#[cfg(test)]
-mod tests;
-
 /// How many entries a timer of such a script may have.
 const LIMIT: u64 = 1000000;
 

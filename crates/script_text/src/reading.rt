@@ -8,6 +8,4 @@ mod lines;
 mod meaning;
 pub mod parsing;
 mod placing;
-#[cfg(test)]
-mod tests;
 pub mod words;

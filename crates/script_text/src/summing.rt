@@ -7,9 +7,6 @@ ghost use Rattle.script_text.specs.Summary.{cancels_in, claims_in, entries_in, p
 use record_text::{Answer, Entry, ItemList, RunRecord, TimerLine};
 use std::alloc::{AllocError, Global};
 
-#[cfg(test)]
-mod tests;
-
 /// The summary of a record, in nine lines. A record for which a sum has more than 128 bits would have more lines than
 /// memory holds: then memory is said to be out.
 pub fn summary(alloc: Global, run: &RunRecord) -> Result<Vec<u8>, AllocError>

@@ -1,8 +1,6 @@
 //! Scripts that are generated, and that they are read.
-use super::generate;
-use crate::reading::parsing::parse;
-use crate::script::{Call, LaneCall};
-use ktime::Mode;
+use script_text::{Round, generate, parse};
+use std::process::Abort;
 
 const ONE_LANE: &str = "hrt 1\nbases 1\nlanes 1\nlimit 1000000\n\
     raw 0 monotonic every 100\nraw 1 monotonic once\nround\n0 advance 50\nround\n\
@@ -28,7 +26,11 @@ fn writes_the_largest_script(rt: HostRuntime) {
     };
     assert_eq!(rt; (script.bases, script.lanes, script.limit), (8, 8, 1000000));
     assert_eq!(rt; script.timers.as_slice().len(), 16);
-    let rounds = script.rounds.as_slice();
+    has_turns(&rt, script.rounds.as_slice());
+}
+
+/// Compares how many calls each of the rounds has.
+fn has_turns(rt: &impl Abort, rounds: &[Round]) {
     assert_eq!(rt; rounds.len(), 2050);
     for (i, round) in rounds.iter().enumerate() {
         let calls = match i {

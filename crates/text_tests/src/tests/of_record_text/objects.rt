@@ -1,12 +1,11 @@
 //! Records of POSIX timers and of descriptors, and their texts.
-use crate::item_list::ItemList;
-use crate::record::{
-    AcceptReply, Answer, Armed, ClockLine, Entry, Label, ObjectEntry, ObjectLine, ReadReply,
-    Restart, RunRecord, SettimeReply, Skip,
-};
-use crate::writing::tests::{one, shows, timer_lines};
+use super::{one, shows, timer_lines};
 use clock_model::Write;
 use ktime::{ClockId, Mode};
+use record_text::{
+    AcceptReply, Answer, Armed, ClockLine, Entry, ItemList, Label, ObjectEntry, ObjectLine,
+    ReadReply, Restart, RunRecord, SettimeReply, Skip,
+};
 use std::alloc::{AllocError, Global};
 use std::process::Abort;
 
@@ -115,13 +114,12 @@ const OLD: Answer = Answer::Old {
     interval: 0,
 };
 
-/// A setting of 100 with the period 10 that expires at 100, then two entries of its object at 135, and what the last
-/// three calls are answered.
+/// A setting of 100 with the period 10 that expires at 100, then two entries of its object at 135, with these answers.
 fn periodic(
     alloc: Global,
     first: ObjectEntry,
     second: ObjectEntry,
-    last: [Answer; 3],
+    answers: ItemList<Answer>,
 ) -> Result<RunRecord, AllocError> {
     let advanced = wrote(1, Write::Advance { by: 100 }, 100, 100, 0);
     let again = wrote(3, Write::Advance { by: 35 }, 135, 135, 0);
@@ -138,7 +136,6 @@ fn periodic(
         (on(4), first),
         (on(5), second),
     ];
-    let answers = periodic_answers(alloc, last)?;
     record(alloc, clock, &entries, &object_entries, answers)
 }
 
@@ -204,9 +201,13 @@ fn shows_periodic(
 }
 
 /// What all calls are answered, by the answers of the last three.
-fn periodic_answers(alloc: Global, last: [Answer; 3]) -> Result<ItemList<Answer>, AllocError> {
+fn periodic_answers(
+    alloc: Global,
+    first: Answer,
+    second: Answer,
+    third: Answer,
+) -> Result<ItemList<Answer>, AllocError> {
     let fired = one(alloc, 0)?;
-    let [first, second, third] = last;
     let answers = vec![in alloc;
         OLD,
         Answer::Clock { stamp: 1 },
@@ -233,15 +234,13 @@ fn a_signal_is_accepted_once(rt: HostRuntime) -> Result<(), AllocError> {
     let alloc = rt.alloc();
     let accepted = accept(armed(4), AcceptReply::Accepted { overrun: 3 });
     let none = accept(Armed::None, AcceptReply::NoSignal);
-    let last = [
-        Answer::Accepted { overrun: 3 },
-        Answer::NoSignal,
-        Answer::Overrun {
-            overrun: 3,
-            stamp: 4,
-        },
-    ];
-    let record = periodic(alloc, accepted, none, last)?;
+    let answered = Answer::Accepted { overrun: 3 };
+    let looked_at = Answer::Overrun {
+        overrun: 3,
+        stamp: 4,
+    };
+    let answers = periodic_answers(alloc, answered, Answer::NoSignal, looked_at)?;
+    let record = periodic(alloc, accepted, none, answers)?;
     shows_periodic(&rt, alloc, &record, ACCEPTS, ACCEPT_CALLS)
 }
 
@@ -259,8 +258,9 @@ fn expiries_are_read_once(rt: HostRuntime) -> Result<(), AllocError> {
     let alloc = rt.alloc();
     let count = read(2, armed(4), ReadReply::Count { total: 4 });
     let again = read(2, Armed::None, ReadReply::Again);
-    let last = [Answer::Count { total: 4 }, Answer::Again, Answer::Invalid];
-    let record = periodic(alloc, count, again, last)?;
+    let answered = Answer::Count { total: 4 };
+    let answers = periodic_answers(alloc, answered, Answer::Again, Answer::Invalid)?;
+    let record = periodic(alloc, count, again, answers)?;
     shows_periodic(&rt, alloc, &record, READS, READ_CALLS)
 }
 
@@ -434,6 +434,22 @@ fn looked_at(alloc: Global) -> Result<ItemList<Answer>, AllocError> {
     Ok(ItemList::from_vec(answers))
 }
 
+fn skipped_lines(alloc: Global) -> Result<ItemList<ObjectLine>, AllocError> {
+    let skips = vec![in alloc; REFUSED[0], REFUSED[1]]?;
+    let trigger = ObjectLine {
+        label: on(3),
+        entry: STALE,
+        skips: ItemList::from_vec(skips),
+    };
+    let looked_at = ObjectLine {
+        label: on(4),
+        entry: LEFT,
+        skips: ItemList::new(alloc),
+    };
+    let lines = vec![in alloc; trigger, looked_at]?;
+    Ok(ItemList::from_vec(lines))
+}
+
 const SKIPS: &str = "record 1
 object 1 1 0 3 trigger 4 2 stale
 skip 1 1 0 6 7
@@ -448,18 +464,7 @@ end
 #[test]
 fn skips_follow_their_entry(rt: HostRuntime) -> Result<(), AllocError> {
     let alloc = rt.alloc();
-    let skips = vec![in alloc; REFUSED[0], REFUSED[1]]?;
-    let trigger = ObjectLine {
-        label: on(3),
-        entry: STALE,
-        skips: ItemList::from_vec(skips),
-    };
-    let mut lines = one(alloc, trigger)?;
-    lines.push(ObjectLine {
-        label: on(4),
-        entry: LEFT,
-        skips: ItemList::new(alloc),
-    })?;
+    let lines = skipped_lines(alloc)?;
     let objects = ItemList::from_vec(vec![in alloc; ItemList::new(alloc), lines]?);
     let lane = looked_at(alloc)?;
     let answers = one(alloc, lane)?;

@@ -1,10 +1,11 @@
 //! Tests of notes and of the record that is made of them.
-use crate::{Notes, note_object_receipts, note_receipts, record_of};
+use crate::tests::of_record_text::shows as shows_record;
 use clock_model::Write;
 use expire_pass::{Noted, Receipt};
 use ktime::{ClockId, Mode, Reading};
+use lane_notes::{Notes, note_object_receipts, note_receipts, record_of};
 use posix_timer::{AcceptAnswer, Arm, SettimeAnswer, SettimeCall, TriggerAnswer};
-use record_text::{ClockLine, Label, text};
+use record_text::{ClockLine, Label};
 use seq_timer::{Event, Observation, Rearmed, Reply};
 use std::alloc::{AllocError, Global};
 use std::process::Abort;
@@ -16,34 +17,28 @@ fn label(lane: u32, call: u32) -> Label {
 }
 
 fn start(timer: u32, number: u64, was_armed: bool) -> Receipt {
-    Receipt {
-        timer,
-        number,
-        event: Event::Start {
-            mode: Mode::Abs,
-            ns: 100,
-            reading: Reading::at(7),
-            asked: 2,
-        },
-        reply: Noted::Entry(Reply::Start {
-            base: 2,
-            clock: ClockId::Monotonic,
-            expires: 100,
-            was_armed,
-        }),
-    }
+    let event = Event::Start {
+        mode: Mode::Abs,
+        ns: 100,
+        reading: Reading::at(7),
+        asked: 2,
+    };
+    let reply = Reply::Start {
+        base: 2,
+        clock: ClockId::Monotonic,
+        expires: 100,
+        was_armed,
+    };
+    entry(timer, number, event, reply)
 }
 
 fn finish(number: u64, generation: u64, rearmed: Rearmed) -> Receipt {
-    Receipt {
-        timer: 0,
-        number,
-        event: Event::Finish { restart: true },
-        reply: Noted::Entry(Reply::Finish {
-            generation,
-            rearmed,
-        }),
-    }
+    let event = Event::Finish { restart: true };
+    let reply = Reply::Finish {
+        generation,
+        rearmed,
+    };
+    entry(0, number, event, reply)
 }
 
 fn entry(timer: u32, number: u64, event: Event, reply: Reply) -> Receipt {
@@ -212,9 +207,7 @@ fn shows(
     want: &str,
 ) -> Result<(), AllocError> {
     let record = record_of(alloc, notes, timers, Vec::new(alloc))?;
-    let bytes = text(alloc, &record)?;
-    assert_eq!(rt; bytes.as_slice(), want.as_bytes());
-    Ok(())
+    shows_record(rt, alloc, &record, want)
 }
 
 /// The notes of one lane's call, which wrote the clock second.

@@ -1,13 +1,14 @@
 //! Records of timers by themselves, and their texts.
-use crate::item_list::ItemList;
-use crate::record::{
-    Answer, CallbackReply, ClockLine, Entry, Label, Look, Restart, RunRecord, TimerLine,
-};
-use crate::writing::{text, text_determines_the_record};
 use clock_model::Write;
 use ktime::{ClockId, Mode};
+use record_text::{
+    Answer, CallbackReply, ClockLine, Entry, ItemList, Label, Look, Restart, RunRecord, TimerLine,
+    text, text_determines_the_record,
+};
 use std::alloc::{AllocError, Global};
 use std::process::Abort;
+
+mod objects;
 
 const FIRST: Label = Label { lane: 0, call: 0 };
 

@@ -1,0 +1,6 @@
+//! Scripts that are read, refused and generated, and the summaries of records.
+
+mod generating;
+mod lines;
+mod reading;
+mod summing;
