@@ -1,4 +1,4 @@
-//! What the programs that time timers have in common: which threads work, random numbers, and figures.
+//! What the programs that time calls have in common: which threads work, random numbers, and figures.
 #![tactic(auto)]
 
 mod cases;

@@ -5,13 +5,10 @@
 mod report;
 mod turns;
 
-use report::{Task, report};
-use std::{env, io};
+use bench_cases::Task;
+use report::report;
+use std::io;
 
 fn main(rt: HostRuntime) -> io::Result<()> {
-    let task = match env::args(&rt)?.nth(1) {
-        Some(word) if word.as_str() == "check" => Task::Check,
-        _ => Task::Measure,
-    };
-    report(&rt, rt.alloc(), task)
+    report(&rt, rt.alloc(), Task::asked(&rt)?)
 }

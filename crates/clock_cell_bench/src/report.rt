@@ -1,5 +1,6 @@
 //! Which cases there are, and the line that is printed for each.
 use crate::turns::{self, Done, Load};
+use bench_cases::Task;
 use std::alloc::{AllocError, Global};
 use std::io;
 use std::sync::Wait;
@@ -59,14 +60,6 @@ impl Case {
     }
 }
 
-#[derive(Clone, Copy, Debug, PartialEq, Eq)]
-pub enum Task {
-    /// Prints how many writes were made and the stamp after them, with a few in each case.
-    Check,
-    /// Prints how many readings all threads together took in a second, and how many writes were made.
-    Measure,
-}
-
 /// The time of all rounds, in nanoseconds, and how many writes were made in them.
 fn measured<R: Threads + Wait + Sync + Clock>(
     rt: &R,
@@ -92,6 +85,8 @@ fn rate(count: u64, nanos: u128) -> u128 {
     u128::from(count) * 10_000 / nanos.max(1)
 }
 
+/// Prints how many readings all threads together took in a second, and how many writes were made. In a check it prints how many writes
+/// were made, and the stamp after them, with a few of each.
 fn line<R: Threads + Wait + Sync + Clock + Print>(
     rt: &R,
     alloc: Global,

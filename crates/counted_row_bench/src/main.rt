@@ -8,11 +8,12 @@ ghost use Rattle.counted_row_bench.specs.Alone.{IsAlone};
 mod report;
 mod turns;
 
+use bench_cases::Task;
 use counted_row::{Row, RowPass};
 use counted_row_uses::Counter;
-use report::{Task, VALUES, report};
+use report::{VALUES, report};
 use std::alloc::{AllocError, Global};
-use std::{env, io};
+use std::io;
 
 /// So many counters at 0, and the first pass.
 fn counters(alloc: Global, count: usize) -> Result<(Row<Counter>, RowPass<Counter>), AllocError>
@@ -24,10 +25,7 @@ fn counters(alloc: Global, count: usize) -> Result<(Row<Counter>, RowPass<Counte
 }
 
 fn main(rt: HostRuntime) -> io::Result<()> {
-    let task = match env::args(&rt)?.nth(1) {
-        Some(word) if word.as_str() == "check" => Task::Check,
-        _ => Task::Measure,
-    };
+    let task = Task::asked(&rt)?;
     let (row, mut main) = counters(rt.alloc(), VALUES)?;
     let done = report(&rt, &row, &mut main, task);
     row.close(main);

@@ -3,6 +3,7 @@ ghost use Rattle.std.specs.Prelude.{◌≡◌, ◌<◌, length, IfSome};
 ghost use Rattle.counted_row_bench.specs.Alone.{IsAlone};
 
 use crate::turns::{Ending, run};
+use bench_cases::{Figure, Least, Task};
 use counted_row::{Row, RowPass};
 use counted_row_uses::Counter;
 use std::io;
@@ -53,36 +54,28 @@ impl Place {
     }
 }
 
-#[derive(Clone, Copy, Debug, PartialEq, Eq)]
-pub enum Task {
-    /// Prints how many calls were made on three of the values, after a few in each case.
-    Check,
-    /// Prints the nanoseconds that a lock and its end take.
-    Measure,
-}
-
-/// The least time of some rounds, in tenths of a nanosecond for each lock of a thread.
+/// The least time of some rounds, for each lock of a thread.
 fn least<R: Threads + Wait + Sync + Clock>(
     rt: &R,
     row: &Row<Counter>,
     main: &mut RowPass<Counter>,
     place: Place,
     ending: Ending,
-) -> io::Result<u128>
+) -> io::Result<Figure>
     requires alone { IsAlone row.now main.old }
     requires values { length row.now.made ≡ 4096 }
     ensures alone { IsAlone row.now main.new }
 {
-    let mut least = u128::MAX;
+    let mut least = Least::new();
     for _ in 0..ROUNDS {
         let start = Instant::now(rt)?;
         run(rt, row, main, place.second(), ending, LOCKS);
-        let took = Instant::now(rt)?.saturating_duration_since(start);
-        least = least.min(took.as_nanos());
+        least.take(Instant::now(rt)?.saturating_duration_since(start));
     }
-    Ok(least / u128::from(LOCKS / 10))
+    Ok(least.of(LOCKS))
 }
 
+/// Prints the nanoseconds that a lock and its end take. In a check it prints how many calls were made on three of the values, after a few.
 fn line<R: Threads + Wait + Sync + Clock + Print>(
     rt: &R,
     row: &Row<Counter>,
@@ -102,12 +95,8 @@ fn line<R: Threads + Wait + Sync + Clock + Print>(
     };
     match task {
         Task::Measure => {
-            let tenths = least(rt, row, main, place, ending)?;
-            println!(rt;
-                "counted_row, {end}\t{name}\t{}.{}",
-                tenths / 10,
-                tenths % 10
-            )
+            let Figure { whole, tenths } = least(rt, row, main, place, ending)?;
+            println!(rt; "counted_row, {end}\t{name}\t{whole}.{tenths}")
         }
         Task::Check => {
             run(rt, row, main, place.second(), ending, 10);
