@@ -7,4 +7,4 @@ mod log;
 
 pub use expiry::{ExpireAnswer, cancel, expire};
 pub use handler::{Handler, Restart};
-pub use log::{Log, Noted, Receipt};
+pub use log::{Log, Noted, Receipt, ReceiptLog};

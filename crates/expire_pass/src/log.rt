@@ -22,30 +22,33 @@ pub struct Receipt {
     pub reply: Noted,
 }
 
-/// Receipts in order, with room for more.
+/// Receipts of some kind in order, with room for more.
 #[derive(Drop)]
-pub struct Log {
-    receipts: Vec<Receipt>,
+pub struct ReceiptLog<T: Drop> {
+    receipts: Vec<T>,
     spare: usize,
 }
 
-impl Model for Log {
+/// Receipts of timers' entries.
+pub type Log = ReceiptLog<Receipt>;
+
+impl<T: Drop> Model for ReceiptLog<T> {
     ghost use Rattle.std.specs.Prelude.{◌≤◌, ◌+◌, vec_len, vec_capacity};
     ghost use Rattle.expire_pass.specs.Logs.{LogOf};
 
-    ghost Value = { LogOf };
+    ghost Value = { LogOf T };
 
     ghost view = { λ l. record { receipts = l.receipts.items; spare = l.spare } };
 
     ghost invariant = { λ l. vec_len l.receipts + l.spare ≤ vec_capacity l.receipts };
 }
 
-impl Log {
+impl<T: Drop> ReceiptLog<T> {
     /// A log without receipts. It takes no memory.
-    pub fn make(alloc: Global) -> Log
+    pub fn make(alloc: Global) -> Self
         ensures { result ≡ record { receipts = []; spare = 0 } }
     {
-        Log {
+        ReceiptLog {
             receipts: Vec::new(alloc),
             spare: 0,
         }
@@ -68,19 +71,32 @@ impl Log {
         self.spare
     }
 
+    /// Adds a receipt in the room that was made. It takes no memory.
+    pub fn push(&mut self, receipt: T)
+        requires room { 0 < self.old.spare }
+        ensures receipts { self.new.receipts ≡ self.old.receipts ++ receipt ∷ [] }
+        ensures spare { self.new.spare + 1 ≡ self.old.spare }
+    {
+        self.receipts.push_reserved(receipt);
+        self.spare -= 1;
+    }
+
+    /// The receipts, in the order in which they were noted.
+    pub fn receipts(&self) -> &[T]
+        ensures { result.now ≡ self.now.receipts }
+    {
+        self.receipts.as_slice()
+    }
+}
+
+impl ReceiptLog<Receipt> {
     /// Adds a receipt of an entry in the room that was made. It takes no memory.
     pub fn note(&mut self, timer: u32, number: u64, event: Event, reply: Reply)
         requires room { 0 < self.old.spare }
         ensures receipts { self.new.receipts ≡ self.old.receipts ++ record { timer = timer; number = number; event = event; reply = noteds.Entry reply } ∷ [] }
         ensures spare { self.new.spare + 1 ≡ self.old.spare }
     {
-        self.receipts.push_reserved(Receipt {
-            timer,
-            number,
-            event,
-            reply: Noted::Entry(reply),
-        });
-        self.spare -= 1;
+        self.push(receipt_of(timer, number, event, Noted::Entry(reply)));
     }
 
     /// Adds a receipt of a look in the room that was made: what was seen of the timer at this stamp, where the event made no entry. It takes
@@ -90,19 +106,17 @@ impl Log {
         ensures receipts { self.new.receipts ≡ self.old.receipts ++ record { timer = timer; number = stamp; event = event; reply = noteds.Look observation } ∷ [] }
         ensures spare { self.new.spare + 1 ≡ self.old.spare }
     {
-        self.receipts.push_reserved(Receipt {
-            timer,
-            number: stamp,
-            event,
-            reply: Noted::Look(observation),
-        });
-        self.spare -= 1;
+        self.push(receipt_of(timer, stamp, event, Noted::Look(observation)));
     }
+}
 
-    /// The receipts, in the order in which they were noted.
-    pub fn receipts(&self) -> &[Receipt]
-        ensures { result.now ≡ self.now.receipts }
-    {
-        self.receipts.as_slice()
+fn receipt_of(timer: u32, number: u64, event: Event, reply: Noted) -> Receipt
+    ensures { result ≡ record { timer = timer; number = number; event = event; reply = reply } }
+{
+    Receipt {
+        timer,
+        number,
+        event,
+        reply,
     }
 }

@@ -7,6 +7,7 @@ use Rattle.pass_names.specs.Passes.{Begins, GoesOn}
 use Rattle.base_row.specs.Calls as rows
 use Rattle.hr_timers.specs.Known.{IsPassOf, PassOf}
 use Rattle.expire_pass.specs.Handlers.{KeepsPass}
+use Rattle.expire_pass.specs.declared.log.Receipt.{Receipt}
 use Rattle.expire_pass.specs.Logs.{LogOf}
 use Rattle.timer_setting.specs.declared.arming.Arm.{Arm}
 use Rattle.timer_setting.specs.Phases.{periods_in}
@@ -28,12 +29,12 @@ use Rattle.timer_objects.specs.declared.object.Object.TheVariants as objects
 use Rattle.timer_objects.specs.declared.object.ObjectCall.{ObjectCall}
 use Rattle.timer_objects.specs.declared.object.ObjectCall.TheVariants as calls
 use Rattle.timer_objects.specs.declared.object.ObjectReply.{ObjectReply}
+use Rattle.timer_objects.specs.declared.log.ObjectReceipt.{ObjectReceipt}
 use Rattle.timer_objects.specs.declared.callback.Callback.{Callback}
 use Rattle.timer_objects.specs.Callbacks.{bases_of}
 use Rattle.timer_objects.specs.Cells.{cell_meaning}
 use Rattle.timer_objects.specs.Calls.{Caller}
 use Rattle.timer_objects.specs.Known.{IsObjectsPass, ObjectsOf, ObjectsPass, Suits, seen_of}
-use Rattle.timer_objects.specs.Logs.{ObjectLogOf}
 
 -- the pass's name is as it was, and what it has seen and made goes on
 pub record KeepsObjectsPass (p q : ObjectsPass) : Type 0 where
@@ -48,7 +49,7 @@ pub record HasPasses (timers : rows.BaseRowOf) (objects : ObjectsOf) (pass : Pas
   pub suits : Suits objects timers.about
 
 -- a thread may call an object by its passes, and its logs have room for the receipts
-pub record MayCall (timers : rows.BaseRowOf) (objects : ObjectsOf) (pass : PassOf) (objects_pass : ObjectsPass) (log : LogOf) (object_log : ObjectLogOf) (id : ℕ)
+pub record MayCall (timers : rows.BaseRowOf) (objects : ObjectsOf) (pass : PassOf) (objects_pass : ObjectsPass) (log : LogOf Receipt) (object_log : LogOf ObjectReceipt) (id : ℕ)
     : Type 0 where
   pub passes : HasPasses timers objects pass objects_pass
   pub within : id < length objects.decls

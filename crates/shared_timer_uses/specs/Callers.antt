@@ -33,14 +33,14 @@ abbrev pub HasNothingToRun : Opening → KnownOfTimers → ℕ → ClockReading 
 HasNothingToRun o k base reading = HasNoneDue o k.seen base reading ⊎ ((t : ℕ) × (g : ℕ) × (running_on base (known_timer o k t) ≡ Some g))
 
 -- a thread may run the function of one timer on a base by its pass, and its log has room for the receipts
-pub record MayRunOne (timers : rows.BaseRowOf) (pass : PassOf) (log : LogOf) (base : ℕ) : Type 0 where
+pub record MayRunOne (timers : rows.BaseRowOf) (pass : PassOf) (log : LogOf Receipt) (base : ℕ) : Type 0 where
   pub of_timers : IsPassOf timers pass
   pub is_base : base < timers.about.bases
   pub few : length timers.about.timers ≤ 65536
   pub room : 2 ≤ log.spare
 
 -- its pass is still one of the timers, and goes on; at most two receipts were noted
-pub record KeepsRunner (timers : rows.BaseRowOf) (pass pass' : PassOf) (log log' : LogOf) : Type 0 where
+pub record KeepsRunner (timers : rows.BaseRowOf) (pass pass' : PassOf) (log log' : LogOf Receipt) : Type 0 where
   pub of_timers : IsPassOf timers pass'
   pub keeps : KeepsPass pass.known pass'.known
   pub room : log.spare ≤ log'.spare + 2

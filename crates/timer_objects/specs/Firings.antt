@@ -7,11 +7,12 @@ use Rattle.hr_timers.specs.Known.{KnownOfTimers}
 use Rattle.expire_pass.specs.Handlers.{Meaning}
 use Rattle.expire_pass.specs.declared.handler.Restart.{Restart}
 use Rattle.expire_pass.specs.declared.handler.Restart.TheVariants as restarts
-use Rattle.expire_pass.specs.declared.log.Log.{Log}
+use Rattle.expire_pass.specs.declared.log.Receipt.{Receipt}
+use Rattle.expire_pass.specs.Logs.{LogOf}
 use Rattle.timer_objects.specs.declared.callback.Callback.{Callback}
 use Rattle.timer_objects.specs.declared.callback.Callback.TheVariants as callbacks
 use Rattle.timer_objects.specs.declared.firing.FiringWith.{FiringWith}
-use Rattle.timer_objects.specs.declared.log.ObjectLog.{ObjectLog}
+use Rattle.timer_objects.specs.declared.log.ObjectReceipt.{ObjectReceipt}
 use Rattle.timer_objects.specs.declared.object.ObjectCall.{ObjectCall}
 use Rattle.timer_objects.specs.Known.{decl_at}
 use Rattle.timer_objects.specs.Callbacks.{RunsCallback, bases_of}
@@ -19,7 +20,7 @@ use Rattle.timer_objects.specs.Triggers.{Triggers, trigger_of}
 
 -- the handler, with its logs
 abbrev pub Firing : Type 0
-Firing = FiringWith Log ObjectLog
+Firing = FiringWith (LogOf Receipt) (LogOf ObjectReceipt)
 
 -- for how many functions its logs have room
 abbrev pub ready_of : Firing → ℕ

@@ -23,7 +23,7 @@ use Rattle.timer_objects.specs.declared.wanting.Ended.{Ended}
 use Rattle.timer_objects.specs.declared.wanting.Ended.TheVariants as ends
 use Rattle.counted_row.specs.Calls.{ReadsValue}
 use Rattle.timer_objects.specs.Cells.{cell_meaning}
-use Rattle.timer_objects.specs.Logs.{ObjectLogOf}
+use Rattle.timer_objects.specs.declared.log.ObjectReceipt.{ObjectReceipt}
 use Rattle.timer_objects.specs.Known.{IsObjectsPass, ObjectsOf, ObjectsPass, Suits, decl_at, seen_of}
 use Rattle.timer_objects.specs.Calls.{
   Caller,
@@ -54,7 +54,7 @@ use Rattle.expire_pass.specs.declared.log.Receipt.{Receipt}
 use Rattle.base_row.specs.Calls.{BaseRowOf}
 
 -- what a caller's passes know, and what its logs have
-abbrev pub caller_of : PassOf → ObjectsPass → LogOf → ObjectLogOf → Caller
+abbrev pub caller_of : PassOf → ObjectsPass → LogOf Receipt → LogOf ObjectReceipt → Caller
 caller_of pass objects log object_log = record { timers = pass.known; objects = objects; log = log.receipts; object_log = object_log.receipts }
 
 -- the passes keep their names, and that of the timers its claims

@@ -9,7 +9,7 @@ ghost use Rattle.timer_objects.specs.Cells.{cell_meaning, opened_cell, opened_ce
 ghost use Rattle.timer_objects.specs.Known.{Enters, HoldsObject, IsObjectsPass, MayEnter, decl_at, receipt_of, row_of, seen_of};
 
 use crate::cell::{ObjectCell, Span, SpannedCall};
-use crate::log::ObjectLog;
+use crate::log::{ObjectLog, note};
 use crate::object::{Decl, Kind, Object, ObjectCall, ObjectReply};
 use counted_row::{Held, Row, RowPass};
 use std::alloc::{AllocError, Global};
@@ -143,7 +143,7 @@ impl Objects {
             }
             ObjectCall::Fd(call) => self.row.commit(pass, held, span.of(ObjectCall::Fd(call))),
         };
-        log.note(id, number, span.of(*call), reply);
+        note(log, id, number, span.of(*call), reply);
         reply
     }
 

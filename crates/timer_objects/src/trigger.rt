@@ -6,7 +6,7 @@ ghost use Rattle.timer_objects.specs.Known.{HoldsObject, IsObjectsPass, decl_at,
 ghost use Rattle.timer_objects.specs.Triggers.{Triggers, refused_at, span_of, trigger_of};
 
 use crate::cell::{ObjectCell, Span};
-use crate::log::ObjectLog;
+use crate::log::{ObjectLog, note};
 use crate::object::{Kind, ObjectCall, ObjectReply};
 use crate::objects::Objects;
 use counted_row::{Held, RowPass};
@@ -142,5 +142,5 @@ fn skip(
     ensures spare { log.new.spare + 1 ≡ log.old.spare }
 {
     let stamp = objects.release(pass, held);
-    log.note(id, stamp, span.of(*call), refused_at(call, stamp));
+    note(log, id, stamp, span.of(*call), refused_at(call, stamp));
 }

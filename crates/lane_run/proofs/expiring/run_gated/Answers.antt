@@ -6,7 +6,7 @@ use Rattle.expire_pass.specs.declared.log.Receipt.{Receipt}
 use Rattle.expire_pass.specs.Expiring.{Expires}
 use Rattle.expire_pass.specs.Logs.{LogOf}
 use Rattle.timer_objects.specs.Firings.{firing}
-use Rattle.timer_objects.specs.Logs.{ObjectLogOf}
+use Rattle.timer_objects.specs.declared.log.ObjectReceipt.{ObjectReceipt}
 use Rattle.lane_run.specs.Expiries.{KeepsName, RunsGated}
 use Rattle.lane_run.specs.Worlds.{WorldOf}
 use Rattle.lane_run.proofs.Lent.{pass_after}
@@ -47,7 +47,7 @@ returns-clause-runs g c =
       back = refl;
       fresh = (c.reserve-2.ensures.logs.0 ∙ c.make-firing.ensures.logs.0, c.reserve-2.ensures.logs.1 ∙ c.make-firing.ensures.logs.1);
       logs = (
-        sym (ap (λ (l : LogOf). l.receipts) c.into_logs-callback_log.ensures.logs.0),
-        sym (ap (λ (l : ObjectLogOf). l.receipts) c.into_logs-callback_log.ensures.logs.1),
+        sym (ap (λ (l : LogOf Receipt). l.receipts) c.into_logs-callback_log.ensures.logs.0),
+        sym (ap (λ (l : LogOf ObjectReceipt). l.receipts) c.into_logs-callback_log.ensures.logs.1),
       );
     })
