@@ -1,5 +1,5 @@
 //! Records of POSIX timers and of descriptors, and their texts.
-use super::{one, shows, timer_lines};
+use super::{one, shows, timer_lines, without_timers};
 use clock_model::Write;
 use ktime::{ClockId, Mode};
 use record_text::{
@@ -468,11 +468,6 @@ fn skips_follow_their_entry(rt: HostRuntime) -> Result<(), AllocError> {
     let objects = ItemList::from_vec(vec![in alloc; ItemList::new(alloc), lines]?);
     let lane = looked_at(alloc)?;
     let answers = one(alloc, lane)?;
-    let record = RunRecord {
-        clock: ItemList::new(alloc),
-        timers: ItemList::new(alloc),
-        objects,
-        answers,
-    };
+    let record = without_timers(alloc, objects, answers);
     shows(&rt, alloc, &record, SKIPS)
 }
