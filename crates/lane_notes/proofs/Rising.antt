@@ -7,11 +7,15 @@ use Rattle.script_text.specs.Order.{is_lower}
 use Rattle.lane_notes.specs.Sorted.{StandInOrder, IsSortedOf, Place, comes_before}
 use Rattle.lane_notes.proofs.Standing.{AtMostOne, AtMostOne-head, AtMostOne-permuted, AtMostOne-tail, All-permuted}
 
+-- the first one is behind a list's number
+abbrev pub IsBehind : {X : Type 0} → (X → Place) → ℕ → ℕ → List X → Type 0
+IsBehind place l n [] = Unit
+IsBehind place l n (x ∷ xs) = (l < (place x).list) ⊎ ((l ≡ (place x).list) × (n < (place x).number))
+
 -- in the order of lists, and of numbers along a list, behind a list's number
 abbrev pub RiseBehind : {X : Type 0} → (X → Place) → ℕ → ℕ → List X → Type 0
 RiseBehind place l n [] = Unit
-RiseBehind place l n (x ∷ xs) =
-    ((l < (place x).list) ⊎ ((l ≡ (place x).list) × (n < (place x).number))) × RiseBehind place (place x).list (place x).number xs
+RiseBehind place l n (x ∷ xs) = IsBehind place l n (x ∷ xs) × RiseBehind place (place x).list (place x).number xs
 
 -- whether a note stands at this number of this list
 abbrev pub is_at : {X : Type 0} → (X → Place) → ℕ → ℕ → X → Bool
@@ -36,11 +40,6 @@ apart a b order other =
     let apart : b.number ≡ a.number → ⊥ = eqb-false b.number a.number (subst (λ t. (t && nat_eq b.number a.number) ≡ false) is other) in
     inr (same, strictly (ltb-false b.number a.number numbers.0) (λ e. apart (sym e))))
     (cases_lt a.list b.list)
-
--- the first one is behind a list's number
-abbrev pub IsBehind : {X : Type 0} → (X → Place) → ℕ → ℕ → List X → Type 0
-IsBehind place l n [] = Unit
-IsBehind place l n (x ∷ xs) = (l < (place x).list) ⊎ ((l ≡ (place x).list) × (n < (place x).number))
 
 rises : {X : Type 0} (place : X → Place) (l n : ℕ) (xs : List X) → StandInOrder place xs → ((l n : ℕ) → AtMostOne (is_at place l n) xs)
     → IsBehind place l n xs → RiseBehind place l n xs

@@ -294,15 +294,13 @@ module _ (w : Course) (c : Label) (order : List TimerEntry) (base at : ℕ) wher
         (is ∙ sym (append_assoc before (fires base at g) (flat_map (fires base at) fs))) ran,
   )
 
-  bodies_of : (before : List Action) (from : ℕ) (fs : List Fired) (notes : List Noted) (to : ℕ) → HaveRun w c order base at before from fs notes to
-      → AllByRecursion (λ f. IsBody (kind_of w.script f.timer) at f) fs
-  bodies_of before from [] notes to run = tt
-  bodies_of before from (f ∷ fs) notes to run = (run.1.kind, bodies_of (before ++ fires base at f) run.0 fs run.2 to run.4)
-
-  claims_of : (before : List Action) (from : ℕ) (fs : List Fired) (notes : List Noted) (to : ℕ) → HaveRun w c order base at before from fs notes to
-      → AllByRecursion (λ f. IsClaimSpan w f f.body) fs
-  claims_of before from [] notes to run = tt
-  claims_of before from (f ∷ fs) notes to run = (run.1.span, claims_of (before ++ fires base at f) run.0 fs run.2 to run.4)
+  -- what one that has run has, each has
+  each_ran : (P : Fired → Type 0) → ((before : List Action) (f : Fired) (from to : ℕ) → Ran w c order base at before f from to → P f)
+      → (before : List Action) (from : ℕ) (fs : List Fired) (notes : List Noted) (to : ℕ) → HaveRun w c order base at before from fs notes to
+      → AllByRecursion P fs
+  each_ran P one before from [] notes to run = tt
+  each_ran P one before from (f ∷ fs) notes to run =
+      (one before f from run.0 run.1, each_ran P one (before ++ fires base at f) run.0 fs run.2 to run.4)
 
   run_true : (first low high : ℕ) (all : List Noted) → AreMoments w c all low high → (before : List Action) (from : ℕ) (fs : List Fired) (notes : List Noted)
       (to : ℕ) (early : List Noted) → HaveRun w c order base at before from fs notes to → all ≡ early ++ notes → AreMade order low from early
@@ -338,10 +336,15 @@ module _ {w : Course} {moves : Spans} {c : Label} {base budget at first last : �
       → FitsCall w c (calls.Expire base budget) answer before after
   expired does seen =
       call_made_whole kept starts
-      (does (record { one_reading = refl; claimed = refl; done = refl; bodies = bodies_of w c order base at [] first fired notes last run }))
+      (does (record {
+        one_reading = refl;
+        claimed = refl;
+        done = refl;
+        bodies = each_ran w c order base at _ (λ before f from to ran. ran.kind) [] first fired notes last run;
+      }))
       (run_true w c order base at first (moves.first c) last notes (moment_of kept) [] first fired notes last [] run refl
       (none_made order (moves.first c) first) refl (omega (arith, starts)) (omega arith))
-      (claims_of w c order base at [] first fired notes last run) seen
+      (each_ran w c order base at _ (λ before f from to ran. ran.span) [] first fired notes last run) seen
 
 -- a run that left nothing to do
 pub expire_done : {w : Course} {moves : Spans} {c : Label} {base budget at first last : ℕ} {notes : List Noted} {fired : List Fired} {before after : Seen}

@@ -15,6 +15,7 @@ use Rattle.record_text.specs.declared.record.Label.{Label}
 use Rattle.record_text.specs.declared.record.RunRecord.{RunRecord}
 use Rattle.script_text.specs.Actions.{Action}
 use Rattle.script_text.specs.Histories.{entry_shown}
+use Rattle.script_text.proofs.Lists.{All-append, All-weaker}
 use Rattle.run_history.specs.Receipts.{as_own, count, IsMade, Noted, receipt, Rises, ShowsEntry}
 use Rattle.run_history.specs.Traces.{all_entered}
 use Rattle.run_history.proofs.Kept.{Stops}
@@ -179,20 +180,15 @@ rises_both low mid [] [] one below le two = tt
 rises_both low mid [] (y ∷ ys) one below le two = (omega (arith, le, two.0), two.1)
 rises_both low mid (x ∷ xs) ys one below le two = (one.0, rises_both (x.place + 1) mid xs ys one.1 below.1 (omega (arith, below.0)) two)
 
-all_both : (P : Noted → Type 0) (xs ys : List Noted) → AllByRecursion P xs → AllByRecursion P ys → AllByRecursion P (xs ++ ys)
-all_both P [] ys one two = two
-all_both P (x ∷ xs) ys one two = (one.0, all_both P xs ys one.1 two)
-
 pub below_all : (mid high : ℕ) (xs : List Noted) → mid ≤ high → AllByRecursion (λ x. x.place < mid) xs → AllByRecursion (λ x. x.place < high) xs
-below_all mid high [] le below = tt
-below_all mid high (x ∷ xs) le below = (omega (arith, le, below.0), below_all mid high xs le below.1)
+below_all mid high xs le below = All-weaker (λ x. x.place < mid) (λ x. x.place < high) (λ x less. omega (arith, le, less)) xs below
 
 pub made-append : (order : List TimerEntry) (low mid high : ℕ) (xs ys : List Noted) → AreMade order low mid xs → AreMade order mid high ys → low ≤ mid
     → mid ≤ high → AreMade order low high (xs ++ ys)
 made-append order low mid high xs ys one two le more = record {
   rise = rises_both low mid xs ys one.rise one.below le two.rise;
-  below = all_both (λ x. x.place < high) xs ys (below_all mid high xs more one.below) two.below;
-  made = all_both (IsMade order) xs ys one.made two.made;
+  below = All-append (λ x. x.place < high) xs ys (below_all mid high xs more one.below) two.below;
+  made = All-append (IsMade order) xs ys one.made two.made;
 }
 
 pub behind_all : (n k : ℕ) (xs : List Noted) → n ≤ k → Rises k (map (λ x. x.place) xs) → AllByRecursion (λ x. n ≤ x.place) xs

@@ -2,8 +2,8 @@
 use clock_model::Write;
 use ktime::{ClockId, Mode};
 use record_text::{
-    Answer, CallbackReply, ClockLine, Entry, ItemList, Label, Look, Restart, RunRecord, TimerLine,
-    text, text_determines_the_record,
+    Answer, CallbackReply, ClockLine, Entry, ItemList, Label, Look, ObjectLine, Restart, RunRecord,
+    TimerLine, text, text_determines_the_record,
 };
 use std::alloc::{AllocError, Global};
 use std::process::Abort;
@@ -18,6 +18,20 @@ pub(crate) fn one<T: Drop>(alloc: Global, item: T) -> Result<ItemList<T>, AllocE
     let mut items = ItemList::new(alloc);
     items.push(item)?;
     Ok(items)
+}
+
+/// A record of no write of the clock and of no timer.
+pub(crate) fn without_timers(
+    alloc: Global,
+    objects: ItemList<ItemList<ObjectLine>>,
+    answers: ItemList<ItemList<Answer>>,
+) -> RunRecord {
+    RunRecord {
+        clock: ItemList::new(alloc),
+        timers: ItemList::new(alloc),
+        objects,
+        answers,
+    }
 }
 
 /// Compares the text of a record.
@@ -308,12 +322,7 @@ fn each_answer_has_its_own_line(rt: HostRuntime) -> Result<(), AllocError> {
     let alloc = rt.alloc();
     let lane = each_answer(alloc)?;
     let answers = ItemList::from_vec(vec![in alloc; ItemList::new(alloc), lane]?);
-    let record = RunRecord {
-        clock: ItemList::new(alloc),
-        timers: ItemList::new(alloc),
-        objects: ItemList::new(alloc),
-        answers,
-    };
+    let record = without_timers(alloc, ItemList::new(alloc), answers);
     text_determines_the_record();
     shows(&rt, alloc, &record, ANSWERS_TEXT)
 }

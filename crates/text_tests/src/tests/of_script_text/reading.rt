@@ -83,8 +83,15 @@ const FROM_THE_FIRST_LINE: [(&str, &str); 13] = [
     ),
 ];
 
-const BEHIND_THE_HEADER: [(&str, &str); 14] = [
-    ("raw 1 monotonic once\n", "line 5: BadId\n"),
+const BAD_IDS: [&str; 2] = ["raw 1 monotonic once\n", "raw 1 monotonic starts 5 1\n"];
+
+const BASE_LIMITS: [&str; 3] = [
+    "raw 0 monotonic starts 5 1\n",
+    "posix 0 realtime 1\n",
+    "fd 0 boottime 1\n",
+];
+
+const BEHIND_THE_HEADER: [(&str, &str); 9] = [
     ("0 peek 0\n", "line 5: BadPlace\n"),
     ("round\n1 advance 5\n", "line 6: LaneLimit\n"),
     ("round\n0 peek 0\n", "line 6: NoTimer\n"),
@@ -93,10 +100,6 @@ const BEHIND_THE_HEADER: [(&str, &str); 14] = [
         "raw 0 monotonic once\nround\n0 read 0 8\n",
         "line 7: WrongKind\n",
     ),
-    ("raw 1 monotonic starts 5 1\n", "line 5: BadId\n"),
-    ("raw 0 monotonic starts 5 1\n", "line 5: BaseLimit\n"),
-    ("posix 0 realtime 1\n", "line 5: BaseLimit\n"),
-    ("fd 0 boottime 1\n", "line 5: BaseLimit\n"),
     ("fd 0 boottime\n", "line 5: WordCount\n"),
     ("round\nraw 7 monotonic once\n", "line 6: BadPlace\n"),
     (
@@ -110,6 +113,8 @@ const BEHIND_THE_HEADER: [(&str, &str); 14] = [
 fn tells_the_first_line_that_is_refused_and_why(rt: HostRuntime) {
     tells_each(&rt, rt.alloc(), "", &FROM_THE_FIRST_LINE);
     tells_each(&rt, rt.alloc(), HEADER, &BEHIND_THE_HEADER);
+    tells_all(&rt, rt.alloc(), HEADER, "line 5: BadId\n", &BAD_IDS);
+    tells_all(&rt, rt.alloc(), HEADER, "line 5: BaseLimit\n", &BASE_LIMITS);
 }
 
 const WRONG_KINDS: [&str; 8] = [

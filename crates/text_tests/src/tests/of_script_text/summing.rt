@@ -1,5 +1,5 @@
 //! The summaries of records.
-use crate::tests::of_record_text::one;
+use crate::tests::of_record_text::{one, without_timers};
 use clock_model::Write;
 use ktime::{ClockId, Mode};
 use record_text::{
@@ -149,11 +149,6 @@ const NO_SUMS: &str =
 #[test]
 fn sums_an_empty_record_up(rt: HostRuntime) -> Result<(), AllocError> {
     let alloc = rt.alloc();
-    let run = RunRecord {
-        clock: ItemList::new(alloc),
-        timers: ItemList::new(alloc),
-        objects: ItemList::new(alloc),
-        answers: ItemList::new(alloc),
-    };
+    let run = without_timers(alloc, ItemList::new(alloc), ItemList::new(alloc));
     sums_to(&rt, alloc, &run, NO_SUMS)
 }
