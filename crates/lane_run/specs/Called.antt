@@ -70,6 +70,10 @@ pub record LeavesLane (x : WorldOf) (old new : Lane) : Type 0 where
   pub answers : new.answers ≡ old.answers
   pub wants : new.wants_memory ≡ old.wants_memory
 
+-- a note of a call leaves the rest of its lane as it was
+abbrev pub LeavesRest : Lane → Lane → Type 0
+LeavesRest old new = (new.label ≡ old.label) × (new.answers ≡ old.answers) × (new.wants_memory ≡ old.wants_memory) × (new.pass ≡ old.pass)
+
 -- notes of what one call did: its entries and looks, its entries of objects, and its write of the clock
 abbrev pub with_done : NotesOf → Label → List Receipt → List ObjectReceipt → NotesOf
 with_done notes label log object_log = with_object_receipts (with_receipts notes label log) label object_log

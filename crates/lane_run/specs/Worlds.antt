@@ -11,6 +11,7 @@ use Rattle.hr_timers.specs.Known.{IsPassOf}
 use Rattle.timer_objects.specs.declared.callback.Callback.{Callback}
 use Rattle.timer_objects.specs.declared.callback.Callback.TheVariants as runs
 use Rattle.timer_objects.specs.declared.object.Decl.{Decl}
+use Rattle.timer_objects.specs.declared.object.Kind as object_kind
 use Rattle.timer_objects.specs.declared.object.Kind.TheVariants as over
 use Rattle.timer_objects.specs.Callbacks.{bases_of}
 use Rattle.timer_objects.specs.Cells.{opened_cells}
@@ -117,6 +118,10 @@ pub record SplitsPass (p q new : WorldPass) : Type 0 where
 abbrev pub IsObject : WorldOf → ℕ → Type 0
 IsObject x id = (id < length x.objects.decls) × ((decl_at x.objects id).kind ≢ over.Raw)
 
+-- there is an object of this number and kind
+abbrev pub IsOfKind : WorldOf → object_kind.Kind → ℕ → Type 0
+IsOfKind x kind id = (id < length x.objects.decls) × ((decl_at x.objects id).kind ≡ kind)
+
 -- the call is of a timer, an object and a base that are there, and of the object's kind
 abbrev pub CanCall : WorldOf → Call → Type 0
 CanCall x (calls.Start timer mode ns base) = (timer < length x.timers.about.timers) × (base < x.timers.about.bases)
@@ -126,7 +131,7 @@ CanCall x (calls.Expire base budget) = (base < x.timers.about.bases) × (budget 
 CanCall x (calls.Clock write) = Unit
 CanCall x (calls.Settime timer flags value interval) = IsObject x timer
 CanCall x (calls.Gettime timer) = IsObject x timer
-CanCall x (calls.Accept timer) = (timer < length x.objects.decls) × ((decl_at x.objects timer).kind ≡ over.Posix)
-CanCall x (calls.Overrun timer) = (timer < length x.objects.decls) × ((decl_at x.objects timer).kind ≡ over.Posix)
-CanCall x (calls.Read timer len) = (timer < length x.objects.decls) × ((decl_at x.objects timer).kind ≡ over.Fd)
-CanCall x (calls.Readable timer) = (timer < length x.objects.decls) × ((decl_at x.objects timer).kind ≡ over.Fd)
+CanCall x (calls.Accept timer) = IsOfKind x over.Posix timer
+CanCall x (calls.Overrun timer) = IsOfKind x over.Posix timer
+CanCall x (calls.Read timer len) = IsOfKind x over.Fd timer
+CanCall x (calls.Readable timer) = IsOfKind x over.Fd timer

@@ -9,8 +9,8 @@ ghost use Rattle.timer_fd.specs.declared.answers.SettimeAnswer.{SettimeAnswer};
 ghost use Rattle.timer_objects.specs.declared.answers.Gettime.{Gettime};
 ghost use Rattle.timer_objects.specs.declared.answers.Readable.{Readable};
 ghost use Rattle.record_text.specs.declared.record.Answer.TheVariants as answers;
-ghost use Rattle.lane_run.specs.Called.{CallsObject, CallsOverrun, LeavesLane, accept_told, gettime_told, lane_of, read_told, settime_told, with_done};
-ghost use Rattle.lane_run.specs.Worlds.{ArePassesOf};
+ghost use Rattle.lane_run.specs.Called.{CallsObject, CallsOverrun, LeavesLane, LeavesRest, accept_told, gettime_told, lane_of, read_told, settime_told, with_done};
+ghost use Rattle.lane_run.specs.Worlds.{ArePassesOf, IsObject, IsOfKind};
 
 use crate::lane::Lane;
 use crate::world::World;
@@ -47,7 +47,7 @@ fn make_logs(alloc: Global) -> Result<Logs, AllocError>
 
 /// Notes what a call has logged.
 fn note_logs(lane: &mut Lane, logs: &Logs) -> Result<(), AllocError>
-    ensures rest { (lane.new.label ≡ lane.old.label) × (lane.new.answers ≡ lane.old.answers) × (lane.new.wants_memory ≡ lane.old.wants_memory) × (lane.new.pass ≡ lane.old.pass) }
+    ensures rest { LeavesRest lane.old lane.new }
     ensures notes { OnOk result (lane.new.notes ≡ with_done lane.old.notes lane.old.label logs.now.timers.receipts logs.now.objects.receipts) }
 {
     let label = lane.label;
@@ -93,8 +93,7 @@ pub(crate) fn settime<R: Wait>(
     interval: TimeSpec,
 ) -> Result<Answer, AllocError>
     requires pass { ArePassesOf world.now lane.old.pass }
-    requires timer { timer < length world.now.objects.decls }
-    requires kind { (decl_at world.now.objects timer).kind ≢ over.Raw }
+    requires object { IsObject world.now timer }
     ensures leaves { LeavesLane world.now lane.old lane.new }
     ensures call { IfOk result (λ a. (s : SettimeAnswer) × (a ≡ settime_told s) × CallsObject world.now (lane_of lane.old) (lane_of lane.new) a (λ old new reading. Settimes world.now.objects world.now.timers.about old new timer flags value interval reading s)) }
 {
@@ -124,8 +123,7 @@ pub(crate) fn gettime<R: Wait>(
     timer: u32,
 ) -> Result<Answer, AllocError>
     requires pass { ArePassesOf world.now lane.old.pass }
-    requires timer { timer < length world.now.objects.decls }
-    requires kind { (decl_at world.now.objects timer).kind ≢ over.Raw }
+    requires object { IsObject world.now timer }
     ensures leaves { LeavesLane world.now lane.old lane.new }
     ensures call { IfOk result (λ a. (g : Gettime) × CallsObject world.now (lane_of lane.old) (lane_of lane.new) a (λ old new reading. Gettimes world.now.objects world.now.timers.about old new timer reading (decl_at world.now.objects timer).kind g × (a ≡ gettime_told (decl_at world.now.objects timer).kind reading.stamp g))) }
 {
@@ -165,8 +163,7 @@ pub(crate) fn accept<R: Wait>(
     timer: u32,
 ) -> Result<Answer, AllocError>
     requires pass { ArePassesOf world.now lane.old.pass }
-    requires timer { timer < length world.now.objects.decls }
-    requires kind { (decl_at world.now.objects timer).kind ≡ over.Posix }
+    requires kind { IsOfKind world.now over.Posix timer }
     ensures leaves { LeavesLane world.now lane.old lane.new }
     ensures call { IfOk result (λ a. (s : AcceptAnswer) × (a ≡ accept_told s) × CallsObject world.now (lane_of lane.old) (lane_of lane.new) a (λ old new reading. Accepts world.now.objects world.now.timers.about old new timer reading s)) }
 {
@@ -195,8 +192,7 @@ pub(crate) fn read<R: Wait>(
     len: u64,
 ) -> Result<Answer, AllocError>
     requires pass { ArePassesOf world.now lane.old.pass }
-    requires timer { timer < length world.now.objects.decls }
-    requires kind { (decl_at world.now.objects timer).kind ≡ over.Fd }
+    requires kind { IsOfKind world.now over.Fd timer }
     ensures leaves { LeavesLane world.now lane.old lane.new }
     ensures call { IfOk result (λ a. (s : ReadAnswer) × (a ≡ read_told s) × CallsObject world.now (lane_of lane.old) (lane_of lane.new) a (λ old new reading. ReadsFd world.now.objects world.now.timers.about old new timer len reading s)) }
 {
@@ -226,8 +222,7 @@ pub(crate) fn overrun<R: Wait>(
     timer: u32,
 ) -> Answer
     requires pass { ArePassesOf world.now lane.old.pass }
-    requires timer { timer < length world.now.objects.decls }
-    requires kind { (decl_at world.now.objects timer).kind ≡ over.Posix }
+    requires kind { IsOfKind world.now over.Posix timer }
     ensures leaves { LeavesLane world.now lane.old lane.new }
     ensures call { CallsOverrun world.now (lane_of lane.old) (lane_of lane.new) result timer }
 {
@@ -249,8 +244,7 @@ pub(crate) fn readable<R: Wait>(
     timer: u32,
 ) -> Answer
     requires pass { ArePassesOf world.now lane.old.pass }
-    requires timer { timer < length world.now.objects.decls }
-    requires kind { (decl_at world.now.objects timer).kind ≡ over.Fd }
+    requires kind { IsOfKind world.now over.Fd timer }
     ensures leaves { LeavesLane world.now lane.old lane.new }
     ensures call { (found : Readable) × CallsObject world.now (lane_of lane.old) (lane_of lane.new) result (λ old new reading. LooksReadable old new timer reading found × (result ≡ answers.Readable found.ready reading.stamp found.stamp)) }
 {

@@ -1,7 +1,7 @@
 //! The calls on timers by themselves, and the writes of the clock.
 ghost use Rattle.std.specs.Prelude.{◌≡◌, ◌<◌, [], ◌∷◌, IfOk, OnOk, length};
 ghost use Rattle.lane_notes.specs.Entries.{with_receipts};
-ghost use Rattle.lane_run.specs.Called.{CallsCancel, CallsPeek, CallsStart, CallsWrite, LeavesLane, cancel_receipts, cancel_told, entry_receipt, lane_of, start_receipts, start_told, with_done};
+ghost use Rattle.lane_run.specs.Called.{LeavesRest, CallsCancel, CallsPeek, CallsStart, CallsWrite, LeavesLane, cancel_receipts, cancel_told, entry_receipt, lane_of, start_receipts, start_told, with_done};
 ghost use Rattle.lane_run.specs.Worlds.{ArePassesOf};
 
 use crate::lane::Lane;
@@ -69,7 +69,7 @@ fn note_start(
     reading: Reading,
     answer: StartAnswer,
 ) -> Result<(), AllocError>
-    ensures rest { (lane.new.label ≡ lane.old.label) × (lane.new.answers ≡ lane.old.answers) × (lane.new.wants_memory ≡ lane.old.wants_memory) × (lane.new.pass ≡ lane.old.pass) }
+    ensures rest { LeavesRest lane.old lane.new }
     ensures notes { OnOk result (lane.new.notes ≡ with_done lane.old.notes lane.old.label (start_receipts timer mode ns asked reading answer) []) }
 {
     let StartAnswer::Started {
@@ -194,7 +194,7 @@ fn note(
     event: Event,
     reply: Reply,
 ) -> Result<(), AllocError>
-    ensures rest { (lane.new.label ≡ lane.old.label) × (lane.new.answers ≡ lane.old.answers) × (lane.new.wants_memory ≡ lane.old.wants_memory) × (lane.new.pass ≡ lane.old.pass) }
+    ensures rest { LeavesRest lane.old lane.new }
     ensures notes { OnOk result (lane.new.notes ≡ with_receipts lane.old.notes lane.old.label (entry_receipt timer number event reply ∷ [])) }
 {
     let receipt = Receipt {
