@@ -77,7 +77,14 @@ module _ (reading : ClockReading) (arm : Arm) (n : ℕ) where
 
 abbrev ends_with : (p q : ObjectsPass) (id : ℕ) (call : SpannedCall) (commits : Commits cell_meaning p q id call)
     → EndsWith p q id
-ends_with p q id call commits = record { state = commits.state; entry = record { call = call; reply = cell_meaning.reply commits.state call }; before = commits.adds.before; seen = commits.adds.begins; at = commits.at; last = commits.adds.last }
+ends_with p q id call commits = record {
+  state = commits.state;
+  entry = record { call = call; reply = cell_meaning.reply commits.state call };
+  before = commits.adds.before;
+  seen = commits.adds.begins;
+  at = commits.at;
+  last = commits.adds.last;
+}
 
 module _ (x : ObjectsOf) (o : Opening) (old new : Caller) (id : ℕ) (reading : ClockReading) (n : ℕ) where
   takes_signal : MakesRearming x o old new id rearmings.Accepting reading (replies.Posix (posix_replies.Accept (acceptances.Accepted n)))

@@ -49,8 +49,8 @@ pub record HasPasses (timers : rows.BaseRowOf) (objects : ObjectsOf) (pass : Pas
   pub suits : Suits objects timers.about
 
 -- a thread may call an object by its passes, and its logs have room for the receipts
-pub record MayCall (timers : rows.BaseRowOf) (objects : ObjectsOf) (pass : PassOf) (objects_pass : ObjectsPass) (log : LogOf Receipt) (object_log : LogOf ObjectReceipt) (id : ℕ)
-    : Type 0 where
+pub record MayCall (timers : rows.BaseRowOf) (objects : ObjectsOf) (pass : PassOf) (objects_pass : ObjectsPass) (log : LogOf Receipt)
+    (object_log : LogOf ObjectReceipt) (id : ℕ) : Type 0 where
   pub passes : HasPasses timers objects pass objects_pass
   pub within : id < length objects.decls
   pub room : 4 ≤ log.spare
