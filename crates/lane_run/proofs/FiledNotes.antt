@@ -19,7 +19,7 @@ use Rattle.script_text.specs.Order.{IsLabel}
 use Rattle.script_text.specs.declared.script.Script.{Script}
 use Rattle.run_history.specs.Receipts.{AreFiled, file_shape, Filed, files_on, IsMade, line_shape, Noted, RiseBy}
 use Rattle.run_history.specs.Runs.{CallLog}
-use Rattle.run_history.proofs.Known.{behind_all}
+use Rattle.run_history.proofs.Known.{behind_all, rises_lower}
 use Rattle.run_history.proofs.Laid.{same_place}
 use Rattle.run_history.proofs.Lists.{all_at, each, at_map, map_get}
 use Rattle.lane_run.proofs.Kept.{EntryNotes}
@@ -28,7 +28,6 @@ use Rattle.lane_run.specs.Worlds.{WorldOf}
 use Rattle.lane_run.specs.declared.world.WorldPass.{WorldPass}
 use Rattle.lane_run.proofs.LastSeen.{entries_once, has_receipt, HasReceipt, is_told, note_made, noted_at, timer_lines_are}
 use Rattle.lane_run.proofs.Numbered.{as_many, at_most_one, number_within}
-use Rattle.lane_run.proofs.PartLists.{rises_lower}
 
 -- ---- notes with their receipts
 

@@ -1,6 +1,5 @@
 pub mod Making
 pub mod Mains
-pub mod Lent
 pub mod Objects
 pub mod Claimed
 pub mod Calls

@@ -29,7 +29,8 @@ use Rattle.lane_run.proofs.Kept.{IsNextCall, IsSeen, list_of, EntryNotes, LookNo
 use Rattle.lane_run.specs.Worlds.{WorldOf}
 use Rattle.lane_run.proofs.CallKept.{FitsOn, logged_from, LooksAtClock, no_places, notes_of, notes_of-bear, places_added, promised_from, stand_from, with_done-joins}
 use Rattle.lane_run.proofs.Parts.{IsPart, object_place}
-use Rattle.lane_run.proofs.PartLists.{each_weaker, rises_lower}
+use Rattle.run_history.proofs.Known.{rises_lower}
+use Rattle.lane_run.proofs.PartLists.{each_weaker}
 
 -- ---- the call
 

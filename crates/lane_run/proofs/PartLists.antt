@@ -7,6 +7,7 @@ use Rattle.script_text.specs.Objects.{present}
 use Rattle.script_text.specs.Order.{NeverFall}
 use Rattle.lane_notes.proofs.Receipts.{present-append}
 use Rattle.run_history.specs.Receipts.{Rises}
+use Rattle.run_history.proofs.Known.{rises_lower}
 use Rattle.record_text.proofs.Lists.{All-append}
 use Rattle.std.proofs.Common.{subst}
 use Rattle.std.specs.List.Sorted.{IsPermutation}
@@ -57,11 +58,6 @@ pub one_rises : {X : Type 0} (i number : ℕ) (thing : X) (low high : ℕ → �
 one_rises i number thing low high more less le =
     by_number (λ j b. RisesTo (low j) (also b (number, thing) []) (high j)) i
     (record { rise = (more, tt); above = (more, tt); below = (less, tt); le = le i }) (λ j. rises_none (le j))
-
--- numbers rise from a lower number too
-pub rises_lower : (low mid : ℕ) (xs : List ℕ) → low ≤ mid → Rises mid xs → Rises low xs
-rises_lower low mid [] le rises = tt
-rises_lower low mid (x ∷ xs) le rises = (omega (arith, le, rises.0), rises.1)
 
 -- law: behind them others that rise from there
 pub rises_on : {X : Type 0} {low mid high : ℕ} {xs ys : List (ℕ × X)} → RisesTo low xs mid → RisesTo mid ys high → RisesTo low (xs ++ ys) high

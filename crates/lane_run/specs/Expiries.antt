@@ -5,12 +5,10 @@ use Rattle.expire_pass.specs.declared.expiry.ExpireAnswer.{ExpireAnswer}
 use Rattle.expire_pass.specs.declared.log.Receipt.{Receipt}
 use Rattle.expire_pass.specs.Expiring.{Expires}
 use Rattle.timer_objects.specs.declared.log.ObjectReceipt.{ObjectReceipt}
-use Rattle.timer_objects.specs.Firings.{Fires, Firing, IsSameLoan, firing}
+use Rattle.timer_objects.specs.Firings.{Fires, Firing, firing, LeavesPass}
 use Rattle.base_row.specs.declared.view.Opening.{Opening}
 use Rattle.expire_pass.specs.declared.handler.Restart.{Restart}
 use Rattle.hr_timers.specs.declared.numbers.ClaimNumbers.{ClaimNumbers}
-use Rattle.timer_objects.specs.Cells.{cell_meaning}
-use Rattle.counted_row.specs.Views.{Knows}
 use Rattle.hr_timers.specs.Known.{KnownOfTimers}
 use Rattle.timer_objects.specs.Known.{ObjectsPass}
 use Rattle.lane_run.specs.Worlds.{WorldOf}
@@ -27,12 +25,6 @@ pub record RunsGated (x : WorldOf) (v : KnownOfTimers) (p : ObjectsPass) (w : Kn
   pub back : after.objects_pass.now ≡ q
   pub fresh : (before.log.receipts ≡ []) × (before.object_log.receipts ≡ [])
   pub logs : (after.log.receipts ≡ callback_log) × (after.object_log.receipts ≡ object_log)
-
--- a run leaves a handler of objects so: the loan is the same, the pass keeps its name, and what it knows stays true
-pub record LeavesPass (h h' : Firing) : Type 0 where
-  pub loan : IsSameLoan h h'
-  pub id : h'.objects_pass.now.knows.pass.id ≡ h.objects_pass.now.knows.pass.id
-  pub knows : Knows cell_meaning h.objects_pass.now.knows → Knows cell_meaning h'.objects_pass.now.knows
 
 -- a pass of objects keeps its name
 pub record KeepsName (p q : ObjectsPass) : Type 0 where

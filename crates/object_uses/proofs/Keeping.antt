@@ -1,10 +1,10 @@
 -- What calls leave of the passes by which they are made.
-use Rattle.std.proofs.Common.{◌≡◌, ℕ, List, sym, subst, refl, ◌∙◌}
+use Rattle.std.proofs.Common.{◌≡◌, ℕ, List, sym, subst, refl}
 use Rattle.std.specs.Prelude.{Option, Some, None, MatchOption}
 use Rattle.ktime.specs.Readings.{ClockReading}
-use Rattle.pass_names.specs.Passes.{Adds, Begins, Looks}
+use Rattle.pass_names.specs.Passes.{Begins}
 use Rattle.pass_names.specs.SharedHistory.{LooksOn}
-use Rattle.pass_names.proofs.Passes.{begins_refl, begins_trans, goes_refl, goes_trans}
+use Rattle.pass_names.proofs.Passes.{begins_refl, begins_trans}
 use Rattle.seq_timer.specs.Histories as seq
 use Rattle.seq_timer.specs.declared.system.TimerEntry.{TimerEntry}
 use Rattle.base_row.specs.declared.view.Opening.{Opening}
@@ -25,8 +25,9 @@ use Rattle.timer_objects.specs.declared.object.ObjectReply.{ObjectReply}
 use Rattle.timer_objects.specs.declared.wanting.Rearming.{Rearming}
 use Rattle.timer_objects.specs.Arming.{ArmsFor}
 use Rattle.timer_objects.specs.Calls.{Accepts, Caller, FindsFull, MakesRearming, ReadsFd, RearmsFor, SetsTimer, SettimeMade}
-use Rattle.timer_objects.specs.Known.{ObjectsOf, ObjectsPass}
-use Rattle.object_uses.specs.Callers.{KeepsBoth, KeepsObjectsPass}
+use Rattle.timer_objects.specs.Known.{ObjectsOf}
+use Rattle.timer_objects.proofs.Lending.{keeps_added, keeps_read, keeps_same}
+use Rattle.object_uses.specs.Callers.{KeepsBoth}
 
 keeps_looks : (v w : KnownOfTimers) → LooksOn v w → KeepsPass v w
 keeps_looks v w looks = record {
@@ -39,19 +40,6 @@ keeps_looks v w looks = record {
 keeps_made : (v w : KnownOfTimers) (t : ℕ) (x : List TimerEntry) (es : List seq.Entry) → MadeAt v w t x es → w.claims ≡ v.claims → KeepsPass v w
 keeps_made v w t x es made claims =
     record { id = made.id; claims = claims; seen = begins_trans made.from made.seen; mine = record { rest = _; whole = made.mine } }
-
-pub keeps_same : (p : ObjectsPass) → KeepsObjectsPass p p
-keeps_same p = record { id = refl; seen = goes_refl p.knows.pass.seen; mine = begins_refl p.knows.pass.mine }
-
-pub keeps_both : (p q r : ObjectsPass) → KeepsObjectsPass p q → KeepsObjectsPass q r → KeepsObjectsPass p r
-keeps_both p q r a b = record { id = b.id ∙ a.id; seen = goes_trans a.seen b.seen; mine = begins_trans a.mine b.mine }
-
-pub keeps_read : (p q : ObjectsPass) → Looks p.knows.pass q.knows.pass → KeepsObjectsPass p q
-keeps_read p q looks =
-    record { id = looks.id; seen = looks.seen; mine = subst (λ m. Begins p.knows.pass.mine m) (sym looks.mine) (begins_refl p.knows.pass.mine) }
-
-pub keeps_added : (p q : ObjectsPass) (i : ℕ) (es : List _) → Adds p.knows.pass q.knows.pass i es → KeepsObjectsPass p q
-keeps_added p q i es adds = record { id = adds.id; seen = adds.seen; mine = record { rest = _; whole = adds.mine } }
 
 keeps_armed : (o : Opening) (v w : KnownOfTimers) (t : ℕ) (wanted : Option Wanted) (base : ℕ) (reading : ClockReading) (arm : Arm) (log log' : List Receipt)
     → ArmsFor o v w t wanted base reading arm log log' → KeepsPass v w

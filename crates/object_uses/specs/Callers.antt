@@ -34,13 +34,7 @@ use Rattle.timer_objects.specs.declared.callback.Callback.{Callback}
 use Rattle.timer_objects.specs.Callbacks.{bases_of}
 use Rattle.timer_objects.specs.Cells.{cell_meaning}
 use Rattle.timer_objects.specs.Calls.{Caller}
-use Rattle.timer_objects.specs.Known.{IsObjectsPass, ObjectsOf, ObjectsPass, Suits, seen_of}
-
--- the pass's name is as it was, and what it has seen and made goes on
-pub record KeepsObjectsPass (p q : ObjectsPass) : Type 0 where
-  pub id : q.knows.pass.id ≡ p.knows.pass.id
-  pub seen : GoesOn p.knows.pass.seen q.knows.pass.seen
-  pub mine : Begins p.knows.pass.mine q.knows.pass.mine
+use Rattle.timer_objects.specs.Known.{IsObjectsPass, KeepsObjectsPass, ObjectsOf, ObjectsPass, Suits, seen_of}
 
 -- a thread has a pass of the timers and one of the objects, which stand over these timers
 pub record HasPasses (timers : rows.BaseRowOf) (objects : ObjectsOf) (pass : PassOf) (objects_pass : ObjectsPass) : Type 0 where

@@ -170,9 +170,10 @@ shows_made r order seen later t k (x ∷ xs) (e ∷ es) (y ∷ ys) is those are 
 
 -- ---- calls one behind the other
 
-lower : (j k : ℕ) (xs : List ℕ) → j ≤ k → Rises k xs → Rises j xs
-lower j k [] le rises = tt
-lower j k (x ∷ xs) le rises = (omega (arith, le, rises.0), rises.1)
+-- numbers rise from a lower number too
+pub rises_lower : (j k : ℕ) (xs : List ℕ) → j ≤ k → Rises k xs → Rises j xs
+rises_lower j k [] le rises = tt
+rises_lower j k (x ∷ xs) le rises = (omega (arith, le, rises.0), rises.1)
 
 rises_both : (low mid : ℕ) (xs ys : List Noted) → Rises low (map (λ x. x.place) xs) → AllByRecursion (λ x. x.place < mid) xs → low ≤ mid
     → Rises mid (map (λ x. x.place) ys) → Rises low (map (λ x. x.place) (xs ++ ys))
@@ -198,7 +199,7 @@ behind_all n k (x ∷ xs) le rise = (omega (arith, le, rise.0), behind_all n (x.
 pub made_wider : (order : List TimerEntry) (low low' high' high : ℕ) (notes : List Noted) → low ≤ low' → high' ≤ high → AreMade order low' high' notes
     → AreMade order low high notes
 made_wider order low low' high' high notes under over made = record {
-  rise = lower low low' (map (λ x. x.place) notes) under made.rise;
+  rise = rises_lower low low' (map (λ x. x.place) notes) under made.rise;
   below = below_all high' high notes over made.below;
   made = made.made;
 }

@@ -14,7 +14,9 @@ use Rattle.timer_objects.specs.declared.callback.Callback.TheVariants as callbac
 use Rattle.timer_objects.specs.declared.firing.FiringWith.{FiringWith}
 use Rattle.timer_objects.specs.declared.log.ObjectReceipt.{ObjectReceipt}
 use Rattle.timer_objects.specs.declared.object.ObjectCall.{ObjectCall}
-use Rattle.timer_objects.specs.Known.{decl_at}
+use Rattle.counted_row.specs.Views.{Knows}
+use Rattle.timer_objects.specs.Cells.{cell_meaning}
+use Rattle.timer_objects.specs.Known.{KeepsObjectsPass, decl_at}
 use Rattle.timer_objects.specs.Callbacks.{RunsCallback, bases_of}
 use Rattle.timer_objects.specs.Triggers.{Triggers, trigger_of}
 
@@ -35,6 +37,12 @@ pub record IsSameLoan (h h' : Firing) : Type 0 where
   pub objects : h'.objects.now ≡ h.objects.now
   pub callbacks : h'.callbacks.now ≡ h.callbacks.now
   pub lent : h'.objects_pass.ghost_name ≡ h.objects_pass.ghost_name
+
+-- what is left of a loan: it is the same, what the pass has seen and made goes on, and what it knows stays true
+pub record LeavesPass (h h' : Firing) : Type 0 where
+  pub loan : IsSameLoan h h'
+  pub keeps : KeepsObjectsPass h.objects_pass.now h'.objects_pass.now
+  pub knows : Knows cell_meaning h.objects_pass.now.knows → Knows cell_meaning h'.objects_pass.now.knows
 
 module _ (o : Opening) (h h' : Firing) (v w : KnownOfTimers) (c : ClaimNumbers) (reading : ClockReading) (restart : Restart) where
   -- a timer by itself runs its callback, and objects are left alone; an object is triggered, and its timer is left alone

@@ -2,7 +2,7 @@
 use Rattle.std.specs.Prelude.{ℕ, ◌≡◌, ◌+◌, ◌<◌, List, [], ◌∷◌, length, get_or, Some, None}
 use Rattle.atomic_table.specs.Seated.{TableId}
 use Rattle.ktime.specs.declared.clock_id.ClockId.TheVariants as clocks
-use Rattle.pass_names.specs.Passes.{Adds, entries}
+use Rattle.pass_names.specs.Passes.{Adds, Begins, GoesOn, entries}
 use Rattle.seq_timer.specs.Tables.{timer_at}
 use Rattle.base_row.specs.declared.view.Opening.{Opening}
 use Rattle.counted_row.specs.declared.view.Entry.{Entry}
@@ -79,3 +79,9 @@ pub record Suits (x : ObjectsOf) (o : Opening) : Type 0 where
   pub many : length o.timers ≡ length x.decls
   pub clocks : (i : ℕ) → i < length x.decls → (timer_at o.timers i).declared ≡ (decl_at x i).clock
   pub bases : (i : ℕ) → i < length x.decls → (decl_at x i).base < o.bases
+
+-- the pass's name is as it was, and what it has seen and made goes on
+pub record KeepsObjectsPass (p q : ObjectsPass) : Type 0 where
+  pub id : q.knows.pass.id ≡ p.knows.pass.id
+  pub seen : GoesOn p.knows.pass.seen q.knows.pass.seen
+  pub mine : Begins p.knows.pass.mine q.knows.pass.mine

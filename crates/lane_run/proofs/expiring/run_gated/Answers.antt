@@ -9,21 +9,21 @@ use Rattle.timer_objects.specs.Firings.{firing}
 use Rattle.timer_objects.specs.declared.log.ObjectReceipt.{ObjectReceipt}
 use Rattle.lane_run.specs.Expiries.{KeepsName, RunsGated}
 use Rattle.lane_run.specs.Worlds.{WorldOf}
-use Rattle.lane_run.proofs.Lent.{pass_after}
+use Rattle.timer_objects.proofs.Lending.{pass_after}
 use Rattle.lane_run.proofs.expiring.run_gated.Goals as goal
 
 pub returns-clause-objects : goal.returns-clause-objects
 returns-clause-objects g c =
     let was = c.reserve-2.ensures.pass ∙ c.make-firing.ensures.pass in
     subst (λ (p : ObjectsPass). IsObjectsPass c.args.world.now.objects p) (search rules)
-    (pass_after (c.reserve-2.ensures.loan.objects ∙ c.make-firing.ensures.objects ∙ ap (λ (x : WorldOf). x.objects) c.world.view_is)
+    (pass_after _ _ _ (c.reserve-2.ensures.loan.objects ∙ c.make-firing.ensures.objects ∙ ap (λ (x : WorldOf). x.objects) c.world.view_is)
     c.run_with-answer.ensures.runs.leaves (subst (λ (p : ObjectsPass). Knows cell_meaning p.knows) (sym was) c.requires.objects.knows))
 
 pub returns-clause-name : goal.returns-clause-name
 returns-clause-name g c =
     let was = c.reserve-2.ensures.pass ∙ c.make-firing.ensures.pass in
     let same : KeepsName c.args.objects_pass.now c.run_with-answer.new.firing.objects_pass.now =
-    record { id = c.run_with-answer.ensures.runs.leaves.id ∙ ap (λ (p : ObjectsPass). p.knows.pass.id) was } in
+    record { id = c.run_with-answer.ensures.runs.leaves.keeps.id ∙ ap (λ (p : ObjectsPass). p.knows.pass.id) was } in
     subst (λ (p : ObjectsPass). KeepsName c.args.objects_pass.now p) (search rules) same
 
 pub returns-clause-runs : goal.returns-clause-runs

@@ -1,9 +1,8 @@
 use Rattle.std.proofs.Common.{rules, ◌≡◌, ◌∙◌, sym, subst}
 use Rattle.counted_row.specs.Views.{Knows}
 use Rattle.timer_objects.specs.Cells.{cell_meaning}
-use Rattle.timer_objects.specs.Known.{IsObjectsPass, ObjectsPass}
-use Rattle.object_uses.specs.Callers.{KeepsObjectsPass}
-use Rattle.object_uses.proofs.Lending.{leaves_pass, pass_after}
+use Rattle.timer_objects.specs.Known.{IsObjectsPass, KeepsObjectsPass, ObjectsPass}
+use Rattle.timer_objects.proofs.Lending.{leaves_pass, pass_after}
 use Rattle.object_uses.proofs.expiring.expire_objects.Goals as goal
 
 pub returns-clause-keeps : goal.returns-clause-keeps

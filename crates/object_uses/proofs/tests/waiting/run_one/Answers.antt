@@ -1,10 +1,11 @@
 use Rattle.std.proofs.Common.{rules, refl, ◌≡◌, ◌∙◌, sym, subst}
 use Rattle.counted_row.specs.Views.{Knows}
 use Rattle.timer_objects.specs.Cells.{cell_meaning}
-use Rattle.timer_objects.specs.Known.{IsObjectsPass, ObjectsPass}
+use Rattle.timer_objects.specs.Known.{IsObjectsPass, KeepsObjectsPass, ObjectsPass}
 use Rattle.object_uses.specs.declared.tests.waiting.Gated.{Gated}
-use Rattle.object_uses.specs.Callers.{KeepsObjectsPass}
-use Rattle.object_uses.proofs.Lending.{LeavesPass, leaves_fired, leaves_run, leaves_same, leaves_trans, pass_after}
+use Rattle.expire_pass.proofs.Leaving.{run_leaves}
+use Rattle.timer_objects.specs.Firings.{LeavesPass}
+use Rattle.timer_objects.proofs.Lending.{leaves_fired, leaves_same, leaves_trans, pass_after}
 use Rattle.object_uses.proofs.tests.waiting.run_one.Goals as goal
 
 -- the handler still has the same loan, and leaves the pass so
@@ -23,7 +24,7 @@ returns g c =
     let ran = c.expire-answer in
     let ready = c.reserve.new.self in
     let was : ready.objects_pass.now ≡ c.args.objects_pass.now = c.reserve.ensures.pass ∙ c.make-firing.ensures.pass in
-    let left = leaves_run _ c.args.timers.now.about _ LeavesGated gated_same gated_trans
+    let left = run_leaves _ c.args.timers.now.about _ LeavesGated gated_same gated_trans
     (λ h h' v w n restart later. record { lent = later.0; leaves = leaves_fired _ h.firing.now h'.firing.now later.1.0 w n _ restart later.1.1 })
     0 _ c.args.pass.now.known _ c.args.log.now.receipts ran.new.pass.known ran.new.handler ran.new.log.receipts ran.result ran.ensures.expires in
     let knows = subst (λ (p : ObjectsPass). Knows cell_meaning p.knows) (sym was) c.requires.passes.of_objects.knows in
