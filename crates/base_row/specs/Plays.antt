@@ -22,8 +22,8 @@ use Rattle.base_row.specs.Rules.{is_base_claim, carried_in, number_of, now, runs
 abbrev pub SeatState : Type 0
 SeatState = Me (Option BaseContent) (BaseView BaseContent)
 
--- this seat's pass holds no base and carries no slot, and may try the lock of a base, whose word in the table is this one
-pub record MayTryLock (table : TableId) (bases : ℕ) (opened : List Timer) (of : TableId) (me : SeatState) (base word : ℕ) : Type 0 where
+-- this seat's pass holds no base, and may look at the lock of a base, whose word in the table is this one
+pub record MayMeetLock (table : TableId) (bases : ℕ) (opened : List Timer) (of : TableId) (me : SeatState) (base word : ℕ) : Type 0 where
   pub same : of ≡ table
   pub about : me.0.opening ≡ record { bases = bases; timers = opened }
   pub at : word ≡ lock_at base
@@ -31,7 +31,6 @@ pub record MayTryLock (table : TableId) (bases : ℕ) (opened : List Timer) (of 
   pub within : base < bases
   pub live : me.0.id.live ≡ true
   pub idle : me.0.held ≡ None
-  pub empty : me.1 ≡ []
 
 -- what a step tells of the seat before, the number found or stored, and the seat after
 abbrev pub StepMeaning : Type 1

@@ -8,7 +8,7 @@ ghost use Rattle.seq_timer.specs.Steps.{after};
 ghost use Rattle.base_row.specs.Rules.{number_of};
 ghost use Rattle.seq_timer.specs.Systems.{BaseContent};
 ghost use Rattle.base_row.specs.declared.view.HeldContent.{HeldContent};
-ghost use Rattle.base_row.specs.Plays.{MayEnter, OwnNeeds, EntersAs, MayTryLock, Met, TookBase, FoundTaken, LooksOwn, FreesOwn, KnowsBases, entry_of_event, seen_timer};
+ghost use Rattle.base_row.specs.Plays.{MayEnter, OwnNeeds, EntersAs, MayMeetLock, Met, TookBase, FoundTaken, LooksOwn, FreesOwn, KnowsBases, entry_of_event, seen_timer};
 ghost use Rattle.base_row.specs.Calls.{LearnsFrom, Absorbs};
 
 use crate::cell::BaseCell;
@@ -59,7 +59,7 @@ pub fn look(cells: &BaseCells, seat: &mut BaseSeat, word: usize) -> u64
 
 /// Loads a base's lock word.
 pub fn meet_lock(cells: &BaseCells, seat: &mut BaseSeat, base: u32, word: usize) -> u64
-    requires may { MayTryLock cells.now.table_id cells.now.key.0 cells.now.key.1.value.items seat.old.table_id seat.old.me base word }
+    requires may { MayMeetLock cells.now.table_id cells.now.key.0 cells.now.key.1.value.items seat.old.table_id seat.old.me base word }
     ensures same { seat.new.table_id ≡ seat.old.table_id }
     ensures met { Met cells.now.key.0 cells.now.key.1.value.items number_of base seat.old.me result seat.new.me }
 {
@@ -68,7 +68,8 @@ pub fn meet_lock(cells: &BaseCells, seat: &mut BaseSeat, base: u32, word: usize)
 
 /// Takes a base's lock, if its word still is as it was met.
 pub fn take(cells: &BaseCells, seat: &mut BaseSeat, base: u32, word: usize, first: u64) -> bool
-    requires may { MayTryLock cells.now.table_id cells.now.key.0 cells.now.key.1.value.items seat.old.table_id seat.old.me base word }
+    requires may { MayMeetLock cells.now.table_id cells.now.key.0 cells.now.key.1.value.items seat.old.table_id seat.old.me base word }
+    requires empty { seat.old.me.1 ≡ [] }
     requires known { (slice_index seat.old.me.0.met base ≡ first) × (first % 2 ≡ 0) × (first < 2 ^ 64 - 2) }
     ensures same { seat.new.table_id ≡ seat.old.table_id }
     ensures took { MatchBool result

@@ -25,7 +25,7 @@ pub record AreBoth (row : BaseRowOf) (main other : BasePassOf) : Type 0 where
   pub ids : AreFirstTwo main.knows.id other.knows.id
 
 -- a pass holds this base of the row, and carries no timer
-pub record HoldsBase (row : BaseRowOf) (pass : BasePassOf) (base : HeldContent BaseContent) : Type 0 where
+pub record HoldsOneBase (row : BaseRowOf) (pass : BasePassOf) (base : HeldContent BaseContent) : Type 0 where
   pub pass_of : IsBasePassOf row pass
   pub held : pass.knows.held ≡ Some base
   pub free : pass.knows.carry ≡ None

@@ -2,7 +2,7 @@
 ghost use Rattle.std.specs.Prelude.{◌≡◌, ◌*◌, ◌^◌, ◌<◌, ◌≤◌, length};
 ghost use Rattle.ktime.specs.declared.mode.Mode.TheVariants.{Abs};
 ghost use Rattle.seq_timer.specs.declared.event.Event.TheVariants as events;
-ghost use Rattle.base_row_bench.specs.Working.{AreBoth, HoldsBase, IsReady, Worked, WorkedOn, beginning};
+ghost use Rattle.base_row_bench.specs.Working.{AreBoth, HoldsOneBase, IsReady, Worked, WorkedOn, beginning};
 
 use base_row::{BaseRow, HeldBase, Pass};
 use bench_cases::{Random, Workers};
@@ -33,9 +33,9 @@ pub fn start_event(base: u32, ns: u64) -> Event
 
 /// Starts a timer of a held base, and answers how many entries that made.
 pub fn start(row: &BaseRow, pass: &mut Pass, held: &mut HeldBase, timer: u32, ns: u64) -> u64
-    requires holds { HoldsBase row.now pass.old held.old }
+    requires holds { HoldsOneBase row.now pass.old held.old }
     requires within { timer < length row.now.about.timers }
-    ensures holds { HoldsBase row.now pass.new held.new }
+    ensures holds { HoldsOneBase row.now pass.new held.new }
     ensures worked { WorkedOn result held.old held.new pass.old.knows pass.new.knows }
 {
     let base = held.base();
@@ -49,9 +49,9 @@ pub fn start(row: &BaseRow, pass: &mut Pass, held: &mut HeldBase, timer: u32, ns
 
 /// Cancels a timer that is armed on a held base, and answers how many entries that made.
 fn cancel(row: &BaseRow, pass: &mut Pass, held: &mut HeldBase, timer: u32) -> u64
-    requires holds { HoldsBase row.now pass.old held.old }
+    requires holds { HoldsOneBase row.now pass.old held.old }
     requires within { timer < length row.now.about.timers }
-    ensures holds { HoldsBase row.now pass.new held.new }
+    ensures holds { HoldsOneBase row.now pass.new held.new }
     ensures worked { WorkedOn result held.old held.new pass.old.knows pass.new.knows }
 {
     let state = row.state(pass, held, timer);

@@ -8,7 +8,7 @@ use Rattle.clock_model.specs.declared.write.Write.{Write}
 use Rattle.pass_names.specs.Passes.{Begins, Looks, places}
 use Rattle.pass_names.proofs.Passes.{begins_trans, begins_length, begins_whole, goes_trans, looks_trans}
 use Rattle.clock_cell.specs.declared.view.ClockView.{ClockView}
-use Rattle.clock_cell.specs.Views.{reading_after, writes, seen_reading, KnowsClock, Hears, Accepts}
+use Rattle.clock_cell.specs.Views.{reading_after, writes, seen_reading, KnowsClock, Hears, AcceptsWrite}
 use Rattle.clock_cell.specs.Words.{cell_words, reading_in}
 use Rattle.clock_cell.specs.Plays.{Loaded, MadeWrite}
 use Rattle.clock_cell.specs.Turns.{Misses, SeesMore}
@@ -17,7 +17,7 @@ use Rattle.clock_model.proofs.Writes.{shown_by, stamp_after}
 
 module _ (w : Write) (old new : ClockView) (r : ClockReading) where
   -- the stamp of the reading after the write is its place
-  entered : MadeWrite w old (cell_words r) new → Accepts w old new r
+  entered : MadeWrite w old (cell_words r) new → AcceptsWrite w old new r
   entered t =
       let shows : r ≡ seen_reading new = ap reading_in t.sees.shows in
       let count : r.stamp ≡ length (writes new) = ap (λ x. x.stamp) shows ∙ stamp_after (writes new) in
@@ -32,7 +32,7 @@ module _ (w : Write) (old new : ClockView) (r : ClockReading) where
 
   pub taken : (b : Bool) (seen : ClockReading)
       → MatchBool b (MadeWrite w old (cell_words r) new) ((words : List ℕ) × (words ≢ cell_words seen) × Loaded old words new)
-      → MatchBool b (Accepts w old new r) (Misses seen old new)
+      → MatchBool b (AcceptsWrite w old new r) (Misses seen old new)
   taken true seen t = entered t
   taken false seen t = record { looks = t.2.looks; other = λ e. t.1 (t.2.sees.shows ∙ ap cell_words (sym e)) }
 
@@ -62,7 +62,7 @@ module _ (old mid new : ClockView) where
     none = last.none;
   }
 
-  pub takes_again : (w : Write) (r : ClockReading) → Looks old.pass mid.pass → Accepts w mid new r → Accepts w old new r
+  pub takes_again : (w : Write) (r : ClockReading) → Looks old.pass mid.pass → AcceptsWrite w mid new r → AcceptsWrite w old new r
   takes_again w r a t = record {
     adds = record {
       seen = goes_trans a.seen t.adds.seen;

@@ -6,7 +6,7 @@ use Rattle.pass_names.specs.Passes.{Looks}
 use Rattle.clock_cell.specs.declared.shared.Turn.{Turn}
 use Rattle.clock_cell.specs.declared.shared.Turn.TheVariants.{Made, Refused, Again}
 use Rattle.clock_cell.specs.declared.view.ClockView.{ClockView}
-use Rattle.clock_cell.specs.Views.{Accepts, Refuses, seen_reading, writes}
+use Rattle.clock_cell.specs.Views.{AcceptsWrite, RefusesWrite, seen_reading, writes}
 
 -- no write was added, and the clock was found to be another than this
 pub record Misses (expected : ClockReading) (old new : ClockView) : Type 0 where
@@ -19,6 +19,6 @@ pub record SeesMore (old new : ClockView) : Type 0 where
   pub grown : length (writes old) < length (writes new)
 
 abbrev pub Turned : Write → ClockView → ClockView → Turn → Type 0
-Turned w old new (Made r) = Accepts w old new r
-Turned w old new (Refused fault) = Refuses w old new (Err fault)
+Turned w old new (Made r) = AcceptsWrite w old new r
+Turned w old new (Refused fault) = RefusesWrite w old new (Err fault)
 Turned w old new Again = SeesMore old new

@@ -45,7 +45,7 @@ pub record Hears (old new : ClockView) : Type 0 where
   pub none : new.heard ≡ []
 
 -- The write stands last in what the pass has then seen, and the reading is the clock after it. Its place is the reading's stamp.
-pub record Accepts (w : Write) (old new : ClockView) (r : ClockReading) : Type 0 where
+pub record AcceptsWrite (w : Write) (old new : ClockView) (r : ClockReading) : Type 0 where
   pub adds : Adds old.pass new.pass 0 (w ∷ [])
   pub accepted : IsAccepted (reading_after adds.before) w
   pub shows : r ≡ seen_reading new
@@ -53,14 +53,14 @@ pub record Accepts (w : Write) (old new : ClockView) (r : ClockReading) : Type 0
   pub place : new.pass.mine ≡ old.pass.mine ++ (0, r.stamp) ∷ []
 
 -- no write was added, and the clock as the pass has seen it last doesn't take this one
-pub record Refuses (w : Write) (old new : ClockView) (result : Result ClockReading ClockFault) : Type 0 where
+pub record RefusesWrite (w : Write) (old new : ClockView) (result : Result ClockReading ClockFault) : Type 0 where
   pub looks : Looks old.pass new.pass
   pub cause : IsRefusedAs (seen_reading new) w result
 
 -- what a write answers: it was accepted or refused at the end of what the pass has then seen
 pub record AnswersWrite (w : Write) (old new : ClockView) (result : Result ClockReading ClockFault) : Type 0 where
-  pub ok : IfOk result (λ r. Accepts w old new r)
-  pub err : OnErr result (Refuses w old new result)
+  pub ok : IfOk result (λ r. AcceptsWrite w old new r)
+  pub err : OnErr result (RefusesWrite w old new result)
   pub hears : Hears old new
   pub known : KnowsClock new
 

@@ -5,7 +5,7 @@ ghost use Rattle.pass_names.specs.Passes.{Looks, Retires, Meets};
 ghost use Rattle.clock_model.specs.Clocks.{at_stamp, after_write, AreAccepted, IsAccepted};
 ghost use Rattle.clock_model.specs.declared.write.Write.TheVariants.{Advance, Set, Suspend};
 ghost use Rattle.clock_cell.specs.Turns.{Misses, Turned};
-ghost use Rattle.clock_cell.specs.Views.{IsPassOfClock, AreOfOne, AnswersWrite, Hears, KnowsClock, Accepts, writes, seen_reading, first_clock_view, split_clock_view, new_clock_view, told_clock_view, joined_clock_view};
+ghost use Rattle.clock_cell.specs.Views.{IsPassOfClock, AreOfOne, AnswersWrite, Hears, KnowsClock, AcceptsWrite, writes, seen_reading, first_clock_view, split_clock_view, new_clock_view, told_clock_view, joined_clock_view};
 
 use crate::pass::ClockPass;
 use crate::plays::Child;
@@ -145,7 +145,7 @@ impl SharedClock {
         requires after { after.now ≡ after_write seen.now write }
         requires accepted { IsAccepted seen.now write }
         ensures pass { IsPassOfClock self.now pass.new }
-        ensures taken { MatchBool result (Accepts write pass.old.knows pass.new.knows after.now) (Misses seen.now pass.old.knows pass.new.knows) }
+        ensures taken { MatchBool result (AcceptsWrite write pass.old.knows pass.new.knows after.now) (Misses seen.now pass.old.knows pass.new.knows) }
         ensures heard { Hears pass.old.knows pass.new.knows }
         ensures known { KnowsClock pass.new.knows }
     {

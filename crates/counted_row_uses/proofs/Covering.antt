@@ -8,16 +8,16 @@ use Rattle.counted_row.specs.declared.view.View.{View}
 use Rattle.counted_row.specs.Views.{RowOf, PassOfRow, IsPassOfRow, split_view, new_view}
 use Rattle.counted_row_uses.specs.declared.counter.Counter.{Counter}
 use Rattle.counted_row_uses.specs.declared.lanes.Lane.{Lane}
-use Rattle.counted_row_uses.specs.Lanes.{IsIdleLane, IsMain, name_of}
+use Rattle.counted_row_uses.specs.Lanes.{IsIdleLane, IsMainPass, name_of}
 
 -- a pass that was just split off is ready for a lane
 pub idle_new : (row : RowOf Counter) (lane : Lane) (v : View Counter ℕ ℕ) → IsPassOfRow row lane.pass → lane.pass.knows ≡ new_view v
     → IsIdleLane row lane
 idle_new row lane v pass new = record { pass = pass; idle = ap (λ w. w.held) new; alone = ap (λ w. w.pass.id.split) new; unclaimed = ap (λ w. w.claims) new }
 
-pub main_split : (row : RowOf Counter) (main main' : PassOfRow Counter ℕ ℕ) (lanes : List Lane) (lane : Lane) → IsMain row main lanes
+pub main_split : (row : RowOf Counter) (main main' : PassOfRow Counter ℕ ℕ) (lanes : List Lane) (lane : Lane) → IsMainPass row main lanes
     → IsPassOfRow row main' → main'.knows ≡ split_view main.knows
-    → lane.pass.knows ≡ new_view main.knows → IsMain row main' (lanes ++ lane ∷ [])
+    → lane.pass.knows ≡ new_view main.knows → IsMainPass row main' (lanes ++ lane ∷ [])
 main_split row main main' lanes lane is pass left right = record {
   pass = pass;
   idle = ap (λ v. v.held) left ∙ is.idle;
@@ -29,18 +29,18 @@ main_split row main main' lanes lane is pass left right = record {
 }
 
 -- it covers the last lane's pass beside the others
-covers_lanes : (row : RowOf Counter) (main : PassOfRow Counter ℕ ℕ) (lanes : List Lane) (lane : Lane) → IsMain row main (lanes ++ lane ∷ [])
+covers_lanes : (row : RowOf Counter) (main : PassOfRow Counter ℕ ℕ) (lanes : List Lane) (lane : Lane) → IsMainPass row main (lanes ++ lane ∷ [])
     → Covers main.knows.pass.id (map name_of lanes ++ name_of lane ∷ [])
 covers_lanes row main lanes lane is = subst (Covers main.knows.pass.id) (map-append name_of lanes (lane ∷ [])) is.covers
 
 pub answers_last : (row : RowOf Counter) (main : PassOfRow Counter ℕ ℕ) (lanes : List Lane) (lane : Lane)
-    → IsMain row main (lanes ++ lane ∷ []) → AnswersFor main.knows.pass.id lane.pass.knows.pass.id
+    → IsMainPass row main (lanes ++ lane ∷ []) → AnswersFor main.knows.pass.id lane.pass.knows.pass.id
 answers_last row main lanes lane is = covers_answers main.knows.pass.id lane.pass.knows.pass.id (map name_of lanes) [] (covers_lanes row main lanes lane is)
 
 pub main_joins : (row : RowOf Counter) (main main' : PassOfRow Counter ℕ ℕ) (lanes : List Lane) (lane : Lane)
-    → IsMain row main (lanes ++ lane ∷ []) → IsIdleLane row lane → IsPassOfRow row main' → main'.knows.held ≡ None
+    → IsMainPass row main (lanes ++ lane ∷ []) → IsIdleLane row lane → IsPassOfRow row main' → main'.knows.held ≡ None
     → main'.knows.claims ≡ main.knows.claims ++ lane.pass.knows.claims
-    → main'.knows.pass.id ≡ after_retire main.knows.pass.id lane.pass.knows.pass.id → IsMain row main' lanes
+    → main'.knows.pass.id ≡ after_retire main.knows.pass.id lane.pass.knows.pass.id → IsMainPass row main' lanes
 main_joins row main main' lanes lane is lane_is pass idle claims id = record {
   pass = pass;
   idle = idle;
@@ -51,7 +51,7 @@ main_joins row main main' lanes lane is lane_is pass idle claims id = record {
       (covers_lanes row main lanes lane is));
 }
 
-pub main_last : (row : RowOf Counter) (main : PassOfRow Counter ℕ ℕ) → IsMain row main [] → IsLast main.knows.pass.id
+pub main_last : (row : RowOf Counter) (main : PassOfRow Counter ℕ ℕ) → IsMainPass row main [] → IsLast main.knows.pass.id
 main_last row main is = covers_last main.knows.pass.id is.first is.covers
 
 pub same_names : (old new : List Lane) → length new ≡ length old
@@ -67,6 +67,6 @@ written s items n len all =
     ap (λ rest. take n (s ++ rest)) (drop_all (length s) items (omega arith)) ∙ (ap (take n) (append-nil s) ∙ take_all n s (omega arith))
 
 pub main_same : (row : RowOf Counter) (main : PassOfRow Counter ℕ ℕ) (old new : List Lane) → map name_of new ≡ map name_of old
-    → IsMain row main old → IsMain row main new
+    → IsMainPass row main old → IsMainPass row main new
 main_same row main old new names is =
     record { pass = is.pass; idle = is.idle; first = is.first; unclaimed = is.unclaimed; covers = subst (Covers main.knows.pass.id) (sym names) is.covers }

@@ -16,7 +16,7 @@ pub record IsIdleLane (row : RowOf Counter) (lane : Lane) : Type 0 where
   pub unclaimed : lane.pass.knows.claims ≡ []
 
 -- the first pass, which holds nothing and covers the lanes' passes
-pub record IsMain (row : RowOf Counter) (main : PassOfRow Counter ℕ ℕ) (lanes : List Lane) : Type 0 where
+pub record IsMainPass (row : RowOf Counter) (main : PassOfRow Counter ℕ ℕ) (lanes : List Lane) : Type 0 where
   pub pass : IsPassOfRow row main
   pub idle : main.knows.held ≡ None
   pub first : main.knows.pass.id.name ≡ []

@@ -3,7 +3,7 @@ ghost use Rattle.std.specs.Prelude.{◌≡◌, ℕ, ◌+◌, ◌<◌, ◌≤◌,
 ghost use Rattle.pass_names.specs.Names.{IsLast};
 ghost use Rattle.counted_row.specs.Views.{PassOfRow};
 ghost use Rattle.counted_row_uses.specs.declared.counter.Counter.{Counter};
-ghost use Rattle.counted_row_uses.specs.Lanes.{IsIdleLane, IsMain, name_of};
+ghost use Rattle.counted_row_uses.specs.Lanes.{IsIdleLane, IsMainPass, name_of};
 
 use crate::counter::{Counter, count};
 use counted_row::{Row, RowPass};
@@ -41,7 +41,7 @@ pub fn count_in_lanes<R: Threads + Wait + Sync>(
     requires row { All (λ lane. IsIdleLane row.now lane) lanes.old.items }
     requires within { index < length row.now.made }
     ensures row { All (λ lane. IsIdleLane row.now lane) lanes.new.items }
-    ensures main { (main : PassOfRow Counter ℕ ℕ) → IsMain row.now main lanes.old.items → IsMain row.now main lanes.new.items }
+    ensures main { (main : PassOfRow Counter ℕ ℕ) → IsMainPass row.now main lanes.old.items → IsMainPass row.now main lanes.new.items }
 {
     thread::for_each_mut(rt, lanes, 16, &|_, lane| turn(rt, row, lane, index, times));
 }
@@ -53,10 +53,10 @@ pub fn lanes_of(
     main: &mut RowPass<Counter>,
     lanes: usize,
 ) -> Result<Vec<Lane>, AllocError>
-    requires main { IsMain row.now main.old [] }
+    requires main { IsMainPass row.now main.old [] }
     ensures lanes { IfOk result (λ v. (length v.items ≡ lanes) × All (λ lane. IsIdleLane row.now lane) v.items) }
-    ensures main { IfOk result (λ v. IsMain row.now main.new v.items) }
-    ensures err { OnErr result (IsMain row.now main.new [] × IsLast main.new.knows.pass.id) }
+    ensures main { IfOk result (λ v. IsMainPass row.now main.new v.items) }
+    ensures err { OnErr result (IsMainPass row.now main.new [] × IsLast main.new.knows.pass.id) }
 {
     let mut all = Vec::new(alloc);
     for _ in 0..lanes {
@@ -74,8 +74,8 @@ pub fn lanes_of(
 /// Takes all lanes' passes in. The first pass is then the last.
 pub fn retire_all(row: &Row<Counter>, main: &mut RowPass<Counter>, mut lanes: Vec<Lane>)
     requires lanes { All (λ lane. IsIdleLane row.now lane) lanes.items }
-    requires main { IsMain row.now main.old lanes.items }
-    ensures main { IsMain row.now main.new [] }
+    requires main { IsMainPass row.now main.old lanes.items }
+    ensures main { IsMainPass row.now main.new [] }
     ensures last { IsLast main.new.knows.pass.id }
 {
     while let Some(lane) = lanes.pop() {

@@ -1,7 +1,7 @@
 //! Totals after two threads and eight lanes, and the row of no values.
 ghost use Rattle.std.specs.Prelude.{◌≡◌, [], length, IfOk};
 ghost use Rattle.pass_names.specs.Names.{IsLast};
-ghost use Rattle.counted_row_uses.specs.Lanes.{IsMain};
+ghost use Rattle.counted_row_uses.specs.Lanes.{IsMainPass};
 
 mod of_counted_row;
 
@@ -15,7 +15,7 @@ use std::test::Fail;
 use std::thread::Threads;
 
 fn one_counter(alloc: Global) -> Result<(Row<Counter>, RowPass<Counter>), AllocError>
-    ensures { IfOk result (λ r. IsMain r.0 r.1 [] × IsLast r.1.knows.pass.id × (length r.0.made ≡ 1)) }
+    ensures { IfOk result (λ r. IsMainPass r.0 r.1 [] × IsLast r.1.knows.pass.id × (length r.0.made ≡ 1)) }
 {
     let mut values = Vec::new(alloc);
     values.push(Counter { total: 5 })?;

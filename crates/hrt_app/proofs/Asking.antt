@@ -6,33 +6,33 @@ use Rattle.clap.specs.Words.{IsAmong, Kinds, Row, Text, fault_of, first_of, is_s
 use Rattle.clap.specs.declared.error.kind.ErrorKind.{ErrorKind}
 use Rattle.clap.proofs.OnLiterals.{clap_on_literals}
 use Rattle.script_text.specs.Reading.{number_in}
-use Rattle.hrt_app.specs.Command.{asked_by, asked_of, number_of, program}
+use Rattle.hrt_app.specs.Command.{asked_by, asked_of, option_number, program}
 
 -- ---- an option's number
 
 module _ (name : Text) (least most : ℕ) (rows : List Row) where
-  pub not_given : None ≡ first_of name rows → None ≡ number_of name least most rows
+  pub not_given : None ≡ first_of name rows → None ≡ option_number name least most rows
   not_given none = rw (← none) refl
 
-  pub not_read : (text : Text) → Some text ≡ first_of name rows → None ≡ number_in text → None ≡ number_of name least most rows
+  pub not_read : (text : Text) → Some text ≡ first_of name rows → None ≡ number_in text → None ≡ option_number name least most rows
   not_read text given none = rw (← given, ← none) refl
 
   module _ (text : Text) (n : ℕ) (given : Some text ≡ first_of name rows) (is : Some n ≡ number_in text) where
-    read : (if nat_le least n && nat_le n most then Some n else None) ≡ number_of name least most rows
+    read : (if nat_le least n && nat_le n most then Some n else None) ≡ option_number name least most rows
     read = rw (← given, ← is) refl
 
-    pub within : least ≤ n → n ≤ most → Some n ≡ number_of name least most rows
+    pub within : least ≤ n → n ≤ most → Some n ≡ option_number name least most rows
     within low high = let one : nat_le least n ≡ true = le-leb least n low in let other : nat_le n most ≡ true = le-leb n most high in
-        subst (λ o. o ≡ number_of name least most rows) (rw (one, other) refl) read
+        subst (λ o. o ≡ option_number name least most rows) (rw (one, other) refl) read
 
-    pub outside : ((least ≤ n) × (most < n)) ⊎ (n < least) → None ≡ number_of name least most rows
+    pub outside : ((least ≤ n) × (most < n)) ⊎ (n < least) → None ≡ option_number name least most rows
     outside (inl over) =
         let low : nat_le least n ≡ true = le-leb least n over.0 in
         let high : nat_le n most ≡ false = lt-leb n most over.1 in
-        subst (λ o. o ≡ number_of name least most rows) (rw (low, high) refl) read
+        subst (λ o. o ≡ option_number name least most rows) (rw (low, high) refl) read
     outside (inr under) =
         let low : nat_le least n ≡ false = lt-leb least n under in
-        subst (λ o. o ≡ number_of name least most rows) (rw low refl) read
+        subst (λ o. o ≡ option_number name least most rows) (rw low refl) read
 
 -- ---- the command
 

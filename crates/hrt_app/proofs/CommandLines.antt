@@ -24,7 +24,7 @@ use Rattle.hrt_app.proofs.Asking.{not_given, within}
 use Rattle.clap.proofs.FaultLemmas.{stopped_fault}
 use Rattle.hrt_app.specs.declared.command.Asked.{Asked}
 use Rattle.hrt_app.specs.declared.command.Asked.TheVariants.{Run, Make}
-use Rattle.hrt_app.specs.Command.{Calls, InAnyOrder, Lacks, Lanes, OptionName, Seed, asked_by_texts, asked_of, make_of, name_text, number_of, option_words, program}
+use Rattle.hrt_app.specs.Command.{Calls, InAnyOrder, Lacks, Lanes, OptionName, Seed, asked_by_texts, asked_of, make_of, name_text, option_number, option_words, program}
 
 -- ---- the subcommand `gen`
 
@@ -205,8 +205,8 @@ module _ (s w n : ℕ) (s_small : s ≤ 2147483647) (w_some : 1 ≤ w) (w_few : 
       let one = within (codes "seed") 0 2147483647 rs (decimal s) s seed (sym (number_again s (omega (arith, s_small)))) (omega arith) s_small in
       let two = within (codes "lanes") 1 8 rs (decimal w) w lanes (sym (number_again w (omega (arith, w_few)))) w_some w_few in
       let three = within (codes "calls") 0 4096 rs (decimal n) n calls (sym (number_again n (omega (arith, n_few)))) (omega arith) n_few in
-      let lanes_of = number_of (codes "lanes") 1 8 rs in
-      let calls_of = number_of (codes "calls") 0 4096 rs in
+      let lanes_of = option_number (codes "lanes") 1 8 rs in
+      let calls_of = option_number (codes "calls") 0 4096 rs in
       ap (λ (o : Option ℕ). option_and_then (λ x. option_and_then (λ y. option_and_then (λ z. Some (Make x y z)) calls_of) lanes_of) o) (sym one)
       ∙ ap (λ (o : Option ℕ). option_and_then (λ y. option_and_then (λ z. Some (Make s y z)) calls_of) o) (sym two)
       ∙ ap (λ (o : Option ℕ). option_and_then (λ z. Some (Make s w z)) o) (sym three)
@@ -341,15 +341,15 @@ none_after_two (Some n) p = none_after p
 
 make_of_none : (n : OptionName) (rs : List Row) → None ≡ first_of (name_text n) rs → make_of rs ≡ None
 make_of_none Seed rs none =
-    ap (λ (o : Option ℕ). option_and_then (λ s. option_and_then (λ w. option_and_then (λ n. Some (Make s w n)) (number_of (codes "calls") 0 4096 rs))
-    (number_of (codes "lanes") 1 8 rs)) o) (sym (not_given (codes "seed") 0 2147483647 rs none))
+    ap (λ (o : Option ℕ). option_and_then (λ s. option_and_then (λ w. option_and_then (λ n. Some (Make s w n)) (option_number (codes "calls") 0 4096 rs))
+    (option_number (codes "lanes") 1 8 rs)) o) (sym (not_given (codes "seed") 0 2147483647 rs none))
 make_of_none Lanes rs none =
-    let seed = number_of (codes "seed") 0 2147483647 rs in
-    ap (λ (o : Option ℕ). option_and_then (λ s. option_and_then (λ w. option_and_then (λ n. Some (Make s w n)) (number_of (codes "calls") 0 4096 rs)) o) seed)
+    let seed = option_number (codes "seed") 0 2147483647 rs in
+    ap (λ (o : Option ℕ). option_and_then (λ s. option_and_then (λ w. option_and_then (λ n. Some (Make s w n)) (option_number (codes "calls") 0 4096 rs)) o) seed)
     (sym (not_given (codes "lanes") 1 8 rs none)) ∙ none_after seed
 make_of_none Calls rs none =
-    let seed = number_of (codes "seed") 0 2147483647 rs in
-    let lanes = number_of (codes "lanes") 1 8 rs in
+    let seed = option_number (codes "seed") 0 2147483647 rs in
+    let lanes = option_number (codes "lanes") 1 8 rs in
     ap (λ (o : Option ℕ). option_and_then (λ s. option_and_then (λ w. option_and_then (λ n. Some (Make s w n)) o) lanes) seed)
     (sym (not_given (codes "calls") 0 4096 rs none)) ∙ none_after_two seed lanes
 

@@ -37,15 +37,15 @@ program =
 -- ---- what is asked for
 
 -- the number of an option, where it is one within these bounds
-abbrev pub number_of : Text → ℕ → ℕ → List Row → Option ℕ
-number_of name least most rows =
+abbrev pub option_number : Text → ℕ → ℕ → List Row → Option ℕ
+option_number name least most rows =
     option_and_then (λ n. if nat_le least n && nat_le n most then Some n else None) (option_and_then number_in (first_of name rows))
 
 -- the script that the options of `gen` ask for, where each is in its range
 abbrev pub make_of : List Row → Option Asked
 make_of rows =
-    option_and_then (λ seed. option_and_then (λ lanes. option_and_then (λ calls. Some (Make seed lanes calls)) (number_of (codes "calls") 0 4096 rows))
-    (number_of (codes "lanes") 1 8 rows)) (number_of (codes "seed") 0 2147483647 rows)
+    option_and_then (λ seed. option_and_then (λ lanes. option_and_then (λ calls. Some (Make seed lanes calls)) (option_number (codes "calls") 0 4096 rows))
+    (option_number (codes "lanes") 1 8 rows)) (option_number (codes "seed") 0 2147483647 rows)
 
 -- what a subcommand with its options asks for
 abbrev pub asked_of : Option (Text × List Row) → Option Asked
@@ -63,9 +63,9 @@ unfoldable pub asked_by : List (String Global) → Option Asked
 asked_by words = asked_by_texts (map string_bytes words)
 
 -- the numbers of a script that is asked for are in their ranges
-abbrev pub IsInRange : Option Asked → Type 0
-IsInRange (Some (Make seed lanes calls)) = (seed ≤ 2147483647) × ((1 ≤ lanes) × ((lanes ≤ 8) × (calls ≤ 4096)))
-IsInRange other = Unit
+abbrev pub AsksInRange : Option Asked → Type 0
+AsksInRange (Some (Make seed lanes calls)) = (seed ≤ 2147483647) × ((1 ≤ lanes) × ((lanes ≤ 8) × (calls ≤ 4096)))
+AsksInRange other = Unit
 
 -- ---- the words of `gen`
 

@@ -3,7 +3,7 @@ ghost use Rattle.std.specs.Prelude.{◌≡◌, ◌<◌, ◌≤◌, ◌^◌, ℕ,
 ghost use Rattle.std.specs.List.{AllByRecursion};
 ghost use Rattle.std.specs.IoError.{error_kind};
 ghost use Rattle.clap.specs.Words.{app_of, found_of, rows_of, rule_of, subcommand_rows_of, Text};
-ghost use Rattle.hrt_app.specs.Command.{asked_by, asked_by_texts, asked_of, make_of, number_of, option_words, program, required_option, unread_status, AreWords, InAnyOrder, IsInRange, Lacks, OptionName, Seed, Lanes, Calls};
+ghost use Rattle.hrt_app.specs.Command.{asked_by, asked_by_texts, asked_of, make_of, option_number, option_words, program, required_option, unread_status, AreWords, InAnyOrder, AsksInRange, Lacks, OptionName, Seed, Lanes, Calls};
 ghost use Rattle.hrt_app.specs.declared.command.Asked.TheVariants.{Run, Make};
 
 use crate::status::Status;
@@ -27,7 +27,7 @@ pub enum Asked {
 /// program does, `help` and `--help` alone among them.
 pub fn asks(alloc: Global, words: &[String]) -> Result<Option<Asked>, AllocError>
     ensures asked { IfOk result (λ asked. asked ≡ asked_by words.now) }
-    ensures range { IfOk result IsInRange }
+    ensures range { IfOk result AsksInRange }
 {
     match command(alloc)?.try_get_matches_from(words) {
         Ok(matches) => Ok(asked_of(&matches)),
@@ -81,7 +81,7 @@ fn required<'a>(alloc: Global, name: &'a str) -> Arg<'a>
 /// What was asked for, by the subcommand and its options.
 fn asked_of(matches: &ArgMatches<'_>) -> Option<Asked>
     ensures asked { result ≡ asked_of (subcommand_rows_of matches.now) }
-    ensures range { IsInRange result }
+    ensures range { AsksInRange result }
 {
     let (name, options) = matches.subcommand()?;
     if name == "run" {
@@ -96,11 +96,11 @@ fn asked_of(matches: &ArgMatches<'_>) -> Option<Asked>
 /// The script that these options ask for, where each is in its range.
 fn make_of(options: &ArgMatches<'_>) -> Option<Asked>
     ensures asked { result ≡ make_of (rows_of (found_of options.now)) }
-    ensures range { IsInRange result }
+    ensures range { AsksInRange result }
 {
-    let seed = number_of(options, "seed", 0, 2147483647)?;
-    let lanes = number_of(options, "lanes", 1, 8)?;
-    let calls = number_of(options, "calls", 0, 4096)?;
+    let seed = option_number(options, "seed", 0, 2147483647)?;
+    let lanes = option_number(options, "lanes", 1, 8)?;
+    let calls = option_number(options, "calls", 0, 4096)?;
     Some(Asked::Make {
         seed,
         lanes: lanes as u32,
@@ -109,8 +109,8 @@ fn make_of(options: &ArgMatches<'_>) -> Option<Asked>
 }
 
 /// The number of an option, where it is one within these bounds.
-fn number_of(options: &ArgMatches<'_>, name: &str, least: u64, most: u64) -> Option<u64>
-    ensures number { result ≡ number_of name.now least most (rows_of (found_of options.now)) }
+fn option_number(options: &ArgMatches<'_>, name: &str, least: u64, most: u64) -> Option<u64>
+    ensures number { result ≡ option_number name.now least most (rows_of (found_of options.now)) }
     ensures range { IfSome result (λ n. (least ≤ n) × (n ≤ most)) }
 {
     let n = number(options.get_str(name)?.as_bytes())?;

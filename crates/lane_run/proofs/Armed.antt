@@ -219,8 +219,8 @@ IsLike on_clock (arms.Armed generation) armed s = IsArmedLike on_clock armed gen
 IsLike on_clock arm armed s = Unit
 
 -- law: what an object's entry tells of its timer's start is true
-pub start_true : (w : Course) (i number n : ℕ) (on_clock : Bool) (arm : Arm) → IsArmedSo arm (courses.timer_then w n i)
-    → IsLike on_clock arm (object_armed_after w.script w.run i number (kind_of w.script i)) (courses.timer_then w n i)
+pub start_true : (w : Course) (i number n : ℕ) (on_clock : Bool) (arm : Arm) → IsArmedSo arm (courses.timer_along w n i)
+    → IsLike on_clock arm (object_armed_after w.script w.run i number (kind_of w.script i)) (courses.timer_along w n i)
     → IsTrueStart w i number on_clock (arm_noted arm) n
 start_true w i number n on_clock arms.NotAsked armed like = tt
 start_true w i number n on_clock (arms.Armed generation) armed like = (armed, like)

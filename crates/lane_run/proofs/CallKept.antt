@@ -38,7 +38,7 @@ use Rattle.run_history.specs.Traces.{all_entered}
 use Rattle.run_history.proofs.Kept.{IsKept}
 use Rattle.run_history.proofs.Known.{AreMade}
 use Rattle.run_history.proofs.Promise.{kept_from, reading_seen}
-use Rattle.lane_run.specs.Called.{LaneOf, LeavesClock, Reads, with_done}
+use Rattle.lane_run.specs.Called.{LaneOf, LeavesClock, ReadsClock, with_done}
 use Rattle.lane_run.proofs.Kept.{entry_in_note, Follows, IsNextCall, log_of, seen_by, SeesOn, StandAt, EntryNotes, LookNotes, ObjectNotes, SkipNotes, WriteNotes, NoteKind, label_of, list_of, begins_same}
 use Rattle.lane_run.specs.Worlds.{WorldOf}
 use Rattle.lane_run.specs.declared.world.WorldPass.{WorldPass}
@@ -168,7 +168,7 @@ take_whole [] = refl
 take_whole (x ∷ xs) = ap (λ ys. x ∷ ys) (take_whole xs)
 
 -- law: in every run that goes on from the writes that were seen the record has the reading
-pub reading_goes_on : (p q : WorldPass) (r : ClockReading) → Reads p q r → (e : Ending) → GoesOnClock (writes q.clock.knows) e
+pub reading_goes_on : (p q : WorldPass) (r : ClockReading) → ReadsClock p q r → (e : Ending) → GoesOnClock (writes q.clock.knows) e
     → reading_at e.run.clock r.stamp ≡ r
 reading_goes_on p q r reads e goes =
     let many = length (writes q.clock.knows) in
@@ -176,7 +176,7 @@ reading_goes_on p q r reads e goes =
     ∙ ap (clock_after (at_stamp 0)) (take_whole (writes q.clock.knows)) ∙ sym reads.shows
 
 -- law: in every run that goes on from there the record has the reading
-pub reading_followed : (p q : WorldPass) (r : ClockReading) → Reads p q r → (e : Ending) → Follows q e → reading_at e.run.clock r.stamp ≡ r
+pub reading_followed : (p q : WorldPass) (r : ClockReading) → ReadsClock p q r → (e : Ending) → Follows q e → reading_at e.run.clock r.stamp ≡ r
 reading_followed p q r reads e follows = reading_goes_on p q r reads e follows.clock
 
 -- law: the receipts stand in what was seen

@@ -9,7 +9,7 @@ use Rattle.script_text.specs.declared.script.Call.{Call}
 use Rattle.script_text.specs.declared.script.LaneCall.{LaneCall}
 use Rattle.lane_run.specs.declared.lane.Lane.{Lane}
 use Rattle.lane_run.specs.Called.{LaneOf, lane_of}
-use Rattle.lane_run.specs.Rounds.{Answers, CalledAll, MakesCalls, next_of}
+use Rattle.lane_run.specs.Rounds.{AnswersCall, CalledAll, MakesCalls, next_of}
 use Rattle.lane_run.specs.Worlds.{ArePassesOf, KeepPasses, WorldOf}
 use Rattle.lane_run.proofs.Keeping.{keep_refl, keep_trans}
 
@@ -28,7 +28,7 @@ makes_append {x} {old} {cs = cs} {ds = ds} one two = record {
 }
 
 -- one call, after which the lane is about to make its next
-pub makes_one : {x : WorldOf} {old mid new : Lane} {call : Call} → mid.label ≡ old.label → Answers x old call mid → new.answers ≡ mid.answers
+pub makes_one : {x : WorldOf} {old mid new : Lane} {call : Call} → mid.label ≡ old.label → AnswersCall x old call mid → new.answers ≡ mid.answers
     → lane_of new ≡ next_of (lane_of mid) → MakesCalls x old new (call ∷ [])
 makes_one {mid = mid} same made answers next = record {
   given = made.given ∷ [];

@@ -10,7 +10,7 @@ use Rattle.script_text.specs.declared.script.Script.{Script}
 use Rattle.lane_notes.specs.Notes.{NotesOf}
 use Rattle.lane_notes.specs.Records.{record_from}
 use Rattle.lane_notes.specs.Sorted.{IsSortedFrom}
-use Rattle.run_history.specs.Runs.{CallLog, Starts, Ending, IsEnding, IsRun}
+use Rattle.run_history.specs.Runs.{CallLog, RoundStarts, Ending, IsEnding, IsRun}
 use Rattle.lane_run.proofs.Kept.{Follows}
 use Rattle.lane_run.proofs.Left.{AreLastOf, AreLeft, ending_of, AreByRounds}
 use Rattle.lane_run.specs.Worlds.{WorldOf}
@@ -31,7 +31,7 @@ use Rattle.script_text.specs.Histories.{clock_labels}
 use Rattle.script_text.specs.Objects.{object_labels}
 
 module _ {s : Script} {x : WorldOf} {q : WorldPass} {notes sorted : NotesOf} {logs : Label → CallLog} (last : AreLastOf s x q) (left : AreLeft s q notes logs)
-    (is : IsSortedFrom notes sorted) (answers : List (List Answer)) (starts : Starts) where
+    (is : IsSortedFrom notes sorted) (answers : List (List Answer)) (starts : RoundStarts) where
   abbrev e : Ending
   e = ending_of (record_from sorted (length s.timers) answers) q logs starts
 

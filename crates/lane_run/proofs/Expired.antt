@@ -135,7 +135,7 @@ module _ {s : Script} {x : WorldOf} {l m : LaneOf} {a : Answer} {base budget : �
 
   -- a timer after what the lane has then seen
   state_is : (e : Ending) → Follows m.pass e → IsJoined s e → (t : ℕ)
-      → courses.timer_then (course_of s e) (length m.pass.timers.known.seen) t ≡ timer_then x.timers.about m.pass.timers.known.seen t
+      → courses.timer_along (course_of s e) (length m.pass.timers.known.seen) t ≡ timer_then x.timers.about m.pass.timers.known.seen t
   state_is e follows joined t =
       timer_seen (course_of s e) m.pass.timers.known.seen follows.timers.0 (seen_first m.pass.timers.known.seen joined follows.timers) t
       ∙ sym (ap (λ (o : Opening). timer_then o m.pass.timers.known.seen t) next.world.timers)

@@ -7,7 +7,7 @@ use Rattle.lane_notes.specs.Notes.{NotesOf}
 use Rattle.record_text.specs.declared.record.Label.{Label}
 use Rattle.record_text.specs.declared.record.RunRecord.{RunRecord}
 use Rattle.run_history.specs.Promises.{HasLog}
-use Rattle.run_history.specs.Runs.{CallLog, Ending, IsJoined, Starts, course_of, clock_spans, moves_spans, object_spans}
+use Rattle.run_history.specs.Runs.{CallLog, Ending, IsJoined, RoundStarts, course_of, clock_spans, moves_spans, object_spans}
 use Rattle.run_history.specs.Rounds.{IsLedger}
 use Rattle.run_history.specs.Fits.{FitsLane, unseen}
 use Rattle.script_text.specs.Order.{calls_of, IsLabel}
@@ -47,7 +47,7 @@ span_of None = (0, 0)
 span_of (Some h) = (h.call.from, h.call.to)
 
 -- a run with this record: the order of all timers' entries, and the spans of objects' entries, are as the last passes have seen them
-abbrev pub ending_of : RunRecord → WorldPass → (Label → CallLog) → Starts → Ending
+abbrev pub ending_of : RunRecord → WorldPass → (Label → CallLog) → RoundStarts → Ending
 ending_of r q logs starts = record {
   run = r;
   order = q.timers.known.seen;
@@ -57,7 +57,7 @@ ending_of r q logs starts = record {
 }
 
 -- where calls stand by rounds, and what lanes promise, whatever the record
-pub record AreByRounds (s : Script) (q : WorldPass) (logs : Label → CallLog) (starts : Starts) (answers : List (List Answer)) : Type 0 where
+pub record AreByRounds (s : Script) (q : WorldPass) (logs : Label → CallLog) (starts : RoundStarts) (answers : List (List Answer)) : Type 0 where
   pub moves : (r : RunRecord) → IsLedger s (moves_spans (ending_of r q logs starts))
   pub clock : (r : RunRecord) → IsLedger s (clock_spans (ending_of r q logs starts))
   pub objects : (r : RunRecord) (i : ℕ) → IsLedger s (object_spans (ending_of r q logs starts) i)

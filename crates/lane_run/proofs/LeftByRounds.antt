@@ -10,7 +10,7 @@ use Rattle.record_text.specs.declared.record.Label.{Label}
 use Rattle.run_history.specs.Fits.{FitsLane, Seen, unseen}
 use Rattle.run_history.specs.Promises.{HasLog, HasLogs, IsPromisedSoFar}
 use Rattle.run_history.specs.Rounds.{IsLedger, label_at, Spans}
-use Rattle.run_history.specs.Runs.{CallLog, course_of, Ending, Starts}
+use Rattle.run_history.specs.Runs.{CallLog, course_of, Ending, RoundStarts}
 use Rattle.run_history.proofs.Lists.{all_at, at_map}
 use Rattle.run_history.proofs.Promise.{promised_all}
 use Rattle.script_text.specs.Order.{CallInRound, calls_of, IsLabel, round_of}
@@ -137,7 +137,7 @@ module _ {s : Script} {past : List Seen} {q : WorldPass} {left : LeftOf} (of : �
   }
 
   -- what had been seen of each list when each round began
-  abbrev all_starts : Starts
+  abbrev all_starts : RoundStarts
   all_starts = record {
     moves = start_of moves_list past (seen_by q);
     clock = start_of clock_list past (seen_by q);
@@ -168,7 +168,7 @@ module _ {s : Script} {past : List Seen} {q : WorldPass} {left : LeftOf} (of : �
 pub left_by_rounds : (s : Script) (x : WorldOf) (p q : WorldPass) (left : LeftOf)
     → KeepsEach s x → IsWorldOf s x → IsInRange s → IsWhole x → AreFirst x p
     → MakesRounds x s.rounds p (none_left s.lanes) q left
-    → (logs : Label → CallLog) × (starts : Starts) × AreLeft s q left.notes logs × AreByRounds s q logs starts left.answers
+    → (logs : Label → CallLog) × (starts : RoundStarts) × AreLeft s q left.notes logs × AreByRounds s q logs starts left.answers
 left_by_rounds s x p q left each world range whole first makes =
     let all = rounds_left each world range whole s.rounds [] (left_first s first) (λ j. refl) range.callers makes in (
       log_in all.of all.all all.behind,

@@ -25,7 +25,7 @@ use Rattle.script_text.specs.Order.{is_label}
 use Rattle.script_text.specs.declared.script.Script.{Script}
 use Rattle.run_history.specs.Fits.{AreBehind}
 use Rattle.run_history.specs.Promises.{GoesOnClock}
-use Rattle.run_history.specs.Runs.{CallLog, Ending, Starts}
+use Rattle.run_history.specs.Runs.{CallLog, Ending, RoundStarts}
 use Rattle.run_history.proofs.Lists.{all_at, map_get}
 use Rattle.lane_run.specs.Runs.{AreObjectLines, ObjectMove, ShowsObjectCall}
 use Rattle.lane_run.proofs.Kept.{ObjectNotes, made_on}
@@ -147,7 +147,7 @@ module _ {s : Script} {x : WorldOf} {q : WorldPass} {notes sorted : NotesOf} {lo
       (sym (told_of (made_on i) (is_of_list place_of_object i) (λ n. (n.number, n.entry)) refl (λ n ns. refl) (filter (λ n. is_label c n.label) notes.objects))
       ∙ (left.tell c).tells.objects i)
 
-  module _ (starts : Starts) where
+  module _ (starts : RoundStarts) where
     abbrev e : Ending
     e = ending_of r q logs starts
 

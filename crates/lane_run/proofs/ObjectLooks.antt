@@ -27,7 +27,7 @@ use Rattle.script_text.specs.declared.script.Script.{Script}
 use Rattle.run_history.specs.Calls.{Does}
 use Rattle.run_history.specs.Runs.{course_of, Ending}
 use Rattle.run_history.specs.Truths.{IsObjectPoint}
-use Rattle.lane_run.specs.Called.{Called, caller_of, CallsOverrun, gettime_told, LaneOf, with_done}
+use Rattle.lane_run.specs.Called.{Called, lane_caller, CallsOverrun, gettime_told, LaneOf, with_done}
 use Rattle.lane_run.proofs.Kept.{Follows, IsNextCall, KeepsCall, begins_same}
 use Rattle.lane_run.specs.Worlds.{WorldOf}
 use Rattle.lane_run.proofs.CallKept.{clock_left, clock_read, LooksAtClock, with_done-joins}
@@ -42,7 +42,7 @@ use Rattle.lane_run.specs.Called.{CallsObject}
 
 module _ {s : Script} {x : WorldOf} {l : LaneOf} (m : LaneOf) {call : Call} (next : IsNextCall s x l call) (a : Answer) {i : ℕ} {object : Object} {stamp : ℕ}
     {log : List Receipt} {object_log : List ObjectReceipt}
-    (looks : LooksAtObject (caller_of l.pass [] []) (caller_of m.pass log object_log) i object stamp)
+    (looks : LooksAtObject (lane_caller l.pass [] []) (lane_caller m.pass log object_log) i object stamp)
     (clock : LooksAtClock l.pass m.pass) (notes : m.notes ≡ with_done l.notes l.label log object_log) (on : object_called call ≡ Some i) where
   -- law: a lane keeps a call that looked at an object, where its answer holds of the object as the record has it after so many entries
   pub keeps_look : object_stamp_in a ≡ stamp ∷ [] → Does s (length (writes m.pass.clock.knows)) call a [] []

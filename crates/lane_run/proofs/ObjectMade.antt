@@ -23,7 +23,7 @@ use Rattle.run_history.proofs.ObjectsMade.{settime_actions}
 use Rattle.run_history.proofs.OthersMade.{plain}
 use Rattle.run_history.proofs.PassState.{timer_seen}
 use Rattle.run_history.proofs.Promise.{seen_first}
-use Rattle.lane_run.specs.Called.{caller_of, LaneOf, Reads, with_done}
+use Rattle.lane_run.specs.Called.{lane_caller, LaneOf, ReadsClock, with_done}
 use Rattle.lane_run.proofs.Kept.{Follows, IsNextCall, KeepsCall, seen_by, goes_before}
 use Rattle.lane_run.specs.Worlds.{WorldOf}
 use Rattle.pass_names.proofs.Passes.{begins_length}
@@ -69,7 +69,7 @@ armed_after s r i n k = refl
 
 module _ {s : Script} {x : WorldOf} {l : LaneOf} (m : LaneOf) {call : Call} (next : IsNextCall s x l call) {timer : ℕ} {log : List Receipt}
     {object_log : List ObjectReceipt} {made : SpannedCall} {reply : ObjectReply}
-    (enters : EntersCall x.objects (caller_of l.pass [] []) (caller_of m.pass log object_log) timer made reply) {mode : Mode} {ns base : ℕ}
+    (enters : EntersCall x.objects (lane_caller l.pass [] []) (lane_caller m.pass log object_log) timer made reply) {mode : Mode} {ns base : ℕ}
     {reading : ClockReading} {arm : Arm} {cancel : Option (ℕ × ℕ)} {begin : KnownOfTimers}
     (k : TimerPart x l timer begin m.pass.timers.known mode ns base reading arm cancel log) where
   abbrev w : KnownOfTimers
@@ -90,19 +90,19 @@ module _ {s : Script} {x : WorldOf} {l : LaneOf} (m : LaneOf) {call : Call} (nex
 
   module _ {e : Ending} (follows : Follows m.pass e) (joined : IsJoined s e) where
     -- a timer as the lane knows it is the script's
-    timer_at : (ys : List TimerEntry) → promises.GoesOn ys e → courses.timer_then (course_of s e) (length ys) timer ≡ timer_then x.timers.about ys timer
+    timer_at : (ys : List TimerEntry) → promises.GoesOn ys e → courses.timer_along (course_of s e) (length ys) timer ≡ timer_then x.timers.about ys timer
     timer_at ys on =
         timer_seen (course_of s e) ys on.0 (seen_first ys joined on) timer ∙ sym (ap (λ (o : Opening). timer_then o ys timer) next.world.timers)
 
-    timer_now : courses.timer_then (course_of s e) (length w.seen) timer ≡ timer_then x.timers.about w.seen timer
+    timer_now : courses.timer_along (course_of s e) (length w.seen) timer ≡ timer_then x.timers.about w.seen timer
     timer_now = timer_at w.seen follows.timers
 
     -- law: so it is where the call found it
-    pub timer_found : courses.timer_then (course_of s e) (length begin.seen) timer ≡ timer_then x.timers.about begin.seen timer
+    pub timer_found : courses.timer_along (course_of s e) (length begin.seen) timer ≡ timer_then x.timers.about begin.seen timer
     timer_found = timer_at begin.seen (goes_before k.part.1.timers.enters.seen follows.timers)
 
     -- law: what became of its start
-    pub outcome_is : IsArmedSo arm (courses.timer_then (course_of s e) (length w.seen) timer)
+    pub outcome_is : IsArmedSo arm (courses.timer_along (course_of s e) (length w.seen) timer)
     outcome_is = subst (IsArmedSo arm) (sym timer_now) k.armed
 
     -- the object after the entry is the record's
@@ -125,7 +125,7 @@ module _ {s : Script} {x : WorldOf} {l : LaneOf} (m : LaneOf) {call : Call} (nex
         → IsTrueStart (course_of s e) timer number on_clock (arm_noted arm) (length w.seen)
     start_is on_clock like =
         start_true (course_of s e) timer number (length w.seen) on_clock arm outcome_is
-        (subst (λ o. IsLike on_clock arm o (courses.timer_then (course_of s e) (length w.seen) timer)) (sym phase_is)
+        (subst (λ o. IsLike on_clock arm o (courses.timer_along (course_of s e) (length w.seen) timer)) (sym phase_is)
         (subst (IsLike on_clock arm (armed_in_phase phase)) (sym timer_now) like))
 
     -- the run has the entry's span
@@ -140,7 +140,7 @@ module _ {s : Script} {x : WorldOf} {l : LaneOf} (m : LaneOf) {call : Call} (nex
         → IsSpan (course_of s e) (length begin.seen) timer number (length w.seen)
     whole_span from to =
         span_is ∙ ap (λ n. (n, made.to)) (from ∙ sym (ap (λ (u : Timer). u.stamp) timer_found))
-        ∙ ap (λ n. ((courses.timer_then (course_of s e) (length begin.seen) timer).stamp, n)) (to ∙ sym (ap (λ (u : Timer). u.stamp) timer_now))
+        ∙ ap (λ n. ((courses.timer_along (course_of s e) (length begin.seen) timer).stamp, n)) (to ∙ sym (ap (λ (u : Timer). u.stamp) timer_now))
 
     -- law: or as it is where the call starts the timer only if it has expired
     pub rearm_span : (b : Arm) → IsRearmSpan (timer_then x.timers.about begin.seen timer) (timer_then x.timers.about w.seen timer) b made.from made.to
@@ -154,7 +154,7 @@ module _ {s : Script} {x : WorldOf} {l : LaneOf} (m : LaneOf) {call : Call} (nex
 
   -- ---- the call
 
-  module _ (on : object_called call ≡ Some timer) (reads : Reads l.pass m.pass reading) (notes : m.notes ≡ with_done l.notes l.label log object_log)
+  module _ (on : object_called call ≡ Some timer) (reads : ReadsClock l.pass m.pass reading) (notes : m.notes ≡ with_done l.notes l.label log object_log)
       {entry : ObjectEntry} (noted : IsNotedAs (HasRead reading) made.call reply entry) where
     -- law: a lane keeps the call, where it fits
     pub keeps_made : (a : Answer) → object_stamp_in a ≡ []

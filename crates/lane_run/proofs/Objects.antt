@@ -5,7 +5,7 @@ use Rattle.expire_pass.specs.declared.log.Receipt.{Receipt}
 use Rattle.timer_objects.specs.declared.log.ObjectReceipt.{ObjectReceipt}
 use Rattle.timer_objects.specs.Calls.{Caller}
 use Rattle.record_text.specs.declared.record.Answer.{Answer}
-use Rattle.lane_run.specs.Called.{CallsObject, LaneOf, Reads, caller_of, with_done}
+use Rattle.lane_run.specs.Called.{CallsObject, LaneOf, ReadsClock, lane_caller, with_done}
 use Rattle.lane_run.specs.Worlds.{WorldOf}
 use Rattle.lane_run.specs.declared.world.WorldPass.{WorldPass}
 use Rattle.clock_cell.specs.Views.{seen_reading}
@@ -18,16 +18,16 @@ pub calls_object : {x y : WorldOf} {l m : LaneOf} {p : WorldPass} {a : Answer} (
     {begun : List Receipt} {objects_begun : List ObjectReceipt} (reading : ClockReading) (log : List Receipt) (object_log : List ObjectReceipt) → y ≡ x
     → m.pass ≡ p → reading ≡ seen_reading p.clock.knows → reading.stamp ≡ length (writes p.clock.knows) → Looks l.pass.clock.knows.pass p.clock.knows.pass
     → (begun ≡ []) × (objects_begun ≡ [])
-    → Does y (caller_of l.pass begun objects_begun) (caller_of p log object_log) reading → m.notes ≡ with_done l.notes l.label log object_log
+    → Does y (lane_caller l.pass begun objects_begun) (lane_caller p log object_log) reading → m.notes ≡ with_done l.notes l.label log object_log
     → CallsObject x l m a (Does x)
 calls_object {y = y} {l = l} {m = m} {p = p} Does {objects_begun = objects_begun} reading log object_log is same shows count looks empty does notes = record {
   reading = reading;
-  reads = subst (λ q. Reads l.pass q reading) (sym same) (record { shows = shows; count = count; looks = looks });
+  reads = subst (λ q. ReadsClock l.pass q reading) (sym same) (record { shows = shows; count = count; looks = looks });
   log = log;
   object_log = object_log;
-  does = subst (λ z. Does z (caller_of l.pass [] []) (caller_of m.pass log object_log) reading) is
-      (subst (λ q. Does y (caller_of l.pass [] []) (caller_of q log object_log) reading) (sym same)
-      (subst (λ os. Does y (caller_of l.pass [] os) (caller_of p log object_log) reading) empty.1
-      (subst (λ rs. Does y (caller_of l.pass rs objects_begun) (caller_of p log object_log) reading) empty.0 does)));
+  does = subst (λ z. Does z (lane_caller l.pass [] []) (lane_caller m.pass log object_log) reading) is
+      (subst (λ q. Does y (lane_caller l.pass [] []) (lane_caller q log object_log) reading) (sym same)
+      (subst (λ os. Does y (lane_caller l.pass [] os) (lane_caller p log object_log) reading) empty.1
+      (subst (λ rs. Does y (lane_caller l.pass rs objects_begun) (lane_caller p log object_log) reading) empty.0 does)));
   notes = notes;
 }

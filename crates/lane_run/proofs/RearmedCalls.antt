@@ -14,7 +14,7 @@ use Rattle.timer_fd.specs.declared.calls.Call.TheVariants as fd_calls
 use Rattle.posix_timer.specs.declared.calls.Call.TheVariants as posix_calls
 use Rattle.timer_setting.specs.declared.arming.Arm.TheVariants as arms
 use Rattle.timer_setting.specs.declared.arming.Arm.{Arm}
-use Rattle.timer_objects.specs.Calls.{Accepts, Gettimes, MakesRearming, ReadsFd, rearming_call}
+use Rattle.timer_objects.specs.Calls.{Accepts, Gettimes, RearmingMade, ReadsFd, rearming_call}
 use Rattle.timer_objects.specs.Known.{decl_at}
 use Rattle.timer_objects.specs.declared.answers.Gettime.TheVariants as gettimes
 use Rattle.timer_objects.specs.declared.answers.Gettime.{Gettime}
@@ -42,7 +42,7 @@ use Rattle.lane_notes.specs.Arms.{arm_noted, arm_told}
 use Rattle.lane_notes.specs.FdNotes.{read_noted}
 use Rattle.lane_notes.specs.PosixNotes.{accept_noted}
 use Rattle.run_history.proofs.ObjectsMade.{accept_made, gettime_made, read_made}
-use Rattle.lane_run.specs.Called.{accept_told, Called, caller_of, CallsObject, gettime_told, LaneOf, read_told}
+use Rattle.lane_run.specs.Called.{accept_told, Called, lane_caller, CallsObject, gettime_told, LaneOf, read_told}
 use Rattle.lane_run.proofs.Kept.{IsNextCall, KeepsCall, Follows, seen_by}
 use Rattle.lane_run.specs.Worlds.{WorldOf}
 use Rattle.lane_run.proofs.Sights.{keeps_full, keeps_same}
@@ -86,7 +86,7 @@ arm_back arm = (refl, refl)
 
 module _ {s : Script} {x : WorldOf} {l m : LaneOf} {call : Call} (next : IsNextCall s x l call) {timer : ℕ} (on : object_called call ≡ Some timer)
     {a : Answer} {Does : Caller → Caller → ClockReading → Type 0} (c : CallsObject x l m a Does) {r : Rearming} {reply : ObjectReply}
-    (made : MakesRearming x.objects x.timers.about (caller_of l.pass [] []) (caller_of m.pass c.log c.object_log) timer r c.reading reply)
+    (made : RearmingMade x.objects x.timers.about (lane_caller l.pass [] []) (lane_caller m.pass c.log c.object_log) timer r c.reading reply)
     (entry : Armed → ObjectEntry) where
   part : RearmPart x l timer m.pass.timers.known (decl_at x.objects timer).base c.reading made.arm made.span c.log
   part =
@@ -131,7 +131,7 @@ module _ {s : Script} {x : WorldOf} {l m : LaneOf} {call : Call} (next : IsNextC
 module _ {s : Script} {x : WorldOf} {l m : LaneOf} {a : Answer} {timer : ℕ} where
   accept_kept : IsNextCall s x l (calls.Accept timer) → (reply : AcceptReply) → accept_noted (accept_answer_of reply) ≡ Some reply
       → object_stamp_in (answer_of_accept reply) ≡ []
-      → CallsObject x l m a (λ old new reading. MakesRearming x.objects x.timers.about old new timer rearmings.Accepting reading
+      → CallsObject x l m a (λ old new reading. RearmingMade x.objects x.timers.about old new timer rearmings.Accepting reading
       (replies.Posix (posix_replies.Accept (accept_answer_of reply))))
       → KeepsCall s l (calls.Accept timer) (answer_of_accept reply) m
   accept_kept next reply back unstamps c =
@@ -157,7 +157,7 @@ module _ {s : Script} {x : WorldOf} {l m : LaneOf} {a : Answer} {timer len : ℕ
   read_kept : IsNextCall s x l (calls.Read timer len) → (reply : ReadReply) → read_noted (read_answer_of reply) ≡ Some reply
       → object_stamp_in (answer_of_read reply) ≡ []
       → CallsObject x l m a (λ old new reading. (count_length ≤ len)
-      × MakesRearming x.objects x.timers.about old new timer rearmings.Reading reading (replies.Fd (fd_replies.Read (read_answer_of reply))))
+      × RearmingMade x.objects x.timers.about old new timer rearmings.Reading reading (replies.Fd (fd_replies.Read (read_answer_of reply))))
       → KeepsCall s l (calls.Read timer len) (answer_of_read reply) m
   read_kept next reply back unstamps c =
       let answered = fd_replies.Read (read_answer_of reply) in

@@ -25,7 +25,7 @@ use Rattle.script_text.specs.declared.script.Script.{Script}
 use Rattle.lane_notes.specs.Arms.{arm_noted}
 use Rattle.run_history.specs.Runs.{course_of, Ending, IsJoined}
 use Rattle.run_history.proofs.ObjectsMade.{FoundIdle, IsSet, settime_made}
-use Rattle.lane_run.specs.Called.{Called, caller_of, CallsObject, LaneOf, Reads, settime_told, with_done}
+use Rattle.lane_run.specs.Called.{Called, lane_caller, CallsObject, LaneOf, ReadsClock, settime_told, with_done}
 use Rattle.lane_run.proofs.Kept.{Follows, IsNextCall, KeepsCall, begins_same}
 use Rattle.lane_run.specs.Worlds.{WorldOf}
 use Rattle.lane_run.proofs.CallKept.{clock_read}
@@ -45,9 +45,9 @@ use Rattle.hr_timers.specs.Known.{MadeAt}
 -- ---- a settime that made an entry, by what its lane knows of it
 
 module _ {s : Script} {x : WorldOf} {l : LaneOf} (m : LaneOf) {timer flags : ℕ} {value interval : TimeSpec}
-    (next : IsNextCall s x l (calls.Settime timer flags value interval)) {reading : ClockReading} (reads : Reads l.pass m.pass reading)
+    (next : IsNextCall s x l (calls.Settime timer flags value interval)) {reading : ClockReading} (reads : ReadsClock l.pass m.pass reading)
     {log : List Receipt} {object_log : List ObjectReceipt} (notes : m.notes ≡ with_done l.notes l.label log object_log) {a : SettimeAnswer}
-    (set : SetsTimer x.objects x.timers.about (caller_of l.pass [] []) (caller_of m.pass log object_log) timer flags (time_of value) (time_of interval)
+    (set : SetsTimer x.objects x.timers.about (lane_caller l.pass [] []) (lane_caller m.pass log object_log) timer flags (time_of value) (time_of interval)
     reading a)
     (valid : AreValid (bits_beyond (flags_of (decl_at x.objects timer).kind) flags) value interval) where
   abbrev w : KnownOfTimers
@@ -136,7 +136,7 @@ keeps_settime {s = s} {x = x} {l = l} {m = m} {a = a} {timer = timer} {flags = f
 
     Made : SettimeAnswer → Type 0
     Made answer =
-        SettimeMade x.objects x.timers.about (caller_of l.pass [] []) (caller_of m.pass c.log c.object_log) timer flags (time_of value)
+        SettimeMade x.objects x.timers.about (lane_caller l.pass [] []) (lane_caller m.pass c.log c.object_log) timer flags (time_of value)
         (time_of interval) c.reading answer
 
     by_answer : (answer : SettimeAnswer) → Valid → Made answer
@@ -152,7 +152,7 @@ keeps_settime {s = s} {x = x} {l = l} {m = m} {a = a} {timer = timer} {flags = f
 
     by_arguments : (refusal : Option SettimeAnswer)
         → MatchOption refusal Valid (IsRefusal (bits_beyond (flags_of (decl_at x.objects timer).kind) flags) value interval)
-        → MatchOption refusal (Made called.0) (λ r. (called.0 ≡ r) × (caller_of m.pass c.log c.object_log ≡ caller_of l.pass [] []))
+        → MatchOption refusal (Made called.0) (λ r. (called.0 ≡ r) × (lane_caller m.pass c.log c.object_log ≡ lane_caller l.pass [] []))
         → KeepsCall s l (calls.Settime timer flags value interval) (settime_told called.0) m
     by_arguments None valid made = by_answer called.0 valid made
     by_arguments (Some refusal) bad refused =

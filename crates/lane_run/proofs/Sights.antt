@@ -21,7 +21,7 @@ use Rattle.run_history.specs.Runs.{course_of, Ending, IsJoined}
 use Rattle.run_history.specs.Truths.{IsObjectPoint, IsSeen, SawFull}
 use Rattle.run_history.proofs.OthersMade.{plain, quiet_made}
 use Rattle.run_history.proofs.Promise.{object_point_from}
-use Rattle.lane_run.specs.Called.{caller_of, LaneOf, with_done}
+use Rattle.lane_run.specs.Called.{lane_caller, LaneOf, with_done}
 use Rattle.lane_run.proofs.Kept.{Follows, IsNextCall, KeepsCall, log_of, begins_same, entry_in_note}
 use Rattle.lane_run.specs.Worlds.{WorldOf}
 use Rattle.pass_names.proofs.Passes.{begins_length}
@@ -154,7 +154,7 @@ keeps_sight next a only steps does seen =
 
 -- law: a lane keeps a call on an object that found its history full
 pub keeps_full : {s : Script} {x : WorldOf} {l m : LaneOf} {call : Call} {log : List Receipt} {object_log : List ObjectReceipt}
-    (next : IsNextCall s x l call) (a : Answer) (i n : ℕ) → FindsFull x.objects (caller_of l.pass [] []) (caller_of m.pass log object_log) i n
+    (next : IsNextCall s x l call) (a : Answer) (i n : ℕ) → FindsFull x.objects (lane_caller l.pass [] []) (lane_caller m.pass log object_log) i n
     → LooksAtClock l.pass m.pass → m.notes ≡ with_done l.notes l.label log object_log → object_called call ≡ Some i → object_stamp_in a ≡ n ∷ []
     → Does s (length (writes m.pass.clock.knows)) call a [] [] → ((e : Ending) → SawFull (course_of s e) l.label [] i n → IsToldSo s l m call a e)
     → KeepsCall s l call a m
@@ -173,7 +173,7 @@ keeps_full {l = l} {m = m} {call = call} next a i n full clock notes on stamps d
 
 -- law: a lane keeps a call on an object after which nothing of timers, objects and logs is other than before
 pub keeps_same : {s : Script} {x : WorldOf} {l m : LaneOf} {call : Call} {log : List Receipt} {object_log : List ObjectReceipt}
-    (next : IsNextCall s x l call) (a : Answer) (i : ℕ) → caller_of m.pass log object_log ≡ caller_of l.pass [] [] → LooksAtClock l.pass m.pass
+    (next : IsNextCall s x l call) (a : Answer) (i : ℕ) → lane_caller m.pass log object_log ≡ lane_caller l.pass [] [] → LooksAtClock l.pass m.pass
     → m.notes ≡ with_done l.notes l.label log object_log → object_called call ≡ Some i → object_stamp_in a ≡ []
     → Does s (length (writes m.pass.clock.knows)) call a [] [] → ((e : Ending) → IsToldSo s l m call a e) → KeepsCall s l call a m
 keeps_same {l = l} {m = m} {call = call} next a i same clock notes on none does seen =
@@ -236,7 +236,7 @@ module _ {s : Script} {x : WorldOf} {l : LaneOf} {call : Call} (next : IsNextCal
 
   -- law: it was not on the move then
   pub still_quiet : (timer_then x.timers.about at t).moving ≡ false → (e : Ending) → Follows q e → IsJoined s e
-      → (courses.timer_then (course_of s e) (length q.timers.known.seen) t).moving ≡ false
+      → (courses.timer_along (course_of s e) (length q.timers.known.seen) t).moving ≡ false
   still_quiet still e follows joined =
       ap (λ (u : Timer). u.moving)
       (timer_seen (course_of s e) q.timers.known.seen follows.timers.0 (seen_first q.timers.known.seen joined follows.timers) t ∙ sym state_quiet) ∙ still

@@ -27,7 +27,7 @@ use Rattle.script_text.specs.declared.script.Script.{Script}
 use Rattle.run_history.specs.Courses.{clocks_of}
 use Rattle.run_history.specs.Receipts.{receipt}
 use Rattle.run_history.proofs.OthersMade.{cancelled_made, plain, started_made}
-use Rattle.lane_run.specs.Called.{CallsCancel, CallsStart, cancel_receipts, cancel_told, LaneOf, Reads, start_receipts, start_told, with_done}
+use Rattle.lane_run.specs.Called.{CallsCancel, CallsStart, cancel_receipts, cancel_told, LaneOf, ReadsClock, start_receipts, start_told, with_done}
 use Rattle.lane_run.proofs.Kept.{IsNextCall, KeepsCall}
 use Rattle.lane_run.specs.Worlds.{WorldOf}
 use Rattle.lane_run.proofs.Entering.{enters_along}
@@ -74,7 +74,7 @@ keeps_cancel {s = s} {l = l} {m = m} {timer = timer} next c =
 -- ---- start
 
 start_kept : {s : Script} {x : WorldOf} {l m : LaneOf} {timer ns base : ℕ} {mode : Mode} (next : IsNextCall s x l (calls.Start timer mode ns base))
-    (reading : ClockReading) → Reads l.pass m.pass reading → (answer : StartAnswer)
+    (reading : ClockReading) → ReadsClock l.pass m.pass reading → (answer : StartAnswer)
     → StartsTimer x.timers.about l.pass.timers.known m.pass.timers.known timer mode ns base reading answer → m.pass.objects ≡ l.pass.objects
     → m.notes ≡ with_done l.notes l.label (start_receipts timer mode ns base reading answer) []
     → KeepsCall s l (calls.Start timer mode ns base) (start_told answer) m

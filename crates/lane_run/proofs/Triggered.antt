@@ -17,7 +17,7 @@ use Rattle.expire_pass.specs.declared.handler.Restart.{Restart}
 use Rattle.timer_objects.specs.Cells.{spanned}
 use Rattle.timer_objects.specs.Known.{ObjectsOf, ObjectsPass, seen_of}
 use Rattle.timer_objects.specs.Steps.{object_answer, ObjectAllows}
-use Rattle.timer_objects.specs.Triggers.{EntersTrigger, refused_at, SkipsTrigger, span_of, Triggers}
+use Rattle.timer_objects.specs.Triggers.{EntersTrigger, trigger_refused, SkipsTrigger, span_of, Triggers}
 use Rattle.timer_objects.specs.declared.log.ObjectReceipt.{ObjectReceipt}
 use Rattle.timer_objects.specs.declared.object.Object.TheVariants as objects
 use Rattle.timer_objects.specs.declared.object.Object.{Object}
@@ -82,8 +82,8 @@ module _ (s : Script) (x : ObjectsOf) (limit : x.limit ≡ s.limit) (some : 1 �
     (same_log : h'.log.receipts ≡ h.log.receipts) (stops : restart ≡ wishes.Stop)
     (is_body : (f : Fired) → IsTrigger reading.stamp f → IsBody (kind_of s c.timer) reading.stamp f) (call : ObjectCall)
     (noted : (y : Object) → ObjectAllows y call → TriggerNoted call (object_answer y call) c.generation reading)
-    (no_entry : (n : ℕ) → object_entry_noted call (refused_at call n) ≡ None)
-    (skip : (n : ℕ) → skip_generation call (refused_at call n) ≡ Some c.generation) where
+    (no_entry : (n : ℕ) → object_entry_noted call (trigger_refused call n) ≡ None)
+    (skip : (n : ℕ) → skip_generation call (trigger_refused call n) ≡ Some c.generation) where
   abbrev p : ObjectsPass
   p = h.objects_pass.now
 
@@ -127,7 +127,7 @@ module _ (s : Script) (x : ObjectsOf) (limit : x.limit ≡ s.limit) (some : 1 �
       → BodyKept s label claim restart v h h'
   refused_trigger t =
       let many = length (seen_of q c.timer) in
-      let r : ObjectReceipt = record { object = c.timer; number = many; call = spanned call (span_of c); reply = refused_at call many } in
+      let r : ObjectReceipt = record { object = c.timer; number = many; call = spanned call (span_of c); reply = trigger_refused call many } in
       let no_notes : object_notes label (r ∷ []) ≡ [] = rw (no_entry many) refl in
       let are : skip_notes label (r ∷ []) ≡ record { label = label; object = c.timer; number = many; generation = c.generation } ∷ [] = rw (skip many) refl in
       let body = Skipped c.timer many c.generation ∷ [] in

@@ -79,7 +79,7 @@ abbrev pub with_done : NotesOf → Label → List Receipt → List ObjectReceipt
 with_done notes label log object_log = with_object_receipts (with_receipts notes label log) label object_log
 
 -- the clock was read
-pub record Reads (p q : WorldPass) (r : ClockReading) : Type 0 where
+pub record ReadsClock (p q : WorldPass) (r : ClockReading) : Type 0 where
   pub shows : r ≡ seen_reading q.clock.knows
   pub count : r.stamp ≡ length (writes q.clock.knows)
   pub looks : Looks p.clock.knows.pass q.clock.knows.pass
@@ -89,8 +89,8 @@ abbrev pub LeavesClock : WorldPass → WorldPass → Type 0
 LeavesClock p q = q.clock ≡ p.clock
 
 -- what the lane's passes know, with these logs of a call
-abbrev pub caller_of : WorldPass → List Receipt → List ObjectReceipt → Caller
-caller_of p log object_log = record { timers = p.timers.known; objects = p.objects; log = log; object_log = object_log }
+abbrev pub lane_caller : WorldPass → List Receipt → List ObjectReceipt → Caller
+lane_caller p log object_log = record { timers = p.timers.known; objects = p.objects; log = log; object_log = object_log }
 
 -- ---- timers by themselves
 
@@ -99,18 +99,18 @@ abbrev pub entry_receipt : ℕ → ℕ → Event → Reply → Receipt
 entry_receipt timer number event reply = record { timer = timer; number = number; event = event; reply = noteds.Entry reply }
 
 -- the receipt of a start that was made; the timer was armed before it, and on this base
-abbrev pub start_receipt : ℕ → Mode → ℕ → ℕ → ClockReading → Bool → StartAnswer → List Receipt
-start_receipt timer mode ns asked reading armed (starts.Started was_armed generation base outs clock expires) =
+abbrev pub started_receipt : ℕ → Mode → ℕ → ℕ → ClockReading → Bool → StartAnswer → List Receipt
+started_receipt timer mode ns asked reading armed (starts.Started was_armed generation base outs clock expires) =
     entry_receipt timer generation (events.Start mode ns reading asked) (replies.Start base clock expires armed) ∷ []
-start_receipt timer mode ns asked reading armed (starts.Spent stamp) = []
+started_receipt timer mode ns asked reading armed (starts.Spent stamp) = []
 
 -- the receipts of a start: of an Out too where it moved the timer, which is then not armed any more
 abbrev pub start_receipts : ℕ → Mode → ℕ → ℕ → ClockReading → StartAnswer → List Receipt
 start_receipts timer mode ns asked reading (starts.Started was_armed generation base outs clock expires) =
     if nat_eq outs 0
-    then start_receipt timer mode ns asked reading was_armed (starts.Started was_armed generation base outs clock expires)
+    then started_receipt timer mode ns asked reading was_armed (starts.Started was_armed generation base outs clock expires)
     else entry_receipt timer (generation - 1) (events.Out asked) (replies.Out was_armed)
-    ∷ start_receipt timer mode ns asked reading false (starts.Started was_armed generation base outs clock expires)
+    ∷ started_receipt timer mode ns asked reading false (starts.Started was_armed generation base outs clock expires)
 start_receipts timer mode ns asked reading (starts.Spent stamp) = []
 
 abbrev pub start_told : StartAnswer → Answer
@@ -145,14 +145,14 @@ with_write_told notes label write (Err fault) = notes
 -- ---- expiry runs
 
 -- whether an event is a claim
-abbrev pub is_claim : Event → Bool
-is_claim (events.Claim base reading) = true
-is_claim event = false
+abbrev pub is_claim_event : Event → Bool
+is_claim_event (events.Claim base reading) = true
+is_claim_event event = false
 
 -- the timers that were claimed, in the order of their claims
 abbrev pub claimed_in : List Receipt → List ℕ
 claimed_in [] = []
-claimed_in (r ∷ rs) = also (is_claim r.event) r.timer (claimed_in rs)
+claimed_in (r ∷ rs) = also (is_claim_event r.event) r.timer (claimed_in rs)
 
 abbrev pub expire_told : ℕ → List ℕ → ExpireAnswer → Answer
 expire_told reading fired (expiries.More count) = answers.More reading fired
@@ -192,7 +192,7 @@ read_told reads.Again = answers.Again
 module _ (x : WorldOf) (l m : LaneOf) (a : Answer) where
   pub record CallsStart (timer : ℕ) (mode : Mode) (ns base : ℕ) : Type 0 where
     pub reading : ClockReading
-    pub reads : Reads l.pass m.pass reading
+    pub reads : ReadsClock l.pass m.pass reading
     pub answer : StartAnswer
     pub starts : StartsTimer x.timers.about l.pass.timers.known m.pass.timers.known timer mode ns base reading answer
     pub objects : m.pass.objects ≡ l.pass.objects
@@ -229,7 +229,7 @@ module _ (x : WorldOf) (l m : LaneOf) (a : Answer) where
 
   pub record CallsExpire (base budget : ℕ) : Type 0 where
     pub reading : ClockReading
-    pub reads : Reads l.pass m.pass reading
+    pub reads : ReadsClock l.pass m.pass reading
     pub log : List Receipt
     pub callback_log : List Receipt
     pub object_log : List ObjectReceipt
@@ -241,16 +241,16 @@ module _ (x : WorldOf) (l m : LaneOf) (a : Answer) where
   -- a call on an object, by what the lane's passes know before and after it
   pub record CallsObject (Does : Caller → Caller → ClockReading → Type 0) : Type 0 where
     pub reading : ClockReading
-    pub reads : Reads l.pass m.pass reading
+    pub reads : ReadsClock l.pass m.pass reading
     pub log : List Receipt
     pub object_log : List ObjectReceipt
-    pub does : Does (caller_of l.pass [] []) (caller_of m.pass log object_log) reading
+    pub does : Does (lane_caller l.pass [] []) (lane_caller m.pass log object_log) reading
     pub notes : m.notes ≡ with_done l.notes l.label log object_log
 
   pub record CallsOverrun (timer : ℕ) : Type 0 where
     pub clock : LeavesClock l.pass m.pass
     pub found : Overrun
-    pub looks : LooksOverrun (caller_of l.pass [] []) (caller_of m.pass [] []) timer found
+    pub looks : LooksOverrun (lane_caller l.pass [] []) (lane_caller m.pass [] []) timer found
     pub notes : m.notes ≡ l.notes
     pub told : a ≡ answers.Overrun found.overrun found.stamp
 

@@ -36,7 +36,7 @@ CalledAll x l [] (a ∷ more) m = ⊥
 CalledAll x l (c ∷ cs) [] m = ⊥
 
 -- a lane has made a call, with its answer behind those that it had
-pub record Answers (x : WorldOf) (old : Lane) (call : Call) (new : Lane) : Type 0 where
+pub record AnswersCall (x : WorldOf) (old : Lane) (call : Call) (new : Lane) : Type 0 where
   pub given : Answer
   pub answers : new.answers.items ≡ old.answers.items ++ given ∷ []
   pub called : Called x (lane_of old) call given (lane_of new)

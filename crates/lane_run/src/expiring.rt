@@ -6,7 +6,7 @@ ghost use Rattle.expire_pass.specs.Handlers.{CanServe};
 ghost use Rattle.timer_objects.specs.Firings.{firing as firing_meaning, ready_of};
 ghost use Rattle.timer_objects.specs.Known.{IsObjectsPass};
 ghost use Rattle.script_text.specs.Scripts.{most_budget};
-ghost use Rattle.lane_run.specs.Called.{CallsExpire, LeavesLane, claimed_in, expire_told, is_claim, lane_of};
+ghost use Rattle.lane_run.specs.Called.{CallsExpire, LeavesLane, claimed_in, expire_told, is_claim_event, lane_of};
 ghost use Rattle.lane_run.specs.Expiries.{KeepsName, RunsGated, RunsWith};
 ghost use Rattle.lane_run.specs.Worlds.{ArePassesOf};
 
@@ -192,7 +192,7 @@ fn claimed(alloc: Global, log: &Log) -> Result<ItemList<u32>, AllocError>
 {
     let mut timers = ItemList::new(alloc);
     for receipt in log.receipts() {
-        if is_claim(receipt.event) {
+        if is_claim_event(receipt.event) {
             timers.push(receipt.timer)?;
         }
     }
@@ -200,8 +200,8 @@ fn claimed(alloc: Global, log: &Log) -> Result<ItemList<u32>, AllocError>
 }
 
 /// Whether an event is a claim.
-fn is_claim(event: Event) -> bool
-    ensures { result ≡ is_claim event }
+fn is_claim_event(event: Event) -> bool
+    ensures { result ≡ is_claim_event event }
 {
     matches!(event, Event::Claim { .. })
 }

@@ -3,7 +3,7 @@ ghost use Rattle.std.specs.Prelude.{◌≡◌, ◌≤◌, ◌<◌, ◌∷◌, []
 ghost use Rattle.std.specs.List.{AllByRecursion};
 ghost use Rattle.script_text.specs.Scripts.{IsCallInRange};
 ghost use Rattle.lane_run.specs.Called.{Called, LeavesLane, lane_of};
-ghost use Rattle.lane_run.specs.Rounds.{Answers, MakesCalls, lane_calls};
+ghost use Rattle.lane_run.specs.Rounds.{AnswersCall, MakesCalls, lane_calls};
 ghost use Rattle.lane_run.specs.Worlds.{ArePassesOf, CanCall, KeepPasses};
 
 use crate::expiring::expire;
@@ -91,7 +91,7 @@ fn make_noted<R: Wait, G: Gate>(
     ensures pass { ArePassesOf world.now lane.new.pass }
     ensures keeps { KeepPasses lane.old.pass lane.new.pass }
     ensures label { lane.new.label ≡ lane.old.label }
-    ensures call { OnOk result (Answers world.now lane.old call lane.new) }
+    ensures call { OnOk result (AnswersCall world.now lane.old call lane.new) }
 {
     lane.answers.reserve(1)?;
     let answer = make(rt, alloc, world, gate, lane, call)?;

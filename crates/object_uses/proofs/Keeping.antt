@@ -24,7 +24,7 @@ use Rattle.timer_objects.specs.declared.cell.Span.{Span}
 use Rattle.timer_objects.specs.declared.object.ObjectReply.{ObjectReply}
 use Rattle.timer_objects.specs.declared.wanting.Rearming.{Rearming}
 use Rattle.timer_objects.specs.Arming.{ArmsFor}
-use Rattle.timer_objects.specs.Calls.{Accepts, Caller, FindsFull, MakesRearming, ReadsFd, RearmsFor, SetsTimer, SettimeMade}
+use Rattle.timer_objects.specs.Calls.{Accepts, Caller, FindsFull, RearmingMade, ReadsFd, RearmsFor, SetsTimer, SettimeMade}
 use Rattle.timer_objects.specs.Known.{ObjectsOf}
 use Rattle.timer_objects.proofs.Lending.{keeps_added, keeps_read, keeps_same}
 use Rattle.object_uses.specs.Callers.{KeepsBoth}
@@ -84,7 +84,7 @@ module _ (x : ObjectsOf) (o : Opening) (old new : Caller) (id flags value interv
       keeps_trans old.timers rearms.begin new.timers (keeps_looks old.timers rearms.begin rearms.looks)
       (keeps_made rearms.begin new.timers t s.at _ s.made s.claims)
 
-  keeps_call : (r : Rearming) (reply : ObjectReply) → MakesRearming x o old new id r reading reply → KeepsBoth old new
+  keeps_call : (r : Rearming) (reply : ObjectReply) → RearmingMade x o old new id r reading reply → KeepsBoth old new
   keeps_call r reply made =
       (keeps_rearmed id _ _ _ made.arm made.span made.rearms, keeps_added old.objects new.objects id _ made.enters.commits.adds)
 

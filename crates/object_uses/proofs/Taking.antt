@@ -27,7 +27,7 @@ use Rattle.timer_objects.specs.declared.object.ObjectReply.{ObjectReply}
 use Rattle.timer_objects.specs.declared.object.ObjectReply.TheVariants as replies
 use Rattle.timer_objects.specs.declared.wanting.Rearming.{Rearming}
 use Rattle.timer_objects.specs.declared.wanting.Rearming.TheVariants as rearmings
-use Rattle.timer_objects.specs.Calls.{Accepts, Caller, MakesRearming, ReadsFd}
+use Rattle.timer_objects.specs.Calls.{Accepts, Caller, RearmingMade, ReadsFd}
 use Rattle.timer_objects.specs.Cells.{cell_meaning}
 use Rattle.timer_objects.specs.Known.{ObjectsOf, ObjectsPass}
 use Rattle.timer_objects.specs.Steps.{object_answer}
@@ -87,15 +87,15 @@ ends_with p q id call commits = record {
 }
 
 module _ (x : ObjectsOf) (o : Opening) (old new : Caller) (id : ℕ) (reading : ClockReading) (n : ℕ) where
-  takes_signal : MakesRearming x o old new id rearmings.Accepting reading (replies.Posix (posix_replies.Accept (acceptances.Accepted n)))
+  takes_signal : RearmingMade x o old new id rearmings.Accepting reading (replies.Posix (posix_replies.Accept (acceptances.Accepted n)))
       → TakesSignal old.objects new.objects id reading n
   takes_signal made = record { ends = ends_with _ _ _ _ made.enters.commits; had = signal_of reading made.arm n _ (ap number_in made.enters.reply) }
 
-  takes_count : MakesRearming x o old new id rearmings.Reading reading (replies.Fd (fd_replies.Read (reads.Count n)))
+  takes_count : RearmingMade x o old new id rearmings.Reading reading (replies.Fd (fd_replies.Read (reads.Count n)))
       → TakesCount old.objects new.objects id reading n
   takes_count made = record { ends = ends_with _ _ _ _ made.enters.commits; had = count_of reading made.arm n _ (ap number_in made.enters.reply) }
 
-  adds_one : (r : Rearming) (reply : ObjectReply) → MakesRearming x o old new id r reading reply
+  adds_one : (r : Rearming) (reply : ObjectReply) → RearmingMade x o old new id r reading reply
       → length new.objects.knows.pass.mine ≡ length old.objects.knows.pass.mine + 1
   adds_one r reply made = ap length made.enters.commits.adds.mine ∙ length-append old.objects.knows.pass.mine _
 

@@ -20,7 +20,7 @@ use Rattle.script_text.specs.Histories.{entry_shown, lines_of_timer, reading_at}
 use Rattle.script_text.specs.Order.{calls_from}
 use Rattle.script_text.specs.Starts.{Arming}
 use Rattle.run_history.specs.Calls.{fires}
-use Rattle.run_history.specs.Courses.{clocks_of, Course, entries_in, entry_of_move, Fired, Move, moves_on, timer_then, Trace}
+use Rattle.run_history.specs.Courses.{clocks_of, Course, entries_in, entry_of_move, Fired, Move, moves_on, timer_along, Trace}
 use Rattle.run_history.specs.Receipts.{no_line}
 use Rattle.run_history.specs.Truths.{IsDone}
 use Rattle.run_cases.proofs.Tests.{all_true, lt, other}
@@ -141,7 +141,7 @@ none_at clock t (suc n) (m ∷ ms) none =
     ap (λ b. if b then entry_shown clock m.before m.line.entry ∷ rest else rest) none.0 ∙ none_at clock t n ms none.1
 
 absent_then : (w : Course) (n t : ℕ) → list_all (λ m. nat_lt m.timer (length w.script.timers)) w.moves ≡ true → length w.script.timers ≤ t
-    → timer_then w n t ≡ no_timer
+    → timer_along w n t ≡ no_timer
 absent_then w n t there past =
     let opened = openings (clocks_of w.script) w.script.limit in
     after_entries-entries_of (first_system opened) t (take n (entries_in w))
@@ -153,10 +153,10 @@ absent_then w n t there past =
 
 -- nothing is left to do on a base, where nothing is of any timer that is there
 pub done_by : (w : Course) (reading base n : ℕ) → list_all (λ m. nat_lt m.timer (length w.script.timers)) w.moves ≡ true
-    → Along (λ t. (runs_on base (timer_then w n t) ≡ false) × (is_due_on base (reading_at w.run.clock reading) (timer_then w n t) ≡ false)) 0 w.script.timers
+    → Along (λ t. (runs_on base (timer_along w n t) ≡ false) × (is_due_on base (reading_at w.run.clock reading) (timer_along w n t) ≡ false)) 0 w.script.timers
     → IsDone w reading base n
 done_by w reading base n there each =
-    let all = everywhere (λ t. (runs_on base (timer_then w n t) ≡ false)
-    × (is_due_on base (reading_at w.run.clock reading) (timer_then w n t) ≡ false)) w.script.timers each
+    let all = everywhere (λ t. (runs_on base (timer_along w n t) ≡ false)
+    × (is_due_on base (reading_at w.run.clock reading) (timer_along w n t) ≡ false)) w.script.timers each
     (λ t past. (ap (runs_on base) (absent_then w n t there past), ap (is_due_on base (reading_at w.run.clock reading)) (absent_then w n t there past))) in
     record { free = λ t. (all t).0; none_due = λ t. (all t).1 }

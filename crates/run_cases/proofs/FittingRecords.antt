@@ -15,7 +15,7 @@ use Rattle.script_text.specs.Actions.{Entered, Looked, Made, Wrote}
 use Rattle.script_text.specs.Order.{calls_of}
 use Rattle.run_history.specs.Courses.{clocks_of, Course, entries_in, Trace}
 use Rattle.run_history.specs.Fits.{Fits}
-use Rattle.run_cases.specs.Fitting.{accept_entry, accepted_record, accepted_script, beside, beside_script, cancelled_record, expired_lines, idle_record, idle_script, kept_start, late_record, moved_record, moved_script, moved_start, next_start, none_entry, running_record, set_entry, told_record, told_script, trigger_entry}
+use Rattle.run_cases.specs.Fitting.{accept_entry, accepted_record, accepted_script, beside, beside_script, cancelled_record, expired_lines, idle_record, idle_script, kept_start, late_record, moved_record, moved_script, moved_start, rearming_start, none_entry, running_record, set_entry, told_record, told_script, trigger_entry}
 use Rattle.run_cases.specs.Lines.{at, start}
 use Rattle.run_cases.proofs.Calls.{are_placed, IsRight, right}
 use Rattle.run_cases.proofs.Courses.{armed_by, course_by, did, done_by, fired, next, ran, step, three, two}
@@ -204,7 +204,7 @@ accepted_spans k = get_or ((0, 0) ∷ (0, 1) ∷ (1, 2) ∷ (3, 4) ∷ (4, 4) �
 abbrev accepted_course : Course
 accepted_course = course_by accepted_script accepted_record (0 ∷ 0 ∷ 0 ∷ 0 ∷ []) ((did 0 (Entered 0 1 (start modes.Abs 100 100) ∷ Made 0 1 set_entry ∷ []) 0 1
     ∷ did 0 (Wrote 1 (writes.Advance 100) ∷ []) 1 1 ∷ ran 0 1 (fired 2 1 (Made 0 2 trigger_entry ∷ []) 3 false ∷ []) 1 3
-    ∷ did 1 (Wrote 2 (writes.Advance 35) ∷ []) 3 3 ∷ did 2 (Entered 0 4 next_start ∷ Made 0 3 accept_entry ∷ []) 3 4
+    ∷ did 1 (Wrote 2 (writes.Advance 35) ∷ []) 3 3 ∷ did 2 (Entered 0 4 rearming_start ∷ Made 0 3 accept_entry ∷ []) 3 4
     ∷ did 2 (Made 0 4 none_entry ∷ []) 4 4 ∷ did 2 [] 4 4 ∷ []) ∷ []) (λ i. accepted_spans)
 
 -- law: it fits
@@ -241,7 +241,7 @@ accepted_fits = fits_by accepted_course (record {
       (next 3 (right refl refl refl (refl, tt) (refl, tt) ((le refl, le refl), tt) (record {
         arm = armings.Generation 4;
         ns = 140;
-        start = Entered 0 4 next_start ∷ [];
+        start = Entered 0 4 rearming_start ∷ [];
         number = 3;
         timely = le refl;
         arms = (armed_by 4 140, refl, refl, tt);

@@ -16,7 +16,7 @@ use Rattle.script_text.specs.Actions.{Action, also, Entered, Looked, Made, made,
 use Rattle.script_text.specs.ObjectCalls.{cancels, nanoseconds_of}
 use Rattle.script_text.specs.Objects.{lines_of_object}
 use Rattle.script_text.specs.Order.{made_by}
-use Rattle.run_history.specs.Courses.{Course, labels, timer_then}
+use Rattle.run_history.specs.Courses.{Course, labels, timer_along}
 use Rattle.run_history.specs.Fits.{FitsCall, Seen}
 use Rattle.run_history.specs.Traces.{all_entered, own_moves}
 use Rattle.run_history.specs.Truths.{DisarmedFirst}
@@ -26,7 +26,7 @@ use Rattle.run_history.proofs.EachTimer.{heads, true_at}
 -- what began with a start had found the timer idle
 pub idle_first : (w : Course) (t : ℕ) (actions : List Action) (first u number : ℕ) (entry : Entry) (rest : List (ℕ × (ℕ × Entry)))
     → ((generation : ℕ) → entry ≡ entries.Cancel generation → ⊥) → (u, (number, entry)) ∷ rest ≡ all_entered actions
-    → DisarmedFirst w t actions first → IsIdle (timer_then w first t)
+    → DisarmedFirst w t actions first → IsIdle (timer_along w first t)
 idle_first w t [] first u number entry rest other is idle = idle
 idle_first w t (Wrote n write ∷ ds) first u number entry rest other is idle = idle
 idle_first w t (Entered v n (entries.Cancel generation) ∷ ds) first u number entry rest other is idle =
@@ -48,8 +48,8 @@ last_is x y (z ∷ v ∷ xs) is = absurd (cc)
 -- the span of a settime's entry ends at a moment at which it had made all its entries of the timer
 pub record EndsAt (w : Course) (c : Label) (t number : ℕ) : Type 0 where
   pub end : ℕ
-  pub low : (w.spans t number).0 ≡ (timer_then w (w.traces c).first t).stamp
-  pub high : (w.spans t number).1 ≡ (timer_then w end t).stamp
+  pub low : (w.spans t number).0 ≡ (timer_along w (w.traces c).first t).stamp
+  pub high : (w.spans t number).1 ≡ (timer_along w end t).stamp
   pub small : end ≤ length (labels w)
   pub many : made_by c (take end (labels w)) ≡ length (own_moves c w.moves)
 

@@ -16,7 +16,7 @@ use Rattle.script_text.specs.Histories.{timer_after, reading_at}
 use Rattle.script_text.specs.Objects.{kind_of}
 use Rattle.script_text.specs.Order.{is_before, IsPoint, made_by}
 use Rattle.run_history.specs.Calls.{fires, IsBody, IsTrigger}
-use Rattle.run_history.specs.Courses.{labels, Move, timer_then, Course, Trace, Fired}
+use Rattle.run_history.specs.Courses.{labels, Move, timer_along, Course, Trace, Fired}
 use Rattle.run_history.specs.Fits.{Fits}
 use Rattle.run_history.specs.Traces.{all_entered}
 use Rattle.run_history.specs.Truths.{IsDone, IsClaimSpan}
@@ -24,7 +24,7 @@ use Rattle.run_history.proofs.EachTimer.{heads}
 use Rattle.run_history.proofs.Lists.{at_map}
 use Rattle.run_history.proofs.OwnPoints.{same_then, seen, seen_rises, stamp_then, turn_at}
 use Rattle.run_cases.specs.Lines.{at, line}
-use Rattle.run_cases.specs.Wrong.{both_record, both_script, tie_record, tie_script, due_record, due_script, uncancelled_record, uncancelled_script, crossed_record, crossed_script, set_entry, settimes_record, settimes_script}
+use Rattle.run_cases.specs.Wrong.{both_record, both_script, tie_record, tie_script, due_record, due_script, uncancelled_record, uncancelled_script, crossed_record, crossed_script, set_entry_of, settimes_record, settimes_script}
 use Rattle.run_cases.proofs.Courses.{moves_by}
 use Rattle.run_cases.proofs.Orders.{at_early, at_late, course_with, found, opened, in_one_order}
 use Rattle.run_cases.proofs.Settimes.{idle_first, settime_span}
@@ -64,7 +64,7 @@ both_dont_fit fits =
     let first : seen w a 0 ≡ 2 = sym (stamp_then w f.history f.timers a 0) ∙ one.seen.stamp in
     let last : seen w b 0 ≡ 2 = sym (stamp_then w f.history f.timers b 0) ∙ three.seen.stamp in
     let two : seen w p 0 ≡ 2 = omega (arith, low, high, first, last) in
-    let runs : runs_on 0 (timer_then w p 0) ≡ true =
+    let runs : runs_on 0 (timer_along w p 0) ≡ true =
     same_then w f.history f.timers (runs_on 0) refl p 0 ∙ ap (λ k. runs_on 0 (timer_after both_script both_record 0 k)) two in
     -- while the claim needs that none does
     false≢true (sym ((turn_at w f.history f.timers p claim 0 0 1 place.1 refl).idle 0) ∙ runs)
@@ -89,8 +89,8 @@ due_course traces spans = course_with due_script due_record (moves_by due_record
 
 one_is_due : (traces : Label → Trace) (spans : ℕ → ℕ → ℕ × ℕ) (n made : ℕ)
     → IsPoint due_script (at 1 0) made n (labels (due_course traces spans))
-    → (is_due_on 0 (reading_at [] 0) (timer_then (due_course traces spans) n 0) ≡ true)
-    ⊎ (is_due_on 0 (reading_at [] 0) (timer_then (due_course traces spans) n 1) ≡ true)
+    → (is_due_on 0 (reading_at [] 0) (timer_along (due_course traces spans) n 0) ≡ true)
+    ⊎ (is_due_on 0 (reading_at [] 0) (timer_along (due_course traces spans) n 1) ≡ true)
 unfolding after_entry changed
 one_is_due traces spans zero made point = absurd (false≢true (sym point.within.behind.0))
 one_is_due traces spans (suc zero) made point = inl refl
@@ -116,7 +116,7 @@ uncancelled_course traces spans = course_with uncancelled_script uncancelled_rec
 
 -- where the second settime begins the timer is armed by the first
 armed_there : (traces : Label → Trace) (spans : ℕ → ℕ → ℕ × ℕ) (n : ℕ) → IsPoint uncancelled_script (at 0 1) 0 n (labels (uncancelled_course traces spans))
-    → IsIdle (timer_then (uncancelled_course traces spans) n 0) → ⊥
+    → IsIdle (timer_along (uncancelled_course traces spans) n 0) → ⊥
 unfolding after_entry changed
 armed_there traces spans zero point idle = false≢true (sym point.within.behind.0)
 armed_there traces spans (suc zero) point idle = let armed = idle.armed in cc
@@ -139,7 +139,7 @@ crossed_course traces spans = course_with crossed_script crossed_record (moves_b
 
 -- the settime ended behind the fourth entry, which is its start
 set_there : (traces : Label → Trace) (spans : ℕ → ℕ → ℕ × ℕ) (n : ℕ) → n ≤ 4 → made_by (at 0 2) (take n (labels (crossed_course traces spans))) ≡ 1
-    → (timer_then (crossed_course traces spans) n 0).stamp ≡ 4
+    → (timer_along (crossed_course traces spans) n 0).stamp ≡ 4
 unfolding after_entry changed
 set_there traces spans zero small many = absurd (cc)
 set_there traces spans (suc zero) small many = absurd (cc)
@@ -184,7 +184,7 @@ crossed_doesnt_fit fits =
     let w = crossed_course o.0 o.1 in
     let t = o.0 (at 1 0) in
     let run = (o.2.calls 1).1 in
-    let settime = settime_span {w = w} {c = at 0 2} 0 2 (set_entry 50 1 4 1) (o.2.calls 0).2.2.1 refl in
+    let settime = settime_span {w = w} {c = at 0 2} 0 2 (set_entry_of 50 1 4 1) (o.2.calls 0).2.2.1 refl in
     let expiry = one_span w 0 t.at 2 3 (object_entries.Trigger 1 1 false) t.fired _ _ run.does.1 (run.traced.timers ∙ ap all_entered run.does.0.done)
     (run.traced.objects 0 ∙ ap (made 0) run.does.0.done) run.does.0.bodies run.expiries in
     let behind = (o.2.object_spans 0).2.2.0 in
@@ -198,13 +198,13 @@ settimes_course traces spans = course_with settimes_script settimes_record (move
 
 -- lane 0 began before its own start, which is the first entry; lane 1 ended behind the third
 begins_there : (traces : Label → Trace) (spans : ℕ → ℕ → ℕ × ℕ) (n : ℕ) → made_by (at 0 0) (take n (labels (settimes_course traces spans))) ≡ 0
-    → (timer_then (settimes_course traces spans) n 0).stamp ≡ 0
+    → (timer_along (settimes_course traces spans) n 0).stamp ≡ 0
 unfolding after_entry changed
 begins_there traces spans zero many = refl
 begins_there traces spans (suc n) many = absurd (cc)
 
 ends_there : (traces : Label → Trace) (spans : ℕ → ℕ → ℕ × ℕ) (n : ℕ) → n ≤ 3 → made_by (at 1 0) (take n (labels (settimes_course traces spans))) ≡ 2
-    → (timer_then (settimes_course traces spans) n 0).stamp ≡ 3
+    → (timer_along (settimes_course traces spans) n 0).stamp ≡ 3
 unfolding after_entry changed
 ends_there traces spans zero small many = absurd (cc)
 ends_there traces spans (suc zero) small many = absurd (cc)
@@ -219,8 +219,8 @@ settimes_dont_fit fits =
     let w = settimes_course o.0 o.1 in
     let zero_call = (o.2.calls 0).1 in
     let one_call = (o.2.calls 1).1 in
-    let early = settime_span {w = w} {c = at 1 0} 0 1 (set_entry 200 0 3 0) one_call refl in
-    let late = settime_span {w = w} {c = at 0 0} 0 2 (set_entry 100 0 1 200) zero_call refl in
+    let early = settime_span {w = w} {c = at 1 0} 0 1 (set_entry_of 200 0 3 0) one_call refl in
+    let late = settime_span {w = w} {c = at 0 0} 0 2 (set_entry_of 100 0 1 200) zero_call refl in
     let behind = (o.2.object_spans 0).2.0 in
     omega (
       arith,

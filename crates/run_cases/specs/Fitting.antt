@@ -20,13 +20,13 @@ use Rattle.script_text.specs.declared.script.Call.TheVariants as calls
 use Rattle.script_text.specs.declared.script.Callback.TheVariants as callbacks
 use Rattle.script_text.specs.declared.script.Kind.TheVariants as kinds
 use Rattle.script_text.specs.declared.script.Script.{Script}
-use Rattle.run_cases.specs.Lines.{at, by, line, object_line, raw_record, script_of, start}
+use Rattle.run_cases.specs.Lines.{at, by, line, case_object_line, raw_record, case_script, start}
 
 -- ---- a timer is started, expires, is cancelled when it is idle, and is looked at
 
 -- the script
 abbrev pub idle_script : Script
-idle_script = script_of 1 1 (kinds.Raw callbacks.Once ∷ []) ((by 0 (calls.Start 0 modes.Rel 100 0) ∷ by 0 (calls.Clock (writes.Advance 100))
+idle_script = case_script 1 1 (kinds.Raw callbacks.Once ∷ []) ((by 0 (calls.Start 0 modes.Rel 100 0) ∷ by 0 (calls.Clock (writes.Advance 100))
     ∷ by 0 (calls.Expire 0 4) ∷ by 0 (calls.Cancel 0) ∷ by 0 (calls.Peek 0) ∷ []) ∷ [])
 
 -- its record
@@ -39,7 +39,7 @@ idle_record = raw_record (record { label = at 0 1; write = writes.Advance 100; m
 
 -- the script
 abbrev pub beside_script : Script
-beside_script = script_of 1 2 (kinds.Raw callbacks.Once ∷ [])
+beside_script = case_script 1 2 (kinds.Raw callbacks.Once ∷ [])
     ((by 0 (calls.Start 0 modes.Rel 0 0) ∷ []) ∷ (by 0 (calls.Cancel 0) ∷ by 1 (calls.Expire 0 4) ∷ []) ∷ [])
 
 -- the timer's lines, and what the cancel and the expiry run were answered
@@ -67,7 +67,7 @@ late_record = beside expired_lines (answers.Idle 3) (answers.Done 0 (0 ∷ []))
 
 -- the script
 abbrev pub told_script : Script
-told_script = script_of 1 1 (kinds.Raw callbacks.Cancels ∷ []) ((by 0 (calls.Start 0 modes.Rel 0 0) ∷ by 0 (calls.Expire 0 1) ∷ []) ∷ [])
+told_script = case_script 1 1 (kinds.Raw callbacks.Cancels ∷ []) ((by 0 (calls.Start 0 modes.Rel 0 0) ∷ by 0 (calls.Expire 0 1) ∷ []) ∷ [])
 
 -- its record
 abbrev pub told_record : RunRecord
@@ -82,7 +82,7 @@ told_record = raw_record [] ((line 0 0 (start modes.Rel 0 0) ∷ record {
 
 -- the script
 abbrev pub moved_script : Script
-moved_script = script_of 2 1 (kinds.Raw (callbacks.Starts 50 1) ∷ [])
+moved_script = case_script 2 1 (kinds.Raw (callbacks.Starts 50 1) ∷ [])
     ((by 0 (calls.Start 0 modes.Abs 0 0) ∷ by 0 (calls.Expire 0 1) ∷ by 0 (calls.Peek 0) ∷ by 0 (calls.Start 0 modes.Rel 70 1) ∷ []) ∷ [])
 
 -- the start that the callback makes, which stays on base 0 as the timer runs there, and the one that moves it
@@ -103,13 +103,13 @@ moved_record = raw_record [] ((line 0 0 (start modes.Abs 0 0) ∷ line 0 1 (entr
 
 -- the script
 abbrev pub accepted_script : Script
-accepted_script = script_of 1 1 (kinds.Posix 0 ∷ []) ((by 0 (calls.Settime 0 1 (record { sec = 0; nsec = 100 }) (record { sec = 0; nsec = 10 }))
+accepted_script = case_script 1 1 (kinds.Posix 0 ∷ []) ((by 0 (calls.Settime 0 1 (record { sec = 0; nsec = 100 }) (record { sec = 0; nsec = 10 }))
     ∷ by 0 (calls.Clock (writes.Advance 100)) ∷ by 0 (calls.Expire 0 4) ∷ by 0 (calls.Clock (writes.Advance 35)) ∷ by 0 (calls.Accept 0)
     ∷ by 0 (calls.Accept 0) ∷ by 0 (calls.Overrun 0) ∷ []) ∷ [])
 
 -- the start by which the first acceptance arms the timer
-abbrev pub next_start : Entry
-next_start = entries.Start modes.Keep 140 2 0 0 clocks.Monotonic 140 false
+abbrev pub rearming_start : Entry
+rearming_start = entries.Start modes.Keep 140 2 0 0 clocks.Monotonic 140 false
 
 -- the object's entries
 abbrev pub set_entry : ObjectEntry
@@ -132,9 +132,9 @@ abbrev pub accepted_record : RunRecord
 accepted_record = record {
   clock = record { label = at 0 1; write = writes.Advance 100; mono = 100; real = 100; boot = 100; changes = 0 }
       ∷ record { label = at 0 3; write = writes.Advance 35; mono = 135; real = 135; boot = 135; changes = 0 } ∷ [];
-  timers = (line 0 0 (start modes.Abs 100 100) ∷ line 0 2 (entries.Claim 0 1 1) ∷ line 0 2 (entries.Finish false 1 restarts.None) ∷ line 0 4 next_start
+  timers = (line 0 0 (start modes.Abs 100 100) ∷ line 0 2 (entries.Claim 0 1 1) ∷ line 0 2 (entries.Finish false 1 restarts.None) ∷ line 0 4 rearming_start
       ∷ []) ∷ [];
-  objects = (object_line 0 0 set_entry ∷ object_line 0 2 trigger_entry ∷ object_line 0 4 accept_entry ∷ object_line 0 5 none_entry ∷ []) ∷ [];
+  objects = (case_object_line 0 0 set_entry ∷ case_object_line 0 2 trigger_entry ∷ case_object_line 0 4 accept_entry ∷ case_object_line 0 5 none_entry ∷ []) ∷ [];
   answers = (answers.Old 0 0 ∷ answers.Clock 1 ∷ answers.Done 1 (0 ∷ []) ∷ answers.Clock 2 ∷ answers.Accepted 3 ∷ answers.NoSignal ∷ answers.Overrun 3 4
       ∷ []) ∷ [];
 }

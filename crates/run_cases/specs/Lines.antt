@@ -21,8 +21,8 @@ abbrev pub by : ℕ → Call → LaneCall
 by lane call = record { lane = lane; call = call }
 
 -- a script of such timers on the monotonic clock, each history of a hundred entries, and these rounds
-abbrev pub script_of : ℕ → ℕ → List Kind → List (List LaneCall) → Script
-script_of bases lanes kinds rounds = record {
+abbrev pub case_script : ℕ → ℕ → List Kind → List (List LaneCall) → Script
+case_script bases lanes kinds rounds = record {
   bases = bases;
   lanes = lanes;
   limit = 100;
@@ -47,5 +47,5 @@ abbrev pub raw_record : List ClockLine → List (List TimerLine) → List (List 
 raw_record clock timers answers = record { clock = clock; timers = timers; objects = map (λ lines. []) timers; answers = answers }
 
 -- an entry of an object that a lane's call made
-abbrev pub object_line : ℕ → ℕ → ObjectEntry → ObjectLine
-object_line lane call entry = record { label = at lane call; entry = entry; skips = [] }
+abbrev pub case_object_line : ℕ → ℕ → ObjectEntry → ObjectLine
+case_object_line lane call entry = record { label = at lane call; entry = entry; skips = [] }

@@ -19,7 +19,7 @@ use Rattle.script_text.specs.declared.script.Callback.TheVariants as callbacks
 use Rattle.script_text.specs.declared.script.Kind.TheVariants as kinds
 use Rattle.script_text.specs.declared.script.Kind.{Kind}
 use Rattle.script_text.specs.declared.script.Script.{Script}
-use Rattle.run_cases.specs.Lines.{at, by, line, object_line, raw_record, script_of, start}
+use Rattle.run_cases.specs.Lines.{at, by, line, case_object_line, raw_record, case_script, start}
 
 -- two timers whose callbacks do nothing
 abbrev pub two_timers : List Kind
@@ -34,7 +34,7 @@ claimed_by call ns lane other stamp =
 
 -- the script
 abbrev pub both_script : Script
-both_script = script_of 1 2 two_timers ((by 0 (calls.Start 0 modes.Abs 0 0) ∷ by 0 (calls.Start 1 modes.Abs 0 0) ∷ [])
+both_script = case_script 1 2 two_timers ((by 0 (calls.Start 0 modes.Abs 0 0) ∷ by 0 (calls.Start 1 modes.Abs 0 0) ∷ [])
     ∷ (by 0 (calls.Expire 0 1) ∷ by 1 (calls.Cancel 0) ∷ by 1 (calls.Expire 0 1) ∷ by 1 (calls.Cancel 0) ∷ []) ∷ [])
 
 -- a record that breaks it
@@ -47,7 +47,7 @@ both_record = raw_record [] (claimed_by 0 0 0 2 0 ∷ claimed_by 1 0 1 1 0 ∷ [
 
 -- the script
 abbrev pub tie_script : Script
-tie_script = script_of 1 1 two_timers ((by 0 (calls.Start 0 modes.Abs 100 0) ∷ by 0 (calls.Start 1 modes.Abs 100 0) ∷ by 0 (calls.Clock (writes.Advance 100))
+tie_script = case_script 1 1 two_timers ((by 0 (calls.Start 0 modes.Abs 100 0) ∷ by 0 (calls.Start 1 modes.Abs 100 0) ∷ by 0 (calls.Clock (writes.Advance 100))
     ∷ by 0 (calls.Expire 0 1) ∷ by 0 (calls.Expire 0 1) ∷ []) ∷ [])
 
 -- a record that breaks it
@@ -60,7 +60,7 @@ tie_record = raw_record (record { label = at 0 2; write = writes.Advance 100; mo
 
 -- the script
 abbrev pub due_script : Script
-due_script = script_of 1 2 two_timers ((by 0 (calls.Start 0 modes.Abs 0 0) ∷ [])
+due_script = case_script 1 2 two_timers ((by 0 (calls.Start 0 modes.Abs 0 0) ∷ [])
     ∷ (by 0 (calls.Start 1 modes.Abs 0 0) ∷ by 0 (calls.Cancel 0) ∷ by 1 (calls.Expire 0 4) ∷ []) ∷ [])
 
 -- a record that breaks it
@@ -79,19 +79,19 @@ abbrev pub set_start : ℕ → ℕ → Bool → Entry
 set_start value stamp was_armed = entries.Start modes.Abs value stamp 0 0 clocks.Monotonic value was_armed
 
 -- the entry that it makes: the value, the stamp of its reading, the generation that it armed, and what was left before
-abbrev pub set_entry : ℕ → ℕ → ℕ → ℕ → ObjectEntry
-set_entry value stamp generation left = object_entries.Settime 1 value 0 stamp (armings.Generation generation) (settings.Old left 0)
+abbrev pub set_entry_of : ℕ → ℕ → ℕ → ℕ → ObjectEntry
+set_entry_of value stamp generation left = object_entries.Settime 1 value 0 stamp (armings.Generation generation) (settings.Old left 0)
 
 -- the script
 abbrev pub uncancelled_script : Script
-uncancelled_script = script_of 1 1 (kinds.Posix 0 ∷ []) ((by 0 (settime_to 100) ∷ by 0 (settime_to 200) ∷ []) ∷ [])
+uncancelled_script = case_script 1 1 (kinds.Posix 0 ∷ []) ((by 0 (settime_to 100) ∷ by 0 (settime_to 200) ∷ []) ∷ [])
 
 -- a record that breaks it
 abbrev pub uncancelled_record : RunRecord
 uncancelled_record = record {
   clock = [];
   timers = (line 0 0 (set_start 100 0 false) ∷ line 0 1 (set_start 200 0 true) ∷ []) ∷ [];
-  objects = (object_line 0 0 (set_entry 100 0 1 0) ∷ object_line 0 1 (set_entry 200 0 2 100) ∷ []) ∷ [];
+  objects = (case_object_line 0 0 (set_entry_of 100 0 1 0) ∷ case_object_line 0 1 (set_entry_of 200 0 2 100) ∷ []) ∷ [];
   answers = (answers.Old 0 0 ∷ answers.Old 100 0 ∷ []) ∷ [];
 }
 
@@ -99,7 +99,7 @@ uncancelled_record = record {
 
 -- the script
 abbrev pub crossed_script : Script
-crossed_script = script_of 1 2 (kinds.Posix 0 ∷ []) ((by 0 (settime_to 1) ∷ by 0 (calls.Clock (writes.Advance 1)) ∷ [])
+crossed_script = case_script 1 2 (kinds.Posix 0 ∷ []) ((by 0 (settime_to 1) ∷ by 0 (calls.Clock (writes.Advance 1)) ∷ [])
     ∷ (by 0 (settime_to 50) ∷ by 1 (calls.Expire 0 1) ∷ []) ∷ [])
 
 -- a record that breaks it
@@ -108,7 +108,7 @@ crossed_record = record {
   clock = record { label = at 0 1; write = writes.Advance 1; mono = 1; real = 1; boot = 1; changes = 0 } ∷ [];
   timers = (line 0 0 (set_start 1 0 false) ∷ line 1 0 (entries.Claim 0 1 1) ∷ line 1 0 (entries.Finish false 1 restarts.None)
       ∷ line 0 2 (set_start 50 1 false) ∷ []) ∷ [];
-  objects = (object_line 0 0 (set_entry 1 0 1 0) ∷ object_line 0 2 (set_entry 50 1 4 1) ∷ object_line 1 0 (object_entries.Trigger 1 1 false) ∷ []) ∷ [];
+  objects = (case_object_line 0 0 (set_entry_of 1 0 1 0) ∷ case_object_line 0 2 (set_entry_of 50 1 4 1) ∷ case_object_line 1 0 (object_entries.Trigger 1 1 false) ∷ []) ∷ [];
   answers = (answers.Old 0 0 ∷ answers.Clock 1 ∷ answers.Old 1 0 ∷ []) ∷ (answers.More 1 (0 ∷ []) ∷ []) ∷ [];
 }
 
@@ -116,13 +116,13 @@ crossed_record = record {
 
 -- the script
 abbrev pub settimes_script : Script
-settimes_script = script_of 1 2 (kinds.Posix 0 ∷ []) ((by 0 (settime_to 100) ∷ by 1 (settime_to 200) ∷ []) ∷ [])
+settimes_script = case_script 1 2 (kinds.Posix 0 ∷ []) ((by 0 (settime_to 100) ∷ by 1 (settime_to 200) ∷ []) ∷ [])
 
 -- a record that breaks it
 abbrev pub settimes_record : RunRecord
 settimes_record = record {
   clock = [];
   timers = (line 0 0 (set_start 100 0 false) ∷ line 1 0 (entries.Cancel 1) ∷ line 1 0 (set_start 200 0 false) ∷ []) ∷ [];
-  objects = (object_line 1 0 (set_entry 200 0 3 0) ∷ object_line 0 0 (set_entry 100 0 1 200) ∷ []) ∷ [];
+  objects = (case_object_line 1 0 (set_entry_of 200 0 3 0) ∷ case_object_line 0 0 (set_entry_of 100 0 1 200) ∷ []) ∷ [];
   answers = (answers.Old 200 0 ∷ []) ∷ (answers.Old 0 0 ∷ []) ∷ [];
 }

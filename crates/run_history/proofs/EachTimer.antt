@@ -22,8 +22,8 @@ use Rattle.script_text.specs.Actions.{Action, also, Entered, Looked}
 use Rattle.script_text.specs.Told.{observed}
 use Rattle.script_text.specs.Histories.{answers_of, reading_at, timer_after}
 use Rattle.script_text.specs.Order.{CallInRound, calls_of, is_before, is_label, IsInOrder, IsLabel, IsWithin, made_by, round_of}
-use Rattle.run_history.specs.Courses.{Course, labels, Move, timer_then}
-use Rattle.run_history.specs.EachTimer.{HasTimers, KnowsTimers, TookNextDue, WasRefused, WasSo, WasTold}
+use Rattle.run_history.specs.Courses.{Course, labels, Move, timer_along}
+use Rattle.run_history.specs.EachTimer.{HasTimers, FitsTimers, TookNextDue, WasRefused, WasSo, WasTold}
 use Rattle.run_history.specs.Fits.{Fits, FitsCall, FitsIn, FitsLane, Seen, unseen}
 use Rattle.run_history.specs.Traces.{all_entered, own_moves}
 use Rattle.run_history.specs.Truths.{AreTrue, IsMoment, IsSeen, IsTrue, Saw, SawRefusal}
@@ -154,8 +154,8 @@ module _ (w : Course) (f : FitsIn w) where
         so_many = ap (made_by c) (take-map (λ (m : Move). m.line.label) p w.moves) ∙ count_moves c (take p w.moves) ∙ ap length s.own;
       } in
       let turn = turn_at w f.history f.timers p m base reading generation s.there entry_is in
-      let next : IsNextDue (timer_then w p) base (reading_at clock reading) t =
-      subst (IsNextDue (timer_then w p) base (reading_at clock reading)) timer_is turn.next in
+      let next : IsNextDue (timer_along w p) base (reading_at clock reading) t =
+      subst (IsNextDue (timer_along w p) base (reading_at clock reading)) timer_is turn.next in
       let same = same_then w f.history f.timers in
       record {
         seen = seen w p;
@@ -166,13 +166,13 @@ module _ (w : Course) (f : FitsIn w) where
         next = record {
           due = sym (same (is_due_on base (reading_at clock reading)) refl p t) ∙ next.due;
           ahead = λ u. sym (same (is_ahead base (reading_at clock reading) (timer_after w.script w.run t (seen w p t)).clock) refl p u)
-              ∙ ap (λ k. is_ahead base (reading_at clock reading) k (timer_then w p u)) (sym (same_then w f.history f.timers (λ x. x.clock) refl p t))
+              ∙ ap (λ k. is_ahead base (reading_at clock reading) k (timer_along w p u)) (sym (same_then w f.history f.timers (λ x. x.clock) refl p t))
               ∙ next.ahead u;
           smaller = λ u. sym (same (is_smaller base (timer_after w.script w.run t (seen w p t)).clock
               (timer_after w.script w.run t (seen w p t)).expires) refl p u)
-              ∙ ap (λ k. is_smaller base k (timer_after w.script w.run t (seen w p t)).expires (timer_then w p u))
+              ∙ ap (λ k. is_smaller base k (timer_after w.script w.run t (seen w p t)).expires (timer_along w p u))
               (sym (same_then w f.history f.timers (λ x. x.clock) refl p t))
-              ∙ ap (λ k. is_smaller base (timer_then w p t).clock k (timer_then w p u)) (sym (same_then w f.history f.timers (λ x. x.expires) refl p t))
+              ∙ ap (λ k. is_smaller base (timer_along w p t).clock k (timer_along w p u)) (sym (same_then w f.history f.timers (λ x. x.expires) refl p t))
               ∙ next.smaller u;
         };
       }
@@ -206,8 +206,8 @@ module _ (w : Course) (f : FitsIn w) where
       none_due = λ u. sym (same_then w f.history f.timers (is_due_on base (reading_at w.run.clock at)) refl last u) ∙ is.none_due u;
     }
     told_then (calls.Expire base budget) (answers.Busy shown timers t generation) is = (
-      (timer_then w last t).stamp,
-      was_so t (timer_then w last t).stamp (observations.Running generation) (record { stamp = refl; holds = is.0 }),
+      (timer_along w last t).stamp,
+      was_so t (timer_along w last t).stamp (observations.Running generation) (record { stamp = refl; holds = is.0 }),
       ap (λ k. (timer_after w.script w.run t k).base) (stamp_then w f.history f.timers last t)
           ∙ sym (same_then w f.history f.timers (λ x. x.base) refl last t) ∙ is.1,
     )
@@ -215,7 +215,7 @@ module _ (w : Course) (f : FitsIn w) where
     told_then call answer is = tt
 
   knows_from : (c : Label) (call : Call) (answer : Answer) (before after : Seen) → FitsCall w c call answer before after
-      → KnowsTimers w.script w.run c call answer
+      → FitsTimers w.script w.run c call answer
   knows_from c call answer before after fits =
       let t = w.traces c in
       record {
@@ -244,19 +244,19 @@ module _ (w : Course) (f : FitsIn w) where
 
   each_knows : (lane index k : ℕ) (before : Seen) (ps : List CallInRound) (given : List Answer) (p : CallInRound) (answer : Answer)
       → FitsLane w lane index before ps given → slice_get ps k ≡ Some p → slice_get given k ≡ Some answer
-      → KnowsTimers w.script w.run (record { lane = lane; call = index + k }) p.call answer
+      → FitsTimers w.script w.run (record { lane = lane; call = index + k }) p.call answer
   each_knows lane index k before [] given p answer fits at_p at_a = absurd (cc)
   each_knows lane index k before (q ∷ ps) [] p answer fits at_p at_a = absurd (cc)
   each_knows lane index zero before (q ∷ ps) (a ∷ more) p answer fits at_p at_a =
-      subst (λ n. KnowsTimers w.script w.run (record { lane = lane; call = n }) p.call answer) (none index)
-      (subst (λ (x : CallInRound). KnowsTimers w.script w.run (record { lane = lane; call = index }) x.call answer) (same_Some q p at_p)
-      (subst (KnowsTimers w.script w.run (record { lane = lane; call = index }) q.call) (same_Some a answer at_a)
+      subst (λ n. FitsTimers w.script w.run (record { lane = lane; call = n }) p.call answer) (none index)
+      (subst (λ (x : CallInRound). FitsTimers w.script w.run (record { lane = lane; call = index }) x.call answer) (same_Some q p at_p)
+      (subst (FitsTimers w.script w.run (record { lane = lane; call = index }) q.call) (same_Some a answer at_a)
       (knows_from (record { lane = lane; call = index }) q.call a before fits.0 fits.1)))
     where
       none : (n : ℕ) → n ≡ n + 0
       none n = omega arith
   each_knows lane index (suc k) before (q ∷ ps) (a ∷ more) p answer fits at_p at_a =
-      subst (λ n. KnowsTimers w.script w.run (record { lane = lane; call = n }) p.call answer) (further index k)
+      subst (λ n. FitsTimers w.script w.run (record { lane = lane; call = n }) p.call answer) (further index k)
       (each_knows lane (index + 1) k fits.0 ps more p answer fits.2 at_p at_a)
     where
       further : (n k : ℕ) → n + 1 + k ≡ n + suc k
@@ -269,7 +269,7 @@ module _ (w : Course) (f : FitsIn w) where
     order = λ t. order_each w f.history f.timers t f.order;
     answered = λ lane. each_answered lane 0 unseen (calls_of w.script lane) (answers_of w.run lane) (f.calls lane);
     calls = λ lane index p answer at_p at_a.
-        subst (λ n. KnowsTimers w.script w.run (record { lane = lane; call = n }) p.call answer) (from_none index)
+        subst (λ n. FitsTimers w.script w.run (record { lane = lane; call = n }) p.call answer) (from_none index)
         (each_knows lane 0 index unseen (calls_of w.script lane) (answers_of w.run lane) p answer (f.calls lane) at_p at_a);
   }
     where

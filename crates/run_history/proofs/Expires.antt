@@ -24,7 +24,7 @@ use Rattle.script_text.specs.declared.script.Callback.{Callback}
 use Rattle.script_text.specs.declared.script.Kind.TheVariants as kinds
 use Rattle.script_text.specs.declared.script.Kind.{Kind}
 use Rattle.run_history.specs.Calls.{Does, fires, IsBody, IsCallback, IsExpiryRun, IsTrigger}
-use Rattle.run_history.specs.Courses.{Course, Fired, timer_then, Trace}
+use Rattle.run_history.specs.Courses.{Course, Fired, timer_along, Trace}
 use Rattle.run_history.specs.Fits.{FitsCall, Seen}
 use Rattle.run_history.specs.Receipts.{Noted, receipt}
 use Rattle.run_history.specs.Rounds.{Spans}
@@ -368,6 +368,6 @@ pub expire_busy : {w : Course} {moves : Spans} {c : Label} {base budget at first
     → IsKept w moves c (expiring base at first last fired) notes (calls.Expire base budget) (answers.Busy at (map (λ f. f.timer) fired) timer generation)
     before after
     → first ≡ moves.first c → HaveRun w c order base at [] first fired notes last → length fired < budget
-    → (timer_then w last timer).running ≡ Some generation → (timer_then w last timer).base ≡ base
+    → (timer_along w last timer).running ≡ Some generation → (timer_along w last timer).base ≡ base
     → FitsCall w c (calls.Expire base budget) (answers.Busy at (map (λ f. f.timer) fired) timer generation) before after
 expire_busy order kept starts ran few runs there = expired order kept starts ran (λ run. (run, few)) (runs, there)

@@ -36,7 +36,7 @@ use Rattle.script_text.specs.declared.script.Call.TheVariants as calls
 use Rattle.script_text.specs.declared.script.Call.{Call}
 use Rattle.script_text.specs.declared.script.Kind.TheVariants as kinds
 use Rattle.run_history.specs.Calls.{Does}
-use Rattle.run_history.specs.Courses.{Course, entries_in, timer_then}
+use Rattle.run_history.specs.Courses.{Course, entries_in, timer_along}
 use Rattle.run_history.specs.Fits.{FitsCall, Seen}
 use Rattle.run_history.specs.Receipts.{Noted}
 use Rattle.run_history.specs.Rounds.{Spans}
@@ -63,7 +63,7 @@ module _ (w : Course) (seen later : List TimerEntry) (is : entries_in w ≡ seen
   pub refused_seen : (number : ℕ) (on_clock : Bool) → Holds (state_seen w.script seen i) observations.Spent → (state_seen w.script seen i).moving ≡ false
       → IsTrueStart w i number on_clock armings.Unarmed (length seen)
   refused_seen number on_clock full still =
-      refusal_seen (timer_then w (length seen) i).stamp (sym (ap (λ (u : Timer). u.stamp) (timer_seen w seen later is i))) full still
+      refusal_seen (timer_along w (length seen) i).stamp (sym (ap (λ (u : Timer). u.stamp) (timer_seen w seen later is i))) full still
 
   -- what it tells of a start that was made: the object after it has armed the timer as the timer was started
   pub started_seen : (number : ℕ) (on_clock : Bool) (generation : ℕ) (armed : ArmedAs) → (state_seen w.script seen i).stamp ≡ generation
@@ -90,7 +90,7 @@ module _ (w : Course) (seen later : List TimerEntry) (is : entries_in w ≡ seen
       → w.spans i number ≡ ((state_seen w.script early i).stamp, (state_seen w.script seen i).stamp) → IsSpan w (length early) i number (length seen)
   span_seen early rest was number span =
       span ∙ ap (λ (u : Timer). (u.stamp, (state_seen w.script seen i).stamp)) (sym (timer_seen w early rest was i))
-      ∙ ap (λ (u : Timer). ((timer_then w (length early) i).stamp, u.stamp)) (sym (timer_seen w seen later is i))
+      ∙ ap (λ (u : Timer). ((timer_along w (length early) i).stamp, u.stamp)) (sym (timer_seen w seen later is i))
 
 -- ---- entries of its timer, and then the object's
 
@@ -149,7 +149,7 @@ but_made ds i number entry = all_entered-append ds (Made i number entry ∷ []) 
 
 -- how a settime found its timer disarmed: it cancelled it, or it was idle when the call looked at it, holding the object
 abbrev pub FoundIdle : Course → ℕ → Option (ℕ × ℕ) → ℕ → Type 0
-FoundIdle w timer None begin = Holds (timer_then w begin timer) observations.Idle
+FoundIdle w timer None begin = Holds (timer_along w begin timer) observations.Idle
 FoundIdle w timer (Some cancel) begin = Unit
 
 -- what a settime of a reading that makes an entry knows at its end, between its first moment and its last

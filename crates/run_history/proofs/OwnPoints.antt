@@ -23,7 +23,7 @@ use Rattle.record_text.specs.declared.record.TimerLine.{TimerLine}
 use Rattle.script_text.specs.Actions.{Action, also, entered, own}
 use Rattle.script_text.specs.Histories.{clock_of, entry_shown, history_from, history_of, lines_of_timer, reading_at, timer_after, timer_labels}
 use Rattle.script_text.specs.Order.{is_before, IsInOrder, made_by}
-use Rattle.run_history.specs.Courses.{clocks_of, Course, entries_in, entry_of_move, IsOneHistory, labels, Move, moves_on, timer_then}
+use Rattle.run_history.specs.Courses.{clocks_of, Course, entries_in, entry_of_move, IsOneHistory, labels, Move, moves_on, timer_along}
 use Rattle.run_history.specs.EachTimer.{IsOwnPoint, WasSo}
 use Rattle.run_history.specs.Traces.{all_entered, own_moves}
 use Rattle.run_history.specs.Truths.{IsMoment, Saw}
@@ -82,7 +82,7 @@ nothing_taken o n (e ∷ es) is = absurd (cc)
 
 module _ (w : Course) (one : IsOneHistory w) (timers : length w.run.timers ≡ length w.script.timers) where
   -- law: a timer has made as many entries as stand in the order
-  pub stamp_then : (n t : ℕ) → (timer_then w n t).stamp ≡ seen w n t
+  pub stamp_then : (n t : ℕ) → (timer_along w n t).stamp ≡ seen w n t
   stamp_then n t =
       stamp_counts w.script.limit (clocks_of w.script) (take n (entries_in w)) t
       ∙ ap (λ xs. length (entries_of t xs)) (take-map (entry_of_move w.run.clock) n w.moves)
@@ -120,11 +120,11 @@ module _ (w : Course) (one : IsOneHistory w) (timers : length w.run.timers ≡ l
       (begins t)
 
   -- at each moment a timer is as after so many of its own entries; one that isn't there is as it began
-  state_then : (n t : ℕ) → (timer_then w n t ≡ timer_after w.script w.run t (seen w n t))
-      ⊎ ((timer_then w n t ≡ no_timer) × (timer_after w.script w.run t (seen w n t) ≡ opening clocks.Monotonic w.script.limit))
+  state_then : (n t : ℕ) → (timer_along w n t ≡ timer_after w.script w.run t (seen w n t))
+      ⊎ ((timer_along w n t ≡ no_timer) × (timer_after w.script w.run t (seen w n t) ≡ opening clocks.Monotonic w.script.limit))
   state_then n t =
       let first = timer_at (openings (clocks_of w.script) w.script.limit) t in
-      let is : timer_then w n t ≡ after_all first (take (seen w n t) (history_of w.run t)) =
+      let is : timer_along w n t ≡ after_all first (take (seen w n t) (history_of w.run t)) =
       after_entries-entries_of (first_system (openings (clocks_of w.script) w.script.limit)) t (take n (entries_in w))
       ∙ ap (after_all first) (early_history n t) in
       ⊎_elim
@@ -138,10 +138,10 @@ module _ (w : Course) (one : IsOneHistory w) (timers : length w.run.timers ≡ l
 
   -- law: so what doesn't hang on the limit is the same of both
   pub same_then : {X : Type 0} (f : Timer → X) → f no_timer ≡ f (opening clocks.Monotonic w.script.limit) → (n t : ℕ)
-      → f (timer_then w n t) ≡ f (timer_after w.script w.run t (seen w n t))
+      → f (timer_along w n t) ≡ f (timer_after w.script w.run t (seen w n t))
   same_then f none n t = ⊎_elim (λ is. ap f is) (λ is. ap f is.0 ∙ none ∙ sym (ap f is.1)) (state_then n t)
 
-  holds_then : (n t : ℕ) (observation : Observation) → Holds (timer_then w n t) observation → Holds (timer_after w.script w.run t (seen w n t)) observation
+  holds_then : (n t : ℕ) (observation : Observation) → Holds (timer_along w n t) observation → Holds (timer_after w.script w.run t (seen w n t)) observation
   holds_then n t observation holds = ⊎_elim
       (λ is. subst (λ x. Holds x observation) is holds)
       (λ is. subst (λ x. Holds x observation) (sym is.1) (of_none observation (subst (λ x. Holds x observation) is.0 holds)))
@@ -216,7 +216,7 @@ module _ (w : Course) (one : IsOneHistory w) (timers : length w.run.timers ≡ l
 
   -- law: a claim was in turn at its place
   pub turn_at : (p : ℕ) (m : Move) (base reading generation : ℕ) → slice_get w.moves p ≡ Some m → m.line.entry ≡ entries.Claim base reading generation
-      → IsTurn (timer_then w p) (armed_in (clocks_of w.script) w.script.limit (take p (entries_in w))) base (reading_at w.run.clock reading) m.timer
+      → IsTurn (timer_along w p) (armed_in (clocks_of w.script) w.script.limit (take p (entries_in w))) base (reading_at w.run.clock reading) m.timer
   turn_at p m base reading generation at is =
       (one.history (take p (entries_in w)) _ (entry_of_move w.run.clock m) (split_at (entries_in w) p (entry_of_move w.run.clock m)
       (at_map (entry_of_move w.run.clock) w.moves p m at))).turn base (reading_at w.run.clock reading) (ap (λ x. (entry_shown w.run.clock m.before x).event) is)

@@ -9,7 +9,7 @@ use Rattle.seq_timer.specs.declared.observation.Observation.{Observation}
 use Rattle.seq_timer.specs.declared.system.TimerEntry.{TimerEntry}
 use Rattle.script_text.specs.Histories.{reading_at}
 use Rattle.script_text.specs.declared.script.Script.{Script}
-use Rattle.run_history.specs.Courses.{clocks_of, Course, entries_in, timer_then}
+use Rattle.run_history.specs.Courses.{clocks_of, Course, entries_in, timer_along}
 use Rattle.run_history.specs.Truths.{IsDone, Saw}
 
 -- a timer after what a pass has seen of all timers
@@ -18,7 +18,7 @@ state_seen s seen t = (system_of (clocks_of s) s.limit seen).timers t
 
 module _ (w : Course) (seen later : List TimerEntry) (is : entries_in w ≡ seen ++ later) where
   -- it is the timer after so many entries of the order
-  pub timer_seen : (t : ℕ) → timer_then w (length seen) t ≡ state_seen w.script seen t
+  pub timer_seen : (t : ℕ) → timer_along w (length seen) t ≡ state_seen w.script seen t
   timer_seen t = ap (λ xs. state_seen w.script xs t) (ap (take (length seen)) is ∙ take-append_seam seen later)
 
   pub saw_from : (t number : ℕ) (observation : Observation) → (state_seen w.script seen t).stamp ≡ number → Holds (state_seen w.script seen t) observation

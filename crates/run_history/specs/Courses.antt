@@ -80,8 +80,8 @@ abbrev pub clocks_of : Script → List ClockId
 clocks_of s = map (λ d. d.clock) s.timers
 
 -- a timer after so many entries of all timers
-abbrev pub timer_then : Course → ℕ → ℕ → Timer
-timer_then w n t = (system_of (clocks_of w.script) w.script.limit (take n (entries_in w))).timers t
+abbrev pub timer_along : Course → ℕ → ℕ → Timer
+timer_along w n t = (system_of (clocks_of w.script) w.script.limit (take n (entries_in w))).timers t
 
 -- the order is one of all entries, and all together are one history that a library on one thread gives: each is a step of its timer, is sent
 -- only to a base that is there, and each claim takes the timer whose turn it is

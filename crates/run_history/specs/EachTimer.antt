@@ -65,7 +65,7 @@ WasTold s r c at actions (calls.Settime t flags value interval) (answers.Unarmed
 WasTold s r c at actions call answer = Unit
 
 -- one call with its answer: what it did is what the record shows of each timer, and what it was told in it and by it was so
-pub record KnowsTimers (s : Script) (r : RunRecord) (c : Label) (call : Call) (answer : Answer) : Type 0 where
+pub record FitsTimers (s : Script) (r : RunRecord) (c : Label) (call : Call) (answer : Answer) : Type 0 where
   pub at : ℕ
   pub fired : List Fired
   pub actions : List Action
@@ -89,4 +89,4 @@ pub record HasTimers (s : Script) (r : RunRecord) : Type 0 where
   -- each lane has as many answers as calls, and each of them is right of each timer
   pub answered : (lane : ℕ) → length (answers_of r lane) ≡ length (calls_of s lane)
   pub calls : (lane index : ℕ) (p : CallInRound) (answer : Answer) → slice_get (calls_of s lane) index ≡ Some p
-      → slice_get (answers_of r lane) index ≡ Some answer → KnowsTimers s r (record { lane = lane; call = index }) p.call answer
+      → slice_get (answers_of r lane) index ≡ Some answer → FitsTimers s r (record { lane = lane; call = index }) p.call answer

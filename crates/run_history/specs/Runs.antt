@@ -25,7 +25,7 @@ pub record CallLog : Type 0 where
   pub objects : ℕ → ℕ × ℕ
 
 -- of each list how long it was when each round began: of all timers' entries, of the clock's writes, of each object's entries
-pub record Starts : Type 0 where
+pub record RoundStarts : Type 0 where
   pub moves : ℕ → ℕ
   pub clock : ℕ → ℕ
   pub objects : ℕ → ℕ → ℕ
@@ -37,7 +37,7 @@ pub record Ending : Type 0 where
   pub order : List TimerEntry
   pub logs : Label → CallLog
   pub spans : ℕ → ℕ → ℕ × ℕ
-  pub starts : Starts
+  pub starts : RoundStarts
 
 -- the receipts of a call
 abbrev pub notes_in : Ending → Label → List Noted

@@ -24,7 +24,7 @@ use Rattle.script_text.specs.Actions.{Action, Entered, Looked, Made, Skipped, ma
 use Rattle.script_text.specs.Told.{IsBelowLimit, IsOutOfRange, IsArmedLike, observed}
 use Rattle.seq_timer.specs.Tables.{is_due_on, runs_on}
 use Rattle.run_history.specs.Traces.{all_entered}
-use Rattle.run_history.specs.Courses.{Course, labels, timer_then}
+use Rattle.run_history.specs.Courses.{Course, labels, timer_along}
 use Rattle.run_history.specs.Courses.{Fired}
 
 -- a number of entries of all timers is one at which the call has done so much, and that it may have seen
@@ -33,12 +33,12 @@ IsMoment w c before n = IsPoint w.script c (length (all_entered before)) n (labe
 
 -- at this moment the timer had so many entries, and the observation of it held
 pub record Saw (w : Course) (timer number : ℕ) (observation : Observation) (n : ℕ) : Type 0 where
-  pub stamp : (timer_then w n timer).stamp ≡ number
-  pub holds : Holds (timer_then w n timer) observation
+  pub stamp : (timer_along w n timer).stamp ≡ number
+  pub holds : Holds (timer_along w n timer) observation
 
 -- a start was refused: the timer's history was full, and the timer was not on the move between bases
 abbrev pub SawRefusal : Course → ℕ → ℕ → ℕ → Type 0
-SawRefusal w timer stamp n = Saw w timer stamp observations.Spent n × ((timer_then w n timer).moving ≡ false)
+SawRefusal w timer stamp n = Saw w timer stamp observations.Spent n × ((timer_along w n timer).moving ≡ false)
 
 -- a number of entries of an object is one that the call, having done so much, may have seen
 abbrev pub IsObjectPoint : Course → Label → List Action → ℕ → ℕ → Type 0
@@ -51,15 +51,15 @@ SawFull w c before i stamp = IsObjectPoint w c before i stamp × (w.script.limit
 -- a settime disarmed its timer first: it cancelled it, or it was idle at the call's first moment, before which the call had made no entry
 abbrev pub DisarmedFirst : Course → ℕ → List Action → ℕ → Type 0
 DisarmedFirst w timer (Entered t number (entries.Cancel generation) ∷ actions) first = Unit
-DisarmedFirst w timer actions first = Holds (timer_then w first timer) observations.Idle
+DisarmedFirst w timer actions first = Holds (timer_along w first timer) observations.Idle
 
 -- what an entry of an object tells of its timer's start is true
 abbrev pub IsTrueStart : Course → ℕ → ℕ → Bool → Armed → ℕ → Type 0
 IsTrueStart w i number on_clock armings.None n = Unit
 IsTrueStart w i number on_clock (armings.Generation generation) n =
-    ((timer_then w n i).stamp ≡ generation)
-    × IsArmedLike on_clock (object_armed_after w.script w.run i number (kind_of w.script i)) generation (timer_then w n i)
-IsTrueStart w i number on_clock armings.Unarmed n = SawRefusal w i (timer_then w n i).stamp n
+    ((timer_along w n i).stamp ≡ generation)
+    × IsArmedLike on_clock (object_armed_after w.script w.run i number (kind_of w.script i)) generation (timer_along w n i)
+IsTrueStart w i number on_clock armings.Unarmed n = SawRefusal w i (timer_along w n i).stamp n
 
 -- the same, of each entry of an object
 abbrev pub IsTrueEntry : Course → ℕ → ℕ → ObjectEntry → ℕ → Type 0
@@ -72,12 +72,12 @@ IsTrueEntry w i number (object_entries.Gettime reading arm left interval) n = Is
 -- An entry of an object has a span: how many entries the object's timer had where the call found it, and at a moment after the call's own entries
 -- of it. That of an expiry is said at IsClaimSpan.
 abbrev pub IsSpan : Course → ℕ → ℕ → ℕ → ℕ → Type 0
-IsSpan w first i number n = w.spans i number ≡ ((timer_then w first i).stamp, (timer_then w n i).stamp)
+IsSpan w first i number n = w.spans i number ≡ ((timer_along w first i).stamp, (timer_along w n i).stamp)
 
 -- The span of a call that started nothing is empty. The call had seen no entry of the timer behind it, unless the timer's function ran then.
 pub record IsEmptySpan (w : Course) (i number n : ℕ) : Type 0 where
   pub empty : (w.spans i number).0 ≡ (w.spans i number).1
-  pub seen : (timer_then w n i).running ≡ None → (timer_then w n i).stamp ≤ (w.spans i number).0
+  pub seen : (timer_along w n i).running ≡ None → (timer_along w n i).stamp ≤ (w.spans i number).0
 
 -- the span of a call that starts the timer only where it has expired
 abbrev pub IsSpanBy : Course → ℕ → ℕ → ℕ → Armed → ℕ → Type 0
@@ -113,8 +113,8 @@ AreTrue w c first from before (d ∷ ds) last = (n : ℕ) × (from ≤ n) × IsT
 
 -- no function ran on the base, and no timer was due there
 pub record IsDone (w : Course) (reading base n : ℕ) : Type 0 where
-  pub free : (t : ℕ) → runs_on base (timer_then w n t) ≡ false
-  pub none_due : (t : ℕ) → is_due_on base (reading_at w.run.clock reading) (timer_then w n t) ≡ false
+  pub free : (t : ℕ) → runs_on base (timer_along w n t) ≡ false
+  pub none_due : (t : ℕ) → is_due_on base (reading_at w.run.clock reading) (timer_along w n t) ≡ false
 
 -- An answer that tells of a state tells of one that the call may have seen: of timers and bases at its last moment, and, for a settime that cancelled
 -- nothing, of an idle timer at its first; of an object after so many of its entries. A write is refused only while the clock may take more of them,
@@ -127,7 +127,7 @@ IsSeen w first last c reading actions (calls.Peek timer) (answers.Peek stamp bas
     Saw w timer stamp (observations.Peek (record { stamp = stamp; base = base; enqueued = enqueued; running = running; moving = moving })) last
 IsSeen w first last c reading actions (calls.Expire base budget) (answers.Done shown timers) = IsDone w reading base last
 IsSeen w first last c reading actions (calls.Expire base budget) (answers.Busy shown timers timer generation) =
-    ((timer_then w last timer).running ≡ Some generation) × ((timer_then w last timer).base ≡ base)
+    ((timer_along w last timer).running ≡ Some generation) × ((timer_along w last timer).base ≡ base)
 IsSeen w first last c reading actions (calls.Clock write) (answers.Range would_be) =
     IsOutOfRange reading would_be (greatest (after_write (reading_at w.run.clock reading) write))
 IsSeen w first last c reading actions (calls.Settime timer flags value interval) (answers.Spent stamp) = SawFull w c actions timer stamp

@@ -7,23 +7,23 @@ use Rattle.record_text.specs.declared.record.Entry.TheVariants as entries
 use Rattle.record_text.specs.declared.record.RunRecord.{RunRecord}
 
 -- an entry is counted as one
-abbrev pub entries_in : Entry → ℕ
-entries_in entry = 1
+abbrev pub entry_count : Entry → ℕ
+entry_count entry = 1
 
 -- a claim is counted as one, and no other entry
-abbrev pub claims_in : Entry → ℕ
-claims_in (entries.Claim base reading generation) = 1
-claims_in other = 0
+abbrev pub claim_count : Entry → ℕ
+claim_count (entries.Claim base reading generation) = 1
+claim_count other = 0
 
 -- a cancel is counted as one, and no other entry
-abbrev pub cancels_in : Entry → ℕ
-cancels_in (entries.Cancel generation) = 1
-cancels_in other = 0
+abbrev pub cancel_count : Entry → ℕ
+cancel_count (entries.Cancel generation) = 1
+cancel_count other = 0
 
 -- the periods by which an entry forwarded its timer
-abbrev pub periods_in : Entry → ℕ
-periods_in (entries.Forward reading interval count expires) = count
-periods_in other = 0
+abbrev pub period_count : Entry → ℕ
+period_count (entries.Forward reading interval count expires) = count
+period_count other = 0
 
 -- what all entries of all timers come to
 abbrev pub of_entries : (Entry → ℕ) → RunRecord → ℕ
@@ -40,8 +40,8 @@ summary_of r =
     ++ (named (codes "lanes") (length r.answers)
     ++ (named (codes "calls") (sum_by length r.answers)
     ++ (named (codes "clock") (length r.clock)
-    ++ (named (codes "entries") (of_entries entries_in r)
-    ++ (named (codes "claims") (of_entries claims_in r)
-    ++ (named (codes "cancels") (of_entries cancels_in r)
-    ++ (named (codes "periods") (of_entries periods_in r)
+    ++ (named (codes "entries") (of_entries entry_count r)
+    ++ (named (codes "claims") (of_entries claim_count r)
+    ++ (named (codes "cancels") (of_entries cancel_count r)
+    ++ (named (codes "periods") (of_entries period_count r)
     ++ codes "end\n")))))))

@@ -2,7 +2,7 @@
 ghost use Rattle.std.specs.Prelude.{◌≡◌, ◌+◌, ℕ, IfOk, length};
 ghost use Rattle.std.specs.List.{sum_by};
 ghost use Rattle.record_text.specs.declared.record.Entry.{Entry};
-ghost use Rattle.script_text.specs.Summary.{cancels_in, claims_in, entries_in, periods_in, summary_of};
+ghost use Rattle.script_text.specs.Summary.{cancel_count, claim_count, entry_count, period_count, summary_of};
 
 use record_text::{Answer, Entry, ItemList, RunRecord, TimerLine};
 use std::alloc::{AllocError, Global};
@@ -67,7 +67,7 @@ struct Cancels;
 struct Periods;
 
 impl Amount for Entries {
-    ghost amount = { entries_in };
+    ghost amount = { entry_count };
 
     fn amount(_entry: Entry) -> u64 {
         1
@@ -75,7 +75,7 @@ impl Amount for Entries {
 }
 
 impl Amount for Claims {
-    ghost amount = { claims_in };
+    ghost amount = { claim_count };
 
     fn amount(entry: Entry) -> u64 {
         match entry {
@@ -86,7 +86,7 @@ impl Amount for Claims {
 }
 
 impl Amount for Cancels {
-    ghost amount = { cancels_in };
+    ghost amount = { cancel_count };
 
     fn amount(entry: Entry) -> u64 {
         match entry {
@@ -97,7 +97,7 @@ impl Amount for Cancels {
 }
 
 impl Amount for Periods {
-    ghost amount = { periods_in };
+    ghost amount = { period_count };
 
     fn amount(entry: Entry) -> u64 {
         match entry {

@@ -22,7 +22,7 @@ use Rattle.timer_objects.specs.Cells.{cell_meaning, spanned}
 use Rattle.timer_objects.specs.Known.{Enters, HoldsObject, IsObjectsPass, MayEnter, ObjectsOf, ObjectsPass, Suits, decl_at, receipt_of, row_of}
 use Rattle.timer_objects.specs.Calls.{BearsStart, Caller, HasWaited, SettimeTells, settime_call, wanted_by}
 use Rattle.timer_objects.specs.Valid.{IsSettimeReply}
-use Rattle.timer_objects.specs.Rearming.{Ends, IsAskedOf, KeepsNames, Makes, Sets, call_asked, settime_with, start_asked}
+use Rattle.timer_objects.specs.Rearming.{Ends, IsAskedOf, KeepsNames, MakesEntry, Sets, call_asked, settime_with, start_asked}
 use Rattle.timer_objects.proofs.Bearing.{allows, bears, replies_to}
 use Rattle.timer_objects.proofs.Entering.{enters_call}
 use Rattle.timer_objects.proofs.Restarting.{spans}
@@ -75,7 +75,7 @@ module _ (x : ObjectsOf) (o : Opening) (v w : KnownOfTimers) (p m : ObjectsPass)
 
     pub makes : (asked : Asked) → IsAskedOf d.kind asked → Sets o v w id asked h.state d.base arm span log log'
         → Enters m q h (spanned (call_asked d.kind asked arm) span) reply
-        → olog' ≡ olog ++ receipt_of h (spanned (call_asked d.kind asked arm) span) ∷ [] → Makes x o begun done id asked reply
+        → olog' ≡ olog ++ receipt_of h (spanned (call_asked d.kind asked arm) span) ∷ [] → MakesEntry x o begun done id asked reply
     makes (askeds.Settime s) fits sets e noted =
         let c = settime_with s arm in (
           subst IsSettimeReply (sym e.reply) (settime_replies d x.limit h.stamp h.state.object c holds_it fits.0),

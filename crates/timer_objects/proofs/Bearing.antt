@@ -25,11 +25,11 @@ use Rattle.timer_objects.specs.declared.wanting.Rearming.{Rearming}
 use Rattle.timer_objects.specs.declared.wanting.Rearming.TheVariants as rearmings
 use Rattle.timer_objects.specs.Steps.{IsObjectOf, ObjectAllows, object_answer, object_step}
 use Rattle.timer_objects.specs.Calls.{BearsRestart, RearmsFor, phase_of, rearming_call, wanted_by}
-use Rattle.timer_objects.specs.Rearming.{RepliesTo, kind_of}
+use Rattle.timer_objects.specs.Rearming.{RepliesTo, rearming_kind}
 use Rattle.timer_objects.proofs.Restarting.{expiry}
 
 module _ (d : Decl) (limit n : ℕ) (reading : ClockReading) (arm : Arm) where
-  pub allows : (r : Rearming) (x : Object) → IsObjectOf d limit n x → d.kind ≡ kind_of r → n < limit → IsOutcomeOf arm (wanted_by r x reading)
+  pub allows : (r : Rearming) (x : Object) → IsObjectOf d limit n x → d.kind ≡ rearming_kind r → n < limit → IsOutcomeOf arm (wanted_by r x reading)
       → ObjectAllows x (rearming_call r reading arm)
   allows rearmings.Accepting objects.Raw is k few outcome = cc
   allows rearmings.Accepting (objects.Posix t) is k few outcome = (omega (arith, is.3, is.4), outcome)
@@ -41,7 +41,7 @@ module _ (d : Decl) (limit n : ℕ) (reading : ClockReading) (arm : Arm) where
   allows rearmings.Getting (objects.Posix t) is k few outcome = cc
   allows rearmings.Getting (objects.Fd t) is k few outcome = (omega (arith, is.3, is.4), outcome)
 
-  pub replies_to : (r : Rearming) (x : Object) (reply : ObjectReply) → IsObjectOf d limit n x → d.kind ≡ kind_of r
+  pub replies_to : (r : Rearming) (x : Object) (reply : ObjectReply) → IsObjectOf d limit n x → d.kind ≡ rearming_kind r
       → reply ≡ object_answer x (rearming_call r reading arm) → RepliesTo r reply
   replies_to rearmings.Accepting objects.Raw reply is k e = cc
   replies_to rearmings.Accepting (objects.Posix t) reply is k e = (_, e, λ n. unspent n t.pending (overrun_of (periods_in t.phase t.interval reading)))

@@ -213,7 +213,7 @@ rearming_call rearmings.Getting reading arm = calls.Fd (fd_calls.Gettime reading
 
 -- Such a call was made: while the object was locked its timer was started in the mode that keeps its clock, where the call wants that; then the
 -- object's entry was made.
-pub record MakesRearming (x : ObjectsOf) (o : Opening) (old new : Caller) (id : ℕ) (r : Rearming) (reading : ClockReading) (reply : ObjectReply) : Type 0 where
+pub record RearmingMade (x : ObjectsOf) (o : Opening) (old new : Caller) (id : ℕ) (r : Rearming) (reading : ClockReading) (reply : ObjectReply) : Type 0 where
   pub arm : Arm
   pub span : Span
   pub enters : EntersCall x old new id (spanned (rearming_call r reading arm) span) reply
@@ -225,20 +225,20 @@ pub record MakesRearming (x : ObjectsOf) (o : Opening) (old new : Caller) (id : 
 abbrev pub Accepts : ObjectsOf → Opening → Caller → Caller → ℕ → ClockReading → AcceptAnswer → Type 0
 Accepts x o old new id reading (acceptances.Spent n) = FindsFull x old new id n
 Accepts x o old new id reading (acceptances.Accepted overrun) =
-    MakesRearming x o old new id rearmings.Accepting reading (replies.Posix (posix_replies.Accept (acceptances.Accepted overrun)))
+    RearmingMade x o old new id rearmings.Accepting reading (replies.Posix (posix_replies.Accept (acceptances.Accepted overrun)))
 Accepts x o old new id reading acceptances.NoSignal =
-    MakesRearming x o old new id rearmings.Accepting reading (replies.Posix (posix_replies.Accept acceptances.NoSignal))
+    RearmingMade x o old new id rearmings.Accepting reading (replies.Posix (posix_replies.Accept acceptances.NoSignal))
 
 -- a read: a buffer that is too short is refused first, and nothing is other than before
 abbrev pub ReadsFd : ObjectsOf → Opening → Caller → Caller → ℕ → ℕ → ClockReading → ReadAnswer → Type 0
 ReadsFd x o old new id len reading reads.ShortBuffer = (len < count_length) × (new ≡ old)
 ReadsFd x o old new id len reading (reads.Spent n) = (count_length ≤ len) × FindsFull x old new id n
 ReadsFd x o old new id len reading (reads.Count total) =
-    (count_length ≤ len) × MakesRearming x o old new id rearmings.Reading reading (replies.Fd (fd_replies.Read (reads.Count total)))
+    (count_length ≤ len) × RearmingMade x o old new id rearmings.Reading reading (replies.Fd (fd_replies.Read (reads.Count total)))
 ReadsFd x o old new id len reading reads.Canceled =
-    (count_length ≤ len) × MakesRearming x o old new id rearmings.Reading reading (replies.Fd (fd_replies.Read reads.Canceled))
+    (count_length ≤ len) × RearmingMade x o old new id rearmings.Reading reading (replies.Fd (fd_replies.Read reads.Canceled))
 ReadsFd x o old new id len reading reads.Again =
-    (count_length ≤ len) × MakesRearming x o old new id rearmings.Reading reading (replies.Fd (fd_replies.Read reads.Again))
+    (count_length ≤ len) × RearmingMade x o old new id rearmings.Reading reading (replies.Fd (fd_replies.Read reads.Again))
 
 -- ---- looks
 
@@ -257,7 +257,7 @@ Gettimes x o old new id reading kinds.Posix (gettimes.Left left interval stamp) 
     (t : _) × LooksAtObject old new id (objects.Posix t) stamp × (record { left = left; interval = interval } ≡ setting_of t reading)
 Gettimes x o old new id reading kinds.Posix (gettimes.Spent stamp) = ⊥
 Gettimes x o old new id reading kinds.Fd (gettimes.Left left interval stamp) =
-    MakesRearming x o old new id rearmings.Getting reading (replies.Fd (fd_replies.Gettime (lefts.Left left interval))) × (stamp ≡ length (seen_of new.objects id))
+    RearmingMade x o old new id rearmings.Getting reading (replies.Fd (fd_replies.Gettime (lefts.Left left interval))) × (stamp ≡ length (seen_of new.objects id))
 Gettimes x o old new id reading kinds.Fd (gettimes.Spent n) = FindsFull x old new id n
 Gettimes x o old new id reading kinds.Raw a = ⊥
 

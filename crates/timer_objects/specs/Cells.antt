@@ -7,7 +7,7 @@ use Rattle.timer_objects.specs.declared.cell.Span.{Span}
 use Rattle.timer_objects.specs.declared.object.ObjectCall.{ObjectCall}
 use Rattle.timer_objects.specs.declared.object.Decl.{Decl}
 use Rattle.timer_objects.specs.declared.object.ObjectReply.{ObjectReply}
-use Rattle.timer_objects.specs.Steps.{ObjectAllows, object_answer, object_step, opened}
+use Rattle.timer_objects.specs.Steps.{ObjectAllows, object_answer, object_step, opened_object}
 
 -- a call with its span
 abbrev pub spanned : ObjectCall → Span → SpannedCall
@@ -31,7 +31,7 @@ cell_meaning = record {
 
 -- what the row keeps of an object that was just made
 abbrev pub opened_cell : ℕ → Decl → ObjectCell
-opened_cell limit decl = record { object = opened limit decl; last = 0 }
+opened_cell limit decl = record { object = opened_object limit decl; last = 0 }
 
 -- the same of each object
 abbrev pub opened_cells : List Decl → ℕ → List ObjectCell

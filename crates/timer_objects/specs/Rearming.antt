@@ -28,7 +28,7 @@ use Rattle.timer_objects.specs.Known.{IsObjectsPass, ObjectsOf, ObjectsPass, Sui
 use Rattle.timer_objects.specs.Calls.{
   Caller,
   FindsFull,
-  MakesRearming,
+  RearmingMade,
   RearmsFor,
   SettimeMade,
   SettimeTells,
@@ -64,16 +64,16 @@ pub record KeepsNames (old new : Caller) : Type 0 where
   pub objects : new.objects.knows.pass.id ≡ old.objects.knows.pass.id
 
 -- the kind of object that has such a call
-abbrev pub kind_of : Rearming → Kind
-kind_of rearmings.Accepting = kinds.Posix
-kind_of rearmings.Reading = kinds.Fd
-kind_of rearmings.Getting = kinds.Fd
+abbrev pub rearming_kind : Rearming → Kind
+rearming_kind rearmings.Accepting = kinds.Posix
+rearming_kind rearmings.Reading = kinds.Fd
+rearming_kind rearmings.Getting = kinds.Fd
 
 -- the history of an object that has one has room for an entry
-abbrev pub HasRoom : Object → Type 0
-HasRoom objects.Raw = Unit
-HasRoom (objects.Posix t) = t.stamp < t.limit
-HasRoom (objects.Fd t) = t.stamp < t.limit
+abbrev pub HasEntryRoom : Object → Type 0
+HasEntryRoom objects.Raw = Unit
+HasEntryRoom (objects.Posix t) = t.stamp < t.limit
+HasEntryRoom (objects.Fd t) = t.stamp < t.limit
 
 -- an entry of such a call has a reply of this form: a refusal makes no entry
 abbrev pub RepliesTo : Rearming → ObjectReply → Type 0
@@ -88,7 +88,7 @@ RepliesTo rearmings.Getting reply = (left interval : ℕ) × (reply ≡ replies.
 -- a call that an object of this kind has; the arguments of a settime are valid
 abbrev pub IsAskedOf : Kind → Asked → Type 0
 IsAskedOf kind (askeds.Settime v) = (kind ≢ kinds.Raw) × IsValidSettime kind v
-IsAskedOf kind (askeds.Rearming r reading) = kind ≡ kind_of r
+IsAskedOf kind (askeds.Rearming r reading) = kind ≡ rearming_kind r
 
 -- a caller has passes of these timers and objects, and asks this of an object
 pub record MayAsk (x : ObjectsOf) (timers : BaseRowOf) (pass : PassOf) (objects_pass : ObjectsPass) (id : ℕ) (asked : Asked) : Type 0 where
@@ -140,15 +140,15 @@ IsUnsettable o k t (askeds.Settime s) cell = IsHindered o k t cell.last
 IsUnsettable o k t (askeds.Rearming r reading) cell = IsSome (wanted_by r cell.object reading) × (stamp_seen o k t < cell.last)
 
 -- a call made an entry with this reply
-abbrev pub Makes : ObjectsOf → Opening → Caller → Caller → ℕ → Asked → ObjectReply → Type 0
-Makes x o old new id (askeds.Settime v) reply =
+abbrev pub MakesEntry : ObjectsOf → Opening → Caller → Caller → ℕ → Asked → ObjectReply → Type 0
+MakesEntry x o old new id (askeds.Settime v) reply =
     IsSettimeReply reply × ((a : SettimeAnswer) → SettimeTells reply a → SettimeMade x o old new id v.flags v.value v.interval v.reading a)
-Makes x o old new id (askeds.Rearming r reading) reply = MakesRearming x o old new id r reading reply × RepliesTo r reply
+MakesEntry x o old new id (askeds.Rearming r reading) reply = RearmingMade x o old new id r reading reply × RepliesTo r reply
 
 -- a call found the object's history full, or made entry number `n`
 abbrev pub Ends : ObjectsOf → Opening → Caller → Caller → ℕ → Asked → Ended → Type 0
 Ends x o old new id asked (ends.Full n) = FindsFull x old new id n
-Ends x o old new id asked (ends.Made n reply) = Makes x o old new id asked reply × (n ≡ length (seen_of new.objects id))
+Ends x o old new id asked (ends.Made n reply) = MakesEntry x o old new id asked reply × (n ≡ length (seen_of new.objects id))
 
 -- ---- looks
 

@@ -22,8 +22,8 @@ opened_as kinds.Posix clock base limit = objects.Posix (posix_opening clock base
 opened_as kinds.Fd clock base limit = objects.Fd (fd_opening clock base limit)
 
 -- the same of its declaration
-abbrev pub opened : ℕ → Decl → Object
-opened limit decl = opened_as decl.kind decl.clock decl.base limit
+abbrev pub opened_object : ℕ → Decl → Object
+opened_object limit decl = opened_as decl.kind decl.clock decl.base limit
 
 -- the object of this declaration and limit, with so many entries
 abbrev pub IsObjectOf : Decl → ℕ → ℕ → Object → Type 0

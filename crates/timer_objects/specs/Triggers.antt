@@ -28,9 +28,9 @@ trigger_of kinds.Posix c reading = Some (calls.Posix (posix_calls.Trigger c.gene
 trigger_of kinds.Fd c reading = Some (calls.Fd (fd_calls.Trigger c.generation reading))
 
 -- what a trigger answers where the object's history is full, with so many entries
-abbrev pub refused_at : ObjectCall → ℕ → ObjectReply
-refused_at (calls.Posix c) n = replies.Posix (posix_replies.Trigger (triggers.Spent n))
-refused_at (calls.Fd c) n = replies.Fd (fd_replies.Trigger (triggers.Spent n))
+abbrev pub trigger_refused : ObjectCall → ℕ → ObjectReply
+trigger_refused (calls.Posix c) n = replies.Posix (posix_replies.Trigger (triggers.Spent n))
+trigger_refused (calls.Fd c) n = replies.Fd (fd_replies.Trigger (triggers.Spent n))
 
 -- the span of a claim's own entry
 abbrev pub span_of : ClaimNumbers → Span
@@ -50,7 +50,7 @@ module _ (x : ObjectsOf) (p q : ObjectsPass) (log log' : List ObjectReceipt) whe
     pub reads : ReadsValue cell_meaning p q id
     pub full : x.limit ≤ length (seen_of q id)
     pub receipt : log'
-        ≡ log ++ record { object = id; number = length (seen_of q id); call = call; reply = refused_at call.call (length (seen_of q id)) } ∷ []
+        ≡ log ++ record { object = id; number = length (seen_of q id); call = call; reply = trigger_refused call.call (length (seen_of q id)) } ∷ []
 
   -- a claim of its timer triggers the object, unless that one's history is full
   abbrev pub Triggers : ClaimNumbers → ObjectCall → Type 0

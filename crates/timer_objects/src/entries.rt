@@ -8,7 +8,7 @@ ghost use Rattle.timer_objects.specs.Known.{IsObjectsPass, Suits, decl_at};
 ghost use Rattle.timer_objects.specs.Arming.{stamp_seen};
 ghost use Rattle.timer_objects.specs.Calls.{Accepts, HasWaited, ReadsFd, RearmsFor};
 ghost use Rattle.timer_objects.specs.Waiting.{HasToWait, IsHindered};
-ghost use Rattle.timer_objects.specs.Rearming.{Ends, HasRoom, IsUnsettable, KeepsNames, LeavesPasses, MayAsk, Sets, SetsAnew, call_asked, caller_of, start_asked};
+ghost use Rattle.timer_objects.specs.Rearming.{Ends, HasEntryRoom, IsUnsettable, KeepsNames, LeavesPasses, MayAsk, Sets, SetsAnew, call_asked, caller_of, start_asked};
 
 use crate::arming::{arm, disarm, look, quiet_span};
 use crate::cell::{ObjectCell, Span};
@@ -209,7 +209,7 @@ fn set<R: Wait>(
     requires pass { IsPassOf timers.now pass.old }
     requires timer { timer < length timers.now.about.timers }
     requires base { base < timers.now.about.bases }
-    requires object { HasRoom cell.now.object }
+    requires object { HasEntryRoom cell.now.object }
     requires room { 4 ≤ log.old.spare }
     ensures pass { IsPassOf timers.now pass.new }
     ensures sets { MatchOption result (LooksOn pass.old.known pass.new.known × (log.new ≡ log.old)) (λ r. Sets timers.now.about pass.old.known pass.new.known timer asked.now cell.now base r.0 r.1 log.old.receipts log.new.receipts) }

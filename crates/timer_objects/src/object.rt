@@ -1,7 +1,7 @@
 //! What an object is, and its calls that make an entry.
 ghost use Rattle.std.specs.Prelude.{◌≡◌, ◌≤◌, ◌<◌};
 ghost use Rattle.timer_setting.specs.Settimes.{most_entries};
-ghost use Rattle.timer_objects.specs.Steps.{ObjectAllows, object_answer, object_step, opened};
+ghost use Rattle.timer_objects.specs.Steps.{ObjectAllows, object_answer, object_step, opened_object};
 
 use ktime::ClockId;
 use posix_timer::PosixState;
@@ -55,7 +55,7 @@ impl Object {
     pub fn make(decl: Decl, limit: u64) -> Object
         requires some { 0 < limit }
         requires few { limit ≤ most_entries }
-        ensures { result ≡ opened limit decl }
+        ensures { result ≡ opened_object limit decl }
     {
         match decl.kind {
             Kind::Raw => Object::Raw,

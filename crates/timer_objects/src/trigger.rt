@@ -3,7 +3,7 @@ ghost use Rattle.std.specs.Prelude.{◌≡◌, ◌≤◌, ◌<◌, ◌+◌, [], 
 ghost use Rattle.counted_row.specs.Views.{IsPassOfRow, Locks, released};
 ghost use Rattle.timer_objects.specs.Cells.{cell_meaning, spanned};
 ghost use Rattle.timer_objects.specs.Known.{HoldsObject, IsObjectsPass, decl_at, row_of, seen_of};
-ghost use Rattle.timer_objects.specs.Triggers.{Triggers, refused_at, span_of, trigger_of};
+ghost use Rattle.timer_objects.specs.Triggers.{Triggers, trigger_refused, span_of, trigger_of};
 
 use crate::cell::{ObjectCell, Span};
 use crate::log::{ObjectLog, note};
@@ -35,8 +35,8 @@ pub(crate) fn trigger_of(kind: Kind, claim: &Claim, reading: Reading) -> Option<
 }
 
 /// What a trigger of an object answers whose history is full, with so many entries.
-fn refused_at(call: &ObjectCall, stamp: u64) -> ObjectReply
-    ensures { result ≡ refused_at call.now stamp }
+fn trigger_refused(call: &ObjectCall, stamp: u64) -> ObjectReply
+    ensures { result ≡ trigger_refused call.now stamp }
 {
     let answer = TriggerAnswer::Spent { stamp };
     match call {
@@ -138,9 +138,9 @@ fn skip(
     ensures pass { IsObjectsPass objects.now pass.new }
     ensures knows { pass.new.knows ≡ released pass.old.knows }
     ensures count { held.stamp ≡ length (seen_of pass.new held.index) }
-    ensures receipt { log.new.receipts ≡ log.old.receipts ++ record { object = id; number = held.stamp; call = spanned call.now span; reply = refused_at call.now held.stamp } ∷ [] }
+    ensures receipt { log.new.receipts ≡ log.old.receipts ++ record { object = id; number = held.stamp; call = spanned call.now span; reply = trigger_refused call.now held.stamp } ∷ [] }
     ensures spare { log.new.spare + 1 ≡ log.old.spare }
 {
     let stamp = objects.release(pass, held);
-    note(log, id, stamp, span.of(*call), refused_at(call, stamp));
+    note(log, id, stamp, span.of(*call), trigger_refused(call, stamp));
 }

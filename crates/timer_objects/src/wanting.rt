@@ -1,7 +1,7 @@
 //! The calls that make an entry of an object, and what those that arm its timer again want of it.
 ghost use Rattle.std.specs.Prelude.{◌≡◌};
 ghost use Rattle.timer_objects.specs.Calls.{wanted_by};
-ghost use Rattle.timer_objects.specs.Rearming.{HasRoom};
+ghost use Rattle.timer_objects.specs.Rearming.{HasEntryRoom};
 
 use crate::object::{Object, ObjectReply};
 use crate::settime::ValidSettime;
@@ -41,7 +41,7 @@ pub enum Ended {
 
 /// The start that a call wants of an object whose history has room.
 pub(crate) fn wanted(call: Rearming, object: &Object, reading: Reading) -> Option<Wanted>
-    requires room { HasRoom object.now }
+    requires room { HasEntryRoom object.now }
     ensures { result ≡ wanted_by call object.now reading }
 {
     match (call, object) {

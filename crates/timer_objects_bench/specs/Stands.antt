@@ -7,7 +7,7 @@ use Rattle.timer_objects.specs.Known.{IsObjectsPass, Suits}
 use Rattle.timer_objects_bench.specs.declared.stand.Stand.{Stand}
 
 -- the objects suit the timers, on one base; there is a callback for each that starts none; and the passes are the only ones and have no claims
-pub record IsStand (s : Stand) : Type 0 where
+pub record IsBenchStand (s : Stand) : Type 0 where
   pub timers : IsPassOf s.timers s.pass
   pub last : IsLast s.pass.known.id
   pub unclaimed : s.pass.known.claims ≡ []
@@ -22,6 +22,6 @@ pub record IsStand (s : Stand) : Type 0 where
 
 -- it stands so afterwards, with as many objects
 pub record KeepsStand (old new : Stand) : Type 0 where
-  pub stand : IsStand new
+  pub stand : IsBenchStand new
   pub count : new.count ≡ old.count
   pub objects : new.objects ≡ old.objects

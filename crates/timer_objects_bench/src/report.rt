@@ -1,6 +1,6 @@
 //! Which cases there are, and the line that is printed for each.
 ghost use Rattle.std.specs.Prelude.{◌≤◌};
-ghost use Rattle.timer_objects_bench.specs.Stands.{IsStand, KeepsStand};
+ghost use Rattle.timer_objects_bench.specs.Stands.{IsBenchStand, KeepsStand};
 
 use crate::stand::Stand;
 use crate::turns::turns;
@@ -22,7 +22,7 @@ fn round<R: Wait + Clock>(
     times: u64,
     least: &mut Least,
 ) -> bool
-    requires stand { IsStand stand.old }
+    requires stand { IsBenchStand stand.old }
     ensures keeps { KeepsStand stand.old stand.new }
 {
     let start = Instant::now(rt);

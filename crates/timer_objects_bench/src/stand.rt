@@ -1,6 +1,6 @@
 //! Timers with an object over each, and single calls. Each call answers whether it answered as it should.
 ghost use Rattle.std.specs.Prelude.{◌≡◌, ◌*◌, ◌<◌, ◌≤◌, IfOk, OnOk};
-ghost use Rattle.timer_objects_bench.specs.Stands.{IsStand, KeepsStand};
+ghost use Rattle.timer_objects_bench.specs.Stands.{IsBenchStand, KeepsStand};
 
 use counted_row::RowPass;
 use expire_pass::{ExpireAnswer, Log};
@@ -36,7 +36,7 @@ pub struct Stand {
 impl Stand {
     pub fn open(alloc: Global, kind: Kind, count: u32) -> Result<Stand, AllocError>
         requires few { count ≤ 256 }
-        ensures { IfOk result (λ s. IsStand s × (s.count ≡ count)) }
+        ensures { IfOk result (λ s. IsBenchStand s × (s.count ≡ count)) }
     {
         let clock = ClockId::Monotonic;
         let callbacks = vec![in alloc; Callback::Once; count as usize]?;
@@ -67,7 +67,7 @@ impl Stand {
 
     /// Begins new logs where there isn't room for so many receipts in each.
     fn make_room(&mut self, receipts: usize) -> Result<(), AllocError>
-        requires stand { IsStand self.old }
+        requires stand { IsBenchStand self.old }
         requires few { receipts ≤ 1024 }
         ensures keeps { KeepsStand self.old self.new }
         ensures room { OnOk result ((receipts ≤ self.new.log.spare) × (receipts ≤ self.new.object_log.spare)) }
@@ -83,7 +83,7 @@ impl Stand {
 
     /// Arms an object's timer for this time, or disarms it by the value 0.
     pub fn set<R: Wait>(&mut self, rt: &R, id: u32, ns: u64) -> Result<bool, AllocError>
-        requires stand { IsStand self.old }
+        requires stand { IsBenchStand self.old }
         requires within { id < self.old.count }
         ensures keeps { KeepsStand self.old self.new }
     {
@@ -111,7 +111,7 @@ impl Stand {
 
     /// Runs the functions of as many timers as there are.
     pub fn expire<R: Wait>(&mut self, rt: &R) -> Result<bool, AllocError>
-        requires stand { IsStand self.old }
+        requires stand { IsBenchStand self.old }
         ensures keeps { KeepsStand self.old self.new }
     {
         self.make_room(2 * self.count as usize)?;
@@ -134,7 +134,7 @@ impl Stand {
 
     /// Accepts a POSIX timer's signal, or reads a descriptor.
     pub fn take<R: Wait>(&mut self, rt: &R, id: u32) -> Result<bool, AllocError>
-        requires stand { IsStand self.old }
+        requires stand { IsBenchStand self.old }
         requires within { id < self.old.count }
         ensures keeps { KeepsStand self.old self.new }
     {
@@ -176,7 +176,7 @@ impl Stand {
 
     /// Ends the timers and the objects.
     pub fn close(self)
-        requires stand { IsStand self }
+        requires stand { IsBenchStand self }
     {
         let Stand {
             alloc: _,

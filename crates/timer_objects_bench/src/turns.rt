@@ -1,6 +1,6 @@
 //! What a thread does in a turn: one operation on each object.
 ghost use Rattle.std.specs.Prelude.{◌≡◌, ◌<◌, ◌^◌};
-ghost use Rattle.timer_objects_bench.specs.Stands.{IsStand, KeepsStand};
+ghost use Rattle.timer_objects_bench.specs.Stands.{IsBenchStand, KeepsStand};
 
 use crate::stand::{NOW, Stand};
 use bench_cases::Random;
@@ -28,7 +28,7 @@ fn one<R: Wait>(
     call: Call,
     expiry: u64,
 ) -> Result<bool, AllocError>
-    requires stand { IsStand stand.old }
+    requires stand { IsBenchStand stand.old }
     requires within { id < stand.old.count }
     requires small { expiry < 2 ^ 20 }
     ensures keeps { KeepsStand stand.old stand.new }
@@ -43,7 +43,7 @@ fn one<R: Wait>(
 
 /// Makes a call on each object. It answers whether all answered as they should.
 fn each<R: Wait>(rt: &R, stand: &mut Stand, call: Call) -> Result<bool, AllocError>
-    requires stand { IsStand stand.old }
+    requires stand { IsBenchStand stand.old }
     ensures keeps { KeepsStand stand.old stand.new }
 {
     let mut random = Random::new();
@@ -56,7 +56,7 @@ fn each<R: Wait>(rt: &R, stand: &mut Stand, call: Call) -> Result<bool, AllocErr
 
 /// A turn: all objects are armed, and then cleared, or their timers expire and they are accepted or read.
 fn turn<R: Wait>(rt: &R, stand: &mut Stand, expires: bool) -> Result<bool, AllocError>
-    requires stand { IsStand stand.old }
+    requires stand { IsBenchStand stand.old }
     ensures keeps { KeepsStand stand.old stand.new }
 {
     if !expires {
@@ -77,7 +77,7 @@ pub fn turns<R: Wait>(
     expires: bool,
     times: u64,
 ) -> Result<bool, AllocError>
-    requires stand { IsStand stand.old }
+    requires stand { IsBenchStand stand.old }
     ensures keeps { KeepsStand stand.old stand.new }
 {
     let mut good = true;

@@ -8,7 +8,7 @@ use Rattle.timer_tree.specs.Nodes.{none, pick, node_at, with_links, is_leaf}
 use Rattle.timer_tree.specs.Moves.{inserted}
 use Rattle.timer_tree.specs.Links.{with_child}
 use Rattle.timer_tree.specs.Trees.{Leaf, Fork, top, pairs, Stands, IsBalanced, one, times, first_id, Keeps}
-use Rattle.timer_tree.specs.Contexts.{Frame, parent_of, root_of, IsAround, around, before, after, Cut, IsStored, IsUnbalanced}
+use Rattle.timer_tree.specs.Contexts.{Frame, parent_of, root_of, IsAround, around, pairs_before, pairs_after, Cut, IsStored, IsUnbalanced}
 use Rattle.timer_tree.specs.Contexts.{IsRepaired, IsOver}
 use Rattle.timer_tree.specs.Places.{side_of, first_on, IsOnSide, IsPlace}
 use Rattle.timer_tree.proofs.Trees.{with_child-with_links, times-append, one_same, once_with, Keeps-then, Keeps-for, Fit-size}
@@ -95,13 +95,13 @@ first_frame sides.Left os ps qs e n first id expires once is = ap (λ k. if nat_
 first_frame sides.Right os ps qs e n first id expires once is = is ∙ first_right ps os qs (expires, id) (e, n)
 
 first_placed : (side : Side) (parent : ℕ) (c : List Frame) (first id expires : ℕ) → parent ≡ parent_of c → HasSide side c →
-    ((k : ℕ) → times k (before c ++ after c) ≤ 1) →
-    first ≡ first_id (before c ++ after c) → first_on side parent first id ≡ first_id (before c ++ (expires, id) ∷ after c)
+    ((k : ℕ) → times k (pairs_before c ++ pairs_after c) ≤ 1) →
+    first ≡ first_id (pairs_before c ++ pairs_after c) → first_on side parent first id ≡ first_id (pairs_before c ++ (expires, id) ∷ pairs_after c)
 first_placed side parent [] first id expires parent_is side_is once is =
     ap (λ s. first_on s parent first id) side_is ∙ ap (λ b. if b then id else first) (eq-eqb parent first (parent_is ∙ sym is))
 first_placed side parent (f ∷ c) first id expires parent_is side_is once is =
     ap (λ s. first_on s parent first id) side_is ∙ ap (λ k. first_on f.side k first id) parent_is
-    ∙ first_frame f.side (pairs f.other) (before c) (after c) f.e f.n first id expires (once f.n) is
+    ∙ first_frame f.side (pairs f.other) (pairs_before c) (pairs_after c) f.e f.n first id expires (once f.n) is
 
 -- ---- the whole call
 
@@ -148,7 +148,7 @@ module _ (xs : List Node) (root first parent expires id : ℕ) (ps : List (ℕ �
       let can = inserted_can leaf known in
       let repaired = repairs (put expires id ps) can.0 can.1 in
       let kept = Keeps-then can.3 repaired.kept in
-      let whole : ps ≡ before c ++ after c = sym found.cut.pairs_are ∙ pairs-plug c Leaf in
+      let whole : ps ≡ pairs_before c ++ pairs_after c = sym found.cut.pairs_are ∙ pairs-plug c Leaf in
       record {
         stored = record {
           is_tree = repaired.tree;

@@ -7,7 +7,7 @@ use Rattle.timer_tree.specs.Links.{relinked}
 use Rattle.timer_tree.specs.Rotate.{ranked}
 use Rattle.timer_tree.specs.Moves.{Repairing, ended, stepped}
 use Rattle.timer_tree.specs.Trees.{Tree, Leaf, Fork, top, tall, pairs, IsAt, one, times, Keeps}
-use Rattle.timer_tree.specs.Contexts.{Frame, filled, plug, parent_of, root_of, IsAround, around, before, after, Fits, Cut, IsTree, Way}
+use Rattle.timer_tree.specs.Contexts.{Frame, filled, plug, parent_of, root_of, IsAround, around, pairs_before, pairs_after, FitsRank, Cut, IsTree, Way}
 use Rattle.timer_tree.specs.Contexts.{IsUnbalanced, IsRepairing, IsRepaired, IsOver}
 use Rattle.timer_tree.proofs.Trees.{by_eq, times-fork, times-plug, Keeps-then, Keeps-for, Fit-size, IsAt-kept, IsAround-kept, length-fork, fork-IsAt}
 use Rattle.timer_tree.proofs.Trees.{Linked, relinked_linked, length-plug, pairs-plug, tall-le, cut_whole}
@@ -25,7 +25,7 @@ pub record Climbed (rising : Bool) (xs : List Node) (r : Unbalanced) (ps : List 
   pub rises : (new.2.at ≡ none → ⊥) → (node_at xs r.at).rank < (node_at new.0 new.2.at).rank
 
 -- the next node of a context stands higher
-rises_above : (xs : List Node) (hole h : ℕ) (c : List Frame) → IsAround xs hole c → Fits c h → (parent_of c ≡ none → ⊥) → h < (node_at xs (parent_of c)).rank
+rises_above : (xs : List Node) (hole h : ℕ) (c : List Frame) → IsAround xs hole c → FitsRank c h → (parent_of c ≡ none → ⊥) → h < (node_at xs (parent_of c)).rank
 rises_above xs hole h [] at fits some = absurd (some refl)
 rises_above xs hole h (f ∷ c) at fits some = omega (arith, fits.0.below_a, ap (λ (x : Node). x.rank) at.0.is)
 
@@ -45,7 +45,7 @@ relinks xs root old rank f c t ps ev new cut remade link =
     let fit = Fit-size kept.size cut.fit in
     let under = IsAt-kept (parent_of c) remade.u link.kept (λ k. omega (arith, sum k, once k, ap (λ qs. times k qs) done.same)) done.at in
     let pairs_are : pairs (plug c remade.u) ≡ ps =
-    pairs-plug c remade.u ∙ ap (λ qs. before c ++ (qs ++ after c)) done.same ∙ sym (pairs-plug c (filled f t)) ∙ cut.pairs_are in
+    pairs-plug c remade.u ∙ ap (λ qs. pairs_before c ++ (qs ++ pairs_after c)) done.same ∙ sym (pairs-plug c (filled f t)) ∙ cut.pairs_are in
     let up : Cut new.0 new.1 c remade.u f.h ps = search arith in record { cut = up; kept = kept }
 
 climbs_on : (rising : Bool) (xs : List Node) (k : ℕ) (f : Frame) (c : List Frame) (u : Tree) (ps : List (ℕ × ℕ)) (r : Unbalanced) (new : List Node × ℕ) →

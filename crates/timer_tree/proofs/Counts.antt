@@ -2,7 +2,7 @@
 use Rattle.std.proofs.Common.{ℕ, ◌+◌, ◌*◌, ◌^◌, ◌<◌, ◌≤◌, List, [], ◌∷◌, length, arith, zero, suc, inl, inr, subst, sym}
 use Rattle.std.proofs.lemmas.Bool.{cases_lt}
 use Rattle.timer_tree.specs.Trees.{Tree, Leaf, Fork, tall, pairs, IsBalanced}
-use Rattle.timer_tree.specs.Contexts.{Frame, plug, filled, Fits, Cut}
+use Rattle.timer_tree.specs.Contexts.{Frame, plug, filled, FitsRank, Cut}
 use Rattle.timer_tree.proofs.Trees.{length-fork, cut_whole}
 use Rattle.timer_tree.specs.declared.node.Node.{Node}
 use Rattle.timer_tree.specs.declared.node.Side.TheVariants as sides
@@ -24,7 +24,7 @@ tall-lt d t balanced few =
     ]
 
 -- a context has no more nodes than the tree is high
-context_low : (c : List Frame) (t : Tree) → Fits c (tall t) → tall t + length c ≤ tall (plug c t)
+context_low : (c : List Frame) (t : Tree) → FitsRank c (tall t) → tall t + length c ≤ tall (plug c t)
 context_low [] t fits = omega arith
 context_low (f ∷ c) t fits = omega (arith, fits.0.below_a, context_low c (filled f t) fits.2)
 

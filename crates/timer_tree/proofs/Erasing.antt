@@ -6,7 +6,7 @@ use Rattle.timer_queue.specs.Pairs.{without, has_id}
 use Rattle.timer_tree.specs.Nodes.{none, node_at, pick}
 use Rattle.timer_tree.specs.Rotate.{ranked}
 use Rattle.timer_tree.specs.Trees.{Tree, Leaf, Fork, top, tall, pairs, IsAt, IsBalanced, one, times, first_id, Keeps}
-use Rattle.timer_tree.specs.Contexts.{Frame, parent_of, before, after, IsStored, IsRepairing, IsRepaired, Cut}
+use Rattle.timer_tree.specs.Contexts.{Frame, parent_of, pairs_before, pairs_after, IsStored, IsRepairing, IsRepaired, Cut}
 use Rattle.timer_tree.specs.Places.{first_off}
 use Rattle.timer_tree.specs.Takes.{IsTaking, IsTaken}
 use Rattle.timer_tree.proofs.Trees.{by_eq, times-append, one_same, apart_one, once_with, Keeps-then, Fit-size, set_keeps}
@@ -27,9 +27,9 @@ first_behind sides.Left os ps qs e n nothing = refl
 first_behind sides.Right os ps qs e n nothing =
     let never : ⊥ = omega (arith, ap length nothing, length-append ps (os ++ (e, n) ∷ []), length-append os ((e, n) ∷ [])) in absurd never
 
-first_after : (c : List Frame) → before c ≡ [] → first_id (after c) ≡ parent_of c
+first_after : (c : List Frame) → pairs_before c ≡ [] → first_id (pairs_after c) ≡ parent_of c
 first_after [] nothing = refl
-first_after (f ∷ c) nothing = first_behind f.side (pairs f.other) (before c) (after c) f.e f.n nothing
+first_after (f ∷ c) nothing = first_behind f.side (pairs f.other) (pairs_before c) (pairs_after c) f.e f.n nothing
 
 nothing_both : (ps qs : List (ℕ × ℕ)) → ps ++ qs ≡ [] → (ps ≡ []) × (qs ≡ [])
 nothing_both [] qs nothing = (refl, nothing)
@@ -45,8 +45,8 @@ first_stays [] qs e id other = absurd (other refl)
 first_stays (p ∷ ps) qs e id other = refl
 
 -- a subtree of rank one at most has its first node at the top
-low_first : (xs : List Node) (p : ℕ) (r : Tree) (c : List Frame) → length xs ≤ none → IsAt xs p r → IsBalanced r → tall r ≤ 1 → before c ≡ [] →
-    first_id (pairs r ++ after c) ≡ (if nat_eq (top r) none then parent_of c else top r)
+low_first : (xs : List Node) (p : ℕ) (r : Tree) (c : List Frame) → length xs ≤ none → IsAt xs p r → IsBalanced r → tall r ≤ 1 → pairs_before c ≡ [] →
+    first_id (pairs r ++ pairs_after c) ≡ (if nat_eq (top r) none then parent_of c else top r)
 low_first xs p Leaf c small at balanced low nothing = first_after c nothing
 low_first xs p (Fork Leaf m f g b) c small at balanced low nothing =
     sym (ap (λ x. if x then parent_of c else m) (ne_eqb m none (λ same. omega (arith, same, at.0.inside, small))))
@@ -62,8 +62,8 @@ erased_first xs root first id node ps new_first taking first_is node_is new_is =
     let e = place.e in
     let r = place.r in
     let cut = place.cut in
-    let left = before c ++ pairs l in
-    let right = pairs r ++ after c in
+    let left = pairs_before c ++ pairs l in
+    let right = pairs r ++ pairs_after c in
     let here = node_is ∙ cut.under.0.is in
     let whole : ps ≡ left ++ (e, id) ∷ right = sym cut.pairs_are ∙ pairs-plug c (Fork l id e place.h r) ∙ simp append_assoc refl in
     let rest : without id ps ≡ left ++ right = sym (without_part c l e id place.h r ps cut.pairs_are cut.fit.once) ∙ simp append_assoc refl in
@@ -72,7 +72,7 @@ erased_first xs root first id node ps new_first taking first_is node_is new_is =
     let gone : times id left ≡ 0 = omega (arith, sum, cut.fit.once id, one_same id) in
     by_eq (λ b. new_first ≡ (if b then (if nat_eq node.right none then node.parent else node.right) else first) → new_first ≡ first_id (without id ps))
     first id (λ same is.
-    let both = nothing_both (before c) (pairs l) (nothing_before left right e id gone (sym (ap first_id whole) ∙ sym first_is ∙ same)) in
+    let both = nothing_both (pairs_before c) (pairs l) (nothing_before left right e id gone (sym (ap first_id whole) ∙ sym first_is ∙ same)) in
     let flat : tall l ≤ 0 = omega (arith, tall-le l cut.balanced.1, ap length both.1) in
     let low = low_first xs id r c cut.fit.small cut.under.2 cut.balanced.2 (omega (arith, cut.balanced.0.near_a, cut.balanced.0.below_b, flat)) both.0 in
     is ∙ ap (λ (x : Node). if nat_eq x.right none then x.parent else x.right) here

@@ -7,7 +7,7 @@ use Rattle.timer_queue.specs.Pairs.{put, IsByExpiry}
 use Rattle.timer_queue.proofs.Pairs.{AllByRecursion-follows}
 use Rattle.timer_tree.specs.Nodes.{none, node_at, near}
 use Rattle.timer_tree.specs.Trees.{Tree, Leaf, Fork, top, tall, pairs, IsAt}
-use Rattle.timer_tree.specs.Contexts.{Frame, plug, parent_of, before, after, Cut, IsTree}
+use Rattle.timer_tree.specs.Contexts.{Frame, plug, parent_of, pairs_before, pairs_after, Cut, IsTree}
 use Rattle.timer_tree.specs.Places.{side_of, IsFinding, IsPlace}
 use Rattle.timer_tree.proofs.Trees.{by_lt, rank_at, no_top, pairs-plug, cut_down}
 use Rattle.timer_tree.proofs.Puts.{put_left, put_right, up_to, IsByExpiry-behind}
@@ -17,24 +17,24 @@ use Rattle.timer_tree.specs.declared.node.Side.TheVariants as sides
 
 -- where the pair goes if it is put into a subtree
 abbrev Puts : (expires : ℕ) → List Frame → Tree → List (ℕ × ℕ) → Type 0
-Puts expires c t ps = (id : ℕ) → put expires id ps ≡ before c ++ (put expires id (pairs t) ++ after c)
+Puts expires c t ps = (id : ℕ) → put expires id ps ≡ pairs_before c ++ (put expires id (pairs t) ++ pairs_after c)
 
 puts_left : (expires : ℕ) (ps : List (ℕ × ℕ)) (c : List Frame) (l : Tree) (n e h : ℕ) (r : Tree) → expires < e → Puts expires c (Fork l n e h r) ps →
     Puts expires (record { side = sides.Left; n = n; e = e; h = h; other = r } ∷ c) l ps
 puts_left expires ps c l n e h r less puts id =
-    puts id ∙ ap (λ qs. before c ++ (qs ++ after c)) (put_left expires id (pairs l) (pairs r) (e, n) less) ∙ simp append_assoc refl
+    puts id ∙ ap (λ qs. pairs_before c ++ (qs ++ pairs_after c)) (put_left expires id (pairs l) (pairs r) (e, n) less) ∙ simp append_assoc refl
 
 puts_right : (expires : ℕ) (ps : List (ℕ × ℕ)) (c : List Frame) (l : Tree) (n e h : ℕ) (r : Tree) → e ≤ expires → IsByExpiry ps →
     pairs (plug c (Fork l n e h r)) ≡ ps → Puts expires c (Fork l n e h r) ps →
     Puts expires (record { side = sides.Right; n = n; e = e; h = h; other = l } ∷ c) r ps
 puts_right expires ps c l n e h r more sorted pairs_are puts id =
-    let whole : IsByExpiry (before c ++ ((pairs l ++ (e, n) ∷ pairs r) ++ after c)) = subst IsByExpiry (sym pairs_are ∙ pairs-plug c (Fork l n e h r))
+    let whole : IsByExpiry (pairs_before c ++ ((pairs l ++ (e, n) ∷ pairs r) ++ pairs_after c)) = subst IsByExpiry (sym pairs_are ∙ pairs-plug c (Fork l n e h r))
     sorted in
-    let behind : IsByExpiry (pairs l ++ (e, n) ∷ (pairs r ++ after c)) = subst IsByExpiry (append_assoc (pairs l) ((e, n) ∷ pairs r) (after c))
-    (IsByExpiry-behind (before c) ((pairs l ++ (e, n) ∷ pairs r) ++ after c) whole) in
+    let behind : IsByExpiry (pairs l ++ (e, n) ∷ (pairs r ++ pairs_after c)) = subst IsByExpiry (append_assoc (pairs l) ((e, n) ∷ pairs r) (pairs_after c))
+    (IsByExpiry-behind (pairs_before c) ((pairs l ++ (e, n) ∷ pairs r) ++ pairs_after c) whole) in
     let earlier : AllByRecursion (λ p. p.0 ≤ expires) (pairs l) = AllByRecursion-follows (λ p. p.0 ≤ e) (λ p. p.0 ≤ expires)
-    (λ p at_most. omega (arith, at_most, more)) (pairs l) (up_to (pairs l) (pairs r ++ after c) (e, n) behind) in
-    puts id ∙ ap (λ qs. before c ++ (qs ++ after c)) (put_right expires id (pairs l) ((e, n) ∷ pairs r) earlier
+    (λ p at_most. omega (arith, at_most, more)) (pairs l) (up_to (pairs l) (pairs r ++ pairs_after c) (e, n) behind) in
+    puts id ∙ ap (λ qs. pairs_before c ++ (qs ++ pairs_after c)) (put_right expires id (pairs l) ((e, n) ∷ pairs r) earlier
     ∙ ap (λ qs. pairs l ++ qs) (put_right expires id ((e, n) ∷ []) (pairs r) (more, tt))) ∙ simp append_assoc refl
 
 -- what holds below a node that was read

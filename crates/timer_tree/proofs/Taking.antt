@@ -8,7 +8,7 @@ use Rattle.timer_tree.specs.Nodes.{none, node_at}
 use Rattle.timer_tree.specs.Links.{adopted, relinked}
 use Rattle.timer_tree.specs.Moves.{only_child, spliced, substituted}
 use Rattle.timer_tree.specs.Trees.{Tree, Leaf, Fork, top, tall, pairs, IsAt, IsBalanced, one, times, Keeps}
-use Rattle.timer_tree.specs.Contexts.{Frame, plug, parent_of, root_of, IsAround, around, before, after, Fit, Cut}
+use Rattle.timer_tree.specs.Contexts.{Frame, plug, parent_of, root_of, IsAround, around, pairs_before, pairs_after, Fit, Cut}
 use Rattle.timer_tree.specs.Takes.{IsLowering, IsTaking, IsTaken}
 use Rattle.timer_tree.proofs.Trees.{times-append, times-fork, times-plug, one_same, Keeps-then, Keeps-for, Fit-size, set_keeps, set_stands, IsAt-kept}
 use Rattle.timer_tree.proofs.Trees.{IsAround-kept, rank_at, no_top, by_eq, adopted_keeps, IsAt-adopted, both_adopted}
@@ -25,7 +25,7 @@ use Rattle.timer_tree.specs.declared.rotate.Numbered.{Numbered}
 -- ---- the way to the first node
 
 lowering_at : (xs : List Node) (root old steps : ℕ) (above : List Frame) (ps : List (ℕ × ℕ)) (c : List Frame) (t : Tree) → (top t ≡ none → ⊥) →
-    Cut xs root (c ++ above) t (tall t) ps → before c ≡ [] → steps ≡ old + length c + 1 → IsLowering xs root above ps (top t) (node_at xs (top t)) old steps
+    Cut xs root (c ++ above) t (tall t) ps → pairs_before c ≡ [] → steps ≡ old + length c + 1 → IsLowering xs root above ps (top t) (node_at xs (top t)) old steps
 lowering_at xs root old steps above ps c Leaf some cut first count = absurd (some refl)
 lowering_at xs root old steps above ps c (Fork l n e h r) some cut first count =
     record { context = c; l = l; e = e; h = h; r = r; cut = cut; first = first; node_is = refl; count = count }
@@ -105,13 +105,13 @@ substituted_put xs root id heir c l e h r small inside once at under root_is =
 -- ---- the pairs that are left
 
 pub without_part : (c : List Frame) (l : Tree) (e id h : ℕ) (r : Tree) (ps : List (ℕ × ℕ)) → pairs (plug c (Fork l id e h r)) ≡ ps →
-    ((k : ℕ) → times k ps ≤ 1) → before c ++ ((pairs l ++ pairs r) ++ after c) ≡ without id ps
+    ((k : ℕ) → times k ps ≤ 1) → pairs_before c ++ ((pairs l ++ pairs r) ++ pairs_after c) ≡ without id ps
 without_part c l e id h r ps is once =
-    let whole : ps ≡ (before c ++ pairs l) ++ (e, id) ∷ (pairs r ++ after c) = sym is ∙ pairs-plug c (Fork l id e h r) ∙ simp append_assoc refl in
-    let sum : times id ps ≡ times id (before c ++ pairs l) + (one id id + times id (pairs r ++ after c)) =
-    subst (λ qs. times id qs ≡ times id (before c ++ pairs l) + (one id id + times id (pairs r ++ after c))) (sym whole)
-    (times-append id (before c ++ pairs l) ((e, id) ∷ (pairs r ++ after c))) in
-    sym (ap (λ qs. without id qs) whole ∙ without_at id e (before c ++ pairs l) (pairs r ++ after c) (omega (arith, sum, once id, one_same id))
+    let whole : ps ≡ (pairs_before c ++ pairs l) ++ (e, id) ∷ (pairs r ++ pairs_after c) = sym is ∙ pairs-plug c (Fork l id e h r) ∙ simp append_assoc refl in
+    let sum : times id ps ≡ times id (pairs_before c ++ pairs l) + (one id id + times id (pairs r ++ pairs_after c)) =
+    subst (λ qs. times id qs ≡ times id (pairs_before c ++ pairs l) + (one id id + times id (pairs r ++ pairs_after c))) (sym whole)
+    (times-append id (pairs_before c ++ pairs l) ((e, id) ∷ (pairs r ++ pairs_after c))) in
+    sym (ap (λ qs. without id qs) whole ∙ without_at id e (pairs_before c ++ pairs l) (pairs r ++ pairs_after c) (omega (arith, sum, once id, one_same id))
     (omega (arith, sum, once id, one_same id)) ∙ simp append_assoc refl)
 
 times-without : (k id : ℕ) (ps : List (ℕ × ℕ)) → times k (without id ps) ≡ (if nat_eq k id then 0 else times k ps)
@@ -152,7 +152,7 @@ one_part xs root id node ps u new old steps place node_is same_pairs at_u balanc
     (λ k. omega (arith, once k, sum k)) cut.linked at_u cut.root_is part_is parent_is) in
     let fit = without_fit id done.kept.size cut.fit in
     let pairs_are : pairs (plug c u) ≡ without id ps =
-    pairs-plug c u ∙ ap (λ qs. before c ++ (qs ++ after c)) (sym same_pairs) ∙ without_part c place.l place.e id h place.r ps cut.pairs_are once in
+    pairs-plug c u ∙ ap (λ qs. pairs_before c ++ (qs ++ pairs_after c)) (sym same_pairs) ∙ without_part c place.l place.e id h place.r ps cut.pairs_are once in
     let put : Cut new.0 new.1 c u h (without id ps) = search arith in
     record {
       unbalanced = cut_unbalanced _ put parent_is part_is (omega (arith, ap (λ (x : Node). x.rank) here, rank)) (omega (arith, rank), omega (arith, rank));
@@ -192,7 +192,7 @@ heir_above (x ∷ d) f g c gone = ap (λ b. if b then g.n else x.n) (ne_eqb x.n 
 two_at : (xs : List Node) (root id : ℕ) (ps : List (ℕ × ℕ)) (c : List Frame) (l : Tree) (e h : ℕ) (low : Numbered) (mid new : List Node × ℕ)
     (at old steps low_steps : ℕ) (d : List Frame) (lowest : Tree) (e' h' : ℕ) (rest : Tree) →
     let f : Frame = record { side = sides.Right; n = id; e = e; h = h; other = l } in
-    Cut xs root (d ++ f ∷ c) (Fork lowest low.n e' h' rest) h' ps → low.node.left ≡ none → before d ≡ [] → low.node ≡ node_at xs low.n →
+    Cut xs root (d ++ f ∷ c) (Fork lowest low.n e' h' rest) h' ps → low.node.left ≡ none → pairs_before d ≡ [] → low.node ≡ node_at xs low.n →
     low_steps ≡ old + length d + 1 → mid ≡ spliced xs root low → new ≡ substituted mid.0 mid.1 id low →
     at ≡ (if nat_eq low.node.parent id then low.n else low.node.parent) → steps ≤ low_steps + 7 →
     IsTaken xs id ps new.0 new.1 (record { at = at; child = (only_child low.node).root; rank = (only_child low.node).rank }) old steps
@@ -222,8 +222,8 @@ two_at xs root id ps c l e h low mid new at old steps low_steps d Leaf e' h' res
     (λ k. omega (arith, once k, sum k, sum_left k))
     joined.0.2 (joined.0.0, joined.0.1, joined.1) (first_put.root_is ∙ root_of-frames (top rest) d f c)) in
     let again = IsAt-cut new.0 d (g ∷ c) rest (second.under.0, second.under.1, second.linked) second.under.2 in
-    let old_pairs : pairs (plug d subtree) ≡ (e', y) ∷ pairs left = pairs-plug d subtree ∙ ap (λ qs. qs ++ (((e', y) ∷ pairs rest) ++ after d)) first
-    ∙ ap (λ qs. (e', y) ∷ qs) (sym (pairs-plug d rest ∙ ap (λ qs. qs ++ (pairs rest ++ after d)) first)) in
+    let old_pairs : pairs (plug d subtree) ≡ (e', y) ∷ pairs left = pairs-plug d subtree ∙ ap (λ qs. qs ++ (((e', y) ∷ pairs rest) ++ pairs_after d)) first
+    ∙ ap (λ qs. (e', y) ∷ qs) (sym (pairs-plug d rest ∙ ap (λ qs. qs ++ (pairs rest ++ pairs_after d)) first)) in
     let kept : Keeps (λ k. times k ps) xs new.0 = Keeps-for
     (λ k gone. omega (arith, sum k, sum_left k, around_whole k, gone, times-fork k sides.Left l left y low.node.expires h))
     (Keeps-then first_put.kept second.kept) in
@@ -234,7 +234,7 @@ two_at xs root id ps c l e h low mid new at old steps low_steps d Leaf e' h' res
     let fits = Fits-renamed d f g c h' refl refl cut.fits in
     let pairs_are : pairs (plug (d ++ g ∷ c) rest) ≡ without id ps = ap pairs (plug-append d (g ∷ c) rest)
     ∙ pairs-plug c (Fork l y low.node.expires h left)
-    ∙ ap (λ qs. before c ++ ((pairs l ++ qs) ++ after c)) (ap (λ x. (x, y) ∷ pairs left) (ap (λ (x : Node). x.expires) here) ∙ sym old_pairs)
+    ∙ ap (λ qs. pairs_before c ++ ((pairs l ++ qs) ++ pairs_after c)) (ap (λ x. (x, y) ∷ pairs left) (ap (λ (x : Node). x.expires) here) ∙ sym old_pairs)
     ∙ without_part c l e id h (plug d subtree) ps (sym (ap pairs (plug-append d (f ∷ c) subtree)) ∙ cut.pairs_are) once in
     let put : Cut new.0 new.1 (d ++ g ∷ c) rest h' (without id ps) = search arith in
     record {

@@ -8,8 +8,8 @@ use Rattle.timer_tree.specs.Nodes.{none, blank, child_side, node_at, with_links,
 use Rattle.timer_queue.specs.Pairs.{IsQueue}
 use Rattle.timer_tree.specs.Links.{adopted, with_child, replaced, relinked}
 use Rattle.timer_tree.specs.Trees.{Tree, Leaf, Fork, top, tall, pairs, Stands, IsAt, HasRank, IsBalanced, one, times, Keeps}
-use Rattle.timer_tree.specs.Contexts.{Frame, fork, filled, plug, parent_of, root_of, IsAround, around, before, after}
-use Rattle.timer_tree.specs.Contexts.{Fits, Fit, Cut, IsTree, Way, IsUnbalanced}
+use Rattle.timer_tree.specs.Contexts.{Frame, fork, filled, plug, parent_of, root_of, IsAround, around, pairs_before, pairs_after}
+use Rattle.timer_tree.specs.Contexts.{FitsRank, Fit, Cut, IsTree, Way, IsUnbalanced}
 use Rattle.timer_tree.specs.declared.node.Node.{Node}
 use Rattle.timer_tree.specs.declared.repair.Unbalanced.{Unbalanced}
 use Rattle.timer_tree.specs.declared.node.Side.{Side}
@@ -232,9 +232,9 @@ sides_of : (s : Side) (o t : Tree) (e n h : ℕ) (ps qs : List (ℕ × ℕ)) →
 sides_of sides.Left o t e n h ps qs = simp append_assoc refl
 sides_of sides.Right o t e n h ps qs = simp append_assoc refl
 
-pub pairs-plug : (c : List Frame) (t : Tree) → pairs (plug c t) ≡ before c ++ (pairs t ++ after c)
+pub pairs-plug : (c : List Frame) (t : Tree) → pairs (plug c t) ≡ pairs_before c ++ (pairs t ++ pairs_after c)
 pairs-plug [] t = sym (append-nil (pairs t))
-pairs-plug (f ∷ c) t = pairs-plug c (filled f t) ∙ sides_of f.side f.other t f.e f.n f.h (before c) (after c)
+pairs-plug (f ∷ c) t = pairs-plug c (filled f t) ∙ sides_of f.side f.other t f.e f.n f.h (pairs_before c) (pairs_after c)
 
 -- ---- a tree that is cut at a subtree
 
@@ -319,8 +319,8 @@ root_of-frames hole [] f c = refl
 root_of-frames hole (g ∷ d) f c = root_of-frames g.n d f c
 
 -- whether a context fits doesn't hang on the numbers of its nodes
-pub Fits-renamed : (d : List Frame) (f g : Frame) (c : List Frame) (h : ℕ) → g.h ≡ f.h → g.other ≡ f.other → Fits (d ++ f ∷ c) h → Fits (d ++ g ∷ c) h
+pub Fits-renamed : (d : List Frame) (f g : Frame) (c : List Frame) (h : ℕ) → g.h ≡ f.h → g.other ≡ f.other → FitsRank (d ++ f ∷ c) h → FitsRank (d ++ g ∷ c) h
 Fits-renamed [] f g c h same_h same_t fits =
-    subst (λ t. HasRank h (tall t) g.h × IsBalanced t × Fits c g.h) (sym same_t) (subst (λ k. HasRank h (tall f.other) k × IsBalanced f.other × Fits c k)
+    subst (λ t. HasRank h (tall t) g.h × IsBalanced t × FitsRank c g.h) (sym same_t) (subst (λ k. HasRank h (tall f.other) k × IsBalanced f.other × FitsRank c k)
     (sym same_h) fits)
 Fits-renamed (e ∷ d) f g c h same_h same_t fits = (fits.0, fits.1, Fits-renamed d f g c e.h same_h same_t fits.2)

@@ -49,19 +49,19 @@ around [] = []
 around (f ∷ c) = (f.e, f.n) ∷ pairs f.other ++ around c
 
 -- all pairs before the hole
-abbrev pub before : List Frame → List (ℕ × ℕ)
-before [] = []
-before (f ∷ c) = pick f.side (before c) (before c ++ (pairs f.other ++ (f.e, f.n) ∷ []))
+abbrev pub pairs_before : List Frame → List (ℕ × ℕ)
+pairs_before [] = []
+pairs_before (f ∷ c) = pick f.side (pairs_before c) (pairs_before c ++ (pairs f.other ++ (f.e, f.n) ∷ []))
 
 -- all pairs behind the hole
-abbrev pub after : List Frame → List (ℕ × ℕ)
-after [] = []
-after (f ∷ c) = pick f.side ((f.e, f.n) ∷ pairs f.other ++ after c) (after c)
+abbrev pub pairs_after : List Frame → List (ℕ × ℕ)
+pairs_after [] = []
+pairs_after (f ∷ c) = pick f.side ((f.e, f.n) ∷ pairs f.other ++ pairs_after c) (pairs_after c)
 
 -- the context is balanced where its hole holds a subtree of this rank
-abbrev pub Fits : List Frame → ℕ → Type 0
-Fits [] h = Unit
-Fits (f ∷ c) h = HasRank h (tall f.other) f.h × IsBalanced f.other × Fits c f.h
+abbrev pub FitsRank : List Frame → ℕ → Type 0
+FitsRank [] h = Unit
+FitsRank (f ∷ c) h = HasRank h (tall f.other) f.h × IsBalanced f.other × FitsRank c f.h
 
 -- these pairs are a queue that fits the block, and each timer stands once
 pub record Fit (xs : List Node) (ps : List (ℕ × ℕ)) : Type 0 where
@@ -77,7 +77,7 @@ pub record Cut (xs : List Node) (root : ℕ) (c : List Frame) (t : Tree) (h : �
   pub under : IsAt xs (parent_of c) t
   pub root_is : root ≡ root_of (top t) c
   pub balanced : IsBalanced t
-  pub fits : Fits c h
+  pub fits : FitsRank c h
   pub pairs_are : pairs (plug c t) ≡ ps
 
 -- the block holds a balanced tree of these pairs

@@ -3,7 +3,7 @@ use Rattle.std.specs.Prelude.{ℕ, ◌+◌, ◌≡◌, nat_eq, nat_lt, if◌then
 use Rattle.timer_queue.specs.Pairs.{put}
 use Rattle.timer_tree.specs.Nodes.{none}
 use Rattle.timer_tree.specs.Trees.{Tree, Leaf, top, tall, pairs}
-use Rattle.timer_tree.specs.Contexts.{Frame, parent_of, before, after, Cut}
+use Rattle.timer_tree.specs.Contexts.{Frame, parent_of, pairs_before, pairs_after, Cut}
 use Rattle.timer_tree.specs.declared.node.Node.{Node}
 use Rattle.timer_tree.specs.declared.node.Side.{Side}
 use Rattle.timer_tree.specs.declared.node.Side.TheVariants as sides
@@ -25,7 +25,7 @@ pub record IsFinding (xs : List Node) (root parent at expires : ℕ) (ps : List 
   pub at_is : at ≡ top subtree
   pub parent_is : parent ≡ parent_of context
   pub side : IsOnSide expires context
-  pub puts : (id : ℕ) → put expires id ps ≡ before context ++ (put expires id (pairs subtree) ++ after context)
+  pub puts : (id : ℕ) → put expires id ps ≡ pairs_before context ++ (put expires id (pairs subtree) ++ pairs_after context)
   pub count : steps ≡ old_steps + length context
 
 -- the place where a pair of this expiry belongs
@@ -34,7 +34,7 @@ pub record IsPlace (xs : List Node) (root parent expires : ℕ) (ps : List (ℕ 
   pub cut : Cut xs root context Leaf 0 ps
   pub parent_is : parent ≡ parent_of context
   pub side : IsOnSide expires context
-  pub puts : (id : ℕ) → put expires id ps ≡ before context ++ ((expires, id) ∷ after context)
+  pub puts : (id : ℕ) → put expires id ps ≡ pairs_before context ++ ((expires, id) ∷ pairs_after context)
   pub count : steps ≡ old_steps + length context
 
 -- the number of the first timer once this one is inserted on a side of this parent

@@ -3,7 +3,7 @@ use Rattle.std.specs.Prelude.{ℕ, ◌+◌, ◌*◌, ◌^◌, ◌<◌, ◌≤◌
 use Rattle.timer_queue.specs.Pairs.{without}
 use Rattle.timer_tree.specs.Nodes.{node_at}
 use Rattle.timer_tree.specs.Trees.{Tree, Fork, times, Keeps}
-use Rattle.timer_tree.specs.Contexts.{Frame, before, Cut, IsTree, IsUnbalanced}
+use Rattle.timer_tree.specs.Contexts.{Frame, pairs_before, Cut, IsTree, IsUnbalanced}
 use Rattle.timer_tree.specs.declared.node.Node.{Node}
 use Rattle.timer_tree.specs.declared.repair.Unbalanced.{Unbalanced}
 
@@ -15,7 +15,7 @@ pub record IsLowering (xs : List Node) (root : ℕ) (above : List Frame) (ps : L
   pub h : ℕ
   pub r : Tree
   pub cut : Cut xs root (context ++ above) (Fork l n e h r) h ps
-  pub first : before context ≡ []
+  pub first : pairs_before context ≡ []
   pub node_is : node ≡ node_at xs n
   pub count : steps ≡ old_steps + length context + 1
 

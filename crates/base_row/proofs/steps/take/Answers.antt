@@ -14,7 +14,7 @@ compare_exchange-requires c =
     let half : c.args.first ≡ c.args.first / 2 + c.args.first / 2 = omega (arith, c.requires.known.1) in (
       c.requires.may.same,
       c.requires.may.inside,
-      rw (c.requires.may.empty)
+      rw (c.requires.empty)
           (takes_by key.0 key.1.value.items seat.id seat.me.0 c.requires.may.about c.requires.may.live c.args.cells.now.table_id.slots c.args.base
           c.args.word (c.args.first / 2) c.args.first (c.args.first + 1) c.requires.may.at c.requires.may.within c.requires.may.idle
           (c.requires.known.0 ∙ half) half (omega arith)),

@@ -1,5 +1,5 @@
 use Rattle.std.proofs.Common.{◌≡◌, rules, length, map, ap, sym, ◌∙◌, subst}
-use Rattle.counted_row_uses.specs.Lanes.{IsMain, name_of}
+use Rattle.counted_row_uses.specs.Lanes.{IsMainPass, name_of}
 use Rattle.counted_row_uses.proofs.Covering.{same_names, written, main_same}
 use Rattle.counted_row_uses.proofs.lanes.count_in_lanes.Goals as goal
 
@@ -11,5 +11,5 @@ returns-clause-main g c = λ main is.
     let value = c.deref_mut.ensures.value in
     let len : length new ≡ length lent = search rules in
     let names = same_names lent new len (λ k d h. let t = (c.for_each_mut.ensures k d h).1 in search rules) ∙ ap (map name_of) value in
-    subst (λ lanes. IsMain c.args.row.now main lanes) (sym (written new old.items old.len (len ∙ ap length value) old.ok.0))
+    subst (λ lanes. IsMainPass c.args.row.now main lanes) (sym (written new old.items old.len (len ∙ ap length value) old.ok.0))
     (main_same c.args.row.now main old.items new names is)

@@ -3,7 +3,7 @@ use Rattle.std.specs.Prelude.{All}
 use Rattle.std.proofs.lemmas.List.{length_push}
 use Rattle.std.proofs.lemmas.List.Elements.{All-push}
 use Rattle.counted_row_uses.specs.declared.lanes.Lane.{Lane}
-use Rattle.counted_row_uses.specs.Lanes.{IsIdleLane, IsMain}
+use Rattle.counted_row_uses.specs.Lanes.{IsIdleLane, IsMainPass}
 use Rattle.counted_row_uses.proofs.Covering.{main_split, main_joins, idle_new}
 use Rattle.counted_row_uses.proofs.lanes.lanes_of.Goals as goal
 
@@ -16,10 +16,10 @@ retire_all-requires-clause-main c =
     let wider = main_split row c.loop.main c.split-pass.new.pass c.loop.all.items lane c.loop.invariant.main split.row.0 split.splitter split.new in
     let back =
     main_joins row c.split-pass.new.pass c.join.new.main c.loop.all.items c.in-Err.refused.value
-    (subst (λ x. IsMain row c.split-pass.new.pass (c.loop.all.items ++ x ∷ [])) (sym same) wider)
+    (subst (λ x. IsMainPass row c.split-pass.new.pass (c.loop.all.items ++ x ∷ [])) (sym same) wider)
     (subst (λ x. IsIdleLane row x) (sym same) (idle_new row lane c.loop.main.knows split.row.1 split.new))
     c.join.ensures.row c.join.ensures.idle c.join.ensures.claims c.join.ensures.retires.id in
-    subst (λ lanes. IsMain row c.join.new.main lanes) (sym c.in-Err.ensures.items) back
+    subst (λ lanes. IsMainPass row c.join.new.main lanes) (sym c.in-Err.ensures.items) back
 
 pub loop-preserved : goal.loop-preserved
 loop-preserved c =
@@ -33,5 +33,5 @@ loop-preserved c =
       lanes = subst (λ lanes. All (λ lane. IsIdleLane row lane) lanes) (sym items)
           (All-push (λ lane. IsIdleLane row lane) c.loop.all.items lane c.loop.invariant.lanes
           (idle_new row lane c.loop.main.knows c.split-pass.ensures.row.1 c.split-pass.ensures.new));
-      main = subst (λ lanes. IsMain row c.split-pass.new.pass lanes) (sym items) wider;
+      main = subst (λ lanes. IsMainPass row c.split-pass.new.pass lanes) (sym items) wider;
     }

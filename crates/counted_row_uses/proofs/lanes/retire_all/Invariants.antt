@@ -1,11 +1,11 @@
 use Rattle.std.specs.Prelude.{All, vec_len}
-use Rattle.counted_row_uses.specs.Lanes.{IsIdleLane, IsMain}
+use Rattle.counted_row_uses.specs.Lanes.{IsIdleLane, IsMainPass}
 use Rattle.counted_row_uses.proofs.lanes.retire_all.Given as goal
 
 abbrev pub invariant-loop-lane : goal.invariant-loop-lane
 invariant-loop-lane l = record {
   lanes : All (λ lane. IsIdleLane l.row lane) l.lanes.items;
-  main : IsMain l.row l.main l.lanes.items;
+  main : IsMainPass l.row l.main l.lanes.items;
 }
 
 abbrev pub decreases-loop-lane : goal.decreases-loop-lane

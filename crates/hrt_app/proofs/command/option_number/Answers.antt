@@ -3,7 +3,7 @@ use Rattle.clap.specs.Words.{found_of, rows_of}
 use Rattle.clap.proofs.WalkLemmas.{first_value-rows}
 use Rattle.script_text.specs.Reading.{number_in}
 use Rattle.hrt_app.proofs.Asking.{not_given, not_read, outside, within}
-use Rattle.hrt_app.proofs.command.number_of.Goals as goal
+use Rattle.hrt_app.proofs.command.option_number.Goals as goal
 
 pub returns-in_err-get_str-clause-number : goal.returns-in_err-get_str-clause-number
 returns-in_err-get_str-clause-number c =
