@@ -7,3 +7,11 @@ mod of_timer_objects;
 mod passes;
 mod stand;
 mod waiting;
+
+use std::fmt::Debug;
+use std::process::Abort;
+
+/// Fails the test where these differ, and shows both; it is proved once, an `assert_eq!` in each test.
+fn assert_equal<T: PartialEq + Debug + Drop>(rt: &impl Abort, got: T, wanted: T) {
+    assert_eq!(rt; got, wanted);
+}

@@ -16,6 +16,13 @@ use expire_pass::Log;
 use hr_timers::{Pass, Timers};
 use ktime::ClockId;
 use std::alloc::{AllocError, Global};
+use std::fmt::Debug;
+use std::process::Abort;
+
+/// Fails the test where these differ, and shows both; it is proved once, an `assert_eq!` in each test.
+fn assert_equal<T: PartialEq + Debug + Drop>(rt: &impl Abort, got: T, wanted: T) {
+    assert_eq!(rt; got, wanted);
+}
 
 /// So many timers on the monotonic clock, so many bases, and a log with room for 64 receipts.
 fn some_timers(alloc: Global, bases: u32, count: usize) -> Result<(Timers, Pass, Log), AllocError>

@@ -16,10 +16,17 @@ use crate::{
 use ktime::{ClockId, Mode, Reading, TimeSpec};
 use posix_timer::PosixState;
 use std::alloc::AllocError;
+use std::fmt::Debug;
+use std::process::Abort;
 use timer_core::Core;
 use timer_fd::FdState;
 use timer_queue::ListQueue;
 use timer_setting::{ObjectTimer, Phase, Wanted};
+
+/// Fails the test where these differ, and shows both; it is proved once, an `assert_eq!` in each test.
+fn assert_equal<T: PartialEq + Debug + Drop>(rt: &impl Abort, got: T, wanted: T) {
+    assert_eq!(rt; got, wanted);
+}
 
 fn ns(nsec: u64) -> TimeSpec
     ensures { result ≡ record { sec = 0; nsec = nsec } }
@@ -55,10 +62,14 @@ fn armed(generation: u64, clock: ClockId, expires: u64) -> Phase {
 #[test]
 fn a_timer_expires_once(rt: HostRuntime) -> Result<(), AllocError> {
     let mut core = Core::<ListQueue>::make(rt.alloc(), 1, &[ClockId::Monotonic], 100)?;
-    assert_eq!(rt; start_once(&mut core, 0, 100, 0, Reading::at(5)), Some(1));
-    assert_eq!(rt; expire_once(&mut core, 0, Reading::at(104)), None);
-    assert_eq!(rt; expire_once(&mut core, 0, Reading::at(105)), Some(0));
-    assert_eq!(rt; expire_once(&mut core, 0, Reading::at(200)), None);
+    assert_equal(
+        &rt,
+        start_once(&mut core, 0, 100, 0, Reading::at(5)),
+        Some(1),
+    );
+    assert_equal(&rt, expire_once(&mut core, 0, Reading::at(104)), None);
+    assert_equal(&rt, expire_once(&mut core, 0, Reading::at(105)), Some(0));
+    assert_equal(&rt, expire_once(&mut core, 0, Reading::at(200)), None);
     Ok(())
 }
 
@@ -67,10 +78,14 @@ fn a_periodic_timer_ticks(rt: HostRuntime) -> Result<(), AllocError> {
     let mut core = Core::<ListQueue>::make(rt.alloc(), 1, &[ClockId::Monotonic], 100)?;
     start_once(&mut core, 0, 100, 0, Reading::at(0));
     let late = expire_periodic(&mut core, 0, Reading::at(135), 10);
-    assert_eq!(rt; late, Some(Tick { timer: 0, count: 4 }));
-    assert_eq!(rt; expire_periodic(&mut core, 0, Reading::at(139), 10), None);
+    assert_equal(&rt, late, Some(Tick { timer: 0, count: 4 }));
+    assert_equal(
+        &rt,
+        expire_periodic(&mut core, 0, Reading::at(139), 10),
+        None,
+    );
     let next = expire_periodic(&mut core, 0, Reading::at(140), 10);
-    assert_eq!(rt; next, Some(Tick { timer: 0, count: 1 }));
+    assert_equal(&rt, next, Some(Tick { timer: 0, count: 1 }));
     Ok(())
 }
 
@@ -79,13 +94,13 @@ fn a_posix_timer_counts_its_overrun(rt: HostRuntime) -> Result<(), AllocError> {
     let mut core = Core::<ListQueue>::make(rt.alloc(), 1, &[ClockId::Monotonic], 100)?;
     let mut timer = PosixState::make(ClockId::Monotonic, 0, 100);
     arm_periodic(&mut core, &mut timer, 0, ns(100), ns(10), Reading::at(0));
-    assert_eq!(rt; expire_once(&mut core, 0, Reading::at(100)), Some(0));
+    assert_equal(&rt, expire_once(&mut core, 0, Reading::at(100)), Some(0));
     assert!(rt; signal_expired(&mut timer, 1, Reading::at(100)));
     let overrun = accept_signal(&mut core, &mut timer, 0, Reading::at(135));
-    assert_eq!(rt; overrun, Some(3));
-    assert_eq!(rt; timer.getoverrun(), 3);
-    assert_eq!(rt; expire_once(&mut core, 0, Reading::at(139)), None);
-    assert_eq!(rt; expire_once(&mut core, 0, Reading::at(140)), Some(0));
+    assert_equal(&rt, overrun, Some(3));
+    assert_equal(&rt, timer.getoverrun(), 3);
+    assert_equal(&rt, expire_once(&mut core, 0, Reading::at(139)), None);
+    assert_equal(&rt, expire_once(&mut core, 0, Reading::at(140)), Some(0));
     Ok(())
 }
 
@@ -101,18 +116,20 @@ fn a_descriptor_is_read(rt: HostRuntime) -> Result<(), AllocError> {
         ns(10),
         Reading::at(0),
     );
-    assert_eq!(rt; expire_once(&mut core, 0, Reading::at(100)), Some(0));
-    assert!(rt; descriptor_expired(&mut descriptor, 1, Reading::at(100)));
+    assert_equal(&rt, expire_once(&mut core, 0, Reading::at(100)), Some(0));
+    assert!(rt; descriptor_expired(&mut descriptor, 1, Reading::at(100)),);
     assert!(rt; descriptor.readable(Reading::at(100)));
-    assert_eq!(rt;
+    assert_equal(
+        &rt,
         read_count(&mut core, &mut descriptor, 0, Reading::at(135)),
-        Some(4)
+        Some(4),
     );
-    assert_eq!(rt; expire_once(&mut core, 0, Reading::at(140)), Some(0));
+    assert_equal(&rt, expire_once(&mut core, 0, Reading::at(140)), Some(0));
     let mut unset = FdState::make(ClockId::Monotonic, 0, 100);
-    assert_eq!(rt;
+    assert_equal(
+        &rt,
         read_count(&mut core, &mut unset, 0, Reading::at(140)),
-        None
+        None,
     );
     Ok(())
 }

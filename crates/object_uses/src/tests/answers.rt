@@ -1,6 +1,7 @@
 //! What the calls of one thread answer, and the receipts of their entries.
 ghost use Rattle.std.specs.Prelude.{◌<◌, ◌≤◌};
 
+use super::assert_equal;
 use super::expected::{
     NONE, cancel, fd_read, fd_set, fired, old, posix, posix_old, posix_set, posix_triggered, ran,
     settime, start, taken,
@@ -9,6 +10,7 @@ use super::stand::{FD, POSIX, Stand, Step, Told};
 use expire_pass::Receipt;
 use ktime::{ClockId, Mode, Reading};
 use posix_timer::AcceptAnswer;
+use std::process::Abort;
 use std::sync::Wait;
 use std::test::Fail;
 use timer_fd::{ReadAnswer, SettimeAnswer};
@@ -73,18 +75,19 @@ fn taken_steps<R: Wait + AllocGlobal>(
     Ok((other, stand.close()))
 }
 
-/// The same without the triggers.
-fn first_other<R: Wait + AllocGlobal>(
+/// The same; it fails where anything was otherwise.
+fn goes_as_expected<R: Wait + AllocGlobal + Abort>(
     rt: &R,
     objects: (ClockId, u64),
     cases: &[Case],
     entries: &[Receipt],
     calls: &[ObjectReceipt],
-) -> Result<Option<Other>, Fail>
+) -> Result<(), Fail>
     requires limit { (0 < objects.1) × (objects.1 ≤ 1000) }
 {
     let (other, _) = taken_steps(rt, objects, cases, entries, calls)?;
-    Ok(other)
+    assert_equal(rt, other, None);
+    Ok(())
 }
 
 /// The entries of a timer that is started at a reading for a time, expires once, and is armed again for another time at another reading.
@@ -131,9 +134,9 @@ fn a_periodic_timer_tells_its_overrun(rt: HostRuntime) -> Result<(), Fail> {
     ];
     let objects = (ClockId::Monotonic, 100);
     let (other, triggers) = taken_steps(&rt, objects, &cases, &entries, &calls)?;
-    assert_eq!(rt; other, None);
+    assert_equal(&rt, other, None);
     let trigger = posix_triggered(2, due, TriggerAnswer::Counted);
-    assert_eq!(rt; triggers.receipts(), [trigger].as_slice());
+    assert_equal(&rt, triggers.receipts(), [trigger].as_slice());
     Ok(())
 }
 
@@ -148,7 +151,7 @@ fn a_descriptor_counts_its_expiries(rt: HostRuntime) -> Result<(), Fail> {
         (Step::Read(8), late, Told::Read(ReadAnswer::Again)),
         (Step::Read(7), late, Told::Read(ReadAnswer::ShortBuffer)),
     ];
-    assert_eq!(rt; count.bytes(), Some([4, 0, 0, 0, 0, 0, 0, 0]));
+    assert_equal(&rt, count.bytes(), Some([4, 0, 0, 0, 0, 0, 0, 0]));
     let entries = armed_again(FD, ClockId::Monotonic, (100, zero), due, (140, late));
     let set = settime(1, 100, 10, zero, Arm::Armed(1));
     let calls = [
@@ -157,8 +160,7 @@ fn a_descriptor_counts_its_expiries(rt: HostRuntime) -> Result<(), Fail> {
         fd_read(4, late, Arm::NotAsked, 4, 4, ReadAnswer::Again),
     ];
     let objects = (ClockId::Monotonic, 100);
-    assert_eq!(rt; first_other(&rt, objects, &cases, &entries, &calls)?, None);
-    Ok(())
+    goes_as_expected(&rt, objects, &cases, &entries, &calls)
 }
 
 #[test]
@@ -191,7 +193,7 @@ fn a_gettime_tells_what_is_left(rt: HostRuntime) -> Result<(), Fail> {
         ),
         (Step::Readable, late, Told::Readable(ready)),
     ];
-    assert_eq!(rt; first_told(&rt, &mut stand, &cases), None);
+    assert_equal(&rt, first_told(&rt, &mut stand, &cases), None);
     stand.close();
     Ok(())
 }
@@ -235,8 +237,7 @@ fn a_set_clock_cancels_a_setting(rt: HostRuntime) -> Result<(), Fail> {
         fd_read(6, seventy, Arm::NotAsked, 5, 5, ReadAnswer::Again),
     ];
     let objects = (ClockId::Realtime, 100);
-    assert_eq!(rt; first_other(&rt, objects, &cases, &entries, &calls)?, None);
-    Ok(())
+    goes_as_expected(&rt, objects, &cases, &entries, &calls)
 }
 
 #[test]
@@ -254,8 +255,7 @@ fn a_clock_set_back_before_the_expiry_leaves_none_to_read(rt: HostRuntime) -> Re
         fd_read(3, back, Arm::Armed(4), 3, 4, ReadAnswer::Again),
     ];
     let objects = (ClockId::Realtime, 100);
-    assert_eq!(rt; first_other(&rt, objects, &cases, &entries, &calls)?, None);
-    Ok(())
+    goes_as_expected(&rt, objects, &cases, &entries, &calls)
 }
 
 #[test]
@@ -285,6 +285,5 @@ fn a_full_history_refuses_a_settime(rt: HostRuntime) -> Result<(), Fail> {
         posix_set(3, zero, Arm::Unarmed(4), 3, 4, unarmed),
     ];
     let objects = (ClockId::Monotonic, 3);
-    assert_eq!(rt; first_other(&rt, objects, &cases, &entries, &calls)?, None);
-    Ok(())
+    goes_as_expected(&rt, objects, &cases, &entries, &calls)
 }

@@ -1,6 +1,7 @@
 //! A read of a descriptor beside the run that expires its timer, by two threads: whichever comes first, no expiry is lost and none counted twice.
 ghost use Rattle.std.specs.Prelude.{◌≤◌, ◌<◌};
 
+use super::assert_equal;
 use super::expected::old;
 use super::stand::{FD, Stand, Step, Told};
 use crate::{Expired, read_beside};
@@ -56,7 +57,7 @@ fn a_read_beside_a_run_loses_no_expiry(rt: HostRuntime) -> Result<(), Fail> {
     let mut stand = Stand::make(rt.alloc(), ClockId::Monotonic, 100)?;
     let late = Reading::at(135);
     let step = Step::Settime(FD, 1, 100, 10);
-    assert_eq!(rt; stand.take(&rt, step, Reading::at(0)), old(0, 0));
+    assert_equal(&rt, stand.take(&rt, step, Reading::at(0)), old(0, 0));
     assert!(rt; stand.reserve(8, 2).is_ok());
     let (ran, first) = stand.read_beside(&rt, rt.alloc(), late, &mut runs);
     let Ok(
@@ -70,19 +71,19 @@ fn a_read_beside_a_run_loses_no_expiry(rt: HostRuntime) -> Result<(), Fail> {
         stand.close();
         return Err(AllocError.into());
     };
-    assert_eq!(rt; answer, ExpireAnswer::Done { fired: 1 });
+    assert_equal(&rt, answer, ExpireAnswer::Done { fired: 1 });
     let count = ReadAnswer::Count { total: 4 };
     let (told, rest, order) = if first == ReadAnswer::Again {
         (ReadAnswer::Again, count, (Some(2), Some(3)))
     } else {
         (count, ReadAnswer::Again, (Some(3), Some(2)))
     };
-    assert_eq!(rt; first, told);
-    assert_eq!(rt; stand.take(&rt, Step::Read(8), late), Told::Read(rest));
+    assert_equal(&rt, first, told);
+    assert_equal(&rt, stand.take(&rt, Step::Read(8), late), Told::Read(rest));
     let read = number_at(stand.calls.receipts(), 1);
     let trigger = number_at(object_log.receipts(), 0);
-    assert_eq!(rt; (read, trigger), order);
-    assert_eq!(rt; number_at(stand.calls.receipts(), 2), Some(4));
+    assert_equal(&rt, (read, trigger), order);
+    assert_equal(&rt, number_at(stand.calls.receipts(), 2), Some(4));
     stand.close();
     Ok(())
 }

@@ -1,4 +1,5 @@
 //! The log of `expire_pass` as callers use it.
+use super::assert_equal;
 use super::expected::{cancel, entry};
 use expire_pass::{Log, Noted, Receipt};
 use seq_timer::{Event, Observation, Rearmed, Reply};
@@ -7,7 +8,7 @@ use std::test::Fail;
 #[test]
 fn receipts_stand_in_the_order_of_their_notes(rt: HostRuntime) -> Result<(), Fail> {
     let mut log = Log::make(rt.alloc());
-    assert_eq!(rt; log.spare(), 0);
+    assert_equal(&rt, log.spare(), 0);
     log.reserve(3)?;
     let finish = Event::Finish { restart: true };
     let finished = Reply::Finish {
@@ -33,10 +34,10 @@ fn receipts_stand_in_the_order_of_their_notes(rt: HostRuntime) -> Result<(), Fai
         },
     );
     log.note_look(3, 7, Event::Cancel, Observation::Idle);
-    assert_eq!(rt; log.receipts().len(), 3);
-    assert_eq!(rt; log.receipts()[0], first);
-    assert_eq!(rt; log.receipts()[1], second);
-    assert_eq!(rt; log.receipts()[2], third);
-    assert_eq!(rt; log.spare(), 0);
+    assert_equal(&rt, log.receipts().len(), 3);
+    assert_equal(&rt, log.receipts()[0], first);
+    assert_equal(&rt, log.receipts()[1], second);
+    assert_equal(&rt, log.receipts()[2], third);
+    assert_equal(&rt, log.spare(), 0);
     Ok(())
 }

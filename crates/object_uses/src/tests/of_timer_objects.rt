@@ -5,6 +5,7 @@ ghost use Rattle.timer_objects.specs.Callbacks.{bases_for};
 ghost use Rattle.timer_objects.specs.Known.{IsObjectsPass};
 ghost use Rattle.object_uses.specs.Callers.{MayCall};
 
+use super::assert_equal;
 use super::expected::{entry, fd_triggered, posix_triggered, start};
 use super::stand::decl_of;
 use crate::{Expired, expire_objects, set_timer};
@@ -137,9 +138,9 @@ fn ran<R: Wait>(rt: &R, alloc: Global, callback: Callback) -> Result<Noting, All
 #[test]
 fn a_timer_that_expires_once_has_nothing_to_note(rt: HostRuntime) -> Result<(), Fail> {
     let noting = ran(&rt, rt.alloc(), Callback::Once)?;
-    assert_eq!(rt; noting.log.receipts().len(), 0);
-    assert_eq!(rt; noting.object_log.receipts().len(), 0);
-    assert_eq!(rt; ending(&noting), Some(Event::Finish { restart: false }));
+    assert_equal(&rt, noting.log.receipts().len(), 0);
+    assert_equal(&rt, noting.object_log.receipts().len(), 0);
+    assert_equal(&rt, ending(&noting), Some(Event::Finish { restart: false }));
     Ok(())
 }
 
@@ -155,9 +156,9 @@ fn a_periodic_timer_notes_its_forward(rt: HostRuntime) -> Result<(), Fail> {
         expires: 140,
     };
     let receipt = entry(0, 3, forward, forwarded);
-    assert_eq!(rt; noting.log.receipts(), [receipt].as_slice());
-    assert_eq!(rt; noting.object_log.receipts().len(), 0);
-    assert_eq!(rt; ending(&noting), Some(Event::Finish { restart: true }));
+    assert_equal(&rt, noting.log.receipts(), [receipt].as_slice());
+    assert_equal(&rt, noting.object_log.receipts().len(), 0);
+    assert_equal(&rt, ending(&noting), Some(Event::Finish { restart: true }));
     Ok(())
 }
 
@@ -170,8 +171,8 @@ fn a_function_sees_its_own_timer_run(rt: HostRuntime) -> Result<(), Fail> {
         event: Event::Cancel,
         reply: Noted::Look(Observation::Running { generation: 1 }),
     };
-    assert_eq!(rt; noting.log.receipts(), [look].as_slice());
-    assert_eq!(rt; ending(&noting), Some(Event::Finish { restart: false }));
+    assert_equal(&rt, noting.log.receipts(), [look].as_slice());
+    assert_equal(&rt, ending(&noting), Some(Event::Finish { restart: false }));
     Ok(())
 }
 
@@ -180,8 +181,8 @@ fn a_function_starts_its_own_timer(rt: HostRuntime) -> Result<(), Fail> {
     let noting = ran(&rt, rt.alloc(), Callback::Starts(50, 0))?;
     let at = Reading::at(130);
     let started = start(0, 3, Mode::Rel, 50, at, ClockId::Monotonic, 180);
-    assert_eq!(rt; noting.log.receipts(), [started].as_slice());
-    assert_eq!(rt; ending(&noting), Some(Event::Finish { restart: true }));
+    assert_equal(&rt, noting.log.receipts(), [started].as_slice());
+    assert_equal(&rt, ending(&noting), Some(Event::Finish { restart: true }));
     Ok(())
 }
 

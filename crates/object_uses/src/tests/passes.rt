@@ -1,6 +1,7 @@
 //! A pass that was split off, and what the first one hears of it.
 ghost use Rattle.std.specs.Prelude.{◌≤◌, ◌<◌};
 
+use super::assert_equal;
 use super::expected::{NONE, old};
 use super::stand::{FD, POSIX, Stand, Step};
 use crate::{hear_all, set_timer};
@@ -49,20 +50,22 @@ impl Stand {
 fn a_pass_hears_all(rt: HostRuntime) -> Result<(), Fail> {
     let mut stand = Stand::make(rt.alloc(), ClockId::Monotonic, 100)?;
     let zero = Reading::at(0);
-    assert_eq!(rt;
+    assert_equal(
+        &rt,
         stand.take(&rt, Step::Settime(POSIX, 1, 100, 0), zero),
-        old(0, 0)
+        old(0, 0),
     );
     assert!(rt; stand.reserve(16, 4).is_ok());
-    assert_eq!(rt; stand.set_by_another(&rt, FD), NONE);
-    assert_eq!(rt;
+    assert_equal(&rt, stand.set_by_another(&rt, FD), NONE);
+    assert_equal(
+        &rt,
         stand.take(&rt, Step::Settime(FD, 1, 200, 0), zero),
-        old(100, 0)
+        old(100, 0),
     );
     let calls = stand.calls.receipts();
-    assert_eq!(rt; seen_at(calls, 0), Some((POSIX, 1, 0, 1)));
-    assert_eq!(rt; seen_at(calls, 1), Some((FD, 1, 0, 1)));
-    assert_eq!(rt; seen_at(calls, 2), Some((FD, 2, 1, 3)));
+    assert_equal(&rt, seen_at(calls, 0), Some((POSIX, 1, 0, 1)));
+    assert_equal(&rt, seen_at(calls, 1), Some((FD, 1, 0, 1)));
+    assert_equal(&rt, seen_at(calls, 2), Some((FD, 2, 1, 3)));
     stand.close();
     Ok(())
 }

@@ -7,6 +7,7 @@ ghost use Rattle.timer_objects.specs.declared.object.Kind.TheVariants as kinds;
 ghost use Rattle.timer_objects.specs.Known.{IsObjectsPass, decl_at};
 ghost use Rattle.object_uses.specs.Callers.{HasPasses, KeepsPasses, MayCall};
 
+use super::assert_equal;
 use super::expected::{NONE, fd_set, fd_triggered, old, ran, settime, start};
 use super::stand::{FD, POSIX, Stand, Step};
 use crate::set_timer;
@@ -272,9 +273,10 @@ fn settime_waits_for_the_trigger(rt: HostRuntime) -> Result<(), Fail> {
     runs.reserve(2)?;
     let mut stand = Stand::make(rt.alloc(), ClockId::Monotonic, 100)?;
     let (zero, due) = (Reading::at(0), Reading::at(100));
-    assert_eq!(rt;
+    assert_equal(
+        &rt,
         stand.take(&rt, Step::Settime(FD, 1, 100, 0), zero),
-        old(0, 0)
+        old(0, 0),
     );
     assert!(rt; stand.reserve(8, 2).is_ok());
     let (function, told) = stand.set_beside(&rt, rt.alloc(), &mut runs);
@@ -290,26 +292,28 @@ fn settime_waits_for_the_trigger(rt: HostRuntime) -> Result<(), Fail> {
         return Err(AllocError.into());
     };
     assert!(rt; met);
-    assert_eq!(rt; answer, ExpireAnswer::More { fired: 1 });
-    assert_eq!(rt; told, Some(NONE));
-    assert_eq!(rt; runs.receipts(), ran(FD, due).as_slice());
+    assert_equal(&rt, answer, ExpireAnswer::More { fired: 1 });
+    assert_equal(&rt, told, Some(NONE));
+    assert_equal(&rt, runs.receipts(), ran(FD, due).as_slice());
     let entries = [
         start(FD, 1, Mode::Abs, 100, zero, ClockId::Monotonic, 100),
         start(POSIX, 1, Mode::Abs, 500, due, ClockId::Monotonic, 500),
         start(FD, 4, Mode::Abs, 500, due, ClockId::Monotonic, 500),
     ];
-    assert_eq!(rt; stand.log.receipts(), entries.as_slice());
+    assert_equal(&rt, stand.log.receipts(), entries.as_slice());
     let trigger = fd_triggered(FD, due);
-    assert_eq!(rt; triggers.receipts(), [trigger].as_slice());
+    assert_equal(&rt, triggers.receipts(), [trigger].as_slice());
     let first = settime(1, 100, 0, zero, Arm::Armed(1));
     let late = settime(1, 500, 0, due, Arm::Armed(4));
-    assert_eq!(rt;
+    assert_equal(
+        &rt,
         stand.calls.receipts().get(0).copied(),
-        Some(fd_set(1, first, 0, 1, NONE))
+        Some(fd_set(1, first, 0, 1, NONE)),
     );
-    assert_eq!(rt;
+    assert_equal(
+        &rt,
         stand.calls.receipts().get(2).copied(),
-        Some(fd_set(3, late, 3, 4, NONE))
+        Some(fd_set(3, late, 3, 4, NONE)),
     );
     stand.close();
     Ok(())

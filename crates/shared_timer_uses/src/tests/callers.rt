@@ -1,5 +1,5 @@
 //! The callers, each run by one pass.
-use super::some_timers;
+use super::{assert_equal, some_timers};
 use crate::{Stopped, Tick, expire_once, expire_periodic, start_once, stop_and_wait, stop_now};
 use expire_pass::{Noted, Receipt};
 use ktime::Reading;
@@ -11,12 +11,12 @@ fn a_timer_expires_once(rt: HostRuntime) -> Result<(), Fail> {
     let (timers, mut pass, mut log) = some_timers(rt.alloc(), 2, 2)?;
     let now = Reading::at(105);
     let armed = start_once(&rt, &timers, &mut pass, 1, 100, 0, Reading::at(5));
-    assert_eq!(rt; armed, Some(1));
+    assert_equal(&rt, armed, Some(1));
     let early = expire_once(&rt, &timers, &mut pass, 0, Reading::at(104), &mut log);
-    assert_eq!(rt; early, None);
-    assert_eq!(rt; log.receipts().len(), 0);
+    assert_equal(&rt, early, None);
+    assert_equal(&rt, log.receipts().len(), 0);
     let ran = expire_once(&rt, &timers, &mut pass, 0, now, &mut log);
-    assert_eq!(rt; ran, Some(1));
+    assert_equal(&rt, ran, Some(1));
     let claim = Receipt {
         timer: 1,
         number: 2,
@@ -35,9 +35,9 @@ fn a_timer_expires_once(rt: HostRuntime) -> Result<(), Fail> {
             rearmed: Rearmed::No,
         }),
     };
-    assert_eq!(rt; log.receipts(), [claim, finish].as_slice());
+    assert_equal(&rt, log.receipts(), [claim, finish].as_slice());
     let again = expire_once(&rt, &timers, &mut pass, 0, Reading::at(900), &mut log);
-    assert_eq!(rt; again, None);
+    assert_equal(&rt, again, None);
     timers.close(pass);
     Ok(())
 }
@@ -52,16 +52,16 @@ fn a_periodic_timer_ticks(rt: HostRuntime) -> Result<(), Fail> {
         expires: 140,
     };
     let told = expire_periodic(&rt, &timers, &mut pass, 0, Reading::at(135), 10, &mut log);
-    assert_eq!(rt; told, Some(late));
+    assert_equal(&rt, told, Some(late));
     let told = expire_periodic(&rt, &timers, &mut pass, 0, Reading::at(139), 10, &mut log);
-    assert_eq!(rt; told, None);
+    assert_equal(&rt, told, None);
     let next = Tick {
         timer: 0,
         count: 1,
         expires: 150,
     };
     let told = expire_periodic(&rt, &timers, &mut pass, 0, Reading::at(140), 10, &mut log);
-    assert_eq!(rt; told, Some(next));
+    assert_equal(&rt, told, Some(next));
     assert!(rt; stop_and_wait(&rt, &timers, &mut pass, 0));
     timers.close(pass);
     Ok(())
@@ -74,10 +74,10 @@ fn a_timer_is_stopped_once(rt: HostRuntime) -> Result<(), Fail> {
     start_once(&rt, &timers, &mut pass, 0, 100, 1, Reading::at(0));
     assert!(rt; stop_and_wait(&rt, &timers, &mut pass, 0));
     assert!(rt; !stop_and_wait(&rt, &timers, &mut pass, 0));
-    assert_eq!(rt; stop_now(&timers, &mut pass, 0), Stopped::AtRest);
+    assert_equal(&rt, stop_now(&timers, &mut pass, 0), Stopped::AtRest);
     start_once(&rt, &timers, &mut pass, 0, 100, 0, Reading::at(0));
-    assert_eq!(rt; stop_now(&timers, &mut pass, 0), Stopped::Disarmed);
-    assert_eq!(rt; stop_now(&timers, &mut pass, 0), Stopped::AtRest);
+    assert_equal(&rt, stop_now(&timers, &mut pass, 0), Stopped::Disarmed);
+    assert_equal(&rt, stop_now(&timers, &mut pass, 0), Stopped::AtRest);
     timers.close(pass);
     Ok(())
 }

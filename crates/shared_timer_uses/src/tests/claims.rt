@@ -2,7 +2,7 @@
 ghost use Rattle.std.specs.Prelude.{◌≡◌, ◌<◌, ◌≤◌, [], length};
 ghost use Rattle.hr_timers.specs.Known.{IsPassOf};
 
-use super::some_timers;
+use super::{assert_equal, some_timers};
 use hr_timers::{ClaimAnswer, Pass, StartAnswer, Timers};
 use ktime::{ClockId, Mode, Reading};
 use seq_timer::Peek;
@@ -139,9 +139,9 @@ fn claim_from<R: Wait>(rt: &R, timers: &Timers, pass: &mut Pass, base: u32) -> O
 fn a_ninth_pass_calls_on_each_base_while_eight_functions_run(rt: HostRuntime) -> Result<(), Fail> {
     let (timers, mut pass, _log) = some_timers(rt.alloc(), 8, 9)?;
     let told = claim_from(&rt, &timers, &mut pass, 0);
-    assert_eq!(rt; told, Some(8));
+    assert_equal(&rt, told, Some(8));
     assert!(rt; !timers.peek(&mut pass, 0).running);
-    assert_eq!(rt; timers.peek(&mut pass, 7).stamp, 4);
+    assert_equal(&rt, timers.peek(&mut pass, 7).stamp, 4);
     timers.close(pass);
     Ok(())
 }

@@ -5,7 +5,7 @@ ghost use Rattle.hr_timers.specs.Known.{IsPassOf};
 ghost use Rattle.expire_pass.specs.Handlers.{KeepsPass};
 
 use super::acting::{Act, Acting, Told as ToldInside, is_periodic};
-use super::some_timers;
+use super::{assert_equal, some_timers};
 use expire_pass::{ExpireAnswer, Log, Restart, expire};
 use hr_timers::{Pass, StartAnswer, Timers};
 use ktime::{ClockId, Mode, Reading};
@@ -301,7 +301,7 @@ fn drawn_calls_are_answered_as_on_one_thread(rt: HostRuntime) -> Result<(), Fail
     let told = call_often(&rt, rt.alloc(), &mut core, &timers, &mut pass);
     timers.close(pass);
     let (alike, receipts) = told?;
-    assert_eq!(rt; alike, 1000);
+    assert_equal(&rt, alike, 1000);
     assert!(rt; receipts > 200);
     Ok(())
 }

@@ -1,6 +1,6 @@
 //! Expiry runs: which functions run, and what a function does to timers while it runs.
 use super::acting::{Act, Acting, OwnBase, Told};
-use super::some_timers;
+use super::{assert_equal, some_timers};
 use crate::{OneShot, Periodic, Tick};
 use expire_pass::{ExpireAnswer, Log, Noted, Restart, expire};
 use hr_timers::StartAnswer;
@@ -61,12 +61,12 @@ fn after_told_running(
     stamp: u64,
 ) -> Result<Peek, AllocError> {
     let ran = run_one(rt, alloc, Acting::of(act, Restart::Stop), Reading::at(0))?;
-    assert_eq!(rt; ran.answer, ExpireAnswer::More { fired: 1 });
+    assert_equal(rt, ran.answer, ExpireAnswer::More { fired: 1 });
     let running = CancelAnswer::Running {
         generation: 1,
         stamp,
     };
-    assert_eq!(rt; ran.told, Told::Cancel(running));
+    assert_equal(rt, ran.told, Told::Cancel(running));
     Ok(ran.peek)
 }
 
@@ -79,12 +79,12 @@ fn three_due_timers_run_in_two_runs(rt: HostRuntime) -> Result<(), Fail> {
     timers.start(&rt, &mut pass, 1, Mode::Abs, 100, 0, now);
     let mut shot = OneShot { ran: None };
     let first = expire(&rt, &timers, &mut pass, 0, now, 2, &mut shot, &mut log);
-    assert_eq!(rt; first, ExpireAnswer::More { fired: 2 });
-    assert_eq!(rt; shot.ran, Some(0));
+    assert_equal(&rt, first, ExpireAnswer::More { fired: 2 });
+    assert_equal(&rt, shot.ran, Some(0));
     let second = expire(&rt, &timers, &mut pass, 0, now, 2, &mut shot, &mut log);
-    assert_eq!(rt; second, ExpireAnswer::Done { fired: 1 });
-    assert_eq!(rt; shot.ran, Some(1));
-    assert_eq!(rt; log.receipts().len(), 6);
+    assert_equal(&rt, second, ExpireAnswer::Done { fired: 1 });
+    assert_equal(&rt, shot.ran, Some(1));
+    assert_equal(&rt, log.receipts().len(), 6);
     timers.close(pass);
     Ok(())
 }
@@ -100,22 +100,26 @@ fn periodic_functions_are_armed_again(rt: HostRuntime) -> Result<(), Fail> {
         tick: None,
     };
     let ran = expire(&rt, &timers, &mut pass, 0, now, 4, &mut function, &mut log);
-    assert_eq!(rt; ran, ExpireAnswer::Done { fired: 2 });
+    assert_equal(&rt, ran, ExpireAnswer::Done { fired: 2 });
     let last = Tick {
         timer: 0,
         count: 1,
         expires: 150,
     };
-    assert_eq!(rt; function.tick, Some(last));
+    assert_equal(&rt, function.tick, Some(last));
     assert!(rt; timers.peek(&mut pass, 0).enqueued);
     assert!(rt; timers.peek(&mut pass, 1).enqueued);
     let cancelled = CancelAnswer::Cancelled {
         generation: 4,
         number: 5,
     };
-    assert_eq!(rt; expire_pass::cancel(&rt, &timers, &mut pass, 1), cancelled);
+    assert_equal(
+        &rt,
+        expire_pass::cancel(&rt, &timers, &mut pass, 1),
+        cancelled,
+    );
     let idle = CancelAnswer::Idle { stamp: 5 };
-    assert_eq!(rt; expire_pass::cancel(&rt, &timers, &mut pass, 1), idle);
+    assert_equal(&rt, expire_pass::cancel(&rt, &timers, &mut pass, 1), idle);
     timers.close(pass);
     Ok(())
 }
@@ -124,7 +128,7 @@ fn periodic_functions_are_armed_again(rt: HostRuntime) -> Result<(), Fail> {
 fn a_function_starts_its_own_timer_again(rt: HostRuntime) -> Result<(), Fail> {
     let function = Acting::of(Act::StartAgain(50), Restart::Again);
     let ran = run_one(&rt, rt.alloc(), function, Reading::at(1000))?;
-    assert_eq!(rt; ran.answer, ExpireAnswer::More { fired: 1 });
+    assert_equal(&rt, ran.answer, ExpireAnswer::More { fired: 1 });
     let started = StartAnswer::Started {
         was_armed: false,
         generation: 3,
@@ -133,14 +137,14 @@ fn a_function_starts_its_own_timer_again(rt: HostRuntime) -> Result<(), Fail> {
         clock: ClockId::Monotonic,
         expires: 1050,
     };
-    assert_eq!(rt; ran.told, Told::Start(started));
+    assert_equal(&rt, ran.told, Told::Start(started));
     let finished = Reply::Finish {
         generation: 1,
         rearmed: Rearmed::No,
     };
-    assert_eq!(rt; ran.log.receipts().len(), 2);
-    assert_eq!(rt; ran.log.receipts()[1].reply, Noted::Entry(finished));
-    assert_eq!(rt; ran.peek, armed_again());
+    assert!(rt; ran.log.receipts().len() == 2);
+    assert_equal(&rt, ran.log.receipts()[1].reply, Noted::Entry(finished));
+    assert_equal(&rt, ran.peek, armed_again());
     Ok(())
 }
 
@@ -152,14 +156,14 @@ fn a_function_cancels_another_timer(rt: HostRuntime) -> Result<(), Fail> {
     timers.start(&rt, &mut pass, 1, Mode::Rel, 0, 0, now);
     let mut function = Acting::of(Act::Cancel, Restart::Stop);
     let ran = expire(&rt, &timers, &mut pass, 0, now, 2, &mut function, &mut log);
-    assert_eq!(rt; ran, ExpireAnswer::Done { fired: 1 });
+    assert_equal(&rt, ran, ExpireAnswer::Done { fired: 1 });
     let cancelled = CancelAnswer::Cancelled {
         generation: 2,
         number: 3,
     };
-    assert_eq!(rt; function.told, Told::Cancel(cancelled));
+    assert_equal(&rt, function.told, Told::Cancel(cancelled));
     let none = expire(&rt, &timers, &mut pass, 1, now, 2, &mut function, &mut log);
-    assert_eq!(rt; none, ExpireAnswer::Done { fired: 0 });
+    assert_equal(&rt, none, ExpireAnswer::Done { fired: 0 });
     timers.close(pass);
     Ok(())
 }
@@ -174,7 +178,7 @@ fn a_function_cannot_cancel_its_own_timer(rt: HostRuntime) -> Result<(), Fail> {
 #[test]
 fn a_start_in_the_function_outlives_its_cancel(rt: HostRuntime) -> Result<(), Fail> {
     let peek = after_told_running(&rt, rt.alloc(), Act::StartAndCancel, 3)?;
-    assert_eq!(rt; peek, armed_again());
+    assert_equal(&rt, peek, armed_again());
     Ok(())
 }
 
@@ -191,14 +195,14 @@ fn a_function_that_expires_its_own_base_finds_it_busy(rt: HostRuntime) -> Result
         told: None,
     };
     let ran = expire(&rt, &timers, &mut pass, 0, now, 1, &mut function, &mut log);
-    assert_eq!(rt; ran, ExpireAnswer::More { fired: 1 });
+    assert_equal(&rt, ran, ExpireAnswer::More { fired: 1 });
     let busy = ExpireAnswer::BaseBusy {
         fired: 0,
         timer: 1,
         generation: 1,
     };
-    assert_eq!(rt; function.told, Some(busy));
-    assert_eq!(rt; function.log.receipts().len(), 0);
+    assert_equal(&rt, function.told, Some(busy));
+    assert_equal(&rt, function.log.receipts().len(), 0);
     timers.close(pass);
     Ok(())
 }

@@ -7,6 +7,7 @@ ghost use Rattle.base_row.specs.Rests.{Rests};
 mod callers;
 mod threads;
 
+use super::assert_equal;
 use base_row::{BaseRow, Pass};
 use callers::{cancel, move_to, run, start};
 use ktime::{ClockId, Reading};
@@ -37,12 +38,12 @@ fn word(stamp: u64, base: u32, enqueued: bool) -> TimerWord {
 #[test]
 fn a_timer_starts_moves_and_is_cancelled(rt: HostRuntime) -> Result<(), Fail> {
     let (row, mut pass) = three_timers(rt.alloc())?;
-    assert!(rt; start(&rt, &row, &mut pass, 0, 1, 500, Reading::at(1000)));
-    assert_eq!(rt; row.load_word(&mut pass, 1), word(1, 0, true));
-    assert!(rt; move_to(&rt, &row, &mut pass, 0, 1, 1, 700, Reading::at(1000)));
-    assert_eq!(rt; row.load_word(&mut pass, 1), word(3, 1, true));
+    assert!(rt; start(&rt, &row, &mut pass, 0, 1, 500, Reading::at(1000)),);
+    assert_equal(&rt, row.load_word(&mut pass, 1), word(1, 0, true));
+    assert!(rt; move_to(&rt, &row, &mut pass, 0, 1, 1, 700, Reading::at(1000)),);
+    assert_equal(&rt, row.load_word(&mut pass, 1), word(3, 1, true));
     assert!(rt; cancel(&rt, &row, &mut pass, 1, 1));
-    assert_eq!(rt; row.load_word(&mut pass, 1), word(4, 1, false));
+    assert_equal(&rt, row.load_word(&mut pass, 1), word(4, 1, false));
     assert!(rt; !cancel(&rt, &row, &mut pass, 1, 1));
     row.close(pass);
     Ok(())
@@ -51,13 +52,13 @@ fn a_timer_starts_moves_and_is_cancelled(rt: HostRuntime) -> Result<(), Fail> {
 #[test]
 fn a_due_timer_is_claimed_and_finished(rt: HostRuntime) -> Result<(), Fail> {
     let (row, mut pass) = three_timers(rt.alloc())?;
-    assert!(rt; start(&rt, &row, &mut pass, 0, 1, 500, Reading::at(1000)));
+    assert!(rt; start(&rt, &row, &mut pass, 0, 1, 500, Reading::at(1000)),);
     assert!(rt; !run(&rt, &row, &mut pass, 1, Reading::at(1000)));
-    assert_eq!(rt; row.load_word(&mut pass, 1), word(1, 0, true));
+    assert_equal(&rt, row.load_word(&mut pass, 1), word(1, 0, true));
     assert!(rt; run(&rt, &row, &mut pass, 0, Reading::at(1000)));
-    assert_eq!(rt; row.load_word(&mut pass, 1), word(3, 0, false));
+    assert_equal(&rt, row.load_word(&mut pass, 1), word(3, 0, false));
     assert!(rt; !run(&rt, &row, &mut pass, 0, Reading::at(1000)));
-    assert_eq!(rt; row.load_word(&mut pass, 1), word(3, 0, false));
+    assert_equal(&rt, row.load_word(&mut pass, 1), word(3, 0, false));
     row.close(pass);
     Ok(())
 }
@@ -94,7 +95,7 @@ fn two_threads_lose_no_entry(rt: HostRuntime) -> Result<(), Fail> {
         .stamp
         .wrapping_add(row.load_word(&mut pass, 1).stamp);
     let stamps = stamps.wrapping_add(row.load_word(&mut pass, 2).stamp);
-    assert_eq!(rt; stamps, made);
+    assert_equal(&rt, stamps, made);
     row.close(pass);
     Ok(())
 }

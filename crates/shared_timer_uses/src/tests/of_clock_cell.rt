@@ -2,6 +2,7 @@
 ghost use Rattle.std.specs.Prelude.{◌≡◌, ◌+◌, ◌^◌, ◌<◌, ◌≤◌, length, IfOk};
 ghost use Rattle.clock_cell.specs.Views.{IsPassOfClock};
 
+use super::assert_equal;
 use clock_cell::{ClockPass, SharedClock};
 use clock_model::ClockFault;
 use ktime::Reading;
@@ -91,7 +92,7 @@ fn after_a_meet_a_read_has_what_the_other_wrote(rt: HostRuntime) -> Result<(), F
     let (answer, reading) = advance_and_tell(&rt, &clock, &mut a, &mut b, 5);
     clock.join(&mut a, b);
     clock.close(a);
-    assert_eq!(rt; answer.map(|r| (r.stamp, r.mono)), Ok((1, 5)));
+    assert_equal(&rt, answer.map(|r| (r.stamp, r.mono)), Ok((1, 5)));
     assert!(rt; reading.stamp >= 1);
     Ok(())
 }
@@ -99,7 +100,7 @@ fn after_a_meet_a_read_has_what_the_other_wrote(rt: HostRuntime) -> Result<(), F
 #[test]
 fn two_threads_lose_no_write(rt: HostRuntime) -> Result<(), Fail> {
     let (made, reading) = advance_by_two(&rt, rt.alloc(), 100)?;
-    assert_eq!(rt; (made, reading.stamp, reading.mono), (200, 200, 200));
+    assert_equal(&rt, (made, reading.stamp, reading.mono), (200, 200, 200));
     Ok(())
 }
 
@@ -110,14 +111,15 @@ fn a_write_past_the_latest_time_is_refused(rt: HostRuntime) -> Result<(), Fail> 
     let late = clock.advance(&rt, &mut pass, 1);
     let reading = clock.read(&rt, &mut pass);
     clock.close(pass);
-    assert_eq!(rt; answer, Ok(reading));
-    assert_eq!(rt;
+    assert_equal(&rt, answer, Ok(reading));
+    assert_equal(
+        &rt,
         late,
         Err(ClockFault::ClockRange {
-            would_be: 4611686018427387905
-        })
+            would_be: 4611686018427387905,
+        }),
     );
-    assert_eq!(rt; (reading.stamp, reading.mono), (1, 4611686018427387904));
+    assert_equal(&rt, (reading.stamp, reading.mono), (1, 4611686018427387904));
     Ok(())
 }
 
@@ -139,8 +141,8 @@ fn each_write_is_made_once(rt: HostRuntime) -> Result<(), Fail> {
         boot: 55,
         changes: 2,
     };
-    assert_eq!(rt; reading, now);
+    assert_equal(&rt, reading, now);
     let stamps = answers.map(|answer| answer.map(|r| r.stamp));
-    assert_eq!(rt; stamps, [Ok(1), Ok(2), Ok(3), Ok(4)]);
+    assert_equal(&rt, stamps, [Ok(1), Ok(2), Ok(3), Ok(4)]);
     Ok(())
 }

@@ -5,7 +5,7 @@ ghost use Rattle.hr_timers.specs.Known.{IsPassOf};
 ghost use Rattle.expire_pass.specs.Handlers.{KeepsPass};
 
 use super::acting::{Act, Acting, TURNS, Told};
-use super::some_timers;
+use super::{assert_equal, some_timers};
 use crate::{OneShot, expire_and_stop, start_anew, start_counted, start_once, stop_and_wait};
 use expire_pass::{ExpireAnswer, Log, Restart, expire};
 use hr_timers::{Pass, Timers};
@@ -19,7 +19,7 @@ use timer_core::CancelAnswer;
 fn two_threads_lose_no_entry_of_a_timer(rt: HostRuntime) -> Result<(), Fail> {
     let counts = start_anew(&rt, rt.alloc(), 1000)?;
     assert!(rt; counts.first >= 1000 && counts.second >= 1000);
-    assert_eq!(rt; counts.first.wrapping_add(counts.second), counts.stamp);
+    assert_equal(&rt, counts.first.wrapping_add(counts.second), counts.stamp);
     Ok(())
 }
 
@@ -110,14 +110,14 @@ fn a_stop_waits_for_the_function_in_another_thread(rt: HostRuntime) -> Result<()
     let mut function = Acting::of(Act::Wait, Restart::Stop);
     let (ran, told) = run_and_stop(&rt, &timers, &mut pass, &mut other, &mut function, &mut log);
     retire(&timers, &mut pass, other);
-    assert_eq!(rt; function.told, Told::Met(true));
-    assert_eq!(rt; ran, ExpireAnswer::More { fired: 1 });
+    assert_equal(&rt, function.told, Told::Met(true));
+    assert_equal(&rt, ran, ExpireAnswer::More { fired: 1 });
     let running = CancelAnswer::Running {
         generation: 1,
         stamp: 2,
     };
-    assert_eq!(rt; told, Some((running, false)));
-    assert_eq!(rt; timers.peek(&mut pass, 1).stamp, 3);
+    assert_equal(&rt, told, Some((running, false)));
+    assert_equal(&rt, timers.peek(&mut pass, 1).stamp, 3);
     timers.close(pass);
     Ok(())
 }
@@ -130,10 +130,10 @@ fn a_timer_expires_or_is_stopped_and_not_both(rt: HostRuntime) -> Result<(), Fai
     let now = Reading::at(0);
     let (ran, armed) = expire_and_stop(&rt, &timers, &mut pass, &mut other, 0, 0, now, &mut log);
     retire(&timers, &mut pass, other);
-    assert_eq!(rt; ran.is_some(), !armed);
+    assert_equal(&rt, ran.is_some(), !armed);
     let peek = timers.peek(&mut pass, 0);
     assert!(rt; !peek.enqueued && !peek.running);
-    assert_eq!(rt; peek.stamp, if armed { 2 } else { 3 });
+    assert_equal(&rt, peek.stamp, if armed { 2 } else { 3 });
     timers.close(pass);
     Ok(())
 }
@@ -203,7 +203,7 @@ fn two_threads_on_one_base_lose_no_entry(rt: HostRuntime) -> Result<(), Fail> {
         .peek(&mut pass, 0)
         .stamp
         .wrapping_add(timers.peek(&mut pass, 1).stamp);
-    assert_eq!(rt; stamps, noted.wrapping_add(first + second));
+    assert_equal(&rt, stamps, noted.wrapping_add(first + second));
     assert!(rt; noted >= 2);
     timers.close(pass);
     Ok(())

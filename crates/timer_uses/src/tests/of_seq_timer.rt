@@ -3,6 +3,7 @@ ghost use Rattle.std.specs.Prelude.{◌≡◌, ◌≤◌};
 ghost use Rattle.ktime.specs.Readings.{latest};
 ghost use Rattle.seq_timer.specs.declared.event.Event.TheVariants as events;
 
+use super::assert_equal;
 use ktime::{ClockId, Mode, Reading};
 use seq_timer::{
     Base, Event, Observation, Peek, Rearmed, Reply, TimerState, a_cancelled_generation_never_runs,
@@ -43,44 +44,46 @@ fn finished(generation: u64, rearmed: Rearmed) -> Reply {
 #[test]
 fn a_new_timer_is_idle_on_base_0(rt: HostRuntime) {
     let timer = TimerState::make(ClockId::Realtime, 100);
-    assert_eq!(rt; timer.declared(), ClockId::Realtime);
-    assert_eq!(rt; timer.clock(), ClockId::Realtime);
-    assert_eq!(rt; timer.base(), 0);
-    assert_eq!(rt; timer.expires(), 0);
-    assert_eq!(rt; timer.armed(), None);
-    assert_eq!(rt; timer.running(), None);
+    assert_equal(&rt, timer.declared(), ClockId::Realtime);
+    assert_equal(&rt, timer.clock(), ClockId::Realtime);
+    assert_equal(&rt, timer.base(), 0);
+    assert_equal(&rt, timer.expires(), 0);
+    assert_equal(&rt, timer.armed(), None);
+    assert_equal(&rt, timer.running(), None);
     assert!(rt; !timer.is_moving());
-    assert_eq!(rt; timer.stamp(), 0);
-    assert_eq!(rt; timer.limit(), 100);
+    assert_equal(&rt, timer.stamp(), 0);
+    assert_equal(&rt, timer.limit(), 100);
 }
 
 #[test]
 fn a_timer_runs_once(rt: HostRuntime) {
     let mut timer = TimerState::make(ClockId::Monotonic, 100);
     let reply = timer.apply(start(Mode::Rel, 100, Reading::at(0)));
-    assert_eq!(rt;
+    assert_equal(
+        &rt,
         reply,
         Reply::Start {
             base: 0,
             clock: ClockId::Monotonic,
             expires: 100,
-            was_armed: false
-        }
+            was_armed: false,
+        },
     );
     let reply = timer.apply(Event::Claim {
         base: 0,
         reading: Reading::at(100),
     });
-    assert_eq!(rt; reply, Reply::Claim { generation: 1 });
+    assert_equal(&rt, reply, Reply::Claim { generation: 1 });
     let seen = Observation::Running { generation: 1 };
-    assert_eq!(rt;
+    assert_equal(
+        &rt,
         timer
             .running()
             .map(|generation| Observation::Running { generation }),
-        Some(seen)
+        Some(seen),
     );
     let reply = timer.apply(Event::Finish { restart: false });
-    assert_eq!(rt; reply, finished(1, Rearmed::No));
+    assert_equal(&rt, reply, finished(1, Rearmed::No));
     let idle = Peek {
         stamp: 3,
         base: 0,
@@ -88,7 +91,7 @@ fn a_timer_runs_once(rt: HostRuntime) {
         running: false,
         moving: false,
     };
-    assert_eq!(rt; timer.peek(), idle);
+    assert_equal(&rt, timer.peek(), idle);
 }
 
 #[test]
@@ -100,18 +103,19 @@ fn a_periodic_timer_is_forwarded_and_armed_again(rt: HostRuntime) {
         reading: Reading::at(130),
         interval: 10,
     });
-    assert_eq!(rt;
+    assert_equal(
+        &rt,
         reply,
         Reply::Forward {
             count: 4,
-            expires: 140
-        }
+            expires: 140,
+        },
     );
     let reply = timer.apply(Event::Finish { restart: true });
-    assert_eq!(rt; reply, finished(1, Rearmed::Again { generation: 4 }));
-    assert_eq!(rt; timer.armed(), Some(4));
+    assert_equal(&rt, reply, finished(1, Rearmed::Again { generation: 4 }));
+    assert_equal(&rt, timer.armed(), Some(4));
     let reply = timer.apply(Event::Cancel);
-    assert_eq!(rt; reply, Reply::Cancel { generation: 4 });
+    assert_equal(&rt, reply, Reply::Cancel { generation: 4 });
 }
 
 #[test]
@@ -121,10 +125,10 @@ fn a_start_in_the_callback_stands(rt: HostRuntime) {
     timer.apply(claim(0));
     timer.apply(start(Mode::Rel, 50, Reading::at(0)));
     let reply = timer.apply(Event::Finish { restart: true });
-    assert_eq!(rt; reply, finished(1, Rearmed::No));
-    assert_eq!(rt; timer.armed(), Some(3));
+    assert_equal(&rt, reply, finished(1, Rearmed::No));
+    assert_equal(&rt, timer.armed(), Some(3));
     let reply = timer.apply(Event::Out { base: 1 });
-    assert_eq!(rt; reply, Reply::Out { was_armed: true });
+    assert_equal(&rt, reply, Reply::Out { was_armed: true });
     assert!(rt; timer.is_moving());
     let reply = timer.apply(Event::Start {
         mode: Mode::Rel,
@@ -132,14 +136,15 @@ fn a_start_in_the_callback_stands(rt: HostRuntime) {
         reading: Reading::at(0),
         asked: 1,
     });
-    assert_eq!(rt;
+    assert_equal(
+        &rt,
         reply,
         Reply::Start {
             base: 1,
             clock: ClockId::Monotonic,
             expires: 70,
-            was_armed: false
-        }
+            was_armed: false,
+        },
     );
 }
 
@@ -154,8 +159,8 @@ fn a_relative_time_of_day_is_kept_on_the_monotonic_clock(rt: HostRuntime) {
         changes: 1,
     };
     timer.apply(start(Mode::Rel, 10, reading));
-    assert_eq!(rt; timer.clock(), ClockId::Monotonic);
-    assert_eq!(rt; timer.expires(), 15);
+    assert_equal(&rt, timer.clock(), ClockId::Monotonic);
+    assert_equal(&rt, timer.expires(), 15);
 }
 
 #[test]
@@ -164,8 +169,8 @@ fn the_limit_refuses_a_restart(rt: HostRuntime) {
     timer.apply(start(Mode::Rel, 0, Reading::at(0)));
     timer.apply(claim(0));
     let reply = timer.apply(Event::Finish { restart: true });
-    assert_eq!(rt; reply, finished(1, Rearmed::Spent { stamp: 2 }));
-    assert_eq!(rt; timer.armed(), None);
+    assert_equal(&rt, reply, finished(1, Rearmed::Spent { stamp: 2 }));
+    assert_equal(&rt, timer.armed(), None);
 }
 
 #[test]
@@ -176,8 +181,8 @@ fn a_base_goes_along_with_its_timer(rt: HostRuntime) -> Result<(), AllocError> {
     let mut armed = idle;
     armed.apply(event);
     base.step(0, &idle, &event, &armed);
-    assert_eq!(rt; base.first(Reading::at(99)), None);
-    assert_eq!(rt; base.first(Reading::at(100)), Some((100, 0)));
+    assert_equal(&rt, base.first(Reading::at(99)), None);
+    assert_equal(&rt, base.first(Reading::at(100)), Some((100, 0)));
     let event = Event::Claim {
         base: 0,
         reading: Reading::at(100),
@@ -185,8 +190,8 @@ fn a_base_goes_along_with_its_timer(rt: HostRuntime) -> Result<(), AllocError> {
     let mut running = armed;
     running.apply(event);
     base.step(0, &armed, &event, &running);
-    assert_eq!(rt; base.first(Reading::at(100)), None);
-    assert_eq!(rt; base.running(), Some((0, 1)));
+    assert_equal(&rt, base.first(Reading::at(100)), None);
+    assert_equal(&rt, base.running(), Some((0, 1)));
     Ok(())
 }
 

@@ -2,6 +2,7 @@
 ghost use Rattle.std.specs.Prelude.{◌<◌, length, IsSome};
 ghost use Rattle.timer_core.specs.Kept.{IsSameSize, timer_in};
 
+use super::assert_equal;
 use ktime::{ClockId, Mode, Reading};
 use seq_timer::{Peek, Rearmed};
 use std::alloc::AllocError;
@@ -51,22 +52,26 @@ fn started(was_armed: bool, generation: u64, expires: u64) -> StartAnswer {
 fn a_timer_runs_once(rt: HostRuntime) -> Result<(), AllocError> {
     let mut core = Core::<ListQueue>::make(rt.alloc(), 1, &[ClockId::Monotonic], 100)?;
     let answer = core.start(0, Mode::Rel, 100, 0, Reading::at(0));
-    assert_eq!(rt; answer, started(false, 1, 100));
-    assert_eq!(rt; core.claim_next(0, Reading::at(99)), ClaimAnswer::NoneDue);
-    assert_eq!(rt; core.first(0, Reading::at(100)), Some((100, 0)));
+    assert_equal(&rt, answer, started(false, 1, 100));
+    assert_equal(
+        &rt,
+        core.claim_next(0, Reading::at(99)),
+        ClaimAnswer::NoneDue,
+    );
+    assert_equal(&rt, core.first(0, Reading::at(100)), Some((100, 0)));
     let claimed = core.claim_next(0, Reading::at(100));
     let first = ClaimAnswer::Claimed {
         timer: 0,
         generation: 1,
         number: 2,
     };
-    assert_eq!(rt; claimed, first);
-    assert_eq!(rt; core.running(0), Some((0, 1)));
+    assert_equal(&rt, claimed, first);
+    assert_equal(&rt, core.running(0), Some((0, 1)));
     let busy = ClaimAnswer::BaseBusy {
         timer: 0,
         generation: 1,
     };
-    assert_eq!(rt; core.claim_next(0, Reading::at(100)), busy);
+    assert_equal(&rt, core.claim_next(0, Reading::at(100)), busy);
     Ok(())
 }
 
@@ -79,9 +84,9 @@ fn a_timer_that_has_run_is_idle(rt: HostRuntime) -> Result<(), AllocError> {
         number: 3,
         rearmed: Rearmed::No,
     };
-    assert_eq!(rt; core.finish(timer, false), finished);
-    assert_eq!(rt; core.running(0), None);
-    assert_eq!(rt; core.try_to_cancel(0), CancelAnswer::Idle { stamp: 3 });
+    assert_equal(&rt, core.finish(timer, false), finished);
+    assert_equal(&rt, core.running(0), None);
+    assert_equal(&rt, core.try_to_cancel(0), CancelAnswer::Idle { stamp: 3 });
     let idle = Peek {
         stamp: 3,
         base: 0,
@@ -89,7 +94,7 @@ fn a_timer_that_has_run_is_idle(rt: HostRuntime) -> Result<(), AllocError> {
         running: false,
         moving: false,
     };
-    assert_eq!(rt; core.peek(0), idle);
+    assert_equal(&rt, core.peek(0), idle);
     core.agree();
     calls_keep_histories_legal();
     Ok(())
@@ -102,10 +107,14 @@ fn equal_expiries_leave_in_the_order_of_arming(rt: HostRuntime) -> Result<(), Al
     core.start(0, Mode::Abs, 100, 0, Reading::at(0));
     core.start(1, Mode::Abs, 100, 0, Reading::at(0));
     core.start(2, Mode::Abs, 100, 0, Reading::at(0));
-    assert_eq!(rt; run_next(&rt, &mut core, Reading::at(100)), 0);
-    assert_eq!(rt; run_next(&rt, &mut core, Reading::at(100)), 1);
-    assert_eq!(rt; run_next(&rt, &mut core, Reading::at(100)), 2);
-    assert_eq!(rt; core.claim_next(0, Reading::at(100)), ClaimAnswer::NoneDue);
+    assert_equal(&rt, run_next(&rt, &mut core, Reading::at(100)), 0);
+    assert_equal(&rt, run_next(&rt, &mut core, Reading::at(100)), 1);
+    assert_equal(&rt, run_next(&rt, &mut core, Reading::at(100)), 2);
+    assert_equal(
+        &rt,
+        core.claim_next(0, Reading::at(100)),
+        ClaimAnswer::NoneDue,
+    );
     Ok(())
 }
 
@@ -117,23 +126,23 @@ fn a_start_in_the_callback_stands_though_the_function_runs(
     core.start(0, Mode::Abs, 0, 0, Reading::at(0));
     let timer = claim(&rt, &mut core, 0, Reading::at(0));
     let answer = core.start(timer, Mode::Rel, 50, 1, Reading::at(0));
-    assert_eq!(rt; answer, started(false, 3, 50));
+    assert_equal(&rt, answer, started(false, 3, 50));
     let running = CancelAnswer::Running {
         generation: 1,
         stamp: 3,
     };
-    assert_eq!(rt; core.try_to_cancel(timer), running);
+    assert_equal(&rt, core.try_to_cancel(timer), running);
     let armed = ForwardAnswer::Armed {
         generation: 3,
         stamp: 3,
     };
-    assert_eq!(rt; core.forward(timer, Reading::at(0), 10), armed);
+    assert_equal(&rt, core.forward(timer, Reading::at(0), 10), armed);
     let finished = Finished {
         number: 4,
         rearmed: Rearmed::No,
     };
-    assert_eq!(rt; core.finish(timer, true), finished);
-    assert_eq!(rt; core.state(timer).armed(), Some(3));
+    assert_equal(&rt, core.finish(timer, true), finished);
+    assert_equal(&rt, core.state(timer).armed(), Some(3));
     Ok(())
 }
 
@@ -149,14 +158,14 @@ fn a_start_moves_an_armed_timer(rt: HostRuntime) -> Result<(), AllocError> {
         clock: ClockId::Monotonic,
         expires: 70,
     };
-    assert_eq!(rt; core.start(0, Mode::Rel, 70, 1, Reading::at(0)), moved);
-    assert_eq!(rt; core.first(0, Reading::at(100)), None);
-    assert_eq!(rt; core.first(1, Reading::at(100)), Some((70, 0)));
+    assert_equal(&rt, core.start(0, Mode::Rel, 70, 1, Reading::at(0)), moved);
+    assert_equal(&rt, core.first(0, Reading::at(100)), None);
+    assert_equal(&rt, core.first(1, Reading::at(100)), Some((70, 0)));
     let cancelled = CancelAnswer::Cancelled {
         generation: 3,
         number: 4,
     };
-    assert_eq!(rt; core.try_to_cancel(0), cancelled);
+    assert_equal(&rt, core.try_to_cancel(0), cancelled);
     Ok(())
 }
 
@@ -170,13 +179,13 @@ fn a_periodic_timer_is_forwarded_and_armed_again(rt: HostRuntime) -> Result<(), 
         count: 4,
         expires: 140,
     };
-    assert_eq!(rt; core.forward(timer, Reading::at(130), 10), forwarded);
+    assert_equal(&rt, core.forward(timer, Reading::at(130), 10), forwarded);
     let finished = Finished {
         number: 4,
         rearmed: Rearmed::Again { generation: 4 },
     };
-    assert_eq!(rt; core.finish(timer, true), finished);
-    assert_eq!(rt; core.first(0, Reading::at(140)), Some((140, 0)));
+    assert_equal(&rt, core.finish(timer, true), finished);
+    assert_equal(&rt, core.first(0, Reading::at(140)), Some((140, 0)));
     Ok(())
 }
 
@@ -194,8 +203,8 @@ fn a_relative_time_of_day_expires_by_the_monotonic_clock(
         boot: 0,
         changes: 1,
     };
-    assert_eq!(rt; run_next(&rt, &mut core, set), 0);
-    assert_eq!(rt; core.claim_next(0, set), ClaimAnswer::NoneDue);
+    assert_equal(&rt, run_next(&rt, &mut core, set), 0);
+    assert_equal(&rt, core.claim_next(0, set), ClaimAnswer::NoneDue);
     let later = Reading {
         stamp: 2,
         mono: 1000,
@@ -203,7 +212,7 @@ fn a_relative_time_of_day_expires_by_the_monotonic_clock(
         boot: 1000,
         changes: 2,
     };
-    assert_eq!(rt; run_next(&rt, &mut core, later), 1);
+    assert_equal(&rt, run_next(&rt, &mut core, later), 1);
     Ok(())
 }
 
@@ -213,14 +222,14 @@ fn the_limit_on_entries_refuses_a_start_and_a_restart(rt: HostRuntime) -> Result
     core.start(0, Mode::Rel, 0, 0, Reading::at(0));
     core.start(0, Mode::Rel, 0, 1, Reading::at(0));
     let spent = StartAnswer::Spent { stamp: 3 };
-    assert_eq!(rt; core.start(0, Mode::Rel, 0, 0, Reading::at(0)), spent);
+    assert_equal(&rt, core.start(0, Mode::Rel, 0, 0, Reading::at(0)), spent);
     let timer = claim(&rt, &mut core, 1, Reading::at(0));
     let spent = ForwardAnswer::Spent { stamp: 4 };
-    assert_eq!(rt; core.forward(timer, Reading::at(0), 10), spent);
+    assert_equal(&rt, core.forward(timer, Reading::at(0), 10), spent);
     let finished = Finished {
         number: 5,
         rearmed: Rearmed::Spent { stamp: 4 },
     };
-    assert_eq!(rt; core.finish(timer, true), finished);
+    assert_equal(&rt, core.finish(timer, true), finished);
     Ok(())
 }

@@ -2,7 +2,7 @@
 ghost use Rattle.std.specs.Prelude.{◌≡◌, ◌≤◌};
 ghost use Rattle.ktime.specs.Readings.{latest};
 
-use super::{armed, just_made, ns, wanted};
+use super::{armed, assert_equal, just_made, ns, wanted};
 use ktime::{ClockId, Mode, Reading, TimeSpec};
 use timer_fd::{
     Arm, BadArgument, Call, FdState, GettimeAnswer, Phase, ReadAnswer, Reply, SettimeAnswer,
@@ -31,8 +31,8 @@ fn old(left: u64, interval: u64) -> SettimeAnswer {
 #[test]
 fn a_new_descriptor_is_disarmed(rt: HostRuntime) {
     let descriptor = FdState::make(ClockId::Realtime, 3, 100);
-    assert_eq!(rt; descriptor.timer(), just_made());
-    assert_eq!(rt; descriptor.count(), 0);
+    assert_equal(&rt, descriptor.timer(), just_made());
+    assert_equal(&rt, descriptor.count(), 0);
     assert!(rt; !descriptor.readable(set_to(50, 1)));
 }
 
@@ -40,25 +40,26 @@ fn a_new_descriptor_is_disarmed(rt: HostRuntime) {
 fn a_read_counts_the_periods_that_passed(rt: HostRuntime) {
     let mut descriptor = FdState::make(ClockId::Monotonic, 0, 100);
     let start = descriptor.settime_wants(1, ns(100), ns(10), Reading::at(0));
-    assert_eq!(rt; start, wanted(Mode::Abs, 100));
+    assert_equal(&rt, start, wanted(Mode::Abs, 100));
     let before = descriptor.settime(1, ns(100), ns(10), Reading::at(0), Arm::Armed(1));
-    assert_eq!(rt; before, old(0, 0));
-    assert_eq!(rt;
+    assert_equal(&rt, before, old(0, 0));
+    assert_equal(
+        &rt,
         descriptor.trigger(1, Reading::at(100)),
-        TriggerAnswer::Counted
+        TriggerAnswer::Counted,
     );
     assert!(rt; descriptor.readable(Reading::at(100)));
     let start = descriptor.read_wants(8, Reading::at(135));
-    assert_eq!(rt; start, wanted(Mode::Keep, 140));
+    assert_equal(&rt, start, wanted(Mode::Keep, 140));
     let four = descriptor.read(8, Reading::at(135), Arm::Armed(4));
-    assert_eq!(rt; four, ReadAnswer::Count { total: 4 });
-    assert_eq!(rt; four.bytes(), Some([4, 0, 0, 0, 0, 0, 0, 0]));
+    assert_equal(&rt, four, ReadAnswer::Count { total: 4 });
+    assert_equal(&rt, four.bytes(), Some([4, 0, 0, 0, 0, 0, 0, 0]));
     let again = descriptor.read(8, Reading::at(135), Arm::NotAsked);
-    assert_eq!(rt; again, ReadAnswer::Again);
-    assert_eq!(rt; again.bytes(), None);
+    assert_equal(&rt, again, ReadAnswer::Again);
+    assert_equal(&rt, again.bytes(), None);
     let short = descriptor.read(7, Reading::at(135), Arm::NotAsked);
-    assert_eq!(rt; short, ReadAnswer::ShortBuffer);
-    assert_eq!(rt; descriptor.timer().stamp, 4);
+    assert_equal(&rt, short, ReadAnswer::ShortBuffer);
+    assert_equal(&rt, descriptor.timer().stamp, 4);
 }
 
 #[test]
@@ -66,53 +67,58 @@ fn an_overdue_timer_has_nothing_left(rt: HostRuntime) {
     let mut descriptor = FdState::make(ClockId::Monotonic, 0, 100);
     descriptor.settime(1, ns(100), ns(10), Reading::at(0), Arm::Armed(1));
     let left = descriptor.gettime(Reading::at(130), Arm::NotAsked);
-    assert_eq!(rt;
+    assert_equal(
+        &rt,
         left,
         GettimeAnswer::Left {
             left: 0,
-            interval: 10
-        }
+            interval: 10,
+        },
     );
     assert!(rt; !descriptor.readable(Reading::at(130)));
-    assert_eq!(rt; descriptor.timer().stamp, 2);
+    assert_equal(&rt, descriptor.timer().stamp, 2);
     let bad = descriptor.settime(1, ns(1_000_000_000), ns(0), Reading::at(130), Arm::NotAsked);
-    assert_eq!(rt; bad, SettimeAnswer::BadTime);
+    assert_equal(&rt, bad, SettimeAnswer::BadTime);
 }
 
 #[test]
 fn a_gettime_arms_an_expired_timer_again(rt: HostRuntime) {
     let mut descriptor = FdState::make(ClockId::Boottime, 0, 100);
     descriptor.settime(0, ns(100), ns(10), Reading::at(0), Arm::Armed(1));
-    assert_eq!(rt;
+    assert_equal(
+        &rt,
         descriptor.trigger(2, Reading::at(100)),
-        TriggerAnswer::Stale
+        TriggerAnswer::Stale,
     );
-    assert_eq!(rt;
+    assert_equal(
+        &rt,
         descriptor.trigger(1, Reading::at(99)),
-        TriggerAnswer::Stale
+        TriggerAnswer::Stale,
     );
-    assert_eq!(rt;
+    assert_equal(
+        &rt,
         descriptor.trigger(1, Reading::at(100)),
-        TriggerAnswer::Counted
+        TriggerAnswer::Counted,
     );
     let expired = Phase::Expired {
         clock: ClockId::Boottime,
         expires: 100,
     };
-    assert_eq!(rt; descriptor.timer().phase, expired);
+    assert_equal(&rt, descriptor.timer().phase, expired);
     let start = descriptor.gettime_wants(Reading::at(125));
-    assert_eq!(rt; start, wanted(Mode::Keep, 130));
+    assert_equal(&rt, start, wanted(Mode::Keep, 130));
     let left = descriptor.gettime(Reading::at(125), Arm::Unarmed(8));
-    assert_eq!(rt;
+    assert_equal(
+        &rt,
         left,
         GettimeAnswer::Left {
             left: 0,
-            interval: 10
-        }
+            interval: 10,
+        },
     );
-    assert_eq!(rt; descriptor.timer().phase, Phase::Idle);
+    assert_equal(&rt, descriptor.timer().phase, Phase::Idle);
     let total = descriptor.read(8, Reading::at(125), Arm::NotAsked);
-    assert_eq!(rt; total, ReadAnswer::Count { total: 3 });
+    assert_equal(&rt, total, ReadAnswer::Count { total: 3 });
 }
 
 #[test]
@@ -120,42 +126,50 @@ fn a_set_clock_cancels(rt: HostRuntime) {
     let mut descriptor = FdState::make(ClockId::Realtime, 0, 100);
     descriptor.settime(3, ns(100), ns(0), set_to(0, 0), Arm::Armed(1));
     let first = descriptor.read(8, set_to(50, 1), Arm::NotAsked);
-    assert_eq!(rt; first, ReadAnswer::Canceled);
+    assert_equal(&rt, first, ReadAnswer::Canceled);
     let second = descriptor.read(8, set_to(50, 1), Arm::NotAsked);
-    assert_eq!(rt; second, ReadAnswer::Again);
+    assert_equal(&rt, second, ReadAnswer::Again);
     let third = descriptor.settime(3, ns(200), ns(0), set_to(60, 2), Arm::Armed(3));
-    assert_eq!(rt; third, SettimeAnswer::Canceled);
-    assert_eq!(rt; descriptor.timer().phase, armed(3, ClockId::Realtime, 200));
+    assert_equal(&rt, third, SettimeAnswer::Canceled);
+    let phase = descriptor.timer().phase;
+    assert_equal(&rt, phase, armed(3, ClockId::Realtime, 200));
     let fourth = descriptor.settime(2, ns(10), ns(0), set_to(60, 2), Arm::Armed(5));
-    assert_eq!(rt; fourth, old(140, 0));
+    assert_equal(&rt, fourth, old(140, 0));
     let fifth = descriptor.read(8, set_to(70, 3), Arm::NotAsked);
-    assert_eq!(rt; fifth, ReadAnswer::Again);
-    assert_eq!(rt; descriptor.timer().phase, armed(5, ClockId::Monotonic, 10));
+    assert_equal(&rt, fifth, ReadAnswer::Again);
+    let phase = descriptor.timer().phase;
+    assert_equal(&rt, phase, armed(5, ClockId::Monotonic, 10));
 }
 
 #[test]
 fn an_expiry_that_the_set_clock_took_back_is_not_counted(rt: HostRuntime) {
     let mut descriptor = FdState::make(ClockId::Realtime, 0, 100);
     descriptor.settime(1, ns(1000), ns(100), set_to(1000, 1), Arm::Armed(1));
-    assert_eq!(rt;
+    assert_equal(
+        &rt,
         descriptor.trigger(1, set_to(1000, 1)),
-        TriggerAnswer::Counted
+        TriggerAnswer::Counted,
     );
     let start = descriptor.read_wants(8, set_to(500, 2));
-    assert_eq!(rt; start, wanted(Mode::Keep, 1000));
+    assert_equal(&rt, start, wanted(Mode::Keep, 1000));
     let again = descriptor.read(8, set_to(500, 2), Arm::Armed(4));
-    assert_eq!(rt; again, ReadAnswer::Again);
-    assert_eq!(rt; descriptor.timer().phase, armed(4, ClockId::Realtime, 1000));
+    assert_equal(&rt, again, ReadAnswer::Again);
+    assert_equal(
+        &rt,
+        descriptor.timer().phase,
+        armed(4, ClockId::Realtime, 1000),
+    );
 }
 
 #[test]
 fn a_spent_descriptor_refuses_all_but_a_look(rt: HostRuntime) {
     let mut descriptor = FdState::make(ClockId::Monotonic, 0, 2);
     let times = times_of(3, TimeSpec { sec: 1, nsec: 10 }, ns(7));
-    assert_eq!(rt; times, Ok((1_000_000_010, 7)));
-    assert_eq!(rt;
+    assert_equal(&rt, times, Ok((1_000_000_010, 7)));
+    assert_equal(
+        &rt,
         times_of(4, ns(1_000_000_000), ns(0)),
-        Err(BadArgument::Flags)
+        Err(BadArgument::Flags),
     );
     let call = Call::Settime(SettimeCall {
         flags: 1,
@@ -164,17 +178,17 @@ fn a_spent_descriptor_refuses_all_but_a_look(rt: HostRuntime) {
         reading: Reading::at(0),
         arm: Arm::Armed(1),
     });
-    assert_eq!(rt; descriptor.apply(call), Reply::Settime(old(0, 0)));
+    assert_equal(&rt, descriptor.apply(call), Reply::Settime(old(0, 0)));
     let reply = descriptor.apply(Call::Trigger {
         generation: 1,
         reading: Reading::at(100),
     });
-    assert_eq!(rt; reply, Reply::Trigger(TriggerAnswer::Counted));
+    assert_equal(&rt, reply, Reply::Trigger(TriggerAnswer::Counted));
     let spent = descriptor.read(8, Reading::at(100), Arm::NotAsked);
-    assert_eq!(rt; spent, ReadAnswer::Spent { stamp: 2 });
-    assert_eq!(rt; descriptor.gettime_wants(Reading::at(100)), None);
+    assert_equal(&rt, spent, ReadAnswer::Spent { stamp: 2 });
+    assert_equal(&rt, descriptor.gettime_wants(Reading::at(100)), None);
     let spent = descriptor.gettime(Reading::at(100), Arm::NotAsked);
-    assert_eq!(rt; spent, GettimeAnswer::Spent { stamp: 2 });
+    assert_equal(&rt, spent, GettimeAnswer::Spent { stamp: 2 });
     assert!(rt; descriptor.readable(Reading::at(100)));
     few_entries();
     one_more_entry();
@@ -191,12 +205,12 @@ fn entries_are_made_by_calls(rt: HostRuntime) {
         arm: Arm::Unarmed(9),
     });
     let unarmed = SettimeAnswer::Unarmed { stamp: 9 };
-    assert_eq!(rt; descriptor.apply(call), Reply::Settime(unarmed));
+    assert_equal(&rt, descriptor.apply(call), Reply::Settime(unarmed));
     let reply = descriptor.apply(Call::Read {
         reading: Reading::at(0),
         arm: Arm::NotAsked,
     });
-    assert_eq!(rt; reply, Reply::Read(ReadAnswer::Again));
+    assert_equal(&rt, reply, Reply::Read(ReadAnswer::Again));
     let reply = descriptor.apply(Call::Gettime {
         reading: Reading::at(0),
         arm: Arm::NotAsked,
@@ -205,5 +219,5 @@ fn entries_are_made_by_calls(rt: HostRuntime) {
         left: 0,
         interval: 0,
     };
-    assert_eq!(rt; reply, Reply::Gettime(nothing));
+    assert_equal(&rt, reply, Reply::Gettime(nothing));
 }

@@ -1,4 +1,5 @@
 //! Tests of `timer_queue`: queues, of any kind.
+use super::assert_equal;
 use std::alloc::{AllocError, Global};
 use timer_queue::{ListQueue, Queue};
 
@@ -33,9 +34,10 @@ fn leave<Q: Queue>(queue: &mut Q) -> Option<(u64, u32)> {
 #[test]
 fn equal_expiries_stand_in_the_order_of_adding(rt: HostRuntime) -> Result<(), AllocError> {
     let order = in_order::<ListQueue>(rt.alloc(), [20, 10, 20, 10])?;
-    assert_eq!(rt;
+    assert_equal(
+        &rt,
         order,
-        [Some((10, 1)), Some((10, 3)), Some((20, 0)), Some((20, 2))]
+        [Some((10, 1)), Some((10, 3)), Some((20, 0)), Some((20, 2))],
     );
     Ok(())
 }
@@ -43,7 +45,7 @@ fn equal_expiries_stand_in_the_order_of_adding(rt: HostRuntime) -> Result<(), Al
 #[test]
 fn an_empty_queue_has_no_first(rt: HostRuntime) -> Result<(), AllocError> {
     let queue = ListQueue::make(rt.alloc(), 3)?;
-    assert_eq!(rt; queue.first(), None);
+    assert_equal(&rt, queue.first(), None);
     assert!(rt; !queue.has(0));
     Ok(())
 }
@@ -56,9 +58,9 @@ fn erase_takes_one_timer_from_the_middle(rt: HostRuntime) -> Result<(), AllocErr
     queue.add(7, 2);
     queue.erase(1);
     assert!(rt; !queue.has(1));
-    assert_eq!(rt; queue.first(), Some((5, 0)));
+    assert_equal(&rt, queue.first(), Some((5, 0)));
     queue.erase(0);
-    assert_eq!(rt; queue.first(), Some((7, 2)));
+    assert_equal(&rt, queue.first(), Some((7, 2)));
     Ok(())
 }
 
@@ -69,6 +71,6 @@ fn a_timer_can_be_added_again(rt: HostRuntime) -> Result<(), AllocError> {
     queue.add(5, 1);
     queue.erase(0);
     queue.add(5, 0);
-    assert_eq!(rt; queue.first(), Some((5, 1)));
+    assert_equal(&rt, queue.first(), Some((5, 1)));
     Ok(())
 }
