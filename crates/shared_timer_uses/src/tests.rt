@@ -19,7 +19,7 @@ use std::alloc::{AllocError, Global};
 use std::fmt::Debug;
 use std::process::Abort;
 
-/// Fails the test where these differ, and shows both; it is proved once, an `assert_eq!` in each test.
+/// Fails the test where these differ, and shows both. This is proved once; an `assert_eq!` is proved in each test that has it.
 fn assert_equal<T: PartialEq + Debug + Drop>(rt: &impl Abort, got: T, wanted: T) {
     assert_eq!(rt; got, wanted);
 }

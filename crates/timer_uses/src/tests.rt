@@ -23,7 +23,7 @@ use timer_fd::FdState;
 use timer_queue::ListQueue;
 use timer_setting::{ObjectTimer, Phase, Wanted};
 
-/// Fails the test where these differ, and shows both; it is proved once, an `assert_eq!` in each test.
+/// Fails the test where these differ, and shows both. This is proved once; an `assert_eq!` is proved in each test that has it.
 fn assert_equal<T: PartialEq + Debug + Drop>(rt: &impl Abort, got: T, wanted: T) {
     assert_eq!(rt; got, wanted);
 }
