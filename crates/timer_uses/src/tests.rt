@@ -117,7 +117,7 @@ fn a_descriptor_is_read(rt: HostRuntime) -> Result<(), AllocError> {
         Reading::at(0),
     );
     assert_equal(&rt, expire_once(&mut core, 0, Reading::at(100)), Some(0));
-    assert!(rt; descriptor_expired(&mut descriptor, 1, Reading::at(100)),);
+    assert!(rt; descriptor_expired(&mut descriptor, 1, Reading::at(100)));
     assert!(rt; descriptor.readable(Reading::at(100)));
     assert_equal(
         &rt,

@@ -38,9 +38,9 @@ fn word(stamp: u64, base: u32, enqueued: bool) -> TimerWord {
 #[test]
 fn a_timer_starts_moves_and_is_cancelled(rt: HostRuntime) -> Result<(), Fail> {
     let (row, mut pass) = three_timers(rt.alloc())?;
-    assert!(rt; start(&rt, &row, &mut pass, 0, 1, 500, Reading::at(1000)),);
+    assert!(rt; start(&rt, &row, &mut pass, 0, 1, 500, Reading::at(1000)));
     assert_equal(&rt, row.load_word(&mut pass, 1), word(1, 0, true));
-    assert!(rt; move_to(&rt, &row, &mut pass, 0, 1, 1, 700, Reading::at(1000)),);
+    assert!(rt; move_to(&rt, &row, &mut pass, 0, 1, 1, 700, Reading::at(1000)));
     assert_equal(&rt, row.load_word(&mut pass, 1), word(3, 1, true));
     assert!(rt; cancel(&rt, &row, &mut pass, 1, 1));
     assert_equal(&rt, row.load_word(&mut pass, 1), word(4, 1, false));
@@ -52,7 +52,7 @@ fn a_timer_starts_moves_and_is_cancelled(rt: HostRuntime) -> Result<(), Fail> {
 #[test]
 fn a_due_timer_is_claimed_and_finished(rt: HostRuntime) -> Result<(), Fail> {
     let (row, mut pass) = three_timers(rt.alloc())?;
-    assert!(rt; start(&rt, &row, &mut pass, 0, 1, 500, Reading::at(1000)),);
+    assert!(rt; start(&rt, &row, &mut pass, 0, 1, 500, Reading::at(1000)));
     assert!(rt; !run(&rt, &row, &mut pass, 1, Reading::at(1000)));
     assert_equal(&rt, row.load_word(&mut pass, 1), word(1, 0, true));
     assert!(rt; run(&rt, &row, &mut pass, 0, Reading::at(1000)));
