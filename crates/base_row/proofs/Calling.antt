@@ -9,6 +9,7 @@ use Rattle.pass_names.specs.SharedHistory.{ExtendsBy, Known, LooksOn, MeetWith, 
 use Rattle.pass_names.proofs.Passes.{begins_trans, begins_more}
 use Rattle.ktime.specs.declared.mode.Mode.{Mode}
 use Rattle.ktime.specs.Readings.{ClockReading}
+use Rattle.seq_timer.specs.declared.event.Asked.{Asked}
 use Rattle.seq_timer.specs.declared.event.Event.{Event}
 use Rattle.seq_timer.specs.declared.system.TimerEntry.{TimerEntry}
 use Rattle.seq_timer.specs.declared.event.Event.TheVariants.{Start}
@@ -227,11 +228,11 @@ seen_same o v w t own = after_entries-entries_of (first_system o.timers) t w.see
     ∙ (ap (seq.after_all (timer_at o.timers t)) own ∙ sym (after_entries-entries_of (first_system o.timers) t v.seen))
 
 -- a timer on the move may be started by who carries it, on the base that it was sent to
-pub may_start : (o : Opening) (v : BaseView BaseContent) (h : HeldContent BaseContent) (t : ℕ) (mode : Mode) (ns : ℕ) (reading : ClockReading)
-    (asked : ℕ) → t < length o.timers → v.held ≡ Some h → v.carry ≡ Some t → (timer_seen o v t).moving ≡ true
-    → asked ≡ (timer_seen o v t).base → (timer_seen o v t).base ≡ h.base
-    → MayAppend o v h t (Start mode ns reading asked)
-may_start o v h t mode ns reading asked inside held carry moves here there = record {
+pub may_start : (o : Opening) (v : BaseView BaseContent) (h : HeldContent BaseContent) (t : ℕ) (asked : Asked) → t < length o.timers
+    → v.held ≡ Some h → v.carry ≡ Some t → (timer_seen o v t).moving ≡ true
+    → asked.base ≡ (timer_seen o v t).base → (timer_seen o v t).base ≡ h.base
+    → MayAppend o v h t (Start asked)
+may_start o v h t asked inside held carry moves here there = record {
   may = record {
     held = held;
     allowed = record { within = inside; needs = (inr here, inr moves); reply = refl; base = tt };

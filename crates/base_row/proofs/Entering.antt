@@ -75,8 +75,8 @@ module _ (bases : ℕ) (opened : List Timer) (code : Timer → ℕ) (id : ℕ) (
       within = may.allowed.within;
       needs = subst (λ x. Needs x e.event) (sym same_timer) may.allowed.needs;
       reply = may.allowed.reply ∙ ap (λ x. reply_to x e.event) (sym same_timer);
-      base = subst (λ x. FitsBase bases (w.bases (w.timers e.timer).base).content e.timer x e.event) (sym same_timer)
-          (subst (λ (x : BaseContent). FitsBase bases x.content e.timer t e.event) (ap (λ q. seen.bases q) may.base
+      base = subst (λ x. FitsBase bases (w.bases (w.timers e.timer).base) e.timer x e.event) (sym same_timer)
+          (subst (λ (x : BaseContent). FitsBase bases x e.timer t e.event) (ap (λ q. seen.bases q) may.base
           ∙ (sym same_base ∙ ap (λ q. w.bases q) (sym here))) may.allowed.base);
     }
 

@@ -58,7 +58,7 @@ go_along v id t (events.Out base) reply needs mine = record {
   carry_here = omega (arith, ap (carried_in id) mine, ap one_if (eq-eqb id id refl), ap one_if needs.1);
   carry_else = λ k n. omega (arith, ap (carried_in k) mine, ap one_if (ne_eqb id k (λ e. n (sym e))));
 }
-go_along v id t (events.Start mode ns reading asked) reply needs mine = record {
+go_along v id t (events.Start asked) reply needs mine = record {
   own = λ g b. refl;
   apart = λ k g b n. refl;
   carry_here = carry_start id t.moving v.carry mine;

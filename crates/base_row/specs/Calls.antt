@@ -1,9 +1,10 @@
 -- What calls on a row say of the pass that makes them.
 use Rattle.std.specs.Prelude.{◌≡◌, ℕ, ◌+◌, ◌-◌, ◌^◌, ◌<◌, ◌≤◌, ◌⊎◌, List, [], ◌∷◌, ◌++◌, length, slice_index, Some}
 use Rattle.atomic_table.specs.Seated.{TableId}
-use Rattle.ktime.specs.declared.clock_id.ClockId.{ClockId}
 use Rattle.pass_names.specs.Passes.{Begins}
 use Rattle.pass_names.specs.SharedHistory.{Known}
+use Rattle.seq_timer.specs.declared.context.Terms.{Terms}
+use Rattle.seq_timer.specs.declared.context.Declared.{Declared}
 use Rattle.seq_timer.specs.declared.event.Event.{Event}
 use Rattle.seq_timer.specs.declared.system.TimerEntry.{TimerEntry}
 use Rattle.seq_timer.specs.Steps.{Timer, greatest_limit, reply_to}
@@ -32,14 +33,14 @@ pub record IsBasePassOf (r : BaseRowOf) (p : BasePassOf) : Type 0 where
   pub row : p.row ≡ r.id
   pub about : p.knows.opening ≡ r.about
 
--- what a row of so many bases and of timers on these clocks begins with
-abbrev pub opening_of : ℕ → List ClockId → ℕ → Opening
-opening_of bases clocks limit = record { bases = bases; timers = openings clocks limit }
+-- what a row of so many bases and of timers that are declared so begins with
+abbrev pub opening_of : ℕ → List Declared → Terms → Opening
+opening_of bases declareds terms = record { bases = bases; timers = openings declareds terms }
 
 -- nothing has happened to any of the timers
 pub record AreFresh (timers : List Timer) : Type 0 where
   pub each : (t : ℕ) → IsFresh (timer_at timers t)
-  pub limit : (t : ℕ) → (timer_at timers t).limit ≤ greatest_limit
+  pub limit : (t : ℕ) → (timer_at timers t).terms.limit ≤ greatest_limit
 
 abbrev pub timer_seen : Opening → BaseView BaseContent → ℕ → Timer
 timer_seen o v t = seen_timer o.bases o.timers number_of v t

@@ -235,7 +235,7 @@ module _ (bases : ℕ) (opened : List Timer) (code : Timer → ℕ) where
 -- the claims after an event of a timer, which was so
 abbrev pub claims_with_event : ℕ → Timer → Event → List Claimed → List Claimed
 claims_with_event id t (events.Out base) claims = claims
-claims_with_event id t (events.Start mode ns reading asked) claims = claims
+claims_with_event id t (events.Start asked) claims = claims
 claims_with_event id t events.Cancel claims = claims
 claims_with_event id t (events.Claim base reading) claims = claims ++ record { timer = id; generation = unwrap_or t.armed 0; base = t.base } ∷ []
 claims_with_event id t (events.Forward reading interval) claims = claims
@@ -244,7 +244,7 @@ claims_with_event id t (events.Finish restart) claims = without_first (is_base_c
 -- the timer that is carried after an event of a timer, which was so
 abbrev pub carry_after : ℕ → Timer → Event → Option ℕ → Option ℕ
 carry_after id t (events.Out base) carry = Some id
-carry_after id t (events.Start mode ns reading asked) carry = if t.moving then None else carry
+carry_after id t (events.Start asked) carry = if t.moving then None else carry
 carry_after id t events.Cancel carry = carry
 carry_after id t (events.Claim base reading) carry = carry
 carry_after id t (events.Forward reading interval) carry = carry
@@ -253,7 +253,7 @@ carry_after id t (events.Finish restart) carry = carry
 -- what an event needs of the pass that makes it
 abbrev pub OwnNeeds : BaseView BaseContent → ℕ → Timer → Event → Type 0
 OwnNeeds v id t (events.Out base) = v.carry ≡ None
-OwnNeeds v id t (events.Start mode ns reading asked) = t.moving ≡ true → v.carry ≡ Some id
+OwnNeeds v id t (events.Start asked) = t.moving ≡ true → v.carry ≡ Some id
 OwnNeeds v id t events.Cancel = Unit {0}
 OwnNeeds v id t (events.Claim base reading) = Unit {0}
 OwnNeeds v id t (events.Forward reading interval) = 0 < base_claims_at id (unwrap_or t.running 0) t.base v

@@ -9,7 +9,8 @@ use Rattle.pass_names.specs.Counts.{one_if, total, count}
 use Rattle.pass_names.specs.Names.{IsPassTree}
 use Rattle.pass_names.specs.Passes.{Begins, within, is_place}
 use Rattle.seq_timer.specs.Steps.{Timer}
-use Rattle.timer_word.specs.Words.{packed, word_of}
+use Rattle.seq_timer.specs.Histories.{peek_of}
+use Rattle.timer_word.specs.Words.{packed}
 use Rattle.seq_timer.specs.declared.system.TimerEntry.{TimerEntry}
 use Rattle.base_row.specs.declared.view.Claimed.{Claimed}
 use Rattle.base_row.specs.declared.view.HeldContent.{HeldContent}
@@ -68,7 +69,7 @@ pub record LockState (content : BaseContent) (home : mathlib.Core.Option.Option 
 
 -- the number in a timer's word
 unfoldable pub number_of : Timer → ℕ
-number_of t = packed (word_of t)
+number_of t = packed (peek_of t)
 
 module _ (bases : ℕ) (opened : List Timer) (code : Timer → ℕ) where
   abbrev pub now : List TimerEntry → System

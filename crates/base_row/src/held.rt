@@ -1,13 +1,14 @@
 //! What a caller holds: a pass, and a base whose lock it has.
 ghost use Rattle.std.specs.Prelude.{◌≡◌, ◌<◌, length};
-ghost use Rattle.seq_timer.specs.Contents.{first_due};
+ghost use Rattle.seq_timer.specs.Contents.{running_in};
+ghost use Rattle.seq_timer.specs.Systems.{next_on};
 ghost use Rattle.seq_timer.specs.Tables.{timer_at};
 ghost use Rattle.base_row.specs.Plays.{IsResting, KnowsOwn, carried_slots};
 
 use crate::slot::BaseSlot;
 use crate::steps::BaseSeat;
 use ktime::Reading;
-use seq_timer::TimerState;
+use seq_timer::{Context, TimerState};
 use std::marker::Model;
 
 /// The right to call a row, with what its holder knows. It has no bytes and can't be dropped.
@@ -72,17 +73,17 @@ impl HeldBase {
     }
 
     /// The timer that is to expire next on the base at this reading, with its expiry.
-    pub fn first(&self, reading: Reading) -> Option<(u64, u32)>
-        ensures { result ≡ first_due self.now.content.content reading }
+    pub fn first(&self, context: Context, reading: Reading) -> Option<(u64, u32)>
+        ensures { result ≡ next_on context self.now.content reading }
     {
-        self.slot.first(reading)
+        self.slot.first(context, reading)
     }
 
     /// The timer whose function runs on the base, with its generation.
-    pub fn running(&self) -> Option<(u32, u64)>
-        ensures { result ≡ self.now.content.content.running }
+    pub fn running(&self, context: Context) -> Option<(u32, u64)>
+        ensures { result ≡ running_in context self.now.content.content }
     {
-        self.slot.running()
+        self.slot.running(context)
     }
 
     /// A timer as it was when it was last on the base.

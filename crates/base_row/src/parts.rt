@@ -8,10 +8,9 @@ ghost use Rattle.seq_timer.specs.Steps.{greatest_limit};
 
 use crate::cell::BaseCell;
 use crate::slot::BaseSlot;
-use ktime::ClockId;
 use seq_timer::TimerState;
 use std::alloc::{AllocError, Global};
-use timer_word::TimerWord;
+use timer_word::{pack, word_of};
 
 /// The number in a timer's word.
 #[tactic(auto, unfolding(crate::specs::Rules::number_of))]
@@ -19,7 +18,7 @@ pub fn number_of(timer: &TimerState) -> u64
     requires base { timer.now.base < 256 }
     ensures { result ≡ number_of timer.now }
 {
-    TimerWord::of(timer).pack()
+    pack(word_of(timer))
 }
 
 /// Where a base's lock word stands.
@@ -43,23 +42,6 @@ pub fn zeros(alloc: Global, count: usize) -> Result<Vec<u64>, AllocError>
     ensures { IfOk result (λ v. v.items ≡ replicate count 0) }
 {
     Ok(vec![in alloc; 0u64; count]?)
-}
-
-/// Timers of which nothing has happened yet.
-pub fn make_timers(
-    alloc: Global,
-    clocks: &[ClockId],
-    max_events: u64,
-) -> Result<Vec<TimerState>, AllocError>
-    requires limit { (0 < max_events) × (max_events ≤ greatest_limit) }
-    ensures timers { IfOk result (λ v. v.items ≡ openings clocks.now max_events) }
-    ensures len { IfOk result (λ v. length v.items ≡ length clocks.now) }
-{
-    let mut timers = Vec::with_capacity(alloc, clocks.len())?;
-    for clock in clocks {
-        timers.push(TimerState::make(*clock, max_events))?;
-    }
-    Ok(timers)
 }
 
 /// So many bases without timers, each in a slot of its own.

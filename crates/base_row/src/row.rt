@@ -4,30 +4,32 @@ ghost use Rattle.std.specs.Prelude.{◌≡◌, ◌-◌, ◌^◌, ◌<◌, ◌≤
 ghost use Rattle.pass_names.specs.Names.{AnswersFor, IsLast};
 ghost use Rattle.base_row.specs.Rules.{number_of};
 ghost use Rattle.seq_timer.specs.declared.event.Event.TheVariants as events;
+ghost use Rattle.seq_timer.specs.Histories.{peek_of};
 ghost use Rattle.seq_timer.specs.Steps.{after, greatest_limit, reply_to};
-ghost use Rattle.seq_timer.specs.Tables.{IsNextDue, is_due_on, runs_on};
-ghost use Rattle.timer_word.specs.Words.{word_of};
-ghost use Rattle.seq_timer.specs.Contents.{first_due, running_on};
-ghost use Rattle.seq_timer.specs.Systems.{IsOn};
+ghost use Rattle.seq_timer.specs.Tables.{IsNextDue, IsStopped, in_context, runs_on};
+ghost use Rattle.seq_timer.specs.Contents.{running_in};
+ghost use Rattle.seq_timer.specs.Halves.{running_on};
+ghost use Rattle.ktime.specs.declared.clock_id.ClockId.{ClockId};
+ghost use Rattle.seq_timer.specs.Systems.{IsOn, next_on};
 ghost use Rattle.base_row.specs.Plays.{KnowsOwn, first_base_view, Lost, GotBase, carried_slots, split_base_view, new_base_view, Steady};
 ghost use Rattle.base_row.specs.Calls.{AreFresh, GetsBase, MissesBase, opening_of, IsBasePassOf, LetsGo, SeesFurther, Absorbs};
 ghost use Rattle.base_row.specs.Calls.{LearnsFrom, MayAppend, Appended, timer_seen, base_seen};
 
 use crate::cell::BaseCell;
 use crate::held::{HeldBase, Pass};
-use crate::parts::{empty_slots, lock_index, make_timers, number_of, timer_index, zeros};
+use crate::parts::{empty_slots, lock_index, number_of, timer_index, zeros};
 use crate::plays::{About, BaseRule, Child, SlotView};
 use crate::slots::{attempt, put_back};
 use crate::steps::{absorb, enter, free, look, tell};
 use atomic_table::{Refused, Table};
 use crossbeam_utils::Backoff;
-use ktime::{ClockId, Reading};
-use seq_timer::{Event, Reply, TimerState};
+use ktime::Reading;
+use seq_timer::{Context, Declared, Event, Peek, Reply, Terms, TimerState, make_timers};
 use std::alloc::{AllocError, Global};
 use std::marker::{Brand, Model};
 use std::snapshot::Snapshot;
 use std::sync::Wait;
-use timer_word::TimerWord;
+use timer_word::unpack;
 
 /// Bases and timers that many threads share.
 #[derive(Drop)]
@@ -51,21 +53,21 @@ impl Model for BaseRow {
 }
 
 impl BaseRow {
-    /// A row of so many bases, and of timers that are declared on these clocks, with the first pass. At `max_events` entries a timer takes
-    /// no start, no forward and no restart any more. It alone takes memory, for all calls.
+    /// A row of so many bases, and of timers that are declared so and take entries on these terms, with the first pass. It alone takes memory, for
+    /// all calls.
     pub fn make(
         alloc: Global,
         bases: u32,
-        clocks: &[ClockId],
-        max_events: u64,
+        timers: &[Declared],
+        terms: Terms,
     ) -> Result<(BaseRow, Pass), AllocError>
-        requires few { (0 < bases) × (bases ≤ 256) × (length clocks.now ≤ 65536) }
-        requires limit { (0 < max_events) × (max_events ≤ greatest_limit) }
+        requires few { (0 < bases) × (bases ≤ 256) × (length timers.now ≤ 65536) }
+        requires limit { (0 < terms.limit) × (terms.limit ≤ greatest_limit) }
         ensures row { IfOk result (λ r. IsBasePassOf r.0 r.1) }
-        ensures about { IfOk result (λ r. r.0.about ≡ opening_of bases clocks.now max_events) }
-        ensures first { IfOk result (λ r. r.1.knows ≡ first_base_view (opening_of bases clocks.now max_events)) }
+        ensures about { IfOk result (λ r. r.0.about ≡ opening_of bases timers.now terms) }
+        ensures first { IfOk result (λ r. r.1.knows ≡ first_base_view (opening_of bases timers.now terms)) }
     {
-        let timers = make_timers(alloc, clocks, max_events)?;
+        let timers = make_timers(alloc, timers, terms)?;
         BaseRow::with_timers(alloc, bases, timers)
     }
 
@@ -242,52 +244,59 @@ impl BaseRow {
     }
 
     /// Loads a timer's word. It waits for nobody.
-    pub fn load_word(&self, pass: &mut Pass, timer: u32) -> TimerWord
+    pub fn load_word(&self, pass: &mut Pass, timer: u32) -> Peek
         requires row { IsBasePassOf self.now pass.old }
         requires within { timer < length self.now.about.timers }
         ensures row { IsBasePassOf self.now pass.new }
         ensures sees { SeesFurther pass.old.knows pass.new.knows }
         ensures steady { Steady pass.old.knows pass.new.knows }
-        ensures word { result ≡ word_of (timer_seen self.now.about pass.new.knows timer) }
+        ensures word { result ≡ peek_of (timer_seen self.now.about pass.new.knows timer) }
         ensures placed { result.base < self.now.about.bases }
     {
         let index = self.word_index(timer);
         let number = look(&self.table.shared, &mut pass.seat, index);
         pass.known();
         self.fresh();
-        match TimerWord::unpack(number) {
+        match unpack(number) {
             Some(word) => word,
             None => unreachable!(),
         }
     }
 
     /// The timer whose function runs on a held base, with its generation.
-    pub fn running(&self, pass: &Pass, held: &HeldBase) -> Option<(u32, u64)>
+    pub fn running(&self, pass: &Pass, held: &HeldBase, context: Context) -> Option<(u32, u64)>
         requires row { IsBasePassOf self.now pass.now }
         requires held { pass.now.knows.held ≡ Some held.now }
-        ensures running { result ≡ held.now.content.content.running }
-        ensures busy { IfSome result (λ m. running_on held.now.base (timer_seen self.now.about pass.now.knows m.0) ≡ Some m.1) }
-        ensures idle { IfNone result ((t : ℕ) → runs_on held.now.base (timer_seen self.now.about pass.now.knows t) ≡ false) }
+        ensures running { result ≡ running_in context held.now.content.content }
+        ensures busy { IfSome result (λ m. running_on held.now.base (in_context context (timer_seen self.now.about pass.now.knows) m.0) ≡ Some m.1) }
+        ensures idle { IfNone result ((t : ℕ) → runs_on held.now.base (in_context context (timer_seen self.now.about pass.now.knows) t) ≡ false) }
     {
         pass.known();
         self.fresh();
-        held.slot.running()
+        held.slot.running(context)
     }
 
     /// The timer that is the next to expire on a held base at this reading, with its expiry.
-    pub fn first(&self, pass: &Pass, held: &HeldBase, reading: Reading) -> Option<(u64, u32)>
+    pub fn first(
+        &self,
+        pass: &Pass,
+        held: &HeldBase,
+        context: Context,
+        reading: Reading,
+    ) -> Option<(u64, u32)>
         requires row { IsBasePassOf self.now pass.now }
         requires held { pass.now.knows.held ≡ Some held.now }
-        ensures first { result ≡ first_due held.now.content.content reading }
-        ensures next { IfSome result (λ p. IsNextDue (timer_seen self.now.about pass.now.knows) held.now.base reading p.1) }
-        ensures seen { result ≡ first_due (base_seen self.now.about pass.now.knows held.now.base).content reading }
+        ensures first { result ≡ next_on context held.now.content reading }
+        ensures next { IfSome result (λ p. IsNextDue (in_context context (timer_seen self.now.about pass.now.knows)) held.now.base reading p.1) }
+        ensures context { IfSome result (λ p. (timer_seen self.now.about pass.now.knows p.1).declared.context ≡ context) }
+        ensures seen { result ≡ next_on context (base_seen self.now.about pass.now.knows held.now.base) reading }
         ensures expires { IfSome result (λ p. p.0 ≡ (timer_seen self.now.about pass.now.knows p.1).expires) }
         ensures within { IfSome result (λ p. p.1 < length self.now.about.timers) }
-        ensures none { IfNone result ((t : ℕ) → is_due_on held.now.base reading (timer_seen self.now.about pass.now.knows t) ≡ false) }
+        ensures none { IfNone result ((clock : ClockId) → IsStopped (in_context context (timer_seen self.now.about pass.now.knows)) held.now.base reading clock) }
     {
         pass.known();
         self.fresh();
-        held.slot.first(reading)
+        held.slot.first(context, reading)
     }
 
     /// Makes one more pass, which has seen and met as much.

@@ -2,12 +2,12 @@
 ghost use Rattle.std.specs.Prelude.{◌≡◌, ◌<◌, ◌^◌, length, IfOk};
 ghost use Rattle.seq_timer.specs.Steps.{after};
 ghost use Rattle.seq_timer.specs.Tables.{timer_at};
-ghost use Rattle.seq_timer.specs.Contents.{first_due};
+ghost use Rattle.seq_timer.specs.Contents.{running_in};
 ghost use Rattle.seq_timer.specs.Bases.{IsQueuedAs};
-ghost use Rattle.seq_timer.specs.Systems.{changed, no_base};
+ghost use Rattle.seq_timer.specs.Systems.{changed, next_on, no_base};
 
 use ktime::Reading;
-use seq_timer::{Base, Event, TimerState};
+use seq_timer::{Base, Context, Event, TimerState};
 use std::alloc::{AllocError, Global};
 use std::marker::Model;
 use timer_tree::TimerTree;
@@ -63,18 +63,19 @@ impl BaseSlot {
         self.parts.states[timer as usize]
     }
 
-    /// The timer whose function runs here, with its generation.
-    pub fn running(&self) -> Option<(u32, u64)>
-        ensures { result ≡ self.now.content.running }
+    /// The timer whose function runs here in this context, with its generation.
+    pub fn running(&self, context: Context) -> Option<(u32, u64)>
+        ensures { result ≡ running_in context self.now.content }
     {
-        self.parts.base.running()
+        self.parts.base.running(context)
     }
 
-    /// The timer that is to expire next at this reading.
-    pub fn first(&self, reading: Reading) -> Option<(u64, u32)>
-        ensures { result ≡ first_due self.now.content reading }
+    /// The timer of this context that is to expire next at this reading.
+    pub fn first(&self, context: Context, reading: Reading) -> Option<(u64, u32)>
+        ensures { result ≡ next_on context self.now reading }
     {
-        self.parts.base.first(reading)
+        let parts = &*self.parts;
+        parts.base.first(context, &parts.states, reading)
     }
 
     /// Goes along with an event that has brought a timer of this base from one state to another.

@@ -1,6 +1,8 @@
 -- Passes of a row while its bases are timed.
 use Rattle.std.specs.Prelude.{◌≡◌, ℕ, ◌+◌, ◌≤◌, [], length, None, Some}
 use Rattle.ktime.specs.Readings.{ClockReading}
+use Rattle.ktime.specs.declared.mode.Mode.TheVariants as modes
+use Rattle.seq_timer.specs.declared.event.Asked.{Asked}
 use Rattle.pass_names.specs.Names.{AreFirstTwo}
 use Rattle.seq_timer.specs.Systems.{BaseContent}
 use Rattle.base_row.specs.declared.view.BaseView.{BaseView}
@@ -11,6 +13,10 @@ use Rattle.base_row.specs.Rests.{Rests}
 -- the reading of all starts
 abbrev pub beginning : ClockReading
 beginning = record { stamp = 0; mono = 0; real = 0; boot = 0; changes = 0 }
+
+-- a start on this base for this time, with no slack
+abbrev pub asked : ℕ → ℕ → Asked
+asked base ns = record { mode = modes.Abs; ns = ns; slack = 0; reading = beginning; base = base }
 
 -- a pass of the row that holds and carries nothing, and has no claims
 pub record IsReady (row : BaseRowOf) (pass : BasePassOf) : Type 0 where

@@ -7,6 +7,7 @@ use crate::turns::turns_of_all;
 use base_row::{BaseRow, Pass};
 use bench_cases::{Figure, Least, Task, Workers};
 use ktime::ClockId;
+use seq_timer::{Declared, Terms};
 use std::alloc::{AllocError, Global};
 use std::io;
 use std::sync::Wait;
@@ -70,8 +71,9 @@ fn run<R: Threads + Wait + Sync + Clock>(
     requires size { (0 < case.queued) × (case.queued < 2 ^ 14) × (0 < case.started) × (case.started ≤ case.queued) }
     requires few { load.1 < 2 ^ 32 }
 {
-    let clocks = vec![in alloc; ClockId::Monotonic; 4 * case.queued as usize]?;
-    let (row, mut first) = BaseRow::make(alloc, 2, &clocks, LIMIT)?;
+    let declared = Declared::hard(ClockId::Monotonic);
+    let timers = vec![in alloc; declared; 4 * case.queued as usize]?;
+    let (row, mut first) = BaseRow::make(alloc, 2, &timers, Terms::limited(LIMIT))?;
     let mut second = row.split(&mut first);
     fill(rt, &row, &mut first, case.queued, case.workers.other());
     let done = rounds(rt, &row, &mut first, &mut second, case, load);

@@ -1,13 +1,12 @@
 //! What the threads do: a timer is started and cancelled under one lock of its base, so many times.
 ghost use Rattle.std.specs.Prelude.{◌≡◌, ◌*◌, ◌^◌, ◌<◌, ◌≤◌, length};
-ghost use Rattle.ktime.specs.declared.mode.Mode.TheVariants.{Abs};
 ghost use Rattle.seq_timer.specs.declared.event.Event.TheVariants as events;
-ghost use Rattle.base_row_bench.specs.Working.{AreBoth, HoldsOneBase, IsReady, Worked, WorkedOn, beginning};
+ghost use Rattle.base_row_bench.specs.Working.{AreBoth, HoldsOneBase, IsReady, Worked, WorkedOn, asked};
 
 use base_row::{BaseRow, HeldBase, Pass};
 use bench_cases::{Random, Workers};
 use ktime::{Mode, Reading};
-use seq_timer::Event;
+use seq_timer::{Asked, Event};
 use std::sync::Wait;
 use std::thread::{Threads, join_mut};
 
@@ -21,14 +20,15 @@ pub struct Share {
 
 /// A start on the base that is asked for, at an expiry that no reading here reaches.
 pub fn start_event(base: u32, ns: u64) -> Event
-    ensures { result ≡ events.Start Abs ns beginning base }
+    ensures { result ≡ events.Start (asked base ns) }
 {
-    Event::Start {
+    Event::Start(Asked {
         mode: Mode::Abs,
         ns,
+        slack: 0,
         reading: Reading::at(0),
-        asked: base,
-    }
+        base,
+    })
 }
 
 /// Starts a timer of a held base, and answers how many entries that made.

@@ -1,6 +1,7 @@
 -- What the functions of an expiry run leave, the run leaves; and a run by a handler as one by another handler that is in it.
 use Rattle.std.proofs.Common.{ℕ, zero, suc, List, sym, ap, subst}
 use Rattle.ktime.specs.Readings.{ClockReading}
+use Rattle.seq_timer.specs.declared.context.Context.{Context}
 use Rattle.base_row.specs.declared.view.Opening.{Opening}
 use Rattle.hr_timers.specs.declared.numbers.ClaimNumbers.{ClaimNumbers}
 use Rattle.hr_timers.specs.Known.{KnownOfTimers}
@@ -15,34 +16,34 @@ use Rattle.expire_pass.specs.Expiring.{Expires, Turns}
 module _ {A : Type 0} (m : Meaning A) (o : Opening) (reading : ClockReading) (Leaves : A → A → Type 0) (same : (h : A) → Leaves h h)
     (then : (h i j : A) → Leaves h i → Leaves i j → Leaves h j)
     (each : (h h' : A) (v w : KnownOfTimers) (c : ClaimNumbers) (restart : Restart) → m.did o h h' v w c reading restart → Leaves h h') where
-  turns_leave : (base n : ℕ) (k : KnownOfTimers) (h : A) (log : List Receipt) (k' : KnownOfTimers) (h' : A) (log' : List Receipt)
-      → Turns m o base reading n k h log k' h' log' → Leaves h h'
-  turns_leave base zero k h log k' h' log' turns = subst (Leaves h) (sym turns.1) (same h)
-  turns_leave base (suc n) k h log k' h' log' turns =
+  turns_leave : (x : Context) (base n : ℕ) (k : KnownOfTimers) (h : A) (log : List Receipt) (k' : KnownOfTimers) (h' : A) (log' : List Receipt)
+      → Turns m o x base reading n k h log k' h' log' → Leaves h h'
+  turns_leave x base zero k h log k' h' log' turns = subst (Leaves h) (sym turns.1) (same h)
+  turns_leave x base (suc n) k h log k' h' log' turns =
       let turn = turns.4 in
-      then h turns.1 h' (turns_leave base n k h log turns.0 turns.1 turns.2 turns.3)
+      then h turns.1 h' (turns_leave x base n k h log turns.0 turns.1 turns.2 turns.3)
       (each turns.1 h' turn.claimed turn.ran.done turn.claim turn.ran.restart turn.ran.did)
 
   -- law: so does a run
-  pub run_leaves : (base budget : ℕ) (k : KnownOfTimers) (h : A) (log : List Receipt) (k' : KnownOfTimers) (h' : A) (log' : List Receipt)
-      (a : ExpireAnswer) → Expires m o base reading budget k h log k' h' log' a → Leaves h h'
-  run_leaves base budget k h log k' h' log' (expiries.More fired) is = turns_leave base fired k h log k' h' log' is.1
-  run_leaves base budget k h log k' h' log' (expiries.Done fired) is = turns_leave base fired k h log is.1.0 h' log' is.1.1
-  run_leaves base budget k h log k' h' log' (expiries.BaseBusy fired t g) is = turns_leave base fired k h log is.1.0 h' log' is.1.1
+  pub run_leaves : (x : Context) (base budget : ℕ) (k : KnownOfTimers) (h : A) (log : List Receipt) (k' : KnownOfTimers) (h' : A) (log' : List Receipt)
+      (a : ExpireAnswer) → Expires m o x base reading budget k h log k' h' log' a → Leaves h h'
+  run_leaves x base budget k h log k' h' log' (expiries.More fired) is = turns_leave x base fired k h log k' h' log' is.1
+  run_leaves x base budget k h log k' h' log' (expiries.Done fired) is = turns_leave x base fired k h log is.1.0 h' log' is.1.1
+  run_leaves x base budget k h log k' h' log' (expiries.BaseBusy fired t g) is = turns_leave x base fired k h log is.1.0 h' log' is.1.1
 
 -- `of` is a handler that is in another one, which does what that one does
 module _ {A B : Type 0} (m : Meaning A) (n : Meaning B) (of : A → B) (o : Opening) (reading : ClockReading)
     (does : (h h' : A) (v w : KnownOfTimers) (c : ClaimNumbers) (restart : Restart) → m.did o h h' v w c reading restart
     → n.did o (of h) (of h') v w c reading restart) where
-  turns_of : (base many : ℕ) (k : KnownOfTimers) (h : A) (log : List Receipt) (k' : KnownOfTimers) (h' : A) (log' : List Receipt)
-      → Turns m o base reading many k h log k' h' log' → Turns n o base reading many k (of h) log k' (of h') log'
-  turns_of base zero k h log k' h' log' turns = (turns.0, ap of turns.1, turns.2)
-  turns_of base (suc many) k h log k' h' log' turns =
+  turns_of : (x : Context) (base many : ℕ) (k : KnownOfTimers) (h : A) (log : List Receipt) (k' : KnownOfTimers) (h' : A) (log' : List Receipt)
+      → Turns m o x base reading many k h log k' h' log' → Turns n o x base reading many k (of h) log k' (of h') log'
+  turns_of x base zero k h log k' h' log' turns = (turns.0, ap of turns.1, turns.2)
+  turns_of x base (suc many) k h log k' h' log' turns =
       let ran = turns.4.ran in (
         turns.0,
         of turns.1,
         turns.2,
-        turns_of base many k h log turns.0 turns.1 turns.2 turns.3,
+        turns_of x base many k h log turns.0 turns.1 turns.2 turns.3,
         record {
           claim = turns.4.claim;
           claimed = turns.4.claimed;
@@ -60,9 +61,9 @@ module _ {A B : Type 0} (m : Meaning A) (n : Meaning B) (of : A → B) (o : Open
       )
 
   -- law: a run by the outer one is a run by the inner one
-  pub expires_of : (base budget : ℕ) (k : KnownOfTimers) (h : A) (log : List Receipt) (k' : KnownOfTimers) (h' : A) (log' : List Receipt)
-      (a : ExpireAnswer) → Expires m o base reading budget k h log k' h' log' a → Expires n o base reading budget k (of h) log k' (of h') log' a
-  expires_of base budget k h log k' h' log' (expiries.More fired) is = (is.0, turns_of base fired k h log k' h' log' is.1)
-  expires_of base budget k h log k' h' log' (expiries.Done fired) is = (is.0, (is.1.0, turns_of base fired k h log is.1.0 h' log' is.1.1, is.1.2))
-  expires_of base budget k h log k' h' log' (expiries.BaseBusy fired t g) is =
-      (is.0, (is.1.0, turns_of base fired k h log is.1.0 h' log' is.1.1, is.1.2))
+  pub expires_of : (x : Context) (base budget : ℕ) (k : KnownOfTimers) (h : A) (log : List Receipt) (k' : KnownOfTimers) (h' : A) (log' : List Receipt)
+      (a : ExpireAnswer) → Expires m o x base reading budget k h log k' h' log' a → Expires n o x base reading budget k (of h) log k' (of h') log' a
+  expires_of x base budget k h log k' h' log' (expiries.More fired) is = (is.0, turns_of x base fired k h log k' h' log' is.1)
+  expires_of x base budget k h log k' h' log' (expiries.Done fired) is = (is.0, (is.1.0, turns_of x base fired k h log is.1.0 h' log' is.1.1, is.1.2))
+  expires_of x base budget k h log k' h' log' (expiries.BaseBusy fired t g) is =
+      (is.0, (is.1.0, turns_of x base fired k h log is.1.0 h' log' is.1.1, is.1.2))

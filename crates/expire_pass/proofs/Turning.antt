@@ -13,6 +13,7 @@ use Rattle.base_row.specs.declared.view.Opening.{Opening}
 use Rattle.base_row.specs.Rules.{is_base_claim}
 use Rattle.hr_timers.specs.declared.numbers.ClaimNumbers.{ClaimNumbers}
 use Rattle.timer_core.specs.declared.answer.Finished.{Finished}
+use Rattle.seq_timer.specs.declared.context.Context.{Context}
 use Rattle.seq_timer.specs.declared.event.Event.TheVariants as events
 use Rattle.seq_timer.specs.declared.event.Reply.TheVariants as replies
 use Rattle.hr_timers.specs.Known.{KnownOfTimers, MadeAt, OwnsClaim, claimed_as, count_of}
@@ -30,9 +31,9 @@ use Rattle.expire_pass.specs.Expiring.{Ran, claim_receipt, finish_receipt}
 -- ---- claims
 
 -- a claim that was just made stands
-pub has_claim : (o : Opening) (v w : KnownOfTimers) (base : ℕ) (reading : ClockReading) (c : ClaimNumbers)
-    → ClaimsNextDue o v w base reading c → OwnsClaim o w c
-has_claim o v w base reading c r = record {
+pub has_claim : (o : Opening) (v w : KnownOfTimers) (x : Context) (base : ℕ) (reading : ClockReading) (c : ClaimNumbers)
+    → ClaimsNextDue o v w x base reading c → OwnsClaim o w c
+has_claim o v w x base reading c r = record {
   within = r.within;
   stands = omega (
     arith,
@@ -64,10 +65,10 @@ mine_begins : (v w : KnownOfTimers) (t : ℕ) (x : List TimerEntry) (es : List s
 mine_begins v w t x es made = record { rest = places t (length (entries_of t x)) es; whole = made.mine }
 
 -- a claim, its function and its finish leave the pass's name and claims
-pub turn_keeps : {A : Type 0} (m : Meaning A) (o : Opening) (base : ℕ) (reading : ClockReading) (k : KnownOfTimers) (h : A) (log : List Receipt)
+pub turn_keeps : {A : Type 0} (m : Meaning A) (o : Opening) (x : Context) (base : ℕ) (reading : ClockReading) (k : KnownOfTimers) (h : A) (log : List Receipt)
     (k' : KnownOfTimers) (h' : A) (log' : List Receipt) (c : ClaimNumbers) (claimed : KnownOfTimers)
-    → ClaimsNextDue o k claimed base reading c → Ran m o reading c claimed h log k' h' log' → KeepsPass k k'
-turn_keeps m o base reading k h log k' h' log' c claimed next ran =
+    → ClaimsNextDue o k claimed x base reading c → Ran m o reading c claimed h log k' h' log' → KeepsPass k k'
+turn_keeps m o x base reading k h log k' h' log' c claimed next ran =
     let f = ran.finishes in
     record {
       id = f.made.id ∙ (ran.keeps.id ∙ next.made.id);

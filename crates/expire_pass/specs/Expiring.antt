@@ -1,6 +1,7 @@
 -- What an expiry run does: for each function a claim, what the function did, and a finish.
 use Rattle.std.specs.Prelude.{ℕ, zero, suc, ◌≡◌, ◌<◌, List, [], ◌∷◌, ◌++◌}
 use Rattle.ktime.specs.Readings.{ClockReading}
+use Rattle.seq_timer.specs.declared.context.Context.{Context}
 use Rattle.seq_timer.specs.declared.event.Event.TheVariants as events
 use Rattle.seq_timer.specs.declared.event.Reply.TheVariants as replies
 use Rattle.timer_core.specs.declared.answer.Finished.{Finished}
@@ -39,12 +40,12 @@ pub record Ran {A : Type 0} (m : Meaning A) (o : Opening) (reading : ClockReadin
   pub finishes : Finishes o done k' c (asks restart) finished
   pub receipts : log' ≡ log ++ claim_receipt reading c ∷ finish_receipt c restart finished ∷ []
 
-module _ {A : Type 0} (m : Meaning A) (o : Opening) (base : ℕ) (reading : ClockReading) where
+module _ {A : Type 0} (m : Meaning A) (o : Opening) (x : Context) (base : ℕ) (reading : ClockReading) where
   -- a claim, after which the pass knows `claimed`, and the run of its function
   pub record Turn (k : KnownOfTimers) (h : A) (log : List Receipt) (k' : KnownOfTimers) (h' : A) (log' : List Receipt) : Type 0 where
     pub claim : ClaimNumbers
     pub claimed : KnownOfTimers
-    pub claims : ClaimFits o k claimed base reading (claimings.Claimed claim)
+    pub claims : ClaimFits o k claimed x base reading (claimings.Claimed claim)
     pub ran : Ran m o reading claim claimed h log k' h' log'
 
   -- so many turns
@@ -55,13 +56,13 @@ module _ {A : Type 0} (m : Meaning A) (o : Opening) (base : ℕ) (reading : Cloc
   -- what a turn came to. What claims nothing changes neither the handler nor the log.
   abbrev pub Nexts : KnownOfTimers → A → List Receipt → KnownOfTimers → A → List Receipt → Next → Type 0
   Nexts k h log k' h' log' nexts.Fired = Turn k h log k' h' log'
-  Nexts k h log k' h' log' nexts.NoneDue = ClaimFits o k k' base reading claimings.NoneDue × (h' ≡ h) × (log' ≡ log)
-  Nexts k h log k' h' log' (nexts.BaseBusy t g) = ClaimFits o k k' base reading (claimings.BaseBusy t g) × (h' ≡ h) × (log' ≡ log)
+  Nexts k h log k' h' log' nexts.NoneDue = ClaimFits o k k' x base reading claimings.NoneDue × (h' ≡ h) × (log' ≡ log)
+  Nexts k h log k' h' log' (nexts.BaseBusy t g) = ClaimFits o k k' x base reading (claimings.BaseBusy t g) × (h' ≡ h) × (log' ≡ log)
 
-  -- what the run answers. That nothing was due, or that the base was busy, holds of all that the pass has then seen.
+  -- what the run answers. That no timer was next to expire, or that the base was busy, holds of all that the pass has then seen.
   abbrev pub Expires : ℕ → KnownOfTimers → A → List Receipt → KnownOfTimers → A → List Receipt → ExpireAnswer → Type 0
   Expires budget k h log k' h' log' (expiries.More fired) = (fired ≡ budget) × Turns fired k h log k' h' log'
   Expires budget k h log k' h' log' (expiries.Done fired) = (fired < budget)
-      × ((k1 : KnownOfTimers) × Turns fired k h log k1 h' log' × ClaimFits o k1 k' base reading claimings.NoneDue)
+      × ((k1 : KnownOfTimers) × Turns fired k h log k1 h' log' × ClaimFits o k1 k' x base reading claimings.NoneDue)
   Expires budget k h log k' h' log' (expiries.BaseBusy fired t g) = (fired < budget)
-      × ((k1 : KnownOfTimers) × Turns fired k h log k1 h' log' × ClaimFits o k1 k' base reading (claimings.BaseBusy t g))
+      × ((k1 : KnownOfTimers) × Turns fired k h log k1 h' log' × ClaimFits o k1 k' x base reading (claimings.BaseBusy t g))

@@ -1,5 +1,6 @@
 //! The expiry run of a base, and the cancel that waits.
 ghost use Rattle.std.specs.Prelude.{◌≡◌, ◌<◌, ◌≤◌, ◌+◌, ◌*◌, ℕ, length};
+ghost use Rattle.seq_timer.specs.declared.context.Context.TheVariants as contexts;
 ghost use Rattle.timer_core.specs.declared.answer.CancelAnswer.TheVariants as cancels;
 ghost use Rattle.hr_timers.specs.Known.{OwnsClaim, IsPassOf};
 ghost use Rattle.hr_timers.specs.Calls.{Cancels};
@@ -11,7 +12,7 @@ use crate::log::Log;
 use crossbeam_utils::Backoff;
 use hr_timers::{Claim, ClaimAnswer, ClaimNumbers, Pass, Timers};
 use ktime::Reading;
-use seq_timer::{Event, Reply};
+use seq_timer::{Context, Event, Reply};
 use std::sync::Wait;
 use timer_core::CancelAnswer;
 
@@ -22,7 +23,7 @@ pub enum ExpireAnswer {
     More {
         fired: u64,
     },
-    /// No timer of the base is due.
+    /// No timer of the context is the next to expire: the base is stopped for each of its clocks.
     Done {
         fired: u64,
     },
@@ -42,9 +43,7 @@ pub enum Next {
     BaseBusy { timer: u32, generation: u64 },
 }
 
-/// Claims the timers of a base that are due at this reading, one after another, and runs their functions, at most `budget` of them
-/// (`hrtimer_run_queues`). The log gets a receipt of each claim and of each finish.
-#[tactic(auto, using(crate::proofs::Turning::keeps_trans))]
+/// Runs the functions of a base's timers of the hard context (`hrtimer_run_queues`).
 pub fn expire<R: Wait, H: Handler>(
     rt: &R,
     timers: &Timers,
@@ -61,14 +60,89 @@ pub fn expire<R: Wait, H: Handler>(
     requires ready { budget ≤ H.meaning.ready handler.old }
     requires suits { CanServe H.meaning timers.now.about handler.old }
     ensures pass { IsPassOf timers.now pass.new }
-    ensures expires { Expires H.meaning timers.now.about base reading budget pass.old.known handler.old log.old.receipts pass.new.known handler.new log.new.receipts result }
+    ensures expires { Expires H.meaning timers.now.about contexts.Hard base reading budget pass.old.known handler.old log.old.receipts pass.new.known handler.new log.new.receipts result }
+    ensures keeps { KeepsPass pass.old.known pass.new.known }
+    ensures room { log.old.spare ≤ log.new.spare + 2 * budget }
+    ensures ready { H.meaning.ready handler.old ≤ H.meaning.ready handler.new + budget }
+    ensures suits { CanServe H.meaning timers.now.about handler.new }
+{
+    expire_in(
+        rt,
+        timers,
+        pass,
+        Context::Hard,
+        base,
+        reading,
+        budget,
+        handler,
+        log,
+    )
+}
+
+/// Runs the functions of a base's timers of the soft context (`hrtimer_run_softirq`).
+pub fn expire_soft<R: Wait, H: Handler>(
+    rt: &R,
+    timers: &Timers,
+    pass: &mut Pass,
+    base: u32,
+    reading: Reading,
+    budget: u64,
+    handler: &mut H,
+    log: &mut Log,
+) -> ExpireAnswer
+    requires pass { IsPassOf timers.now pass.old }
+    requires base { base < timers.now.about.bases }
+    requires room { 2 * budget ≤ log.old.spare }
+    requires ready { budget ≤ H.meaning.ready handler.old }
+    requires suits { CanServe H.meaning timers.now.about handler.old }
+    ensures pass { IsPassOf timers.now pass.new }
+    ensures expires { Expires H.meaning timers.now.about contexts.Soft base reading budget pass.old.known handler.old log.old.receipts pass.new.known handler.new log.new.receipts result }
+    ensures keeps { KeepsPass pass.old.known pass.new.known }
+    ensures room { log.old.spare ≤ log.new.spare + 2 * budget }
+    ensures ready { H.meaning.ready handler.old ≤ H.meaning.ready handler.new + budget }
+    ensures suits { CanServe H.meaning timers.now.about handler.new }
+{
+    expire_in(
+        rt,
+        timers,
+        pass,
+        Context::Soft,
+        base,
+        reading,
+        budget,
+        handler,
+        log,
+    )
+}
+
+/// Claims the timers of a context of a base that are due at this reading, one after another, and runs their functions, at most `budget` of them
+/// (`hrtimer_run_queues`). The log gets a receipt of each claim and of each finish.
+#[tactic(auto, using(crate::proofs::Turning::keeps_trans))]
+pub fn expire_in<R: Wait, H: Handler>(
+    rt: &R,
+    timers: &Timers,
+    pass: &mut Pass,
+    context: Context,
+    base: u32,
+    reading: Reading,
+    budget: u64,
+    handler: &mut H,
+    log: &mut Log,
+) -> ExpireAnswer
+    requires pass { IsPassOf timers.now pass.old }
+    requires base { base < timers.now.about.bases }
+    requires room { 2 * budget ≤ log.old.spare }
+    requires ready { budget ≤ H.meaning.ready handler.old }
+    requires suits { CanServe H.meaning timers.now.about handler.old }
+    ensures pass { IsPassOf timers.now pass.new }
+    ensures expires { Expires H.meaning timers.now.about context base reading budget pass.old.known handler.old log.old.receipts pass.new.known handler.new log.new.receipts result }
     ensures keeps { KeepsPass pass.old.known pass.new.known }
     ensures room { log.old.spare ≤ log.new.spare + 2 * budget }
     ensures ready { H.meaning.ready handler.old ≤ H.meaning.ready handler.new + budget }
     ensures suits { CanServe H.meaning timers.now.about handler.new }
 {
     for fired in 0..budget {
-        match turn(rt, timers, pass, base, reading, handler, log) {
+        match turn(rt, timers, pass, context, base, reading, handler, log) {
             Next::Fired => {}
             Next::NoneDue => return ExpireAnswer::Done { fired },
             Next::BaseBusy { timer, generation } => {
@@ -88,6 +162,7 @@ fn turn<R: Wait, H: Handler>(
     rt: &R,
     timers: &Timers,
     pass: &mut Pass,
+    context: Context,
     base: u32,
     reading: Reading,
     handler: &mut H,
@@ -99,13 +174,13 @@ fn turn<R: Wait, H: Handler>(
     requires ready { 0 < H.meaning.ready handler.old }
     requires suits { CanServe H.meaning timers.now.about handler.old }
     ensures pass { IsPassOf timers.now pass.new }
-    ensures nexts { Nexts H.meaning timers.now.about base reading pass.old.known handler.old log.old.receipts pass.new.known handler.new log.new.receipts result }
+    ensures nexts { Nexts H.meaning timers.now.about context base reading pass.old.known handler.old log.old.receipts pass.new.known handler.new log.new.receipts result }
     ensures keeps { KeepsPass pass.old.known pass.new.known }
     ensures room { log.old.spare ≤ log.new.spare + 2 }
     ensures ready { H.meaning.ready handler.old ≤ H.meaning.ready handler.new + 1 }
     ensures suits { CanServe H.meaning timers.now.about handler.new }
 {
-    match timers.claim_next(rt, pass, base, reading) {
+    match timers.claim_in(rt, pass, context, base, reading) {
         ClaimAnswer::NoneDue => Next::NoneDue,
         ClaimAnswer::BaseBusy { timer, generation } => Next::BaseBusy { timer, generation },
         ClaimAnswer::Claimed(claim) => {

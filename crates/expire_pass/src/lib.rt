@@ -5,6 +5,6 @@ mod expiry;
 mod handler;
 mod log;
 
-pub use expiry::{ExpireAnswer, cancel, expire};
+pub use expiry::{ExpireAnswer, cancel, expire, expire_in, expire_soft};
 pub use handler::{Handler, Restart};
 pub use log::{Log, Noted, Receipt, ReceiptLog};

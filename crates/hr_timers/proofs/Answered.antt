@@ -1,6 +1,7 @@
 -- The number that a call answers is how many entries its pass has then seen of the timer, so it is near the timer's limit.
 use Rattle.std.proofs.Common.{◌≡◌, ℕ, Bool, [], arith, ap, sym, ◌∙◌}
-use Rattle.ktime.specs.declared.mode.Mode.{Mode}
+use Rattle.seq_timer.specs.declared.context.Context.{Context}
+use Rattle.seq_timer.specs.declared.event.Asked.{Asked}
 use Rattle.ktime.specs.Readings.{ClockReading}
 use Rattle.seq_timer.specs.declared.observation.Peek.{Peek}
 use Rattle.seq_timer.specs.Steps.{Timer}
@@ -24,13 +25,13 @@ generation_told : (was now : StartAnswer) → was ≡ now → start_number was �
 generation_told was now e = ap start_number e
 
 module _ (o : Opening) (v w : KnownOfTimers) (t : ℕ) where
-  pub start_tells : (mode : Mode) (ns asked : ℕ) (reading : ClockReading) (a : StartAnswer) → StartsTimer o v w t mode ns asked reading a
+  pub start_tells : (asked : Asked) (a : StartAnswer) → StartsTimer o v w t asked a
       → start_number a ≡ (timer_then o w.seen t).stamp
-  start_tells mode ns asked reading (starts.Started was_armed generation base outs clock expires) s =
+  start_tells asked (starts.Started was_armed generation outs placement) s =
       let u = timer_then o s.at t in
       generation_told _ _ s.fits.2
-      ∙ sym (ap (λ (x : Timer). x.stamp) (timer_after o v w t s.at _ s.made ∙ along u (start_events u mode ns asked reading)))
-  start_tells mode ns asked reading (starts.Spent n) s = omega (arith, s.fits.2, stamp_made o v w t s.at [] s.made)
+      ∙ sym (ap (λ (x : Timer). x.stamp) (timer_after o v w t s.at _ s.made ∙ along u (start_events u asked)))
+  start_tells asked (starts.Spent n) s = omega (arith, s.fits.2, stamp_made o v w t s.at [] s.made)
 
   pub cancel_tells : (a : CancelAnswer) → Cancels o v w t a → cancel_number a ≡ (timer_then o w.seen t).stamp
   cancel_tells (cancels.Idle n) c = omega (arith, c.fits.1, stamp_made o v w t c.at [] c.made)
@@ -41,12 +42,12 @@ module _ (o : Opening) (v w : KnownOfTimers) (t : ℕ) where
   peek_tells p peeks = omega (arith, ap (λ (q : Peek). q.stamp) peeks.fits, stamp_made o v w t peeks.at [] peeks.made)
 
 module _ (o : Opening) (v w : KnownOfTimers) (c : ClaimNumbers) where
-  pub claim_tells : (base : ℕ) (reading : ClockReading) → ClaimsNextDue o v w base reading c → c.number ≡ (timer_then o w.seen c.timer).stamp
-  claim_tells base reading claims = omega (arith, claims.number, stamp_made o v w c.timer claims.at _ claims.made)
+  pub claim_tells : (x : Context) (base : ℕ) (reading : ClockReading) → ClaimsNextDue o v w x base reading c → c.number ≡ (timer_then o w.seen c.timer).stamp
+  claim_tells x base reading claims = omega (arith, claims.number, stamp_made o v w c.timer claims.at _ claims.made)
 
   pub forward_tells : (reading : ClockReading) (interval : ℕ) (a : ForwardAnswer) → Forwards o v w c reading interval a
       → forward_number a ≡ (timer_then o w.seen c.timer).stamp
-  forward_tells reading interval (forwards.Forwarded number passed expires) f =
+  forward_tells reading interval (forwards.Forwarded number moved) f =
       omega (arith, ap forward_number f.fits.2, stamp_made o v w c.timer f.at _ f.made)
   forward_tells reading interval (forwards.Spent n) f = omega (arith, f.fits.1, stamp_made o v w c.timer f.at [] f.made)
   forward_tells reading interval (forwards.Armed g n) f = omega (arith, f.fits.2, stamp_made o v w c.timer f.at [] f.made)

@@ -3,18 +3,21 @@ use Rattle.std.proofs.Common.{◌≡◌, ℕ, ap, sym, ◌∙◌, subst, false, 
 use Rattle.std.specs.Prelude.{Some, None, nat_eq}
 use Rattle.std.proofs.lemmas.Bool.Decides.{nat_tests}
 use Rattle.ktime.specs.Readings.{ClockReading}
-use Rattle.seq_timer.specs.Tables.{is_due_on, runs_on}
-use Rattle.seq_timer.specs.Contents.{IsContentOf, first_due, generation_in, running_on}
+use Rattle.ktime.specs.declared.clock_id.ClockId.{ClockId}
+use Rattle.seq_timer.specs.declared.context.Context.{Context}
+use Rattle.seq_timer.specs.Tables.{IsStopped, in_context, runs_on}
+use Rattle.seq_timer.specs.Halves.{generation_in, running_on}
+use Rattle.seq_timer.specs.Contents.{IsContentOf, running_in}
 use Rattle.base_row.specs.declared.view.HeldContent.{HeldContent}
 use Rattle.base_row.specs.declared.view.Opening.{Opening}
 use Rattle.base_row.specs.declared.view.BaseView.{BaseView}
-use Rattle.seq_timer.specs.Systems.{BaseContent}
+use Rattle.seq_timer.specs.Systems.{BaseContent, next_on}
 use Rattle.base_row.specs.Rules.{number_of}
 use Rattle.base_row.specs.Plays.{KnowsBases}
 use Rattle.base_row.specs.Calls.{AreFresh, LetsGo, timer_seen}
 use Rattle.base_row.proofs.Placed.{none_runs}
 use Rattle.seq_timer.proofs.Agreement.{agrees}
-use Rattle.seq_timer.proofs.Due.{first_due-none}
+use Rattle.seq_timer.proofs.Firsts.{next_on-none}
 
 module _ (o : Opening) (h : HeldContent BaseContent) (v w : BaseView BaseContent) (fresh : AreFresh o.timers) (knows : KnowsBases o.bases o.timers number_of w)
     (free : LetsGo o h v w) where
@@ -22,14 +25,17 @@ module _ (o : Opening) (h : HeldContent BaseContent) (v w : BaseView BaseContent
   content = subst (λ (b : BaseContent). IsContentOf (timer_seen o w) h.base b.content) free.content
       ((agrees o.bases o.timers w.seen fresh.each knows.allowed).contents h.base)
 
-  pub left_idle : h.content.content.running ≡ None → (t : ℕ) → runs_on h.base (timer_seen o w t) ≡ false
-  left_idle is t = none_runs (timer_seen o w t).running (nat_eq (timer_seen o w t).base h.base) (sym (content.running t) ∙ ap (generation_in t) is)
+  pub left_idle : (x : Context) → running_in x h.content.content ≡ None → (t : ℕ) → runs_on h.base (in_context x (timer_seen o w) t) ≡ false
+  left_idle x is t = none_runs (in_context x (timer_seen o w) t).running (nat_eq (in_context x (timer_seen o w) t).base h.base)
+      (sym ((content.each x).running t) ∙ ap (generation_in t) is)
 
-  pub left_busy : (t g : ℕ) → h.content.content.running ≡ Some (t, g) → running_on h.base (timer_seen o w t) ≡ Some g
-  left_busy t g is = sym (content.running t) ∙ (ap (generation_in t) is ∙ named_here)
+  pub left_busy : (x : Context) (t g : ℕ) → running_in x h.content.content ≡ Some (t, g) → running_on h.base (in_context x (timer_seen o w) t) ≡ Some g
+  left_busy x t g is = sym ((content.each x).running t) ∙ (ap (generation_in t) is ∙ named_here)
     where
       named_here : generation_in t (Some (t, g)) ≡ Some g
       named_here = grind (arith, nat_tests)
 
-  pub left_none : (reading : ClockReading) → first_due h.content.content reading ≡ None → (t : ℕ) → is_due_on h.base reading (timer_seen o w t) ≡ false
-  left_none reading is t = first_due-none (timer_seen o w) h.base reading h.content.content content is t
+  pub left_none : (x : Context) (reading : ClockReading) → next_on x h.content reading ≡ None → (clock : ClockId)
+      → IsStopped (in_context x (timer_seen o w)) h.base reading clock
+  left_none x reading is = next_on-none o.bases o.timers w.seen fresh.each knows.allowed h.base x reading
+      (ap (λ b. next_on x b reading) free.content ∙ is)

@@ -8,3 +8,4 @@ pub mod Last
 pub mod Moments
 pub mod Ends
 pub mod Answered
+pub mod Claims

@@ -78,7 +78,7 @@ made_before u v w t x es first made = record {
 -- a pass that carries nothing carries nothing after an event that leaves its timer on a base
 pub carry_stays : (id b : ℕ) (t : Timer) (event : Event) (carry : Option ℕ) → IsOn b (after t event) → carry ≡ None → carry_after id t event carry ≡ None
 carry_stays id b t (events.Out base) carry on none = absurd (true≢false on.still)
-carry_stays id b t (events.Start mode ns reading asked) carry on none = either_way t.moving
+carry_stays id b t (events.Start asked) carry on none = either_way t.moving
   where
     either_way : (m : Bool) → (if m then None else carry) ≡ None
     either_way true = refl

@@ -52,7 +52,7 @@ stamp_rises o x y t begins =
 -- a timer keeps the clock that it was declared on
 declared-after : (t : Timer) (e : Event) → (after t e).declared ≡ t.declared
 declared-after t (events.Out base) = refl
-declared-after t (events.Start mode ns reading asked) = refl
+declared-after t (events.Start asked) = refl
 declared-after t events.Cancel = refl
 declared-after t (events.Claim base reading) = refl
 declared-after t (events.Forward reading interval) = refl

@@ -3,6 +3,7 @@ use Rattle.std.proofs.Common.{◌≡◌, ℕ, ◌<◌, List, length, refl, ap, s
 use Rattle.std.specs.Prelude.{Option, Some, None, Bool}
 use Rattle.std.proofs.lemmas.Bool.{eqb-true, and_parts, true≢false}
 use Rattle.pass_names.specs.Counts.{count}
+use Rattle.seq_timer.specs.declared.event.Moved.{Moved}
 use Rattle.seq_timer.specs.declared.event.Rearmed.{Rearmed}
 use Rattle.seq_timer.specs.declared.event.Reply.TheVariants as replies
 use Rattle.base_row.specs.declared.view.Claimed.{Claimed}
@@ -62,5 +63,5 @@ still_runs o u v c fresh is own some looks owns =
 pub finish_same : (g h : ℕ) (a b : Rearmed) → replies.Finish g a ≡ replies.Finish h b → a ≡ b
 finish_same g h a b e = cc
 
-pub forward_same : (a b d e : ℕ) → replies.Forward a b ≡ replies.Forward d e → (a ≡ d) × (b ≡ e)
-forward_same a b d e is = (cc, cc)
+pub forward_same : (a b : Moved) → replies.Forward a ≡ replies.Forward b → a ≡ b
+forward_same a b is = cc

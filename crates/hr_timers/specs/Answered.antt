@@ -8,7 +8,7 @@ use Rattle.hr_timers.specs.declared.answer.StartAnswer.{StartAnswer}
 use Rattle.hr_timers.specs.declared.answer.StartAnswer.TheVariants as starts
 
 abbrev pub start_number : StartAnswer → ℕ
-start_number (starts.Started was_armed generation base outs clock expires) = generation
+start_number (starts.Started was_armed generation outs placement) = generation
 start_number (starts.Spent n) = n
 
 abbrev pub cancel_number : CancelAnswer → ℕ
@@ -17,6 +17,6 @@ cancel_number (cancels.Cancelled g n) = n
 cancel_number (cancels.Running g n) = n
 
 abbrev pub forward_number : ForwardAnswer → ℕ
-forward_number (forwards.Forwarded number passed expires) = number
+forward_number (forwards.Forwarded number moved) = number
 forward_number (forwards.Spent n) = n
 forward_number (forwards.Armed g n) = n

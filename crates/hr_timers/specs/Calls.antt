@@ -1,7 +1,6 @@
 -- What each call answers, and which entries it makes, in the one history of all timers. A clause names the moment of the call, `at`, as the list of
 -- all entries so far; what the call answers is a function of the timer at that moment.
 use Rattle.std.specs.Prelude.{ℕ, ◌≡◌, ◌≢◌, ◌^◌, ◌+◌, ◌≤◌, ◌<◌, Bool, true, false, List, [], ◌∷◌, ◌++◌, length, Some, None, is_some, if◌then◌else◌}
-use Rattle.ktime.specs.declared.mode.Mode.{Mode}
 use Rattle.ktime.specs.Readings.{ClockReading}
 use Rattle.pass_names.specs.Counts.{without_first}
 use Rattle.pass_names.specs.Passes.{Begins}
@@ -10,9 +9,12 @@ use Rattle.seq_timer.specs.declared.event.Event.{Event}
 use Rattle.seq_timer.specs.declared.event.Event.TheVariants as events
 use Rattle.seq_timer.specs.declared.event.Reply.TheVariants as replies
 use Rattle.seq_timer.specs.declared.observation.Peek.{Peek}
-use Rattle.seq_timer.specs.Steps.{Timer, reply_to, rearmed_by}
-use Rattle.seq_timer.specs.Tables.{IsNextDue, is_due_on, runs_on}
-use Rattle.seq_timer.specs.Contents.{first_due, running_on}
+use Rattle.seq_timer.specs.Steps.{Timer, placement_of, reply_to, rearmed_by}
+use Rattle.ktime.specs.declared.clock_id.ClockId.{ClockId}
+use Rattle.seq_timer.specs.declared.context.Context.{Context}
+use Rattle.seq_timer.specs.declared.event.Asked.{Asked}
+use Rattle.seq_timer.specs.Tables.{IsNextDue, IsStopped, in_context, runs_on}
+use Rattle.seq_timer.specs.Halves.{running_on}
 use Rattle.seq_timer.specs.Histories as seq
 use Rattle.timer_core.specs.declared.answer.CancelAnswer.{CancelAnswer}
 use Rattle.timer_core.specs.declared.answer.CancelAnswer.TheVariants as cancels
@@ -25,7 +27,7 @@ use Rattle.timer_core.specs.Runs.{entries_along}
 use Rattle.seq_timer.specs.declared.system.TimerEntry.{TimerEntry}
 use Rattle.base_row.specs.declared.view.Opening.{Opening}
 use Rattle.base_row.specs.Rules.{is_base_claim}
-use Rattle.seq_timer.specs.Systems.{system_after}
+use Rattle.seq_timer.specs.Systems.{next_on, system_after}
 use Rattle.hr_timers.specs.declared.answer.ClaimAnswer.{ClaimAnswer}
 use Rattle.hr_timers.specs.declared.answer.ClaimAnswer.TheVariants as claimings
 use Rattle.hr_timers.specs.declared.answer.NowAnswer.{NowAnswer}
@@ -51,23 +53,23 @@ pub record Peeks (o : Opening) (v w : KnownOfTimers) (t : ℕ) (p : Peek) : Type
 
 -- what a start answers, of the timer before and after it
 abbrev pub start_answer : Timer → Timer → ℕ → StartAnswer
-start_answer t now asked = starts.Started (is_some t.armed) now.stamp now.base (if moves_first t asked then 2 ^ asked else 0) now.clock now.expires
+start_answer t now asked = starts.Started (is_some t.armed) now.stamp (if moves_first t asked then 2 ^ asked else 0) (placement_of now)
 
-abbrev pub start_entries : Timer → Mode → ℕ → ℕ → ClockReading → StartAnswer → List seq.Entry
-start_entries t mode ns asked reading (starts.Started was_armed generation base outs clock expires) = entries_along t (start_events t mode ns asked reading)
-start_entries t mode ns asked reading (starts.Spent n) = []
+abbrev pub start_entries : Timer → Asked → StartAnswer → List seq.Entry
+start_entries t asked (starts.Started was_armed generation outs placement) = entries_along t (start_events t asked)
+start_entries t asked (starts.Spent n) = []
 
 -- the answer for this timer
-abbrev pub StartFits : Timer → Mode → ℕ → ℕ → ClockReading → StartAnswer → Type 0
-StartFits t mode ns asked reading (starts.Started was_armed generation base outs clock expires) =
-    (t.moving ≡ false) × (t.stamp < t.limit)
-    × (starts.Started was_armed generation base outs clock expires ≡ start_answer t (step_all t (start_events t mode ns asked reading)) asked)
-StartFits t mode ns asked reading (starts.Spent n) = (t.moving ≡ false) × (t.limit ≤ t.stamp) × (n ≡ t.stamp)
+abbrev pub StartFits : Timer → Asked → StartAnswer → Type 0
+StartFits t asked (starts.Started was_armed generation outs placement) =
+    (t.moving ≡ false) × (t.stamp < t.terms.limit)
+    × (starts.Started was_armed generation outs placement ≡ start_answer t (step_all t (start_events t asked)) asked.base)
+StartFits t asked (starts.Spent n) = (t.moving ≡ false) × (t.terms.limit ≤ t.stamp) × (n ≡ t.stamp)
 
-pub record StartsTimer (o : Opening) (v w : KnownOfTimers) (t : ℕ) (mode : Mode) (ns asked : ℕ) (reading : ClockReading) (a : StartAnswer) : Type 0 where
+pub record StartsTimer (o : Opening) (v w : KnownOfTimers) (t : ℕ) (asked : Asked) (a : StartAnswer) : Type 0 where
   pub at : List TimerEntry
-  pub made : MadeAt v w t at (start_entries (timer_then o at t) mode ns asked reading a)
-  pub fits : StartFits (timer_then o at t) mode ns asked reading a
+  pub made : MadeAt v w t at (start_entries (timer_then o at t) asked a)
+  pub fits : StartFits (timer_then o at t) asked a
   pub claims : w.claims ≡ v.claims
 
 -- ---- try_to_cancel
@@ -136,13 +138,14 @@ HeldFits o p q t base (nows.Moved a b) = (a ≡ base) × (a ≢ b) × WasOn o p.
 
 -- ---- claim_next
 
--- a claim of the timer whose turn it is on a base where no function runs: of equal expiries the one that was armed first
-pub record ClaimsNextDue (o : Opening) (v w : KnownOfTimers) (base : ℕ) (reading : ClockReading) (c : ClaimNumbers) : Type 0 where
+-- a claim of the timer of a context whose turn it is on a base where no function of it runs: of equal expiries the one that was armed first
+pub record ClaimsNextDue (o : Opening) (v w : KnownOfTimers) (x : Context) (base : ℕ) (reading : ClockReading) (c : ClaimNumbers) : Type 0 where
   pub at : List TimerEntry
   pub made : MadeAt v w c.timer at (entry_by (timer_then o at c.timer) (events.Claim base reading) ∷ [])
-  pub idle : (t : ℕ) → runs_on base (timer_then o at t) ≡ false
-  pub next : IsNextDue (timer_then o at) base reading c.timer
-  pub first : first_due ((system_after o.timers at).bases base).content reading ≡ Some ((timer_then o at c.timer).expires, c.timer)
+  pub context : (timer_then o at c.timer).declared.context ≡ x
+  pub idle : (t : ℕ) → runs_on base (in_context x (timer_then o at) t) ≡ false
+  pub next : IsNextDue (in_context x (timer_then o at)) base reading c.timer
+  pub first : next_on x ((system_after o.timers at).bases base) reading ≡ Some ((timer_then o at c.timer).expires, c.timer)
   pub within : c.timer < length o.timers
   pub armed : (timer_then o at c.timer).armed ≡ Some c.generation
   pub there : c.base ≡ base
@@ -150,30 +153,31 @@ pub record ClaimsNextDue (o : Opening) (v w : KnownOfTimers) (base : ℕ) (readi
   pub fresh : count_of c v.claims ≡ 0
   pub claims : w.claims ≡ v.claims ++ claimed_as c ∷ []
 
--- no function runs on the base, and no timer is due there
-pub record HasNoneDue (o : Opening) (x : List TimerEntry) (base : ℕ) (reading : ClockReading) : Type 0 where
-  pub idle : (t : ℕ) → runs_on base (timer_then o x t) ≡ false
-  pub none : (t : ℕ) → is_due_on base reading (timer_then o x t) ≡ false
+-- no function of a context runs on the base, no timer of it is the first to expire there, and the base is stopped for each clock
+pub record HasNoneDue (o : Opening) (at : List TimerEntry) (x : Context) (base : ℕ) (reading : ClockReading) : Type 0 where
+  pub idle : (t : ℕ) → runs_on base (in_context x (timer_then o at) t) ≡ false
+  pub first : next_on x ((system_after o.timers at).bases base) reading ≡ None
+  pub none : (clock : ClockId) → IsStopped (in_context x (timer_then o at)) base reading clock
 
 -- a call that claims nothing speaks of all that its pass has then seen
-abbrev pub ClaimFits : Opening → KnownOfTimers → KnownOfTimers → ℕ → ClockReading → ClaimAnswer → Type 0
-ClaimFits o v w base reading (claimings.Claimed c) = ClaimsNextDue o v w base reading c
-ClaimFits o v w base reading claimings.NoneDue = LooksOn v w × HasNoneDue o w.seen base reading
-ClaimFits o v w base reading (claimings.BaseBusy t g) = LooksOn v w × (running_on base (timer_then o w.seen t) ≡ Some g)
+abbrev pub ClaimFits : Opening → KnownOfTimers → KnownOfTimers → Context → ℕ → ClockReading → ClaimAnswer → Type 0
+ClaimFits o v w x base reading (claimings.Claimed c) = ClaimsNextDue o v w x base reading c
+ClaimFits o v w x base reading claimings.NoneDue = LooksOn v w × HasNoneDue o w.seen x base reading
+ClaimFits o v w x base reading (claimings.BaseBusy t g) = LooksOn v w × (running_on base (in_context x (timer_then o w.seen) t) ≡ Some g)
 
 -- ---- forward and finish
 
 abbrev pub forward_entries : Timer → ClockReading → ℕ → ForwardAnswer → List seq.Entry
-forward_entries t reading interval (forwards.Forwarded number passed expires) = entry_by t (events.Forward reading interval) ∷ []
+forward_entries t reading interval (forwards.Forwarded number moved) = entry_by t (events.Forward reading interval) ∷ []
 forward_entries t reading interval (forwards.Spent n) = []
 forward_entries t reading interval (forwards.Armed g n) = []
 
 -- the answer for this timer
 abbrev pub ForwardFits : Timer → ClockReading → ℕ → ForwardAnswer → Type 0
-ForwardFits t reading interval (forwards.Forwarded number passed expires) =
-    (t.stamp < t.limit) × (t.armed ≡ None) × (forwards.Forwarded number passed expires ≡ forwarded_as t reading interval)
-ForwardFits t reading interval (forwards.Spent n) = (t.limit ≤ t.stamp) × (n ≡ t.stamp)
-ForwardFits t reading interval (forwards.Armed g n) = (t.stamp < t.limit) × (t.armed ≡ Some g) × (n ≡ t.stamp)
+ForwardFits t reading interval (forwards.Forwarded number moved) =
+    (t.stamp < t.terms.limit) × (t.armed ≡ None) × (forwards.Forwarded number moved ≡ forwarded_as t reading interval)
+ForwardFits t reading interval (forwards.Spent n) = (t.terms.limit ≤ t.stamp) × (n ≡ t.stamp)
+ForwardFits t reading interval (forwards.Armed g n) = (t.stamp < t.terms.limit) × (t.armed ≡ Some g) × (n ≡ t.stamp)
 
 pub record Forwards (o : Opening) (v w : KnownOfTimers) (c : ClaimNumbers) (reading : ClockReading) (interval : ℕ) (a : ForwardAnswer) : Type 0 where
   pub at : List TimerEntry

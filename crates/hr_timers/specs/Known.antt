@@ -43,7 +43,7 @@ timer_then o x t = (system_after o.timers x).timers t
 
 -- the limit on a timer's entries
 abbrev pub limit_of : Opening → ℕ → ℕ
-limit_of o t = (timer_at o.timers t).limit
+limit_of o t = (timer_at o.timers t).terms.limit
 
 -- a claim as it stands among a pass's
 abbrev pub claimed_as : ClaimNumbers → Claimed

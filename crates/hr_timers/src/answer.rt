@@ -1,6 +1,6 @@
 //! What each call answers, where `Core` doesn't answer the same.
 use crate::tokens::Claim;
-use ktime::ClockId;
+use seq_timer::Placement;
 use timer_core::CancelAnswer;
 
 /// What a start answers.
@@ -11,14 +11,10 @@ pub enum StartAnswer {
         was_armed: bool,
         /// The generation that is armed now.
         generation: u64,
-        /// The base that the timer is on. A timer whose function is running keeps its base.
-        base: u32,
         /// Bit b is set where the call moved the timer to base b.
         outs: u64,
-        /// The clock that the timer is kept on.
-        clock: ClockId,
-        /// The expiry that the start has set, in nanoseconds of `clock`.
-        expires: u64,
+        /// How the timer is kept. A timer whose function is running keeps its base.
+        placement: Placement,
     },
     /// The limit on entries was reached, at this stamp. Nothing has changed.
     Spent {
@@ -42,7 +38,7 @@ pub enum NowAnswer {
 /// What a claim of the next timer of a base answers.
 pub enum ClaimAnswer {
     Claimed(Claim),
-    /// No timer of the base is due.
+    /// No timer of the context is the next to expire: the base is stopped for each of its clocks.
     NoneDue,
     /// The function of this timer still runs on the base.
     BaseBusy { timer: u32, generation: u64 },

@@ -1,7 +1,8 @@
 //! Claiming the next timer of a base, and what its function may do.
 ghost use Rattle.std.specs.Prelude.{◌≡◌, ◌<◌, ◌+◌, ℕ, length, Some, None, IsSome, false};
-ghost use Rattle.seq_timer.specs.Tables.{IsNextDue, runs_on};
-ghost use Rattle.seq_timer.specs.Contents.{first_due};
+ghost use Rattle.seq_timer.specs.Tables.{IsNextDue, in_context, runs_on};
+ghost use Rattle.seq_timer.specs.Contents.{running_in};
+ghost use Rattle.seq_timer.specs.Systems.{next_on};
 ghost use Rattle.base_row.specs.Calls.{base_seen, known_of, timer_seen};
 ghost use Rattle.hr_timers.specs.Known.{HoldsBase, HoldsTimer, IsAtRest, Looks, OwnsClaim};
 ghost use Rattle.hr_timers.specs.Calls.{ClaimFits, ClaimsNextDue, Finishes, Forwards};
@@ -12,33 +13,34 @@ use crate::tokens::Claim;
 use crate::under_lock::{enter_once, leave, leave_base, lock};
 use base_row::{BaseRow, HeldBase, Pass};
 use ktime::Reading;
-use seq_timer::{Event, Reply, TimerState};
+use seq_timer::{Context, Event, Reply, TimerState};
 use std::sync::Wait;
 use timer_core::{Finished, ForwardAnswer};
 
-/// Claims the timer that is the next to expire on a base: its function is to run (`__run_hrtimer`).
+/// Claims the timer of a context that is the next to expire on a base: its function is to run (`__run_hrtimer`).
 pub fn claim_next<R: Wait>(
     rt: &R,
     row: &BaseRow,
     pass: &mut Pass,
+    context: Context,
     base: u32,
     reading: Reading,
 ) -> ClaimAnswer
     requires rest { IsAtRest row.now pass.old }
     requires base { base < row.now.about.bases }
     ensures rest { IsAtRest row.now pass.new }
-    ensures claims { ClaimFits row.now.about (known_of pass.old.knows) (known_of pass.new.knows) base reading result }
+    ensures claims { ClaimFits row.now.about (known_of pass.old.knows) (known_of pass.new.knows) context base reading result }
 {
     let held = lock(rt, row, pass, base);
-    if let Some((timer, generation)) = row.running(pass, &held) {
+    if let Some((timer, generation)) = row.running(pass, &held, context) {
         leave_base(row, pass, held, base);
         return ClaimAnswer::BaseBusy { timer, generation };
     }
-    let Some((_, timer)) = row.first(pass, &held, reading) else {
+    let Some((_, timer)) = row.first(pass, &held, context, reading) else {
         leave_base(row, pass, held, base);
         return ClaimAnswer::NoneDue;
     };
-    let numbers = claim_held(row, pass, held, base, timer, reading);
+    let numbers = claim_held(row, pass, held, context, base, timer, reading);
     ClaimAnswer::Claimed(Claim { numbers })
 }
 
@@ -47,6 +49,7 @@ fn claim_held(
     row: &BaseRow,
     pass: &mut Pass,
     held: HeldBase,
+    context: Context,
     base: u32,
     timer: u32,
     reading: Reading,
@@ -54,13 +57,14 @@ fn claim_held(
     requires holds { HoldsBase row.now pass.old held }
     requires timer { timer < length row.now.about.timers }
     requires base { held.base ≡ base }
-    requires unmarked { held.content.content.running ≡ None }
-    requires idle { (t : ℕ) → runs_on held.base (timer_seen row.now.about pass.old.knows t) ≡ false }
-    requires next { IsNextDue (timer_seen row.now.about pass.old.knows) held.base reading timer }
-    requires first { first_due (base_seen row.now.about pass.old.knows base).content reading ≡ Some ((timer_seen row.now.about pass.old.knows timer).expires, timer) }
+    requires unmarked { running_in context held.content.content ≡ None }
+    requires context { (timer_seen row.now.about pass.old.knows timer).declared.context ≡ context }
+    requires idle { (t : ℕ) → runs_on held.base (in_context context (timer_seen row.now.about pass.old.knows) t) ≡ false }
+    requires next { IsNextDue (in_context context (timer_seen row.now.about pass.old.knows)) held.base reading timer }
+    requires first { next_on context (base_seen row.now.about pass.old.knows base) reading ≡ Some ((timer_seen row.now.about pass.old.knows timer).expires, timer) }
     ensures rest { IsAtRest row.now pass.new }
     ensures timer { result.timer ≡ timer }
-    ensures claimed { ClaimsNextDue row.now.about (known_of pass.old.knows) (known_of pass.new.knows) base reading result }
+    ensures claimed { ClaimsNextDue row.now.about (known_of pass.old.knows) (known_of pass.new.knows) context base reading result }
 {
     row.fresh();
     pass.known();
@@ -189,11 +193,7 @@ fn forward_held(
         Event::Forward { reading, interval },
     );
     match reply {
-        Reply::Forward { count, expires } => ForwardAnswer::Forwarded {
-            number,
-            count,
-            expires,
-        },
+        Reply::Forward { moved } => ForwardAnswer::Forwarded { number, moved },
         _ => unreachable!(),
     }
 }

@@ -1,6 +1,7 @@
 //! What the calls' clauses say of the numbers in their answers: laws over what those clauses name.
 ghost use Rattle.std.specs.Prelude.{◌≡◌, ◌+◌, ◌≤◌, ℕ, Bool};
-ghost use Rattle.ktime.specs.declared.mode.Mode.{Mode};
+ghost use Rattle.seq_timer.specs.declared.context.Context.{Context};
+ghost use Rattle.seq_timer.specs.declared.event.Asked.{Asked};
 ghost use Rattle.ktime.specs.Readings.{ClockReading};
 ghost use Rattle.seq_timer.specs.declared.observation.Peek.{Peek};
 ghost use Rattle.timer_core.specs.declared.answer.CancelAnswer.{CancelAnswer};
@@ -15,12 +16,12 @@ ghost use Rattle.hr_timers.specs.Answered.{cancel_number, forward_number, start_
 
 /// The number of an entry that a call answers is the timer's stamp, by all that the pass has then seen.
 pub fn a_call_answers_the_stamp()
-    ensures start { (o : Opening) (v w : KnownOfTimers) (t : ℕ) (mode : Mode) (ns asked : ℕ) (reading : ClockReading) (a : answers.StartAnswer)
-        → StartsTimer o v w t mode ns asked reading a → start_number a ≡ (timer_then o w.seen t).stamp }
+    ensures start { (o : Opening) (v w : KnownOfTimers) (t : ℕ) (asked : Asked) (a : answers.StartAnswer)
+        → StartsTimer o v w t asked a → start_number a ≡ (timer_then o w.seen t).stamp }
     ensures cancel { (o : Opening) (v w : KnownOfTimers) (t : ℕ) (a : CancelAnswer) → Cancels o v w t a → cancel_number a ≡ (timer_then o w.seen t).stamp }
     ensures peek { (o : Opening) (v w : KnownOfTimers) (t : ℕ) (p : Peek) → Peeks o v w t p → p.stamp ≡ (timer_then o w.seen t).stamp }
-    ensures claim { (o : Opening) (v w : KnownOfTimers) (c : claimed.ClaimNumbers) (base : ℕ) (reading : ClockReading)
-        → ClaimsNextDue o v w base reading c → c.number ≡ (timer_then o w.seen c.timer).stamp }
+    ensures claim { (o : Opening) (v w : KnownOfTimers) (c : claimed.ClaimNumbers) (x : Context) (base : ℕ) (reading : ClockReading)
+        → ClaimsNextDue o v w x base reading c → c.number ≡ (timer_then o w.seen c.timer).stamp }
     ensures forward { (o : Opening) (v w : KnownOfTimers) (c : claimed.ClaimNumbers) (reading : ClockReading) (interval : ℕ) (a : ForwardAnswer)
         → Forwards o v w c reading interval a → forward_number a ≡ (timer_then o w.seen c.timer).stamp }
     ensures finish { (o : Opening) (v w : KnownOfTimers) (c : claimed.ClaimNumbers) (restart : Bool) (a : Finished)
@@ -29,12 +30,12 @@ pub fn a_call_answers_the_stamp()
 
 /// So what a call answers is at most three past the timer's limit, after each call that leaves its pass one of the timers'.
 pub fn no_answer_is_far_past_the_limit()
-    ensures start { (o : Opening) (v w : KnownOfTimers) (t : ℕ) (mode : Mode) (ns asked : ℕ) (reading : ClockReading) (a : answers.StartAnswer)
-        → KnowsTimers o w → StartsTimer o v w t mode ns asked reading a → start_number a ≤ limit_of o t + 3 }
+    ensures start { (o : Opening) (v w : KnownOfTimers) (t : ℕ) (asked : Asked) (a : answers.StartAnswer)
+        → KnowsTimers o w → StartsTimer o v w t asked a → start_number a ≤ limit_of o t + 3 }
     ensures cancel { (o : Opening) (v w : KnownOfTimers) (t : ℕ) (a : CancelAnswer) → KnowsTimers o w → Cancels o v w t a → cancel_number a ≤ limit_of o t + 3 }
     ensures peek { (o : Opening) (v w : KnownOfTimers) (t : ℕ) (p : Peek) → KnowsTimers o w → Peeks o v w t p → p.stamp ≤ limit_of o t + 3 }
-    ensures claim { (o : Opening) (v w : KnownOfTimers) (c : claimed.ClaimNumbers) (base : ℕ) (reading : ClockReading)
-        → KnowsTimers o w → ClaimsNextDue o v w base reading c → c.number ≤ limit_of o c.timer + 3 }
+    ensures claim { (o : Opening) (v w : KnownOfTimers) (c : claimed.ClaimNumbers) (x : Context) (base : ℕ) (reading : ClockReading)
+        → KnowsTimers o w → ClaimsNextDue o v w x base reading c → c.number ≤ limit_of o c.timer + 3 }
     ensures forward { (o : Opening) (v w : KnownOfTimers) (c : claimed.ClaimNumbers) (reading : ClockReading) (interval : ℕ) (a : ForwardAnswer)
         → KnowsTimers o w → Forwards o v w c reading interval a → forward_number a ≤ limit_of o c.timer + 3 }
     ensures finish { (o : Opening) (v w : KnownOfTimers) (c : claimed.ClaimNumbers) (restart : Bool) (a : Finished)

@@ -7,10 +7,9 @@ ghost use Rattle.hr_timers.specs.Known.{AddsBehind, HoldsTimer, IsAtRest};
 ghost use Rattle.timer_core.specs.Runs.{entries_along};
 ghost use Rattle.hr_timers.specs.Calls.{entry_by};
 
-use crate::asked::{Asked, start_event};
 use crate::under_lock::lock;
 use base_row::{BaseRow, HeldBase, Pass};
-use seq_timer::TimerState;
+use seq_timer::{Asked, Event, TimerState};
 use std::sync::Wait;
 
 /// Sends a timer from a held base to the one that is asked for, lets the base go, and starts the timer under the other's lock.
@@ -27,7 +26,7 @@ pub fn move_and_start<R: Wait>(
     requires needs { Needs (timer_seen row.now.about pass.old.knows timer) (Out asked.now.base) }
     ensures rest { IsAtRest row.now pass.new }
     ensures claims { pass.new.knows.claims ≡ pass.old.knows.claims }
-    ensures adds { AddsBehind pass.old.knows pass.new.knows timer (entries_along (timer_seen row.now.about pass.old.knows timer) (Out asked.now.base ∷ Start asked.now.mode asked.now.ns asked.now.reading asked.now.base ∷ [])) }
+    ensures adds { AddsBehind pass.old.knows pass.new.knows timer (entries_along (timer_seen row.now.about pass.old.knows timer) (Out asked.now.base ∷ Start asked.now ∷ [])) }
 {
     let moved = send(row, pass, held, timer, asked.base);
     bring(rt, row, pass, timer, moved, asked);
@@ -68,10 +67,10 @@ fn bring<R: Wait>(
     requires moving { (state.moving ≡ true) × (state.base ≡ asked.now.base) }
     ensures rest { IsAtRest row.now pass.new }
     ensures claims { pass.new.knows.claims ≡ pass.old.knows.claims }
-    ensures adds { AddsBehind pass.old.knows pass.new.knows timer (entry_by state (Start asked.now.mode asked.now.ns asked.now.reading asked.now.base) ∷ []) }
+    ensures adds { AddsBehind pass.old.knows pass.new.knows timer (entry_by state (Start asked.now) ∷ []) }
 {
     row.fresh();
     let mut held = lock(rt, row, pass, asked.base);
-    row.arrive(pass, &mut held, timer, state, start_event(asked));
+    row.arrive(pass, &mut held, timer, state, Event::Start(*asked));
     row.unlock_base(pass, held);
 }

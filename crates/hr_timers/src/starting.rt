@@ -7,11 +7,11 @@ ghost use Rattle.timer_core.specs.Runs.{entries_along};
 ghost use Rattle.hr_timers.specs.Calls.{StartsTimer};
 
 use crate::answer::StartAnswer;
-use crate::asked::{Asked, moves_first, start_event, started};
+use crate::asked::{moves_first, started};
 use crate::moving::move_and_start;
 use crate::under_lock::{enter_once, leave, lock_timer};
 use base_row::{BaseRow, HeldBase, Pass};
-use seq_timer::TimerState;
+use seq_timer::{Asked, Event, TimerState};
 use std::sync::Wait;
 
 /// Starts a timer, once it isn't on the move.
@@ -26,7 +26,7 @@ pub fn start<R: Wait>(
     requires timer { timer < length row.now.about.timers }
     requires base { (asked.now.base < row.now.about.bases) × (row.now.about.bases ≤ 64) }
     ensures rest { IsAtRest row.now pass.new }
-    ensures starts { StartsTimer row.now.about (known_of pass.old.knows) (known_of pass.new.knows) timer asked.now.mode asked.now.ns asked.now.base asked.now.reading result }
+    ensures starts { StartsTimer row.now.about (known_of pass.old.knows) (known_of pass.new.knows) timer asked.now result }
 {
     let (held, state) = lock_timer(rt, row, pass, timer);
     start_held(rt, row, pass, held, timer, state, asked)
@@ -46,7 +46,7 @@ fn start_held<R: Wait>(
     requires state { state ≡ timer_seen row.now.about pass.old.knows timer }
     requires base { (asked.now.base < row.now.about.bases) × (row.now.about.bases ≤ 64) }
     ensures rest { IsAtRest row.now pass.new }
-    ensures starts { StartsTimer row.now.about (known_of pass.old.knows) (known_of pass.new.knows) timer asked.now.mode asked.now.ns asked.now.base asked.now.reading result }
+    ensures starts { StartsTimer row.now.about (known_of pass.old.knows) (known_of pass.new.knows) timer asked.now result }
 {
     let stamp = state.stamp();
     if stamp >= state.limit() {
@@ -58,10 +58,8 @@ fn start_held<R: Wait>(
     StartAnswer::Started {
         was_armed: state.armed().is_some(),
         generation: now.stamp(),
-        base: now.base(),
         outs,
-        clock: now.clock(),
-        expires: now.expires(),
+        placement: now.placement(),
     }
 }
 
@@ -78,14 +76,14 @@ fn enter_start<R: Wait>(
     requires holds { HoldsTimer row.now pass.old held timer }
     requires state { state ≡ timer_seen row.now.about pass.old.knows timer }
     requires base { asked.now.base < row.now.about.bases }
-    requires room { state.stamp < state.limit }
+    requires room { state.stamp < state.terms.limit }
     ensures rest { IsAtRest row.now pass.new }
     ensures claims { pass.new.knows.claims ≡ pass.old.knows.claims }
-    ensures adds { AddsBehind pass.old.knows pass.new.knows timer (entries_along (timer_seen row.now.about pass.old.knows timer) (start_events (timer_seen row.now.about pass.old.knows timer) asked.now.mode asked.now.ns asked.now.base asked.now.reading)) }
+    ensures adds { AddsBehind pass.old.knows pass.new.knows timer (entries_along (timer_seen row.now.about pass.old.knows timer) (start_events (timer_seen row.now.about pass.old.knows timer) asked.now)) }
 {
     if moves_first(&state, asked.base) {
         move_and_start(rt, row, pass, held, timer, asked);
     } else {
-        enter_once(row, pass, held, timer, start_event(asked));
+        enter_once(row, pass, held, timer, Event::Start(*asked));
     }
 }

@@ -8,6 +8,7 @@ mod callers;
 mod claims;
 mod limits;
 mod passes;
+mod slack;
 mod threads;
 
 use crate::{NowAnswer, Pass, StartAnswer, Timers};

@@ -1,7 +1,10 @@
 //! The calls on timers.
-ghost use Rattle.std.specs.Prelude.{◌≡◌, ◌≤◌, ◌<◌, ◌^◌, ◌-◌, ℕ, length, slice_index, [], IfOk};
+ghost use Rattle.std.specs.Prelude.{◌≡◌, ◌≤◌, ◌<◌, ◌^◌, ◌-◌, ◌++◌, ℕ, length, map, slice_index, [], IfOk};
 ghost use Rattle.pass_names.specs.Names.{AnswersFor, IsLast};
-ghost use Rattle.seq_timer.specs.Steps.{greatest_limit};
+ghost use Rattle.seq_timer.specs.declared.context.Context.TheVariants as contexts;
+ghost use Rattle.seq_timer.specs.Steps.{greatest_limit, limited};
+ghost use Rattle.seq_timer.specs.Tables.{hard_on};
+ghost use Rattle.timer_core.specs.Answers.{asked_for};
 ghost use Rattle.base_row.specs.Calls.{opening_of};
 ghost use Rattle.pass_names.specs.SharedHistory.{MeetWith, TakesIn, child_known, first_known, splitter_known};
 ghost use Rattle.hr_timers.specs.Known.{IsPassOf, OwnsClaim, HasEachPlace};
@@ -9,12 +12,11 @@ ghost use Rattle.hr_timers.specs.Calls.{Cancels, ClaimFits, Finishes, Forwards, 
 ghost use Rattle.hr_timers.specs.declared.answer.NowAnswer.TheVariants as nows;
 
 use crate::answer::{ClaimAnswer, NowAnswer, StartAnswer};
-use crate::asked::Asked;
 use crate::tokens::{Claim, Pass};
 use crate::{cancelling, claiming, starting, trying_now};
 use base_row::BaseRow;
 use ktime::{ClockId, Mode, Reading};
-use seq_timer::Peek;
+use seq_timer::{Asked, Context, Declared, Peek, Terms, all_hard};
 use std::alloc::{AllocError, Global};
 use std::marker::Model;
 use std::sync::Wait;
@@ -49,18 +51,34 @@ impl Timers {
         requires few { (0 < bases) × (bases ≤ 64) × (length clocks.now ≤ 65536) }
         requires limit { (0 < max_events) × (max_events ≤ greatest_limit) }
         ensures pass { IfOk result (λ r. IsPassOf r.0 r.1) }
-        ensures about { IfOk result (λ r. r.0.about ≡ opening_of bases clocks.now max_events) }
+        ensures about { IfOk result (λ r. r.0.about ≡ opening_of bases (map hard_on clocks.now) (limited max_events)) }
         ensures first { IfOk result (λ r. r.1.known ≡ first_known) }
     {
-        let (row, inner) = BaseRow::make(alloc, bases, clocks, max_events)?;
+        let timers = all_hard(alloc, clocks)?;
+        Timers::make_full(alloc, bases, &timers, max_events)
+    }
+
+    /// The same, with timers of both contexts.
+    pub fn make_full(
+        alloc: Global,
+        bases: u32,
+        timers: &[Declared],
+        max_events: u64,
+    ) -> Result<(Timers, Pass), AllocError>
+        requires few { (0 < bases) × (bases ≤ 64) × (length timers.now ≤ 65536) }
+        requires limit { (0 < max_events) × (max_events ≤ greatest_limit) }
+        ensures pass { IfOk result (λ r. IsPassOf r.0 r.1) }
+        ensures about { IfOk result (λ r. r.0.about ≡ opening_of bases timers.now (limited max_events)) }
+        ensures first { IfOk result (λ r. r.1.known ≡ first_known) }
+    {
+        let (row, inner) = BaseRow::make(alloc, bases, timers, Terms::limited(max_events))?;
         let timers = Timers { row };
         let pass = Pass { inner };
         timers.check(&pass);
         Ok((timers, pass))
     }
 
-    /// Arms a timer on a base (`hrtimer_start_range_ns`). One whose function is running keeps its base; another one is moved there first. `ns` is
-    /// read by the mode, in nanoseconds.
+    /// Arms a timer on a base, with no slack (`hrtimer_start`).
     pub fn start<R: Wait>(
         &self,
         rt: &R,
@@ -75,14 +93,37 @@ impl Timers {
         requires timer { timer < length self.now.about.timers }
         requires base { base < self.now.about.bases }
         ensures pass { IsPassOf self.now pass.new }
-        ensures starts { StartsTimer self.now.about pass.old.known pass.new.known timer mode ns base reading result }
+        ensures starts { StartsTimer self.now.about pass.old.known pass.new.known timer (asked_for mode ns 0 base reading) result }
+    {
+        self.start_range(rt, pass, timer, mode, ns, 0, base, reading)
+    }
+
+    /// Arms a timer on a base (`hrtimer_start_range_ns`). One whose function is running keeps its base; another one is moved there first. `ns` is
+    /// read by the mode, in nanoseconds, and is the soft expiry; the expiry is `slack` later.
+    pub fn start_range<R: Wait>(
+        &self,
+        rt: &R,
+        pass: &mut Pass,
+        timer: u32,
+        mode: Mode,
+        ns: u64,
+        slack: u64,
+        base: u32,
+        reading: Reading,
+    ) -> StartAnswer
+        requires pass { IsPassOf self.now pass.old }
+        requires timer { timer < length self.now.about.timers }
+        requires base { base < self.now.about.bases }
+        ensures pass { IsPassOf self.now pass.new }
+        ensures starts { StartsTimer self.now.about pass.old.known pass.new.known timer (asked_for mode ns slack base reading) result }
     {
         self.small();
         let asked = Asked {
             mode,
             ns,
-            base,
+            slack,
             reading,
+            base,
         };
         let answer = starting::start(rt, &self.row, &mut pass.inner, timer, &asked);
         self.check(pass);
@@ -128,9 +169,42 @@ impl Timers {
         requires pass { IsPassOf self.now pass.old }
         requires base { base < self.now.about.bases }
         ensures pass { IsPassOf self.now pass.new }
-        ensures claims { ClaimFits self.now.about pass.old.known pass.new.known base reading result }
+        ensures claims { ClaimFits self.now.about pass.old.known pass.new.known contexts.Hard base reading result }
     {
-        let answer = claiming::claim_next(rt, &self.row, &mut pass.inner, base, reading);
+        self.claim_in(rt, pass, Context::Hard, base, reading)
+    }
+
+    /// The same for the timers of the soft context.
+    pub fn claim_next_soft<R: Wait>(
+        &self,
+        rt: &R,
+        pass: &mut Pass,
+        base: u32,
+        reading: Reading,
+    ) -> ClaimAnswer
+        requires pass { IsPassOf self.now pass.old }
+        requires base { base < self.now.about.bases }
+        ensures pass { IsPassOf self.now pass.new }
+        ensures claims { ClaimFits self.now.about pass.old.known pass.new.known contexts.Soft base reading result }
+    {
+        self.claim_in(rt, pass, Context::Soft, base, reading)
+    }
+
+    /// Claims the timer of a context that is the next to expire on a base.
+    pub fn claim_in<R: Wait>(
+        &self,
+        rt: &R,
+        pass: &mut Pass,
+        context: Context,
+        base: u32,
+        reading: Reading,
+    ) -> ClaimAnswer
+        requires pass { IsPassOf self.now pass.old }
+        requires base { base < self.now.about.bases }
+        ensures pass { IsPassOf self.now pass.new }
+        ensures claims { ClaimFits self.now.about pass.old.known pass.new.known context base reading result }
+    {
+        let answer = claiming::claim_next(rt, &self.row, &mut pass.inner, context, base, reading);
         self.check(pass);
         answer
     }
@@ -183,13 +257,7 @@ impl Timers {
     {
         let word = self.row.load_word(&mut pass.inner, timer);
         self.check(pass);
-        Peek {
-            stamp: word.stamp,
-            base: word.base,
-            enqueued: word.enqueued,
-            running: word.running,
-            moving: word.moving,
-        }
+        word
     }
 
     /// Makes one more pass, which has seen as much. The pass that it is split off answers for it.

@@ -1,12 +1,15 @@
 //! Steps under a base's lock.
 ghost use Rattle.std.specs.Prelude.{◌≡◌, ◌<◌, ℕ, length, Some, None, [], ◌∷◌, false, MatchOption};
 ghost use Rattle.ktime.specs.Readings.{ClockReading};
-ghost use Rattle.seq_timer.specs.Tables.{is_due_on, runs_on};
-ghost use Rattle.seq_timer.specs.Contents.{first_due, running_on};
+ghost use Rattle.ktime.specs.declared.clock_id.ClockId.{ClockId};
+ghost use Rattle.seq_timer.specs.declared.context.Context.{Context};
+ghost use Rattle.seq_timer.specs.Tables.{IsStopped, in_context, runs_on};
+ghost use Rattle.seq_timer.specs.Halves.{running_on};
+ghost use Rattle.seq_timer.specs.Contents.{running_in};
 ghost use Rattle.seq_timer.specs.Steps.{after, reply_to};
-ghost use Rattle.seq_timer.specs.Systems.{IsOn, entries_of};
+ghost use Rattle.seq_timer.specs.Systems.{IsOn, entries_of, next_on};
 ghost use Rattle.base_row.specs.Plays.{Steady, claims_with_event};
-ghost use Rattle.base_row.specs.Calls.{IsBasePassOf, MayAppend, timer_seen};
+ghost use Rattle.base_row.specs.Calls.{base_seen, IsBasePassOf, MayAppend, timer_seen};
 ghost use Rattle.hr_timers.specs.Known.{AddsBehind, HoldsBase, HoldsTimer, IsAtRest, Looks};
 ghost use Rattle.hr_timers.specs.Calls.{entry_by};
 
@@ -112,9 +115,11 @@ pub fn leave_base(row: &BaseRow, pass: &mut Pass, held: HeldBase, base: u32)
     requires base { held.base ≡ base }
     ensures rest { IsAtRest row.now pass.new }
     ensures looks { Looks pass.old.knows pass.new.knows }
-    ensures idle { held.content.content.running ≡ None → (t : ℕ) → runs_on base (timer_seen row.now.about pass.new.knows t) ≡ false }
-    ensures busy { (t g : ℕ) → held.content.content.running ≡ Some (t, g) → running_on base (timer_seen row.now.about pass.new.knows t) ≡ Some g }
-    ensures none { (reading : ClockReading) → first_due held.content.content reading ≡ None → (t : ℕ) → is_due_on base reading (timer_seen row.now.about pass.new.knows t) ≡ false }
+    ensures idle { (x : Context) → running_in x held.content.content ≡ None → (t : ℕ) → runs_on base (in_context x (timer_seen row.now.about pass.new.knows) t) ≡ false }
+    ensures busy { (x : Context) (t g : ℕ) → running_in x held.content.content ≡ Some (t, g) → running_on base (in_context x (timer_seen row.now.about pass.new.knows) t) ≡ Some g }
+    ensures content { base_seen row.now.about pass.new.knows base ≡ held.content }
+    ensures none { (x : Context) (reading : ClockReading) → next_on x held.content reading ≡ None
+        → (clock : ClockId) → IsStopped (in_context x (timer_seen row.now.about pass.new.knows)) base reading clock }
 {
     row.fresh();
     row.unlock_base(pass, held);

@@ -4,9 +4,8 @@ use Rattle.std.specs.Prelude.{◌==◌}
 use Rattle.std.proofs.lemmas.Bool.Decides.{nat_tests}
 use Rattle.std.proofs.lemmas.List.{length-append}
 use Rattle.std.proofs.lemmas.Nat.{pow_pos}
-use Rattle.ktime.specs.declared.mode.Mode.{Mode}
-use Rattle.ktime.specs.Readings.{ClockReading}
 use Rattle.pass_names.specs.Passes.{places}
+use Rattle.seq_timer.specs.declared.event.Asked.{Asked}
 use Rattle.seq_timer.specs.declared.event.Event.TheVariants as events
 use Rattle.seq_timer.specs.Steps.{Timer}
 use Rattle.seq_timer.specs.Systems.{entries_of}
@@ -20,20 +19,20 @@ use Rattle.hr_timers.specs.Calls.{StartsTimer}
 use Rattle.hr_timers_bench.specs.Working.{entries_told}
 
 abbrev outs_of : StartAnswer → ℕ
-outs_of (starts.Started armed generation base outs clock expires) = outs
+outs_of (starts.Started armed generation outs placement) = outs
 outs_of (starts.Spent n) = 0
 
-counted : (t : Timer) (mode : Mode) (ns asked : ℕ) (reading : ClockReading) (i k : ℕ) (moves : Bool) (outs : ℕ) → outs ≡ (if moves then 2 ^ asked else 0)
-    → length (places i k (entries_along t (if moves then events.Out asked ∷ events.Start mode ns reading asked ∷
-    [] else events.Start mode ns reading asked ∷ []))) ≡ (if outs == 0 then 1 else 2)
-counted t mode ns asked reading i k true outs e = grind (arith, nat_tests, pow_pos asked)
-counted t mode ns asked reading i k false outs e = grind (arith, nat_tests)
+counted : (t : Timer) (asked : Asked) (i k : ℕ) (moves : Bool) (outs : ℕ) → outs ≡ (if moves then 2 ^ asked.base else 0)
+    → length (places i k (entries_along t (if moves then events.Out asked.base ∷ events.Start asked ∷ [] else events.Start asked ∷ [])))
+    ≡ (if outs == 0 then 1 else 2)
+counted t asked i k true outs e = grind (arith, nat_tests, pow_pos asked.base)
+counted t asked i k false outs e = grind (arith, nat_tests)
 
 -- the answer tells how many entries the pass has made
-pub told_made : (o : Opening) (v w : KnownOfTimers) (t : ℕ) (mode : Mode) (ns asked : ℕ) (reading : ClockReading) (a : StartAnswer)
-    → StartsTimer o v w t mode ns asked reading a → length w.mine ≡ length v.mine + entries_told a
-told_made o v w t mode ns asked reading (starts.Started armed generation base outs clock expires) told =
+pub told_made : (o : Opening) (v w : KnownOfTimers) (t : ℕ) (asked : Asked) (a : StartAnswer)
+    → StartsTimer o v w t asked a → length w.mine ≡ length v.mine + entries_told a
+told_made o v w t asked (starts.Started armed generation outs placement) told =
     let timer = timer_then o told.at t in
     ap length told.made.mine ∙ (length-append v.mine _ ∙ ap (λ n. length v.mine + n)
-    (counted timer mode ns asked reading t (length (entries_of t told.at)) (moves_first timer asked) outs (ap outs_of told.fits.2)))
-told_made o v w t mode ns asked reading (starts.Spent n) told = ap length told.made.mine ∙ length-append v.mine []
+    (counted timer asked t (length (entries_of t told.at)) (moves_first timer asked.base) outs (ap outs_of told.fits.2)))
+told_made o v w t asked (starts.Spent n) told = ap length told.made.mine ∙ length-append v.mine []

@@ -24,5 +24,5 @@ pub record MadeEntries (entries : ℕ) (v w : PassOf) : Type 0 where
 
 -- how many entries the answer of a start tells of
 abbrev pub entries_told : StartAnswer → ℕ
-entries_told (starts.Started armed generation base outs clock expires) = if outs == 0 then 1 else 2
+entries_told (starts.Started armed generation outs placement) = if outs == 0 then 1 else 2
 entries_told (starts.Spent n) = 0

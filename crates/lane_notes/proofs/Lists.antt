@@ -8,6 +8,7 @@ use Rattle.record_text.specs.declared.record.Label.{Label}
 use Rattle.record_text.specs.declared.record.ObjectEntry.{ObjectEntry}
 use Rattle.record_text.specs.declared.record.ObjectLine.{ObjectLine}
 use Rattle.record_text.specs.declared.record.TimerLine.{TimerLine}
+use Rattle.record_text.specs.declared.version.Version.{Version}
 use Rattle.lane_notes.specs.declared.notes.EntryNote.{EntryNote}
 use Rattle.lane_notes.specs.declared.notes.ObjectNote.{ObjectNote}
 use Rattle.lane_notes.specs.Notes.{NotesOf}
@@ -16,11 +17,13 @@ use Rattle.lane_notes.specs.Records.{line_at_number, noted_lines, noted_object_l
 use Rattle.lane_notes.proofs.Shelves.{add_later, add_none, length-each_below}
 
 -- law: there is one list for each timer, and one for its object
-pub length-timers : (notes : NotesOf) (timers : ℕ) (answers : List (List Answer)) → length (record_from notes timers answers).timers ≡ timers
-length-timers notes timers answers = length-each_below (λ u. noted_timer_lines u notes.entries notes.looks) timers
+pub length-timers : (version : Version) (notes : NotesOf) (timers : ℕ) (answers : List (List Answer))
+    → length (record_from version notes timers answers).timers ≡ timers
+length-timers version notes timers answers = length-each_below (λ u. noted_timer_lines u notes.entries notes.looks) timers
 
-pub length-objects : (notes : NotesOf) (timers : ℕ) (answers : List (List Answer)) → length (record_from notes timers answers).objects ≡ timers
-length-objects notes timers answers = length-each_below (λ j. noted_object_lines j notes.objects notes.skips) timers
+pub length-objects : (version : Version) (notes : NotesOf) (timers : ℕ) (answers : List (List Answer))
+    → length (record_from version notes timers answers).objects ≡ timers
+length-objects version notes timers answers = length-each_below (λ j. noted_object_lines j notes.objects notes.skips) timers
 
 -- ---- lines by their number
 

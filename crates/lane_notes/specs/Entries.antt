@@ -1,5 +1,11 @@
 -- The notes of receipts of timers.
-use Rattle.std.specs.Prelude.{Option, Some, None, List, ◌++◌, map, option_map}
+use Rattle.std.specs.Prelude.{Option, Some, None, List, ◌++◌, map, option_map, ℕ, Bool}
+use Rattle.ktime.specs.Readings.{ClockReading}
+use Rattle.record_text.specs.declared.record.ForwardLine.{ForwardLine}
+use Rattle.record_text.specs.declared.record.StartLine.{StartLine}
+use Rattle.seq_timer.specs.declared.event.Placement.{Placement}
+use Rattle.seq_timer.specs.declared.event.Asked.{Asked}
+use Rattle.seq_timer.specs.declared.event.Moved.{Moved}
 use Rattle.seq_timer.specs.declared.event.Event.{Event}
 use Rattle.seq_timer.specs.declared.event.Event.TheVariants as events
 use Rattle.seq_timer.specs.declared.event.Reply.{Reply}
@@ -29,14 +35,33 @@ restart_noted rearmings.No = restarts.None
 restart_noted (rearmings.Again generation) = restarts.Again generation
 restart_noted (rearmings.Spent stamp) = restarts.Spent
 
+-- what the line of a start shows, by what was asked for and where the timer was put
+abbrev pub start_noted : Asked → Placement → Bool → StartLine
+start_noted asked placement was_armed = record {
+  mode = asked.mode;
+  ns = asked.ns;
+  slack = asked.slack;
+  reading = asked.reading.stamp;
+  asked = asked.base;
+  base = placement.base;
+  clock = placement.clock;
+  soft = placement.soft;
+  expires = placement.expires;
+  was_armed = was_armed;
+}
+
+-- what the line of a forward shows, by what it moved
+abbrev pub forward_noted : ClockReading → ℕ → Moved → ForwardLine
+forward_noted reading interval moved =
+    record { reading = reading.stamp; interval = interval; count = moved.count; soft = moved.soft; expires = moved.expires }
+
 -- the entry of an event and its reply, where they belong together; a reading is named by its stamp
 abbrev pub entry_noted : Event → Reply → Option Entry
 entry_noted (events.Out base) (replies.Out was_armed) = Some (entries.Out base was_armed)
-entry_noted (events.Start mode ns reading asked) (replies.Start base clock expires was_armed) =
-    Some (entries.Start mode ns reading.stamp asked base clock expires was_armed)
+entry_noted (events.Start asked) (replies.Start placement was_armed) = Some (entries.Start (start_noted asked placement was_armed))
 entry_noted events.Cancel (replies.Cancel generation) = Some (entries.Cancel generation)
 entry_noted (events.Claim base reading) (replies.Claim generation) = Some (entries.Claim base reading.stamp generation)
-entry_noted (events.Forward reading interval) (replies.Forward count expires) = Some (entries.Forward reading.stamp interval count expires)
+entry_noted (events.Forward reading interval) (replies.Forward moved) = Some (entries.Forward (forward_noted reading interval moved))
 entry_noted (events.Finish restart) (replies.Finish generation rearmed) = Some (entries.Finish restart generation (restart_noted rearmed))
 entry_noted event reply = None
 

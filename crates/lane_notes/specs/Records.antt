@@ -6,6 +6,7 @@ use Rattle.record_text.specs.declared.record.TimerLine.{TimerLine}
 use Rattle.record_text.specs.declared.record.ObjectLine.{ObjectLine}
 use Rattle.record_text.specs.declared.record.Answer.{Answer}
 use Rattle.record_text.specs.declared.record.RunRecord.{RunRecord}
+use Rattle.record_text.specs.declared.version.Version.{Version}
 use Rattle.lane_notes.specs.declared.notes.EntryNote.{EntryNote}
 use Rattle.lane_notes.specs.declared.notes.LookNote.{LookNote}
 use Rattle.lane_notes.specs.declared.notes.ObjectNote.{ObjectNote}
@@ -75,9 +76,10 @@ noted_timer_lines timer entries looks = noted_lines place_of_look timer_line pla
 abbrev pub noted_object_lines : ℕ → List ObjectNote → List SkipNote → List ObjectLine
 noted_object_lines object entries skips = noted_lines place_of_skip object_line place_of_object object entries skips
 
--- the record of notes in their order, with so many timers and with each lane's answers
-abbrev pub record_from : NotesOf → ℕ → List (List Answer) → RunRecord
-record_from notes timers answers = record {
+-- the record of a version, of notes in their order, with so many timers and with each lane's answers
+abbrev pub record_from : Version → NotesOf → ℕ → List (List Answer) → RunRecord
+record_from version notes timers answers = record {
+  version = version;
   clock = map (λ note. note.line) notes.writes;
   timers = each_below (λ t. noted_timer_lines t notes.entries notes.looks) timers;
   objects = each_below (λ i. noted_object_lines i notes.objects notes.skips) timers;

@@ -5,9 +5,9 @@ ghost use Rattle.seq_timer.specs.declared.event.Event.TheVariants as events;
 
 use crate::notes::{EntryNote, LookNote, Notes};
 use expire_pass::{Noted, Receipt};
-use ktime::{Mode, Reading};
-use record_text::{CallbackReply, Entry, Label, Restart};
-use seq_timer::{Event, Observation, Rearmed, Reply};
+use ktime::Reading;
+use record_text::{CallbackReply, Entry, ForwardLine, Label, Restart, StartLine};
+use seq_timer::{Asked, Event, Observation, Rearmed, Reply};
 use std::alloc::AllocError;
 
 /// Adds the notes of a call's receipts.
@@ -63,12 +63,7 @@ fn entry_noted(event: Event, reply: Reply) -> Option<Entry>
 {
     match event {
         Event::Out { base } => out_noted(base, reply),
-        Event::Start {
-            mode,
-            ns,
-            reading,
-            asked,
-        } => start_noted(mode, ns, reading, asked, reply),
+        Event::Start(asked) => start_noted(asked, reply),
         Event::Cancel => cancel_noted(reply),
         Event::Claim { base, reading } => claim_noted(base, reading, reply),
         Event::Forward { reading, interval } => forward_noted(reading, interval, reply),
@@ -87,28 +82,30 @@ fn out_noted(base: u32, reply: Reply) -> Option<Entry>
 }
 
 /// The entry of a start.
-fn start_noted(mode: Mode, ns: u64, reading: Reading, asked: u32, reply: Reply) -> Option<Entry>
-    ensures { result ≡ entry_noted (events.Start mode ns reading asked) reply }
+fn start_noted(asked: Asked, reply: Reply) -> Option<Entry>
+    ensures { result ≡ entry_noted (events.Start asked) reply }
 {
     let Reply::Start {
-        base,
-        clock,
-        expires,
+        placement,
         was_armed,
     } = reply
     else {
         return None;
     };
-    Some(Entry::Start {
-        mode,
-        ns,
+    let reading = asked.reading;
+    let line = StartLine {
+        mode: asked.mode,
+        ns: asked.ns,
+        slack: asked.slack,
         reading: reading.stamp,
-        asked,
-        base,
-        clock,
-        expires,
+        asked: asked.base,
+        base: placement.base,
+        clock: placement.clock,
+        soft: placement.soft,
+        expires: placement.expires,
         was_armed,
-    })
+    };
+    Some(Entry::Start(line))
 }
 
 /// The entry of a cancel.
@@ -139,15 +136,17 @@ fn claim_noted(base: u32, reading: Reading, reply: Reply) -> Option<Entry>
 fn forward_noted(reading: Reading, interval: u64, reply: Reply) -> Option<Entry>
     ensures { result ≡ entry_noted (events.Forward reading interval) reply }
 {
-    let Reply::Forward { count, expires } = reply else {
+    let Reply::Forward { moved } = reply else {
         return None;
     };
-    Some(Entry::Forward {
+    let line = ForwardLine {
         reading: reading.stamp,
         interval,
-        count,
-        expires,
-    })
+        count: moved.count,
+        soft: moved.soft,
+        expires: moved.expires,
+    };
+    Some(Entry::Forward(line))
 }
 
 /// The entry of a finish.

@@ -7,21 +7,25 @@ ghost use Rattle.lane_notes.specs.Records.{look_of, object_line, record_from, sk
 use crate::lines::{Lined, Shown, items_of, lines_of_lists};
 use crate::notes::{EntryNote, LookNote, Notes, ObjectNote, SkipNote, WriteNote};
 use crate::placed::sort;
-use record_text::{Answer, ClockLine, ItemList, Look, ObjectLine, RunRecord, Skip, TimerLine};
+use record_text::{
+    Answer, ClockLine, ItemList, Look, ObjectLine, RunRecord, Skip, TimerLine, Version,
+};
 use std::alloc::{AllocError, Global};
 
-/// The record of all notes, with so many timers and with the answers of each lane. A note of a timer past them is left out, and so is a look or
-/// a skip at a number that has no line.
+/// The record of all notes, of this version, with so many timers and with the answers of each lane. A note of a timer past them is
+/// left out, and so is a look or a skip at a number that has no line.
 pub fn record_of(
     alloc: Global,
+    version: Version,
     notes: Notes,
     timers: usize,
     answers: Vec<ItemList<Answer>>,
 ) -> Result<RunRecord, AllocError>
-    ensures { IfOk result (λ r. (sorted : NotesOf) × IsSortedFrom notes sorted × (r ≡ record_from sorted timers answers.items)) }
+    ensures { IfOk result (λ r. (sorted : NotesOf) × IsSortedFrom notes sorted × (r ≡ record_from version sorted timers answers.items)) }
 {
     let notes = sorted(notes);
     Ok(RunRecord {
+        version,
         clock: items_of(alloc, &notes.writes)?,
         timers: lines_of_lists(alloc, &notes.entries, &notes.looks, timers)?,
         objects: lines_of_lists(alloc, &notes.objects, &notes.skips, timers)?,

@@ -11,7 +11,7 @@ use Rattle.seq_timer.specs.declared.event.Event.TheVariants as events
 use Rattle.seq_timer.specs.declared.event.Event.{Event}
 use Rattle.seq_timer.specs.declared.observation.Observation.TheVariants as observations
 use Rattle.seq_timer.specs.declared.system.TimerEntry.{TimerEntry}
-use Rattle.timer_core.specs.Answers.{moves_first, start_events}
+use Rattle.timer_core.specs.Answers.{asked_for, moves_first, start_events}
 use Rattle.timer_core.specs.Runs.{entries_along}
 use Rattle.expire_pass.specs.declared.log.Receipt.{Receipt}
 use Rattle.hr_timers.specs.Calls.{start_entries, StartsTimer}
@@ -27,14 +27,14 @@ use Rattle.record_text.specs.declared.record.ClockLine.{ClockLine}
 use Rattle.record_text.specs.declared.record.Label.{Label}
 use Rattle.script_text.specs.Actions.{Action}
 use Rattle.script_text.specs.Told.{IsArmedLike}
-use Rattle.script_text.specs.Histories.{reading_at}
+use Rattle.script_text.specs.Histories.{declareds_of, reading_at, terms_of}
 use Rattle.script_text.specs.ObjectCalls.{Arms}
 use Rattle.script_text.specs.Objects.{kind_of, object_armed_after}
-use Rattle.script_text.specs.Starts.{arming_actions}
+use Rattle.script_text.specs.Starts.{arming_actions, without_slack}
 use Rattle.script_text.specs.declared.script.Script.{Script}
 use Rattle.lane_notes.specs.Arms.{arm_noted}
 use Rattle.lane_notes.specs.Entries.{entry_notes, look_notes}
-use Rattle.run_history.specs.Courses.{clocks_of, Course, entries_in}
+use Rattle.run_history.specs.Courses.{Course, entries_in}
 use Rattle.run_history.specs.Receipts.{Noted}
 use Rattle.run_history.specs.Traces.{all_entered}
 use Rattle.run_history.specs.Truths.{IsTrueStart}
@@ -129,7 +129,7 @@ module _ {s : Script} {x : WorldOf} {l : LaneOf} {call : Call} (next : IsNextCal
   part_along at es actions made reads only lines =
       let u = timer_then x.timers.about at t in
       let log = receipts_of t u.stamp (entries_along u es) in
-      let along = enters_along (HasRead reading) x.timers.about (clocks_of s) s.limit es (opened_timers next) made reads in (
+      let along = enters_along (HasRead reading) x.timers.about (declareds_of s) (terms_of s) es (opened_timers next) made reads in (
         along.notes,
         part_entered along.enters refl only (along.are ∙ lines)
             (along.are ∙ sym (receipts_of-noted l.label t u.stamp u es)) (receipts_of-no_looks l.label t u.stamp (entries_along u es)),
@@ -171,24 +171,24 @@ module _ {s : Script} {x : WorldOf} {l : LaneOf} {call : Call} (next : IsNextCal
   start_none mode ns alone same =
       started [] (same ∙ sym (append-nil done)) refl ([], part_none (begins_same (ap (λ k. k.seen) alone)) (ap (λ k. k.mine) alone)) tt
 
-  start_by : (mode : Mode) (ns : ℕ) (a : StartAnswer) (c : StartsTimer x.timers.about v w t mode ns base reading a)
-      → log ≡ done ++ receipts_of t (timer_then x.timers.about c.at t).stamp (start_entries (timer_then x.timers.about c.at t) mode ns base reading a)
+  start_by : (mode : Mode) (ns : ℕ) (a : StartAnswer) (c : StartsTimer x.timers.about v w t (asked_for mode ns 0 base reading) a)
+      → log ≡ done ++ receipts_of t (timer_then x.timers.about c.at t).stamp (start_entries (timer_then x.timers.about c.at t) (asked_for mode ns 0 base reading) a)
       → TimerPart x l t begin w mode ns base reading (arm_of a) cancel log
   start_by mode ns (starts.Spent n) c adds =
       let looks = looks_made c.made in
       started [] adds refl ([], part_none looks.0 looks.1)
       (subst (IsArmedSo (arms.Unarmed n)) (sym (timer_after x.timers.about v w t c.at [] c.made)) (sym c.fits.2, c.fits.1, c.fits.0))
-  start_by mode ns (starts.Started was generation on outs clock expires) c adds =
+  start_by mode ns (starts.Started was generation outs placed) c adds =
       let u = timer_then x.timers.about c.at t in
-      let es = start_events u mode ns base reading in
-      let as_told = started_so u t mode ns base reading (starts.Started was generation on outs clock expires) c.fits.2 in
+      let es = start_events u (asked_for mode ns 0 base reading) in
+      let as_told = started_so u t (without_slack mode ns base) reading (starts.Started was generation outs placed) c.fits.2 in
       let told = as_told.told in
       let number : generation ≡ as_told.arming.number = cc in
       let fits = c.fits.2 in
       let stamp : (step_all u es).stamp ≡ generation = cc in
-      let actions = arming_actions t mode ns reading.stamp base as_told.arming in
+      let actions = arming_actions t (without_slack mode ns base) reading.stamp as_told.arming in
       started actions adds (as_told.arming, refl, number, as_told.just)
-      (part_along next t reading c.at es actions c.made (λ clock has. start_reads mode ns base reading clock (moves_first u base) has) as_told.only
+      (part_along next t reading c.at es actions c.made (λ clock has. start_reads (without_slack mode ns base) reading clock (moves_first u base) has) as_told.only
       as_told.lines)
       (ap (λ (y : Timer). y.stamp) (timer_after x.timers.about v w t c.at (entries_along u es) c.made ∙ along u es) ∙ stamp)
 

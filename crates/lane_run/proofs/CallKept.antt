@@ -20,7 +20,7 @@ use Rattle.record_text.specs.declared.record.Entry.{Entry}
 use Rattle.record_text.specs.declared.record.Label.{Label}
 use Rattle.script_text.specs.Actions.{made, wrote}
 use Rattle.script_text.specs.Told.{object_steps_on}
-use Rattle.script_text.specs.Histories.{reading_at}
+use Rattle.script_text.specs.Histories.{declareds_of, reading_at, terms_of}
 use Rattle.script_text.specs.Objects.{present}
 use Rattle.script_text.specs.Order.{calls_of, IsLabel, NeverFall}
 use Rattle.script_text.specs.declared.script.Call.{Call}
@@ -51,7 +51,6 @@ use Rattle.clock_model.specs.declared.write.Write.{Write}
 use Rattle.clock_cell.specs.Views.{reading_after}
 use Rattle.seq_timer.specs.Systems.{openings}
 use Rattle.base_row.specs.declared.view.Opening.{Opening}
-use Rattle.run_history.specs.Courses.{clocks_of}
 use Rattle.lane_run.proofs.PartLists.{notes_same}
 
 -- ---- notes
@@ -252,5 +251,6 @@ pub reading_of_seen : (e : Ending) (ws : List Write) → GoesOnClock ws e → re
 reading_of_seen e ws on = reading_seen e ws (length ws) on (omega arith) ∙ ap (clock_after (at_stamp 0)) (take_whole ws)
 
 -- the timers of a script's world are on its clocks
-pub opened_timers : {s : Script} {x : WorldOf} {l : LaneOf} {call : Call} → IsNextCall s x l call → x.timers.about.timers ≡ openings (clocks_of s) s.limit
+pub opened_timers : {s : Script} {x : WorldOf} {l : LaneOf} {call : Call} → IsNextCall s x l call
+    → x.timers.about.timers ≡ openings (declareds_of s) (terms_of s)
 opened_timers next = ap (λ (o : Opening). o.timers) next.world.timers

@@ -7,6 +7,7 @@ use Rattle.timer_objects.specs.declared.callback.Callback.TheVariants as runs
 use Rattle.timer_objects.specs.declared.object.Decl.{Decl}
 use Rattle.timer_objects.specs.declared.object.Kind as object_kind
 use Rattle.timer_objects.specs.declared.object.Kind.TheVariants as over
+use Rattle.seq_timer.specs.declared.context.Context.TheVariants as contexts
 use Rattle.script_text.specs.Histories.{clock_of}
 use Rattle.script_text.specs.ObjectCalls.{base_of}
 use Rattle.script_text.specs.Objects.{kind_of}
@@ -20,21 +21,21 @@ use Rattle.std.proofs.Math.ListN.{get_or-map}
 
 -- the kind of object over a timer of this kind
 abbrev pub over_of : Kind → object_kind.Kind
-over_of (kinds.Raw callback) = over.Raw
+over_of (kinds.Raw context callback) = over.Raw
 over_of (kinds.Posix base) = over.Posix
 over_of (kinds.Fd base) = over.Fd
 
 decl_as-parts : (k : Kind) (clock : ClockId) → ((decl_as k clock).kind ≡ over_of k) × ((decl_as k clock).base ≡ base_of k)
-decl_as-parts (kinds.Raw callback) clock = (refl, refl)
+decl_as-parts (kinds.Raw context callback) clock = (refl, refl)
 decl_as-parts k clock = (refl, refl)
 
 -- what stands over a timer that isn't declared
 abbrev pub no_decl : Decl
-no_decl = decl_as (kinds.Raw callbacks.Once) clocks.Monotonic
+no_decl = decl_as (kinds.Raw contexts.Hard callbacks.Once) clocks.Monotonic
 
 -- a timer that isn't declared
 abbrev none : Declaration
-none = record { clock = clocks.Monotonic; kind = kinds.Raw callbacks.Once }
+none = record { clock = clocks.Monotonic; kind = kinds.Raw contexts.Hard callbacks.Once }
 
 -- law: the objects of a script's world are declared by their kinds and clocks
 pub declared_in : (s : Script) (x : WorldOf) (i : ℕ) → IsWorldOf s x → decl_at x.objects i ≡ decl_as (kind_of s i) (clock_of s i)
@@ -54,5 +55,5 @@ module _ (s : Script) (x : WorldOf) (i : ℕ) (is : IsWorldOf s x) where
 
 -- law: the callback of a timer is that of its declaration
 pub declared_callback : (ds : List Declaration) (i : ℕ) → get_or (map (λ d. callback_of d.kind) ds) i runs.Once
-    ≡ callback_of (get_or (map (λ d. d.kind) ds) i (kinds.Raw callbacks.Once))
+    ≡ callback_of (get_or (map (λ d. d.kind) ds) i (kinds.Raw contexts.Hard callbacks.Once))
 declared_callback ds i = get_or-map (λ d. callback_of d.kind) ds i none ∙ ap callback_of (sym (get_or-map (λ d. d.kind) ds i none))

@@ -23,17 +23,16 @@ use Rattle.timer_objects.specs.Known.{seen_of}
 use Rattle.seq_timer.specs.Systems.{AreSystemSteps, first_system, openings}
 use Rattle.base_row.specs.declared.view.Opening.{Opening}
 use Rattle.lane_notes.proofs.Lists.{length-objects, length-timers}
-use Rattle.run_history.specs.Courses.{clocks_of}
 use Rattle.std.proofs.Common.{◌≡◌, ℕ}
 use Rattle.clock_cell.specs.Views.{writes}
 use Rattle.run_history.specs.Promises.{HasLog}
-use Rattle.script_text.specs.Histories.{clock_labels}
+use Rattle.script_text.specs.Histories.{clock_labels, declareds_of, terms_of}
 use Rattle.script_text.specs.Objects.{object_labels}
 
 module _ {s : Script} {x : WorldOf} {q : WorldPass} {notes sorted : NotesOf} {logs : Label → CallLog} (last : AreLastOf s x q) (left : AreLeft s q notes logs)
     (is : IsSortedFrom notes sorted) (answers : List (List Answer)) (starts : RoundStarts) where
   abbrev e : Ending
-  e = ending_of (record_from sorted (length s.timers) answers) q logs starts
+  e = ending_of (record_from s.version sorted (length s.timers) answers) q logs starts
 
   -- a run with this record goes on from what the last passes have seen, which is all
   follows : Follows q e
@@ -69,7 +68,7 @@ module _ {s : Script} {x : WorldOf} {q : WorldPass} {notes sorted : NotesOf} {lo
     -- law: so it has the parts that make a run
     pub is_ending : IsEnding s e
     is_ending = record {
-      history = subst (λ n. AreSystemSteps s.bases n (first_system (openings (clocks_of s) s.limit)) q.timers.known.seen) (length-map (clocks_of s) _)
+      history = subst (λ n. AreSystemSteps s.bases n (first_system (openings (declareds_of s) (terms_of s))) q.timers.known.seen) (length-map (declareds_of s) _)
           (subst (λ (o : Opening). AreSystemSteps o.bases (length o.timers) (first_system o.timers) q.timers.known.seen) last.world.timers
           last.passes.timers.knows.history);
       sorted = filed_notes last left is answers;
@@ -93,9 +92,10 @@ module _ {s : Script} {x : WorldOf} {q : WorldPass} {notes sorted : NotesOf} {lo
       spans = λ i. (object_histories last left is answers starts i).1;
       looks = looks_under last left is answers;
       skips = skips_under last left is answers;
-      timers = length-timers sorted (length s.timers) answers;
-      objects = length-objects sorted (length s.timers) answers;
+      timers = length-timers s.version sorted (length s.timers) answers;
+      objects = length-objects s.version sorted (length s.timers) answers;
       lanes = rounds.lanes;
+      version = refl;
       calls = λ lane joined. rounds.calls e follows has joined lane;
     }
 

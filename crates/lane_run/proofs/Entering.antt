@@ -5,13 +5,14 @@ use Rattle.std.proofs.lemmas.Grind.{common_steps}
 use Rattle.std.proofs.lemmas.Bool.Decides.{nat_tests}
 use Rattle.std.proofs.lemmas.List.{append_assoc, append-nil, map-append}
 use Rattle.ktime.specs.Times.{next_after, passed}
-use Rattle.ktime.specs.declared.clock_id.ClockId.{ClockId}
+use Rattle.seq_timer.specs.declared.context.Terms.{Terms}
+use Rattle.seq_timer.specs.declared.context.Declared.{Declared}
 use Rattle.pass_names.specs.Passes.{Begins, places}
 use Rattle.seq_timer.specs.declared.event.Event.TheVariants as events
 use Rattle.seq_timer.specs.declared.event.Event.{Event}
 use Rattle.seq_timer.specs.declared.event.Reply.TheVariants as replies
 use Rattle.seq_timer.specs.declared.system.TimerEntry.{TimerEntry}
-use Rattle.seq_timer.specs.Steps.{Timer, after, now_of, rearmed_by, reply_to, started}
+use Rattle.seq_timer.specs.Steps.{Timer, after, placement_of, moved_by, now_of, rearmed_by, reply_to, start_reply, started}
 use Rattle.seq_timer.specs.Systems.{entries_of, openings}
 use Rattle.seq_timer.specs.Tables.{timer_at}
 use Rattle.seq_timer.proofs.Agreement.{first_stamp}
@@ -25,7 +26,7 @@ use Rattle.record_text.specs.declared.record.Entry.TheVariants as entries
 use Rattle.record_text.specs.declared.record.Entry.{Entry}
 use Rattle.record_text.specs.declared.record.RunRecord.{RunRecord}
 use Rattle.script_text.specs.Histories.{entry_shown, reading_at, rearmed_as}
-use Rattle.lane_notes.specs.Entries.{restart_noted}
+use Rattle.lane_notes.specs.Entries.{forward_noted, restart_noted, start_noted}
 use Rattle.run_history.specs.Receipts.{count, Noted, receipt, ShowsEntry}
 use Rattle.run_history.proofs.Known.{adds_made, AreEntries, AreMade, AreShown, made-append, made_goes_on, made_wider, none_made, numbered, shows_made}
 use Rattle.record_text.proofs.Lists.{All-append}
@@ -37,13 +38,11 @@ use Rattle.pass_names.proofs.Passes.{begins_trans, begins_length}
 -- the record's entry of an event of a timer
 abbrev pub line_entry : Timer → Event → Entry
 line_entry t (events.Out base) = entries.Out base (is_some t.armed)
-line_entry t (events.Start mode ns reading asked) =
-    entries.Start mode ns reading.stamp asked (started t mode ns reading).base (started t mode ns reading).clock (started t mode ns reading).expires
-    (is_some t.armed)
+line_entry t (events.Start asked) = entries.Start (start_noted asked (placement_of (started t asked)) (is_some t.armed))
 line_entry t events.Cancel = entries.Cancel (unwrap_or t.armed 0)
 line_entry t (events.Claim base reading) = entries.Claim base reading.stamp (unwrap_or t.armed 0)
 line_entry t (events.Forward reading interval) =
-    entries.Forward reading.stamp interval (passed t.expires (now_of t reading) interval) (next_after t.expires (now_of t reading) interval)
+    entries.Forward (forward_noted reading interval (moved_by t reading interval))
 line_entry t (events.Finish restart) = entries.Finish restart (unwrap_or t.running 0) (restart_noted (rearmed_by t restart))
 
 -- the same of events in turn
@@ -53,7 +52,7 @@ lines_along t (e ∷ es) = line_entry t e ∷ lines_along (after t e) es
 
 -- a record's clock has the reading of an event at its stamp
 abbrev pub HasReading : List ClockLine → Event → Type 0
-HasReading clock (events.Start mode ns reading asked) = reading_at clock reading.stamp ≡ reading
+HasReading clock (events.Start asked) = reading_at clock asked.reading.stamp ≡ asked.reading
 HasReading clock (events.Claim base reading) = reading_at clock reading.stamp ≡ reading
 HasReading clock (events.Forward reading interval) = reading_at clock reading.stamp ≡ reading
 HasReading clock event = Unit
@@ -64,7 +63,8 @@ rearmed_shown t restart = grind (arith, common_steps, nat_tests)
 -- law: it shows the event and its reply, where the record's clock has the reading
 pub line_entry-shown : (clock : List ClockLine) (t : Timer) (event : Event) → HasReading clock event
     → record { event = event; reply = reply_to t event } ≡ entry_shown clock t.stamp (line_entry t event)
-line_entry-shown clock t (events.Start mode ns reading asked) has = rw has refl
+line_entry-shown clock t (events.Start asked) has =
+    ap (λ r. record { event = events.Start (record asked { reading = r }); reply = start_reply t asked }) (sym has)
 line_entry-shown clock t (events.Claim base reading) has = rw has refl
 line_entry-shown clock t (events.Forward reading interval) has = rw has refl
 line_entry-shown clock t (events.Finish restart) has =
@@ -134,21 +134,21 @@ pub record EntersAlong (IsSo : List ClockLine → Type 0) (v w : KnownOfTimers) 
   pub are : map receipt notes ≡ numbered t s.stamp (lines_along s es)
 
 -- a timer's stamp is the number of its entries
-pub stamp_counts : (o : Opening) (clocks : List ClockId) (limit : ℕ) (x : List TimerEntry) (t : ℕ) → o.timers ≡ openings clocks limit
+pub stamp_counts : (o : Opening) (clocks : List Declared) (terms : Terms) (x : List TimerEntry) (t : ℕ) → o.timers ≡ openings clocks terms
     → (timer_then o x t).stamp ≡ count t x
-stamp_counts o clocks limit x t is =
-    let first : (timer_at o.timers t).stamp ≡ 0 = ap (λ ts. (timer_at ts t).stamp) is ∙ first_stamp clocks limit t in
+stamp_counts o clocks terms x t is =
+    let first : (timer_at o.timers t).stamp ≡ 0 = ap (λ ts. (timer_at ts t).stamp) is ∙ first_stamp clocks terms t in
     let its : (timer_then o x t).stamp ≡ (timer_at o.timers t).stamp + length (entries_of t x) =
     ap (λ (s : Timer). s.stamp) (timer_own o x t) ∙ stamp-after_all (timer_at o.timers t) (entries_of t x) in omega (arith, its, first)
 
 -- law: the entries that a call made of a timer at a moment are receipts that stand in what its pass has seen, behind what it had seen before
-pub enters_along : (IsSo : List ClockLine → Type 0) (o : Opening) (clocks : List ClockId) (limit : ℕ) {v w : KnownOfTimers} {t : ℕ} {x : List TimerEntry}
-    (es : List Event) → o.timers ≡ openings clocks limit → MadeAt v w t x (entries_along (timer_then o x t) es)
+pub enters_along : (IsSo : List ClockLine → Type 0) (o : Opening) (clocks : List Declared) (terms : Terms) {v w : KnownOfTimers} {t : ℕ} {x : List TimerEntry}
+    (es : List Event) → o.timers ≡ openings clocks terms → MadeAt v w t x (entries_along (timer_then o x t) es)
     → ((clock : List ClockLine) → IsSo clock → AllByRecursion (HasReading clock) es) → EntersAlong IsSo v w t (timer_then o x t) es
-enters_along IsSo o clocks limit {v = v} {w = w} {t = t} {x = x} es is made reads =
+enters_along IsSo o clocks terms {v = v} {w = w} {t = t} {x = x} es is made reads =
     let s = timer_then o x t in
     let more = made.seen.rest in
-    let stamp : count t x ≡ s.stamp = sym (stamp_counts o clocks limit x t is) in
+    let stamp : count t x ≡ s.stamp = sym (stamp_counts o clocks terms x t is) in
     let adds = adds_made x more t (entries_along s es) (lines_along s es) (ap (entries_of t) (sym made.seen.whole) ∙ made.own) (lines_as_many s es) in
     let there : AreMade w.seen (length x) (length w.seen) adds.0 =
     subst (λ xs. AreMade xs (length x) (length xs) adds.0) (sym made.seen.whole) adds.1 in
@@ -172,13 +172,13 @@ single (n ∷ []) y is = (n, refl, cc)
 single (n ∷ m ∷ notes) y is = absurd (cc)
 
 -- law: one event of a timer is one receipt
-pub enters_once : (IsSo : List ClockLine → Type 0) (o : Opening) (clocks : List ClockId) (limit : ℕ) {v w : KnownOfTimers} {t : ℕ} {x : List TimerEntry}
-    (e : Event) {number : ℕ} {entry : Entry} → o.timers ≡ openings clocks limit
+pub enters_once : (IsSo : List ClockLine → Type 0) (o : Opening) (clocks : List Declared) (terms : Terms) {v w : KnownOfTimers} {t : ℕ} {x : List TimerEntry}
+    (e : Event) {number : ℕ} {entry : Entry} → o.timers ≡ openings clocks terms
     → MadeAt v w t x (record { event = e; reply = reply_to (timer_then o x t) e } ∷ [])
     → ((clock : List ClockLine) → IsSo clock → HasReading clock e) → number ≡ (timer_then o x t).stamp + 1 → line_entry (timer_then o x t) e ≡ entry
     → (n : Noted) × EntersNotes IsSo v w (n ∷ []) × (receipt n ≡ (t, (number, entry)))
-enters_once IsSo o clocks limit {t = t} e {number = number} {entry = entry} is made reads numbered shown =
-    let along = enters_along IsSo o clocks limit (e ∷ []) is made (λ clock so. (reads clock so, tt)) in
+enters_once IsSo o clocks terms {t = t} e {number = number} {entry = entry} is made reads numbered shown =
+    let along = enters_along IsSo o clocks terms (e ∷ []) is made (λ clock so. (reads clock so, tt)) in
     let one = single along.notes (t, (number, entry)) (rw (numbered, ← shown) along.are) in (one.0, rw one.1 at along.enters, one.2)
 
 -- law: a call that made no entry of its timer saw more, and made none

@@ -1,14 +1,16 @@
 -- Expiry runs, as their lanes keep them.
-use Rattle.std.proofs.Common.{◌≡◌, ◌≤◌, ℕ, true, false, nat_eq, if◌then◌else◌, Some, None, List, [], ◌∷◌, ◌++◌, length, map, arith, refl, sym, ap, ◌∙◌, subst}
+use Rattle.std.proofs.Common.{◌≡◌, ◌≤◌, ℕ, List, [], ◌∷◌, ◌++◌, length, map, arith, refl, sym, ap, ◌∙◌, subst}
 use Rattle.std.specs.Prelude.{flat_map}
-use Rattle.std.proofs.lemmas.Bool.{eqb-true}
+use Rattle.std.proofs.Math.Logic.{⊎_elim}
 use Rattle.std.proofs.lemmas.List.{append-nil}
 use Rattle.std.proofs.lemmas.Option.{slice_get_within}
 use Rattle.ktime.specs.Readings.{ClockReading}
 use Rattle.pass_names.specs.SharedHistory.{LooksOn}
-use Rattle.seq_timer.specs.Contents.{running_on}
+use Rattle.seq_timer.specs.Halves.{running_on}
+use Rattle.seq_timer.specs.Systems.{System, next_on, system_after}
+use Rattle.seq_timer.specs.declared.context.Context.{Context}
 use Rattle.seq_timer.specs.Steps.{Timer}
-use Rattle.seq_timer.specs.Tables.{is_due_on, runs_on}
+use Rattle.seq_timer.specs.Tables.{IsStopped, in_context, runs_on, seen_in}
 use Rattle.seq_timer.specs.declared.system.TimerEntry.{TimerEntry}
 use Rattle.base_row.specs.declared.view.Opening.{Opening}
 use Rattle.hr_timers.specs.Known.{KnownOfTimers, timer_then}
@@ -35,7 +37,7 @@ use Rattle.run_history.specs.Receipts.{Noted}
 use Rattle.run_history.specs.Runs.{course_of, Ending, IsJoined, moves_spans}
 use Rattle.run_history.proofs.Expires.{expire_busy, expire_done, expire_more, expiring, HaveRun}
 use Rattle.run_history.proofs.Kept.{IsKept}
-use Rattle.run_history.proofs.PassState.{timer_seen}
+use Rattle.run_history.proofs.PassState.{system_seen, timer_seen}
 use Rattle.run_history.proofs.Promise.{object_point_from, seen_first}
 use Rattle.lane_run.specs.Called.{CallsExpire, claimed_in, expire_told, LaneOf}
 use Rattle.lane_run.proofs.Kept.{Follows, IsNextCall, KeepsCall, seen_by, goes_before}
@@ -49,23 +51,23 @@ use Rattle.lane_run.proofs.Fired.{RunKept, turns_kept}
 -- ---- a run that looked on
 
 -- callbacks ran to a later number too
-have_later : (w : Course) (c : Label) (order : List TimerEntry) (base at : ℕ) (before : List Action) (from : ℕ) (fs : List Fired) (notes : List Noted)
-    (to to' : ℕ) → to ≤ to' → HaveRun w c order base at before from fs notes to → HaveRun w c order base at before from fs notes to'
-have_later w c order base at before from [] notes to to' le run = (run.0, omega (arith, run.1, le))
-have_later w c order base at before from (f ∷ fs) notes to to' le run = (
+have_later : (w : Course) (c : Label) (order : List TimerEntry) (context : Context) (base at : ℕ) (before : List Action) (from : ℕ) (fs : List Fired) (notes : List Noted)
+    (to to' : ℕ) → to ≤ to' → HaveRun w c order context base at before from fs notes to → HaveRun w c order context base at before from fs notes to'
+have_later w c order context base at before from [] notes to to' le run = (run.0, omega (arith, run.1, le))
+have_later w c order context base at before from (f ∷ fs) notes to to' le run = (
   run.0,
   run.1,
   run.2,
   run.3,
-  have_later w c order base at (before ++ fires base at f) run.0 fs run.2 to to' le run.4,
+  have_later w c order context base at (before ++ fires base at f) run.0 fs run.2 to to' le run.4,
 )
 
 -- law: callbacks ran, and behind them their pass only looked
-run_later : {s : Script} {label : Label} {base : ℕ} {reading : ClockReading} {n : ℕ} {v : KnownOfTimers} {p : ObjectsPass} {w : KnownOfTimers}
+run_later : {s : Script} {label : Label} {context : Context} {base : ℕ} {reading : ClockReading} {n : ℕ} {v : KnownOfTimers} {p : ObjectsPass} {w : KnownOfTimers}
     {q : ObjectsPass} {w' : KnownOfTimers} {log callback_log : List Receipt} {object_log : List ObjectReceipt}
-    → RunKept s label base reading n v p w q log callback_log object_log → LooksOn w w'
-    → RunKept s label base reading n v p w' q log callback_log object_log
-run_later {s = s} {label = label} {base = base} {reading = reading} {v = v} {p = p} {w = w} {q = q} {w' = w'} {log = log} {callback_log = callback_log}
+    → RunKept s label context base reading n v p w q log callback_log object_log → LooksOn w w'
+    → RunKept s label context base reading n v p w' q log callback_log object_log
+run_later {s = s} {label = label} {context = context} {base = base} {reading = reading} {v = v} {p = p} {w = w} {q = q} {w' = w'} {log = log} {callback_log = callback_log}
     {object_log = object_log} run looks =
     let actions = flat_map (fires base reading.stamp) run.fired in
     let all = log ++ callback_log in
@@ -78,38 +80,30 @@ run_later {s = s} {label = label} {base = base} {reading = reading} {v = v} {p =
       claimed = run.claimed;
       part = rw (append-nil actions, append-nil run.notes, append-nil all, append-nil object_log) at part;
       have = λ e joined goes follows later behind points.
-          have_later (course_of s e) label e.order base reading.stamp [] (length v.seen) run.fired run.notes (length w.seen) (length w'.seen)
+          have_later (course_of s e) label e.order context base reading.stamp [] (length v.seen) run.fired run.notes (length w.seen) (length w'.seen)
           (begins_length looks.seen)
           (run.have e joined (goes_before looks.seen goes) follows later behind points);
     }
 
--- a function runs on a base
-running_there : (base : ℕ) (u : Timer) (g : ℕ) → running_on base u ≡ Some g → (u.running ≡ Some g) × (u.base ≡ base)
-running_there base u g is =
-    elim (nat_eq u.base base) as (λ b. nat_eq u.base base ≡ b → (if b then u.running else None) ≡ Some g → (u.running ≡ Some g) × (u.base ≡ base)) [
-      | true ↦ λ same runs. (runs, eqb-true u.base base same)
-      | false ↦ λ same runs. absurd (cc)
-    ] refl is
-
 -- ---- the call
 
-module _ {s : Script} {x : WorldOf} {l m : LaneOf} {a : Answer} {base budget : ℕ} (next : IsNextCall s x l (calls.Expire base budget))
-    (c : CallsExpire x l m a base budget) where
+module _ {s : Script} {x : WorldOf} {l m : LaneOf} {a : Answer} {context : Context} {base budget : ℕ} (next : IsNextCall s x l (calls.Expire context base budget))
+    (c : CallsExpire x l m a context base budget) where
   -- so many callbacks, to what the pass then knows
   abbrev Run : ℕ → KnownOfTimers → Type 0
-  Run n w = RunKept s l.label base c.reading n l.pass.timers.known l.pass.objects w
+  Run n w = RunKept s l.label context base c.reading n l.pass.timers.known l.pass.objects w
       m.pass.objects c.log c.callback_log c.object_log
 
   -- a lane keeps the call, where its callbacks make it fit in every run that goes on from there
   keeps_run : {n : ℕ} (told : List ℕ → Answer) (run : Run n m.pass.timers.known)
       → ((e : Ending) → Follows m.pass e → IsJoined s e
       → IsKept (course_of s e) (moves_spans e) l.label
-      (expiring base c.reading.stamp (length l.pass.timers.known.seen) (length m.pass.timers.known.seen) run.fired) run.notes (calls.Expire base budget)
+      (expiring base c.reading.stamp (length l.pass.timers.known.seen) (length m.pass.timers.known.seen) run.fired) run.notes (calls.Expire context base budget)
       (told (map (λ f. f.timer) run.fired)) (seen_by l.pass) (seen_by m.pass) → length l.pass.timers.known.seen ≡ (moves_spans e).first l.label
-      → HaveRun (course_of s e) l.label e.order base c.reading.stamp [] (length l.pass.timers.known.seen) run.fired run.notes
+      → HaveRun (course_of s e) l.label e.order context base c.reading.stamp [] (length l.pass.timers.known.seen) run.fired run.notes
       (length m.pass.timers.known.seen)
-      → FitsCall (course_of s e) l.label (calls.Expire base budget) (told (map (λ f. f.timer) run.fired)) (seen_by l.pass) (seen_by m.pass))
-      → KeepsCall s l (calls.Expire base budget) (told (claimed_in c.log)) m
+      → FitsCall (course_of s e) l.label (calls.Expire context base budget) (told (map (λ f. f.timer) run.fired)) (seen_by l.pass) (seen_by m.pass))
+      → KeepsCall s l (calls.Expire context base budget) (told (claimed_in c.log)) m
   keeps_run told run fits =
       let p = l.pass in
       let q = m.pass in
@@ -125,11 +119,11 @@ module _ {s : Script} {x : WorldOf} {l m : LaneOf} {a : Answer} {base budget : �
       behind))))
 
   -- the callbacks
-  callbacks_kept : (n : ℕ) (w : KnownOfTimers) → Turns firing x.timers.about base c.reading n l.pass.timers.known c.runs.before [] w c.runs.after c.log
+  callbacks_kept : (n : ℕ) (w : KnownOfTimers) → Turns firing x.timers.about context base c.reading n l.pass.timers.known c.runs.before [] w c.runs.after c.log
       → Run n w
   callbacks_kept n w turns =
       let r = c.runs in
-      let run = turns_kept s x next.world next.range.limit.0 l.label base c.reading n
+      let run = turns_kept s x next.world next.range.limit.0 l.label context base c.reading n
       r.before r.after l.pass.timers.known w c.log r.objects r.callbacks r.fresh.0 r.fresh.1 turns in
       rw (← r.pass, ← r.back, ← r.logs.0, ← r.logs.1) run.0
 
@@ -140,10 +134,21 @@ module _ {s : Script} {x : WorldOf} {l m : LaneOf} {a : Answer} {base budget : �
       timer_seen (course_of s e) m.pass.timers.known.seen follows.timers.0 (seen_first m.pass.timers.known.seen joined follows.timers) t
       ∙ sym (ap (λ (o : Opening). timer_then o m.pass.timers.known.seen t) next.world.timers)
 
+  -- the timer that is next to expire on the base after what the lane has then seen
+  next_is : (e : Ending) → Follows m.pass e → IsJoined s e
+      → next_on context ((courses.system_along (course_of s e) (length m.pass.timers.known.seen)).bases base) (reading_at e.run.clock c.reading.stamp)
+      ≡ next_on context ((system_after x.timers.about.timers m.pass.timers.known.seen).bases base) c.reading
+  next_is e follows joined =
+      ap (λ (u : System). next_on context (u.bases base) (reading_at e.run.clock c.reading.stamp))
+      (system_seen (course_of s e) m.pass.timers.known.seen follows.timers.0 (seen_first m.pass.timers.known.seen joined follows.timers)
+      ∙ sym (ap (λ (o : Opening). system_after o.timers m.pass.timers.known.seen) next.world.timers))
+      ∙ ap (λ r. next_on context ((system_after x.timers.about.timers m.pass.timers.known.seen).bases base) r)
+      (reading_followed l.pass m.pass c.reading c.reads e follows)
+
   -- by its answer
   answer_kept : (answer : ExpireAnswer)
-      → Expires firing x.timers.about base c.reading budget l.pass.timers.known c.runs.before [] m.pass.timers.known c.runs.after c.log answer
-      → KeepsCall s l (calls.Expire base budget) (expire_told c.reading.stamp (claimed_in c.log) answer) m
+      → Expires firing x.timers.about context base c.reading budget l.pass.timers.known c.runs.before [] m.pass.timers.known c.runs.after c.log answer
+      → KeepsCall s l (calls.Expire context base budget) (expire_told c.reading.stamp (claimed_in c.log) answer) m
   answer_kept (expiries.More n) run =
       let ran = callbacks_kept n m.pass.timers.known run.1 in
       keeps_run (λ ts. answers.More c.reading.stamp ts) ran (λ e follows joined kept low have. expire_more e.order kept low have (ran.many ∙ run.0))
@@ -153,17 +158,19 @@ module _ {s : Script} {x : WorldOf} {l m : LaneOf} {a : Answer} {base budget : �
       let none = run.1.2.1 in
       keeps_run (λ ts. answers.Done c.reading.stamp ts) ran
       (λ e follows joined kept low have. expire_done e.order kept low have (omega (arith, ran.many, run.0)) (record {
-        free = λ t. ap (runs_on base) (state_is e follows joined t) ∙ none.idle t;
-        none_due = λ t. ap (is_due_on base (reading_at e.run.clock c.reading.stamp)) (state_is e follows joined t)
-            ∙ ap (λ r. is_due_on base r (timer_then x.timers.about w.seen t)) (reading_followed l.pass m.pass c.reading c.reads e follows) ∙ none.none t;
+        free = λ t. ap (λ u. runs_on base (seen_in context u)) (state_is e follows joined t) ∙ none.idle t;
+        first = next_is e follows joined ∙ none.first;
+        stopped = λ clock. subst (λ (k : ℕ → Timer). IsStopped (in_context context k) base (reading_at e.run.clock c.reading.stamp) clock)
+            (λ i t. sym (state_is e follows joined t) i)
+            (subst (λ r. IsStopped (in_context context (timer_then x.timers.about w.seen)) base r clock)
+            (sym (reading_followed l.pass m.pass c.reading c.reads e follows)) (none.none clock));
       }))
   answer_kept (expiries.BaseBusy n t g) run =
       let ran = run_later (callbacks_kept n run.1.0 run.1.1) run.1.2.0 in
-      let there = running_there base (timer_then x.timers.about m.pass.timers.known.seen t) g run.1.2.1 in
       keeps_run (λ ts. answers.Busy c.reading.stamp ts t g) ran
       (λ e follows joined kept low have. expire_busy e.order kept low have (omega (arith, ran.many, run.0))
-      (ap (λ (u : Timer). u.running) (state_is e follows joined t) ∙ there.0) (ap (λ (u : Timer). u.base) (state_is e follows joined t) ∙ there.1))
+      (ap (λ u. running_on base (seen_in context u)) (state_is e follows joined t) ∙ run.1.2.1))
 
   -- law: a lane keeps an expiry run
-  pub keeps_expire : KeepsCall s l (calls.Expire base budget) a m
-  keeps_expire = subst (λ a. KeepsCall s l (calls.Expire base budget) a m) (sym c.told) (answer_kept c.answer c.runs.expires)
+  pub keeps_expire : KeepsCall s l (calls.Expire context base budget) a m
+  keeps_expire = subst (λ a. KeepsCall s l (calls.Expire context base budget) a m) (sym c.told) (answer_kept c.answer c.runs.expires)

@@ -105,7 +105,7 @@ module _ {s : Script} {x : WorldOf} {q : WorldPass} {notes sorted : NotesOf} {lo
   shapes t = files_lines logs t pairs ∙ ap (λ ns. map entry_note_shape (filter (is_of_list place_of_entry t) ns)) (are_notes logs sorted.entries each_has)
 
   -- law: the record's lines of timers are the receipts of all calls, sorted
-  pub are_filed : AreFiled (record_from sorted (length s.timers) answers) seen (λ c. (logs c).notes) filed_notes
+  pub are_filed : AreFiled (record_from s.version sorted (length s.timers) answers) seen (λ c. (logs c).notes) filed_notes
   are_filed = record {
     rise = λ c. rises_lower 0 (logs c).moves.0 (map (λ y. y.place) (logs c).notes) (omega arith) (left.stand c).rise;
     made = λ c. (left.stand c).made;

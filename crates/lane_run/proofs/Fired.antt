@@ -6,7 +6,14 @@ use Rattle.std.proofs.lemmas.List.{append_assoc, append-nil, map-append}
 use Rattle.std.proofs.lemmas.List.Sorted.{IsPermutation-cons, IsPermutation-to_front, IsPermutation-append_comm, IsPermutation-append_left, IsPermutation-append_right}
 use Rattle.ktime.specs.Readings.{ClockReading}
 use Rattle.pass_names.specs.Passes.{GoesOn}
-use Rattle.seq_timer.specs.Steps.{rearmed_by, reply_to}
+use Rattle.seq_timer.specs.declared.context.Context.{Context}
+use Rattle.seq_timer.specs.declared.context.Declared.{Declared}
+use Rattle.seq_timer.specs.declared.context.Terms.{Terms}
+use Rattle.seq_timer.specs.declared.system.TimerEntry.{TimerEntry}
+use Rattle.seq_timer.specs.Tables.{no_declared, timer_at}
+use Rattle.seq_timer.proofs.Contents.{declared-after_all}
+use Rattle.hr_timers.proofs.Moments.{timer_own}
+use Rattle.seq_timer.specs.Steps.{Timer, rearmed_by, reply_to}
 use Rattle.seq_timer.specs.Systems.{entries_of, openings}
 use Rattle.base_row.specs.declared.view.Opening.{Opening}
 use Rattle.hr_timers.specs.Calls.{ClaimsNextDue}
@@ -22,13 +29,14 @@ use Rattle.timer_objects.specs.Known.{decl_at, ObjectsPass, seen_of}
 use Rattle.timer_objects.specs.Triggers.{trigger_of}
 use Rattle.timer_objects.specs.declared.log.ObjectReceipt.{ObjectReceipt}
 use Rattle.record_text.specs.declared.record.Label.{Label}
+use Rattle.script_text.specs.Histories.{declared_of, declareds_of, terms_of}
 use Rattle.script_text.specs.Actions.{Action, Entered, made}
 use Rattle.script_text.specs.Objects.{kind_of, present}
 use Rattle.script_text.specs.declared.script.Kind.{Kind}
 use Rattle.script_text.specs.declared.script.Script.{Script}
 use Rattle.lane_notes.specs.Entries.{entry_notes, look_notes, restart_noted, entry_note, look_note}
 use Rattle.run_history.specs.Calls.{fires}
-use Rattle.run_history.specs.Courses.{clocks_of, Fired}
+use Rattle.run_history.specs.Courses.{Fired}
 use Rattle.run_history.specs.Receipts.{Noted, receipt}
 use Rattle.run_history.specs.Runs.{course_of, Ending, IsJoined}
 use Rattle.run_history.specs.Truths.{IsObjectPoint}
@@ -81,7 +89,7 @@ HasPoints s e label p q all =
     → AllByRecursion (λ x. x.0 ≤ n) (made i before) → AllByRecursion (λ x. n < x.0) (made i rest) → IsObjectPoint (course_of s e) label before i n
 
 -- callbacks of an expiry run from its beginning on: their actions, as a part of the call, and that they ran in every run that goes on from there
-pub record RunKept (s : Script) (label : Label) (base : ℕ) (reading : ClockReading) (n : ℕ) (k : KnownOfTimers) (p : ObjectsPass) (k' : KnownOfTimers)
+pub record RunKept (s : Script) (label : Label) (context : Context) (base : ℕ) (reading : ClockReading) (n : ℕ) (k : KnownOfTimers) (p : ObjectsPass) (k' : KnownOfTimers)
     (p' : ObjectsPass) (log callback_log : List Receipt) (object_log : List ObjectReceipt) : Type 0 where
   pub fired : List Fired
   pub many : length fired ≡ n
@@ -92,7 +100,7 @@ pub record RunKept (s : Script) (label : Label) (base : ℕ) (reading : ClockRea
   pub have : (e : Ending) → IsJoined s e → promises.GoesOn k'.seen e → ((i : ℕ) → FollowsObject e i (seen_of p' i)) → (later : List Action)
       → ((i : ℕ) → AllByRecursion (λ x. length (seen_of p' i) < x.0) (made i later))
       → HasPoints s e label p p' (flat_map (fires base reading.stamp) fired ++ later)
-      → HaveRun (course_of s e) label e.order base reading.stamp [] (length k.seen) fired notes (length k'.seen)
+      → HaveRun (course_of s e) label e.order context base reading.stamp [] (length k.seen) fired notes (length k'.seen)
 
 -- a run goes on from what was seen of objects before
 follows_before : (p q : ObjectsPass) (e : Ending) → GoesOn p.knows.pass.seen q.knows.pass.seen → ((i : ℕ) → FollowsObject e i (seen_of q i)) → (i : ℕ)
@@ -100,21 +108,33 @@ follows_before : (p q : ObjectsPass) (e : Ending) → GoesOn p.knows.pass.seen q
 follows_before p q e goes_on follows i =
     let its = follows i in record { history = its.history; goes_on = begins_trans (goes_on.each i) its.goes_on; lines = its.lines }
 
+-- as what a timer was opened
+declared-opened : (list : List Declared) (terms : Terms) (t : ℕ) → (timer_at (openings list terms) t).declared ≡ get_or list t no_declared
+declared-opened [] terms t = refl
+declared-opened (d ∷ list) terms zero = refl
+declared-opened (d ∷ list) terms (suc t) = declared-opened list terms t
+
 -- ---- one callback behind them
 
-module _ (s : Script) (x : WorldOf) (is : IsWorldOf s x) (some : 1 ≤ s.limit) (label : Label) (base : ℕ) (reading : ClockReading) where
+module _ (s : Script) (x : WorldOf) (is : IsWorldOf s x) (some : 1 ≤ s.limit) (label : Label) (context : Context) (base : ℕ) (reading : ClockReading) where
   abbrev o : Opening
   o = x.timers.about
 
-  on : o.timers ≡ openings (clocks_of s) s.limit
+  on : o.timers ≡ openings (declareds_of s) (terms_of s)
   on = ap (λ (y : Opening). y.timers) is.timers
 
+  -- a timer is declared as the script says, at all times
+  declared_seen : (at : List TimerEntry) (t : ℕ) → (timer_then o at t).declared ≡ declared_of s t
+  declared_seen at t =
+      ap (λ (u : Timer). u.declared) (timer_own o at t) ∙ declared-after_all (timer_at o.timers t) (entries_of t at)
+      ∙ ap (λ (ts : List Timer). (timer_at ts t).declared) on ∙ declared-opened (declareds_of s) (terms_of s) t
+
   -- a claim
-  claim_made : {k v : KnownOfTimers} {c : ClaimNumbers} → ClaimsNextDue o k v base reading c → IsClaimed base c reading k v
+  claim_made : {k v : KnownOfTimers} {c : ClaimNumbers} → ClaimsNextDue o k v context base reading c → IsClaimed base c reading k v
   claim_made {c = c} claims =
       let event = events.Claim base reading in
       let u = timer_then o claims.at c.timer in
-      let one = enters_once (HasRead reading) o (clocks_of s) s.limit event on claims.made (λ clock has. has) claims.number
+      let one = enters_once (HasRead reading) o (declareds_of s) (terms_of s) event on claims.made (λ clock has. has) claims.number
       (ap (λ g. entries.Claim base reading.stamp (unwrap_or g 0)) claims.armed) in
       let le = count_begins c.timer claims.made.from in
       let own = length-append (entries_of c.timer claims.at) (record { event = event; reply = reply_to u event } ∷ []) in
@@ -140,11 +160,11 @@ module _ (s : Script) (x : WorldOf) (is : IsWorldOf s x) (some : 1 ≤ s.limit) 
       limit = ap (λ y. y.limit) objects ∙ is.limit
 
       by_kind : (kind : Kind) → kind_of s c.timer ≡ kind → BodyKept s label claim restart w h h'
-      by_kind (kinds.Raw callback) same =
-          let run = by_over (kinds.Raw callback) same in
-          let its : callback_at h c.timer ≡ callback_of (kinds.Raw callback) =
+      by_kind (kinds.Raw y callback) same =
+          let run = by_over (kinds.Raw y callback) same in
+          let its : callback_at h c.timer ≡ callback_of (kinds.Raw y callback) =
           ap (λ cs. get_or cs c.timer runs.Once) (handlers ∙ is.callbacks) ∙ declared_callback s.timers c.timer ∙ ap callback_of same in
-          callback_kept s o is.timers some label c reading claim restart w h h' run.1 run.2 callback same
+          callback_kept s o is.timers some label c reading claim restart w h h' run.1 run.2 y callback same
           (subst (λ cb. RunsCallback o v w c reading h.log.receipts h'.log.receipts cb restart) its run.0)
       by_kind (kinds.Posix asked) same =
           let run = by_over (kinds.Posix asked) same in
@@ -158,14 +178,15 @@ module _ (s : Script) (x : WorldOf) (is : IsWorldOf s x) (some : 1 ≤ s.limit) 
   -- a callback ran, with its claim and its finish, in every run that goes on from there
   turn_ran : {k v w k' : KnownOfTimers} {c : ClaimNumbers} {restart : Restart} {h h' : Firing} (claim : IsClaimed base c reading k v)
       (b : BodyKept s label claim restart w h h') (number : ℕ) (rearmed : line_restart.Restart)
+      (own : (declared_of s c.timer).context ≡ context)
       (finish : (n : Noted) × EntersNotes (HasRead reading) w k' (n ∷ [])
       × (receipt n ≡ (c.timer, (number, entries.Finish (asks restart) c.generation rearmed)))) (e : Ending) → IsJoined s e → promises.GoesOn k'.seen e
       → ((i : ℕ) → FollowsObject e i (seen_of h'.objects_pass.now i)) → (before : List Action)
       → ((i : ℕ) → ((j : ℕ) → made j b.body ≡ []) → IsObjectPoint (course_of s e) label
       (with_claim base reading.stamp (fired_of c b.body number (asks restart) rearmed) before) i (length (seen_of h'.objects_pass.now i)))
-      → (ran : expires.Ran (course_of s e) label e.order base reading.stamp before (fired_of c b.body number (asks restart) rearmed) (length k.seen)
+      → (ran : expires.Ran (course_of s e) label e.order context base reading.stamp before (fired_of c b.body number (asks restart) rearmed) (length k.seen)
       (length k'.seen)) × (claim.note ∷ b.notes ++ finish.0 ∷ [] ≡ expires.notes_of ran)
-  turn_ran {k = k} {v = v} {w = w} {k' = k'} {c = c} {restart = restart} claim b number rearmed finish e joined goes follows before points =
+  turn_ran {k = k} {v = v} {w = w} {k' = k'} {c = c} {restart = restart} claim b number rearmed own finish e joined goes follows before points =
       let acted = goes_before finish.1.seen goes in
       let claimed = goes_before b.enters.seen acted in (
         record {
@@ -183,6 +204,7 @@ module _ (s : Script) (x : WorldOf) (is : IsWorldOf s x) (some : 1 ≤ s.limit) 
           body_is = let all = b.part.timers.are in cc;
           finish_made = made_goes_on e.order k'.seen goes.0 (length w.seen) (length k'.seen) (finish.0 ∷ []) goes.1 finish.1.made;
           finish_is = finish.2;
+          own = own;
           kind = b.kind number rearmed;
           holds = b.holds e joined acted (with_claim base reading.stamp (fired_of c b.body number (asks restart) rearmed) before) points;
           span = b.span e follows number rearmed;
@@ -193,9 +215,9 @@ module _ (s : Script) (x : WorldOf) (is : IsWorldOf s x) (some : 1 ≤ s.limit) 
   -- one more callback behind those that ran
   run_more : {n : ℕ} {k : KnownOfTimers} {p : ObjectsPass} {k1 : KnownOfTimers} (h : Firing) {k' : KnownOfTimers} (h' : Firing) {log log' : List Receipt}
       → h.objects.now ≡ x.objects → h.callbacks.now ≡ x.callbacks
-      → RunKept s label base reading n k p k1 h.objects_pass.now log h.log.receipts h.object_log.receipts
-      → Turn firing o base reading k1 h log k' h' log'
-      → RunKept s label base reading (suc n) k p k' h'.objects_pass.now log' h'.log.receipts h'.object_log.receipts
+      → RunKept s label context base reading n k p k1 h.objects_pass.now log h.log.receipts h.object_log.receipts
+      → Turn firing o context base reading k1 h log k' h' log'
+      → RunKept s label context base reading (suc n) k p k' h'.objects_pass.now log' h'.log.receipts h'.object_log.receipts
   run_more {k = k} {p = p} {k1 = k1} h {k' = k'} h' {log = log} objects handlers run turn =
       let c = turn.claim in
       let ran = turn.ran in
@@ -204,8 +226,10 @@ module _ (s : Script) (x : WorldOf) (is : IsWorldOf s x) (some : 1 ≤ s.limit) 
       let claim : IsClaimed base c reading k1 turn.claimed = claim_made turn.claims in
       let b = fires_kept h h' ran.done claim ran.restart objects handlers ran.did in
       let f = fired_of c b.body ran.finished.number restart rearmed in
+      let own : (declared_of s c.timer).context ≡ context =
+      sym (ap (λ (d : Declared). d.context) (declared_seen turn.claims.at c.timer)) ∙ turn.claims.context in
       let u = timer_then o ran.finishes.at c.timer in
-      let finish = enters_once (HasRead reading) o (clocks_of s) s.limit (events.Finish restart) on
+      let finish = enters_once (HasRead reading) o (declareds_of s) (terms_of s) (events.Finish restart) on
       ran.finishes.made (λ clock has. tt) ran.finishes.number
       (ap (λ g. entries.Finish restart (unwrap_or g 0) (restart_noted (rearmed_by u restart))) ran.finishes.runs
       ∙ ap (λ r. entries.Finish restart c.generation (restart_noted r)) (sym ran.finishes.rearmed)) in
@@ -258,7 +282,7 @@ module _ (s : Script) (x : WorldOf) (is : IsWorldOf s x) (some : 1 ≤ s.limit) 
             (part.objects.rise i).above (behind i)))
             (λ i m before rest parts low high below above.
             points i m before rest (whole ∙ parts) low (let le = grows i in omega (arith, high, le)) below above) in
-            let one_run = turn_ran claim b ran.finished.number rearmed finish e joined goes follows done
+            let one_run = turn_ran claim b ran.finished.number rearmed own finish e joined goes follows done
             (λ i none. let le = grows i in
             points i (length (seen_of p' i)) (with_claim base at f done) ((f.body ++ finishing) ++ later)
             (whole ∙ sym (append_assoc done claiming ((f.body ++ finishing) ++ later)))
@@ -266,17 +290,17 @@ module _ (s : Script) (x : WorldOf) (is : IsWorldOf s x) (some : 1 ≤ s.limit) 
             (rw (made-append i done claiming, append-nil (made i done))
             (each_weaker (made i done) (λ x less. omega (arith, less, le)) (run.part.objects.rise i).below))
             (rw (made-append i (f.body ++ finishing) later, made-append i f.body finishing, none i) (behind i))) in
-            rw one_run.1 (run_push (course_of s e) label e.order base at [] done (length k.seen) run.fired run.notes (length k1.seen) f (length k'.seen)
+            rw one_run.1 (run_push (course_of s e) label e.order context base at [] done (length k.seen) run.fired run.notes (length k1.seen) f (length k'.seen)
             before_run refl one_run.0);
       }
 
   -- law: so many turns, from empty logs on
   pub turns_kept : (n : ℕ) (h h' : Firing) (k k' : KnownOfTimers) (log' : List Receipt) → h.objects.now ≡ x.objects → h.callbacks.now ≡ x.callbacks
-      → h.log.receipts ≡ [] → h.object_log.receipts ≡ [] → Turns firing o base reading n k h [] k' h' log'
-      → RunKept s label base reading n k h.objects_pass.now k' h'.objects_pass.now log' h'.log.receipts h'.object_log.receipts
+      → h.log.receipts ≡ [] → h.object_log.receipts ≡ [] → Turns firing o context base reading n k h [] k' h' log'
+      → RunKept s label context base reading n k h.objects_pass.now k' h'.objects_pass.now log' h'.log.receipts h'.object_log.receipts
       × (h'.objects.now ≡ x.objects) × (h'.callbacks.now ≡ x.callbacks)
   turns_kept zero h h' k k' log' objects handlers fresh fresh_objects turns =
-      let none : RunKept s label base reading 0 k h.objects_pass.now k h.objects_pass.now [] [] [] = record {
+      let none : RunKept s label context base reading 0 k h.objects_pass.now k h.objects_pass.now [] [] [] = record {
         fired = [];
         many = refl;
         notes = [];

@@ -23,7 +23,6 @@ use Rattle.record_text.specs.declared.record.Label.{Label}
 use Rattle.script_text.specs.Order.{is_label}
 use Rattle.script_text.specs.declared.script.Declaration.{Declaration}
 use Rattle.script_text.specs.declared.script.Script.{Script}
-use Rattle.run_history.specs.Courses.{clocks_of}
 use Rattle.run_history.specs.Receipts.{IsMade, Noted, receipt}
 use Rattle.run_history.specs.Runs.{CallLog}
 use Rattle.run_history.proofs.Labels.{label_itself, same_label}
@@ -36,7 +35,7 @@ use Rattle.run_history.proofs.Shown.{entry_place}
 use Rattle.lane_run.proofs.Numbered.{AreEachOnce, nobody, as_many, lines_are, none_long, once_from}
 use Rattle.lane_notes.specs.Records.{noted_object_lines, noted_timer_lines, record_from, numbered_from}
 use Rattle.record_text.specs.declared.record.Answer.{Answer}
-use Rattle.script_text.specs.Histories.{lines_of_timer}
+use Rattle.script_text.specs.Histories.{declared_as, declareds_of, lines_of_timer}
 use Rattle.script_text.specs.Objects.{lines_of_object}
 
 -- ---- entries and receipts
@@ -94,7 +93,7 @@ no_number (suc n) = ap one_if (and_right _ _ (lt-leb (suc n) 0 (omega arith)))
 
 module _ {s : Script} {x : WorldOf} {q : WorldPass} (last : AreLastOf s x q) where
   many_timers : length x.timers.about.timers ≡ length s.timers
-  many_timers = ap (λ (o : Opening). length o.timers) last.world.timers ∙ length-map (clocks_of s) _ ∙ length-map s.timers (λ (d : Declaration). d.clock)
+  many_timers = ap (λ (o : Opening). length o.timers) last.world.timers ∙ length-map (declareds_of s) _ ∙ length-map s.timers declared_as
 
   timer_within : (p : ℕ) (e : TimerEntry) → slice_get q.timers.known.seen p ≡ Some e → e.timer < length s.timers
   timer_within p e at = subst (λ n. e.timer < n) many_timers (entry_within _ _ _ q.timers.known.seen p e last.passes.timers.knows.history at)
@@ -137,11 +136,11 @@ module _ {s : Script} {x : WorldOf} {q : WorldPass} (last : AreLastOf s x q) whe
 
     -- law: so the record's lines of a timer, and those of an object, are made of its sorted notes
     pub timer_lines_are : {sorted : NotesOf} → IsSortedFrom notes sorted → (answers : List (List Answer)) (t : ℕ)
-        → lines_of_timer (record_from sorted (length s.timers) answers) t ≡ noted_timer_lines t sorted.entries sorted.looks
+        → lines_of_timer (record_from s.version sorted (length s.timers) answers) t ≡ noted_timer_lines t sorted.entries sorted.looks
     timer_lines_are {sorted = sorted} is answers t = lines_are (λ u. noted_timer_lines u sorted.entries sorted.looks) (length s.timers) t
         (λ past. ap (numbered_from _ 1) (none_long _ (as_many is.entries (entries_once t) ∙ timers_past t past)))
 
     pub object_lines_are : {sorted : NotesOf} → IsSortedFrom notes sorted → (answers : List (List Answer)) (i : ℕ)
-        → lines_of_object (record_from sorted (length s.timers) answers) i ≡ noted_object_lines i sorted.objects sorted.skips
+        → lines_of_object (record_from s.version sorted (length s.timers) answers) i ≡ noted_object_lines i sorted.objects sorted.skips
     object_lines_are {sorted = sorted} is answers i = lines_are (λ j. noted_object_lines j sorted.objects sorted.skips) (length s.timers) i
         (λ past. ap (numbered_from _ 1) (none_long _ (as_many is.objects (objects_once i) ∙ ap length (objects_past i past))))

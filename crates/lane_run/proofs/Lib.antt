@@ -51,3 +51,4 @@ pub mod HungLines
 pub mod Ended
 pub mod RunFits
 pub mod Starts
+pub mod Greatest

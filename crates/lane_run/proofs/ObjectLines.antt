@@ -82,7 +82,7 @@ raw_none clock spans to (h ∷ hs) lines leads are = absurd leads.0.allowed
 legal_lines : (s : Script) (r : RunRecord) (i : ℕ) (hs : List ObjectMove) (cell : ObjectCell) (spans : ℕ → ℕ × ℕ)
     → AreObjectLines r.clock spans 1 hs (lines_of_object r i) → (k : Kind) → Leads cell_meaning (opened_cell s.limit (decl_as k (clock_of s i))) hs cell
     → IsLegalObject s r i k
-legal_lines s r i hs cell spans are (kinds.Raw callback) leads = raw_none r.clock spans cell hs (lines_of_object r i) leads are
+legal_lines s r i hs cell spans are (kinds.Raw context callback) leads = raw_none r.clock spans cell hs (lines_of_object r i) leads are
 legal_lines s r i hs cell spans are (kinds.Posix base) leads =
     legal posix_kind r.clock spans 1 (posix_opening (clock_of s i) base s.limit) 0 cell hs (lines_of_object r i) leads are
 legal_lines s r i hs cell spans are (kinds.Fd base) leads =
@@ -108,7 +108,7 @@ object_leads {s = s} {x = x} {q = q} last i = ⊎_elim
 module _ {s : Script} {x : WorldOf} {q : WorldPass} {notes sorted : NotesOf} {logs : Label → CallLog} (last : AreLastOf s x q) (left : AreLeft s q notes logs)
     (is : IsSortedFrom notes sorted) (answers : List (List Answer)) where
   abbrev r : RunRecord
-  r = record_from sorted (length s.timers) answers
+  r = record_from s.version sorted (length s.timers) answers
 
   shown : (i : ℕ) → ShowNotes place_of_object (λ y. y.label) (λ y. y.entry) (λ n. n.entry) (lines_of_object r i)
       (filter (is_of_list place_of_object i) sorted.objects)

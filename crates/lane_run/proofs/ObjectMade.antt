@@ -64,7 +64,7 @@ use Rattle.timer_setting.specs.declared.phase.Phase.{Phase}
 
 -- how an object after its first so many entries has armed its timer
 armed_after : (s : Script) (r : RunRecord) (i n : ℕ) (k : Kind) → object_armed_after s r i n k ≡ armed_in_phase (phase_of (object_after s r i n k))
-armed_after s r i n (kinds.Raw callback) = refl
+armed_after s r i n (kinds.Raw context callback) = refl
 armed_after s r i n k = refl
 
 module _ {s : Script} {x : WorldOf} {l : LaneOf} (m : LaneOf) {call : Call} (next : IsNextCall s x l call) {timer : ℕ} {log : List Receipt}

@@ -143,7 +143,7 @@ module _ {S C R : Type 0} (k : LineKind S C R) (clock : List ClockLine) (spans :
 
 -- an object of this kind after its first so many entries
 abbrev pub object_after : Script → RunRecord → ℕ → ℕ → Kind → Object
-object_after s r i n (kinds.Raw callback) = objects.Raw
+object_after s r i n (kinds.Raw context callback) = objects.Raw
 object_after s r i n (kinds.Posix base) = objects.Posix (posix_after s r i base n)
 object_after s r i n (kinds.Fd base) = objects.Fd (fd_after s r i base n)
 
@@ -165,7 +165,7 @@ module _ (s : Script) (x : WorldOf) (world : IsWorldOf s x) (i : ℕ) (seen : Li
     object_seen = by_kind (kind_of s i) refl
       where
         by_kind : (k : Kind) → kind_of s i ≡ k → cell.object ≡ object_after s e.run i (length seen) k
-        by_kind (kinds.Raw callback) is = raw_leads 0 seen cell (leads_from (kinds.Raw callback) is)
+        by_kind (kinds.Raw context callback) is = raw_leads 0 seen cell (leads_from (kinds.Raw context callback) is)
         by_kind (kinds.Posix base) is =
             leads_to posix_kind e.run.clock (e.spans i) 1 (posix_opening (clock_of s i) base s.limit) 0 seen follows.goes_on.rest
             (lines_of_object e.run i) cell (leads_from (kinds.Posix base) is) shown

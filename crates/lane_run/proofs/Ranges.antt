@@ -3,7 +3,7 @@ use Rattle.std.proofs.Common.{◌≡◌, ◌<◌, ◌≢◌, ℕ, zero, suc, tru
 use Rattle.std.specs.List.{AllByRecursion}
 use Rattle.std.proofs.lemmas.List.{length-map}
 use Rattle.record_text.proofs.Lists.{All-back, All-front}
-use Rattle.ktime.specs.declared.mode.Mode.TheVariants as modes
+use Rattle.seq_timer.specs.declared.context.Context.{Context}
 use Rattle.base_row.specs.declared.view.Opening.{Opening}
 use Rattle.timer_objects.specs.declared.object.Kind as object_kind
 use Rattle.timer_objects.specs.declared.object.Kind.TheVariants as over
@@ -39,31 +39,29 @@ module _ {s : Script} {x : WorldOf} (range : IsInRange s) (is : IsWorldOf s x) w
 
   -- what holds of each kind that a form's call may be on holds of the object's
   on_object : (t : ℕ) (form : Form) (Q : object_kind.Kind → Type 0) → HasTimerFor s.timers t form
-      → ((c : Callback) → suits form (kinds.Raw c) ≡ true → Q over.Raw) → ((b : ℕ) → suits form (kinds.Posix b) ≡ true → Q over.Posix)
+      → ((y : Context) (c : Callback) → suits form (kinds.Raw y c) ≡ true → Q over.Raw) → ((b : ℕ) → suits form (kinds.Posix b) ≡ true → Q over.Posix)
       → ((b : ℕ) → suits form (kinds.Fd b) ≡ true → Q over.Fd) → (t < length x.objects.decls) × Q (decl_at x.objects t).kind
   on_object t form Q has raw posix fd = (object_there has.0, subst Q (sym (declared_over s x t is)) (by_kind (kind_of s t) has.1))
     where
       by_kind : (k : Kind) → suits form k ≡ true → Q (over_of k)
-      by_kind (kinds.Raw c) e = raw c e
+      by_kind (kinds.Raw y c) e = raw y c e
       by_kind (kinds.Posix b) e = posix b e
       by_kind (kinds.Fd b) e = fd b e
 
   can_call : (c : Call) → IsCallInRange s.bases s.timers c → CanCall x c
-  can_call (calls.Start timer modes.Keep ns base) ok = absurd ok
-  can_call (calls.Start timer (modes.Abs) ns base) ok = (timer_there ok.0.0, base_there ok.1)
-  can_call (calls.Start timer (modes.Rel) ns base) ok = (timer_there ok.0.0, base_there ok.1)
+  can_call (calls.Start timer request) ok = (timer_there ok.0.0, base_there ok.1)
   can_call (calls.Cancel timer) ok = timer_there ok.0
   can_call (calls.Peek timer) ok = timer_there ok.0
-  can_call (calls.Expire base budget) ok = (base_there ok.0, ok.1)
+  can_call (calls.Expire context base budget) ok = (base_there ok.0, ok.1)
   can_call (calls.Clock write) ok = tt
   can_call (calls.Settime timer flags value interval) ok =
-      on_object timer forms.Settime (λ k. k ≢ over.Raw) ok (λ c e. absurd cc) (λ b e raw. absurd cc) (λ b e raw. absurd cc)
+      on_object timer forms.Settime (λ k. k ≢ over.Raw) ok (λ y c e. absurd cc) (λ b e raw. absurd cc) (λ b e raw. absurd cc)
   can_call (calls.Gettime timer) ok =
-      on_object timer forms.Gettime (λ k. k ≢ over.Raw) ok (λ c e. absurd cc) (λ b e raw. absurd cc) (λ b e raw. absurd cc)
-  can_call (calls.Accept timer) ok = on_object timer forms.Accept (λ k. k ≡ over.Posix) ok (λ c e. absurd cc) (λ b e. refl) (λ b e. absurd cc)
-  can_call (calls.Overrun timer) ok = on_object timer forms.Overrun (λ k. k ≡ over.Posix) ok (λ c e. absurd cc) (λ b e. refl) (λ b e. absurd cc)
-  can_call (calls.Read timer len) ok = on_object timer forms.Read (λ k. k ≡ over.Fd) ok (λ c e. absurd cc) (λ b e. absurd cc) (λ b e. refl)
-  can_call (calls.Readable timer) ok = on_object timer forms.Readable (λ k. k ≡ over.Fd) ok (λ c e. absurd cc) (λ b e. absurd cc) (λ b e. refl)
+      on_object timer forms.Gettime (λ k. k ≢ over.Raw) ok (λ y c e. absurd cc) (λ b e raw. absurd cc) (λ b e raw. absurd cc)
+  can_call (calls.Accept timer) ok = on_object timer forms.Accept (λ k. k ≡ over.Posix) ok (λ y c e. absurd cc) (λ b e. refl) (λ b e. absurd cc)
+  can_call (calls.Overrun timer) ok = on_object timer forms.Overrun (λ k. k ≡ over.Posix) ok (λ y c e. absurd cc) (λ b e. refl) (λ b e. absurd cc)
+  can_call (calls.Read timer len) ok = on_object timer forms.Read (λ k. k ≡ over.Fd) ok (λ y c e. absurd cc) (λ b e. absurd cc) (λ b e. refl)
+  can_call (calls.Readable timer) ok = on_object timer forms.Readable (λ k. k ≡ over.Fd) ok (λ y c e. absurd cc) (λ b e. absurd cc) (λ b e. refl)
 
   -- so can those of each round
   pub round_can : (rs : List Round) (i : ℕ) (r : Round) → i < length rs

@@ -47,16 +47,16 @@ keeps_gettime {s = s} {x = x} {l = l} {m = m} {a = a} {timer = timer} next calle
         × (a ≡ gettime_told k reading.stamp called.0))
 
     by_kind : (k : Kind) → kind_of s timer ≡ k → CallsFor (over_of k) → KeepsCall s l (calls.Gettime timer) a m
-    by_kind (kinds.Raw callback) is c = absurd c.does.0
+    by_kind (kinds.Raw context callback) is c = absurd c.does.0
     by_kind (kinds.Posix base) is c = keeps_gettime-posix next is called.0 c
     by_kind (kinds.Fd base) is c = keeps_gettime-fd next is called.0 c
 
 -- law: a lane keeps each call
 pub keeps_call : (s : Script) (x : WorldOf) → KeepsEach s x
-keeps_call s x l m (calls.Start timer mode ns base) a next c = keeps_start next c
+keeps_call s x l m (calls.Start timer request) a next c = keeps_start next c
 keeps_call s x l m (calls.Cancel timer) a next c = keeps_cancel next c
 keeps_call s x l m (calls.Peek timer) a next c = keeps_peek next c
-keeps_call s x l m (calls.Expire base budget) a next c = keeps_expire next c
+keeps_call s x l m (calls.Expire context base budget) a next c = keeps_expire next c
 keeps_call s x l m (calls.Clock write) a next c = keeps_write next c
 keeps_call s x l m (calls.Settime timer flags value interval) a next c = keeps_settime next c
 keeps_call s x l m (calls.Gettime timer) a next c = keeps_gettime next c
@@ -79,7 +79,7 @@ run_recorded s x p r q range world first passes last run =
     let whole = whole_of s x range world in
     let left = left_by_rounds s x p q run.left (keeps_call s x) world range whole first run.rounds in
     let of : AreLastOf s x q = record { range = range; world = world; whole = whole; passes = passes; last = last } in
-    let record_is = record_from run.sorted (length s.timers) run.left.answers in
+    let record_is = record_from s.version run.sorted (length s.timers) run.left.answers in
     let e = ending_of record_is q left.0 left.1 in
     subst (λ y. IsWholeRecord s y q) (sym run.shows) (record {
       fits = run_fits s record_is (is_run of left.2 run.in_order run.left.answers left.1 left.3);

@@ -63,13 +63,13 @@ checked unknown value interval = by_tests (nat_eq unknown 0) (is_bad value || is
 -- law: what an object takes are valid arguments
 pub valid_for : (k : Kind) (d : object_kind.Kind) (flags : ℕ) (value interval : TimeSpec) → d ≡ over_of k → AreValidFor k flags value interval
     → AreValid (bits_beyond (flags_of d) flags) value interval
-valid_for (kinds.Raw callback) d flags value interval is valid = absurd valid
+valid_for (kinds.Raw context callback) d flags value interval is valid = absurd valid
 valid_for k d flags value interval is valid = subst (λ o. AreValid (bits_beyond (flags_of o) flags) value interval) (sym is) valid
 
 -- law: an object takes valid arguments, and its settime's flags give how its value is meant
 pub takes_valid : (k : Kind) (d : object_kind.Kind) (flags : ℕ) (value interval : TimeSpec) → d ≡ over_of k → (over_of k ≡ over.Raw → ⊥)
     → (AreValid (bits_beyond (flags_of d) flags) value interval → AreValidFor k flags value interval) × (start_mode k flags ≡ mode_by flags)
-takes_valid (kinds.Raw callback) d flags value interval is object = absurd (object refl)
+takes_valid (kinds.Raw context callback) d flags value interval is object = absurd (object refl)
 takes_valid k d flags value interval is object = (λ valid. subst (λ o. AreValid (bits_beyond (flags_of o) flags) value interval) is valid, refl)
 
 -- law: what was seen over a timer by itself is no object, and it has no entries

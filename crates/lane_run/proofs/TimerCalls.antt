@@ -1,7 +1,6 @@
 -- Cancels and starts of timers by themselves, as their lanes keep them.
 use Rattle.std.proofs.Common.{◌≡◌, ℕ, ◌+◌, unwrap_or, List, [], ◌∷◌, length, map, refl, sym, ap, ◌∙◌, subst}
 use Rattle.ktime.specs.Readings.{ClockReading}
-use Rattle.ktime.specs.declared.mode.Mode.{Mode}
 use Rattle.clock_cell.specs.Views.{writes}
 use Rattle.seq_timer.specs.declared.event.Event.TheVariants as events
 use Rattle.seq_timer.specs.declared.event.Event.{Event}
@@ -19,15 +18,15 @@ use Rattle.record_text.specs.declared.record.Answer.TheVariants as answers
 use Rattle.record_text.specs.declared.record.Answer.{Answer}
 use Rattle.record_text.specs.declared.record.Entry.TheVariants as entries
 use Rattle.record_text.specs.declared.record.ClockLine.{ClockLine}
+use Rattle.script_text.specs.declared.script.StartRequest.{StartRequest}
 use Rattle.script_text.specs.Actions.{Entered}
-use Rattle.script_text.specs.Histories.{reading_at}
+use Rattle.script_text.specs.Histories.{declareds_of, reading_at, terms_of}
 use Rattle.script_text.specs.Starts.{arming_actions, was_armed_before}
 use Rattle.script_text.specs.declared.script.Call.TheVariants as calls
 use Rattle.script_text.specs.declared.script.Script.{Script}
-use Rattle.run_history.specs.Courses.{clocks_of}
 use Rattle.run_history.specs.Receipts.{receipt}
 use Rattle.run_history.proofs.OthersMade.{cancelled_made, plain, started_made}
-use Rattle.lane_run.specs.Called.{CallsCancel, CallsStart, cancel_receipts, cancel_told, LaneOf, ReadsClock, start_receipts, start_told, with_done}
+use Rattle.lane_run.specs.Called.{asked_in, CallsCancel, CallsStart, cancel_receipts, cancel_told, LaneOf, ReadsClock, start_receipts, start_told, with_done}
 use Rattle.lane_run.proofs.Kept.{IsNextCall, KeepsCall}
 use Rattle.lane_run.specs.Worlds.{WorldOf}
 use Rattle.lane_run.proofs.Entering.{enters_along}
@@ -57,7 +56,7 @@ cancel_kept {s = s} {x = x} {l = l} {m = m} {timer = timer} next clock (cancels.
     let number : u.stamp + 1 ≡ n = sym c.fits.3 in
     let made : MadeAt v w timer c.at (entries_along u es) =
     subst (λ k. MadeAt v w timer c.at (record { event = events.Cancel; reply = replies.Cancel k } ∷ [])) (sym generation) c.made in
-    let along = enters_along (λ clock. Unit) o (clocks_of s) s.limit es (opened_timers next) made (λ clock so. (tt, tt)) in
+    let along = enters_along (λ clock. Unit) o (declareds_of s) (terms_of s) es (opened_timers next) made (λ clock so. (tt, tt)) in
     let are : map receipt along.notes ≡ (timer, (n, entries.Cancel g)) ∷ [] =
     along.are ∙ ap (λ k. (timer, (u.stamp + 1, entries.Cancel k)) ∷ []) generation ∙ ap (λ k. (timer, (k, entries.Cancel g)) ∷ []) number in
     keeps_entered next m (answers.Cancelled g) (cancel_receipts timer (cancels.Cancelled g n))
@@ -73,40 +72,40 @@ keeps_cancel {s = s} {l = l} {m = m} {timer = timer} next c =
 
 -- ---- start
 
-start_kept : {s : Script} {x : WorldOf} {l m : LaneOf} {timer ns base : ℕ} {mode : Mode} (next : IsNextCall s x l (calls.Start timer mode ns base))
+start_kept : {s : Script} {x : WorldOf} {l m : LaneOf} {timer : ℕ} {request : StartRequest} (next : IsNextCall s x l (calls.Start timer request))
     (reading : ClockReading) → ReadsClock l.pass m.pass reading → (answer : StartAnswer)
-    → StartsTimer x.timers.about l.pass.timers.known m.pass.timers.known timer mode ns base reading answer → m.pass.objects ≡ l.pass.objects
-    → m.notes ≡ with_done l.notes l.label (start_receipts timer mode ns base reading answer) []
-    → KeepsCall s l (calls.Start timer mode ns base) (start_told answer) m
-start_kept {s = s} {x = x} {l = l} {m = m} {timer = timer} {ns = ns} {base = base} {mode = mode} next reading reads (starts.Spent n) c objects notes =
+    → StartsTimer x.timers.about l.pass.timers.known m.pass.timers.known timer (asked_in request reading) answer → m.pass.objects ≡ l.pass.objects
+    → m.notes ≡ with_done l.notes l.label (start_receipts timer (asked_in request reading) answer) []
+    → KeepsCall s l (calls.Start timer request) (start_told answer) m
+start_kept {s = s} {x = x} {l = l} {m = m} {timer = timer} {request = request} next reading reads (starts.Spent n) c objects notes =
     keeps_quiet next (answers.Spent n) (looks_at c.made objects (clock_read reads.looks) (notes_alone l m refl refl notes)) refl refl
     (λ e follows joined. (
       saw_quiet next m.pass c.made n observations.Spent c.fits.2 c.fits.1 e follows joined,
       still_quiet next m.pass c.made c.fits.0 e follows joined,
     ))
-start_kept {s = s} {x = x} {l = l} {m = m} {timer = timer} {ns = ns} {base = base} {mode = mode} next reading reads
-    (starts.Started was generation on outs clock expires) c objects notes =
+start_kept {s = s} {x = x} {l = l} {m = m} {timer = timer} {request = request} next reading reads
+    (starts.Started was generation outs placed) c objects notes =
     let v = l.pass.timers.known in
     let w = m.pass.timers.known in
     let o = x.timers.about in
     let u = timer_then o c.at timer in
-    let answer = starts.Started was generation on outs clock expires in
-    let es = start_events u mode ns base reading in
+    let answer = starts.Started was generation outs placed in
+    let es = start_events u (asked_in request reading) in
     let IsSo : List ClockLine → Type 0 = λ clock. reading_at clock reading.stamp ≡ reading in
-    let so = started_so u timer mode ns base reading answer c.fits.2 in
-    let along = enters_along IsSo o (clocks_of s) s.limit es (opened_timers next) c.made
-    (λ clock has. start_reads mode ns base reading clock (moves_first u base) has) in
-    let actions = arming_actions timer mode ns reading.stamp base so.arming in
-    subst (λ a. KeepsCall s l (calls.Start timer mode ns base) a m) (sym so.told)
+    let so = started_so u timer request reading answer c.fits.2 in
+    let along = enters_along IsSo o (declareds_of s) (terms_of s) es (opened_timers next) c.made
+    (λ clock has. start_reads request reading clock (moves_first u request.base) has) in
+    let actions = arming_actions timer request reading.stamp so.arming in
+    subst (λ a. KeepsCall s l (calls.Start timer request) a m) (sym so.told)
     (keeps_entered next m (answers.Started so.arming.number so.arming.base (was_armed_before so.arming.out so.arming.was_armed))
-    (start_receipts timer mode ns base reading answer) (plain reading.stamp (length v.seen) (length w.seen) actions) along.enters (reading_goes_on l.pass m.pass reading reads) (clock_read reads.looks)
+    (start_receipts timer (asked_in request reading) answer) (plain reading.stamp (length v.seen) (length w.seen) actions) along.enters (reading_goes_on l.pass m.pass reading reads) (clock_read reads.looks)
     objects notes so.only (along.are ∙ so.lines)
     (along.are ∙ so.lines ∙ sym (so.notes l.label)) (so.no_looks l.label) refl reads.count refl
-    (λ e follows joined has kept low. started_made timer ns base mode so.arming kept low so.just))
+    (λ e follows joined has kept low. started_made timer request so.arming kept low so.just))
 
 -- law: a lane keeps a start
-pub keeps_start : {s : Script} {x : WorldOf} {l m : LaneOf} {a : Answer} {timer ns base : ℕ} {mode : Mode}
-    → IsNextCall s x l (calls.Start timer mode ns base) → CallsStart x l m a timer mode ns base → KeepsCall s l (calls.Start timer mode ns base) a m
-keeps_start {s = s} {l = l} {m = m} {timer = timer} {ns = ns} {base = base} {mode = mode} next c =
-    subst (λ a. KeepsCall s l (calls.Start timer mode ns base) a m) (sym c.told)
+pub keeps_start : {s : Script} {x : WorldOf} {l m : LaneOf} {a : Answer} {timer : ℕ} {request : StartRequest}
+    → IsNextCall s x l (calls.Start timer request) → CallsStart x l m a timer request → KeepsCall s l (calls.Start timer request) a m
+keeps_start {s = s} {l = l} {m = m} {timer = timer} {request = request} next c =
+    subst (λ a. KeepsCall s l (calls.Start timer request) a m) (sym c.told)
     (start_kept next c.reading c.reads c.answer c.starts c.objects c.notes)

@@ -1,12 +1,13 @@
 -- What each call of a lane does and answers: what its passes know before and after it, and what it notes.
 use Rattle.std.specs.Prelude.{ℕ, ◌≡◌, ◌-◌, Bool, true, false, nat_eq, if◌then◌else◌, List, [], ◌∷◌, ◌++◌, length, Result, Ok, Err}
 use Rattle.ktime.specs.Readings.{ClockReading}
-use Rattle.ktime.specs.declared.mode.Mode.{Mode}
 use Rattle.clock_model.specs.declared.write.ClockFault.TheVariants as faults
 use Rattle.clock_model.specs.declared.write.Write.{Write}
 use Rattle.clock_cell.specs.Views.{AnswersWrite, seen_reading, writes}
 use Rattle.pass_names.specs.Passes.{Looks}
 use Rattle.seq_timer.specs.declared.event.Event.TheVariants as events
+use Rattle.seq_timer.specs.declared.event.Asked.{Asked}
+use Rattle.timer_core.specs.Answers.{asked_for}
 use Rattle.timer_core.specs.declared.answer.CancelAnswer.{CancelAnswer}
 use Rattle.timer_core.specs.declared.answer.CancelAnswer.TheVariants as cancels
 use Rattle.hr_timers.specs.declared.answer.StartAnswer.{StartAnswer}
@@ -40,6 +41,9 @@ use Rattle.timer_objects.specs.declared.object.Kind.{Kind}
 use Rattle.timer_objects.specs.declared.object.Kind.TheVariants as over
 use Rattle.timer_objects.specs.Known.{decl_at}
 use Rattle.record_text.specs.declared.record.ClockLine.{ClockLine}
+use Rattle.script_text.specs.Starts.{asked_slack}
+use Rattle.script_text.specs.declared.script.StartRequest.{StartRequest}
+use Rattle.seq_timer.specs.declared.context.Context.{Context}
 use Rattle.script_text.specs.Actions.{also}
 use Rattle.script_text.specs.declared.script.Call.{Call}
 use Rattle.script_text.specs.declared.script.Call.TheVariants as calls
@@ -99,22 +103,22 @@ abbrev pub entry_receipt : ℕ → ℕ → Event → Reply → Receipt
 entry_receipt timer number event reply = record { timer = timer; number = number; event = event; reply = noteds.Entry reply }
 
 -- the receipt of a start that was made; the timer was armed before it, and on this base
-abbrev pub started_receipt : ℕ → Mode → ℕ → ℕ → ClockReading → Bool → StartAnswer → List Receipt
-started_receipt timer mode ns asked reading armed (starts.Started was_armed generation base outs clock expires) =
-    entry_receipt timer generation (events.Start mode ns reading asked) (replies.Start base clock expires armed) ∷ []
-started_receipt timer mode ns asked reading armed (starts.Spent stamp) = []
+abbrev pub started_receipt : ℕ → Asked → Bool → StartAnswer → List Receipt
+started_receipt timer asked armed (starts.Started was_armed generation outs placement) =
+    entry_receipt timer generation (events.Start asked) (replies.Start placement armed) ∷ []
+started_receipt timer asked armed (starts.Spent stamp) = []
 
 -- the receipts of a start: of an Out too where it moved the timer, which is then not armed any more
-abbrev pub start_receipts : ℕ → Mode → ℕ → ℕ → ClockReading → StartAnswer → List Receipt
-start_receipts timer mode ns asked reading (starts.Started was_armed generation base outs clock expires) =
+abbrev pub start_receipts : ℕ → Asked → StartAnswer → List Receipt
+start_receipts timer asked (starts.Started was_armed generation outs placement) =
     if nat_eq outs 0
-    then started_receipt timer mode ns asked reading was_armed (starts.Started was_armed generation base outs clock expires)
-    else entry_receipt timer (generation - 1) (events.Out asked) (replies.Out was_armed)
-    ∷ started_receipt timer mode ns asked reading false (starts.Started was_armed generation base outs clock expires)
-start_receipts timer mode ns asked reading (starts.Spent stamp) = []
+    then started_receipt timer asked was_armed (starts.Started was_armed generation outs placement)
+    else entry_receipt timer (generation - 1) (events.Out asked.base) (replies.Out was_armed)
+    ∷ started_receipt timer asked false (starts.Started was_armed generation outs placement)
+start_receipts timer asked (starts.Spent stamp) = []
 
 abbrev pub start_told : StartAnswer → Answer
-start_told (starts.Started was_armed generation base outs clock expires) = answers.Started generation base was_armed
+start_told (starts.Started was_armed generation outs placement) = answers.Started generation placement.base was_armed
 start_told (starts.Spent stamp) = answers.Spent stamp
 
 -- the receipt of a cancel
@@ -189,14 +193,18 @@ read_told reads.Again = answers.Again
 
 -- ---- the calls
 
+-- what the request of a start line asks for, by a reading
+abbrev pub asked_in : StartRequest → ClockReading → Asked
+asked_in request reading = asked_for request.mode request.ns (asked_slack request) request.base reading
+
 module _ (x : WorldOf) (l m : LaneOf) (a : Answer) where
-  pub record CallsStart (timer : ℕ) (mode : Mode) (ns base : ℕ) : Type 0 where
+  pub record CallsStart (timer : ℕ) (request : StartRequest) : Type 0 where
     pub reading : ClockReading
     pub reads : ReadsClock l.pass m.pass reading
     pub answer : StartAnswer
-    pub starts : StartsTimer x.timers.about l.pass.timers.known m.pass.timers.known timer mode ns base reading answer
+    pub starts : StartsTimer x.timers.about l.pass.timers.known m.pass.timers.known timer (asked_in request reading) answer
     pub objects : m.pass.objects ≡ l.pass.objects
-    pub notes : m.notes ≡ with_done l.notes l.label (start_receipts timer mode ns base reading answer) []
+    pub notes : m.notes ≡ with_done l.notes l.label (start_receipts timer (asked_in request reading) answer) []
     pub told : a ≡ start_told answer
 
   pub record CallsCancel (timer : ℕ) : Type 0 where
@@ -227,14 +235,14 @@ module _ (x : WorldOf) (l m : LaneOf) (a : Answer) where
 
   -- ---- expiry runs
 
-  pub record CallsExpire (base budget : ℕ) : Type 0 where
+  pub record CallsExpire (context : Context) (base budget : ℕ) : Type 0 where
     pub reading : ClockReading
     pub reads : ReadsClock l.pass m.pass reading
     pub log : List Receipt
     pub callback_log : List Receipt
     pub object_log : List ObjectReceipt
     pub answer : ExpireAnswer
-    pub runs : RunsGated x l.pass.timers.known l.pass.objects m.pass.timers.known m.pass.objects base budget reading log callback_log object_log answer
+    pub runs : RunsGated x l.pass.timers.known l.pass.objects m.pass.timers.known m.pass.objects context base budget reading log callback_log object_log answer
     pub notes : m.notes ≡ with_done l.notes l.label (log ++ callback_log) object_log
     pub told : a ≡ expire_told reading.stamp (claimed_in log) answer
 
@@ -256,10 +264,10 @@ module _ (x : WorldOf) (l m : LaneOf) (a : Answer) where
 
 -- what a call does and answers
 abbrev pub Called : WorldOf → LaneOf → Call → Answer → LaneOf → Type 0
-Called x l (calls.Start timer mode ns base) a m = CallsStart x l m a timer mode ns base
+Called x l (calls.Start timer request) a m = CallsStart x l m a timer request
 Called x l (calls.Cancel timer) a m = CallsCancel x l m a timer
 Called x l (calls.Peek timer) a m = CallsPeek x l m a timer
-Called x l (calls.Expire base budget) a m = CallsExpire x l m a base budget
+Called x l (calls.Expire context base budget) a m = CallsExpire x l m a context base budget
 Called x l (calls.Clock write) a m = CallsWrite x l m a write
 Called x l (calls.Settime timer flags value interval) a m =
     (s : SettimeAnswer) × (a ≡ settime_told s)

@@ -1,5 +1,6 @@
 -- An expiry run by a lane's passes, whose functions trigger objects by a pass that is lent to it.
 use Rattle.std.specs.Prelude.{ℕ, ◌≡◌, List, []}
+use Rattle.seq_timer.specs.declared.context.Context.{Context}
 use Rattle.ktime.specs.Readings.{ClockReading}
 use Rattle.expire_pass.specs.declared.expiry.ExpireAnswer.{ExpireAnswer}
 use Rattle.expire_pass.specs.declared.log.Receipt.{Receipt}
@@ -14,11 +15,11 @@ use Rattle.timer_objects.specs.Known.{ObjectsPass}
 use Rattle.lane_run.specs.Worlds.{WorldOf}
 
 -- The handler was lent a pass of objects, and began with empty logs; these are the logs of the run, of callbacks and of objects.
-pub record RunsGated (x : WorldOf) (v : KnownOfTimers) (p : ObjectsPass) (w : KnownOfTimers) (q : ObjectsPass) (base budget : ℕ)
+pub record RunsGated (x : WorldOf) (v : KnownOfTimers) (p : ObjectsPass) (w : KnownOfTimers) (q : ObjectsPass) (context : Context) (base budget : ℕ)
     (reading : ClockReading) (log callback_log : List Receipt) (object_log : List ObjectReceipt) (answer : ExpireAnswer) : Type 0 where
   pub before : Firing
   pub after : Firing
-  pub expires : Expires firing x.timers.about base reading budget v before [] w after log answer
+  pub expires : Expires firing x.timers.about context base reading budget v before [] w after log answer
   pub objects : before.objects.now ≡ x.objects
   pub callbacks : before.callbacks.now ≡ x.callbacks
   pub pass : before.objects_pass.now ≡ p
@@ -31,9 +32,9 @@ pub record KeepsName (p q : ObjectsPass) : Type 0 where
   pub id : q.knows.pass.id ≡ p.knows.pass.id
 
 -- a run with a handler of objects, and what it leaves of it
-pub record RunsWith (o : Opening) (base : ℕ) (reading : ClockReading) (budget : ℕ) (v : KnownOfTimers) (h : Firing) (log : List Receipt)
+pub record RunsWith (o : Opening) (context : Context) (base : ℕ) (reading : ClockReading) (budget : ℕ) (v : KnownOfTimers) (h : Firing) (log : List Receipt)
     (w : KnownOfTimers) (h' : Firing) (log' : List Receipt) (answer : ExpireAnswer) : Type 0 where
-  pub expires : Expires firing o base reading budget v h log w h' log' answer
+  pub expires : Expires firing o context base reading budget v h log w h' log' answer
   pub leaves : LeavesPass h h'
 
 -- a function has run by a handler that was lent one of objects, and has it still

@@ -33,7 +33,7 @@ pub record MakesRun (x : WorldOf) (s : Script) (p : WorldPass) (r : RunRecord) (
   pub rounds : MakesRounds x s.rounds p (none_left s.lanes) q left
   pub sorted : NotesOf
   pub in_order : IsSortedFrom left.notes sorted
-  pub shows : r ≡ record_from sorted (length s.timers) left.answers
+  pub shows : r ≡ record_from s.version sorted (length s.timers) left.answers
 
 -- ---- what it shows
 

@@ -16,6 +16,7 @@ use Rattle.timer_objects.specs.declared.object.Kind.TheVariants as over
 use Rattle.timer_objects.specs.Callbacks.{bases_of}
 use Rattle.timer_objects.specs.Cells.{opened_cells}
 use Rattle.timer_objects.specs.Known.{IsObjectsPass, ObjectsOf, Suits, decl_at}
+use Rattle.script_text.specs.Histories.{declareds_of, terms_of}
 use Rattle.script_text.specs.Scripts.{most_budget}
 use Rattle.script_text.specs.declared.script.Call.{Call}
 use Rattle.script_text.specs.declared.script.Call.TheVariants as calls
@@ -24,7 +25,6 @@ use Rattle.script_text.specs.declared.script.Declaration.{Declaration}
 use Rattle.script_text.specs.declared.script.Kind.{Kind}
 use Rattle.script_text.specs.declared.script.Kind.TheVariants as kinds
 use Rattle.script_text.specs.declared.script.Script.{Script}
-use Rattle.run_history.specs.Courses.{clocks_of}
 use Rattle.lane_run.specs.declared.world.WorldPass.{WorldPass}
 
 -- the timers, objects and clock that lanes share, and the callbacks of the timers
@@ -38,16 +38,16 @@ pub record WorldOf : Type 0 where
 
 -- the callback of a timer by itself; that of an object's timer isn't run
 abbrev pub callback_of : Kind → Callback
-callback_of (kinds.Raw callbacks.Once) = runs.Once
-callback_of (kinds.Raw (callbacks.Every interval)) = runs.Every interval
-callback_of (kinds.Raw callbacks.Cancels) = runs.Cancels
-callback_of (kinds.Raw (callbacks.Starts ns base)) = runs.Starts ns base
+callback_of (kinds.Raw context callbacks.Once) = runs.Once
+callback_of (kinds.Raw context (callbacks.Every interval)) = runs.Every interval
+callback_of (kinds.Raw context callbacks.Cancels) = runs.Cancels
+callback_of (kinds.Raw context (callbacks.Starts ns base)) = runs.Starts ns base
 callback_of (kinds.Posix base) = runs.Once
 callback_of (kinds.Fd base) = runs.Once
 
 -- what stands over a timer of this kind and clock
 abbrev pub decl_as : Kind → ClockId → Decl
-decl_as (kinds.Raw callback) clock = record { kind = over.Raw; clock = clock; base = 0 }
+decl_as (kinds.Raw context callback) clock = record { kind = over.Raw; clock = clock; base = 0 }
 decl_as (kinds.Posix base) clock = record { kind = over.Posix; clock = clock; base = base }
 decl_as (kinds.Fd base) clock = record { kind = over.Fd; clock = clock; base = base }
 
@@ -56,7 +56,7 @@ decl_of d = decl_as d.kind d.clock
 
 -- the world is this script's: its timers on their clocks and bases, with its limit, and what stands over each
 pub record IsWorldOf (s : Script) (x : WorldOf) : Type 0 where
-  pub timers : x.timers.about ≡ rows.opening_of s.bases (clocks_of s) s.limit
+  pub timers : x.timers.about ≡ rows.opening_of s.bases (declareds_of s) (terms_of s)
   pub decls : x.objects.decls ≡ map decl_of s.timers
   pub limit : x.objects.limit ≡ s.limit
   pub callbacks : x.callbacks ≡ map (λ d. callback_of d.kind) s.timers
@@ -124,10 +124,10 @@ IsOfKind x kind id = (id < length x.objects.decls) × ((decl_at x.objects id).ki
 
 -- the call is of a timer, an object and a base that are there, and of the object's kind
 abbrev pub CanCall : WorldOf → Call → Type 0
-CanCall x (calls.Start timer mode ns base) = (timer < length x.timers.about.timers) × (base < x.timers.about.bases)
+CanCall x (calls.Start timer request) = (timer < length x.timers.about.timers) × (request.base < x.timers.about.bases)
 CanCall x (calls.Cancel timer) = timer < length x.timers.about.timers
 CanCall x (calls.Peek timer) = timer < length x.timers.about.timers
-CanCall x (calls.Expire base budget) = (base < x.timers.about.bases) × (budget ≤ most_budget)
+CanCall x (calls.Expire context base budget) = (base < x.timers.about.bases) × (budget ≤ most_budget)
 CanCall x (calls.Clock write) = Unit
 CanCall x (calls.Settime timer flags value interval) = IsObject x timer
 CanCall x (calls.Gettime timer) = IsObject x timer

@@ -19,7 +19,7 @@ use hr_timers::{Claim, Pass, Timers};
 use ktime::Reading;
 use lane_notes::{Notes, note_object_receipts, note_receipts};
 use record_text::{Answer, ItemList, Label};
-use seq_timer::Event;
+use seq_timer::{Context, Event};
 use std::alloc::{AllocError, Global};
 use std::sync::Wait;
 use timer_objects::{Firing, FiringWith, ObjectCell, ObjectLog};
@@ -63,13 +63,14 @@ struct Expired {
     object_log: ObjectLog,
 }
 
-/// An expiry run on a base, of at most so many functions.
+/// An expiry run on a base for the timers of a context, of at most so many functions.
 pub(crate) fn expire<R: Wait, G: Gate>(
     rt: &R,
     alloc: Global,
     world: &World,
     gate: &G,
     lane: &mut Lane,
+    context: Context,
     base: u32,
     budget: u64,
 ) -> Result<Answer, AllocError>
@@ -77,7 +78,7 @@ pub(crate) fn expire<R: Wait, G: Gate>(
     requires base { base < world.now.timers.about.bases }
     requires budget { budget ≤ most_budget }
     ensures leaves { LeavesLane world.now lane.old lane.new }
-    ensures call { IfOk result (λ a. CallsExpire world.now (lane_of lane.old) (lane_of lane.new) a base budget) }
+    ensures call { IfOk result (λ a. CallsExpire world.now (lane_of lane.old) (lane_of lane.new) a context base budget) }
 {
     let reading = world.clock.read(rt, &mut lane.pass.clock);
     let Expired {
@@ -93,6 +94,7 @@ pub(crate) fn expire<R: Wait, G: Gate>(
         lane.label,
         &mut lane.pass.timers,
         &mut lane.pass.objects,
+        context,
         base,
         budget,
         reading,
@@ -113,6 +115,7 @@ fn run_gated<R: Wait, G: Gate>(
     label: Label,
     pass: &mut Pass,
     objects_pass: &mut RowPass<ObjectCell>,
+    context: Context,
     base: u32,
     budget: u64,
     reading: Reading,
@@ -125,7 +128,7 @@ fn run_gated<R: Wait, G: Gate>(
     ensures objects { IsObjectsPass world.now.objects objects_pass.new }
     ensures keeps { KeepsPass pass.old.known pass.new.known }
     ensures name { KeepsName objects_pass.old objects_pass.new }
-    ensures runs { IfOk result (λ e. RunsGated world.now pass.old.known objects_pass.old pass.new.known objects_pass.new base budget reading e.log.receipts e.callback_log.receipts e.object_log.receipts e.answer) }
+    ensures runs { IfOk result (λ e. RunsGated world.now pass.old.known objects_pass.old pass.new.known objects_pass.new context base budget reading e.log.receipts e.callback_log.receipts e.object_log.receipts e.answer) }
 {
     let mut log = Log::make(alloc);
     log.reserve(2 * budget as usize)?;
@@ -141,6 +144,7 @@ fn run_gated<R: Wait, G: Gate>(
         gate,
         label,
         pass,
+        context,
         base,
         budget,
         reading,
@@ -163,6 +167,7 @@ fn run_with<R: Wait, G: Gate>(
     gate: &G,
     label: Label,
     pass: &mut Pass,
+    context: Context,
     base: u32,
     budget: u64,
     reading: Reading,
@@ -176,14 +181,24 @@ fn run_with<R: Wait, G: Gate>(
     requires suits { CanServe firing_meaning timers.now.about firing.old }
     ensures timers { IsPassOf timers.now pass.new }
     ensures keeps { KeepsPass pass.old.known pass.new.known }
-    ensures runs { RunsWith timers.now.about base reading budget pass.old.known firing.old log.old.receipts pass.new.known firing.new log.new.receipts result }
+    ensures runs { RunsWith timers.now.about context base reading budget pass.old.known firing.old log.old.receipts pass.new.known firing.new log.new.receipts result }
 {
     let mut handler = Gated {
         firing,
         gate,
         label,
     };
-    expire_pass::expire(rt, timers, pass, base, reading, budget, &mut handler, log)
+    expire_pass::expire_in(
+        rt,
+        timers,
+        pass,
+        context,
+        base,
+        reading,
+        budget,
+        &mut handler,
+        log,
+    )
 }
 
 /// The timers that a run has claimed, in the order of their claims.

@@ -114,15 +114,14 @@ fn make<R: Wait, G: Gate>(
     ensures call { IfOk result (λ a. Called world.now (lane_of lane.old) call a (lane_of lane.new)) }
 {
     match call {
-        Call::Start {
-            timer,
-            mode,
-            ns,
-            base,
-        } => start(rt, world, lane, timer, mode, ns, base),
+        Call::Start { timer, request } => start(rt, world, lane, timer, request),
         Call::Cancel { timer } => cancel(rt, world, lane, timer),
         Call::Peek { timer } => Ok(peek(world, lane, timer)),
-        Call::Expire { base, budget } => expire(rt, alloc, world, gate, lane, base, budget),
+        Call::Expire {
+            context,
+            base,
+            budget,
+        } => expire(rt, alloc, world, gate, lane, context, base, budget),
         Call::Clock { write: wanted } => write(rt, world, lane, wanted),
         Call::Settime {
             timer,

@@ -69,7 +69,13 @@ fn make_rounds<R: Threads + Wait + Sync, G: Gate>(
         make_round(rt, alloc, world, main, gate, round, &mut left)?;
     }
     let Left { notes, answers } = left;
-    record_of(alloc, notes, script.timers.as_slice().len(), answers)
+    record_of(
+        alloc,
+        script.version,
+        notes,
+        script.timers.as_slice().len(),
+        answers,
+    )
 }
 
 /// No answers yet, of so many lanes.

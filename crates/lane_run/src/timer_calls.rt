@@ -9,10 +9,10 @@ use crate::world::World;
 use clock_model::{ClockFault, Write};
 use expire_pass::{Noted, Receipt};
 use hr_timers::StartAnswer;
-use ktime::{Mode, Reading};
 use lane_notes::note_receipts;
 use record_text::{Answer, ClockLine};
-use seq_timer::{Event, Reply};
+use script_text::StartRequest;
+use seq_timer::{Asked, Event, Reply};
 use std::alloc::AllocError;
 use std::sync::Wait;
 use timer_core::CancelAnswer;
@@ -23,20 +23,29 @@ pub(crate) fn start<R: Wait>(
     world: &World,
     lane: &mut Lane,
     timer: u32,
-    mode: Mode,
-    ns: u64,
-    base: u32,
+    request: StartRequest,
 ) -> Result<Answer, AllocError>
     requires pass { ArePassesOf world.now lane.old.pass }
     requires timer { timer < length world.now.timers.about.timers }
-    requires base { base < world.now.timers.about.bases }
+    requires base { request.base < world.now.timers.about.bases }
     ensures leaves { LeavesLane world.now lane.old lane.new }
-    ensures call { IfOk result (λ a. CallsStart world.now (lane_of lane.old) (lane_of lane.new) a timer mode ns base) }
+    ensures call { IfOk result (λ a. CallsStart world.now (lane_of lane.old) (lane_of lane.new) a timer request) }
 {
     let reading = world.clock.read(rt, &mut lane.pass.clock);
     let pass = &mut lane.pass.timers;
-    let answer = world.timers.start(rt, pass, timer, mode, ns, base, reading);
-    note_start(lane, timer, mode, ns, base, reading, answer)?;
+    let StartRequest { mode, ns, base, .. } = request;
+    let slack = request.slack.unwrap_or(0);
+    let answer = world
+        .timers
+        .start_range(rt, pass, timer, mode, ns, slack, base, reading);
+    let asked = Asked {
+        mode,
+        ns,
+        slack,
+        reading,
+        base,
+    };
+    note_start(lane, timer, asked, answer)?;
     Ok(start_answer(answer))
 }
 
@@ -49,11 +58,11 @@ fn start_answer(answer: StartAnswer) -> Answer
         StartAnswer::Started {
             was_armed,
             generation,
-            base,
+            placement,
             ..
         } => Answer::Started {
             generation,
-            base,
+            base: placement.base,
             was_armed,
         },
     }
@@ -63,42 +72,31 @@ fn start_answer(answer: StartAnswer) -> Answer
 fn note_start(
     lane: &mut Lane,
     timer: u32,
-    mode: Mode,
-    ns: u64,
-    asked: u32,
-    reading: Reading,
+    asked: Asked,
     answer: StartAnswer,
 ) -> Result<(), AllocError>
     ensures rest { LeavesRest lane.old lane.new }
-    ensures notes { OnOk result (lane.new.notes ≡ with_done lane.old.notes lane.old.label (start_receipts timer mode ns asked reading answer) []) }
+    ensures notes { OnOk result (lane.new.notes ≡ with_done lane.old.notes lane.old.label (start_receipts timer asked answer) []) }
 {
     let StartAnswer::Started {
         was_armed,
         generation,
-        base,
         outs,
-        clock,
-        expires,
+        placement,
     } = answer
     else {
         return Ok(());
     };
-    let event = Event::Start {
-        mode,
-        ns,
-        reading,
-        asked,
-    };
+    let base = asked.base;
+    let event = Event::Start(asked);
     let moved = outs != 0;
     if moved {
-        let out = Event::Out { base: asked };
+        let out = Event::Out { base };
         let number = generation.saturating_sub(1);
         note(lane, timer, number, out, Reply::Out { was_armed })?;
     }
     let reply = Reply::Start {
-        base,
-        clock,
-        expires,
+        placement,
         was_armed: was_armed && !moved,
     };
     note(lane, timer, generation, event, reply)

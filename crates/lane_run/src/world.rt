@@ -1,15 +1,15 @@
 //! What a script's calls are made on: its timers, its objects and the clock, with the first passes.
 ghost use Rattle.std.specs.Prelude.{◌≡◌, ◌≤◌, ◌<◌, IfOk, OnOk, map};
 ghost use Rattle.script_text.specs.Scripts.{IsInRange};
-ghost use Rattle.run_history.specs.Courses.{clocks_of};
+ghost use Rattle.script_text.specs.Histories.{declared_as};
 ghost use Rattle.lane_run.specs.Rounds.{TakesInPass};
 ghost use Rattle.lane_run.specs.Worlds.{AnswerFor, AreFirst, AreLast, ArePassesOf, IsWorldOf, SplitsPass, callback_of, decl_of};
 
 use clock_cell::{ClockPass, SharedClock};
 use counted_row::RowPass;
 use hr_timers::{Pass, Timers};
-use ktime::ClockId;
 use script_text::{Callback, Declaration, Kind, Script};
+use seq_timer::{Context, Declared};
 use std::alloc::{AllocError, Global};
 use std::marker::Model;
 use std::sync::Wait;
@@ -51,7 +51,7 @@ impl World {
         ensures last { IfOk result (λ r. AreLast r.1) }
     {
         let declared = script.timers.as_slice();
-        let clocks = clocks_of(alloc, declared)?;
+        let timers = timers_of(alloc, declared)?;
         let decls = decls_of(alloc, declared)?;
         let callbacks = callbacks_of(alloc, declared)?;
         let (clock, clock_pass) = SharedClock::make(alloc)?;
@@ -62,7 +62,7 @@ impl World {
                 return Err(fault);
             }
         };
-        match Timers::make(alloc, script.bases, &clocks, script.limit) {
+        match Timers::make_full(alloc, script.bases, &timers, script.limit) {
             Ok((timers, pass)) => {
                 let world = World {
                     timers,
@@ -137,11 +137,28 @@ impl World {
     }
 }
 
-/// The clocks that timers are declared on.
-fn clocks_of(alloc: Global, timers: &[Declaration]) -> Result<Vec<ClockId>, AllocError>
-    ensures { IfOk result (λ v. v.items ≡ map (λ d. d.clock) timers.now) }
+/// As what timers are declared.
+fn timers_of(alloc: Global, timers: &[Declaration]) -> Result<Vec<Declared>, AllocError>
+    ensures { IfOk result (λ v. v.items ≡ map declared_as timers.now) }
 {
-    timers.iter().map(|timer| timer.clock).collect(alloc)
+    timers
+        .iter()
+        .map(|timer| declared_as(*timer))
+        .collect(alloc)
+}
+
+/// As what a timer is declared. An object's is of the hard context.
+fn declared_as(timer: Declaration) -> Declared
+    ensures { result ≡ declared_as timer }
+{
+    let context = match timer.kind {
+        Kind::Raw { context, .. } => context,
+        Kind::Posix { .. } | Kind::Fd { .. } => Context::Hard,
+    };
+    Declared {
+        clock: timer.clock,
+        context,
+    }
 }
 
 /// What stands over each timer.
@@ -185,7 +202,7 @@ fn callback_of(kind: Kind) -> timer_objects::Callback
     ensures { result ≡ callback_of kind }
 {
     match kind {
-        Kind::Raw { callback } => match callback {
+        Kind::Raw { callback, .. } => match callback {
             Callback::Once => timer_objects::Callback::Once,
             Callback::Every { interval } => timer_objects::Callback::Every(interval),
             Callback::Cancels => timer_objects::Callback::Cancels,

@@ -1,5 +1,9 @@
 -- The words of entries and of answers are read back: each form from its own words.
-use Rattle.std.proofs.Common.{◌≡◌, ◌∷◌, [], ℕ, List, true, if◌then◌else◌, map, length, codes, refl}
+use Rattle.std.proofs.Common.{◌≡◌, ◌∷◌, [], ℕ, List, true, if◌then◌else◌, map, length, codes, refl, sym, ap, ◌∙◌}
+use Rattle.record_text.specs.declared.version.Version.{Version}
+use Rattle.record_text.specs.declared.version.Version.TheVariants as versions
+use Rattle.record_text.specs.declared.record.StartLine.{StartLine}
+use Rattle.record_text.specs.declared.record.ForwardLine.{ForwardLine}
 use Rattle.record_text.specs.declared.record.Entry.{Entry}
 use Rattle.record_text.specs.declared.record.Entry.TheVariants as entries
 use Rattle.record_text.specs.declared.record.CallbackReply.{CallbackReply}
@@ -15,8 +19,8 @@ use Rattle.record_text.specs.declared.record.ObjectEntry.TheVariants as object_e
 use Rattle.record_text.specs.declared.record.Answer.{Answer}
 use Rattle.record_text.specs.declared.record.Answer.TheVariants as answers
 use Rattle.record_text.specs.Replies.{answer_of_settime, answer_of_accept, answer_of_read}
-use Rattle.record_text.specs.Text.{entry_words, reply_words, answer_words, object_entry_words}
-use Rattle.record_text.specs.Numbers.{AreMachineNumbers, entry_numbers, reply_numbers, answer_numbers, object_entry_numbers}
+use Rattle.record_text.specs.Text.{start_words, forward_words, entry_words, reply_words, answer_words, object_entry_words}
+use Rattle.record_text.specs.Numbers.{AreMachineNumbers, EntryHasNoSlack, entry_numbers, reply_numbers, answer_numbers, object_entry_numbers}
 use Rattle.record_text.proofs.Words.{are_words}
 use Rattle.record_text.proofs.Spelling.{value, value_again, word_decimal, words_decimals, values_again, nth, number, after, is_key, flag_of, flag_read, clock_of, clock_read, mode_of, mode_read, restart_of, restart_read, rearmed_of, rearmed_read, armed_of, armed_read, counted_of, counted_read}
 
@@ -28,33 +32,102 @@ IsReadBack of x words = (of words ≡ x) × (are_words words ≡ true)
 abbrev pub AreReadBack : {X : Type 0} → (List (List ℕ) → X) → (X → List (List ℕ)) → (X → List ℕ) → Type 0
 AreReadBack {X} of words numbers = (x : X) → AreMachineNumbers (numbers x) → IsReadBack of x (words x)
 
-pub entry_of : List (List ℕ) → Entry
-entry_of ws =
+-- the lines of a start and of a forward; one of version 1 has no slack
+start_of : Version → List (List ℕ) → StartLine
+start_of versions.One ws = record {
+  mode = mode_of (nth 1 ws);
+  ns = number 2 ws;
+  slack = 0;
+  reading = number 3 ws;
+  asked = number 4 ws;
+  base = number 5 ws;
+  clock = clock_of (nth 6 ws);
+  soft = number 7 ws;
+  expires = number 7 ws;
+  was_armed = flag_of (nth 8 ws);
+}
+start_of versions.Two ws = record {
+  mode = mode_of (nth 1 ws);
+  ns = number 2 ws;
+  slack = number 3 ws;
+  reading = number 4 ws;
+  asked = number 5 ws;
+  base = number 6 ws;
+  clock = clock_of (nth 7 ws);
+  soft = number 8 ws;
+  expires = number 9 ws;
+  was_armed = flag_of (nth 10 ws);
+}
+
+forward_of : Version → List (List ℕ) → ForwardLine
+forward_of versions.One ws = record { reading = number 1 ws; interval = number 2 ws; count = number 3 ws; soft = number 4 ws; expires = number 4 ws }
+forward_of versions.Two ws = record { reading = number 1 ws; interval = number 2 ws; count = number 3 ws; soft = number 4 ws; expires = number 5 ws }
+
+-- what version 1 does not show is told by its premise
+start_read : (v : Version) (l : StartLine) → AreMachineNumbers (entry_numbers (entries.Start l))
+    → (v ≡ versions.One → EntryHasNoSlack (entries.Start l)) → IsReadBack (start_of v) l (start_words v l)
+unfolding start_of
+start_read versions.One l h plain =
+    rw ((mode_read l.mode).0, value_again l.ns h.0, value_again l.reading h.1.1.0, value_again l.asked h.1.1.1.0, value_again l.base h.1.1.1.1.0)
+    (rw ((clock_read l.clock).0, value_again l.expires h.1.1.1.1.1.1.0, (flag_read l.was_armed).0, (mode_read l.mode).1, word_decimal l.ns h.0)
+    (rw (word_decimal l.reading h.1.1.0, word_decimal l.asked h.1.1.1.0, word_decimal l.base h.1.1.1.1.0, (clock_read l.clock).1)
+    (rw (word_decimal l.expires h.1.1.1.1.1.1.0, (flag_read l.was_armed).1)
+    ((λ i. record l { slack = sym (plain refl).0 i; soft = sym (plain refl).1 i }), refl))))
+start_read versions.Two l h plain =
+    rw ((mode_read l.mode).0, value_again l.ns h.0, value_again l.slack h.1.0, value_again l.reading h.1.1.0, value_again l.asked h.1.1.1.0)
+    (rw (value_again l.base h.1.1.1.1.0, (clock_read l.clock).0, value_again l.soft h.1.1.1.1.1.0, value_again l.expires h.1.1.1.1.1.1.0)
+    (rw ((flag_read l.was_armed).0, (mode_read l.mode).1, word_decimal l.ns h.0, word_decimal l.slack h.1.0, word_decimal l.reading h.1.1.0)
+    (rw (word_decimal l.asked h.1.1.1.0, word_decimal l.base h.1.1.1.1.0, (clock_read l.clock).1, word_decimal l.soft h.1.1.1.1.1.0)
+    (rw (word_decimal l.expires h.1.1.1.1.1.1.0, (flag_read l.was_armed).1) (refl, refl)))))
+
+forward_read : (v : Version) (l : ForwardLine) → AreMachineNumbers (entry_numbers (entries.Forward l))
+    → (v ≡ versions.One → EntryHasNoSlack (entries.Forward l)) → IsReadBack (forward_of v) l (forward_words v l)
+unfolding forward_of
+forward_read versions.One l h plain =
+    rw (value_again l.reading h.0, value_again l.interval h.1.0, value_again l.count h.1.1.0, value_again l.expires h.1.1.1.1.0)
+    (rw (word_decimal l.reading h.0, word_decimal l.interval h.1.0, word_decimal l.count h.1.1.0, word_decimal l.expires h.1.1.1.1.0)
+    ((λ i. record l { soft = sym (plain refl) i }), refl))
+forward_read versions.Two l h plain =
+    rw (value_again l.reading h.0, value_again l.interval h.1.0, value_again l.count h.1.1.0, value_again l.soft h.1.1.1.0)
+    (rw (value_again l.expires h.1.1.1.1.0, word_decimal l.reading h.0, word_decimal l.interval h.1.0, word_decimal l.count h.1.1.0)
+    (rw (word_decimal l.soft h.1.1.1.0, word_decimal l.expires h.1.1.1.1.0) (refl, refl)))
+
+pub entry_of : Version → List (List ℕ) → Entry
+entry_of v ws =
     if is_key ws (codes "out") then entries.Out (number 1 ws) (flag_of (nth 2 ws))
-    else if is_key ws (codes "start") then entries.Start (mode_of (nth 1 ws)) (number 2 ws) (number 3 ws) (number 4 ws) (number 5 ws)
-    (clock_of (nth 6 ws)) (number 7 ws) (flag_of (nth 8 ws))
+    else if is_key ws (codes "start") then entries.Start (start_of v ws)
     else if is_key ws (codes "cancel") then entries.Cancel (number 1 ws)
     else if is_key ws (codes "claim") then entries.Claim (number 1 ws) (number 2 ws) (number 3 ws)
-    else if is_key ws (codes "forward") then entries.Forward (number 1 ws) (number 2 ws) (number 3 ws) (number 4 ws)
+    else if is_key ws (codes "forward") then entries.Forward (forward_of v ws)
     else entries.Finish (restart_of (nth 1 ws)) (number 2 ws) (rearmed_of (nth 3 ws))
 
-pub entry_read : AreReadBack entry_of entry_words entry_numbers
+-- which entry the words of a start and of a forward are of
+start_is : (v : Version) (l : StartLine) → entry_of v (start_words v l) ≡ entries.Start (start_of v (start_words v l))
 unfolding entry_of
-entry_read (entries.Out base was_armed) h =
+start_is versions.One l = refl
+start_is versions.Two l = refl
+
+forward_is : (v : Version) (l : ForwardLine) → entry_of v (forward_words v l) ≡ entries.Forward (forward_of v (forward_words v l))
+unfolding entry_of
+forward_is versions.One l = refl
+forward_is versions.Two l = refl
+
+pub entry_read : (v : Version) (x : Entry) → AreMachineNumbers (entry_numbers x) → (v ≡ versions.One → EntryHasNoSlack x)
+    → IsReadBack (entry_of v) x (entry_words v x)
+unfolding entry_of
+entry_read v (entries.Out base was_armed) h plain =
     rw (value_again base h.0, (flag_read was_armed).0, word_decimal base h.0, (flag_read was_armed).1) (refl, refl)
-entry_read (entries.Start mode ns reading asked base clock expires was_armed) h =
-    rw ((mode_read mode).0, value_again ns h.0, value_again reading h.1.0, value_again asked h.1.1.0, value_again base h.1.1.1.0)
-    (rw ((clock_read clock).0, value_again expires h.1.1.1.1.0, (flag_read was_armed).0, (mode_read mode).1, word_decimal ns h.0)
-    (rw (word_decimal reading h.1.0, word_decimal asked h.1.1.0, word_decimal base h.1.1.1.0, (clock_read clock).1)
-    (rw (word_decimal expires h.1.1.1.1.0, (flag_read was_armed).1) (refl, refl))))
-entry_read (entries.Cancel generation) h = rw (value_again generation h.0, word_decimal generation h.0) (refl, refl)
-entry_read (entries.Claim base reading generation) h =
+entry_read v (entries.Start l) h plain =
+    let read = start_read v l h plain in
+    (start_is v l ∙ ap entries.Start read.0, read.1)
+entry_read v (entries.Cancel generation) h plain = rw (value_again generation h.0, word_decimal generation h.0) (refl, refl)
+entry_read v (entries.Claim base reading generation) h plain =
     rw (value_again base h.0, value_again reading h.1.0, value_again generation h.1.1.0, word_decimal base h.0)
     (rw (word_decimal reading h.1.0, word_decimal generation h.1.1.0) (refl, refl))
-entry_read (entries.Forward reading interval count expires) h =
-    rw (value_again reading h.0, value_again interval h.1.0, value_again count h.1.1.0, value_again expires h.1.1.1.0)
-    (rw (word_decimal reading h.0, word_decimal interval h.1.0, word_decimal count h.1.1.0, word_decimal expires h.1.1.1.0) (refl, refl))
-entry_read (entries.Finish restart generation rearmed) h =
+entry_read v (entries.Forward l) h plain =
+    let read = forward_read v l h plain in
+    (forward_is v l ∙ ap entries.Forward read.0, read.1)
+entry_read v (entries.Finish restart generation rearmed) h plain =
     rw ((restart_read restart).0, value_again generation h.0, (rearmed_read rearmed h.1).0, (restart_read restart).1)
     (rw (word_decimal generation h.0, (rearmed_read rearmed h.1).1) (refl, refl))
 

@@ -10,7 +10,7 @@ use Rattle.record_text.specs.declared.record.Skip.{Skip}
 use Rattle.record_text.specs.declared.record.ObjectLine.{ObjectLine}
 use Rattle.record_text.specs.declared.record.Answer.{Answer}
 use Rattle.record_text.specs.declared.record.RunRecord.{RunRecord}
-use Rattle.record_text.specs.Text.{RecordLine, Version, OfClock, OfTimer, OfLook, OfObject, OfSkip, OfCall, End, numbered, lines_in_lists, clock_lines, timer_lines, object_lines, lane_lines, record_lines}
+use Rattle.record_text.specs.Text.{RecordLine, Heading, OfClock, OfTimer, OfLook, OfObject, OfSkip, OfCall, End, numbered, lines_in_lists, clock_lines, timer_lines, object_lines, lane_lines, record_lines}
 
 -- what a line adds to the list with a number: an item, to which what hangs below it is yet to be given, or what hangs there
 data Row (X K : Type 0) : Type 0 where
@@ -156,13 +156,13 @@ no_lanes : {Y : Type 0} (view : RecordLine → List Y) → ((i n : ℕ) (a : Ans
 no_lanes view heads lanes = hidden_lists {K = ⊥} view OfCall (λ i n none. absurd none) (λ a. []) heads (λ i n none. absurd none) 0 lanes
 
 -- what a view sees of a record, by what it sees of each section
-sections_seen : {Y : Type 0} (view : RecordLine → List Y) → view Version ≡ [] → view End ≡ [] → (r : RunRecord) {clock timers objects lanes : List Y}
+sections_seen : {Y : Type 0} (view : RecordLine → List Y) → view Heading ≡ [] → view End ≡ [] → (r : RunRecord) {clock timers objects lanes : List Y}
     → flat_map view (clock_lines 1 r.clock) ≡ clock → flat_map view (timer_lines 0 r.timers) ≡ timers
     → flat_map view (object_lines 0 r.objects) ≡ objects → flat_map view (lane_lines 0 r.answers) ≡ lanes
     → flat_map view (record_lines r) ≡ clock ++ (timers ++ (objects ++ lanes))
-sections_seen view version end r clock timers objects lanes =
+sections_seen view heading end r clock timers objects lanes =
     rw (
-      version,
+      heading,
       flat_map-append view (clock_lines 1 r.clock) _,
       flat_map-append view (timer_lines 0 r.timers) _,
       flat_map-append view (object_lines 0 r.objects) _,
@@ -243,9 +243,10 @@ same_lanes a b =
     0 (λ r. r.answers) lanes_seen a b
 
 pub record_from_lines : (a b : RunRecord) → length a.timers ≡ length b.timers → length a.objects ≡ length b.objects
-    → length a.answers ≡ length b.answers → record_lines a ≡ record_lines b → a ≡ b
-record_from_lines a b timers objects lanes e =
-    ap (λ x. record a { clock = x }) (sym (clock_seen a) ∙ ap (flat_map clock_view) e ∙ clock_seen b)
-    ∙ ap (λ x. record a { clock = b.clock; timers = x }) (same_timers a b timers e)
+    → length a.answers ≡ length b.answers → a.version ≡ b.version → record_lines a ≡ record_lines b → a ≡ b
+record_from_lines a b timers objects lanes version e =
+    ap (λ x. record a { version = x }) version
+    ∙ ap (λ x. record a { version = b.version; clock = x }) (sym (clock_seen a) ∙ ap (flat_map clock_view) e ∙ clock_seen b)
+    ∙ ap (λ x. record a { version = b.version; clock = b.clock; timers = x }) (same_timers a b timers e)
     ∙ ap (λ x. record b { objects = x; answers = a.answers }) (same_objects a b objects e)
     ∙ ap (λ x. record b { answers = x }) (same_lanes a b lanes e)

@@ -17,7 +17,9 @@ use Rattle.record_text.specs.declared.record.Restart.{Restart}
 use Rattle.record_text.specs.declared.record.Restart.TheVariants as restarts
 use Rattle.record_text.specs.declared.record.Armed.{Armed}
 use Rattle.record_text.specs.declared.record.Armed.TheVariants as arms
-use Rattle.record_text.specs.Words.{clock_word, mode_word}
+use Rattle.record_text.specs.declared.version.Version.{Version}
+use Rattle.record_text.specs.declared.version.Version.TheVariants as versions
+use Rattle.record_text.specs.Words.{clock_word, mode_word, version_word}
 use Rattle.record_text.specs.Text.{flag, write_name, write_ns, restart_word, rearmed_word, armed_word, counted_word}
 use Rattle.record_text.specs.Numbers.{AreMachineNumbers, rearmed_numbers, armed_number}
 use Rattle.record_text.proofs.Words.{is_word, are_words}
@@ -82,6 +84,9 @@ one_of word (x ∷ xs) last w = if bytes_eq w (word x) then x else one_of word x
 pub flag_of : List ℕ → Bool
 flag_of w = nat_eq (value w) 1
 
+pub version_of : List ℕ → Version
+version_of w = one_of version_word (versions.One ∷ []) versions.Two w
+
 pub clock_of : List ℕ → ClockId
 clock_of w = one_of clock_word (clocks.Monotonic ∷ clocks.Realtime ∷ []) clocks.Boottime w
 
@@ -113,6 +118,11 @@ pub flag_read : (b : Bool) → IsOfWord flag_of b (flag b)
 unfolding flag_of
 flag_read true = rw (value_again 1 (omega arith)) (refl, word_decimal 1 (omega arith))
 flag_read false = rw (value_again 0 (omega arith)) (refl, word_decimal 0 (omega arith))
+
+pub version_read : (v : Version) → IsOfWord version_of v (version_word v)
+unfolding version_of
+version_read versions.One = (refl, refl)
+version_read versions.Two = (refl, refl)
 
 pub clock_read : (c : ClockId) → IsOfWord clock_of c (clock_word c)
 unfolding clock_of

@@ -1,5 +1,5 @@
 -- The numbers of a record's lines, and that a program can hold them.
-use Rattle.std.specs.Prelude.{ℕ, ◌<◌, ◌^◌, List, [], ◌∷◌, length}
+use Rattle.std.specs.Prelude.{ℕ, ◌≡◌, ◌<◌, ◌^◌, List, [], ◌∷◌, length}
 use Rattle.std.specs.List.{AllByRecursion}
 use Rattle.record_text.specs.declared.record.Restart.{Restart}
 use Rattle.record_text.specs.declared.record.Restart.TheVariants as restarts
@@ -13,9 +13,10 @@ use Rattle.record_text.specs.declared.record.ObjectEntry.{ObjectEntry}
 use Rattle.record_text.specs.declared.record.ObjectEntry.TheVariants as object_entries
 use Rattle.record_text.specs.declared.record.Answer.{Answer}
 use Rattle.record_text.specs.declared.record.Answer.TheVariants as answers
+use Rattle.record_text.specs.declared.record.TimerLine.{TimerLine}
 use Rattle.record_text.specs.declared.record.RunRecord.{RunRecord}
 use Rattle.record_text.specs.Replies.{answer_of_accept, answer_of_read, answer_of_settime}
-use Rattle.record_text.specs.Text.{RecordLine, Version, OfClock, OfTimer, OfLook, OfObject, OfSkip, OfCall, End, write_ns, record_lines}
+use Rattle.record_text.specs.Text.{RecordLine, Heading, OfClock, OfTimer, OfLook, OfObject, OfSkip, OfCall, End, write_ns, record_lines}
 
 -- the numbers that tell what came of a restart
 abbrev pub rearmed_numbers : Restart → List ℕ
@@ -26,10 +27,10 @@ rearmed_numbers restarts.Spent = []
 -- the numbers of an entry
 abbrev pub entry_numbers : Entry → List ℕ
 entry_numbers (entries.Out base was_armed) = base ∷ []
-entry_numbers (entries.Start mode ns reading asked base clock expires was_armed) = ns ∷ reading ∷ asked ∷ base ∷ expires ∷ []
+entry_numbers (entries.Start l) = l.ns ∷ l.slack ∷ l.reading ∷ l.asked ∷ l.base ∷ l.soft ∷ l.expires ∷ []
 entry_numbers (entries.Cancel generation) = generation ∷ []
 entry_numbers (entries.Claim base reading generation) = base ∷ reading ∷ generation ∷ []
-entry_numbers (entries.Forward reading interval count expires) = reading ∷ interval ∷ count ∷ expires ∷ []
+entry_numbers (entries.Forward l) = l.reading ∷ l.interval ∷ l.count ∷ l.soft ∷ l.expires ∷ []
 entry_numbers (entries.Finish restart generation rearmed) = generation ∷ rearmed_numbers rearmed
 
 -- the numbers of what a callback was told
@@ -90,9 +91,9 @@ object_entry_numbers (object_entries.Settime flags value interval reading arm re
 object_entry_numbers (object_entries.Trigger generation reading counted) = generation ∷ reading ∷ []
 object_entry_numbers other = rearming_numbers other
 
--- the numbers of a line
+-- the numbers of a line, also those that a text of version 1 does not show
 abbrev pub numbers_of : RecordLine → List ℕ
-numbers_of Version = []
+numbers_of Heading = []
 numbers_of (OfClock number w) = number ∷ w.label.lane ∷ w.label.call ∷ write_ns w.write ∷ w.mono ∷ w.real ∷ w.boot ∷ w.changes ∷ []
 numbers_of (OfTimer timer number label entry) = timer ∷ number ∷ label.lane ∷ label.call ∷ entry_numbers entry
 numbers_of (OfLook timer number look) = timer ∷ number ∷ look.label.lane ∷ look.label.call ∷ reply_numbers look.reply
@@ -105,10 +106,24 @@ numbers_of End = []
 abbrev pub AreMachineNumbers : List ℕ → Type 0
 AreMachineNumbers ns = AllByRecursion (λ n. n < 2 ^ 128) ns
 
--- each number that these lines show is one that a program can hold
+-- each number of these lines is one that a program can hold
 abbrev pub HaveMachineNumbers : List RecordLine → Type 0
 HaveMachineNumbers ls = AllByRecursion (λ l. AreMachineNumbers (numbers_of l)) ls
 
--- each number that the record's text shows is one that a program can hold
+-- each number of the record's lines is one that a program can hold
 abbrev pub HasMachineNumbers : RunRecord → Type 0
 HasMachineNumbers r = HaveMachineNumbers (record_lines r)
+
+-- an entry has no slack: one that starts or forwards the timer leaves its soft expiry at its expiry
+abbrev pub EntryHasNoSlack : Entry → Type 0
+EntryHasNoSlack (entries.Start l) = (l.slack ≡ 0) × (l.soft ≡ l.expires)
+EntryHasNoSlack (entries.Forward l) = l.soft ≡ l.expires
+EntryHasNoSlack other = Unit {0}
+
+-- no entry of a timer has slack
+abbrev pub HaveNoSlack : List TimerLine → Type 0
+HaveNoSlack lines = AllByRecursion (λ line. EntryHasNoSlack line.entry) lines
+
+-- no entry of the record has slack
+abbrev pub HasNoSlack : RunRecord → Type 0
+HasNoSlack r = AllByRecursion HaveNoSlack r.timers

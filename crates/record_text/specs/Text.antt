@@ -7,6 +7,8 @@ use Rattle.record_text.specs.declared.record.Label.{Label}
 use Rattle.record_text.specs.declared.record.ClockLine.{ClockLine}
 use Rattle.record_text.specs.declared.record.Restart.{Restart}
 use Rattle.record_text.specs.declared.record.Restart.TheVariants as restarts
+use Rattle.record_text.specs.declared.record.StartLine.{StartLine}
+use Rattle.record_text.specs.declared.record.ForwardLine.{ForwardLine}
 use Rattle.record_text.specs.declared.record.Entry.{Entry}
 use Rattle.record_text.specs.declared.record.Entry.TheVariants as entries
 use Rattle.record_text.specs.declared.record.CallbackReply.{CallbackReply}
@@ -22,12 +24,14 @@ use Rattle.record_text.specs.declared.record.ObjectLine.{ObjectLine}
 use Rattle.record_text.specs.declared.record.Answer.{Answer}
 use Rattle.record_text.specs.declared.record.Answer.TheVariants as answers
 use Rattle.record_text.specs.declared.record.RunRecord.{RunRecord}
+use Rattle.record_text.specs.declared.version.Version.{Version}
+use Rattle.record_text.specs.declared.version.Version.TheVariants as versions
 use Rattle.record_text.specs.Replies.{answer_of_accept, answer_of_read, answer_of_settime}
-use Rattle.record_text.specs.Words.{clock_word, mode_word}
+use Rattle.record_text.specs.Words.{clock_word, mode_word, version_word}
 
 -- a line of a record's text, with the numbers that it begins with: of a write, of a timer or an object and its entry, of a lane and its call
 pub data RecordLine : Type 0 where
-  Version : RecordLine
+  Heading : RecordLine
   OfClock : (number : ℕ) (written : ClockLine) → RecordLine
   OfTimer : (timer number : ℕ) (label : Label) (entry : Entry) → RecordLine
   OfLook : (timer number : ℕ) (look : Look) → RecordLine
@@ -71,7 +75,7 @@ lane_lines lane lanes = lines_in_lists (λ l call answer. OfCall l call answer �
 
 -- the lines of a record
 abbrev pub record_lines : RunRecord → List RecordLine
-record_lines r = Version ∷ (clock_lines 1 r.clock ++ (timer_lines 0 r.timers ++ (object_lines 0 r.objects ++ (lane_lines 0 r.answers ++ End ∷ []))))
+record_lines r = Heading ∷ (clock_lines 1 r.clock ++ (timer_lines 0 r.timers ++ (object_lines 0 r.objects ++ (lane_lines 0 r.answers ++ End ∷ []))))
 
 -- 1 where a test holds, else 0
 abbrev pub flag : Bool → List ℕ
@@ -109,17 +113,29 @@ armed_word arms.Unarmed = codes "unarmed"
 abbrev pub counted_word : Bool → List ℕ
 counted_word counted = if counted then codes "counted" else codes "stale"
 
+-- the words of a start: what was asked for, and what it came to
+abbrev pub start_words : Version → StartLine → List (List ℕ)
+start_words versions.One l =
+    codes "start" ∷ mode_word l.mode ∷ decimal l.ns ∷ decimal l.reading ∷ decimal l.asked ∷ decimal l.base ∷ clock_word l.clock ∷ decimal l.expires ∷
+    flag l.was_armed ∷ []
+start_words versions.Two l =
+    codes "start" ∷ mode_word l.mode ∷ decimal l.ns ∷ decimal l.slack ∷ decimal l.reading ∷ decimal l.asked ∷ decimal l.base ∷ clock_word l.clock ∷
+    decimal l.soft ∷ decimal l.expires ∷ flag l.was_armed ∷ []
+
+-- the words of a forward
+abbrev pub forward_words : Version → ForwardLine → List (List ℕ)
+forward_words versions.One l = codes "forward" ∷ decimal l.reading ∷ decimal l.interval ∷ decimal l.count ∷ decimal l.expires ∷ []
+forward_words versions.Two l =
+    codes "forward" ∷ decimal l.reading ∷ decimal l.interval ∷ decimal l.count ∷ decimal l.soft ∷ decimal l.expires ∷ []
+
 -- the words of an entry
-abbrev pub entry_words : Entry → List (List ℕ)
-entry_words (entries.Out base was_armed) = codes "out" ∷ decimal base ∷ flag was_armed ∷ []
-entry_words (entries.Start mode ns reading asked base clock expires was_armed) =
-    codes "start" ∷ mode_word mode ∷ decimal ns ∷ decimal reading ∷ decimal asked ∷ decimal base ∷ clock_word clock ∷ decimal expires ∷
-    flag was_armed ∷ []
-entry_words (entries.Cancel generation) = codes "cancel" ∷ decimal generation ∷ []
-entry_words (entries.Claim base reading generation) = codes "claim" ∷ decimal base ∷ decimal reading ∷ decimal generation ∷ []
-entry_words (entries.Forward reading interval count expires) =
-    codes "forward" ∷ decimal reading ∷ decimal interval ∷ decimal count ∷ decimal expires ∷ []
-entry_words (entries.Finish restart generation rearmed) =
+abbrev pub entry_words : Version → Entry → List (List ℕ)
+entry_words version (entries.Out base was_armed) = codes "out" ∷ decimal base ∷ flag was_armed ∷ []
+entry_words version (entries.Start l) = start_words version l
+entry_words version (entries.Cancel generation) = codes "cancel" ∷ decimal generation ∷ []
+entry_words version (entries.Claim base reading generation) = codes "claim" ∷ decimal base ∷ decimal reading ∷ decimal generation ∷ []
+entry_words version (entries.Forward l) = forward_words version l
+entry_words version (entries.Finish restart generation rearmed) =
     codes "finish" ∷ restart_word restart ∷ decimal generation ∷ rearmed_word rearmed ∷ []
 
 -- the words of what a callback was told in place of an entry
@@ -177,22 +193,22 @@ object_entry_words (object_entries.Settime flags value interval reading arm repl
 object_entry_words (object_entries.Trigger generation reading counted) = codes "trigger" ∷ decimal generation ∷ decimal reading ∷ counted_word counted ∷ []
 object_entry_words other = rearming_words other
 
--- the words of a line
-abbrev pub line_words : RecordLine → List (List ℕ)
-line_words Version = codes "record" ∷ codes "1" ∷ []
-line_words (OfClock number w) =
+-- the words of a line of a record of a version
+abbrev pub line_words : Version → RecordLine → List (List ℕ)
+line_words version Heading = codes "record" ∷ version_word version ∷ []
+line_words version (OfClock number w) =
     codes "clock" ∷ decimal number ∷ decimal w.label.lane ∷ decimal w.label.call ∷ write_name w.write ∷ decimal
     (write_ns w.write) ∷ decimal w.mono ∷ decimal w.real ∷ decimal w.boot ∷ decimal w.changes ∷ []
-line_words (OfTimer timer number label entry) =
-    codes "timer" ∷ decimal timer ∷ decimal number ∷ decimal label.lane ∷ decimal label.call ∷ entry_words entry
-line_words (OfLook timer number look) =
+line_words version (OfTimer timer number label entry) =
+    codes "timer" ∷ decimal timer ∷ decimal number ∷ decimal label.lane ∷ decimal label.call ∷ entry_words version entry
+line_words version (OfLook timer number look) =
     codes "look" ∷ decimal timer ∷ decimal number ∷ decimal look.label.lane ∷ decimal look.label.call ∷ reply_words look.reply
-line_words (OfObject object number label entry) =
+line_words version (OfObject object number label entry) =
     codes "object" ∷ decimal object ∷ decimal number ∷ decimal label.lane ∷ decimal label.call ∷ object_entry_words entry
-line_words (OfSkip object number skip) =
+line_words version (OfSkip object number skip) =
     codes "skip" ∷ decimal object ∷ decimal number ∷ decimal skip.label.lane ∷ decimal skip.label.call ∷ decimal skip.generation ∷ []
-line_words (OfCall lane call answer) = codes "call" ∷ decimal lane ∷ decimal call ∷ answer_words answer
-line_words End = codes "end" ∷ []
+line_words version (OfCall lane call answer) = codes "call" ∷ decimal lane ∷ decimal call ∷ answer_words answer
+line_words version End = codes "end" ∷ []
 
 -- each word after a space
 abbrev pub spaced : List (List ℕ) → List ℕ
@@ -205,13 +221,13 @@ join_words [] = []
 join_words (w ∷ ws) = w ++ spaced ws
 
 -- the bytes of a line: its words, and a newline
-abbrev pub line_text : RecordLine → List ℕ
-line_text l = join_words (line_words l) ++ 10 ∷ []
+abbrev pub line_text : Version → RecordLine → List ℕ
+line_text version l = join_words (line_words version l) ++ 10 ∷ []
 
 -- the bytes of lines
-abbrev pub lines_text : List RecordLine → List ℕ
-lines_text ls = flat_map line_text ls
+abbrev pub lines_text : Version → List RecordLine → List ℕ
+lines_text version ls = flat_map (line_text version) ls
 
 -- the text of a record
 abbrev pub text_of : RunRecord → List ℕ
-text_of r = lines_text (record_lines r)
+text_of r = lines_text r.version (record_lines r)

@@ -4,6 +4,13 @@ use Rattle.ktime.specs.declared.clock_id.ClockId.{ClockId}
 use Rattle.ktime.specs.declared.clock_id.ClockId.TheVariants as clocks
 use Rattle.ktime.specs.declared.mode.Mode.{Mode}
 use Rattle.ktime.specs.declared.mode.Mode.TheVariants as modes
+use Rattle.record_text.specs.declared.version.Version.{Version}
+use Rattle.record_text.specs.declared.version.Version.TheVariants as versions
+
+-- the number of a version
+abbrev pub version_word : Version → List ℕ
+version_word versions.One = codes "1"
+version_word versions.Two = codes "2"
 
 -- the name of a clock
 abbrev pub clock_word : ClockId → List ℕ

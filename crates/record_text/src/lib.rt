@@ -3,11 +3,14 @@
 
 pub use item_list::ItemList;
 pub use record::{
-    AcceptReply, Answer, Armed, CallbackReply, ClockLine, Entry, Label, Look, ObjectEntry,
-    ObjectLine, ReadReply, Restart, RunRecord, SettimeReply, Skip, TimerLine,
+    AcceptReply, Answer, Armed, CallbackReply, ClockLine, Entry, ForwardLine, Label, Look,
+    ObjectEntry, ObjectLine, ReadReply, Restart, RunRecord, SettimeReply, Skip, StartLine,
+    TimerLine,
 };
+pub use version::Version;
 pub use writing::{text, text_determines_the_record};
 
 mod item_list;
 mod record;
+mod version;
 mod writing;

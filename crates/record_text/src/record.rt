@@ -3,6 +3,7 @@ ghost use Rattle.std.specs.Prelude.{◌≡◌};
 ghost use Rattle.record_text.specs.Replies.{answer_of_accept, answer_of_read, answer_of_settime};
 
 use crate::item_list::ItemList;
+use crate::version::Version;
 use clock_model::Write;
 use ktime::{ClockId, Mode};
 
@@ -35,6 +36,31 @@ pub enum Restart {
     Spent,
 }
 
+/// What the line of a start shows; of version 1 neither the slack nor the soft expiry.
+#[derive(Clone, Copy, Debug, PartialEq, Eq)]
+pub struct StartLine {
+    pub mode: Mode,
+    pub ns: u64,
+    pub slack: u64,
+    pub reading: u64,
+    pub asked: u32,
+    pub base: u32,
+    pub clock: ClockId,
+    pub soft: u64,
+    pub expires: u64,
+    pub was_armed: bool,
+}
+
+/// What the line of a forward shows; of version 1 not the soft expiry.
+#[derive(Clone, Copy, Debug, PartialEq, Eq)]
+pub struct ForwardLine {
+    pub reading: u64,
+    pub interval: u64,
+    pub count: u64,
+    pub soft: u64,
+    pub expires: u64,
+}
+
 /// An entry of a timer's history as its line shows it. A reading is named by its stamp.
 #[derive(Clone, Copy, Debug, PartialEq, Eq)]
 pub enum Entry {
@@ -42,16 +68,7 @@ pub enum Entry {
         base: u32,
         was_armed: bool,
     },
-    Start {
-        mode: Mode,
-        ns: u64,
-        reading: u64,
-        asked: u32,
-        base: u32,
-        clock: ClockId,
-        expires: u64,
-        was_armed: bool,
-    },
+    Start(StartLine),
     Cancel {
         generation: u64,
     },
@@ -60,12 +77,7 @@ pub enum Entry {
         reading: u64,
         generation: u64,
     },
-    Forward {
-        reading: u64,
-        interval: u64,
-        count: u64,
-        expires: u64,
-    },
+    Forward(ForwardLine),
     Finish {
         restart: bool,
         generation: u64,
@@ -328,9 +340,10 @@ pub enum Answer {
 }
 
 /// What a run leaves: the clock's writes, each timer's history, each object's history, and each lane's answers. There is
-/// a list of objects' lines for each timer, which stays empty for a raw timer.
+/// a list of objects' lines for each timer, which stays empty for a raw timer. Its text goes by its version.
 #[derive(Drop)]
 pub struct RunRecord {
+    pub version: Version,
     pub clock: ItemList<ClockLine>,
     pub timers: ItemList<ItemList<TimerLine>>,
     pub objects: ItemList<ItemList<ObjectLine>>,

@@ -67,7 +67,8 @@ are_placed w lane index clock moves (p ∷ ps) =
     && are_placed w lane (index + 1) (clock_then w (record { lane = lane; call = index })) (w.traces (record { lane = lane; call = index })).last ps
 
 -- law: so the calls of a lane fit
-pub lane_fits : (w : Course) (lane index clock moves objects : ℕ) (ps : List CallInRound) (given : List Answer) → are_placed w lane index clock moves ps ≡ true
+pub lane_fits : (w : Course) (lane index clock moves objects : ℕ) (ps : List CallInRound) (given : List Answer)
+    → are_placed w lane index clock moves ps ≡ true
     → AreRight w lane index objects ps given → FitsLane w lane index (record { clock = clock; moves = moves; objects = λ i. objects }) ps given
 lane_fits w lane index clock moves objects [] [] placed right = tt
 lane_fits w lane index clock moves objects [] (a ∷ more) placed right = absurd right
@@ -78,11 +79,13 @@ lane_fits w lane index clock moves objects (p ∷ ps) (a ∷ more) placed right 
     let these = map (λ x. x.0) (wrote t.actions) in
     let both = and_parts (is_placed w c clock moves) (are_placed w lane (index + 1) (clock_then w c) t.last ps) placed in
     let halves = and_parts (is_point w.script c 0 t.at (clock_labels w.run) && never_fall clock (t.at ∷ these) (clock_then w c))
-    ((is_point w.script c 0 t.first (labels w) && is_point w.script c (length (all_entered t.actions)) t.last (labels w)) && nat_le moves t.first) both.0 in
+    ((is_point w.script c 0 t.first (labels w) && is_point w.script c (length (all_entered t.actions)) t.last (labels w))
+    && nat_le moves t.first) both.0 in
     let times = and_parts (is_point w.script c 0 t.at (clock_labels w.run)) (never_fall clock (t.at ∷ these) (clock_then w c)) halves.0 in
     let rest = and_parts (is_point w.script c 0 t.first (labels w) && is_point w.script c (length (all_entered t.actions)) t.last (labels w))
     (nat_le moves t.first) halves.1 in
-    let ends = and_parts (is_point w.script c 0 t.first (labels w)) (is_point w.script c (length (all_entered t.actions)) t.last (labels w)) rest.0 in (
+    let ends = and_parts (is_point w.script c 0 t.first (labels w))
+    (is_point w.script c (length (all_entered t.actions)) t.last (labels w)) rest.0 in (
       record { clock = clock_then w c; moves = t.last; objects = λ i. right.0 },
       record {
         traced = right.1.traced;
@@ -127,7 +130,8 @@ is_said w c call before after =
 
 -- law: so a call is right
 pub right : {w : Course} {c : Label} {call : Call} {answer : Answer} {before after : ℕ} → is_said w c call before after ≡ true
-    → own (λ line. line.label) (λ line. line.write) c 1 w.run.clock ≡ wrote (w.traces c).actions → own_moves c w.moves ≡ all_entered (w.traces c).actions
+    → own (λ line. line.label) (λ line. line.write) c 1 w.run.clock ≡ wrote (w.traces c).actions
+    → own_moves c w.moves ≡ all_entered (w.traces c).actions
     → Along (λ t. own_looks c 1 (lines_of_timer w.run t) ≡ looked t (w.traces c).actions) 0 w.run.timers
     → Along (λ i. own (λ line. line.label) (λ line. line.entry) c 1 (lines_of_object w.run i) ≡ made i (w.traces c).actions) 0 w.run.objects
     → Along (λ i. NeverFall before (object_steps_on i call answer (w.traces c).actions) after) 0 w.run.objects

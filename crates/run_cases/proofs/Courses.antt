@@ -1,12 +1,15 @@
 -- Small courses, given by lists: short words for them, facts of all numbers by the places of lists, and timers that are not there.
-use Rattle.std.proofs.Common.{◌≡◌, ◌≤◌, ℕ, ◌+◌, zero, suc, Bool, true, false, nat_eq, nat_lt, None, List, [], ◌∷◌, ◌++◌, if◌then◌else◌, filter, flat_map, length, map, take, get_or, arith, refl, sym, ap, ◌∙◌, subst}
+use Rattle.std.proofs.Common.{◌≡◌, ◌≤◌, ℕ, ◌+◌, zero, suc, Bool, true, false, nat_eq, nat_lt, None, List, [], ◌∷◌, ◌++◌, if◌then◌else◌, filter, flat_map, length, map, take, get_or, arith, refl, sym, ap, ◌∙◌, subst, inl}
 use Rattle.std.specs.List.{AllByRecursion, list_all}
 use Rattle.std.proofs.lemmas.List.{get_or_past, length-map}
+use Rattle.ktime.specs.declared.clock_id.ClockId.{ClockId}
 use Rattle.ktime.specs.declared.clock_id.ClockId.TheVariants as clocks
+use Rattle.seq_timer.specs.declared.context.Context.{Context}
+use Rattle.seq_timer.specs.declared.context.Context.TheVariants as contexts
 use Rattle.seq_timer.specs.Histories.{after_all}
-use Rattle.seq_timer.specs.Steps.{Needs, opening, reply_to}
-use Rattle.seq_timer.specs.Systems.{entries_of, FitsBase, first_system, IsSystemStep, System, openings}
-use Rattle.seq_timer.specs.Tables.{is_due_on, no_timer, runs_on, timer_at}
+use Rattle.seq_timer.specs.Steps.{Needs, Timer, opening, reply_to}
+use Rattle.seq_timer.specs.Systems.{entries_of, FitsBase, first_system, IsSystemStep, System, next_on, openings}
+use Rattle.seq_timer.specs.Tables.{in_context, is_kept_on, IsStopped, no_timer, runs_on, seen_in, timer_at}
 use Rattle.seq_timer.specs.declared.system.TimerEntry.{TimerEntry}
 use Rattle.seq_timer.proofs.Systems.{after_entries-entries_of}
 use Rattle.record_text.specs.declared.record.ClockLine.{ClockLine}
@@ -16,11 +19,11 @@ use Rattle.script_text.specs.declared.script.LaneCall.{LaneCall}
 use Rattle.script_text.specs.declared.script.Round.{Round}
 use Rattle.script_text.specs.declared.script.Script.{Script}
 use Rattle.script_text.specs.Actions.{Action, also}
-use Rattle.script_text.specs.Histories.{entry_shown, lines_of_timer, reading_at}
+use Rattle.script_text.specs.Histories.{declared_as, declareds_of, entry_shown, lines_of_timer, reading_at, terms_of}
 use Rattle.script_text.specs.Order.{calls_from}
 use Rattle.script_text.specs.Starts.{Arming}
 use Rattle.run_history.specs.Calls.{fires}
-use Rattle.run_history.specs.Courses.{clocks_of, Course, entries_in, entry_of_move, Fired, Move, moves_on, timer_along, Trace}
+use Rattle.run_history.specs.Courses.{Course, entries_in, entry_of_move, Fired, Move, moves_on, system_along, timer_along, Trace}
 use Rattle.run_history.specs.Receipts.{no_line}
 use Rattle.run_history.specs.Truths.{IsDone}
 use Rattle.run_cases.proofs.Tests.{all_true, lt, other}
@@ -34,7 +37,8 @@ times t ts = length (filter (λ x. nat_eq x t) ts)
 -- the moves of a record, where its timers' entries follow one another so; these were before
 abbrev pub moves_by : RunRecord → List ℕ → List ℕ → List Move
 moves_by r done [] = []
-moves_by r done (t ∷ ts) = record { timer = t; before = times t done; line = get_or (lines_of_timer r t) (times t done) no_line } ∷ moves_by r (t ∷ done) ts
+moves_by r done (t ∷ ts) =
+    record { timer = t; before = times t done; line = get_or (lines_of_timer r t) (times t done) no_line } ∷ moves_by r (t ∷ done) ts
 
 -- what a call did with this reading, from one moment to another
 abbrev pub did : ℕ → List Action → ℕ → ℕ → Trace
@@ -49,7 +53,8 @@ abbrev pub fired : ℕ → ℕ → List Action → ℕ → Bool → Fired
 fired claim generation body finish restart =
     record { timer = 0; claim = claim; generation = generation; body = body; finish = finish; restart = restart; rearmed = restarts.None }
 
--- the course of a script and a record, where timers' entries follow one another so, each lane's calls did these things, and objects' entries have such spans
+-- the course of a script and a record, where timers' entries follow one another so, each lane's calls did these things, and objects' entries have
+-- such spans
 abbrev pub course_by : Script → RunRecord → List ℕ → List (List Trace) → (ℕ → ℕ → ℕ × ℕ) → Course
 course_by s r order traces spans = record {
   script = s;
@@ -61,7 +66,15 @@ course_by s r order traces spans = record {
 
 -- a start with one entry, of this number, on base 0
 abbrev pub armed_by : ℕ → ℕ → Arming
-armed_by number expires = record { out = None; number = number; base = 0; clock = clocks.Monotonic; expires = expires; was_armed = false }
+armed_by number expires = record {
+  out = None;
+  number = number;
+  base = 0;
+  clock = clocks.Monotonic;
+  soft = expires;
+  expires = expires;
+  was_armed = false;
+}
 
 -- pairs, whose types say what stands in them
 pub two : {A B : Type 0} → A → B → A × B
@@ -75,7 +88,7 @@ next n p q = (n, p, q)
 
 -- an entry may come next
 pub step : {bases count : ℕ} {w : System} {e : TimerEntry} → nat_lt e.timer count ≡ true → Needs (w.timers e.timer) e.event
-    → e.reply ≡ reply_to (w.timers e.timer) e.event → FitsBase bases (w.bases (w.timers e.timer).base).content e.timer (w.timers e.timer) e.event
+    → e.reply ≡ reply_to (w.timers e.timer) e.event → FitsBase bases (w.bases (w.timers e.timer).base) e.timer (w.timers e.timer) e.event
     → IsSystemStep bases count w e
 step there needs reply base = record { within = lt there; needs = needs; reply = reply; base = base }
 
@@ -143,20 +156,38 @@ none_at clock t (suc n) (m ∷ ms) none =
 absent_then : (w : Course) (n t : ℕ) → list_all (λ m. nat_lt m.timer (length w.script.timers)) w.moves ≡ true → length w.script.timers ≤ t
     → timer_along w n t ≡ no_timer
 absent_then w n t there past =
-    let opened = openings (clocks_of w.script) w.script.limit in
+    let opened = openings (declareds_of w.script) (terms_of w.script) in
     after_entries-entries_of (first_system opened) t (take n (entries_in w))
     ∙ ap (after_all (timer_at opened t)) (none_at w.run.clock t n w.moves
     (all_true (λ m. nat_eq m.timer t ≡ false) (λ m. nat_lt m.timer (length w.script.timers))
     (λ m less. other m.timer (length w.script.timers) t less past) w.moves there))
-    ∙ get_or_past opened t no_timer (subst (λ k. k ≤ t) (sym (length-map (clocks_of w.script) (λ clock. opening clock w.script.limit)
-    ∙ length-map w.script.timers (λ d. d.clock))) past)
+    ∙ get_or_past opened t no_timer (subst (λ k. k ≤ t) (sym (length-map (declareds_of w.script) (λ declared. opening declared (terms_of w.script))
+    ∙ length-map w.script.timers declared_as)) past)
 
--- nothing is left to do on a base, where nothing is of any timer that is there
-pub done_by : (w : Course) (reading base n : ℕ) → list_all (λ m. nat_lt m.timer (length w.script.timers)) w.moves ≡ true
-    → Along (λ t. (runs_on base (timer_along w n t) ≡ false) × (is_due_on base (reading_at w.run.clock reading) (timer_along w n t) ≡ false)) 0 w.script.timers
-    → IsDone w reading base n
-done_by w reading base n there each =
-    let all = everywhere (λ t. (runs_on base (timer_along w n t) ≡ false)
-    × (is_due_on base (reading_at w.run.clock reading) (timer_along w n t) ≡ false)) w.script.timers each
-    (λ t past. (ap (runs_on base) (absent_then w n t there past), ap (is_due_on base (reading_at w.run.clock reading)) (absent_then w n t there past))) in
-    record { free = λ t. (all t).0; none_due = λ t. (all t).1 }
+no_timer_seen : (x : Context) → seen_in x no_timer ≡ no_timer
+no_timer_seen contexts.Hard = refl
+no_timer_seen contexts.Soft = refl
+
+-- what is said of no timer, and of none that is there, as a context sees them, is said of none
+pub none_then : (w : Course) (x : Context) (n : ℕ) (f : Timer → Bool) → f no_timer ≡ false
+    → list_all (λ m. nat_lt m.timer (length w.script.timers)) w.moves ≡ true
+    → Along (λ t. f (in_context x (timer_along w n) t) ≡ false) 0 w.script.timers → (t : ℕ) → f (in_context x (timer_along w n) t) ≡ false
+none_then w x n f none there each = everywhere (λ t. f (in_context x (timer_along w n) t) ≡ false) w.script.timers each
+    (λ t past. ap (λ timer. f (seen_in x timer)) (absent_then w n t there past) ∙ ap f (no_timer_seen x) ∙ none)
+
+-- nothing is left to do on a base, where no function of a timer that is there runs, none comes first, and the base is stopped
+pub stopped_by : (w : Course) (x : Context) (reading base n : ℕ) → list_all (λ m. nat_lt m.timer (length w.script.timers)) w.moves ≡ true
+    → next_on x ((system_along w n).bases base) (reading_at w.run.clock reading) ≡ None
+    → Along (λ t. runs_on base (in_context x (timer_along w n) t) ≡ false) 0 w.script.timers
+    → ((clock : ClockId) → IsStopped (in_context x (timer_along w n)) base (reading_at w.run.clock reading) clock) → IsDone w x reading base n
+stopped_by w x reading base n there first free stopped =
+    record { free = none_then w x n (runs_on base) refl there free; first = first; stopped = stopped }
+
+-- the same, where no timer that is there is kept on the base
+pub done_by : (w : Course) (x : Context) (reading base n : ℕ) → list_all (λ m. nat_lt m.timer (length w.script.timers)) w.moves ≡ true
+    → next_on x ((system_along w n).bases base) (reading_at w.run.clock reading) ≡ None
+    → Along (λ t. runs_on base (in_context x (timer_along w n) t) ≡ false) 0 w.script.timers
+    → ((clock : ClockId) → Along (λ t. is_kept_on base clock (in_context x (timer_along w n) t) ≡ false) 0 w.script.timers)
+    → IsDone w x reading base n
+done_by w x reading base n there first free kept = stopped_by w x reading base n there first free
+    (λ clock. inl (none_then w x n (is_kept_on base clock) refl there (kept clock)))

@@ -1,24 +1,29 @@
 -- The records that fit: a course for each, and what makes it fit.
 use Rattle.std.proofs.Common.{◌≡◌, ℕ, true, false, [], ◌∷◌, List, None, Some, get_or, arith, refl, inl, inr}
 use Rattle.ktime.specs.Times.{passed}
+use Rattle.ktime.specs.declared.clock_id.ClockId.{ClockId}
+use Rattle.ktime.specs.declared.clock_id.ClockId.TheVariants as clocks
 use Rattle.ktime.specs.declared.mode.Mode.TheVariants as modes
 use Rattle.clock_model.specs.declared.write.Write.TheVariants as writes
+use Rattle.seq_timer.specs.declared.context.Context.TheVariants as contexts
 use Rattle.seq_timer.specs.Systems.{after_entry, changed, IsSystemHistory}
+use Rattle.seq_timer.specs.Tables.{IsStopped, in_context, is_kept_on, is_smaller}
 use Rattle.record_text.specs.declared.record.Answer.TheVariants as answers
 use Rattle.record_text.specs.declared.record.Answer.{Answer}
 use Rattle.record_text.specs.declared.record.Armed.TheVariants as armings
 use Rattle.record_text.specs.declared.record.CallbackReply.TheVariants as replies
 use Rattle.record_text.specs.declared.record.Entry.TheVariants as entries
 use Rattle.record_text.specs.declared.record.RunRecord.{RunRecord}
+use Rattle.script_text.specs.Histories.{declareds_of, reading_at, terms_of}
 use Rattle.script_text.specs.declared.script.Call.TheVariants as calls
 use Rattle.script_text.specs.Actions.{Entered, Looked, Made, Wrote}
 use Rattle.script_text.specs.Order.{calls_of}
-use Rattle.run_history.specs.Courses.{clocks_of, Course, entries_in, Trace}
+use Rattle.run_history.specs.Courses.{Course, entries_in, timer_along, Trace}
 use Rattle.run_history.specs.Fits.{Fits}
-use Rattle.run_cases.specs.Fitting.{accept_entry, accepted_record, accepted_script, beside, beside_script, cancelled_record, expired_lines, idle_record, idle_script, kept_start, late_record, moved_record, moved_script, moved_start, rearming_start, none_entry, running_record, set_entry, told_record, told_script, trigger_entry}
-use Rattle.run_cases.specs.Lines.{at, start}
+use Rattle.run_cases.specs.Fitting.{accept_entry, accepted_record, accepted_script, beside, beside_script, cancelled_record, expired_lines, idle_record, idle_script, kept_start, late_record, moved_record, moved_script, moved_start, rearming_start, none_entry, running_record, set_entry, told_record, told_script, trigger_entry, early_record, early_script, waiting_record, waiting_script, contexts_record, contexts_script}
+use Rattle.run_cases.specs.Lines.{at, slack_entry, start}
 use Rattle.run_cases.proofs.Calls.{are_placed, IsRight, right}
-use Rattle.run_cases.proofs.Courses.{armed_by, course_by, did, done_by, fired, next, ran, step, three, two}
+use Rattle.run_cases.proofs.Courses.{armed_by, course_by, did, done_by, fired, next, none_then, stopped_by, ran, step, three, two}
 use Rattle.run_cases.proofs.Small.{fits_by}
 use Rattle.run_cases.proofs.Tests.{le, lt, point_passes}
 
@@ -27,12 +32,14 @@ use Rattle.run_cases.proofs.Tests.{le, lt, point_passes}
 -- its course
 abbrev idle_course : Course
 idle_course = course_by idle_script idle_record (0 ∷ 0 ∷ 0 ∷ []) ((did 0 (Entered 0 1 (start modes.Rel 100 100) ∷ []) 0 1
-    ∷ did 0 (Wrote 1 (writes.Advance 100) ∷ []) 1 1 ∷ ran 0 1 (fired 2 1 [] 3 false ∷ []) 1 3 ∷ did 1 [] 3 3 ∷ did 1 [] 3 3 ∷ []) ∷ []) (λ i k. (0, 0))
+    ∷ did 0 (Wrote 1 (writes.Advance 100) ∷ []) 1 1 ∷ ran 0 1 (fired 2 1 [] 3 false ∷ []) 1 3 ∷ did 1 [] 3 3 ∷ did 1 [] 3 3 ∷ []) ∷ [])
+    (λ i k. (0, 0))
 
 -- law: it fits
 pub idle_fits : Fits idle_script idle_record
 unfolding after_entry changed
 idle_fits = fits_by idle_course (record {
+  version = refl;
   passed = refl;
   writes = (record { counted = lt refl; timely = le refl }, record { mono = refl; real = refl; boot = refl; changes = refl }, tt);
   all = (refl, tt);
@@ -45,8 +52,8 @@ idle_fits = fits_by idle_course (record {
       next 0 (right refl refl refl (refl, tt) (refl, tt) (le refl, tt) (armed_by 1 100, refl, refl, refl, refl, tt) (inl refl) tt tt)
       (next 0 (right refl refl refl (refl, tt) (refl, tt) (le refl, tt) refl (inl refl) tt tt)
       (next 0 (right refl refl refl (refl, tt) (refl, tt) (le refl, tt)
-      (record { one_reading = refl; claimed = refl; done = refl; bodies = ((refl, refl), tt) }, lt refl)
-      (inl refl) (tt, tt) (done_by idle_course 1 0 3 refl ((refl, refl), tt)))
+      (record { one_reading = refl; claimed = refl; done = refl; contexts = (refl, tt); bodies = ((refl, refl), tt) }, lt refl)
+      (inl refl) (tt, tt) (done_by idle_course contexts.Hard 1 0 3 refl refl (refl, tt) (λ clock. (refl, tt))))
       (next 0 (right refl refl refl (refl, tt) (refl, tt) (le refl, tt) refl (inl refl) tt
       (record { stamp = refl; holds = record { armed = refl; running = refl; moving = refl } }))
       (next 0 (right refl refl refl (refl, tt) (refl, tt) (le refl, tt) refl (inl refl) tt (record { stamp = refl; holds = refl })) tt))))
@@ -61,7 +68,7 @@ told_course = course_by told_script told_record (0 ∷ 0 ∷ 0 ∷ []) ((did 0 (
     ∷ ran 0 0 (fired 2 1 (Looked 0 2 (replies.Running 1) ∷ []) 3 false ∷ []) 1 3 ∷ []) ∷ []) (λ i k. (0, 0))
 
 -- a start, the claim at the same time and the finish are a history
-at_once : IsSystemHistory told_script.bases (clocks_of told_script) told_script.limit (entries_in told_course)
+at_once : IsSystemHistory told_script.bases (declareds_of told_script) (terms_of told_script) (entries_in told_course)
 unfolding after_entry changed
 at_once = two (step refl (inr refl, inl (lt refl)) refl tt)
     (two (step refl (refl, refl, refl, refl, le refl) refl (refl, refl)) (two (step refl refl refl tt) tt))
@@ -70,6 +77,7 @@ at_once = two (step refl (inr refl, inl (lt refl)) refl tt)
 pub told_fits : Fits told_script told_record
 unfolding after_entry changed
 told_fits = fits_by told_course (record {
+  version = refl;
   passed = refl;
   writes = tt;
   all = (refl, tt);
@@ -80,7 +88,7 @@ told_fits = fits_by told_course (record {
   calls = two (
       next 0 (right refl refl refl (refl, tt) (refl, tt) (le refl, tt) (armed_by 1 0, refl, refl, refl, refl, tt) (inl refl) tt tt)
       (next 0 (right refl refl refl (refl, tt) (refl, tt) (le refl, tt)
-      (record { one_reading = refl; claimed = refl; done = refl; bodies = (((2, refl), refl), tt) }, refl)
+      (record { one_reading = refl; claimed = refl; done = refl; contexts = (refl, tt); bodies = (((2, refl), refl), tt) }, refl)
       (inr (
         1,
         le refl,
@@ -107,6 +115,7 @@ moved_course = course_by moved_script moved_record (0 ∷ 0 ∷ 0 ∷ 0 ∷ 0 �
 pub moved_fits : Fits moved_script moved_record
 unfolding after_entry changed
 moved_fits = fits_by moved_course (record {
+  version = refl;
   passed = refl;
   writes = tt;
   all = (refl, tt);
@@ -119,7 +128,8 @@ moved_fits = fits_by moved_course (record {
   calls = two (
       next 0 (right refl refl refl (refl, tt) (refl, tt) (le refl, tt) (armed_by 1 0, refl, refl, refl, refl, tt) (inl refl) tt tt)
       (next 0 (right refl refl refl (refl, tt) (refl, tt) (le refl, tt)
-      (record { one_reading = refl; claimed = refl; done = refl; bodies = ((inl (armed_by 3 50, refl), refl), tt) }, refl) (inl refl) (tt, tt) tt)
+      (record { one_reading = refl; claimed = refl; done = refl; contexts = (refl, tt); bodies = ((inl (armed_by 3 50, refl), refl), tt) }, refl)
+      (inl refl) (tt, tt) tt)
       (next 0 (right refl refl refl (refl, tt) (refl, tt) (le refl, tt) refl (inl refl) tt (record { stamp = refl; holds = refl }))
       (next 0 (right refl refl refl (refl, tt) (refl, tt) (le refl, tt)
       (record (armed_by 6 70) { out = Some (5, true); base = 1 }, refl, refl, refl, refl, refl) (inl refl) tt tt) tt)))
@@ -141,6 +151,7 @@ cancelled_course = beside_course cancelled_record (0 ∷ []) (did 0 (Entered 0 2
 pub cancelled_fits : Fits beside_script cancelled_record
 unfolding after_entry changed
 cancelled_fits = fits_by cancelled_course (record {
+  version = refl;
   passed = refl;
   writes = tt;
   all = (refl, tt);
@@ -152,8 +163,9 @@ cancelled_fits = fits_by cancelled_course (record {
       next 0 (right refl refl refl (refl, tt) (refl, tt) (le refl, tt) (armed_by 1 0, refl, refl, refl, refl, tt) (inl refl) tt tt)
       (next 0 (right refl refl refl (refl, tt) (refl, tt) (le refl, tt) (2, refl) (inl refl) tt tt) tt)
       ) (two (
-      next 0 (right refl refl refl (refl, tt) (refl, tt) (le refl, tt) (record { one_reading = refl; claimed = refl; done = refl; bodies = tt }, lt refl)
-      (inl refl) tt (done_by cancelled_course 0 0 2 refl ((refl, refl), tt))) tt
+      next 0 (right refl refl refl (refl, tt) (refl, tt) (le refl, tt)
+      (record { one_reading = refl; claimed = refl; done = refl; contexts = tt; bodies = tt }, lt refl) (inl refl) tt
+      (done_by cancelled_course contexts.Hard 0 0 2 refl refl (refl, tt) (λ clock. (refl, tt)))) tt
       ) tt);
 })
 
@@ -163,9 +175,11 @@ expired_course told moment = beside_course (beside expired_lines told (answers.D
     (ran 0 0 (fired 2 1 [] 3 false ∷ []) 1 3)
 
 expired_fits : (told : Answer) (moment : ℕ) → are_placed (expired_course told moment) 0 0 0 0 (calls_of beside_script 0) ≡ true
-    → IsRight (expired_course told moment) (at 0 1) (calls.Cancel 0) told 0 0 → Fits beside_script (beside expired_lines told (answers.Done 0 (0 ∷ [])))
+    → IsRight (expired_course told moment) (at 0 1) (calls.Cancel 0) told 0 0
+    → Fits beside_script (beside expired_lines told (answers.Done 0 (0 ∷ [])))
 unfolding after_entry changed
 expired_fits told moment placed cancel = fits_by (expired_course told moment) (record {
+  version = refl;
   passed = refl;
   writes = tt;
   all = (refl, tt);
@@ -177,8 +191,8 @@ expired_fits told moment placed cancel = fits_by (expired_course told moment) (r
       next 0 (right refl refl refl (refl, tt) (refl, tt) (le refl, tt) (armed_by 1 0, refl, refl, refl, refl, tt) (inl refl) tt tt) (next 0 cancel tt)
       ) (two (
       next 0 (right refl refl refl (refl, tt) (refl, tt) (le refl, tt)
-      (record { one_reading = refl; claimed = refl; done = refl; bodies = ((refl, refl), tt) }, lt refl) (inl refl) (tt, tt)
-      (done_by (expired_course told moment) 0 0 3 refl ((refl, refl), tt))) tt
+      (record { one_reading = refl; claimed = refl; done = refl; contexts = (refl, tt); bodies = ((refl, refl), tt) }, lt refl) (inl refl) (tt, tt)
+      (done_by (expired_course told moment) contexts.Hard 0 0 3 refl refl (refl, tt) (λ clock. (refl, tt)))) tt
       ) tt);
 })
 
@@ -202,7 +216,8 @@ accepted_spans k = get_or ((0, 0) ∷ (0, 1) ∷ (1, 2) ∷ (3, 4) ∷ (4, 4) �
 
 -- its course
 abbrev accepted_course : Course
-accepted_course = course_by accepted_script accepted_record (0 ∷ 0 ∷ 0 ∷ 0 ∷ []) ((did 0 (Entered 0 1 (start modes.Abs 100 100) ∷ Made 0 1 set_entry ∷ []) 0 1
+accepted_course = course_by accepted_script accepted_record (0 ∷ 0 ∷ 0 ∷ 0 ∷ [])
+    ((did 0 (Entered 0 1 (start modes.Abs 100 100) ∷ Made 0 1 set_entry ∷ []) 0 1
     ∷ did 0 (Wrote 1 (writes.Advance 100) ∷ []) 1 1 ∷ ran 0 1 (fired 2 1 (Made 0 2 trigger_entry ∷ []) 3 false ∷ []) 1 3
     ∷ did 1 (Wrote 2 (writes.Advance 35) ∷ []) 3 3 ∷ did 2 (Entered 0 4 rearming_start ∷ Made 0 3 accept_entry ∷ []) 3 4
     ∷ did 2 (Made 0 4 none_entry ∷ []) 4 4 ∷ did 2 [] 4 4 ∷ []) ∷ []) (λ i. accepted_spans)
@@ -211,12 +226,13 @@ accepted_course = course_by accepted_script accepted_record (0 ∷ 0 ∷ 0 ∷ 0
 pub accepted_fits : Fits accepted_script accepted_record
 unfolding after_entry changed passed
 accepted_fits = fits_by accepted_course (record {
+  version = refl;
   passed = refl;
   writes = three (record { counted = lt refl; timely = le refl }) (record { mono = refl; real = refl; boot = refl; changes = refl })
       (three (record { counted = lt refl; timely = le refl }) (record { mono = refl; real = refl; boot = refl; changes = refl }) tt);
   all = (refl, tt);
-  history = two (step refl (inr refl, inl (lt refl)) refl tt) (two (step refl (refl, refl, refl, refl, le refl) refl (refl, refl)) (two (step refl refl refl tt)
-      (two (step refl (inr refl, inl (lt refl)) refl tt) tt)));
+  history = two (step refl (inr refl, inl (lt refl)) refl tt) (two (step refl (refl, refl, refl, refl, le refl) refl (refl, refl))
+      (two (step refl refl refl tt) (two (step refl (inr refl, inl (lt refl)) refl tt) tt)));
   object_histories = two (two (refl, (refl, (refl, (refl, tt)))) (three (lt refl, refl, le refl, le refl, (λ e. absurd (cc), λ e. absurd (cc))) refl
       (three (lt refl) refl (three (lt refl, (λ e. absurd (cc), λ e. absurd (cc))) refl (three (lt refl, (λ e. refl, λ e. refl)) refl tt))))) tt;
   object_spans = ((le refl, le refl, (le refl, le refl, (le refl, le refl, (le refl, le refl, tt)))), tt);
@@ -234,9 +250,9 @@ accepted_fits = fits_by accepted_course (record {
       (record { armed = refl; running = refl; moving = refl }))
       (next 1 (right refl refl refl (refl, tt) (refl, tt) (le refl, tt) refl (inl refl) tt tt)
       (next 2 (right refl refl refl (refl, tt) (refl, tt) ((le refl, le refl), tt)
-      (record { one_reading = refl; claimed = refl; done = refl; bodies = ((inl (2, true, refl), refl), tt) }, lt refl)
+      (record { one_reading = refl; claimed = refl; done = refl; contexts = (refl, tt); bodies = ((inl (2, true, refl), refl), tt) }, lt refl)
       (inr (1, le refl, point_passes _ _ _ _ _ refl, (2, le refl, (point_passes _ _ _ _ _ refl, tt, tt), (2, le refl, tt, le refl))))
-      ((1, refl, refl), tt) (done_by accepted_course 1 0 3 refl ((refl, refl), tt)))
+      ((1, refl, refl), tt) (done_by accepted_course contexts.Hard 1 0 3 refl refl (refl, tt) (λ clock. (refl, tt))))
       (next 2 (right refl refl refl (refl, tt) (refl, tt) (le refl, tt) refl (inl refl) tt tt)
       (next 3 (right refl refl refl (refl, tt) (refl, tt) ((le refl, le refl), tt) (record {
         arm = armings.Generation 4;
@@ -251,5 +267,114 @@ accepted_fits = fits_by accepted_course (record {
       (record { arm = armings.None; ns = 0; start = []; number = 4; timely = le refl; arms = refl; done = refl })
       (inr (4, le refl, (point_passes _ _ _ _ _ refl, tt, record { empty = refl; seen = λ e. le refl }), le refl)) tt tt)
       (next 4 (right refl refl refl (refl, tt) (refl, tt) ((le refl, le refl), tt) refl (inl refl) tt (point_passes _ _ _ _ _ refl, refl)) tt))))))
+      ) tt;
+})
+
+-- ---- a timer with slack expires when its soft expiry is reached and its hard one isn't
+
+-- its course
+abbrev early_course : Course
+early_course = course_by early_script early_record (0 ∷ 0 ∷ 0 ∷ [])
+    ((did 0 (Entered 0 1 (slack_entry 0 100) ∷ []) 0 1 ∷ ran 0 0 (fired 2 1 [] 3 false ∷ []) 1 3 ∷ []) ∷ []) (λ i k. (0, 0))
+
+-- law: it fits
+pub early_fits : Fits early_script early_record
+unfolding after_entry changed
+early_fits = fits_by early_course (record {
+  version = refl;
+  passed = refl;
+  writes = tt;
+  all = (refl, tt);
+  history = two (step refl (inr refl, inl (lt refl)) refl tt)
+      (two (step refl (refl, refl, refl, refl, le refl) refl (refl, refl)) (two (step refl refl refl tt) tt));
+  object_histories = (refl, tt);
+  object_spans = (tt, tt);
+  placed = (refl, tt);
+  calls = two (
+      next 0 (right refl refl refl (refl, tt) (refl, tt) (le refl, tt)
+      (record (armed_by 1 100) { soft = 0 }, refl, refl, refl, refl, tt) (inl refl) tt tt)
+      (next 0 (right refl refl refl (refl, tt) (refl, tt) (le refl, tt)
+      (record { one_reading = refl; claimed = refl; done = refl; contexts = (refl, tt); bodies = ((refl, refl), tt) }, lt refl)
+      (inl refl) (tt, tt) (done_by early_course contexts.Hard 0 0 3 refl refl (refl, tt) (λ clock. (refl, tt)))) tt)
+      ) tt;
+})
+
+-- ---- a run is done and claimed nothing, though a soft expiry is reached: that of the timer with the earliest hard expiry isn't
+
+-- its course
+abbrev waiting_course : Course
+waiting_course = course_by waiting_script waiting_record (0 ∷ 1 ∷ []) ((did 0 (Entered 0 1 (slack_entry 0 100) ∷ []) 0 1
+    ∷ did 0 (Entered 1 1 (start modes.Abs 50 50) ∷ []) 1 2 ∷ ran 0 0 [] 2 2 ∷ []) ∷ []) (λ i k. (0, 0))
+
+-- the second timer leads the one clock on which timers are kept, and has a soft expiry that isn't reached
+waiting_stopped : (clock : ClockId) → IsStopped (in_context contexts.Hard (timer_along waiting_course 2)) 0 (reading_at [] 0) clock
+unfolding after_entry changed
+waiting_stopped clocks.Monotonic = inr (
+  1,
+  record {
+    kept = refl;
+    smaller = none_then waiting_course contexts.Hard 2 (is_smaller 0 clocks.Monotonic 50) refl refl (refl, (refl, tt));
+  },
+  lt refl,
+)
+waiting_stopped clocks.Realtime = inl (none_then waiting_course contexts.Hard 2 (is_kept_on 0 clocks.Realtime) refl refl (refl, (refl, tt)))
+waiting_stopped clocks.Boottime = inl (none_then waiting_course contexts.Hard 2 (is_kept_on 0 clocks.Boottime) refl refl (refl, (refl, tt)))
+
+-- law: it fits
+pub waiting_fits : Fits waiting_script waiting_record
+unfolding after_entry changed
+waiting_fits = fits_by waiting_course (record {
+  version = refl;
+  passed = refl;
+  writes = tt;
+  all = (refl, (refl, tt));
+  history = two (step refl (inr refl, inl (lt refl)) refl tt) (two (step refl (inr refl, inl (lt refl)) refl tt) tt);
+  object_histories = (refl, (refl, tt));
+  object_spans = (tt, (tt, tt));
+  placed = (refl, tt);
+  calls = two (
+      next 0 (right refl refl refl (refl, (refl, tt)) (refl, (refl, tt)) (le refl, (le refl, tt))
+      (record (armed_by 1 100) { soft = 0 }, refl, refl, refl, refl, tt) (inl refl) tt tt)
+      (next 0 (right refl refl refl (refl, (refl, tt)) (refl, (refl, tt)) (le refl, (le refl, tt))
+      (armed_by 1 50, refl, refl, refl, refl, tt) (inl refl) tt tt)
+      (next 0 (right refl refl refl (refl, (refl, tt)) (refl, (refl, tt)) (le refl, (le refl, tt))
+      (record { one_reading = refl; claimed = refl; done = refl; contexts = tt; bodies = tt }, lt refl)
+      (inl refl) tt (stopped_by waiting_course contexts.Hard 0 0 2 refl refl (refl, (refl, tt)) waiting_stopped)) tt))
+      ) tt;
+})
+
+-- ---- a hard and a soft expiry run on one base, each of which fires its own timer
+
+-- its course
+abbrev contexts_course : Course
+contexts_course = course_by contexts_script contexts_record (0 ∷ 1 ∷ 0 ∷ 0 ∷ 1 ∷ 1 ∷ []) ((did 0 (Entered 0 1 (start modes.Abs 0 0) ∷ []) 0 1
+    ∷ did 0 (Entered 1 1 (start modes.Abs 0 0) ∷ []) 1 2 ∷ ran 0 0 (fired 2 1 [] 3 false ∷ []) 2 4
+    ∷ ran 0 0 (record (fired 2 1 [] 3 false) { timer = 1 } ∷ []) 4 6 ∷ []) ∷ []) (λ i k. (0, 0))
+
+-- law: it fits
+pub contexts_fit : Fits contexts_script contexts_record
+unfolding after_entry changed
+contexts_fit = fits_by contexts_course (record {
+  version = refl;
+  passed = refl;
+  writes = tt;
+  all = (refl, (refl, tt));
+  history = two (step refl (inr refl, inl (lt refl)) refl tt) (two (step refl (inr refl, inl (lt refl)) refl tt)
+      (two (step refl (refl, refl, refl, refl, le refl) refl (refl, refl))
+      (two (step refl refl refl tt) (two (step refl (refl, refl, refl, refl, le refl) refl (refl, refl)) (two (step refl refl refl tt) tt)))));
+  object_histories = (refl, (refl, tt));
+  object_spans = (tt, (tt, tt));
+  placed = (refl, tt);
+  calls = two (
+      next 0 (right refl refl refl (refl, (refl, tt)) (refl, (refl, tt)) (le refl, (le refl, tt))
+      (armed_by 1 0, refl, refl, refl, refl, tt) (inl refl) tt tt)
+      (next 0 (right refl refl refl (refl, (refl, tt)) (refl, (refl, tt)) (le refl, (le refl, tt))
+      (armed_by 1 0, refl, refl, refl, refl, tt) (inl refl) tt tt)
+      (next 0 (right refl refl refl (refl, (refl, tt)) (refl, (refl, tt)) (le refl, (le refl, tt))
+      (record { one_reading = refl; claimed = refl; done = refl; contexts = (refl, tt); bodies = ((refl, refl), tt) }, lt refl)
+      (inl refl) (tt, tt) (done_by contexts_course contexts.Hard 0 0 4 refl refl (refl, (refl, tt)) (λ clock. (refl, (refl, tt)))))
+      (next 0 (right refl refl refl (refl, (refl, tt)) (refl, (refl, tt)) (le refl, (le refl, tt))
+      (record { one_reading = refl; claimed = refl; done = refl; contexts = (refl, tt); bodies = ((refl, refl), tt) }, lt refl)
+      (inl refl) (tt, tt) (done_by contexts_course contexts.Soft 0 0 6 refl refl (refl, (refl, tt)) (λ clock. (refl, (refl, tt))))) tt)))
       ) tt;
 })

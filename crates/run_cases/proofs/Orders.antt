@@ -37,10 +37,11 @@ opened s r fits =
 -- where a timer's move stands in the order
 pub found : (t k : ℕ) (ms : List Move) (m : Move) → slice_get (moves_on t ms) k ≡ Some m → (p : ℕ) × (slice_get ms p ≡ Some m)
 found t k [] m at = absurd (cc)
-found t k (x ∷ ms) m at = elim (nat_eq x.timer t) as (λ b. slice_get (also b x (moves_on t ms)) k ≡ Some m → (p : ℕ) × (slice_get (x ∷ ms) p ≡ Some m)) [
-  | true ↦ λ at. here k at (λ k at. found t k ms m at)
-  | false ↦ λ at. let f = found t k ms m at in (suc f.0, f.1)
-] at
+found t k (x ∷ ms) m at =
+    elim (nat_eq x.timer t) as (λ b. slice_get (also b x (moves_on t ms)) k ≡ Some m → (p : ℕ) × (slice_get (x ∷ ms) p ≡ Some m)) [
+      | true ↦ λ at. here k at (λ k at. found t k ms m at)
+      | false ↦ λ at. let f = found t k ms m at in (suc f.0, f.1)
+    ] at
   where
     here : (k : ℕ) → slice_get (x ∷ moves_on t ms) k ≡ Some m → ((k : ℕ) → slice_get (moves_on t ms) k ≡ Some m → (p : ℕ) × (slice_get ms p ≡ Some m))
         → (p : ℕ) × (slice_get (x ∷ ms) p ≡ Some m)
@@ -91,7 +92,8 @@ one_order s [] [] same order apart = refl
 one_order s [] (n ∷ ns) same order apart = absurd (let is = same n.timer ∙ own_first n ns in cc)
 one_order s (m ∷ ms) [] same order apart = absurd (let is = sym (same m.timer) ∙ own_first m ms in cc)
 one_order s (m ∷ ms) (n ∷ ns) same order apart =
-    let parts = and_parts (list_all (λ x. if nat_eq x.timer n.timer then true else is_before s n.line.label x.line.label) ns) (are_apart s ns) apart in
+    let parts = and_parts (list_all (λ x. if nat_eq x.timer n.timer then true else is_before s n.line.label x.line.label) ns)
+    (are_apart s ns) apart in
     ⊎_elim (λ one. equal one (λ same. one_order s ms ns same order.1 parts.1)) (λ differ. absurd (crossed differ parts.0)) (cases_eq m.timer n.timer)
   where
     -- heads of one timer are the same
@@ -123,7 +125,8 @@ one_order s (m ∷ ms) (n ∷ ns) same order apart =
         first_on (λ x. (if nat_eq x.timer n.timer then true else is_before s n.line.label x.line.label) ≡ true) m.timer ns (moves_on m.timer ms) m
         (all_true (λ x. (if nat_eq x.timer n.timer then true else is_before s n.line.label x.line.label) ≡ true)
         (λ x. if nat_eq x.timer n.timer then true else is_before s n.line.label x.line.label) (λ x e. e) ns test) other in
-        false≢true (sym not_before ∙ subst (λ b. (if b then true else is_before s n.line.label m.line.label) ≡ true) (ne_eqb m.timer n.timer differ) before)
+        false≢true (sym not_before ∙ subst (λ b. (if b then true else is_before s n.line.label m.line.label) ≡ true)
+        (ne_eqb m.timer n.timer differ) before)
 
 -- the record of a script whose entries have one order has a course in that order
 pub in_one_order : (s : Script) (r : RunRecord) (order : List ℕ) → list_all (λ m. nat_lt m.timer (length r.timers)) (moves_by r [] order) ≡ true
@@ -134,7 +137,8 @@ in_one_order s r order there all apart fits =
     let each : (t : ℕ) → moves_on t (moves_by r [] order) ≡ moves_from t 0 (lines_of_timer r t) =
     everywhere (λ t. moves_on t (moves_by r [] order) ≡ moves_from t 0 (lines_of_timer r t)) r.timers all (λ t past.
     none_on t (moves_by r [] order) (all_true (λ m. nat_eq m.timer t ≡ false) (λ m. nat_lt m.timer (length r.timers))
-    (λ m less. other m.timer (length r.timers) t less past) (moves_by r [] order) there) ∙ ap (moves_from t 0) (sym (get_or_past r.timers t [] past))) in (
+    (λ m less. other m.timer (length r.timers) t less past) (moves_by r [] order) there)
+    ∙ ap (moves_from t 0) (sym (get_or_past r.timers t [] past))) in (
       o.1,
       o.2,
       subst (λ ms. FitsIn (course_with s r ms o.1 o.2))

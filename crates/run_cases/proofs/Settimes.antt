@@ -1,4 +1,5 @@
--- What a settime that fits has: where it cancelled nothing, an idle timer at its first moment; and the span of its entry, up to a moment behind its start.
+-- What a settime that fits has: where it cancelled nothing, an idle timer at its first moment; and the span of its entry, up to a moment behind its
+-- start.
 use Rattle.std.proofs.Common.{◌≡◌, ◌≤◌, ℕ, List, [], ◌∷◌, ◌++◌, length, take, refl, sym, ap, ◌∙◌}
 use Rattle.std.proofs.lemmas.Bool.{eq-eqb}
 use Rattle.std.proofs.lemmas.List.{append-nil}
@@ -30,11 +31,12 @@ pub idle_first : (w : Course) (t : ℕ) (actions : List Action) (first u number 
 idle_first w t [] first u number entry rest other is idle = idle
 idle_first w t (Wrote n write ∷ ds) first u number entry rest other is idle = idle
 idle_first w t (Entered v n (entries.Cancel generation) ∷ ds) first u number entry rest other is idle =
-    absurd (other generation (ap (λ (e : ℕ × (ℕ × Entry)). e.1.1) (heads (u, (number, entry)) (v, (n, entries.Cancel generation)) rest (all_entered ds) is)))
+    absurd (other generation (ap (λ (e : ℕ × (ℕ × Entry)). e.1.1)
+    (heads (u, (number, entry)) (v, (n, entries.Cancel generation)) rest (all_entered ds) is)))
 idle_first w t (Entered v n (entries.Out base was) ∷ ds) first u number entry rest other is idle = idle
-idle_first w t (Entered v n (entries.Start mode ns reading asked base clock expires was) ∷ ds) first u number entry rest other is idle = idle
+idle_first w t (Entered v n (entries.Start l) ∷ ds) first u number entry rest other is idle = idle
 idle_first w t (Entered v n (entries.Claim base reading generation) ∷ ds) first u number entry rest other is idle = idle
-idle_first w t (Entered v n (entries.Forward reading interval count expires) ∷ ds) first u number entry rest other is idle = idle
+idle_first w t (Entered v n (entries.Forward l) ∷ ds) first u number entry rest other is idle = idle
 idle_first w t (Entered v n (entries.Finish restart generation rearmed) ∷ ds) first u number entry rest other is idle = idle
 idle_first w t (Looked v n look ∷ ds) first u number entry rest other is idle = idle
 idle_first w t (Made v n e ∷ ds) first u number entry rest other is idle = idle
@@ -54,8 +56,8 @@ pub record EndsAt (w : Course) (c : Label) (t number : ℕ) : Type 0 where
   pub many : made_by c (take end (labels w)) ≡ length (own_moves c w.moves)
 
 -- law: of a settime that was answered the setting before it, and has one entry of its object
-pub settime_span : {w : Course} {c : Label} {flags left old : ℕ} {value interval : TimeSpec} {before after : Seen} (t number : ℕ) (entry : ObjectEntry)
-    → FitsCall w c (calls.Settime t flags value interval) (answers.Old left old) before after
+pub settime_span : {w : Course} {c : Label} {flags left old : ℕ} {value interval : TimeSpec} {before after : Seen} (t number : ℕ)
+    (entry : ObjectEntry) → FitsCall w c (calls.Settime t flags value interval) (answers.Old left old) before after
     → own (λ line. line.label) (λ line. line.entry) c 1 (lines_of_object w.run t) ≡ (number, entry) ∷ [] → EndsAt w c t number
 settime_span {w} {c} {flags} {left} {old} {value} {interval} t number entry fits one =
     let tr = w.traces c in

@@ -5,18 +5,18 @@ use Rattle.std.proofs.lemmas.Bool.{and_parts, eqb-true}
 use Rattle.std.proofs.lemmas.List.{get_or_past, length-map, nil_from_length}
 use Rattle.clock_model.specs.Clocks.{at_stamp}
 use Rattle.seq_timer.specs.Systems.{IsSystemHistory}
-use Rattle.seq_timer.proofs.Ties.{may_follow}
 use Rattle.record_text.specs.declared.record.ObjectLine.{ObjectLine}
 use Rattle.record_text.specs.declared.record.TimerLine.{TimerLine}
+use Rattle.seq_timer.specs.declared.context.Context.TheVariants as contexts
 use Rattle.script_text.specs.declared.script.Callback.TheVariants as callbacks
 use Rattle.script_text.specs.declared.script.Kind.TheVariants as kinds
 use Rattle.script_text.specs.declared.script.LaneCall.{LaneCall}
 use Rattle.script_text.specs.declared.script.Round.{Round}
 use Rattle.script_text.specs.declared.script.Script.{Script}
-use Rattle.script_text.specs.Histories.{answers_of, AreWrites, clock_labels, lines_of_timer}
+use Rattle.script_text.specs.Histories.{answers_of, AreWrites, clock_labels, declareds_of, lines_of_timer, terms_of}
 use Rattle.script_text.specs.Objects.{IsLegalObject, kind_of, lines_of_object}
 use Rattle.script_text.specs.Order.{AreUnder, calls_of, IsInOrder, IsLabel}
-use Rattle.run_history.specs.Courses.{clocks_of, Course, entries_in, labels, Move, moves_from, moves_on}
+use Rattle.run_history.specs.Courses.{Course, entries_in, labels, Move, moves_from, moves_on}
 use Rattle.run_history.specs.Fits.{AreBehind, AreSkipsUnder, Fits, FitsIn, FitsLane, unseen}
 use Rattle.run_cases.proofs.Calls.{AreRight, are_placed, is_unrefused, lane_fits}
 use Rattle.run_cases.proofs.Courses.{Along, everywhere, each_list, none_on, no_calls}
@@ -62,21 +62,24 @@ is_passed w = are_sized w && ((are_called w && are_ordered w) && (are_under w &&
 
 -- what makes the record of a small course fit: the tests are passed, and the rest is said of each timer and each lane
 pub record IsSmall (w : Course) : Type 0 where
+  pub version : w.run.version ≡ w.script.version
   pub passed : is_passed w ≡ true
   pub writes : AreWrites (at_stamp 0) w.run.clock
   pub all : Along (λ t. moves_on t w.moves ≡ moves_from t 0 (lines_of_timer w.run t)) 0 w.run.timers
-  pub history : IsSystemHistory w.script.bases (clocks_of w.script) w.script.limit (entries_in w)
+  pub history : IsSystemHistory w.script.bases (declareds_of w.script) (terms_of w.script) (entries_in w)
   pub object_histories : Along (λ i. IsLegalObject w.script w.run i (kind_of w.script i)) 0 w.script.timers
   pub object_spans : Along (λ i. AreBehind (w.spans i) 1 0 (lines_of_object w.run i)) 0 w.run.objects
   pub placed : Along (λ lane. are_placed w lane 0 0 0 (calls_of w.script lane) ≡ true) 0 w.run.answers
   pub calls : Along (λ lane. AreRight w lane 0 0 (calls_of w.script lane) (answers_of w.run lane)) 0 w.run.answers
 
 under_passes : (s : Script) (line : TimerLine) → is_under s line ≡ true → AreUnder s (map (λ look. look.label) line.looks)
-under_passes s line e = let parts = and_parts (are_calls s (map (λ look. look.label) line.looks)) (are_sorted (map (λ look. look.label) line.looks)) e in
+under_passes s line e =
+    let parts = and_parts (are_calls s (map (λ look. look.label) line.looks)) (are_sorted (map (λ look. look.label) line.looks)) e in
     record { calls = calls_pass s (map (λ look. look.label) line.looks) parts.0; sorted = sorted_pass (map (λ look. look.label) line.looks) parts.1 }
 
 none_skipped : (s : Script) (line : ObjectLine) → nat_eq (length line.skips) 0 ≡ true → AreSkipsUnder s (map (λ skip. skip.label) line.skips)
-none_skipped s line e = subst (λ skips. AreSkipsUnder s (map (λ skip. skip.label) skips)) (sym (nil_from_length line.skips (eqb-true (length line.skips) 0 e)))
+none_skipped s line e = subst (λ skips. AreSkipsUnder s (map (λ skip. skip.label) skips))
+    (sym (nil_from_length line.skips (eqb-true (length line.skips) 0 e)))
     (record { calls = tt; in_order = tt })
 
 small_fits : (w : Course) → IsSmall w → FitsIn w
@@ -104,6 +107,7 @@ small_fits w small =
     let of_rounds = λ (round : Round). list_all of_lanes round.calls in
     let there = and_parts (list_all of_moves w.moves) (list_all of_rounds s.rounds) within.1 in
     record {
+      version = small.version;
       timers = eqb-true (length r.timers) (length s.timers) each_sized.0;
       objects = objects;
       lanes = eqb-true (length r.answers) s.lanes sized.1;
@@ -117,18 +121,19 @@ small_fits w small =
           (λ lines e. calls_pass s (map (λ line. line.label) lines) e) r.objects called.1);
       skips = each_list (AllByRecursion (λ line. AreSkipsUnder s (map (λ skip. skip.label) line.skips))) r.objects tt
           (all_true (AllByRecursion (λ line. AreSkipsUnder s (map (λ skip. skip.label) line.skips))) is_unrefused
-          (λ lines e. all_true (λ line. AreSkipsUnder s (map (λ skip. skip.label) line.skips)) (λ line. nat_eq (length line.skips) 0) (none_skipped s) lines e)
+          (λ lines e. all_true (λ line. AreSkipsUnder s (map (λ skip. skip.label) line.skips)) (λ line. nat_eq (length line.skips) 0)
+          (none_skipped s) lines e)
           r.objects under.1);
       writes = small.writes;
       history = record {
         all = everywhere (λ t. moves_on t w.moves ≡ moves_from t 0 (lines_of_timer r t)) r.timers small.all (λ t past.
-            none_on t w.moves (all_true (λ m. nat_eq m.timer t ≡ false) of_moves (λ m less. other m.timer (length r.timers) t less past) w.moves there.0)
+            none_on t w.moves (all_true (λ m. nat_eq m.timer t ≡ false) of_moves
+            (λ m less. other m.timer (length r.timers) t less past) w.moves there.0)
             ∙ ap (moves_from t 0) (sym (get_or_past r.timers t [] past)));
-        history = λ before later x is. may_follow s.bases s.limit (clocks_of s) before later x
-            (subst (IsSystemHistory s.bases (clocks_of s) s.limit) is small.history);
+        history = small.history;
       };
       object_histories = everywhere (λ i. IsLegalObject s r i (kind_of s i)) s.timers small.object_histories (λ i past.
-          subst (IsLegalObject s r i) (sym (get_or_past (map (λ d. d.kind) s.timers) i (kinds.Raw callbacks.Once)
+          subst (IsLegalObject s r i) (sym (get_or_past (map (λ d. d.kind) s.timers) i (kinds.Raw contexts.Hard callbacks.Once)
           (subst (λ n. n ≤ i) (sym (length-map s.timers (λ d. d.kind))) past))) (get_or_past r.objects i [] (subst (λ n. n ≤ i) (sym objects) past)));
       clock_order = order_passes s (clock_labels r) ordered_by.0;
       order = order_passes s (labels w) ordered_by.1;

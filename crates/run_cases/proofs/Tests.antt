@@ -115,7 +115,8 @@ are_plain w c from before [] last = nat_le from last
 are_plain w c from before (Wrote number write ∷ ds) last = nat_le from from && are_plain w c from (before ++ Wrote number write ∷ []) ds last
 are_plain w c from before (Entered t number entry ∷ ds) last =
     let n = own_place c (length (all_entered before)) 0 (labels w) in
-    nat_le from n && (is_point w.script c (length (all_entered before)) n (labels w) && are_plain w c n (before ++ Entered t number entry ∷ []) ds last)
+    nat_le from n && (is_point w.script c (length (all_entered before)) n (labels w)
+    && are_plain w c n (before ++ Entered t number entry ∷ []) ds last)
 are_plain w c from before (Looked t number look ∷ ds) last = false
 are_plain w c from before (Made i number entry ∷ ds) last = false
 are_plain w c from before (Skipped i number generation ∷ ds) last = false
@@ -141,10 +142,10 @@ plain_pass w c first from before (Entered t number entry ∷ ds) last e =
   where
     entry_true : (entry : Entry) (n : ℕ) → IsMoment w c before n → IsTrue w c first before (Entered t number entry) n
     entry_true (entries.Out base was) n moment = tt
-    entry_true (entries.Start mode ns reading asked base clock expires was) n moment = tt
+    entry_true (entries.Start l) n moment = tt
     entry_true (entries.Cancel generation) n moment = tt
     entry_true (entries.Claim base reading generation) n moment = moment
-    entry_true (entries.Forward reading interval count expires) n moment = tt
+    entry_true (entries.Forward l) n moment = tt
     entry_true (entries.Finish restart generation rearmed) n moment = tt
 plain_pass w c first from before (Looked t number look ∷ ds) last e = absurd (cc)
 plain_pass w c first from before (Made i number entry ∷ ds) last e = absurd (cc)

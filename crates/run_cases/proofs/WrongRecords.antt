@@ -1,31 +1,41 @@
 -- The records that don't fit.
-use Rattle.std.proofs.Common.{◌≡◌, ◌<◌, ◌≤◌, ℕ, true, false, [], ◌∷◌, Some, arith, refl, sym, ap, ◌∙◌, subst, ◌⊎◌, zero, suc, inl, inr, ◌+◌, ◌++◌, List, flat_map, length, take}
+use Rattle.std.proofs.Common.{◌≡◌, ◌<◌, ◌≤◌, ℕ, true, false, [], ◌∷◌, Some, arith, refl, sym, ap, ◌∙◌, subst, zero, suc, ◌+◌, ◌++◌, List, flat_map, length, take, map, if◌then◌else◌, nat_le}
 use Rattle.std.specs.List.{slice_get, AllByRecursion}
 use Rattle.std.proofs.Math.Logic.{⊎_elim}
 use Rattle.std.proofs.lemmas.Bool.{cases_lt, false≢true, eq-eqb}
+use Rattle.ktime.specs.declared.clock_id.ClockId.TheVariants as clocks
+use Rattle.seq_timer.specs.declared.context.Context.TheVariants as contexts
+use Rattle.seq_timer.specs.declared.context.Context.{Context}
+use Rattle.seq_timer.specs.declared.context.Declared.{Declared}
 use Rattle.seq_timer.specs.Histories.{IsIdle}
 use Rattle.seq_timer.specs.Systems.{after_entry, changed}
-use Rattle.seq_timer.specs.Tables.{runs_on, is_due_on}
+use Rattle.seq_timer.specs.Tables.{IsStopped, in_context, is_context, is_kept_on, no_timer, runs_on, seen_in}
 use Rattle.record_text.specs.declared.record.Entry.TheVariants as entries
 use Rattle.record_text.specs.declared.record.Entry.{Entry}
 use Rattle.record_text.specs.declared.record.Label.{Label}
 use Rattle.record_text.specs.declared.record.ObjectEntry.TheVariants as object_entries
 use Rattle.record_text.specs.declared.record.ObjectEntry.{ObjectEntry}
+use Rattle.seq_timer.proofs.Due.{stopped-unreached}
+use Rattle.seq_timer.proofs.Agreement.{soft_within_context}
+use Rattle.record_text.specs.declared.version.Version.TheVariants as versions
+use Rattle.script_text.specs.declared.script.Script.{Script}
 use Rattle.script_text.specs.Actions.{Action, also, Entered, made}
-use Rattle.script_text.specs.Histories.{timer_after, reading_at}
+use Rattle.script_text.specs.Histories.{declared_of, declareds_of, reading_at, terms_of, timer_after}
 use Rattle.script_text.specs.Objects.{kind_of}
 use Rattle.script_text.specs.Order.{is_before, IsPoint, made_by}
 use Rattle.run_history.specs.Calls.{fires, IsBody, IsTrigger}
-use Rattle.run_history.specs.Courses.{labels, Move, timer_along, Course, Trace, Fired}
+use Rattle.run_history.specs.Courses.{labels, Move, timer_along, entries_in, Course, Trace, Fired}
 use Rattle.run_history.specs.Fits.{Fits}
 use Rattle.run_history.specs.Traces.{all_entered}
 use Rattle.run_history.specs.Truths.{IsDone, IsClaimSpan}
 use Rattle.run_history.proofs.EachTimer.{heads}
 use Rattle.run_history.proofs.Lists.{at_map}
-use Rattle.run_history.proofs.OwnPoints.{same_then, seen, seen_rises, stamp_then, turn_at}
+use Rattle.run_history.proofs.OwnPoints.{declared_then, same_then, seen, seen_rises, stamp_then, turn_at}
 use Rattle.run_cases.specs.Lines.{at, line}
-use Rattle.run_cases.specs.Wrong.{both_record, both_script, tie_record, tie_script, due_record, due_script, uncancelled_record, uncancelled_script, crossed_record, crossed_script, set_entry_of, settimes_record, settimes_script}
+use Rattle.run_cases.specs.Fitting.{waiting_script}
+use Rattle.run_cases.specs.Wrong.{both_record, both_script, tie_record, tie_script, due_record, due_script, uncancelled_record, uncancelled_script, crossed_record, crossed_script, set_entry_of, settimes_record, settimes_script, soon_record, soon_script, past_record, missed_record, missed_script, astray_record, astray_script, versions_record, versions_script}
 use Rattle.run_cases.proofs.Courses.{moves_by}
+use Rattle.run_cases.proofs.Tests.{upto}
 use Rattle.run_cases.proofs.Orders.{at_early, at_late, course_with, found, opened, in_one_order}
 use Rattle.run_cases.proofs.Settimes.{idle_first, settime_span}
 
@@ -67,7 +77,12 @@ both_dont_fit fits =
     let runs : runs_on 0 (timer_along w p 0) ≡ true =
     same_then w f.history f.timers (runs_on 0) refl p 0 ∙ ap (λ k. runs_on 0 (timer_after both_script both_record 0 k)) two in
     -- while the claim needs that none does
-    false≢true (sym ((turn_at w f.history f.timers p claim 0 0 1 place.1 refl).idle 0) ∙ runs)
+    let hard : (t : ℕ) → (timer_along w p t).declared ≡ declared_of both_script t = declared_then w f.history f.timers p in
+    let idle : runs_on 0 (seen_in contexts.Hard (timer_along w p 0)) ≡ false =
+    subst (λ d. runs_on 0 (seen_in d.context (timer_along w p 0)) ≡ false) (hard 1)
+    ((turn_at w f.history f.timers p claim 0 0 1 place.1 refl).idle 0) in
+    false≢true (sym idle
+    ∙ ap (λ (d : Declared). runs_on 0 (if is_context contexts.Hard d.context then timer_along w p 0 else no_timer)) (hard 0) ∙ runs)
 
 -- ---- of two timers with the same expiry the one that was armed later is claimed first
 
@@ -87,26 +102,38 @@ tie_doesnt_fit fits =
 abbrev due_course : (Label → Trace) → (ℕ → ℕ → ℕ × ℕ) → Course
 due_course traces spans = course_with due_script due_record (moves_by due_record [] (0 ∷ 1 ∷ 0 ∷ [])) traces spans
 
+-- a base is stopped for the monotonic clock, as the hard context's timers stand after so many entries of a course
+abbrev IsStoppedHard : Course → ℕ → ℕ → Type 0
+IsStoppedHard w reading n = IsStopped (in_context contexts.Hard (timer_along w n)) 0 (reading_at w.run.clock reading) clocks.Monotonic
+
+-- it isn't where a timer is kept whose expiry is reached
+not_stopped : (w : Course) (reading n t : ℕ) → IsStoppedHard w reading n
+    → is_kept_on 0 clocks.Monotonic (in_context contexts.Hard (timer_along w n) t) ≡ true
+    → nat_le (in_context contexts.Hard (timer_along w n) t).expires (reading_at w.run.clock reading).mono ≡ true → ⊥
+not_stopped w reading n t stopped kept reached =
+    let timers = in_context contexts.Hard (timer_along w n) in
+    let late = stopped-unreached timers 0 (reading_at w.run.clock reading) clocks.Monotonic
+    (soft_within_context (terms_of w.script) (declareds_of w.script) (take n (entries_in w)) contexts.Hard) stopped t kept in
+    let reached_so = upto (timers t).expires (reading_at w.run.clock reading).mono reached in
+    omega (arith, late, reached_so)
+
 one_is_due : (traces : Label → Trace) (spans : ℕ → ℕ → ℕ × ℕ) (n made : ℕ)
-    → IsPoint due_script (at 1 0) made n (labels (due_course traces spans))
-    → (is_due_on 0 (reading_at [] 0) (timer_along (due_course traces spans) n 0) ≡ true)
-    ⊎ (is_due_on 0 (reading_at [] 0) (timer_along (due_course traces spans) n 1) ≡ true)
+    → IsPoint due_script (at 1 0) made n (labels (due_course traces spans)) → IsStoppedHard (due_course traces spans) 0 n → ⊥
 unfolding after_entry changed
-one_is_due traces spans zero made point = absurd (false≢true (sym point.within.behind.0))
-one_is_due traces spans (suc zero) made point = inl refl
-one_is_due traces spans (suc (suc zero)) made point = inl refl
-one_is_due traces spans (suc (suc (suc zero))) made point = inr refl
-one_is_due traces spans (suc (suc (suc (suc n)))) made point = absurd (omega (arith, point.within.small))
+one_is_due traces spans zero made point stopped = false≢true (sym point.within.behind.0)
+one_is_due traces spans (suc zero) made point stopped = not_stopped (due_course traces spans) 0 1 0 stopped refl refl
+one_is_due traces spans (suc (suc zero)) made point stopped = not_stopped (due_course traces spans) 0 2 0 stopped refl refl
+one_is_due traces spans (suc (suc (suc zero))) made point stopped = not_stopped (due_course traces spans) 0 3 1 stopped refl refl
+one_is_due traces spans (suc (suc (suc (suc n)))) made point stopped = omega (arith, point.within.small)
 
 -- law: it does not fit
 pub due_doesnt_fit : Fits due_script due_record → ⊥
 due_doesnt_fit fits =
     let o = in_one_order due_script due_record (0 ∷ 1 ∷ 0 ∷ []) refl (refl, (refl, tt)) refl fits in
     let call = (o.2.calls 1).1 in
-    let done : IsDone (due_course o.0 o.1) 0 0 (o.0 (at 1 0)).last =
-    subst (λ k. IsDone (due_course o.0 o.1) k 0 (o.0 (at 1 0)).last) (sym call.does.0.one_reading) call.seen in
-    ⊎_elim (λ due. false≢true (sym (done.none_due 0) ∙ due)) (λ due. false≢true (sym (done.none_due 1) ∙ due))
-    (one_is_due o.0 o.1 (o.0 (at 1 0)).last _ call.ends)
+    let done : IsDone (due_course o.0 o.1) contexts.Hard 0 0 (o.0 (at 1 0)).last =
+    subst (λ k. IsDone (due_course o.0 o.1) contexts.Hard k 0 (o.0 (at 1 0)).last) (sym call.does.0.one_reading) call.seen in
+    one_is_due o.0 o.1 (o.0 (at 1 0)).last _ call.ends (done.stopped clocks.Monotonic)
 
 -- ---- a settime of an armed POSIX timer starts it with no cancel before
 
@@ -115,7 +142,8 @@ abbrev uncancelled_course : (Label → Trace) → (ℕ → ℕ → ℕ × ℕ) �
 uncancelled_course traces spans = course_with uncancelled_script uncancelled_record (moves_by uncancelled_record [] (0 ∷ 0 ∷ [])) traces spans
 
 -- where the second settime begins the timer is armed by the first
-armed_there : (traces : Label → Trace) (spans : ℕ → ℕ → ℕ × ℕ) (n : ℕ) → IsPoint uncancelled_script (at 0 1) 0 n (labels (uncancelled_course traces spans))
+armed_there : (traces : Label → Trace) (spans : ℕ → ℕ → ℕ × ℕ) (n : ℕ)
+    → IsPoint uncancelled_script (at 0 1) 0 n (labels (uncancelled_course traces spans))
     → IsIdle (timer_along (uncancelled_course traces spans) n 0) → ⊥
 unfolding after_entry changed
 armed_there traces spans zero point idle = false≢true (sym point.within.behind.0)
@@ -154,7 +182,8 @@ module _ (w : Course) (base reading claim number : ℕ) (entry : ObjectEntry) wh
       → IsClaimSpan w f f.body → (w.spans 0 number).0 + 1 ≡ claim
   claimed_span f timer claim_is trigger its span = ⊎_elim
       (λ m. let e = object_entries.Trigger f.generation reading m.1 in
-      let one : (number, entry) ∷ [] ≡ (m.0, e) ∷ [] = its ∙ ap (λ body. made 0 (of_body f body)) m.2 ∙ ap (λ b. also b (m.0, e) []) (eq-eqb f.timer 0 timer) in
+      let one : (number, entry) ∷ [] ≡ (m.0, e) ∷ [] = its ∙ ap (λ body. made 0 (of_body f body)) m.2
+      ∙ ap (λ b. also b (m.0, e) []) (eq-eqb f.timer 0 timer) in
       let same : number ≡ m.0 = ap (λ (x : ℕ × ObjectEntry). x.0) (heads (number, entry) (m.0, e) [] [] one) in
       let there = subst (IsClaimSpan w f) m.2 span in
       ap (λ (x : ℕ × ℕ). x.0 + 1) (ap (w.spans 0) same ∙ ap (λ i. w.spans i m.0) (sym timer) ∙ there.2) ∙ there.1 ∙ claim_is)
@@ -166,7 +195,8 @@ module _ (w : Course) (base reading claim number : ℕ) (entry : ObjectEntry) wh
           ∷ (body ++ Entered f.timer f.finish (entries.Finish f.restart f.generation f.rearmed) ∷ []) ++ []
 
   one_span : (fired : List Fired) (claimed : Entry) (rest : List (ℕ × (ℕ × Entry))) → length fired ≡ 1
-      → (0, (claim, claimed)) ∷ rest ≡ all_entered (flat_map (fires base reading) fired) → (number, entry) ∷ [] ≡ made 0 (flat_map (fires base reading) fired)
+      → (0, (claim, claimed)) ∷ rest ≡ all_entered (flat_map (fires base reading) fired)
+      → (number, entry) ∷ [] ≡ made 0 (flat_map (fires base reading) fired)
       → AllByRecursion (λ f. IsBody (kind_of crossed_script f.timer) reading f) fired → AllByRecursion (λ f. IsClaimSpan w f f.body) fired
       → (w.spans 0 number).0 + 1 ≡ claim
   one_span [] claimed rest one entered its bodies spans = absurd (cc)
@@ -230,3 +260,71 @@ settimes_dont_fit fits =
       ends_there o.0 o.1 early.end early.small early.many,
       begins_there o.0 o.1 (o.0 (at 0 0)).first zero_call.begins.so_many,
     )
+
+-- ---- a timer is claimed before its soft expiry
+
+-- law: it does not fit
+pub soon_doesnt_fit : Fits soon_script soon_record → ⊥
+unfolding after_entry changed
+soon_doesnt_fit fits =
+    let o = in_one_order soon_script soon_record (0 ∷ 0 ∷ 0 ∷ []) refl (refl, tt) refl fits in
+    let w = course_with soon_script soon_record (moves_by soon_record [] (0 ∷ 0 ∷ 0 ∷ [])) o.0 o.1 in
+    let due : false ≡ true = (turn_at w o.2.history o.2.timers 1 _ 0 0 1 refl refl).next.due in
+    false≢true due
+
+-- ---- a claim looks past the timer with the earliest hard expiry, whose soft one isn't reached, to a timer whose soft one is
+
+-- law: it does not fit
+pub past_doesnt_fit : Fits waiting_script past_record → ⊥
+unfolding after_entry changed
+past_doesnt_fit fits =
+    let o = in_one_order waiting_script past_record (0 ∷ 1 ∷ 0 ∷ 0 ∷ []) refl (refl, (refl, tt)) refl fits in
+    let w = course_with waiting_script past_record (moves_by past_record [] (0 ∷ 1 ∷ 0 ∷ 0 ∷ [])) o.0 o.1 in
+    -- at the third place, where the first timer is claimed, the second one's expiry is earlier
+    let smaller : true ≡ false = (turn_at w o.2.history o.2.timers 2 _ 0 0 1 refl refl).next.smaller 1 in
+    false≢true (sym smaller)
+
+-- ---- nothing was left to do, though a timer's hard expiry was reached
+
+-- the one order: the start
+abbrev missed_course : (Label → Trace) → (ℕ → ℕ → ℕ × ℕ) → Course
+missed_course traces spans = course_with missed_script missed_record (moves_by missed_record [] (0 ∷ [])) traces spans
+
+one_is_missed : (traces : Label → Trace) (spans : ℕ → ℕ → ℕ × ℕ) (n made : ℕ)
+    → IsPoint missed_script (at 0 2) made n (labels (missed_course traces spans)) → IsStoppedHard (missed_course traces spans) 1 n → ⊥
+unfolding after_entry changed
+one_is_missed traces spans zero made point stopped = false≢true (sym point.within.behind.0)
+one_is_missed traces spans (suc zero) made point stopped = not_stopped (missed_course traces spans) 1 1 0 stopped refl refl
+one_is_missed traces spans (suc (suc n)) made point stopped = omega (arith, point.within.small)
+
+-- law: it does not fit
+pub missed_doesnt_fit : Fits missed_script missed_record → ⊥
+missed_doesnt_fit fits =
+    let o = in_one_order missed_script missed_record (0 ∷ []) refl (refl, tt) refl fits in
+    let call = (o.2.calls 0).2.2.1 in
+    let done : IsDone (missed_course o.0 o.1) contexts.Hard 1 0 (o.0 (at 0 2)).last =
+    subst (λ k. IsDone (missed_course o.0 o.1) contexts.Hard k 0 (o.0 (at 0 2)).last) (sym call.does.0.one_reading) call.seen in
+    one_is_missed o.0 o.1 (o.0 (at 0 2)).last _ call.ends (done.stopped clocks.Monotonic)
+
+-- ---- a hard expiry run claims a timer of the soft context
+
+-- the timer that a run claims first is of the run's context
+first_context : (s : Script) (x : Context) (t : ℕ) (ts : List ℕ) (fired : List Fired) → t ∷ ts ≡ map (λ f. f.timer) fired
+    → AllByRecursion (λ f. (declared_of s f.timer).context ≡ x) fired → (declared_of s t).context ≡ x
+first_context s x t ts [] claimed all = absurd (cc)
+first_context s x t ts (f ∷ fs) claimed all =
+    subst (λ t. (declared_of s t).context ≡ x) (sym (heads t f.timer ts (map (λ f. f.timer) fs) claimed)) all.0
+
+-- law: it does not fit
+pub astray_doesnt_fit : Fits astray_script astray_record → ⊥
+astray_doesnt_fit fits =
+    let o = opened astray_script astray_record fits in
+    let run = (o.3.calls 0).2.1.does.0 in
+    let same : contexts.Soft ≡ contexts.Hard = first_context astray_script contexts.Hard 0 [] (o.1 (at 0 1)).fired run.claimed run.contexts in
+    cc
+
+-- ---- a record is of version 1, and its script of version 2
+
+-- law: it does not fit
+pub versions_dont_fit : Fits versions_script versions_record → ⊥
+versions_dont_fit fits = let same : versions.One ≡ versions.Two = (opened versions_script versions_record fits).3.version in cc

@@ -1,9 +1,9 @@
 -- Scripts, each with a record that fits it.
 use Rattle.std.specs.Prelude.{true, false, List, [], ◌∷◌}
-use Rattle.ktime.specs.declared.clock_id.ClockId.TheVariants as clocks
 use Rattle.ktime.specs.declared.mode.Mode.TheVariants as modes
 use Rattle.clock_model.specs.declared.write.Write.TheVariants as writes
 use Rattle.record_text.specs.declared.record.AcceptReply.TheVariants as acceptances
+use Rattle.seq_timer.specs.declared.context.Context.TheVariants as contexts
 use Rattle.record_text.specs.declared.record.Answer.TheVariants as answers
 use Rattle.record_text.specs.declared.record.Answer.{Answer}
 use Rattle.record_text.specs.declared.record.Armed.TheVariants as armings
@@ -16,18 +16,19 @@ use Rattle.record_text.specs.declared.record.Restart.TheVariants as restarts
 use Rattle.record_text.specs.declared.record.RunRecord.{RunRecord}
 use Rattle.record_text.specs.declared.record.SettimeReply.TheVariants as settings
 use Rattle.record_text.specs.declared.record.TimerLine.{TimerLine}
+use Rattle.record_text.specs.declared.version.Version.TheVariants as versions
 use Rattle.script_text.specs.declared.script.Call.TheVariants as calls
 use Rattle.script_text.specs.declared.script.Callback.TheVariants as callbacks
 use Rattle.script_text.specs.declared.script.Kind.TheVariants as kinds
 use Rattle.script_text.specs.declared.script.Script.{Script}
-use Rattle.run_cases.specs.Lines.{at, by, line, case_object_line, raw_record, case_script, start}
+use Rattle.run_cases.specs.Lines.{at, by, case_object_line, case_script, case_start, claim_lines, hard_expire, hard_raw, line, case_start_entry, raw_record, case_record_in, case_script_in, slack_entry, slack_start, start}
 
 -- ---- a timer is started, expires, is cancelled when it is idle, and is looked at
 
 -- the script
 abbrev pub idle_script : Script
-idle_script = case_script 1 1 (kinds.Raw callbacks.Once ∷ []) ((by 0 (calls.Start 0 modes.Rel 100 0) ∷ by 0 (calls.Clock (writes.Advance 100))
-    ∷ by 0 (calls.Expire 0 4) ∷ by 0 (calls.Cancel 0) ∷ by 0 (calls.Peek 0) ∷ []) ∷ [])
+idle_script = case_script 1 1 (hard_raw callbacks.Once ∷ []) ((by 0 (case_start 0 modes.Rel 100 0) ∷ by 0 (calls.Clock (writes.Advance 100))
+    ∷ by 0 (hard_expire 0 4) ∷ by 0 (calls.Cancel 0) ∷ by 0 (calls.Peek 0) ∷ []) ∷ [])
 
 -- its record
 abbrev pub idle_record : RunRecord
@@ -39,8 +40,8 @@ idle_record = raw_record (record { label = at 0 1; write = writes.Advance 100; m
 
 -- the script
 abbrev pub beside_script : Script
-beside_script = case_script 1 2 (kinds.Raw callbacks.Once ∷ [])
-    ((by 0 (calls.Start 0 modes.Rel 0 0) ∷ []) ∷ (by 0 (calls.Cancel 0) ∷ by 1 (calls.Expire 0 4) ∷ []) ∷ [])
+beside_script = case_script 1 2 (hard_raw callbacks.Once ∷ [])
+    ((by 0 (case_start 0 modes.Rel 0 0) ∷ []) ∷ (by 0 (calls.Cancel 0) ∷ by 1 (hard_expire 0 4) ∷ []) ∷ [])
 
 -- the timer's lines, and what the cancel and the expiry run were answered
 abbrev pub beside : List TimerLine → Answer → Answer → RunRecord
@@ -67,7 +68,7 @@ late_record = beside expired_lines (answers.Idle 3) (answers.Done 0 (0 ∷ []))
 
 -- the script
 abbrev pub told_script : Script
-told_script = case_script 1 1 (kinds.Raw callbacks.Cancels ∷ []) ((by 0 (calls.Start 0 modes.Rel 0 0) ∷ by 0 (calls.Expire 0 1) ∷ []) ∷ [])
+told_script = case_script 1 1 (hard_raw callbacks.Cancels ∷ []) ((by 0 (case_start 0 modes.Rel 0 0) ∷ by 0 (hard_expire 0 1) ∷ []) ∷ [])
 
 -- its record
 abbrev pub told_record : RunRecord
@@ -82,16 +83,16 @@ told_record = raw_record [] ((line 0 0 (start modes.Rel 0 0) ∷ record {
 
 -- the script
 abbrev pub moved_script : Script
-moved_script = case_script 2 1 (kinds.Raw (callbacks.Starts 50 1) ∷ [])
-    ((by 0 (calls.Start 0 modes.Abs 0 0) ∷ by 0 (calls.Expire 0 1) ∷ by 0 (calls.Peek 0) ∷ by 0 (calls.Start 0 modes.Rel 70 1) ∷ []) ∷ [])
+moved_script = case_script 2 1 (hard_raw (callbacks.Starts 50 1) ∷ [])
+    ((by 0 (case_start 0 modes.Abs 0 0) ∷ by 0 (hard_expire 0 1) ∷ by 0 (calls.Peek 0) ∷ by 0 (case_start 0 modes.Rel 70 1) ∷ []) ∷ [])
 
 -- the start that the callback makes, which stays on base 0 as the timer runs there, and the one that moves it
 abbrev pub kept_start : Entry
-kept_start = entries.Start modes.Rel 50 0 1 0 clocks.Monotonic 50 false
+kept_start = case_start_entry modes.Rel 50 0 1 0 50 false
 
 -- the start that moves it
 abbrev pub moved_start : Entry
-moved_start = entries.Start modes.Rel 70 0 1 1 clocks.Monotonic 70 false
+moved_start = case_start_entry modes.Rel 70 0 1 1 70 false
 
 -- its record
 abbrev pub moved_record : RunRecord
@@ -104,12 +105,12 @@ moved_record = raw_record [] ((line 0 0 (start modes.Abs 0 0) ∷ line 0 1 (entr
 -- the script
 abbrev pub accepted_script : Script
 accepted_script = case_script 1 1 (kinds.Posix 0 ∷ []) ((by 0 (calls.Settime 0 1 (record { sec = 0; nsec = 100 }) (record { sec = 0; nsec = 10 }))
-    ∷ by 0 (calls.Clock (writes.Advance 100)) ∷ by 0 (calls.Expire 0 4) ∷ by 0 (calls.Clock (writes.Advance 35)) ∷ by 0 (calls.Accept 0)
+    ∷ by 0 (calls.Clock (writes.Advance 100)) ∷ by 0 (hard_expire 0 4) ∷ by 0 (calls.Clock (writes.Advance 35)) ∷ by 0 (calls.Accept 0)
     ∷ by 0 (calls.Accept 0) ∷ by 0 (calls.Overrun 0) ∷ []) ∷ [])
 
 -- the start by which the first acceptance arms the timer
 abbrev pub rearming_start : Entry
-rearming_start = entries.Start modes.Keep 140 2 0 0 clocks.Monotonic 140 false
+rearming_start = case_start_entry modes.Keep 140 2 0 0 140 false
 
 -- the object's entries
 abbrev pub set_entry : ObjectEntry
@@ -130,11 +131,50 @@ none_entry = object_entries.Accept 2 armings.None acceptances.NoSignal
 -- its record
 abbrev pub accepted_record : RunRecord
 accepted_record = record {
+  version = versions.One;
   clock = record { label = at 0 1; write = writes.Advance 100; mono = 100; real = 100; boot = 100; changes = 0 }
       ∷ record { label = at 0 3; write = writes.Advance 35; mono = 135; real = 135; boot = 135; changes = 0 } ∷ [];
-  timers = (line 0 0 (start modes.Abs 100 100) ∷ line 0 2 (entries.Claim 0 1 1) ∷ line 0 2 (entries.Finish false 1 restarts.None) ∷ line 0 4 rearming_start
-      ∷ []) ∷ [];
-  objects = (case_object_line 0 0 set_entry ∷ case_object_line 0 2 trigger_entry ∷ case_object_line 0 4 accept_entry ∷ case_object_line 0 5 none_entry ∷ []) ∷ [];
-  answers = (answers.Old 0 0 ∷ answers.Clock 1 ∷ answers.Done 1 (0 ∷ []) ∷ answers.Clock 2 ∷ answers.Accepted 3 ∷ answers.NoSignal ∷ answers.Overrun 3 4
-      ∷ []) ∷ [];
+  timers = (line 0 0 (start modes.Abs 100 100) ∷ line 0 2 (entries.Claim 0 1 1) ∷ line 0 2 (entries.Finish false 1 restarts.None)
+      ∷ line 0 4 rearming_start ∷ []) ∷ [];
+  objects = (case_object_line 0 0 set_entry ∷ case_object_line 0 2 trigger_entry ∷ case_object_line 0 4 accept_entry
+      ∷ case_object_line 0 5 none_entry ∷ []) ∷ [];
+  answers = (answers.Old 0 0 ∷ answers.Clock 1 ∷ answers.Done 1 (0 ∷ []) ∷ answers.Clock 2 ∷ answers.Accepted 3 ∷ answers.NoSignal
+      ∷ answers.Overrun 3 4 ∷ []) ∷ [];
 }
+
+-- ---- a timer with slack expires when its soft expiry is reached and its hard one isn't
+
+-- the script
+abbrev pub early_script : Script
+early_script = case_script_in versions.Two 1 1 (hard_raw callbacks.Once ∷ []) ((by 0 (slack_start 0 0 100) ∷ by 0 (hard_expire 0 4) ∷ []) ∷ [])
+
+-- its record
+abbrev pub early_record : RunRecord
+early_record = case_record_in versions.Two [] ((line 0 0 (slack_entry 0 100) ∷ claim_lines 0 1) ∷ [])
+    ((answers.Started 1 0 false ∷ answers.Done 0 (0 ∷ []) ∷ []) ∷ [])
+
+-- ---- a run is done and claimed nothing, though a soft expiry is reached: that of the timer with the earliest hard expiry isn't
+
+-- the script
+abbrev pub waiting_script : Script
+waiting_script = case_script_in versions.Two 1 1 (hard_raw callbacks.Once ∷ hard_raw callbacks.Once ∷ [])
+    ((by 0 (slack_start 0 0 100) ∷ by 0 (case_start 1 modes.Abs 50 0) ∷ by 0 (hard_expire 0 4) ∷ []) ∷ [])
+
+-- its record
+abbrev pub waiting_record : RunRecord
+waiting_record = case_record_in versions.Two [] ((line 0 0 (slack_entry 0 100) ∷ []) ∷ (line 0 1 (start modes.Abs 50 50) ∷ []) ∷ [])
+    ((answers.Started 1 0 false ∷ answers.Started 1 0 false ∷ answers.Done 0 [] ∷ []) ∷ [])
+
+-- ---- a hard and a soft expiry run on one base, each of which fires its own timer
+
+-- the script
+abbrev pub contexts_script : Script
+contexts_script = case_script_in versions.Two 1 1 (hard_raw callbacks.Once ∷ kinds.Raw contexts.Soft callbacks.Once ∷ [])
+    ((by 0 (case_start 0 modes.Abs 0 0) ∷ by 0 (case_start 1 modes.Abs 0 0) ∷ by 0 (hard_expire 0 4)
+    ∷ by 0 (calls.Expire contexts.Soft 0 4) ∷ []) ∷ [])
+
+-- its record
+abbrev pub contexts_record : RunRecord
+contexts_record = case_record_in versions.Two []
+    ((line 0 0 (start modes.Abs 0 0) ∷ claim_lines 0 2) ∷ (line 0 1 (start modes.Abs 0 0) ∷ claim_lines 0 3) ∷ [])
+    ((answers.Started 1 0 false ∷ answers.Started 1 0 false ∷ answers.Done 0 (0 ∷ []) ∷ answers.Done 0 (1 ∷ []) ∷ []) ∷ [])

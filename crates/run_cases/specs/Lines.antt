@@ -1,7 +1,9 @@
 -- Short words for scripts and records of few calls.
-use Rattle.std.specs.Prelude.{ℕ, false, List, [], map}
+use Rattle.std.specs.Prelude.{ℕ, ◌+◌, Bool, false, Some, List, [], ◌∷◌, map}
 use Rattle.ktime.specs.declared.clock_id.ClockId.TheVariants as clocks
 use Rattle.ktime.specs.declared.mode.Mode.{Mode}
+use Rattle.ktime.specs.declared.mode.Mode.TheVariants as modes
+use Rattle.seq_timer.specs.declared.context.Context.TheVariants as contexts
 use Rattle.record_text.specs.declared.record.Answer.{Answer}
 use Rattle.record_text.specs.declared.record.ClockLine.{ClockLine}
 use Rattle.record_text.specs.declared.record.Entry.TheVariants as entries
@@ -9,26 +11,54 @@ use Rattle.record_text.specs.declared.record.Entry.{Entry}
 use Rattle.record_text.specs.declared.record.Label.{Label}
 use Rattle.record_text.specs.declared.record.ObjectEntry.{ObjectEntry}
 use Rattle.record_text.specs.declared.record.ObjectLine.{ObjectLine}
+use Rattle.record_text.specs.declared.record.Restart.TheVariants as restarts
 use Rattle.record_text.specs.declared.record.RunRecord.{RunRecord}
 use Rattle.record_text.specs.declared.record.TimerLine.{TimerLine}
+use Rattle.record_text.specs.declared.version.Version.{Version}
+use Rattle.record_text.specs.declared.version.Version.TheVariants as versions
 use Rattle.script_text.specs.declared.script.Call.{Call}
+use Rattle.script_text.specs.declared.script.Call.TheVariants as calls
+use Rattle.script_text.specs.declared.script.Callback.{Callback}
 use Rattle.script_text.specs.declared.script.Kind.{Kind}
+use Rattle.script_text.specs.declared.script.Kind.TheVariants as kinds
 use Rattle.script_text.specs.declared.script.LaneCall.{LaneCall}
 use Rattle.script_text.specs.declared.script.Script.{Script}
+use Rattle.script_text.specs.Starts.{without_slack}
+
+-- a raw timer of the hard context
+abbrev pub hard_raw : Callback → Kind
+hard_raw callback = kinds.Raw contexts.Hard callback
+
+-- a start of a timer without a slack
+abbrev pub case_start : ℕ → Mode → ℕ → ℕ → Call
+case_start timer mode ns base = calls.Start timer (without_slack mode ns base)
+
+-- a start of a timer on base 0 at a time of its clock or as much later as the slack allows
+abbrev pub slack_start : ℕ → ℕ → ℕ → Call
+slack_start timer ns slack = calls.Start timer (record { mode = modes.Abs; ns = ns; slack = Some slack; base = 0 })
+
+-- a hard expiry run on a base that claims at most so many timers
+abbrev pub hard_expire : ℕ → ℕ → Call
+hard_expire base budget = calls.Expire contexts.Hard base budget
 
 -- a call of a lane
 abbrev pub by : ℕ → Call → LaneCall
 by lane call = record { lane = lane; call = call }
 
--- a script of such timers on the monotonic clock, each history of a hundred entries, and these rounds
-abbrev pub case_script : ℕ → ℕ → List Kind → List (List LaneCall) → Script
-case_script bases lanes kinds rounds = record {
+-- a script of a version with such timers on the monotonic clock, each history of a hundred entries, and these rounds
+abbrev pub case_script_in : Version → ℕ → ℕ → List Kind → List (List LaneCall) → Script
+case_script_in version bases lanes kinds rounds = record {
+  version = version;
   bases = bases;
   lanes = lanes;
   limit = 100;
   timers = map (λ kind. record { clock = clocks.Monotonic; kind = kind }) kinds;
   rounds = map (λ calls. record { calls = calls }) rounds;
 }
+
+-- the same of version 1
+abbrev pub case_script : ℕ → ℕ → List Kind → List (List LaneCall) → Script
+case_script bases lanes kinds rounds = case_script_in versions.One bases lanes kinds rounds
 
 -- the label of a lane's call
 abbrev pub at : ℕ → ℕ → Label
@@ -38,13 +68,58 @@ at lane call = record { lane = lane; call = call }
 abbrev pub line : ℕ → ℕ → Entry → TimerLine
 line lane call entry = record { label = at lane call; entry = entry; looks = [] }
 
+-- the entry of a start without a slack: what was asked for by the reading of a stamp, the base, the expiry that came of it, and whether the timer
+-- was armed before
+abbrev pub case_start_entry : Mode → ℕ → ℕ → ℕ → ℕ → ℕ → Bool → Entry
+case_start_entry mode ns reading asked base expires was_armed = entries.Start (record {
+  mode = mode;
+  ns = ns;
+  slack = 0;
+  reading = reading;
+  asked = asked;
+  base = base;
+  clock = clocks.Monotonic;
+  soft = expires;
+  expires = expires;
+  was_armed = was_armed;
+})
+
 -- a start on base 0 of a timer that wasn't armed, with the expiry that came of it
 abbrev pub start : Mode → ℕ → ℕ → Entry
-start mode ns expires = entries.Start mode ns 0 0 0 clocks.Monotonic expires false
+start mode ns expires = case_start_entry mode ns 0 0 0 expires false
 
--- a record of timers by themselves, which has no objects
+-- the entry of a start with a slack by the first reading: the timer wasn't armed, and has a soft expiry and a hard one
+abbrev pub slack_entry : ℕ → ℕ → Entry
+slack_entry ns slack = entries.Start (record {
+  mode = modes.Abs;
+  ns = ns;
+  slack = slack;
+  reading = 0;
+  asked = 0;
+  base = 0;
+  clock = clocks.Monotonic;
+  soft = ns;
+  expires = ns + slack;
+  was_armed = false;
+})
+
+-- the claim that a lane's call made of a timer's first generation, by the first reading, and the finish
+abbrev pub claim_lines : ℕ → ℕ → List TimerLine
+claim_lines lane call = line lane call (entries.Claim 0 0 1) ∷ line lane call (entries.Finish false 1 restarts.None) ∷ []
+
+-- a record of a version of timers by themselves, which has no objects
+abbrev pub case_record_in : Version → List ClockLine → List (List TimerLine) → List (List Answer) → RunRecord
+case_record_in version clock timers answers = record {
+  version = version;
+  clock = clock;
+  timers = timers;
+  objects = map (λ lines. []) timers;
+  answers = answers;
+}
+
+-- the same of version 1
 abbrev pub raw_record : List ClockLine → List (List TimerLine) → List (List Answer) → RunRecord
-raw_record clock timers answers = record { clock = clock; timers = timers; objects = map (λ lines. []) timers; answers = answers }
+raw_record clock timers answers = case_record_in versions.One clock timers answers
 
 -- an entry of an object that a lane's call made
 abbrev pub case_object_line : ℕ → ℕ → ObjectEntry → ObjectLine

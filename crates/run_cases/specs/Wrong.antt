@@ -1,8 +1,8 @@
--- Scripts, each with a record that doesn't fit it, though each timer's lines by themselves are a history.
+-- Scripts, each with a record that doesn't fit it, though each timer's lines by themselves are a history in all but one of them.
 use Rattle.std.specs.Prelude.{ℕ, Bool, true, false, List, [], ◌∷◌}
-use Rattle.ktime.specs.declared.clock_id.ClockId.TheVariants as clocks
 use Rattle.ktime.specs.declared.mode.Mode.TheVariants as modes
 use Rattle.clock_model.specs.declared.write.Write.TheVariants as writes
+use Rattle.seq_timer.specs.declared.context.Context.TheVariants as contexts
 use Rattle.record_text.specs.declared.record.Answer.TheVariants as answers
 use Rattle.record_text.specs.declared.record.Armed.TheVariants as armings
 use Rattle.record_text.specs.declared.record.Entry.TheVariants as entries
@@ -13,29 +13,30 @@ use Rattle.record_text.specs.declared.record.Restart.TheVariants as restarts
 use Rattle.record_text.specs.declared.record.RunRecord.{RunRecord}
 use Rattle.record_text.specs.declared.record.SettimeReply.TheVariants as settings
 use Rattle.record_text.specs.declared.record.TimerLine.{TimerLine}
+use Rattle.record_text.specs.declared.version.Version.TheVariants as versions
 use Rattle.script_text.specs.declared.script.Call.TheVariants as calls
 use Rattle.script_text.specs.declared.script.Call.{Call}
 use Rattle.script_text.specs.declared.script.Callback.TheVariants as callbacks
 use Rattle.script_text.specs.declared.script.Kind.TheVariants as kinds
 use Rattle.script_text.specs.declared.script.Kind.{Kind}
 use Rattle.script_text.specs.declared.script.Script.{Script}
-use Rattle.run_cases.specs.Lines.{at, by, line, case_object_line, raw_record, case_script, start}
+use Rattle.run_cases.specs.Lines.{at, by, case_object_line, case_script, case_start, claim_lines, hard_expire, hard_raw, line, case_start_entry, raw_record, case_record_in, case_script_in, slack_entry, slack_start, start}
 
 -- two timers whose callbacks do nothing
 abbrev pub two_timers : List Kind
-two_timers = kinds.Raw callbacks.Once ∷ kinds.Raw callbacks.Once ∷ []
+two_timers = hard_raw callbacks.Once ∷ hard_raw callbacks.Once ∷ []
 
 -- the lines of a timer that this call of lane 0 starts, and that a call of a lane then claims, by the reading of this stamp
 abbrev pub claimed_by : ℕ → ℕ → ℕ → ℕ → ℕ → List TimerLine
 claimed_by call ns lane other stamp =
     line 0 call (start modes.Abs ns ns) ∷ line lane other (entries.Claim 0 stamp 1) ∷ line lane other (entries.Finish false 1 restarts.None) ∷ []
 
--- ---- two functions at once on one base: a lane is told that a timer runs before it claims another timer there, and behind that, too
+-- ---- two functions of one context at once on one base: a lane is told that a timer runs before it claims another timer there, and behind that, too
 
 -- the script
 abbrev pub both_script : Script
-both_script = case_script 1 2 two_timers ((by 0 (calls.Start 0 modes.Abs 0 0) ∷ by 0 (calls.Start 1 modes.Abs 0 0) ∷ [])
-    ∷ (by 0 (calls.Expire 0 1) ∷ by 1 (calls.Cancel 0) ∷ by 1 (calls.Expire 0 1) ∷ by 1 (calls.Cancel 0) ∷ []) ∷ [])
+both_script = case_script 1 2 two_timers ((by 0 (case_start 0 modes.Abs 0 0) ∷ by 0 (case_start 1 modes.Abs 0 0) ∷ [])
+    ∷ (by 0 (hard_expire 0 1) ∷ by 1 (calls.Cancel 0) ∷ by 1 (hard_expire 0 1) ∷ by 1 (calls.Cancel 0) ∷ []) ∷ [])
 
 -- a record that breaks it
 abbrev pub both_record : RunRecord
@@ -47,8 +48,8 @@ both_record = raw_record [] (claimed_by 0 0 0 2 0 ∷ claimed_by 1 0 1 1 0 ∷ [
 
 -- the script
 abbrev pub tie_script : Script
-tie_script = case_script 1 1 two_timers ((by 0 (calls.Start 0 modes.Abs 100 0) ∷ by 0 (calls.Start 1 modes.Abs 100 0) ∷ by 0 (calls.Clock (writes.Advance 100))
-    ∷ by 0 (calls.Expire 0 1) ∷ by 0 (calls.Expire 0 1) ∷ []) ∷ [])
+tie_script = case_script 1 1 two_timers ((by 0 (case_start 0 modes.Abs 100 0) ∷ by 0 (case_start 1 modes.Abs 100 0)
+    ∷ by 0 (calls.Clock (writes.Advance 100)) ∷ by 0 (hard_expire 0 1) ∷ by 0 (hard_expire 0 1) ∷ []) ∷ [])
 
 -- a record that breaks it
 abbrev pub tie_record : RunRecord
@@ -60,8 +61,8 @@ tie_record = raw_record (record { label = at 0 2; write = writes.Advance 100; mo
 
 -- the script
 abbrev pub due_script : Script
-due_script = case_script 1 2 two_timers ((by 0 (calls.Start 0 modes.Abs 0 0) ∷ [])
-    ∷ (by 0 (calls.Start 1 modes.Abs 0 0) ∷ by 0 (calls.Cancel 0) ∷ by 1 (calls.Expire 0 4) ∷ []) ∷ [])
+due_script = case_script 1 2 two_timers ((by 0 (case_start 0 modes.Abs 0 0) ∷ [])
+    ∷ (by 0 (case_start 1 modes.Abs 0 0) ∷ by 0 (calls.Cancel 0) ∷ by 1 (hard_expire 0 4) ∷ []) ∷ [])
 
 -- a record that breaks it
 abbrev pub due_record : RunRecord
@@ -76,7 +77,7 @@ settime_to value = calls.Settime 0 1 (record { sec = 0; nsec = value }) (record 
 
 -- the start that it makes by the reading of a stamp, and its entry
 abbrev pub set_start : ℕ → ℕ → Bool → Entry
-set_start value stamp was_armed = entries.Start modes.Abs value stamp 0 0 clocks.Monotonic value was_armed
+set_start value stamp was_armed = case_start_entry modes.Abs value stamp 0 0 value was_armed
 
 -- the entry that it makes: the value, the stamp of its reading, the generation that it armed, and what was left before
 abbrev pub set_entry_of : ℕ → ℕ → ℕ → ℕ → ObjectEntry
@@ -89,6 +90,7 @@ uncancelled_script = case_script 1 1 (kinds.Posix 0 ∷ []) ((by 0 (settime_to 1
 -- a record that breaks it
 abbrev pub uncancelled_record : RunRecord
 uncancelled_record = record {
+  version = versions.One;
   clock = [];
   timers = (line 0 0 (set_start 100 0 false) ∷ line 0 1 (set_start 200 0 true) ∷ []) ∷ [];
   objects = (case_object_line 0 0 (set_entry_of 100 0 1 0) ∷ case_object_line 0 1 (set_entry_of 200 0 2 100) ∷ []) ∷ [];
@@ -100,15 +102,17 @@ uncancelled_record = record {
 -- the script
 abbrev pub crossed_script : Script
 crossed_script = case_script 1 2 (kinds.Posix 0 ∷ []) ((by 0 (settime_to 1) ∷ by 0 (calls.Clock (writes.Advance 1)) ∷ [])
-    ∷ (by 0 (settime_to 50) ∷ by 1 (calls.Expire 0 1) ∷ []) ∷ [])
+    ∷ (by 0 (settime_to 50) ∷ by 1 (hard_expire 0 1) ∷ []) ∷ [])
 
 -- a record that breaks it
 abbrev pub crossed_record : RunRecord
 crossed_record = record {
+  version = versions.One;
   clock = record { label = at 0 1; write = writes.Advance 1; mono = 1; real = 1; boot = 1; changes = 0 } ∷ [];
   timers = (line 0 0 (set_start 1 0 false) ∷ line 1 0 (entries.Claim 0 1 1) ∷ line 1 0 (entries.Finish false 1 restarts.None)
       ∷ line 0 2 (set_start 50 1 false) ∷ []) ∷ [];
-  objects = (case_object_line 0 0 (set_entry_of 1 0 1 0) ∷ case_object_line 0 2 (set_entry_of 50 1 4 1) ∷ case_object_line 1 0 (object_entries.Trigger 1 1 false) ∷ []) ∷ [];
+  objects = (case_object_line 0 0 (set_entry_of 1 0 1 0) ∷ case_object_line 0 2 (set_entry_of 50 1 4 1)
+      ∷ case_object_line 1 0 (object_entries.Trigger 1 1 false) ∷ []) ∷ [];
   answers = (answers.Old 0 0 ∷ answers.Clock 1 ∷ answers.Old 1 0 ∷ []) ∷ (answers.More 1 (0 ∷ []) ∷ []) ∷ [];
 }
 
@@ -121,8 +125,61 @@ settimes_script = case_script 1 2 (kinds.Posix 0 ∷ []) ((by 0 (settime_to 100)
 -- a record that breaks it
 abbrev pub settimes_record : RunRecord
 settimes_record = record {
+  version = versions.One;
   clock = [];
   timers = (line 0 0 (set_start 100 0 false) ∷ line 1 0 (entries.Cancel 1) ∷ line 1 0 (set_start 200 0 false) ∷ []) ∷ [];
   objects = (case_object_line 1 0 (set_entry_of 200 0 3 0) ∷ case_object_line 0 0 (set_entry_of 100 0 1 200) ∷ []) ∷ [];
   answers = (answers.Old 200 0 ∷ []) ∷ (answers.Old 0 0 ∷ []) ∷ [];
 }
+
+-- ---- a timer is claimed before its soft expiry: its lines aren't a history either
+
+-- the script
+abbrev pub soon_script : Script
+soon_script = case_script_in versions.Two 1 1 (hard_raw callbacks.Once ∷ []) ((by 0 (slack_start 0 50 100) ∷ by 0 (hard_expire 0 4) ∷ []) ∷ [])
+
+-- a record that breaks it
+abbrev pub soon_record : RunRecord
+soon_record = case_record_in versions.Two [] ((line 0 0 (slack_entry 50 100) ∷ claim_lines 0 1) ∷ [])
+    ((answers.Started 1 0 false ∷ answers.Done 0 (0 ∷ []) ∷ []) ∷ [])
+
+-- ---- a claim looks past the timer with the earliest hard expiry, whose soft one isn't reached, to a timer whose soft one is
+
+-- a record that breaks the script of a run that waits
+abbrev pub past_record : RunRecord
+past_record = case_record_in versions.Two [] ((line 0 0 (slack_entry 0 100) ∷ claim_lines 0 2) ∷ (line 0 1 (start modes.Abs 50 50) ∷ []) ∷ [])
+    ((answers.Started 1 0 false ∷ answers.Started 1 0 false ∷ answers.Done 0 (0 ∷ []) ∷ []) ∷ [])
+
+-- ---- nothing was left to do, though a timer's hard expiry was reached
+
+-- the script
+abbrev pub missed_script : Script
+missed_script = case_script_in versions.Two 1 1 (hard_raw callbacks.Once ∷ [])
+    ((by 0 (slack_start 0 0 50) ∷ by 0 (calls.Clock (writes.Advance 50)) ∷ by 0 (hard_expire 0 4) ∷ []) ∷ [])
+
+-- a record that breaks it
+abbrev pub missed_record : RunRecord
+missed_record = case_record_in versions.Two (record { label = at 0 1; write = writes.Advance 50; mono = 50; real = 50; boot = 50; changes = 0 } ∷ [])
+    ((line 0 0 (slack_entry 0 50) ∷ []) ∷ []) ((answers.Started 1 0 false ∷ answers.Clock 1 ∷ answers.Done 1 [] ∷ []) ∷ [])
+
+-- ---- a hard expiry run claims a timer of the soft context
+
+-- the script
+abbrev pub astray_script : Script
+astray_script = case_script_in versions.Two 1 1 (kinds.Raw contexts.Soft callbacks.Once ∷ [])
+    ((by 0 (case_start 0 modes.Abs 0 0) ∷ by 0 (hard_expire 0 4) ∷ []) ∷ [])
+
+-- a record that breaks it
+abbrev pub astray_record : RunRecord
+astray_record = case_record_in versions.Two [] ((line 0 0 (start modes.Abs 0 0) ∷ claim_lines 0 1) ∷ [])
+    ((answers.Started 1 0 false ∷ answers.Done 0 (0 ∷ []) ∷ []) ∷ [])
+
+-- ---- a record is of version 1, and its script of version 2
+
+-- the script: one lane with no call
+abbrev pub versions_script : Script
+versions_script = case_script_in versions.Two 1 1 [] []
+
+-- a record that breaks it
+abbrev pub versions_record : RunRecord
+versions_record = raw_record [] [] ([] ∷ [])

@@ -33,3 +33,21 @@ pub fn a_cancel_beside_an_expiry()
 pub fn an_accepted_signal_arms_a_timer_again()
     ensures { Fits fitting.accepted_script fitting.accepted_record }
 {}
+
+/// A timer with slack expires when its soft expiry is reached and its hard one isn't.
+#[tactic(auto, using(crate::proofs::FittingRecords::early_fits))]
+pub fn a_soft_expiry_is_enough()
+    ensures { Fits fitting.early_script fitting.early_record }
+{}
+
+/// An expiry run ends with nothing left to do though a timer is due by its soft expiry, as the one with the earliest hard expiry isn't.
+#[tactic(auto, using(crate::proofs::FittingRecords::waiting_fits))]
+pub fn a_due_timer_waits_behind_an_earlier_one()
+    ensures { Fits fitting.waiting_script fitting.waiting_record }
+{}
+
+/// A hard and a soft expiry run on one base each fire the timer of their context.
+#[tactic(auto, using(crate::proofs::FittingRecords::contexts_fit))]
+pub fn each_expiry_run_fires_its_own_timer()
+    ensures { Fits fitting.contexts_script fitting.contexts_record }
+{}

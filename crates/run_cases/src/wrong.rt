@@ -1,8 +1,9 @@
 //! Records that don't fit their scripts.
 ghost use Rattle.run_history.specs.Fits.{Fits};
+ghost use Rattle.run_cases.specs.Fitting as fitting;
 ghost use Rattle.run_cases.specs.Wrong as wrong;
 
-/// No two functions run at once on one base: one lane is told, before and behind its own claim there, that another's timer runs.
+/// No two functions of one context run at once on a base: one lane is told, before and behind its own claim there, that another's timer runs.
 #[tactic(auto, using(crate::proofs::WrongRecords::both_dont_fit))]
 pub fn two_functions_never_run_at_once_on_a_base()
     ensures { Fits wrong.both_script wrong.both_record → ⊥ }
@@ -14,9 +15,9 @@ pub fn equal_expiries_are_claimed_in_turn()
     ensures { Fits wrong.tie_script wrong.tie_record → ⊥ }
 {}
 
-/// An expiry run doesn't have nothing left to do while at each moment one timer or another is due.
+/// An expiry run doesn't have nothing left to do while at each moment one timer's expiry or another's is reached.
 #[tactic(auto, using(crate::proofs::WrongRecords::due_doesnt_fit))]
-pub fn an_expiry_run_leaves_none_due_at_one_moment()
+pub fn an_expiry_run_is_done_at_one_moment()
     ensures { Fits wrong.due_script wrong.due_record → ⊥ }
 {}
 
@@ -31,4 +32,34 @@ pub fn a_settime_cancels_first()
 pub fn entries_of_objects_and_timers_dont_cross()
     ensures expiry { Fits wrong.crossed_script wrong.crossed_record → ⊥ }
     ensures settimes { Fits wrong.settimes_script wrong.settimes_record → ⊥ }
+{}
+
+/// A timer isn't claimed before its soft expiry.
+#[tactic(auto, using(crate::proofs::WrongRecords::soon_doesnt_fit))]
+pub fn no_timer_expires_before_its_soft_expiry()
+    ensures { Fits wrong.soon_script wrong.soon_record → ⊥ }
+{}
+
+/// A claim doesn't look past the timer with the earliest hard expiry, while its soft one isn't reached.
+#[tactic(auto, using(crate::proofs::WrongRecords::past_doesnt_fit))]
+pub fn no_claim_looks_past_the_first_timer()
+    ensures { Fits fitting.waiting_script wrong.past_record → ⊥ }
+{}
+
+/// An expiry run doesn't have nothing left to do while a timer's hard expiry is reached.
+#[tactic(auto, using(crate::proofs::WrongRecords::missed_doesnt_fit))]
+pub fn no_hard_expiry_is_missed()
+    ensures { Fits wrong.missed_script wrong.missed_record → ⊥ }
+{}
+
+/// A hard expiry run doesn't claim a timer of the soft context.
+#[tactic(auto, using(crate::proofs::WrongRecords::astray_doesnt_fit))]
+pub fn a_hard_run_claims_no_soft_timer()
+    ensures { Fits wrong.astray_script wrong.astray_record → ⊥ }
+{}
+
+/// A record isn't of another version than its script.
+#[tactic(auto, using(crate::proofs::WrongRecords::versions_dont_fit))]
+pub fn a_record_is_of_its_scripts_version()
+    ensures { Fits wrong.versions_script wrong.versions_record → ⊥ }
 {}

@@ -1,14 +1,22 @@
 -- What follows from a record that fits for each timer by itself: each call knows of timers what their own lists say.
-use Rattle.std.proofs.Common.{◌≡◌, ◌<◌, ◌≤◌, ◌||◌, ◌&&◌, ℕ, ◌+◌, zero, suc, true, false, nat_eq, nat_lt, List, [], ◌∷◌, ◌++◌, Some, length, take, arith, refl, sym, ap, ◌∙◌, subst}
+use Rattle.std.proofs.Common.{◌≡◌, ◌<◌, ◌≤◌, ◌||◌, ◌&&◌, ℕ, ◌+◌, zero, suc, true, false, nat_eq, nat_lt, if◌then◌else◌, List, [], ◌∷◌, ◌++◌, None, Some, length, take, arith, refl, sym, ap, ◌∙◌, subst}
 use Rattle.std.specs.List.{slice_get}
 use Rattle.std.proofs.Math.Logic.{⊎_elim}
-use Rattle.std.proofs.lemmas.Bool.{cases_lt}
+use Rattle.std.proofs.lemmas.Bool.{cases_Bool, cases_lt, eqb-true}
 use Rattle.std.proofs.lemmas.Bool.Decides.{nat_tests}
 use Rattle.std.proofs.lemmas.List.{append_assoc, append-nil, take-map}
 use Rattle.std.proofs.lemmas.Option.{same_Some, slice_get_within}
+use Rattle.seq_timer.specs.declared.context.Terms.{Terms}
 use Rattle.seq_timer.specs.declared.observation.Observation.{Observation}
 use Rattle.seq_timer.specs.declared.observation.Observation.TheVariants as observations
-use Rattle.seq_timer.specs.Tables.{is_ahead, is_due_on, is_smaller, IsNextDue, runs_on}
+use Rattle.seq_timer.specs.declared.context.Context.{Context}
+use Rattle.seq_timer.specs.declared.context.Context.TheVariants as contexts
+use Rattle.seq_timer.specs.declared.context.Declared.{Declared}
+use Rattle.seq_timer.specs.Halves.{running_on}
+use Rattle.seq_timer.specs.Steps.{Timer, opening}
+use Rattle.seq_timer.proofs.Contents.{seen_else, seen_here}
+use Rattle.seq_timer.specs.Tables.{IsNextDue, in_context, is_context, no_declared, no_timer, runs_on, seen_in}
+use Rattle.seq_timer.proofs.Alike.{next_due-alike, seen-alike, stopped-alike, unlimited}
 use Rattle.record_text.specs.declared.record.Answer.{Answer}
 use Rattle.record_text.specs.declared.record.Answer.TheVariants as answers
 use Rattle.record_text.specs.declared.record.Entry.{Entry}
@@ -20,7 +28,7 @@ use Rattle.script_text.specs.declared.script.Call.TheVariants as calls
 use Rattle.script_text.specs.declared.script.Script.{Script}
 use Rattle.script_text.specs.Actions.{Action, also, Entered, Looked}
 use Rattle.script_text.specs.Told.{observed}
-use Rattle.script_text.specs.Histories.{answers_of, reading_at, timer_after}
+use Rattle.script_text.specs.Histories.{answers_of, declared_of, reading_at, timer_after, terms_of}
 use Rattle.script_text.specs.Order.{CallInRound, calls_of, is_before, is_label, IsInOrder, IsLabel, IsWithin, made_by, round_of}
 use Rattle.run_history.specs.Courses.{Course, labels, Move, timer_along}
 use Rattle.run_history.specs.EachTimer.{HasTimers, FitsTimers, TookNextDue, WasRefused, WasSo, WasTold}
@@ -31,7 +39,38 @@ use Rattle.run_history.proofs.Actions.{all_entered-append}
 use Rattle.run_history.proofs.Labels.{same_label}
 use Rattle.run_history.proofs.Lists.{all_at, at_map, each_drop, each_take}
 use Rattle.run_history.proofs.OwnParts.{count_moves}
-use Rattle.run_history.proofs.OwnPoints.{before_then, entered_then, labels_each, legal_each, order_each, point_then, same_then, saw_then, seen, stamp_then, turn_at}
+use Rattle.run_history.proofs.OwnPoints.{before_then, declared_then, entered_then, labels_each, legal_each, order_each, point_then, same_then, saw_then, seen, stamp_then, turn_at}
+
+-- a function runs on a base
+running_there : (base : ℕ) (u : Timer) (g : ℕ) → running_on base u ≡ Some g → (u.running ≡ Some g) × (u.base ≡ base)
+running_there base u g is =
+    elim (nat_eq u.base base) as (λ b. nat_eq u.base base ≡ b → (if b then u.running else None) ≡ Some g → (u.running ≡ Some g) × (u.base ≡ base)) [
+      | true ↦ λ same runs. (runs, eqb-true u.base base same)
+      | false ↦ λ same runs. absurd (cc)
+    ] refl is
+
+same_context : (x y : Context) → is_context x y ≡ true → y ≡ x
+same_context contexts.Hard contexts.Hard is = refl
+same_context contexts.Hard contexts.Soft is = absurd cc
+same_context contexts.Soft contexts.Hard is = absurd cc
+same_context contexts.Soft contexts.Soft is = refl
+
+-- a timer that a context sees run on a base is of the context, and runs there
+runs_seen : (x : Context) (base : ℕ) (u : Timer) (g : ℕ) → running_on base (seen_in x u) ≡ Some g
+    → (u.declared.context ≡ x) × (u.running ≡ Some g) × (u.base ≡ base)
+runs_seen x base u g is = ⊎_elim
+    (λ own. let there = running_there base u g (subst (λ k. running_on base k ≡ Some g) (seen_here x u own) is) in
+    (same_context x u.declared.context own, there.0, there.1))
+    (λ other. absurd (nobody (running_there base no_timer g (subst (λ k. running_on base k ≡ Some g) (seen_else x u other) is)).0))
+    (cases_Bool (is_context x u.declared.context))
+  where
+    nobody : None ≡ Some g → ⊥
+    nobody e = cc
+
+-- no function runs of a timer that isn't there
+none_seen : (base : ℕ) (x : Context) (terms : Terms) → runs_on base (seen_in x no_timer) ≡ runs_on base (seen_in x (opening no_declared terms))
+none_seen base contexts.Hard limit = refl
+none_seen base contexts.Soft limit = refl
 
 -- ---- where an entry of a call stands in the order
 
@@ -154,27 +193,23 @@ module _ (w : Course) (f : FitsIn w) where
         so_many = ap (made_by c) (take-map (λ (m : Move). m.line.label) p w.moves) ∙ count_moves c (take p w.moves) ∙ ap length s.own;
       } in
       let turn = turn_at w f.history f.timers p m base reading generation s.there entry_is in
-      let next : IsNextDue (timer_along w p) base (reading_at clock reading) t =
-      subst (IsNextDue (timer_along w p) base (reading_at clock reading)) timer_is turn.next in
+      let context : (timer_along w p m.timer).declared.context ≡ (declared_of w.script t).context =
+      ap (λ (d : Declared). d.context) (declared_then w f.history f.timers p m.timer ∙ ap (declared_of w.script) timer_is) in
+      let x : Context = (declared_of w.script t).context in
+      let next : IsNextDue (in_context x (timer_along w p)) base (reading_at clock reading) t =
+      subst (IsNextDue (in_context x (timer_along w p)) base (reading_at clock reading)) timer_is
+      (subst (λ y. IsNextDue (in_context y (timer_along w p)) base (reading_at clock reading) m.timer) context turn.next) in
+      let idle : (u : ℕ) → runs_on base (seen_in x (timer_along w p u)) ≡ false =
+      λ u. subst (λ y. runs_on base (seen_in y (timer_along w p u)) ≡ false) context (turn.idle u) in
       let same = same_then w f.history f.timers in
       record {
         seen = seen w p;
         points = λ u. point_then w f.history f.timers c before (e ∷ rest) p u own_are moment;
         claimed = ap (λ u. seen w p u + 1) (sym timer_is) ∙ ap (λ n. n + 1) (before_then w f.history f.timers p m s.there)
             ∙ ap (λ (x : ℕ × (ℕ × Entry)). x.1.0) s.is;
-        free = λ u. sym (same (runs_on base) refl p u) ∙ turn.idle u;
-        next = record {
-          due = sym (same (is_due_on base (reading_at clock reading)) refl p t) ∙ next.due;
-          ahead = λ u. sym (same (is_ahead base (reading_at clock reading) (timer_after w.script w.run t (seen w p t)).clock) refl p u)
-              ∙ ap (λ k. is_ahead base (reading_at clock reading) k (timer_along w p u)) (sym (same_then w f.history f.timers (λ x. x.clock) refl p t))
-              ∙ next.ahead u;
-          smaller = λ u. sym (same (is_smaller base (timer_after w.script w.run t (seen w p t)).clock
-              (timer_after w.script w.run t (seen w p t)).expires) refl p u)
-              ∙ ap (λ k. is_smaller base k (timer_after w.script w.run t (seen w p t)).expires (timer_along w p u))
-              (sym (same_then w f.history f.timers (λ x. x.clock) refl p t))
-              ∙ ap (λ k. is_smaller base (timer_along w p t).clock k (timer_along w p u)) (sym (same_then w f.history f.timers (λ x. x.expires) refl p t))
-              ∙ next.smaller u;
-        };
+        free = λ u. sym (same (λ k. runs_on base (seen_in x k)) (none_seen base x (terms_of w.script)) p u) ∙ idle u;
+        next = next_due-alike (in_context x (timer_along w p)) (in_context x (λ u. timer_after w.script w.run u (seen w p u)))
+            (λ u. seen-alike x (timer_along w p u) (timer_after w.script w.run u (seen w p u)) (same_then w f.history f.timers unlimited refl p u)) base (reading_at clock reading) t next;
       }
 
   module _ (c : Label) (at first last : ℕ) (actions : List Action) (own_are : own_moves c w.moves ≡ all_entered actions)
@@ -194,23 +229,27 @@ module _ (w : Course) (f : FitsIn w) where
 
     -- what an answer tells was so
     told_then : (call : Call) (answer : Answer) → IsSeen w first last c at actions call answer → WasTold w.script w.run c at actions call answer
-    told_then (calls.Start t mode ns base) (answers.Spent stamp) is = refused t stamp is
+    told_then (calls.Start t request) (answers.Spent stamp) is = refused t stamp is
     told_then (calls.Cancel t) (answers.Running generation stamp) is = was_so t stamp (observations.Running generation) is
     told_then (calls.Cancel t) (answers.Idle stamp) is = was_so t stamp observations.Idle is
     told_then (calls.Peek t) (answers.Peek stamp base enqueued running moving) is =
         was_so t stamp (observations.Peek (record { stamp = stamp; base = base; enqueued = enqueued; running = running; moving = moving })) is
-    told_then (calls.Expire base budget) (answers.Done shown timers) is = record {
+    told_then (calls.Expire x base budget) (answers.Done shown timers) is = record {
       seen = seen w last;
       points = λ u. point_then w f.history f.timers c actions [] last u all_own ends;
-      free = λ u. sym (same_then w f.history f.timers (runs_on base) refl last u) ∙ is.free u;
-      none_due = λ u. sym (same_then w f.history f.timers (is_due_on base (reading_at w.run.clock at)) refl last u) ∙ is.none_due u;
+      free = λ u. sym (same_then w f.history f.timers (λ k. runs_on base (seen_in x k)) (none_seen base x (terms_of w.script)) last u) ∙ is.free u;
+      stopped = λ clock. stopped-alike (in_context x (timer_along w last))
+          (in_context x (λ u. timer_after w.script w.run u (seen w last u)))
+          (λ u. seen-alike x (timer_along w last u) (timer_after w.script w.run u (seen w last u))
+          (same_then w f.history f.timers unlimited refl last u)) base (reading_at w.run.clock at) clock (is.stopped clock);
     }
-    told_then (calls.Expire base budget) (answers.Busy shown timers t generation) is = (
-      (timer_along w last t).stamp,
-      was_so t (timer_along w last t).stamp (observations.Running generation) (record { stamp = refl; holds = is.0 }),
-      ap (λ k. (timer_after w.script w.run t k).base) (stamp_then w f.history f.timers last t)
-          ∙ sym (same_then w f.history f.timers (λ x. x.base) refl last t) ∙ is.1,
-    )
+    told_then (calls.Expire x base budget) (answers.Busy shown timers t generation) is =
+        let runs = runs_seen x base (timer_along w last t) generation is in
+        let on : (timer_after w.script w.run t (timer_along w last t).stamp).base ≡ base =
+        ap (λ k. (timer_after w.script w.run t k).base) (stamp_then w f.history f.timers last t)
+        ∙ sym (same_then w f.history f.timers (λ x. x.base) refl last t) ∙ runs.2 in
+        let so = was_so t (timer_along w last t).stamp (observations.Running generation) (record { stamp = refl; holds = runs.1 }) in
+        (ap (λ (d : Declared). d.context) (sym (declared_then w f.history f.timers last t)) ∙ runs.0, ((timer_along w last t).stamp, so, on))
     told_then (calls.Settime t flags value interval) (answers.Unarmed stamp) is = refused t stamp is.1
     told_then call answer is = tt
 

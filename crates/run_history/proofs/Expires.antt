@@ -5,6 +5,9 @@ use Rattle.std.specs.Prelude.{flat_map}
 use Rattle.std.proofs.Math.Logic.{⊎_elim}
 use Rattle.std.proofs.lemmas.List.{append-nil, append_assoc, map-append}
 use Rattle.ktime.specs.declared.mode.Mode.TheVariants as modes
+use Rattle.seq_timer.specs.declared.context.Context.{Context}
+use Rattle.seq_timer.specs.Halves.{running_on}
+use Rattle.seq_timer.specs.Tables.{in_context}
 use Rattle.seq_timer.specs.declared.system.TimerEntry.{TimerEntry}
 use Rattle.record_text.specs.declared.record.Answer.TheVariants as answers
 use Rattle.record_text.specs.declared.record.Answer.{Answer}
@@ -17,7 +20,8 @@ use Rattle.record_text.specs.declared.record.ObjectEntry.TheVariants as object_e
 use Rattle.script_text.specs.Actions.{Action, Entered, Looked, Made, Skipped}
 use Rattle.script_text.specs.Told.{IsBelowLimit, observed}
 use Rattle.script_text.specs.Objects.{kind_of}
-use Rattle.script_text.specs.Starts.{arming_actions}
+use Rattle.script_text.specs.Histories.{declared_of}
+use Rattle.script_text.specs.Starts.{arming_actions, without_slack}
 use Rattle.script_text.specs.declared.script.Call.TheVariants as calls
 use Rattle.script_text.specs.declared.script.Callback.TheVariants as callbacks
 use Rattle.script_text.specs.declared.script.Callback.{Callback}
@@ -76,7 +80,7 @@ ReplyHolds w c before acted (Skipped i number generation ∷ []) = SawFull w c b
 ReplyHolds w c before acted ds = Unit
 
 -- one callback of an expiry run, from one number of entries that its pass had seen to another
-pub record Ran (w : Course) (c : Label) (order : List TimerEntry) (base at : ℕ) (before : List Action) (f : Fired) (from to : ℕ) : Type 0 where
+pub record Ran (w : Course) (c : Label) (order : List TimerEntry) (context : Context) (base at : ℕ) (before : List Action) (f : Fired) (from to : ℕ) : Type 0 where
   -- that number after the claim, and where the callback's look held or after the callback
   pub claimed : ℕ
   pub acted : ℕ
@@ -93,22 +97,23 @@ pub record Ran (w : Course) (c : Label) (order : List TimerEntry) (base at : ℕ
   pub body_is : map receipt body ≡ all_entered f.body
   pub finish_made : AreMade order acted to (finish ∷ [])
   pub finish_is : receipt finish ≡ (f.timer, (f.finish, finish_of f))
-  -- the callback is as its timer declares it, what it was told holds, and an expiry's span is the claim
+  -- the timer is of the run's context; the callback is as the timer declares it, what it was told holds, and an expiry's span is the claim
+  pub own : (declared_of w.script f.timer).context ≡ context
   pub kind : IsBody (kind_of w.script f.timer) at f
   pub holds : ReplyHolds w c (with_claim base at f before) acted f.body
   pub span : IsClaimSpan w f f.body
 
 -- its receipts
-abbrev pub notes_of : {w : Course} {c : Label} {order : List TimerEntry} {base at : ℕ} {before : List Action} {f : Fired} {from to : ℕ}
-    → Ran w c order base at before f from to → List Noted
+abbrev pub notes_of : {w : Course} {c : Label} {order : List TimerEntry} {context : Context} {base at : ℕ} {before : List Action} {f : Fired} {from to : ℕ}
+    → Ran w c order context base at before f from to → List Noted
 notes_of ran = ran.claim ∷ ran.body ++ ran.finish ∷ []
 
 no_notes : (xs : List Noted) → map receipt xs ≡ [] → xs ≡ []
 no_notes [] is = refl
 no_notes (x ∷ xs) is = absurd (cc)
 
-module _ {w : Course} {c : Label} {order : List TimerEntry} {base at : ℕ} {before : List Action} {f : Fired} {from to : ℕ}
-    (ran : Ran w c order base at before f from to) where
+module _ {w : Course} {c : Label} {order : List TimerEntry} {context : Context} {base at : ℕ} {before : List Action} {f : Fired} {from to : ℕ}
+    (ran : Ran w c order context base at before f from to) where
   forward : from ≤ to
   forward = omega (arith, ran.rise, ran.goes_on, ran.ends)
 
@@ -130,8 +135,8 @@ abbrev pub AreMoments : Course → Label → List Noted → ℕ → ℕ → Type
 AreMoments w c notes low high = (early : List Action) (n : ℕ) → low ≤ n → n ≤ high → Stops c notes early n → IsMoment w c early n
 
 -- a callback among a call's receipts, those before it and those behind
-module _ {w : Course} {c : Label} {order : List TimerEntry} {base at : ℕ} {before : List Action} {f : Fired} {from to : ℕ}
-    (ran : Ran w c order base at before f from to) (low high : ℕ) (all early late : List Noted) (split : all ≡ early ++ (notes_of ran ++ late))
+module _ {w : Course} {c : Label} {order : List TimerEntry} {context : Context} {base at : ℕ} {before : List Action} {f : Fired} {from to : ℕ}
+    (ran : Ran w c order context base at before f from to) (low high : ℕ) (all early late : List Noted) (split : all ≡ early ++ (notes_of ran ++ late))
     (one : AreMade order low from early) (two : AreMade order to high late) (are : map receipt early ≡ all_entered before) (under : low ≤ from)
     (over : to ≤ high) (moments : AreMoments w c all low high) where
   forward_claimed : low ≤ ran.claimed
@@ -191,14 +196,14 @@ module _ {w : Course} {c : Label} {order : List TimerEntry} {base at : ℕ} {bef
       by_callback callbacks.Once is = by_body [] is.0 (λ holds. onward)
       by_callback (callbacks.Every interval) is =
           ⊎_elim
-          (λ forward. by_body (Entered f.timer forward.0 (entries.Forward at interval forward.1 forward.2) ∷ []) forward.3
+          (λ forward. by_body (Entered f.timer forward.0 (entries.Forward forward.1) ∷ []) forward.4
           (λ holds. (from, omega arith, tt, onward)))
           (λ looked. ⊎_elim (λ armed. looks f.timer armed.0 (replies.Armed armed.1) armed.2) (λ spent. looks f.timer spent.0 replies.Spent spent.1) looked) is.0
       by_callback callbacks.Cancels is = looks f.timer is.0.0 (replies.Running f.generation) is.0.1
       by_callback (callbacks.Starts ns asked) is =
           ⊎_elim
-          (λ a. by_body (arming_actions f.timer modes.Rel ns at asked a.0) a.1
-          (λ holds. start_true w c first from ran.acted f.timer ns at asked modes.Rel since a.0 onward))
+          (λ a. by_body (arming_actions f.timer (without_slack modes.Rel ns asked) at a.0) a.1
+          (λ holds. start_true w c first from ran.acted f.timer at (without_slack modes.Rel ns asked) since a.0 onward))
           (λ spent. looks f.timer spent.0 replies.Spent spent.1) is.0
 
       by_trigger : IsTrigger at f → AreTrue w c first from since f.body ran.acted
@@ -209,7 +214,7 @@ module _ {w : Course} {c : Label} {order : List TimerEntry} {base at : ℕ} {bef
           (λ skipped. by_body (Skipped f.timer skipped.0 f.generation ∷ []) skipped.1 (λ holds. (from, omega arith, holds, onward))) is.0
 
       by_kind : (kind : Kind) → IsBody kind at f → AreTrue w c first from since f.body ran.acted
-      by_kind (kinds.Raw callback) is = by_callback callback is
+      by_kind (kinds.Raw x callback) is = by_callback callback is
       by_kind (kinds.Posix on) is = by_trigger is
       by_kind (kinds.Fd on) is = by_trigger is
 
@@ -225,20 +230,20 @@ module _ {w : Course} {c : Label} {order : List TimerEntry} {base at : ℕ} {bef
 -- ---- the callbacks of an expiry run
 
 -- they ran in turn, each between two numbers of entries that the pass had seen, and these are their receipts
-abbrev pub HaveRun : Course → Label → List TimerEntry → ℕ → ℕ → List Action → ℕ → List Fired → List Noted → ℕ → Type 0
-HaveRun w c order base at before from [] notes to = (notes ≡ []) × (from ≤ to)
-HaveRun w c order base at before from (f ∷ fs) notes to =
-    (ends : ℕ) × (ran : Ran w c order base at before f from ends) × (rest : List Noted) × (notes ≡ notes_of ran ++ rest)
-    × HaveRun w c order base at (before ++ fires base at f) ends fs rest to
+abbrev pub HaveRun : Course → Label → List TimerEntry → Context → ℕ → ℕ → List Action → ℕ → List Fired → List Noted → ℕ → Type 0
+HaveRun w c order context base at before from [] notes to = (notes ≡ []) × (from ≤ to)
+HaveRun w c order context base at before from (f ∷ fs) notes to =
+    (ends : ℕ) × (ran : Ran w c order context base at before f from ends) × (rest : List Noted) × (notes ≡ notes_of ran ++ rest)
+    × HaveRun w c order context base at (before ++ fires base at f) ends fs rest to
 
-module _ (w : Course) (c : Label) (order : List TimerEntry) (base at : ℕ) where
-  run_forward : (before : List Action) (from : ℕ) (fs : List Fired) (notes : List Noted) (to : ℕ) → HaveRun w c order base at before from fs notes to
+module _ (w : Course) (c : Label) (order : List TimerEntry) (context : Context) (base at : ℕ) where
+  run_forward : (before : List Action) (from : ℕ) (fs : List Fired) (notes : List Noted) (to : ℕ) → HaveRun w c order context base at before from fs notes to
       → from ≤ to
   run_forward before from [] notes to run = run.1
   run_forward before from (f ∷ fs) notes to run = omega (arith, forward run.1, run_forward (before ++ fires base at f) run.0 fs run.2 to run.4)
 
   -- law: the receipts are made in turn, and are of what the callbacks did
-  pub run_made : (before : List Action) (from : ℕ) (fs : List Fired) (notes : List Noted) (to : ℕ) → HaveRun w c order base at before from fs notes to
+  pub run_made : (before : List Action) (from : ℕ) (fs : List Fired) (notes : List Noted) (to : ℕ) → HaveRun w c order context base at before from fs notes to
       → AreMade order from to notes × (map receipt notes ≡ all_entered (flat_map (fires base at) fs))
   run_made before from [] notes to run = subst (λ xs. AreMade order from to xs × (map receipt xs ≡ [])) (sym run.0) (none_made order from to, refl)
   run_made before from (f ∷ fs) notes to run =
@@ -251,8 +256,8 @@ module _ (w : Course) (c : Label) (order : List TimerEntry) (base at : ℕ) wher
       )
 
   -- a callback as one from an earlier number on, behind an equal list of what was done before it
-  ran_earlier : (before since : List Action) (f : Fired) (from mid to : ℕ) → since ≡ before → from ≤ mid → Ran w c order base at since f mid to
-      → Ran w c order base at before f from to
+  ran_earlier : (before since : List Action) (f : Fired) (from mid to : ℕ) → since ≡ before → from ≤ mid → Ran w c order context base at since f mid to
+      → Ran w c order context base at before f from to
   ran_earlier before since f from mid to same le ran = record {
     claimed = ran.claimed;
     acted = ran.acted;
@@ -268,6 +273,7 @@ module _ (w : Course) (c : Label) (order : List TimerEntry) (base at : ℕ) wher
     body_is = ran.body_is;
     finish_made = ran.finish_made;
     finish_is = ran.finish_is;
+    own = ran.own;
     kind = ran.kind;
     holds = subst (λ b. ReplyHolds w c (with_claim base at f b) ran.acted f.body) same ran.holds;
     span = ran.span;
@@ -275,8 +281,9 @@ module _ (w : Course) (c : Label) (order : List TimerEntry) (base at : ℕ) wher
 
   -- law: one more callback behind those that ran
   pub run_push : (before since : List Action) (from : ℕ) (fs : List Fired) (notes : List Noted) (mid : ℕ) (f : Fired) (to : ℕ)
-      → HaveRun w c order base at before from fs notes mid → since ≡ before ++ flat_map (fires base at) fs → (ran : Ran w c order base at since f mid to)
-      → HaveRun w c order base at before from (fs ++ f ∷ []) (notes ++ notes_of ran) to
+      → HaveRun w c order context base at before from fs notes mid → since ≡ before ++ flat_map (fires base at) fs
+      → (ran : Ran w c order context base at since f mid to)
+      → HaveRun w c order context base at before from (fs ++ f ∷ []) (notes ++ notes_of ran) to
   unfolding ran_earlier
   run_push before since from [] notes mid f to run is ran = (
     to,
@@ -295,15 +302,15 @@ module _ (w : Course) (c : Label) (order : List TimerEntry) (base at : ℕ) wher
   )
 
   -- what one that has run has, each has
-  each_ran : (P : Fired → Type 0) → ((before : List Action) (f : Fired) (from to : ℕ) → Ran w c order base at before f from to → P f)
-      → (before : List Action) (from : ℕ) (fs : List Fired) (notes : List Noted) (to : ℕ) → HaveRun w c order base at before from fs notes to
+  each_ran : (P : Fired → Type 0) → ((before : List Action) (f : Fired) (from to : ℕ) → Ran w c order context base at before f from to → P f)
+      → (before : List Action) (from : ℕ) (fs : List Fired) (notes : List Noted) (to : ℕ) → HaveRun w c order context base at before from fs notes to
       → AllByRecursion P fs
   each_ran P one before from [] notes to run = tt
   each_ran P one before from (f ∷ fs) notes to run =
       (one before f from run.0 run.1, each_ran P one (before ++ fires base at f) run.0 fs run.2 to run.4)
 
   run_true : (first low high : ℕ) (all : List Noted) → AreMoments w c all low high → (before : List Action) (from : ℕ) (fs : List Fired) (notes : List Noted)
-      (to : ℕ) (early : List Noted) → HaveRun w c order base at before from fs notes to → all ≡ early ++ notes → AreMade order low from early
+      (to : ℕ) (early : List Noted) → HaveRun w c order context base at before from fs notes to → all ≡ early ++ notes → AreMade order low from early
       → map receipt early ≡ all_entered before → low ≤ from → to ≤ high → AreTrue w c first from before (flat_map (fires base at) fs) to
   run_true first low high all moments before from [] notes to early run is one are under over = run.1
   run_true first low high all moments before from (f ∷ fs) notes to early run is one are under over =
@@ -326,48 +333,49 @@ module _ (w : Course) (c : Label) (order : List TimerEntry) (base at : ℕ) wher
 abbrev pub expiring : ℕ → ℕ → ℕ → ℕ → List Fired → Trace
 expiring base at first last fired = record { at = at; fired = fired; actions = flat_map (fires base at) fired; first = first; last = last }
 
-module _ {w : Course} {moves : Spans} {c : Label} {base budget at first last : ℕ} {notes : List Noted} {fired : List Fired} {answer : Answer}
+module _ {w : Course} {moves : Spans} {c : Label} {context : Context} {base budget at first last : ℕ} {notes : List Noted} {fired : List Fired} {answer : Answer}
     {before after : Seen} (order : List TimerEntry)
-    (kept : IsKept w moves c (expiring base at first last fired) notes (calls.Expire base budget) answer before after) (starts : first ≡ moves.first c)
-    (run : HaveRun w c order base at [] first fired notes last) where
-  expired : (IsExpiryRun w.script at base fired at (map (λ f. f.timer) fired) (flat_map (fires base at) fired)
-      → Does w.script at (calls.Expire base budget) answer fired (flat_map (fires base at) fired))
-      → IsSeen w first last c at (flat_map (fires base at) fired) (calls.Expire base budget) answer
-      → FitsCall w c (calls.Expire base budget) answer before after
+    (kept : IsKept w moves c (expiring base at first last fired) notes (calls.Expire context base budget) answer before after) (starts : first ≡ moves.first c)
+    (run : HaveRun w c order context base at [] first fired notes last) where
+  expired : (IsExpiryRun w.script context at base fired at (map (λ f. f.timer) fired) (flat_map (fires base at) fired)
+      → Does w.script at (calls.Expire context base budget) answer fired (flat_map (fires base at) fired))
+      → IsSeen w first last c at (flat_map (fires base at) fired) (calls.Expire context base budget) answer
+      → FitsCall w c (calls.Expire context base budget) answer before after
   expired does seen =
       call_made_whole kept starts
       (does (record {
         one_reading = refl;
         claimed = refl;
         done = refl;
-        bodies = each_ran w c order base at _ (λ before f from to ran. ran.kind) [] first fired notes last run;
+        contexts = each_ran w c order context base at _ (λ before f from to ran. ran.own) [] first fired notes last run;
+        bodies = each_ran w c order context base at _ (λ before f from to ran. ran.kind) [] first fired notes last run;
       }))
-      (run_true w c order base at first (moves.first c) last notes (moment_of kept) [] first fired notes last [] run refl
+      (run_true w c order context base at first (moves.first c) last notes (moment_of kept) [] first fired notes last [] run refl
       (none_made order (moves.first c) first) refl (omega (arith, starts)) (omega arith))
-      (each_ran w c order base at _ (λ before f from to ran. ran.span) [] first fired notes last run) seen
+      (each_ran w c order context base at _ (λ before f from to ran. ran.span) [] first fired notes last run) seen
 
 -- a run that left nothing to do
-pub expire_done : {w : Course} {moves : Spans} {c : Label} {base budget at first last : ℕ} {notes : List Noted} {fired : List Fired} {before after : Seen}
+pub expire_done : {w : Course} {moves : Spans} {c : Label} {context : Context} {base budget at first last : ℕ} {notes : List Noted} {fired : List Fired} {before after : Seen}
     (order : List TimerEntry)
-    → IsKept w moves c (expiring base at first last fired) notes (calls.Expire base budget) (answers.Done at (map (λ f. f.timer) fired)) before after
-    → first ≡ moves.first c → HaveRun w c order base at [] first fired notes last → length fired < budget → IsDone w at base last
-    → FitsCall w c (calls.Expire base budget) (answers.Done at (map (λ f. f.timer) fired)) before after
+    → IsKept w moves c (expiring base at first last fired) notes (calls.Expire context base budget) (answers.Done at (map (λ f. f.timer) fired)) before after
+    → first ≡ moves.first c → HaveRun w c order context base at [] first fired notes last → length fired < budget → IsDone w context at base last
+    → FitsCall w c (calls.Expire context base budget) (answers.Done at (map (λ f. f.timer) fired)) before after
 expire_done order kept starts ran few done = expired order kept starts ran (λ run. (run, few)) done
 
 -- a run that ended with its budget
-pub expire_more : {w : Course} {moves : Spans} {c : Label} {base budget at first last : ℕ} {notes : List Noted} {fired : List Fired} {before after : Seen}
+pub expire_more : {w : Course} {moves : Spans} {c : Label} {context : Context} {base budget at first last : ℕ} {notes : List Noted} {fired : List Fired} {before after : Seen}
     (order : List TimerEntry)
-    → IsKept w moves c (expiring base at first last fired) notes (calls.Expire base budget) (answers.More at (map (λ f. f.timer) fired)) before after
-    → first ≡ moves.first c → HaveRun w c order base at [] first fired notes last → length fired ≡ budget
-    → FitsCall w c (calls.Expire base budget) (answers.More at (map (λ f. f.timer) fired)) before after
+    → IsKept w moves c (expiring base at first last fired) notes (calls.Expire context base budget) (answers.More at (map (λ f. f.timer) fired)) before after
+    → first ≡ moves.first c → HaveRun w c order context base at [] first fired notes last → length fired ≡ budget
+    → FitsCall w c (calls.Expire context base budget) (answers.More at (map (λ f. f.timer) fired)) before after
 expire_more order kept starts ran all = expired order kept starts ran (λ run. (run, all)) tt
 
 -- a run that met a function that ran on its base
-pub expire_busy : {w : Course} {moves : Spans} {c : Label} {base budget at first last timer generation : ℕ} {notes : List Noted} {fired : List Fired}
+pub expire_busy : {w : Course} {moves : Spans} {c : Label} {context : Context} {base budget at first last timer generation : ℕ} {notes : List Noted} {fired : List Fired}
     {before after : Seen} (order : List TimerEntry)
-    → IsKept w moves c (expiring base at first last fired) notes (calls.Expire base budget) (answers.Busy at (map (λ f. f.timer) fired) timer generation)
+    → IsKept w moves c (expiring base at first last fired) notes (calls.Expire context base budget) (answers.Busy at (map (λ f. f.timer) fired) timer generation)
     before after
-    → first ≡ moves.first c → HaveRun w c order base at [] first fired notes last → length fired < budget
-    → (timer_along w last timer).running ≡ Some generation → (timer_along w last timer).base ≡ base
-    → FitsCall w c (calls.Expire base budget) (answers.Busy at (map (λ f. f.timer) fired) timer generation) before after
-expire_busy order kept starts ran few runs there = expired order kept starts ran (λ run. (run, few)) (runs, there)
+    → first ≡ moves.first c → HaveRun w c order context base at [] first fired notes last → length fired < budget
+    → running_on base (in_context context (timer_along w last) timer) ≡ Some generation
+    → FitsCall w c (calls.Expire context base budget) (answers.Busy at (map (λ f. f.timer) fired) timer generation) before after
+expire_busy order kept starts ran few runs = expired order kept starts ran (λ run. (run, few)) runs

@@ -21,3 +21,4 @@ pub mod Rounds
 pub mod Run
 pub mod Shown
 pub mod Weave
+pub mod NoSlack

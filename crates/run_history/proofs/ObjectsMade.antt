@@ -31,7 +31,8 @@ use Rattle.script_text.specs.Actions.{Action, Entered, Looked, Made, Skipped, Wr
 use Rattle.script_text.specs.Told.{IsArmedLike}
 use Rattle.script_text.specs.ObjectCalls.{AreValidFor, Arms, base_of, cancels, DoesGettime, MakesRearming, MakesSettime, nanoseconds_of, start_mode}
 use Rattle.script_text.specs.Objects.{ArmedAs, kind_of, object_armed_after}
-use Rattle.script_text.specs.Starts.{Arming, arming_actions}
+use Rattle.script_text.specs.Starts.{Arming, arming_actions, without_slack}
+use Rattle.script_text.specs.declared.script.StartRequest.{StartRequest}
 use Rattle.script_text.specs.declared.script.Call.TheVariants as calls
 use Rattle.script_text.specs.declared.script.Call.{Call}
 use Rattle.script_text.specs.declared.script.Kind.TheVariants as kinds
@@ -113,20 +114,20 @@ plain_then w c first from n last before (Entered timer number entry ∷ ds) d pl
   where
     nothing : (entry : Entry) → IsPlain (Entered timer number entry) → IsTrue w c first before (Entered timer number entry) from
     nothing (entries.Out base was) plain = tt
-    nothing (entries.Start mode ns reading asked base clock expires was) plain = tt
+    nothing (entries.Start l) plain = tt
     nothing (entries.Cancel generation) plain = tt
     nothing (entries.Claim base reading generation) plain = absurd plain
-    nothing (entries.Forward reading interval count expires) plain = tt
+    nothing (entries.Forward l) plain = tt
     nothing (entries.Finish restart generation rearmed) plain = tt
 plain_then w c first from n last before (Wrote number write ∷ ds) d plain le high is = absurd plain.0
 plain_then w c first from n last before (Looked timer number reply ∷ ds) d plain le high is = absurd plain.0
 plain_then w c first from n last before (Made i number entry ∷ ds) d plain le high is = absurd plain.0
 plain_then w c first from n last before (Skipped i number generation ∷ ds) d plain le high is = absurd plain.0
 
-plain_arms : (timer ns reading base : ℕ) (mode : Mode) (a : Arming) → AllByRecursion IsPlain (arming_actions timer mode ns reading base a)
-plain_arms timer ns reading base mode a = go a.out
+plain_arms : (timer reading : ℕ) (request : StartRequest) (a : Arming) → AllByRecursion IsPlain (arming_actions timer request reading a)
+plain_arms timer reading request a = go a.out
   where
-    go : (out : Option (ℕ × Bool)) → AllByRecursion IsPlain (arming_actions timer mode ns reading base (record a { out = out }))
+    go : (out : Option (ℕ × Bool)) → AllByRecursion IsPlain (arming_actions timer request reading (record a { out = out }))
     go None = (tt, tt)
     go (Some out) = (tt, (tt, tt))
 
@@ -134,7 +135,7 @@ plain_start : (timer ns reading base : ℕ) (mode : Mode) (arm : Armed) (start :
     → AllByRecursion IsPlain start
 plain_start timer ns reading base mode armings.None start is = subst (AllByRecursion IsPlain) (sym is) tt
 plain_start timer ns reading base mode (armings.Generation generation) start is =
-    subst (AllByRecursion IsPlain) (sym is.1) (plain_arms timer ns reading base mode is.0)
+    subst (AllByRecursion IsPlain) (sym is.1) (plain_arms timer reading (without_slack mode ns base) is.0)
 plain_start timer ns reading base mode armings.Unarmed start is = subst (AllByRecursion IsPlain) (sym is) tt
 
 plain_both : (timer : ℕ) (cancel : Option (ℕ × ℕ)) (start : List Action) → AllByRecursion IsPlain start → AllByRecursion IsPlain (cancels timer cancel ++ start)
@@ -187,7 +188,7 @@ disarmed w timer ns at base begin mode None (armings.Generation generation) star
     subst (λ ds. DisarmedFirst w timer (ds ++ Made timer number entry ∷ []) begin) (sym is.1) (go is.0.out)
   where
     go : (out : Option (ℕ × Bool))
-        → DisarmedFirst w timer (arming_actions timer mode ns at base (record is.0 { out = out }) ++ Made timer number entry ∷ []) begin
+        → DisarmedFirst w timer (arming_actions timer (without_slack mode ns base) at (record is.0 { out = out }) ++ Made timer number entry ∷ []) begin
     go None = idle
     go (Some out) = idle
 

@@ -1,7 +1,6 @@
 -- Calls on timers but for expiry runs: those that make no entry, the cancel, the write of the clock and the start.
 use Rattle.std.proofs.Common.{map, Bool, ◌≡◌, ◌≤◌, ℕ, Option, Some, None, List, [], ◌∷◌, arith, refl}
 use Rattle.std.specs.List.{AllByRecursion}
-use Rattle.ktime.specs.declared.mode.Mode.{Mode}
 use Rattle.clock_model.specs.declared.write.Write.{Write}
 use Rattle.record_text.specs.declared.record.Answer.TheVariants as answers
 use Rattle.record_text.specs.declared.record.Answer.{Answer}
@@ -9,6 +8,7 @@ use Rattle.record_text.specs.declared.record.Entry.TheVariants as entries
 use Rattle.record_text.specs.declared.record.Label.{Label}
 use Rattle.script_text.specs.Actions.{Action, Entered, Wrote}
 use Rattle.script_text.specs.Starts.{Arming, arming_actions, IsJustBefore, was_armed_before}
+use Rattle.script_text.specs.declared.script.StartRequest.{StartRequest}
 use Rattle.script_text.specs.declared.script.Call.TheVariants as calls
 use Rattle.script_text.specs.declared.script.Call.{Call}
 use Rattle.run_history.specs.Calls.{Does}
@@ -50,21 +50,21 @@ wrote_made {first = first} stamp write kept starts =
     call_made_whole kept starts refl (first, omega arith, tt, omega (arith, starts, kept.forward)) tt tt
 
 -- a start's entries tell nothing that must be looked up
-pub start_true : (w : Course) (c : Label) (first from to timer ns reading asked : ℕ) (mode : Mode) (before : List Action) (a : Arming) → from ≤ to
-    → AreTrue w c first from before (arming_actions timer mode ns reading asked a) to
-start_true w c first from to timer ns reading asked mode before a order = go a.out
+pub start_true : (w : Course) (c : Label) (first from to timer reading : ℕ) (request : StartRequest) (before : List Action) (a : Arming) → from ≤ to
+    → AreTrue w c first from before (arming_actions timer request reading a) to
+start_true w c first from to timer reading request before a order = go a.out
   where
-    go : (out : Option (ℕ × Bool)) → AreTrue w c first from before (arming_actions timer mode ns reading asked (record a { out = out })) to
+    go : (out : Option (ℕ × Bool)) → AreTrue w c first from before (arming_actions timer request reading (record a { out = out })) to
     go None = (from, omega arith, tt, order)
     go (Some out) = (from, omega arith, tt, (from, omega arith, tt, order))
 
 -- a start that was made
-pub started_made : {w : Course} {moves : Spans} {c : Label} {at first last : ℕ} {notes : List Noted} {before after : Seen} (timer ns base : ℕ) (mode : Mode)
+pub started_made : {w : Course} {moves : Spans} {c : Label} {at first last : ℕ} {notes : List Noted} {before after : Seen} (timer : ℕ) (request : StartRequest)
     (a : Arming)
-    → IsKept w moves c (plain at first last (arming_actions timer mode ns at base a)) notes (calls.Start timer mode ns base)
+    → IsKept w moves c (plain at first last (arming_actions timer request at a)) notes (calls.Start timer request)
     (answers.Started a.number a.base (was_armed_before a.out a.was_armed)) before after
     → first ≡ moves.first c → IsJustBefore a.out a.number
-    → FitsCall w c (calls.Start timer mode ns base) (answers.Started a.number a.base (was_armed_before a.out a.was_armed)) before after
-started_made {w = w} {c = c} {at = at} {first = first} {last = last} timer ns base mode a kept starts just =
+    → FitsCall w c (calls.Start timer request) (answers.Started a.number a.base (was_armed_before a.out a.was_armed)) before after
+started_made {w = w} {c = c} {at = at} {first = first} {last = last} timer request a kept starts just =
     call_made_whole kept starts (a, refl, refl, refl, refl, just)
-    (start_true w c first first last timer ns at base mode [] a (omega (arith, starts, kept.forward))) tt tt
+    (start_true w c first first last timer at request [] a (omega (arith, starts, kept.forward))) tt tt

@@ -5,15 +5,17 @@ use Rattle.std.specs.List.{AllByRecursion, slice_get}
 use Rattle.std.proofs.Math.Logic.{⊎_elim}
 use Rattle.std.proofs.lemmas.Bool.{cases_eq, cases_lt, eq-eqb, ne_eqb}
 use Rattle.std.proofs.lemmas.List.{append_assoc, drop-map, get_or_past, get_or-map, length-map, take-map}
-use Rattle.ktime.specs.declared.clock_id.ClockId.{ClockId}
-use Rattle.ktime.specs.declared.clock_id.ClockId.TheVariants as clocks
+use Rattle.seq_timer.proofs.Ties.{may_follow}
+use Rattle.seq_timer.specs.declared.context.Terms.{Terms}
+use Rattle.seq_timer.specs.declared.context.Declared.{Declared}
 use Rattle.seq_timer.specs.declared.observation.Observation.{Observation}
 use Rattle.seq_timer.specs.declared.observation.Observation.TheVariants as observations
 use Rattle.seq_timer.specs.declared.system.TimerEntry.{TimerEntry}
 use Rattle.seq_timer.specs.Histories.{after_all, AreSteps, Entry, Holds, IsLegal}
 use Rattle.seq_timer.specs.Steps.{opening, Timer}
-use Rattle.seq_timer.specs.Systems.{after_entry, armed_in, entries_of, first_system, openings, System, system_of}
-use Rattle.seq_timer.specs.Tables.{no_timer, timer_at}
+use Rattle.seq_timer.specs.Systems.{IsSystemHistory, System, after_entry, armed_in, entries_of, first_system, openings, system_of}
+use Rattle.seq_timer.specs.Tables.{in_context, no_declared, no_timer, timer_at}
+use Rattle.seq_timer.proofs.Contents.{declared-after_all}
 use Rattle.seq_timer.specs.Turns.{IsInTurn, IsTurn}
 use Rattle.seq_timer.proofs.Agreement.{stamp_counts}
 use Rattle.seq_timer.proofs.Systems.{after_entries-append, after_entries-entries_of, timer_else, timer_here}
@@ -21,9 +23,9 @@ use Rattle.record_text.specs.declared.record.Entry.TheVariants as entries
 use Rattle.record_text.specs.declared.record.Label.{Label}
 use Rattle.record_text.specs.declared.record.TimerLine.{TimerLine}
 use Rattle.script_text.specs.Actions.{Action, also, entered, own}
-use Rattle.script_text.specs.Histories.{clock_of, entry_shown, history_from, history_of, lines_of_timer, reading_at, timer_after, timer_labels}
+use Rattle.script_text.specs.Histories.{declared_as, declared_of, entry_shown, history_from, history_of, lines_of_timer, reading_at, timer_after, timer_labels, terms_of, declareds_of}
 use Rattle.script_text.specs.Order.{is_before, IsInOrder, made_by}
-use Rattle.run_history.specs.Courses.{clocks_of, Course, entries_in, entry_of_move, IsOneHistory, labels, Move, moves_on, timer_along}
+use Rattle.run_history.specs.Courses.{Course, entries_in, entry_of_move, IsOneHistory, labels, Move, moves_on, timer_along}
 use Rattle.run_history.specs.EachTimer.{IsOwnPoint, WasSo}
 use Rattle.run_history.specs.Traces.{all_entered, own_moves}
 use Rattle.run_history.specs.Truths.{IsMoment, Saw}
@@ -44,17 +46,17 @@ seen w n t = length (moves_on t (take n w.moves))
 
 -- ---- a timer's part of a history of all is one of its own
 
-own_steps : (bases : ℕ) (list : List ClockId) (limit t : ℕ) (log done later : List TimerEntry) → IsInTurn bases list limit log → log ≡ done ++ later
-    → AreSteps ((system_of list limit done).timers t) (entries_of t later)
-own_steps bases list limit t log done [] turns is = tt
-own_steps bases list limit t log done (e ∷ es) turns is =
-    let first = first_system (openings list limit) in
-    let now = system_of list limit done in
+own_steps : (bases : ℕ) (list : List Declared) (terms : Terms) (t : ℕ) (log done later : List TimerEntry) → IsInTurn bases list terms log → log ≡ done ++ later
+    → AreSteps ((system_of list terms done).timers t) (entries_of t later)
+own_steps bases list terms t log done [] turns is = tt
+own_steps bases list terms t log done (e ∷ es) turns is =
+    let first = first_system (openings list terms) in
+    let now = system_of list terms done in
     let may = turns done es e is in
-    let on : (system_of list limit (done ++ e ∷ [])).timers t ≡ (after_entry now e).timers t =
+    let on : (system_of list terms (done ++ e ∷ [])).timers t ≡ (after_entry now e).timers t =
     ap (λ (x : System). x.timers t) (after_entries-append first done (e ∷ [])) in
     let rest = subst (λ x. AreSteps x (entries_of t es)) on
-    (own_steps bases list limit t log (done ++ e ∷ []) es turns (is ∙ sym (append_assoc done (e ∷ []) es))) in
+    (own_steps bases list terms t log (done ++ e ∷ []) es turns (is ∙ sym (append_assoc done (e ∷ []) es))) in
     ⊎_elim
     (λ (same : e.timer ≡ t). subst (λ (b : Bool). AreSteps (now.timers t)
     (if b then record { event = e.event; reply = e.reply } ∷ entries_of t es else entries_of t es))
@@ -69,11 +71,11 @@ own_steps bases list limit t log done (e ∷ es) turns is =
     (cases_eq e.timer t)
 
 -- a script's timer by its number; one that isn't there has no clock of its own
-declared : (list : List ClockId) (limit t : ℕ) → t < length list → timer_at (openings list limit) t ≡ opening (get_or list t clocks.Monotonic) limit
-declared list limit t less = get_or-map (λ clock. opening clock limit) list t clocks.Monotonic no_timer less
+declared : (list : List Declared) (terms : Terms) (t : ℕ) → t < length list → timer_at (openings list terms) t ≡ opening (get_or list t no_declared) terms
+declared list terms t less = get_or-map (λ d. opening d terms) list t no_declared no_timer less
 
-absent : (list : List ClockId) (limit t : ℕ) → length list ≤ t → timer_at (openings list limit) t ≡ no_timer
-absent list limit t past = get_or_past (openings list limit) t no_timer (subst (λ n. n ≤ t) (sym (length-map list (λ clock. opening clock limit))) past)
+absent : (list : List Declared) (terms : Terms) (t : ℕ) → length list ≤ t → timer_at (openings list terms) t ≡ no_timer
+absent list terms t past = get_or_past (openings list terms) t no_timer (subst (λ n. n ≤ t) (sym (length-map list (λ d. opening d terms))) past)
 
 nothing_taken : (o : Timer) (n : ℕ) (es : List Entry) → es ≡ [] → after_all o (take n es) ≡ o
 nothing_taken o zero [] is = refl
@@ -81,10 +83,15 @@ nothing_taken o (suc n) [] is = refl
 nothing_taken o n (e ∷ es) is = absurd (cc)
 
 module _ (w : Course) (one : IsOneHistory w) (timers : length w.run.timers ≡ length w.script.timers) where
+  -- each entry in turn, by the timers alone
+  in_turn : IsInTurn w.script.bases (declareds_of w.script) (terms_of w.script) (entries_in w)
+  in_turn = λ before later x is. may_follow w.script.bases (terms_of w.script) (declareds_of w.script) before later x
+      (subst (IsSystemHistory w.script.bases (declareds_of w.script) (terms_of w.script)) is one.history)
+
   -- law: a timer has made as many entries as stand in the order
   pub stamp_then : (n t : ℕ) → (timer_along w n t).stamp ≡ seen w n t
   stamp_then n t =
-      stamp_counts w.script.limit (clocks_of w.script) (take n (entries_in w)) t
+      stamp_counts (terms_of w.script) (declareds_of w.script) (take n (entries_in w)) t
       ∙ ap (λ xs. length (entries_of t xs)) (take-map (entry_of_move w.run.clock) n w.moves)
       ∙ ap length (entries_on w.run.clock t (take n w.moves))
       ∙ length-map (moves_on t (take n w.moves)) (own_entry w.run.clock)
@@ -100,46 +107,51 @@ module _ (w : Course) (one : IsOneHistory w) (timers : length w.run.timers ≡ l
       ∙ sym (take-map (own_entry w.run.clock) (seen w n t) (moves_on t w.moves))
       ∙ ap (take (seen w n t)) (sym (entries_on w.run.clock t w.moves) ∙ own_history t)
 
-  begins : (t : ℕ) → (timer_at (openings (clocks_of w.script) w.script.limit) t ≡ opening (clock_of w.script t) w.script.limit)
-      ⊎ ((timer_at (openings (clocks_of w.script) w.script.limit) t ≡ no_timer) × (clock_of w.script t ≡ clocks.Monotonic) × (history_of w.run t ≡ []))
+  begins : (t : ℕ) → (timer_at (openings (declareds_of w.script) (terms_of w.script)) t ≡ opening (declared_of w.script t) (terms_of w.script))
+      ⊎ ((timer_at (openings (declareds_of w.script) (terms_of w.script)) t ≡ no_timer) × (declared_of w.script t ≡ no_declared) × (history_of w.run t ≡ []))
   begins t = ⊎_elim
-      (λ less. inl (declared (clocks_of w.script) w.script.limit t less))
+      (λ less. inl (declared (declareds_of w.script) (terms_of w.script) t less))
       (λ past. inr (
-        absent (clocks_of w.script) w.script.limit t past,
-        get_or_past (clocks_of w.script) t clocks.Monotonic past,
-        ap (history_from w.run.clock 0) (get_or_past w.run.timers t [] (subst (λ n. n ≤ t) (length-map w.script.timers (λ d. d.clock) ∙ sym timers) past)),
+        absent (declareds_of w.script) (terms_of w.script) t past,
+        get_or_past (declareds_of w.script) t no_declared past,
+        ap (history_from w.run.clock 0) (get_or_past w.run.timers t [] (subst (λ n. n ≤ t) (length-map w.script.timers declared_as ∙ sym timers) past)),
       ))
-      (cases_lt t (length (clocks_of w.script)))
+      (cases_lt t (length (declareds_of w.script)))
 
   -- law: each timer's list is a history of such a timer
-  pub legal_each : (t : ℕ) → IsLegal (clock_of w.script t) w.script.limit (history_of w.run t)
+  pub legal_each : (t : ℕ) → IsLegal (declared_of w.script t) (terms_of w.script) (history_of w.run t)
   legal_each t = ⊎_elim
-      (λ is. subst (λ x. AreSteps x (history_of w.run t)) is (subst (AreSteps (timer_at (openings (clocks_of w.script) w.script.limit) t)) (own_history t)
-      (own_steps w.script.bases (clocks_of w.script) w.script.limit t (entries_in w) [] (entries_in w) one.history refl)))
-      (λ none. subst (AreSteps (opening (clock_of w.script t) w.script.limit)) (sym none.2) tt)
+      (λ is. subst (λ x. AreSteps x (history_of w.run t)) is (subst (AreSteps (timer_at (openings (declareds_of w.script) (terms_of w.script)) t)) (own_history t)
+      (own_steps w.script.bases (declareds_of w.script) (terms_of w.script) t (entries_in w) [] (entries_in w) in_turn refl)))
+      (λ none. subst (AreSteps (opening (declared_of w.script t) (terms_of w.script))) (sym none.2) tt)
       (begins t)
 
   -- at each moment a timer is as after so many of its own entries; one that isn't there is as it began
   state_then : (n t : ℕ) → (timer_along w n t ≡ timer_after w.script w.run t (seen w n t))
-      ⊎ ((timer_along w n t ≡ no_timer) × (timer_after w.script w.run t (seen w n t) ≡ opening clocks.Monotonic w.script.limit))
+      ⊎ ((timer_along w n t ≡ no_timer) × (timer_after w.script w.run t (seen w n t) ≡ opening no_declared (terms_of w.script)))
   state_then n t =
-      let first = timer_at (openings (clocks_of w.script) w.script.limit) t in
+      let first = timer_at (openings (declareds_of w.script) (terms_of w.script)) t in
       let is : timer_along w n t ≡ after_all first (take (seen w n t) (history_of w.run t)) =
-      after_entries-entries_of (first_system (openings (clocks_of w.script) w.script.limit)) t (take n (entries_in w))
+      after_entries-entries_of (first_system (openings (declareds_of w.script) (terms_of w.script))) t (take n (entries_in w))
       ∙ ap (after_all first) (early_history n t) in
       ⊎_elim
       (λ begun. inl (is ∙ ap (λ x. after_all x (take (seen w n t) (history_of w.run t))) begun))
       (λ none. inr (
         is ∙ nothing_taken first (seen w n t) (history_of w.run t) none.2 ∙ none.0,
-        nothing_taken (opening (clock_of w.script t) w.script.limit) (seen w n t) (history_of w.run t) none.2
-            ∙ ap (λ clock. opening clock w.script.limit) none.1,
+        nothing_taken (opening (declared_of w.script t) (terms_of w.script)) (seen w n t) (history_of w.run t) none.2
+            ∙ ap (λ d. opening d (terms_of w.script)) none.1,
       ))
       (begins t)
 
   -- law: so what doesn't hang on the limit is the same of both
-  pub same_then : {X : Type 0} (f : Timer → X) → f no_timer ≡ f (opening clocks.Monotonic w.script.limit) → (n t : ℕ)
+  pub same_then : {X : Type 0} (f : Timer → X) → f no_timer ≡ f (opening no_declared (terms_of w.script)) → (n t : ℕ)
       → f (timer_along w n t) ≡ f (timer_after w.script w.run t (seen w n t))
   same_then f none n t = ⊎_elim (λ is. ap f is) (λ is. ap f is.0 ∙ none ∙ sym (ap f is.1)) (state_then n t)
+
+  -- a timer is declared as the script says
+  pub declared_then : (n t : ℕ) → (timer_along w n t).declared ≡ declared_of w.script t
+  declared_then n t = same_then (λ x. x.declared) refl n t
+      ∙ declared-after_all (opening (declared_of w.script t) (terms_of w.script)) (take (seen w n t) (history_of w.run t))
 
   holds_then : (n t : ℕ) (observation : Observation) → Holds (timer_along w n t) observation → Holds (timer_after w.script w.run t (seen w n t)) observation
   holds_then n t observation holds = ⊎_elim
@@ -147,7 +159,7 @@ module _ (w : Course) (one : IsOneHistory w) (timers : length w.run.timers ≡ l
       (λ is. subst (λ x. Holds x observation) (sym is.1) (of_none observation (subst (λ x. Holds x observation) is.0 holds)))
       (state_then n t)
     where
-      of_none : (observation : Observation) → Holds no_timer observation → Holds (opening clocks.Monotonic w.script.limit) observation
+      of_none : (observation : Observation) → Holds no_timer observation → Holds (opening no_declared (terms_of w.script)) observation
       of_none (observations.Peek peek) holds = holds
       of_none observations.Idle holds = record { armed = refl; running = refl; moving = refl }
       of_none (observations.Running generation) holds = holds
@@ -216,9 +228,9 @@ module _ (w : Course) (one : IsOneHistory w) (timers : length w.run.timers ≡ l
 
   -- law: a claim was in turn at its place
   pub turn_at : (p : ℕ) (m : Move) (base reading generation : ℕ) → slice_get w.moves p ≡ Some m → m.line.entry ≡ entries.Claim base reading generation
-      → IsTurn (timer_along w p) (armed_in (clocks_of w.script) w.script.limit (take p (entries_in w))) base (reading_at w.run.clock reading) m.timer
+      → IsTurn (in_context (timer_along w p m.timer).declared.context (timer_along w p)) (armed_in (declareds_of w.script) (terms_of w.script) (take p (entries_in w))) base (reading_at w.run.clock reading) m.timer
   turn_at p m base reading generation at is =
-      (one.history (take p (entries_in w)) _ (entry_of_move w.run.clock m) (split_at (entries_in w) p (entry_of_move w.run.clock m)
+      (in_turn (take p (entries_in w)) _ (entry_of_move w.run.clock m) (split_at (entries_in w) p (entry_of_move w.run.clock m)
       (at_map (entry_of_move w.run.clock) w.moves p m at))).turn base (reading_at w.run.clock reading) (ap (λ x. (entry_shown w.run.clock m.before x).event) is)
 
   -- law: what a call saw at a moment was so after a number of the timer's entries

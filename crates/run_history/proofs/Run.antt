@@ -60,6 +60,7 @@ module _ (s : Script) (e : Ending) (ends : IsEnding s e) where
   fits_in = record {
     timers = ends.timers;
     objects = ends.objects;
+    version = ends.version;
     lanes = ends.lanes;
     clock_calls = labels_from s (clock_labels e.run) (clock_spans e) ends.clock_laid;
     timer_calls = labels_from s (labels (course_of s e)) (moves_spans e) joined_from.moves_laid;

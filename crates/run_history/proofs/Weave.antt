@@ -6,7 +6,6 @@ use Rattle.std.proofs.lemmas.Bool.{eq-eqb, eqb-true}
 use Rattle.std.proofs.lemmas.List.{append_assoc, drop_all, drop_more, length-append}
 use Rattle.std.proofs.lemmas.Option.{same_Some}
 use Rattle.seq_timer.proofs.Systems.{entries_of-append}
-use Rattle.seq_timer.proofs.Ties.{may_follow}
 use Rattle.seq_timer.specs.Histories.{Entry}
 use Rattle.seq_timer.specs.Systems.{entries_of, IsSystemHistory}
 use Rattle.seq_timer.specs.declared.system.TimerEntry.{TimerEntry}
@@ -14,9 +13,9 @@ use Rattle.record_text.specs.declared.record.ClockLine.{ClockLine}
 use Rattle.record_text.specs.declared.record.RunRecord.{RunRecord}
 use Rattle.record_text.specs.declared.record.TimerLine.{TimerLine}
 use Rattle.script_text.specs.Actions.{also}
-use Rattle.script_text.specs.Histories.{entry_shown, history_from, history_of, lines_of_timer}
+use Rattle.script_text.specs.Histories.{entry_shown, history_from, history_of, lines_of_timer, terms_of, declareds_of}
 use Rattle.script_text.specs.declared.script.Script.{Script}
-use Rattle.run_history.specs.Courses.{clocks_of, entries_in, entry_of_move, IsOneHistory, Move, moves_from, moves_on}
+use Rattle.run_history.specs.Courses.{entries_in, entry_of_move, IsOneHistory, Move, moves_from, moves_on}
 use Rattle.run_history.specs.Receipts.{as_own, count, move_of, no_line, weave}
 use Rattle.run_history.specs.Runs.{course_of, Ending}
 use Rattle.run_history.proofs.Lists.{at_seam}
@@ -103,12 +102,11 @@ module _ (s : Script) (e : Ending) (shows : (t : ℕ) → history_of e.run t ≡
   pub woven : entries_in (course_of s e) ≡ e.order
   woven = weave_shows e.run e.order [] e.order refl shows
 
-  pub one_history_from : IsSystemHistory s.bases (clocks_of s) s.limit e.order → IsOneHistory (course_of s e)
+  pub one_history_from : IsSystemHistory s.bases (declareds_of s) (terms_of s) e.order → IsOneHistory (course_of s e)
   one_history_from history = record {
     all = λ t. weave_on e.run t [] e.order
         (sym (from_none (count t e.order)) ∙ ap length (sym (shows t)) ∙ length_history e.run.clock 0 (lines_of_timer e.run t));
-    history = λ before later x is. may_follow s.bases s.limit (clocks_of s) before later x
-        (subst (IsSystemHistory s.bases (clocks_of s) s.limit) (sym woven ∙ is) history);
+    history = subst (IsSystemHistory s.bases (declareds_of s) (terms_of s)) (sym woven) history;
   }
     where
       from_none : (n : ℕ) → n ≡ 0 + n

@@ -9,12 +9,15 @@ use Rattle.script_text.specs.declared.script.Kind.TheVariants as kinds
 use Rattle.script_text.specs.declared.script.Call.{Call}
 use Rattle.script_text.specs.declared.script.Call.TheVariants as calls
 use Rattle.script_text.specs.declared.script.Script.{Script}
+use Rattle.seq_timer.specs.declared.context.Context.{Context}
 use Rattle.record_text.specs.declared.record.Entry.TheVariants as entries
+use Rattle.record_text.specs.declared.record.ForwardLine.{ForwardLine}
 use Rattle.record_text.specs.declared.record.CallbackReply.TheVariants as replies
 use Rattle.record_text.specs.declared.record.Answer.{Answer}
 use Rattle.record_text.specs.declared.record.Answer.TheVariants as answers
 use Rattle.record_text.specs.declared.record.ObjectEntry.TheVariants as object_entries
-use Rattle.script_text.specs.Starts.{Arming, IsJustBefore, arming_actions, was_armed_before}
+use Rattle.script_text.specs.Histories.{declared_of}
+use Rattle.script_text.specs.Starts.{Arming, IsJustBefore, arming_actions, without_slack, was_armed_before}
 use Rattle.script_text.specs.ObjectCalls.{DoesSettime, DoesGettime, DoesAccept, DoesRead}
 use Rattle.script_text.specs.Objects.{kind_of}
 use Rattle.script_text.specs.Actions.{Action, Wrote, Entered, Looked, Made, Skipped}
@@ -30,13 +33,13 @@ fires base reading f =
 abbrev pub IsCallback : Callback → ℕ → Fired → Type 0
 IsCallback callbacks.Once reading f = (f.body ≡ []) × (f.restart ≡ false)
 IsCallback (callbacks.Every interval) reading f =
-    (((number : ℕ) × (count : ℕ) × (expires : ℕ) × (f.body ≡ Entered f.timer number (entries.Forward reading interval count expires) ∷ []))
+    (((number : ℕ) × (l : ForwardLine) × (l.reading ≡ reading) × (l.interval ≡ interval) × (f.body ≡ Entered f.timer number (entries.Forward l) ∷ []))
     ⊎ (((number : ℕ) × (generation : ℕ) × (f.body ≡ Looked f.timer number (replies.Armed generation) ∷ []))
     ⊎ ((number : ℕ) × (f.body ≡ Looked f.timer number replies.Spent ∷ []))))
     × (f.restart ≡ true)
 IsCallback callbacks.Cancels reading f = ((number : ℕ) × (f.body ≡ Looked f.timer number (replies.Running f.generation) ∷ [])) × (f.restart ≡ false)
 IsCallback (callbacks.Starts ns base) reading f =
-    (((a : Arming) × (f.body ≡ arming_actions f.timer modes.Rel ns reading base a))
+    (((a : Arming) × (f.body ≡ arming_actions f.timer (without_slack modes.Rel ns base) reading a))
     ⊎ ((number : ℕ) × (f.body ≡ Looked f.timer number replies.Spent ∷ [])))
     × (f.restart ≡ true)
 
@@ -50,34 +53,37 @@ IsTrigger reading f =
 
 -- what runs when a timer is claimed, by its kind
 abbrev pub IsBody : Kind → ℕ → Fired → Type 0
-IsBody (kinds.Raw callback) reading f = IsCallback callback reading f
+IsBody (kinds.Raw context callback) reading f = IsCallback callback reading f
 IsBody (kinds.Posix base) reading f = IsTrigger reading f
 IsBody (kinds.Fd base) reading f = IsTrigger reading f
 
--- what an expiry run did: each callback as its timer declares it, all by one reading, and the timers in the order of their claims
-pub record IsExpiryRun (s : Script) (reading base : ℕ) (fired : List Fired) (shown : ℕ) (timers : List ℕ) (actions : List Action) : Type 0 where
+-- what an expiry run did: each callback as its timer declares it, of the run's context, all by one reading, and the timers in the order of their
+-- claims
+pub record IsExpiryRun (s : Script) (context : Context) (reading base : ℕ) (fired : List Fired) (shown : ℕ) (timers : List ℕ)
+    (actions : List Action) : Type 0 where
   pub one_reading : shown ≡ reading
   pub claimed : timers ≡ map (λ f. f.timer) fired
   pub done : actions ≡ flat_map (fires base reading) fired
+  pub contexts : AllByRecursion (λ f. (declared_of s f.timer).context ≡ context) fired
   pub bodies : AllByRecursion (λ f. IsBody (kind_of s f.timer) reading f) fired
 
 -- what a call did is what its arguments and its answer say; the answer that the clock has taken too many writes never comes
 abbrev pub Does : Script → ℕ → Call → Answer → List Fired → List Action → Type 0
-Does s reading (calls.Start timer mode ns base) (answers.Started generation on was_armed) fired actions =
-    (a : Arming) × (actions ≡ arming_actions timer mode ns reading base a) × (generation ≡ a.number) × (on ≡ a.base)
+Does s reading (calls.Start timer request) (answers.Started generation on was_armed) fired actions =
+    (a : Arming) × (actions ≡ arming_actions timer request reading a) × (generation ≡ a.number) × (on ≡ a.base)
     × (was_armed ≡ was_armed_before a.out a.was_armed) × IsJustBefore a.out a.number
-Does s reading (calls.Start timer mode ns base) (answers.Spent stamp) fired actions = actions ≡ []
+Does s reading (calls.Start timer request) (answers.Spent stamp) fired actions = actions ≡ []
 Does s reading (calls.Cancel timer) (answers.Cancelled generation) fired actions =
     (number : ℕ) × (actions ≡ Entered timer number (entries.Cancel generation) ∷ [])
 Does s reading (calls.Cancel timer) (answers.Running generation stamp) fired actions = actions ≡ []
 Does s reading (calls.Cancel timer) (answers.Idle stamp) fired actions = actions ≡ []
 Does s reading (calls.Peek timer) (answers.Peek stamp base enqueued running moving) fired actions = actions ≡ []
-Does s reading (calls.Expire base budget) (answers.Done shown timers) fired actions =
-    IsExpiryRun s reading base fired shown timers actions × (length fired < budget)
-Does s reading (calls.Expire base budget) (answers.More shown timers) fired actions =
-    IsExpiryRun s reading base fired shown timers actions × (length fired ≡ budget)
-Does s reading (calls.Expire base budget) (answers.Busy shown timers timer generation) fired actions =
-    IsExpiryRun s reading base fired shown timers actions × (length fired < budget)
+Does s reading (calls.Expire context base budget) (answers.Done shown timers) fired actions =
+    IsExpiryRun s context reading base fired shown timers actions × (length fired < budget)
+Does s reading (calls.Expire context base budget) (answers.More shown timers) fired actions =
+    IsExpiryRun s context reading base fired shown timers actions × (length fired ≡ budget)
+Does s reading (calls.Expire context base budget) (answers.Busy shown timers timer generation) fired actions =
+    IsExpiryRun s context reading base fired shown timers actions × (length fired < budget)
 Does s reading (calls.Clock write) (answers.Clock stamp) fired actions = actions ≡ Wrote stamp write ∷ []
 Does s reading (calls.Clock write) (answers.Range would_be) fired actions = actions ≡ []
 Does s reading (calls.Settime timer flags value interval) answer fired actions = DoesSettime (kind_of s timer) timer flags value interval reading answer actions

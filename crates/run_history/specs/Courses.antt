@@ -1,17 +1,15 @@
 -- One order of all timers' entries of a record, and all timers after each number of them.
 use Rattle.std.specs.Prelude.{ℕ, ◌≡◌, ◌+◌, nat_eq, Bool, List, [], ◌∷◌, map, take}
-use Rattle.ktime.specs.declared.clock_id.ClockId.{ClockId}
 use Rattle.record_text.specs.declared.record.ClockLine.{ClockLine}
 use Rattle.record_text.specs.declared.record.Label.{Label}
 use Rattle.record_text.specs.declared.record.Restart.{Restart}
 use Rattle.record_text.specs.declared.record.RunRecord.{RunRecord}
 use Rattle.record_text.specs.declared.record.TimerLine.{TimerLine}
 use Rattle.script_text.specs.Actions.{Action, also}
-use Rattle.script_text.specs.Histories.{entry_shown, lines_of_timer}
+use Rattle.script_text.specs.Histories.{declareds_of, entry_shown, lines_of_timer, terms_of}
 use Rattle.script_text.specs.declared.script.Script.{Script}
 use Rattle.seq_timer.specs.Steps.{Timer}
-use Rattle.seq_timer.specs.Systems.{system_of}
-use Rattle.seq_timer.specs.Turns.{IsInTurn}
+use Rattle.seq_timer.specs.Systems.{IsSystemHistory, System, system_of}
 use Rattle.seq_timer.specs.declared.system.TimerEntry.{TimerEntry}
 
 -- one callback of an expiry run: the timer, and the number and the generation of its claim; what the callback did; the number of the
@@ -75,16 +73,16 @@ labels w = map (λ m. m.line.label) w.moves
 abbrev pub entries_in : Course → List TimerEntry
 entries_in w = map (entry_of_move w.run.clock) w.moves
 
--- the clocks that a script's timers are declared on
-abbrev pub clocks_of : Script → List ClockId
-clocks_of s = map (λ d. d.clock) s.timers
+-- all timers and bases after so many entries of all timers
+abbrev pub system_along : Course → ℕ → System
+system_along w n = system_of (declareds_of w.script) (terms_of w.script) (take n (entries_in w))
 
 -- a timer after so many entries of all timers
 abbrev pub timer_along : Course → ℕ → ℕ → Timer
-timer_along w n t = (system_of (clocks_of w.script) w.script.limit (take n (entries_in w))).timers t
+timer_along w n t = (system_along w n).timers t
 
--- the order is one of all entries, and all together are one history that a library on one thread gives: each is a step of its timer, is sent
--- only to a base that is there, and each claim takes the timer whose turn it is
+-- the order is one of all entries, and all together are one history that a library on one thread gives: each is a step of its timer and of the base
+-- that it is on, is sent only to a base that is there, and each claim takes the first timer of its context in the base's queues
 pub record IsOneHistory (w : Course) : Type 0 where
   pub all : (t : ℕ) → moves_on t w.moves ≡ moves_from t 0 (lines_of_timer w.run t)
-  pub history : IsInTurn w.script.bases (clocks_of w.script) w.script.limit (entries_in w)
+  pub history : IsSystemHistory w.script.bases (declareds_of w.script) (terms_of w.script) (entries_in w)

@@ -5,7 +5,9 @@ use Rattle.std.specs.List.{AllByRecursion, slice_get}
 use Rattle.seq_timer.specs.declared.observation.Observation.{Observation}
 use Rattle.seq_timer.specs.declared.observation.Observation.TheVariants as observations
 use Rattle.seq_timer.specs.Histories.{HoldsAt, IsLegal}
-use Rattle.seq_timer.specs.Tables.{IsNextDue, is_due_on, runs_on}
+use Rattle.ktime.specs.declared.clock_id.ClockId.{ClockId}
+use Rattle.seq_timer.specs.declared.context.Context.{Context}
+use Rattle.seq_timer.specs.Tables.{IsNextDue, IsStopped, in_context, runs_on, seen_in}
 use Rattle.record_text.specs.declared.record.Answer.{Answer}
 use Rattle.record_text.specs.declared.record.Answer.TheVariants as answers
 use Rattle.record_text.specs.declared.record.CallbackReply.{CallbackReply}
@@ -17,7 +19,7 @@ use Rattle.script_text.specs.declared.script.Call.TheVariants as calls
 use Rattle.script_text.specs.declared.script.Script.{Script}
 use Rattle.script_text.specs.Actions.{Action, Entered, entered, Looked, looked, own, own_looks}
 use Rattle.script_text.specs.Told.{observed}
-use Rattle.script_text.specs.Histories.{answers_of, clock_labels, clock_of, history_of, lines_of_timer, reading_at, timer_after, timer_labels}
+use Rattle.script_text.specs.Histories.{answers_of, clock_labels, declared_of, history_of, lines_of_timer, reading_at, timer_after, timer_labels, terms_of}
 use Rattle.script_text.specs.Order.{CallInRound, calls_of, IsInOrder, IsLabel, IsPoint}
 use Rattle.run_history.specs.Calls.{Does}
 use Rattle.run_history.specs.Courses.{Fired}
@@ -29,7 +31,7 @@ IsOwnPoint s r c before t n = IsPoint s c (length (entered t before)) n (timer_l
 -- what a call, having done so much, was told of a timer was so after this number of its entries
 pub record WasSo (s : Script) (r : RunRecord) (c : Label) (before : List Action) (t number : ℕ) (observation : Observation) : Type 0 where
   pub point : IsOwnPoint s r c before t number
-  pub holds : HoldsAt (clock_of s t) s.limit (history_of r t) number observation
+  pub holds : HoldsAt (declared_of s t) (terms_of s) (history_of r t) number observation
 
 -- a start was refused: the timer's history was full, and the timer was not on the move between bases
 abbrev pub WasRefused : Script → RunRecord → Label → List Action → ℕ → ℕ → Type 0
@@ -40,27 +42,28 @@ pub record TookNextDue (s : Script) (r : RunRecord) (c : Label) (before : List A
   pub seen : ℕ → ℕ
   pub points : (u : ℕ) → IsOwnPoint s r c before u (seen u)
   pub claimed : seen t + 1 ≡ number
-  pub free : (u : ℕ) → runs_on base (timer_after s r u (seen u)) ≡ false
-  pub next : IsNextDue (λ u. timer_after s r u (seen u)) base (reading_at r.clock reading) t
+  pub free : (u : ℕ) → runs_on base (seen_in (declared_of s t).context (timer_after s r u (seen u))) ≡ false
+  pub next : IsNextDue (in_context (declared_of s t).context (λ u. timer_after s r u (seen u))) base (reading_at r.clock reading) t
 
--- no function ran on a base, and no timer was due there: after numbers of entries of each timer
-pub record WasDone (s : Script) (r : RunRecord) (c : Label) (actions : List Action) (base reading : ℕ) : Type 0 where
+-- no function of a context ran on a base, and the base was stopped for each clock of the context: after numbers of entries of each timer
+pub record WasDone (s : Script) (r : RunRecord) (c : Label) (actions : List Action) (context : Context) (base reading : ℕ) : Type 0 where
   pub seen : ℕ → ℕ
   pub points : (u : ℕ) → IsOwnPoint s r c actions u (seen u)
-  pub free : (u : ℕ) → runs_on base (timer_after s r u (seen u)) ≡ false
-  pub none_due : (u : ℕ) → is_due_on base (reading_at r.clock reading) (timer_after s r u (seen u)) ≡ false
+  pub free : (u : ℕ) → runs_on base (seen_in context (timer_after s r u (seen u))) ≡ false
+  pub stopped : (clock : ClockId) → IsStopped (in_context context (λ u. timer_after s r u (seen u))) base (reading_at r.clock reading) clock
 
 -- what an answer tells of timers was so, when the call had done all that it did
 abbrev pub WasTold : Script → RunRecord → Label → ℕ → List Action → Call → Answer → Type 0
-WasTold s r c at actions (calls.Start t mode ns base) (answers.Spent stamp) = WasRefused s r c actions t stamp
+WasTold s r c at actions (calls.Start t request) (answers.Spent stamp) = WasRefused s r c actions t stamp
 WasTold s r c at actions (calls.Cancel t) (answers.Running generation stamp) = WasSo s r c actions t stamp (observations.Running generation)
 WasTold s r c at actions (calls.Cancel t) (answers.Idle stamp) = WasSo s r c actions t stamp observations.Idle
 WasTold s r c at actions (calls.Peek t) (answers.Peek stamp base enqueued running moving) =
     WasSo s r c actions t stamp
     (observations.Peek (record { stamp = stamp; base = base; enqueued = enqueued; running = running; moving = moving }))
-WasTold s r c at actions (calls.Expire base budget) (answers.Done shown timers) = WasDone s r c actions base at
-WasTold s r c at actions (calls.Expire base budget) (answers.Busy shown timers t generation) =
-    (stamp : ℕ) × WasSo s r c actions t stamp (observations.Running generation) × ((timer_after s r t stamp).base ≡ base)
+WasTold s r c at actions (calls.Expire context base budget) (answers.Done shown timers) = WasDone s r c actions context base at
+WasTold s r c at actions (calls.Expire context base budget) (answers.Busy shown timers t generation) =
+    ((declared_of s t).context ≡ context)
+    × ((stamp : ℕ) × WasSo s r c actions t stamp (observations.Running generation) × ((timer_after s r t stamp).base ≡ base))
 WasTold s r c at actions (calls.Settime t flags value interval) (answers.Unarmed stamp) = WasRefused s r c actions t stamp
 WasTold s r c at actions call answer = Unit
 
@@ -82,7 +85,7 @@ pub record FitsTimers (s : Script) (r : RunRecord) (c : Label) (call : Call) (an
 -- each timer's list by itself, and each call by such lists
 pub record HasTimers (s : Script) (r : RunRecord) : Type 0 where
   -- each timer's lines are a history that a timer gives, on its declared clock and with the script's limit
-  pub histories : (t : ℕ) → IsLegal (clock_of s t) s.limit (history_of r t)
+  pub histories : (t : ℕ) → IsLegal (declared_of s t) (terms_of s) (history_of r t)
   -- they bear the labels of calls; along each list rounds follow one another, and a lane's calls keep their order
   pub labels : (t : ℕ) → AllByRecursion (IsLabel s) (timer_labels r t)
   pub order : (t : ℕ) → IsInOrder s (timer_labels r t)

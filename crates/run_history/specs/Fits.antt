@@ -71,6 +71,8 @@ pub record AreSkipsUnder (s : Script) (labels : List Label) : Type 0 where
 
 -- the record fits the script, in this order of all timers' entries
 pub record FitsIn (w : Course) : Type 0 where
+  -- the record is of the script's version
+  pub version : w.run.version ≡ w.script.version
   -- a history for each timer, one for the object of the same number, and the answers of each lane
   pub timers : length w.run.timers ≡ length w.script.timers
   pub objects : length w.run.objects ≡ length w.script.timers

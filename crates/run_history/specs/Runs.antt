@@ -6,11 +6,11 @@ use Rattle.seq_timer.specs.Systems.{IsSystemHistory}
 use Rattle.seq_timer.specs.declared.system.TimerEntry.{TimerEntry}
 use Rattle.record_text.specs.declared.record.Label.{Label}
 use Rattle.record_text.specs.declared.record.RunRecord.{RunRecord}
-use Rattle.script_text.specs.Histories.{answers_of, AreWrites, clock_labels, lines_of_timer}
+use Rattle.script_text.specs.Histories.{answers_of, AreWrites, clock_labels, lines_of_timer, terms_of, declareds_of}
 use Rattle.script_text.specs.Objects.{IsLegalObject, kind_of, lines_of_object, object_labels}
 use Rattle.script_text.specs.Order.{AreUnder, calls_of, IsLabel}
 use Rattle.script_text.specs.declared.script.Script.{Script}
-use Rattle.run_history.specs.Courses.{clocks_of, Course, entries_in, IsOneHistory, labels, Trace}
+use Rattle.run_history.specs.Courses.{Course, entries_in, IsOneHistory, labels, Trace}
 use Rattle.run_history.specs.Fits.{AreBehind, AreSkipsUnder, FitsLane, unseen}
 use Rattle.run_history.specs.Receipts.{AreAll, AreFiled, Filed, Noted, ShowsEntry, weave}
 use Rattle.run_history.specs.Rounds.{IsLaid, IsLedger, Spans}
@@ -61,7 +61,7 @@ course_of s e = record { script = s; run = e.run; moves = weave e.run [] e.order
 pub record IsJoined (s : Script) (e : Ending) : Type 0 where
   -- the entries along the record's lines are the order's, a history of all timers and bases
   pub entries : entries_in (course_of s e) ≡ e.order
-  pub history : IsSystemHistory s.bases (clocks_of s) s.limit e.order
+  pub history : IsSystemHistory s.bases (declareds_of s) (terms_of s) e.order
   pub one : IsOneHistory (course_of s e)
   -- each call's receipts are its moves
   pub all : (c : Label) → AreAll c (course_of s e).moves (notes_in e c)
@@ -73,7 +73,7 @@ pub record IsJoined (s : Script) (e : Ending) : Type 0 where
 -- the parts that make a run, each of which is what one table or one lane gives
 pub record IsEnding (s : Script) (e : Ending) : Type 0 where
   -- the timers' table
-  pub history : IsSystemHistory s.bases (clocks_of s) s.limit e.order
+  pub history : IsSystemHistory s.bases (declareds_of s) (terms_of s) e.order
   -- the record's lines are the receipts of all calls, sorted, and each shows its entry
   pub sorted : List Filed
   pub filed : AreFiled e.run e.order (notes_in e) sorted
@@ -96,6 +96,7 @@ pub record IsEnding (s : Script) (e : Ending) : Type 0 where
   pub timers : length e.run.timers ≡ length s.timers
   pub objects : length e.run.objects ≡ length s.timers
   pub lanes : length e.run.answers ≡ s.lanes
+  pub version : e.run.version ≡ s.version
   -- each lane's promise
   pub calls : (lane : ℕ) → IsJoined s e → FitsLane (course_of s e) lane 0 unseen (calls_of s lane) (answers_of e.run lane)
 

@@ -22,9 +22,13 @@ use Rattle.script_text.specs.Histories.{reading_at}
 use Rattle.script_text.specs.Objects.{object_armed_after, fd_after, kind_of, object_labels, posix_after}
 use Rattle.script_text.specs.Actions.{Action, Entered, Looked, Made, Skipped, made}
 use Rattle.script_text.specs.Told.{IsBelowLimit, IsOutOfRange, IsArmedLike, observed}
-use Rattle.seq_timer.specs.Tables.{is_due_on, runs_on}
+use Rattle.ktime.specs.declared.clock_id.ClockId.{ClockId}
+use Rattle.seq_timer.specs.declared.context.Context.{Context}
+use Rattle.seq_timer.specs.Halves.{running_on}
+use Rattle.seq_timer.specs.Systems.{next_on}
+use Rattle.seq_timer.specs.Tables.{IsStopped, in_context, runs_on}
 use Rattle.run_history.specs.Traces.{all_entered}
-use Rattle.run_history.specs.Courses.{Course, labels, timer_along}
+use Rattle.run_history.specs.Courses.{Course, labels, system_along, timer_along}
 use Rattle.run_history.specs.Courses.{Fired}
 
 -- a number of entries of all timers is one at which the call has done so much, and that it may have seen
@@ -111,23 +115,24 @@ abbrev pub AreTrue : Course → Label → ℕ → ℕ → List Action → List A
 AreTrue w c first from before [] last = from ≤ last
 AreTrue w c first from before (d ∷ ds) last = (n : ℕ) × (from ≤ n) × IsTrue w c first before d n × AreTrue w c first n (before ++ d ∷ []) ds last
 
--- no function ran on the base, and no timer was due there
-pub record IsDone (w : Course) (reading base n : ℕ) : Type 0 where
-  pub free : (t : ℕ) → runs_on base (timer_along w n t) ≡ false
-  pub none_due : (t : ℕ) → is_due_on base (reading_at w.run.clock reading) (timer_along w n t) ≡ false
+-- no function of a context ran on the base, no timer of it was the first to expire there, and the base was stopped for each clock
+pub record IsDone (w : Course) (context : Context) (reading base n : ℕ) : Type 0 where
+  pub free : (t : ℕ) → runs_on base (in_context context (timer_along w n) t) ≡ false
+  pub first : next_on context ((system_along w n).bases base) (reading_at w.run.clock reading) ≡ None
+  pub stopped : (clock : ClockId) → IsStopped (in_context context (timer_along w n)) base (reading_at w.run.clock reading) clock
 
 -- An answer that tells of a state tells of one that the call may have seen: of timers and bases at its last moment, and, for a settime that cancelled
 -- nothing, of an idle timer at its first; of an object after so many of its entries. A write is refused only while the clock may take more of them,
 -- and where one of its times would be past the latest, and the answer is the greatest of these.
 abbrev pub IsSeen : Course → ℕ → ℕ → Label → ℕ → List Action → Call → Answer → Type 0
-IsSeen w first last c reading actions (calls.Start timer mode ns base) (answers.Spent stamp) = SawRefusal w timer stamp last
+IsSeen w first last c reading actions (calls.Start timer request) (answers.Spent stamp) = SawRefusal w timer stamp last
 IsSeen w first last c reading actions (calls.Cancel timer) (answers.Running generation stamp) = Saw w timer stamp (observations.Running generation) last
 IsSeen w first last c reading actions (calls.Cancel timer) (answers.Idle stamp) = Saw w timer stamp observations.Idle last
 IsSeen w first last c reading actions (calls.Peek timer) (answers.Peek stamp base enqueued running moving) =
     Saw w timer stamp (observations.Peek (record { stamp = stamp; base = base; enqueued = enqueued; running = running; moving = moving })) last
-IsSeen w first last c reading actions (calls.Expire base budget) (answers.Done shown timers) = IsDone w reading base last
-IsSeen w first last c reading actions (calls.Expire base budget) (answers.Busy shown timers timer generation) =
-    ((timer_along w last timer).running ≡ Some generation) × ((timer_along w last timer).base ≡ base)
+IsSeen w first last c reading actions (calls.Expire context base budget) (answers.Done shown timers) = IsDone w context reading base last
+IsSeen w first last c reading actions (calls.Expire context base budget) (answers.Busy shown timers timer generation) =
+    running_on base (in_context context (timer_along w last) timer) ≡ Some generation
 IsSeen w first last c reading actions (calls.Clock write) (answers.Range would_be) =
     IsOutOfRange reading would_be (greatest (after_write (reading_at w.run.clock reading) write))
 IsSeen w first last c reading actions (calls.Settime timer flags value interval) (answers.Spent stamp) = SawFull w c actions timer stamp

@@ -1,7 +1,11 @@
 //! What it means that a record fits a script, and the laws by which what many lanes leave together makes a record that does.
 #![tactic(auto)]
 
+ghost use Rattle.std.specs.Prelude.{◌≡◌};
+ghost use Rattle.script_text.specs.Scripts.{IsInRange};
 ghost use Rattle.script_text.specs.declared.script.Script.{Script};
+ghost use Rattle.record_text.specs.Numbers.{HasNoSlack};
+ghost use Rattle.record_text.specs.declared.version.Version.TheVariants as versions;
 ghost use Rattle.record_text.specs.declared.record.RunRecord.{RunRecord};
 ghost use Rattle.run_history.specs.EachTimer.{HasTimers};
 ghost use Rattle.run_history.specs.Fits.{Fits};
@@ -15,4 +19,9 @@ pub fn a_run_of_lanes_fits()
 /// A record that fits is right of each timer by itself: its list is a history of such a timer, and what calls did and were told was so by that list.
 pub fn a_record_that_fits_is_right_of_each_timer()
     ensures { (s : Script) (r : RunRecord) → Fits s r → HasTimers s r }
+{}
+
+/// A record that fits a script of version 1 has no slack: a soft expiry is the expiry. So the text of such a record, which shows neither, determines it.
+pub fn a_record_of_version_one_has_no_slack()
+    ensures { (s : Script) (r : RunRecord) → IsInRange s → s.version ≡ versions.One → Fits s r → HasNoSlack r }
 {}

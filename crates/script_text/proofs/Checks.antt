@@ -1,7 +1,9 @@
 -- What it takes that no cause refuses a line.
-use Rattle.std.proofs.Common.{◌≡◌, ℕ, Bool, true, false, List, [], ◌∷◌, length, Option, Some, None, refl, arith}
+use Rattle.std.proofs.Common.{◌≡◌, ℕ, ◌≤◌, Bool, true, false, List, [], ◌∷◌, length, Option, Some, None, refl, arith}
 use Rattle.std.specs.Option.{option_or}
 use Rattle.std.proofs.lemmas.Bool.{and_parts, ltb-true, leb-true}
+use Rattle.record_text.specs.declared.version.Version.{Version}
+use Rattle.record_text.specs.declared.version.Version.TheVariants as versions
 use Rattle.script_text.specs.declared.form.Line.{Line}
 use Rattle.script_text.specs.declared.form.Field.{Field}
 use Rattle.script_text.specs.declared.form.Field.TheVariants as fields
@@ -10,7 +12,7 @@ use Rattle.script_text.specs.declared.form.Value.TheVariants as values
 use Rattle.script_text.specs.declared.reading.drafts.Draft.{Draft}
 use Rattle.script_text.specs.declared.refusal.Cause.{Cause}
 use Rattle.script_text.specs.Forms.{Spot, Key, At, row, part}
-use Rattle.script_text.specs.Scripts.{most_bases, most_lanes}
+use Rattle.script_text.specs.Scripts.{most_bases, most_lanes, most_timers}
 use Rattle.script_text.specs.Drafts.{IsWithinLimits, IsShort, AreShort}
 use Rattle.script_text.specs.Refusals.{unless, is_placed, check_count, check_number, check_values, check_kind, check_line}
 
@@ -43,14 +45,26 @@ no_cause d l a = rw (a.placed, a.count, a.values, a.kind) refl
 
 -- ---- numbers that no cause refuses are short
 
+few_bases : (version : Version) → most_bases version ≤ 4096
+few_bases versions.One = omega arith
+few_bases versions.Two = omega arith
+
+few_lanes : (version : Version) → most_lanes version ≤ 4096
+few_lanes versions.One = omega arith
+few_lanes versions.Two = omega arith
+
+few_timers : (version : Version) → most_timers version ≤ 4096
+few_timers versions.One = omega arith
+few_timers versions.Two = omega arith
+
 module _ (d : Draft) (room : IsWithinLimits d) where
   short_number : (field : Field) (n : ℕ) → check_number d field n ≡ None → IsShort field n
   unfolding check_number
-  short_number fields.Bases n e = omega (arith, leb-true n most_bases (and_parts _ _ (holds _ _ e)).1)
-  short_number fields.Lanes n e = omega (arith, leb-true n most_lanes (and_parts _ _ (holds _ _ e)).1)
-  short_number fields.Lane n e = omega (arith, ltb-true n d.lanes (holds _ _ e), room.lanes)
-  short_number fields.Timer n e = omega (arith, ltb-true n (length d.timers) (holds _ _ e), room.timers)
-  short_number fields.Base n e = omega (arith, ltb-true n d.bases (holds _ _ e), room.bases)
+  short_number fields.Bases n e = omega (arith, leb-true n (most_bases d.version) (and_parts _ _ (holds _ _ e)).1, few_bases d.version)
+  short_number fields.Lanes n e = omega (arith, leb-true n (most_lanes d.version) (and_parts _ _ (holds _ _ e)).1, few_lanes d.version)
+  short_number fields.Lane n e = omega (arith, ltb-true n d.lanes (holds _ _ e), room.lanes, few_lanes d.version)
+  short_number fields.Timer n e = omega (arith, ltb-true n (length d.timers) (holds _ _ e), room.timers, few_timers d.version)
+  short_number fields.Base n e = omega (arith, ltb-true n d.bases (holds _ _ e), room.bases, few_bases d.version)
   short_number _ n e = tt
 
   pub short_numbers : (spots : List Spot) (vs : List Value) → check_values d spots vs ≡ None → AreShort spots vs

@@ -3,6 +3,7 @@ use Rattle.std.proofs.Common.{arith, length, ◌==◌, ◌||◌, Bool, true, fal
 use Rattle.std.specs.List.{list_any}
 use Rattle.std.proofs.lemmas.Bool.{eq-eqb, ne_eqb}
 use Rattle.std.proofs.lemmas.List.{append-nil, length-map}
+use Rattle.record_text.specs.declared.version.Version.{Version}
 use Rattle.script_text.specs.declared.form.Form.{Form}
 use Rattle.script_text.specs.declared.form.Line.{Line}
 use Rattle.script_text.specs.declared.form.Field.{Field}
@@ -105,17 +106,17 @@ pub list_any-map : {X Y : Type 0} (test : Y → Bool) (f : X → Y) (xs : List X
 list_any-map test f [] = refl
 list_any-map test f (x ∷ xs) = ap (λ (rest : Bool). test (f x) || rest) (list_any-map test f xs)
 
-pub line_in-byte : (line : List ℕ) → list_any is_bad_byte line ≡ true → line_in line ≡ Err causes.BadByte
+pub line_in-byte : (version : Version) (line : List ℕ) → list_any is_bad_byte line ≡ true → line_in version line ≡ Err causes.BadByte
 unfolding line_in
-line_in-byte line bad = rw bad refl
+line_in-byte version line bad = rw bad refl
 
-pub line_in-space : (line : List ℕ) (words : List (List ℕ)) → words ≡ words_in line → list_any is_bad_byte line ≡ false
-    → list_any is_empty_word words ≡ true → line_in line ≡ Err causes.BadSpace
+pub line_in-space : (version : Version) (line : List ℕ) (words : List (List ℕ)) → words ≡ words_in line → list_any is_bad_byte line ≡ false
+    → list_any is_empty_word words ≡ true → line_in version line ≡ Err causes.BadSpace
 unfolding line_in
-line_in-space line words is good empty = rw (good, ← is, empty) refl
+line_in-space version line words is good empty = rw (good, ← is, empty) refl
 
-pub line_in-words : (line : List ℕ) (words : List (List ℕ)) (found : Result Form Cause) → words ≡ words_in line
-    → list_any is_bad_byte line ≡ false → list_any is_empty_word words ≡ false → form_in words ≡ found
-    → line_in line ≡ (found >>= λ form. line_of_form form words)
+pub line_in-words : (version : Version) (line : List ℕ) (words : List (List ℕ)) (found : Result Form Cause) → words ≡ words_in line
+    → list_any is_bad_byte line ≡ false → list_any is_empty_word words ≡ false → form_in version words ≡ found
+    → line_in version line ≡ (found >>= λ form. line_of_form form words)
 unfolding line_in
-line_in-words line words found is good full form = rw (good, ← is, full, form) refl
+line_in-words version line words found is good full form = rw (good, ← is, full, form) refl

@@ -4,6 +4,8 @@ use Rattle.std.specs.List.{flat_map, range_with_len}
 use Rattle.std.proofs.lemmas.List.{append-nil, map-append}
 use Rattle.std.proofs.lemmas.List.Concat.{flat_map-append}
 use Rattle.std.proofs.lemmas.List.FromFn.{map-range_with_len_more}
+use Rattle.seq_timer.specs.declared.context.Context.TheVariants as contexts
+use Rattle.record_text.specs.declared.version.Version.TheVariants as versions
 use Rattle.script_text.specs.declared.form.Line.{Line}
 use Rattle.script_text.specs.declared.script.Call.TheVariants as calls
 use Rattle.script_text.specs.declared.script.Declaration.{Declaration}
@@ -62,9 +64,9 @@ lines_of_calls cs = map (λ c. call_line c.lane c.call) cs
 
 -- a lane's call that expires its base
 abbrev expire : ℕ → LaneCall
-expire lane = record { lane = lane; call = calls.Expire lane 8 }
+expire lane = record { lane = lane; call = calls.Expire contexts.Hard lane 8 }
 
-pub expiry_more : (n : ℕ) → round_lines (expiry_round (n + 1)) ≡ round_lines (expiry_round n) ++ call_line n (calls.Expire n 8) ∷ []
+pub expiry_more : (n : ℕ) → round_lines (expiry_round (n + 1)) ≡ round_lines (expiry_round n) ++ call_line n (calls.Expire contexts.Hard n 8) ∷ []
 expiry_more n =
     ap (λ (cs : List LaneCall). of_numbers forms.Round [] ∷ lines_of_calls cs) (map-range_with_len_more expire 0 n n (omega arith))
     ∙ ap (λ (ls : List Line). of_numbers forms.Round [] ∷ ls)
@@ -118,7 +120,8 @@ turns_more x lanes n y is =
     ap (λ (cs : List LaneCall). of_numbers forms.Round [] ∷ lines_of_calls cs)
     (flat_map-range_more (λ i. turn (number_after (3 * lanes * i) x) lanes) 0 n
     ∙ ap (λ (z : ℕ). turns x lanes n ++ turn z lanes) (ap (λ (k : ℕ). number_after (3 * lanes * k) x) (same (0 + n) n (omega arith)) ∙ sym is))
-    ∙ ap (λ (ls : List Line). of_numbers forms.Round [] ∷ ls) (map-append (λ (c : LaneCall). call_line c.lane c.call) (turns x lanes n) (turn y lanes))
+    ∙ ap (λ (ls : List Line). of_numbers forms.Round [] ∷ ls)
+    (map-append (λ (c : LaneCall). call_line c.lane c.call) (turns x lanes n) (turn y lanes))
 
 -- so many draws after so many others
 pub draws_more : (m n x y z : ℕ) → y ≡ number_after (m * n) x → z ≡ number_after m y → z ≡ number_after (m * (n + 1)) x
@@ -136,7 +139,8 @@ four_turns_more seed lanes count n x is =
     ap (flat_map round_lines) (flat_map-range_more (four_turns seed lanes count) 0 n)
     ∙ flat_map-append round_lines done (four_turns seed lanes count (0 + n))
     ∙ ap (λ (k : ℕ). flat_map round_lines done ++ flat_map round_lines (four_turns seed lanes count k)) (same (0 + n) n (omega arith))
-    ∙ ap (λ (ls : List Line). flat_map round_lines done ++ (round_lines clock_round ++ ls)) (ap (λ (y : ℕ). last y ++ []) (sym is) ∙ append-nil (last x))
+    ∙ ap (λ (ls : List Line). flat_map round_lines done ++ (round_lines clock_round ++ ls))
+    (ap (λ (y : ℕ). last y ++ []) (sym is) ∙ append-nil (last x))
 
 -- the draws of four turns
 pub four_draws_more : (lanes n count done seed x y : ℕ) → done ≡ min 4 (count - 4 * n)
@@ -151,11 +155,11 @@ four_draws_more lanes n count done seed x y is here more left =
 -- ---- the whole script
 
 generated_lines : (seed lanes count : ℕ) → script_lines (generated seed lanes count)
-    ≡ (((header_lines lanes lanes 1000000 ++ declaration_lines 0 (lane_timers lanes))
+    ≡ (((header_lines versions.One lanes lanes 1000000 ++ declaration_lines 0 (lane_timers lanes))
     ++ flat_map round_lines (flat_map (four_turns seed lanes count) (range_with_len 0 ((count + 3) / 4)))) ++ round_lines clock_round)
     ++ round_lines (expiry_round lanes)
 generated_lines seed lanes count =
-    let h = header_lines lanes lanes 1000000 in
+    let h = header_lines versions.One lanes lanes 1000000 in
     let t = declaration_lines 0 (lane_timers lanes) in
     let rounds = flat_map (four_turns seed lanes count) (range_with_len 0 ((count + 3) / 4)) in
     let r = flat_map round_lines rounds in
@@ -169,13 +173,13 @@ generated_lines seed lanes count =
 
 -- the bytes of a script that is written part after part
 pub script_from_parts : (seed lanes count : ℕ) (start a b c d e bytes : List ℕ) → start ≡ []
-    → a ≡ start ++ lines_bytes (header_lines lanes lanes 1000000)
+    → a ≡ start ++ lines_bytes (header_lines versions.One lanes lanes 1000000)
     → b ≡ a ++ lines_bytes (declaration_lines 0 (lane_timers lanes))
     → c ≡ b ++ lines_bytes (flat_map round_lines (flat_map (four_turns seed lanes count) (range_with_len 0 ((count + 3) / 4))))
     → d ≡ c ++ lines_bytes (round_lines clock_round) → e ≡ d ++ lines_bytes (round_lines (expiry_round lanes)) → bytes ≡ e
     → bytes ≡ script_bytes (generated seed lanes count)
 script_from_parts seed lanes count start a b c d e bytes empty one two three four five all =
-    let h = header_lines lanes lanes 1000000 in
+    let h = header_lines versions.One lanes lanes 1000000 in
     let t = declaration_lines 0 (lane_timers lanes) in
     let r = flat_map round_lines (flat_map (four_turns seed lanes count) (range_with_len 0 ((count + 3) / 4))) in
     let k = round_lines clock_round in

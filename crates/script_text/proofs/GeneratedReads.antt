@@ -1,11 +1,13 @@
 -- A generated script keeps to the limits of scripts, and is read from its bytes.
-use Rattle.std.proofs.Common.{◌≡◌, ℕ, ◌+◌, ◌-◌, ◌*◌, ◌/◌, ◌<◌, ◌≤◌, ◌^◌, min, List, [], ◌∷◌, length, refl, ap, arith, length-append}
+use Rattle.std.proofs.Common.{◌≡◌, ℕ, ◌+◌, ◌-◌, ◌*◌, ◌/◌, ◌<◌, ◌≤◌, ◌^◌, min, true, List, [], ◌∷◌, length, refl, ap, arith, length-append}
 use Rattle.std.specs.Fmt.{decimal}
 use Rattle.std.proofs.lemmas.Fmt.{length-decimal-le}
 use Rattle.std.specs.List.{AllByRecursion, flat_map, range_with_len}
 use Rattle.std.proofs.lemmas.List.{length-map}
 use Rattle.std.proofs.lemmas.List.Concat.{flat_map-append}
 use Rattle.std.proofs.lemmas.List.FromFn.{length-range_with_len}
+use Rattle.seq_timer.specs.declared.context.Context.TheVariants as contexts
+use Rattle.record_text.specs.declared.version.Version.TheVariants as versions
 use Rattle.script_text.specs.declared.form.Form.{Form}
 use Rattle.script_text.specs.declared.form.Form.TheVariants as forms
 use Rattle.script_text.specs.declared.form.Line.{Line}
@@ -16,7 +18,7 @@ use Rattle.script_text.specs.declared.script.Kind.TheVariants as kinds
 use Rattle.script_text.specs.declared.script.Declaration.{Declaration}
 use Rattle.script_text.specs.declared.script.LaneCall.{LaneCall}
 use Rattle.script_text.specs.declared.script.Round.{Round}
-use Rattle.script_text.specs.Forms.{row}
+use Rattle.script_text.specs.Forms.{has_form, row}
 use Rattle.script_text.specs.Generator.{clock_round, expiry_round, four_turns, generated, lane_timers, number_after, script_bytes, timers_of_lane, turns}
 use Rattle.script_text.specs.Grammar.{IsLine, fill_form, spelled}
 use Rattle.script_text.specs.Scripts.{IsCallInRange, IsInRange, IsKindInRange, Reads, all_calls, call_line, declaration_line, declaration_lines, most_calls, of_numbers, round_lines, script_lines}
@@ -42,26 +44,30 @@ length-declarations n (d ∷ ds) = omega (arith, length-declarations (n + 1) ds)
 
 plain_timers : (lanes : ℕ) → AllByRecursion IsPlainDeclaration (lane_timers lanes)
 plain_timers lanes =
-    let every : IsPlainDeclaration (record { clock = clocks.Monotonic; kind = kinds.Raw (callbacks.Every 100) }) = λ n small. (
+    let every : IsPlainDeclaration (record { clock = clocks.Monotonic; kind = kinds.Raw contexts.Hard (callbacks.Every 100) }) = λ n small. (
       (omega arith, (tt, (omega arith, tt))),
-      short_words (declaration_line n clocks.Monotonic (kinds.Raw (callbacks.Every 100)))
+      short_words (declaration_line n clocks.Monotonic (kinds.Raw contexts.Hard (callbacks.Every 100)))
           (omega (arith, two_digits n (omega arith), length-decimal-le 3 100 (omega arith) (omega arith) (omega arith))),
+      refl,
     ) in
-    let once : IsPlainDeclaration (record { clock = clocks.Monotonic; kind = kinds.Raw callbacks.Once }) = λ n small. (
+    let once : IsPlainDeclaration (record { clock = clocks.Monotonic; kind = kinds.Raw contexts.Hard callbacks.Once }) = λ n small. (
       (omega arith, (tt, tt)),
-      short_words (declaration_line n clocks.Monotonic (kinds.Raw callbacks.Once))
+      short_words (declaration_line n clocks.Monotonic (kinds.Raw contexts.Hard callbacks.Once))
           (omega (arith, two_digits n (omega arith))),
+      refl,
     ) in
     All-flat_map IsPlainDeclaration timers_of_lane (range_with_len 0 lanes) (All-range _ 0 lanes (λ k small. (every, (once, tt))))
 
 short_header : (form : Form) (k n : ℕ) → IsLine (of_numbers form (n ∷ [])) → 0 < k → n < 10 ^ k → n < 2 ^ 64
-    → (length (decimal n) ≤ k → with_spaces (fill_form (row form) (values.Number n ∷ [])) ≤ 28) → IsShortLine (of_numbers form (n ∷ []))
-short_header form k n line some small fits few = (line, short_words (of_numbers form (n ∷ [])) (few (length-decimal-le k n some small fits)))
+    → (length (decimal n) ≤ k → with_spaces (fill_form (row form) (values.Number n ∷ [])) ≤ 28) → has_form versions.One form ≡ true
+    → IsShortLine (of_numbers form (n ∷ []))
+short_header form k n line some small fits few has =
+    (line, short_words (of_numbers form (n ∷ [])) (few (length-decimal-le k n some small fits)), has)
 
 module _ (lanes : ℕ) (some : 1 ≤ lanes) (few : lanes ≤ 8) where
   short_round : (r : Round) → IsPlainRound lanes r → AllByRecursion IsShortLine (round_lines r)
   short_round r h = (
-    (tt, short_words (of_numbers forms.Round []) (omega arith)),
+    (tt, short_words (of_numbers forms.Round []) (omega arith), refl),
     All-map IsShortLine (λ c. call_line c.lane c.call) r.calls
         (All-weaker (IsPlainCall lanes) (λ c. IsShortLine (call_line c.lane c.call)) (λ c p. p.line) r.calls h),
   )
@@ -74,12 +80,12 @@ module _ (lanes : ℕ) (some : 1 ≤ lanes) (few : lanes ≤ 8) where
       (All-weaker (IsPlainRound lanes) (λ r. AllByRecursion IsShortLine (round_lines r)) short_round rounds
       (plain_rounds lanes some few seed count)) in
       let rest = All-append IsShortLine (declaration_lines 0 (lane_timers lanes)) (flat_map round_lines rounds) timers others in (
-        short_header forms.Version 1 1 (omega arith, tt) (omega arith) (omega arith) (omega arith) (λ h. omega (arith, h)),
+        short_header forms.Version 1 1 (omega arith, tt) (omega arith) (omega arith) (omega arith) (λ h. omega (arith, h)) refl,
         (
-          short_header forms.Bases 1 lanes (omega arith, tt) (omega arith) (omega arith) (omega arith) (λ h. omega (arith, h)),
+          short_header forms.Bases 1 lanes (omega arith, tt) (omega arith) (omega arith) (omega arith) (λ h. omega (arith, h)) refl,
           (
-            short_header forms.Lanes 1 lanes (omega arith, tt) (omega arith) (omega arith) (omega arith) (λ h. omega (arith, h)),
-            (short_header forms.Limit 7 1000000 (omega arith, tt) (omega arith) (omega arith) (omega arith) (λ h. omega (arith, h)), rest),
+            short_header forms.Lanes 1 lanes (omega arith, tt) (omega arith) (omega arith) (omega arith) (λ h. omega (arith, h)) refl,
+            (short_header forms.Limit 7 1000000 (omega arith, tt) (omega arith) (omega arith) (omega arith) (λ h. omega (arith, h)) refl, rest),
           ),
         ),
       )
@@ -138,7 +144,10 @@ module _ (lanes : ℕ) (some : 1 ≤ lanes) (few : lanes ≤ 8) where
         lanes = (some, omega (arith, few));
         limit = (omega arith, omega arith);
         timers = omega (arith, length-lane_timers lanes 0);
-        kinds = All-flat_map (λ d. IsKindInRange lanes d.kind) timers_of_lane (range_with_len 0 lanes) (All-range _ 0 lanes (λ k small. (tt, (tt, tt))));
+        forms = All-weaker IsShortLine (λ l. has_form versions.One l.form ≡ true) (λ l p. p.2) (script_lines (generated seed lanes count))
+            (short_lines seed count);
+        kinds = All-flat_map (λ d. IsKindInRange lanes d.kind) timers_of_lane (range_with_len 0 lanes)
+            (All-range _ 0 lanes (λ k small. (tt, (tt, tt))));
         count = few_calls seed count turned;
         callers = All-weaker (IsPlainCall lanes) (λ c. c.lane < lanes) (λ c p. p.lane) all plain;
         calls = All-weaker (IsPlainCall lanes) (λ c. IsCallInRange lanes (lane_timers lanes) c.call) (λ c p. p.call) all plain;

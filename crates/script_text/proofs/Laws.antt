@@ -6,6 +6,7 @@ use Rattle.script_text.specs.declared.form.Line.{Line}
 use Rattle.script_text.specs.declared.reading.drafts.Draft.{Draft}
 use Rattle.script_text.specs.declared.refusal.Refused.{Refused}
 use Rattle.script_text.specs.declared.script.Script.{Script}
+use Rattle.script_text.specs.Forms.{has_form}
 use Rattle.script_text.specs.Grammar.{IsLine, spelled}
 use Rattle.script_text.specs.Scripts.{Reads, most_script_bytes, is_skipped, lines_of, script_lines}
 use Rattle.script_text.specs.Drafts.{empty, script_of, draft_with_line}
@@ -14,10 +15,10 @@ use Rattle.script_text.proofs.Lines.{line_again}
 use Rattle.script_text.proofs.Scripts.{kept, kept_skipped, kept_more, read_from}
 use Rattle.script_text.proofs.Steps.{Steps, script_steps}
 
-line_taken : (d : Draft) (part : List ℕ) (l : Line) → part ≡ spelled l → IsLine l → check_line d l ≡ None
+line_taken : (d : Draft) (part : List ℕ) (l : Line) → part ≡ spelled l → has_form d.version l.form ≡ true → IsLine l → check_line d l ≡ None
     → with_line_in d part ≡ Ok (draft_with_line d l)
 unfolding with_line_in
-line_taken d part l is line none = rw (is, line_again l line, none) refl
+line_taken d part l is form line none = rw (is, line_again d.version l form line, none) refl
 
 taken : (number : ℕ) (d e : Draft) (parts : List (List ℕ)) (ls : List Line) → kept parts ≡ map spelled ls → AllByRecursion IsLine ls → Steps d ls e
     → e.headers ≡ 4 → script_from number d parts ≡ Ok (script_of e)
@@ -37,7 +38,7 @@ taken number d e (part ∷ parts) ls spelling lines steps four =
         | l ∷ ls ↦ λ spelling lines steps.
             let first : part ≡ spelled l = cc in
             let others : kept parts ≡ map spelled ls = cc in
-            rw (line_taken d part l first lines.0 steps.0) (taken (number + 1) (draft_with_line d l) e parts ls others lines.1 steps.1 four)
+            rw (line_taken d part l first steps.0 lines.0 steps.1) (taken (number + 1) (draft_with_line d l) e parts ls others lines.1 steps.2 four)
       ]) (sym (kept_more part parts here) ∙ spelling) lines steps
     ] in
     go (is_skipped part) refl

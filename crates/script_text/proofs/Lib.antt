@@ -8,6 +8,7 @@ pub mod Lists
 pub mod Loop
 pub mod Meaning
 pub mod Finding
+pub mod VersionOne
 pub mod Numbers
 pub mod Fields
 pub mod Room

@@ -4,11 +4,13 @@ use Rattle.std.specs.List.{AllByRecursion, join_with_byte, list_all, list_any}
 use Rattle.std.proofs.lemmas.Bool.{and_parts, eq-eqb, eqb-true, ltb-true, ne_eqb, le-ltb}
 use Rattle.std.proofs.lemmas.List.Folds.{list_any-append}
 use Rattle.std.proofs.lemmas.List.Splits.{join_with_byte-slice_split}
+use Rattle.record_text.specs.declared.version.Version.{Version}
+use Rattle.record_text.specs.declared.version.Version.TheVariants as versions
 use Rattle.script_text.specs.declared.form.Form.{Form}
 use Rattle.script_text.specs.declared.form.Line.{Line}
 use Rattle.script_text.specs.declared.refusal.Cause.{Cause}
 use Rattle.script_text.specs.declared.refusal.Cause.TheVariants as causes
-use Rattle.script_text.specs.Forms.{row}
+use Rattle.script_text.specs.Forms.{has_form, row}
 use Rattle.script_text.specs.Grammar.{IsLine, fill_form, spelled}
 use Rattle.script_text.specs.Reading.{◌>>=◌, line_of_form, is_bad_byte, is_empty_word, line_in, values_in, words_in}
 use Rattle.script_text.specs.Scripts.{is_skipped}
@@ -73,7 +75,7 @@ kept ((b ∷ bs) ∷ w ∷ ws) h = ne_eqb b 35 (λ same. omega (arith, same, fir
 -- ---- a line
 
 line_words : (l : Line) → IsLine l → AreWords (fill_form (row l.form) l.values)
-line_words l h = row_words (row l.form) l.values h (form_again l.form).1
+line_words l h = row_words (row l.form) l.values h (form_again versions.One l.form).1
 
 -- a line that can be spelled isn't skipped
 pub spelled_kept : (l : Line) → IsLine l → is_skipped (spelled l) ≡ false
@@ -83,42 +85,47 @@ spelled_kept l h = kept (fill_form (row l.form) l.values) (line_words l h)
 pub spelled_good : (l : Line) → IsLine l → list_any is_bad_byte (spelled l) ≡ false
 spelled_good l h = good_bytes (fill_form (row l.form) l.values) (line_words l h).1
 
-pub line_again : (l : Line) → IsLine l → line_in (spelled l) ≡ Ok l
+pub line_again : (version : Version) (l : Line) → has_form version l.form ≡ true → IsLine l → line_in version (spelled l) ≡ Ok l
 unfolding line_of_form
-line_again l h =
+line_again version l has h =
     let words = fill_form (row l.form) l.values in
     let are = line_words l h in
-    let form = (form_again l.form).0 l.values h in
-    line_in-words (spelled l) words _ (sym (words_again words are)) (good_bytes words are.1) (no_empty_word words are.1) form
+    let form = (form_again version l.form).0 has l.values h in
+    line_in-words version (spelled l) words _ (sym (words_again words are)) (good_bytes words are.1) (no_empty_word words are.1) form
     ∙ rw (eq-eqb (length words) (length (row l.form)) (length-filled (row l.form) l.values h), values_again (row l.form) l.values h) refl
 
 unless_refused : (b : Bool) (cause : Cause) (r : Result Line Cause) (l : Line) → (if b then Err cause else r) ≡ Ok l → r ≡ Ok l
 unless_refused true cause r l e = absurd cc
 unless_refused false cause r l e = e
 
-filled_spells : (form : Form) (words : List (List ℕ)) (l : Line) → HasKeys (row form) words → line_of_form form words ≡ Ok l
-    → (words ≡ fill_form (row l.form) l.values) × IsLine l
+-- these words spell a line of a form that the version has
+abbrev Spells : Version → List (List ℕ) → Line → Type 0
+Spells version words l = (words ≡ fill_form (row l.form) l.values) × IsLine l × (has_form version l.form ≡ true)
+
+filled_spells : (version : Version) (form : Form) (words : List (List ℕ)) (l : Line) → HasKeys (row form) words → has_form version form ≡ true
+    → line_of_form form words ≡ Ok l → Spells version words l
 unfolding line_of_form
-filled_spells form words l keys e =
+filled_spells version form words l keys has e =
     let go : (b : Bool) → (length words == length (row form)) ≡ b
     → (if b then (values_in (row form) words >>= λ vs. Ok (record { form = form; values = vs })) else Err causes.WordCount) ≡ Ok l
-    → (words ≡ fill_form (row l.form) l.values) × IsLine l =
+    → Spells version words l =
     λ b. elim b as (λ b. (length words == length (row form)) ≡ b
     → (if b then (values_in (row form) words >>= λ vs. Ok (record { form = form; values = vs })) else Err causes.WordCount) ≡ Ok l
-    → (words ≡ fill_form (row l.form) l.values) × IsLine l) [
+    → Spells version words l) [
       | true ↦ λ is k.
           let vs = bind_ok _ _ l k in
           let s = values_spell (row form) words vs.0 (eqb-true _ _ is) keys vs.1 in
-          subst (λ l. (words ≡ fill_form (row l.form) l.values) × IsLine l) (same_Ok _ l vs.2) (s.0, s.1)
+          subst (λ l. Spells version words l) (same_Ok _ l vs.2) (s.0, s.1, has)
       | false ↦ λ is k. absurd cc
     ] in
     go (length words == length (row form)) refl e
 
-pub line_spells : (bytes : List ℕ) (l : Line) → line_in bytes ≡ Ok l → (bytes ≡ spelled l) × IsLine l
+pub line_spells : (version : Version) (bytes : List ℕ) (l : Line) → line_in version bytes ≡ Ok l
+    → (bytes ≡ spelled l) × IsLine l × (has_form version l.form ≡ true)
 unfolding line_in
-line_spells bytes l e =
+line_spells version bytes l e =
     let full = unless_refused (list_any is_bad_byte bytes) causes.BadByte _ l e in
     let form = bind_ok _ _ l (unless_refused (list_any is_empty_word (words_in bytes)) causes.BadSpace _ l full) in
-    let keys = form_spells (words_in bytes) form.0 form.1 in
-    let s = filled_spells form.0 (words_in bytes) l keys form.2 in
-    (sym (join_with_byte-slice_split 32 bytes) ∙ ap (λ (words : List (List ℕ)). join_with_byte 32 words) s.0, s.1)
+    let chosen = form_spells version (words_in bytes) form.0 form.1 in
+    let s = filled_spells version form.0 (words_in bytes) l chosen.0 chosen.1 form.2 in
+    (sym (join_with_byte-slice_split 32 bytes) ∙ ap (λ (words : List (List ℕ)). join_with_byte 32 words) s.0, s.1, s.2)

@@ -1,11 +1,14 @@
 -- A line that no cause refuses means a declaration or a call in range, whose line it is; and such a line is accepted.
-use Rattle.std.proofs.Common.{◌≡◌, ℕ, ◌<◌, Bool, true, false, List, [], ◌∷◌, length, Some, None, refl, subst, ◌&&◌}
+use Rattle.std.proofs.Common.{◌≡◌, ℕ, ◌<◌, Bool, true, false, List, [], ◌∷◌, length, Option, Some, None, refl, sym, subst, ◌∙◌, ◌&&◌}
 use Rattle.std.specs.Option.{option_or}
 use Rattle.std.proofs.lemmas.Bool.{and_from, ltb-true, lt-ltb, leb-true, le-leb, eqb-true, eq-eqb}
 use Rattle.ktime.specs.declared.clock_id.ClockId.{ClockId}
+use Rattle.ktime.specs.declared.mode.Mode.{Mode}
 use Rattle.ktime.specs.declared.mode.Mode.TheVariants as modes
 use Rattle.clock_model.specs.declared.write.Write.{Write}
 use Rattle.clock_model.specs.declared.write.Write.TheVariants as writes
+use Rattle.seq_timer.specs.declared.context.Context.{Context}
+use Rattle.seq_timer.specs.declared.context.Context.TheVariants as contexts
 use Rattle.script_text.specs.declared.form.Form.{Form}
 use Rattle.script_text.specs.declared.form.Form.TheVariants as forms
 use Rattle.script_text.specs.declared.form.Part.TheVariants as parts
@@ -20,9 +23,9 @@ use Rattle.script_text.specs.declared.script.Declaration.{Declaration}
 use Rattle.script_text.specs.declared.script.Kind.{Kind}
 use Rattle.script_text.specs.declared.script.Kind.TheVariants as kinds
 use Rattle.script_text.specs.declared.script.LaneCall.{LaneCall}
-use Rattle.script_text.specs.Forms.{Spot, Key, At, Sort, ClockName, ModeName, Numeral, sort, row, called, part}
+use Rattle.script_text.specs.Forms.{Spot, Key, At, Sort, ClockName, ModeName, Numeral, sort, row, called, part, suits}
 use Rattle.script_text.specs.Grammar.{IsOfSort, Fills}
-use Rattle.script_text.specs.Scripts.{most_budget, declaration_line, call_line, IsKindInRange, IsCallInRange, HasTimerFor}
+use Rattle.script_text.specs.Scripts.{most_budget, asking_line, declaration_line, call_line, IsGivenMode, IsKindInRange, IsCallInRange, HasTimerFor}
 use Rattle.script_text.specs.Drafts.{declaration_of, plain_call_of, object_call_of, call_of}
 use Rattle.script_text.specs.Refusals.{check_number, check_values, check_kind}
 use Rattle.script_text.proofs.Checks.{neither, holds}
@@ -80,18 +83,24 @@ pub declares : (d : Draft) (f : Form) (vs : List Value) → part f ≡ parts.Dec
 unfolding declaration_of check_values check_number
 declares d forms.RawOnce (values.Number i ∷ values.Clock c ∷ []) is fit e =
     let same = eqb-true i (length d.timers) (holds _ _ (neither _ _ e).0) in
-    (record { clock = c; kind = kinds.Raw callbacks.Once }, record { means = refl; line = rw same refl; range = tt })
+    (record { clock = c; kind = kinds.Raw contexts.Hard callbacks.Once }, record { means = refl; line = rw same refl; range = tt })
 declares d forms.RawEvery (values.Number i ∷ values.Clock c ∷ values.Number n ∷ []) is fit e =
     let same = eqb-true i (length d.timers) (holds _ _ (neither _ _ e).0) in
-    (record { clock = c; kind = kinds.Raw (callbacks.Every n) }, record { means = refl; line = rw same refl; range = tt })
+    (record { clock = c; kind = kinds.Raw contexts.Hard (callbacks.Every n) }, record { means = refl; line = rw same refl; range = tt })
 declares d forms.RawCancels (values.Number i ∷ values.Clock c ∷ []) is fit e =
     let same = eqb-true i (length d.timers) (holds _ _ (neither _ _ e).0) in
-    (record { clock = c; kind = kinds.Raw callbacks.Cancels }, record { means = refl; line = rw same refl; range = tt })
+    (record { clock = c; kind = kinds.Raw contexts.Hard callbacks.Cancels }, record { means = refl; line = rw same refl; range = tt })
 declares d forms.RawStarts (values.Number i ∷ values.Clock c ∷ values.Number n ∷ values.Number b ∷ []) is fit e =
     let first = neither _ _ e in
     let same = eqb-true i (length d.timers) (holds _ _ first.0) in
     let base = ltb-true b d.bases (holds _ _ (neither _ _ first.1).0) in
-    (record { clock = c; kind = kinds.Raw (callbacks.Starts n b) }, record { means = refl; line = rw same refl; range = base })
+    (record { clock = c; kind = kinds.Raw contexts.Hard (callbacks.Starts n b) }, record { means = refl; line = rw same refl; range = base })
+declares d forms.SoftOnce (values.Number i ∷ values.Clock c ∷ []) is fit e =
+    let same = eqb-true i (length d.timers) (holds _ _ (neither _ _ e).0) in
+    (record { clock = c; kind = kinds.Raw contexts.Soft callbacks.Once }, record { means = refl; line = rw same refl; range = tt })
+declares d forms.SoftEvery (values.Number i ∷ values.Clock c ∷ values.Number n ∷ []) is fit e =
+    let same = eqb-true i (length d.timers) (holds _ _ (neither _ _ e).0) in
+    (record { clock = c; kind = kinds.Raw contexts.Soft (callbacks.Every n) }, record { means = refl; line = rw same refl; range = tt })
 declares d forms.Posix (values.Number i ∷ values.Clock c ∷ values.Number b ∷ []) is fit e =
     let own = object_on d i b e in
     (record { clock = c; kind = kinds.Posix b }, record { means = refl; line = rw own.0 refl; range = own.1 })
@@ -111,14 +120,20 @@ pub declaration_again : (d : Draft) (clock : ClockId) (kind : Kind) → IsKindIn
     → IsDeclarationOf d (declaration_line (length d.timers) clock kind).form (declaration_line (length d.timers) clock kind).values
     (record { clock = clock; kind = kind })
 unfolding declaration_of check_values check_number check_kind
-declaration_again d clock (kinds.Raw callbacks.Once) range =
+declaration_again d clock (kinds.Raw contexts.Hard callbacks.Once) range =
     record { means = refl; part = refl; values = rw (eq-eqb (length d.timers) (length d.timers) refl) refl; kind = refl }
-declaration_again d clock (kinds.Raw (callbacks.Every n)) range =
+declaration_again d clock (kinds.Raw contexts.Hard (callbacks.Every n)) range =
     record { means = refl; part = refl; values = rw (eq-eqb (length d.timers) (length d.timers) refl) refl; kind = refl }
-declaration_again d clock (kinds.Raw callbacks.Cancels) range =
+declaration_again d clock (kinds.Raw contexts.Hard callbacks.Cancels) range =
     record { means = refl; part = refl; values = rw (eq-eqb (length d.timers) (length d.timers) refl) refl; kind = refl }
-declaration_again d clock (kinds.Raw (callbacks.Starts n b)) range =
+declaration_again d clock (kinds.Raw contexts.Hard (callbacks.Starts n b)) range =
     record { means = refl; part = refl; values = rw (eq-eqb (length d.timers) (length d.timers) refl, lt-ltb b d.bases range) refl; kind = refl }
+declaration_again d clock (kinds.Raw contexts.Soft callbacks.Once) range =
+    record { means = refl; part = refl; values = rw (eq-eqb (length d.timers) (length d.timers) refl) refl; kind = refl }
+declaration_again d clock (kinds.Raw contexts.Soft (callbacks.Every n)) range =
+    record { means = refl; part = refl; values = rw (eq-eqb (length d.timers) (length d.timers) refl) refl; kind = refl }
+declaration_again d clock (kinds.Raw contexts.Soft callbacks.Cancels) range = absurd range
+declaration_again d clock (kinds.Raw contexts.Soft (callbacks.Starts n b)) range = absurd range
 declaration_again d clock (kinds.Posix base) range =
     record { means = refl; part = refl; values = rw (eq-eqb (length d.timers) (length d.timers) refl, lt-ltb base d.bases range) refl; kind = refl }
 declaration_again d clock (kinds.Fd base) range =
@@ -187,36 +202,72 @@ clock_call d f name k n write means line is none =
     let lane = neither _ _ (subst (λ spots. check_values d spots (values.Number k ∷ values.Number n ∷ []) ≡ None) is none) in
     (record { lane = k; call = calls.Clock write }, record { means = means; line = line; lane = ltb-true k d.lanes (holds _ _ lane.0); range = tt })
 
+-- an expiry: behind its lane stand the base and the budget
+expire_call : (d : Draft) (f : Form) (name : List ℕ) (k b n : ℕ) (context : Context)
+    → call_of f (values.Number k ∷ values.Number b ∷ values.Number n ∷ []) ≡ Some (record { lane = k; call = calls.Expire context b n })
+    → record { form = f; values = values.Number k ∷ values.Number b ∷ values.Number n ∷ [] } ≡ call_line k (calls.Expire context b n)
+    → row f ≡ called name (At fields.Base ∷ At fields.Budget ∷ [])
+    → check_values d (row f) (values.Number k ∷ values.Number b ∷ values.Number n ∷ []) ≡ None
+    → (c : LaneCall) × Calls d f (values.Number k ∷ values.Number b ∷ values.Number n ∷ []) c
+unfolding check_values check_number
+expire_call d f name k b n context means line is none =
+    let lane = neither _ _ (subst (λ spots. check_values d spots (values.Number k ∷ values.Number b ∷ values.Number n ∷ []) ≡ None) is none) in
+    let base = neither _ _ lane.1 in
+    let budget = neither _ _ base.1 in (
+      record { lane = k; call = calls.Expire context b n },
+      record {
+        means = means;
+        line = line;
+        lane = ltb-true k d.lanes (holds _ _ lane.0);
+        range = (ltb-true b d.bases (holds _ _ base.0), leb-true n most_budget (holds _ _ budget.0));
+      },
+    )
+
+-- the same timers can be started with a slack and without
+suits_range : (kind : Kind) → suits forms.StartRange kind ≡ suits forms.Start kind
+suits_range (kinds.Raw context callback) = refl
+suits_range (kinds.Posix base) = refl
+suits_range (kinds.Fd base) = refl
+
+as_start : (timers : List Declaration) (i : ℕ) → HasTimerFor timers i forms.StartRange → HasTimerFor timers i forms.Start
+as_start timers i suit = (suit.0, sym (suits_range _) ∙ suit.1)
+
+as_range : (timers : List Declaration) (i : ℕ) → HasTimerFor timers i forms.Start → HasTimerFor timers i forms.StartRange
+as_range timers i suit = (suit.0, suits_range _ ∙ suit.1)
+
 pub calls_for : (d : Draft) (f : Form) (vs : List Value) → part f ≡ parts.Call → fits (row f) vs ≡ true → check_values d (row f) vs ≡ None
     → check_kind d f (row f) vs ≡ None
     → (c : LaneCall) × Calls d f vs c
 unfolding call_of plain_call_of object_call_of check_values check_number check_kind
-calls_for d forms.Start (values.Number k ∷ values.Number i ∷ values.Mode modes.Rel ∷ values.Number n ∷ values.Number b ∷ []) is fit e kind =
-    timer_call d forms.Start _ _ k i _ (calls.Start i modes.Rel n b) refl refl refl
-    (λ none suit. (suit, ltb-true b d.bases (holds _ _ (neither _ _ none).0))) e kind
-calls_for d forms.Start (values.Number k ∷ values.Number i ∷ values.Mode modes.Abs ∷ values.Number n ∷ values.Number b ∷ []) is fit e kind =
-    timer_call d forms.Start _ _ k i _ (calls.Start i modes.Abs n b) refl refl refl
-    (λ none suit. (suit, ltb-true b d.bases (holds _ _ (neither _ _ none).0))) e kind
+calls_for d forms.Start
+    (values.Number k ∷ values.Number i ∷ values.Mode modes.Rel ∷ values.Number n ∷ values.Number b ∷ []) is fit e kind =
+    timer_call d forms.Start _ _ k i _ (calls.Start i (record { mode = modes.Rel; ns = n; slack = None; base = b })) refl refl refl
+    (λ none suit. (suit, ltb-true b d.bases (holds _ _ (neither _ _ none).0), tt)) e kind
+calls_for d forms.Start
+    (values.Number k ∷ values.Number i ∷ values.Mode modes.Abs ∷ values.Number n ∷ values.Number b ∷ []) is fit e kind =
+    timer_call d forms.Start _ _ k i _ (calls.Start i (record { mode = modes.Abs; ns = n; slack = None; base = b })) refl refl refl
+    (λ none suit. (suit, ltb-true b d.bases (holds _ _ (neither _ _ none).0), tt)) e kind
+calls_for d forms.StartRange
+    (values.Number k ∷ values.Number i ∷ values.Mode modes.Rel ∷ values.Number n ∷ values.Number s ∷ values.Number b ∷ []) is fit e kind =
+    timer_call d forms.StartRange _ _ k i _ (calls.Start i (record { mode = modes.Rel; ns = n; slack = Some s; base = b })) refl refl refl
+    (λ none suit. (as_start d.timers i suit, ltb-true b d.bases (holds _ _ (neither _ _ none).0), tt)) e kind
+calls_for d forms.StartRange
+    (values.Number k ∷ values.Number i ∷ values.Mode modes.Abs ∷ values.Number n ∷ values.Number s ∷ values.Number b ∷ []) is fit e kind =
+    timer_call d forms.StartRange _ _ k i _ (calls.Start i (record { mode = modes.Abs; ns = n; slack = Some s; base = b })) refl refl refl
+    (λ none suit. (as_start d.timers i suit, ltb-true b d.bases (holds _ _ (neither _ _ none).0), tt)) e kind
 calls_for d forms.Cancel (values.Number k ∷ values.Number i ∷ []) is fit e kind =
     timer_call d forms.Cancel _ _ k i _ (calls.Cancel i) refl refl refl (λ none suit. suit) e kind
 calls_for d forms.Peek (values.Number k ∷ values.Number i ∷ []) is fit e kind =
     timer_call d forms.Peek _ _ k i _ (calls.Peek i) refl refl refl (λ none suit. suit) e kind
 calls_for d forms.Expire (values.Number k ∷ values.Number b ∷ values.Number n ∷ []) is fit e kind =
-    let lane = neither _ _ e in
-    let base = neither _ _ lane.1 in
-    let budget = neither _ _ base.1 in (
-      record { lane = k; call = calls.Expire b n },
-      record {
-        means = refl;
-        line = refl;
-        lane =
-            ltb-true k d.lanes (holds _ _ lane.0);
-        range = (ltb-true b d.bases (holds _ _ base.0), leb-true n most_budget (holds _ _ budget.0));
-      },
-    )
-calls_for d forms.Advance (values.Number k ∷ values.Number n ∷ []) is fit e kind = clock_call d forms.Advance _ k n (writes.Advance n) refl refl refl e
+    expire_call d forms.Expire _ k b n contexts.Hard refl refl refl e
+calls_for d forms.SoftExpire (values.Number k ∷ values.Number b ∷ values.Number n ∷ []) is fit e kind =
+    expire_call d forms.SoftExpire _ k b n contexts.Soft refl refl refl e
+calls_for d forms.Advance (values.Number k ∷ values.Number n ∷ []) is fit e kind = clock_call d forms.Advance _ k n
+    (writes.Advance n) refl refl refl e
 calls_for d forms.Set (values.Number k ∷ values.Number n ∷ []) is fit e kind = clock_call d forms.Set _ k n (writes.Set n) refl refl refl e
-calls_for d forms.Suspend (values.Number k ∷ values.Number n ∷ []) is fit e kind = clock_call d forms.Suspend _ k n (writes.Suspend n) refl refl refl e
+calls_for d forms.Suspend (values.Number k ∷ values.Number n ∷ []) is fit e kind = clock_call d forms.Suspend _ k n
+    (writes.Suspend n) refl refl refl e
 calls_for d forms.Settime
     (values.Number k ∷ values.Number i ∷ values.Number f ∷ values.Number vs ∷ values.Number vn ∷ values.Number is ∷ values.Number in_ ∷
     []) call fit e kind =
@@ -234,19 +285,40 @@ calls_for d forms.Readable (values.Number k ∷ values.Number i ∷ []) is fit e
     timer_call d forms.Readable _ _ k i _ (calls.Readable i) refl refl refl (λ none suit. suit) e kind
 calls_for d _ _ is fit e kind = absurd cc
 
+start_again : (d : Draft) (lane timer : ℕ) (mode : Mode) (ns base : ℕ) (slack : Option ℕ) → lane < d.lanes
+    → HasTimerFor d.timers timer forms.Start × (base < d.bases) × IsGivenMode mode
+    → IsCallOf d (asking_line lane timer mode ns base slack).form (asking_line lane timer mode ns base slack).values
+    (record { lane = lane; call = calls.Start timer (record { mode = mode; ns = ns; slack = slack; base = base }) })
+unfolding call_of plain_call_of object_call_of check_values check_number check_kind
+start_again d lane timer modes.Rel ns base None own range =
+    timer_call_again d forms.Start _ _ lane timer _ (calls.Start timer (record { mode = modes.Rel; ns = ns; slack = None; base = base })) refl refl
+    refl own range.0 (rw (lt-ltb base d.bases range.1) refl)
+start_again d lane timer modes.Abs ns base None own range =
+    timer_call_again d forms.Start _ _ lane timer _ (calls.Start timer (record { mode = modes.Abs; ns = ns; slack = None; base = base })) refl refl
+    refl own range.0 (rw (lt-ltb base d.bases range.1) refl)
+start_again d lane timer modes.Rel ns base (Some slack) own range =
+    timer_call_again d forms.StartRange _ _ lane timer _
+    (calls.Start timer (record { mode = modes.Rel; ns = ns; slack = Some slack; base = base })) refl refl
+    refl own (as_range d.timers timer range.0) (rw (lt-ltb base d.bases range.1) refl)
+start_again d lane timer modes.Abs ns base (Some slack) own range =
+    timer_call_again d forms.StartRange _ _ lane timer _
+    (calls.Start timer (record { mode = modes.Abs; ns = ns; slack = Some slack; base = base })) refl refl
+    refl own (as_range d.timers timer range.0) (rw (lt-ltb base d.bases range.1) refl)
+start_again d lane timer modes.Keep ns base slack own range = absurd range.2
+
 pub call_again : (d : Draft) (lane : ℕ) (call : Call) → lane < d.lanes → IsCallInRange d.bases d.timers call
     → IsCallOf d (call_line lane call).form (call_line lane call).values (record { lane = lane; call = call })
 unfolding call_of plain_call_of object_call_of check_values check_number check_kind
-call_again d lane (calls.Start timer modes.Rel ns base) own range =
-    timer_call_again d forms.Start _ _ lane timer _ (calls.Start timer modes.Rel ns base) refl refl refl own range.0
-    (rw (lt-ltb base d.bases range.1) refl)
-call_again d lane (calls.Start timer modes.Abs ns base) own range =
-    timer_call_again d forms.Start _ _ lane timer _ (calls.Start timer modes.Abs ns base) refl refl refl own range.0
-    (rw (lt-ltb base d.bases range.1) refl)
-call_again d lane (calls.Start timer modes.Keep ns base) own range = absurd range
+call_again d lane (calls.Start timer request) own range = start_again d lane timer request.mode request.ns request.base request.slack own range
 call_again d lane (calls.Cancel timer) own range = timer_call_again d forms.Cancel _ _ lane timer _ (calls.Cancel timer) refl refl refl own range refl
 call_again d lane (calls.Peek timer) own range = timer_call_again d forms.Peek _ _ lane timer _ (calls.Peek timer) refl refl refl own range refl
-call_again d lane (calls.Expire base budget) own range = record {
+call_again d lane (calls.Expire contexts.Hard base budget) own range = record {
+  means = refl;
+  part = refl;
+  values = rw (lt-ltb lane d.lanes own, lt-ltb base d.bases range.0, le-leb budget most_budget range.1) refl;
+  kind = refl;
+}
+call_again d lane (calls.Expire contexts.Soft base budget) own range = record {
   means = refl;
   part = refl;
   values = rw (lt-ltb lane d.lanes own, lt-ltb base d.bases range.0, le-leb budget most_budget range.1) refl;

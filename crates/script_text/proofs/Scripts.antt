@@ -9,6 +9,7 @@ use Rattle.script_text.specs.declared.refusal.Cause.{Cause}
 use Rattle.script_text.specs.declared.refusal.Cause.TheVariants as causes
 use Rattle.script_text.specs.declared.refusal.Refused.{Refused}
 use Rattle.script_text.specs.declared.script.Script.{Script}
+use Rattle.script_text.specs.Forms.{has_form}
 use Rattle.script_text.specs.Grammar.{IsLine, spelled}
 use Rattle.script_text.specs.Reading.{◌>>=◌, line_in}
 use Rattle.script_text.specs.Scripts.{Reads, most_script_bytes, is_skipped, lines_of, script_lines, IsInRange}
@@ -29,6 +30,7 @@ pub record Tells (ls : List Line) (parts : List (List ℕ)) (s : Script) (ms : L
 record IsRead (d : Draft) (part : List ℕ) (e : Draft) (l : Line) : Type 0 where
   spelling : part ≡ spelled l
   line : IsLine l
+  form : has_form d.version l.form ≡ true
   none : check_line d l ≡ None
   told : draft_with_line d l ≡ e
 
@@ -39,17 +41,17 @@ unless_refused_is d e x (Some cause) is = absurd cc
 line_read : (d : Draft) (part : List ℕ) (e : Draft) → with_line_in d part ≡ Ok e → (l : Line) × IsRead d part e l
 unfolding with_line_in
 line_read d part e is =
-    let go : (r : Result Line Cause) → line_in part ≡ r → (r >>= λ l. unless_refused (check_line d l) (draft_with_line d l)) ≡ Ok e
+    let go : (r : Result Line Cause) → line_in d.version part ≡ r → (r >>= λ l. unless_refused (check_line d l) (draft_with_line d l)) ≡ Ok e
     → (l : Line) × IsRead d part e l =
-    λ r. elim r as (λ r. line_in part ≡ r → (r >>= λ l. unless_refused (check_line d l) (draft_with_line d l)) ≡ Ok e
+    λ r. elim r as (λ r. line_in d.version part ≡ r → (r >>= λ l. unless_refused (check_line d l) (draft_with_line d l)) ≡ Ok e
     → (l : Line) × IsRead d part e l) [
       | Ok l ↦ λ read is.
-          let spells = line_spells part l read in
+          let spells = line_spells d.version part l read in
           let both = unless_refused_is d e (draft_with_line d l) (check_line d l) is in
-          (l, record { spelling = spells.0; line = spells.1; none = both.0; told = both.1 })
+          (l, record { spelling = spells.0; line = spells.1; form = spells.2; none = both.0; told = both.1 })
       | Err cause ↦ λ read is. absurd cc
     ] in
-    go (line_in part) refl is
+    go (line_in d.version part) refl is
 
 behind_is : (number : ℕ) (r : Result Draft Cause) (next : Draft → Result Script Refused) (s : Script) → continue_after number r next ≡ Ok s
     → (e : Draft) × (r ≡ Ok e) × (next e ≡ Ok s)
@@ -122,7 +124,7 @@ tells number d (part ∷ parts) ls s told lines is =
           let now = behind_is number (with_line_in d part) _ s is in
           let l = line_read d part now.0 now.1 in
           let told : DraftOf now.0 (ls ++ l.0 ∷ []) =
-          subst (λ e. DraftOf e (ls ++ l.0 ∷ [])) l.1.told (draft_of_line d ls l.0 told l.1.line l.1.none) in
+          subst (λ e. DraftOf e (ls ++ l.0 ∷ [])) l.1.told (draft_of_line d ls l.0 told l.1.form l.1.line l.1.none) in
           let more = tells (number + 1) now.0 parts (ls ++ l.0 ∷ []) s told (All-append IsLine ls (l.0 ∷ []) lines (l.1.line, tt)) now.2 in
           (l.0 ∷ more.0, goes_on d now.0 part parts ls l.0 s more.0 here l.1 more.1)
     ] in

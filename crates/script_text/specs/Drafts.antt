@@ -1,7 +1,10 @@
 -- A script as its lines are read one after the other: what they have told so far, and what a line adds.
-use Rattle.std.specs.Prelude.{ℕ, ◌+◌, ◌^◌, ◌<◌, ◌≤◌, length, List, [], ◌∷◌, ◌++◌, Option, Some, None, option_map}
+use Rattle.std.specs.Prelude.{ℕ, ◌≡◌, ◌+◌, ◌^◌, ◌<◌, ◌≤◌, length, List, [], ◌∷◌, ◌++◌, Option, Some, None, option_map, nat_eq, if◌then◌else◌}
 use Rattle.std.specs.Option.{option_or}
 use Rattle.clock_model.specs.declared.write.Write.TheVariants as writes
+use Rattle.seq_timer.specs.declared.context.Context.TheVariants as contexts
+use Rattle.record_text.specs.declared.version.Version.{Version}
+use Rattle.record_text.specs.declared.version.Version.TheVariants as versions
 use Rattle.script_text.specs.declared.reading.drafts.Draft.{Draft}
 use Rattle.script_text.specs.declared.form.Form.{Form}
 use Rattle.script_text.specs.declared.form.Form.TheVariants as forms
@@ -25,7 +28,7 @@ use Rattle.script_text.specs.Scripts.{most_bases, most_lanes, most_timers, most_
 
 -- before the first line
 abbrev pub empty : Draft
-empty = record { headers = 0; bases = 0; lanes = 0; limit = 0; timers = []; ended = []; begun = None; calls = 0 }
+empty = record { headers = 0; version = versions.One; bases = 0; lanes = 0; limit = 0; timers = []; ended = []; begun = None; calls = 0 }
 
 -- the round that has begun, where one has
 abbrev pub last_round : Option (List LaneCall) → List Round
@@ -34,18 +37,24 @@ last_round (Some cs) = record { calls = cs } ∷ []
 
 -- the script that the lines make
 abbrev pub script_of : Draft → Script
-script_of d = record { bases = d.bases; lanes = d.lanes; limit = d.limit; timers = d.timers; rounds = d.ended ++ last_round d.begun }
+script_of d =
+    record { version = d.version; bases = d.bases; lanes = d.lanes; limit = d.limit; timers = d.timers; rounds = d.ended ++ last_round d.begun }
 
 -- ---- what a line means
 
 -- what a declaration declares, by its form and values
 unfoldable pub declaration_of : Form → List Value → Option Declaration
-declaration_of forms.RawOnce (values.Number i ∷ values.Clock c ∷ []) = Some (record { clock = c; kind = kinds.Raw callbacks.Once })
+declaration_of forms.RawOnce (values.Number i ∷ values.Clock c ∷ []) = Some (record { clock = c; kind = kinds.Raw contexts.Hard callbacks.Once })
 declaration_of forms.RawEvery (values.Number i ∷ values.Clock c ∷ values.Number n ∷ []) =
-    Some (record { clock = c; kind = kinds.Raw (callbacks.Every n) })
-declaration_of forms.RawCancels (values.Number i ∷ values.Clock c ∷ []) = Some (record { clock = c; kind = kinds.Raw callbacks.Cancels })
+    Some (record { clock = c; kind = kinds.Raw contexts.Hard (callbacks.Every n) })
+declaration_of forms.RawCancels (values.Number i ∷ values.Clock c ∷ []) =
+    Some
+    (record { clock = c; kind = kinds.Raw contexts.Hard callbacks.Cancels })
 declaration_of forms.RawStarts (values.Number i ∷ values.Clock c ∷ values.Number n ∷ values.Number b ∷ []) =
-    Some (record { clock = c; kind = kinds.Raw (callbacks.Starts n b) })
+    Some (record { clock = c; kind = kinds.Raw contexts.Hard (callbacks.Starts n b) })
+declaration_of forms.SoftOnce (values.Number i ∷ values.Clock c ∷ []) = Some (record { clock = c; kind = kinds.Raw contexts.Soft callbacks.Once })
+declaration_of forms.SoftEvery (values.Number i ∷ values.Clock c ∷ values.Number n ∷ []) =
+    Some (record { clock = c; kind = kinds.Raw contexts.Soft (callbacks.Every n) })
 declaration_of forms.Posix (values.Number i ∷ values.Clock c ∷ values.Number b ∷ []) = Some (record { clock = c; kind = kinds.Posix b })
 declaration_of forms.Fd (values.Number i ∷ values.Clock c ∷ values.Number b ∷ []) = Some (record { clock = c; kind = kinds.Fd b })
 declaration_of form vs = None
@@ -63,10 +72,15 @@ timer_call_of form i = None
 -- the call of a raw timer, of a base or of the clock that a line asks for, and its lane, by its form and values
 unfoldable pub plain_call_of : Form → List Value → Option LaneCall
 plain_call_of forms.Start (values.Number k ∷ values.Number i ∷ values.Mode m ∷ values.Number n ∷ values.Number b ∷ []) =
-    Some (record { lane = k; call = calls.Start i m n b })
+    Some (record { lane = k; call = calls.Start i (record { mode = m; ns = n; slack = None; base = b }) })
+plain_call_of forms.StartRange (values.Number k ∷ values.Number i ∷ values.Mode m ∷ values.Number n ∷ values.Number s ∷ values.Number b ∷ []) =
+    Some (record { lane = k; call = calls.Start i (record { mode = m; ns = n; slack = Some s; base = b }) })
 plain_call_of forms.Cancel (values.Number k ∷ values.Number i ∷ []) = Some (record { lane = k; call = calls.Cancel i })
 plain_call_of forms.Peek (values.Number k ∷ values.Number i ∷ []) = Some (record { lane = k; call = calls.Peek i })
-plain_call_of forms.Expire (values.Number k ∷ values.Number b ∷ values.Number n ∷ []) = Some (record { lane = k; call = calls.Expire b n })
+plain_call_of forms.Expire (values.Number k ∷ values.Number b ∷ values.Number n ∷ []) =
+    Some (record { lane = k; call = calls.Expire contexts.Hard b n })
+plain_call_of forms.SoftExpire (values.Number k ∷ values.Number b ∷ values.Number n ∷ []) =
+    Some (record { lane = k; call = calls.Expire contexts.Soft b n })
 plain_call_of forms.Advance (values.Number k ∷ values.Number n ∷ []) = Some (record { lane = k; call = calls.Clock (writes.Advance n) })
 plain_call_of forms.Set (values.Number k ∷ values.Number n ∷ []) = Some (record { lane = k; call = calls.Clock (writes.Set n) })
 plain_call_of forms.Suspend (values.Number k ∷ values.Number n ∷ []) = Some (record { lane = k; call = calls.Clock (writes.Suspend n) })
@@ -88,8 +102,13 @@ object_call_of form vs = None
 unfoldable pub call_of : Form → List Value → Option LaneCall
 call_of form vs = option_or (plain_call_of form vs) (object_call_of form vs)
 
+-- the version of this number; the first where there is none
+abbrev pub version_numbered : ℕ → Version
+version_numbered n = if nat_eq n 2 then versions.Two else versions.One
+
 -- one more header line, with its number
 unfoldable pub with_header : Draft → Form → List Value → Draft
+with_header d forms.Version (values.Number n ∷ []) = record d { headers = d.headers + 1; version = version_numbered n }
 with_header d forms.Bases (values.Number n ∷ []) = record d { headers = d.headers + 1; bases = n }
 with_header d forms.Lanes (values.Number n ∷ []) = record d { headers = d.headers + 1; lanes = n }
 with_header d forms.Limit (values.Number n ∷ []) = record d { headers = d.headers + 1; limit = n }
@@ -122,12 +141,13 @@ draft_with_line d l = with_part d (part l.form) l.form l.values
 
 -- ---- room
 
--- the header lines are at most four, and there are no more bases, lanes, timers and calls than there may be
+-- the header lines are at most four, before them the version is the first, and there are no more bases, lanes, timers and calls than it allows
 pub record IsWithinLimits (d : Draft) : Type 0 where
+  pub first : d.headers ≡ 0 → d.version ≡ versions.One
   pub headers : d.headers ≤ 4
-  pub bases : d.bases ≤ most_bases
-  pub lanes : d.lanes ≤ most_lanes
-  pub timers : length d.timers ≤ most_timers
+  pub bases : d.bases ≤ most_bases d.version
+  pub lanes : d.lanes ≤ most_lanes d.version
+  pub timers : length d.timers ≤ most_timers d.version
   pub calls : d.calls ≤ most_calls
 
 -- the number of a timer, a base or a lane fits in 32 bits

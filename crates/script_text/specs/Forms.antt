@@ -1,6 +1,8 @@
--- The forms of line of a script, one row each of a table: key words and fields from left to right; the part of a script that
--- it belongs to; whether its call suits a timer of a kind.
+-- The forms of line of a script, one row each of a table: key words and fields from left to right; the first version that has it;
+-- the part of a script that it belongs to; whether its call suits a timer of a kind.
 use Rattle.std.specs.Prelude.{ℕ, Bool, true, false, List, [], ◌∷◌, Option, Some, None, codes}
+use Rattle.record_text.specs.declared.version.Version.{Version}
+use Rattle.record_text.specs.declared.version.Version.TheVariants as versions
 use Rattle.script_text.specs.declared.form.Form.{Form}
 use Rattle.script_text.specs.declared.form.Form.TheVariants as forms
 use Rattle.script_text.specs.declared.form.Field.{Field}
@@ -36,6 +38,10 @@ field_at (At field) = Some field
 abbrev pub raw : List ℕ → List Spot → List Spot
 raw callback more = Key (codes "raw") ∷ At fields.NewTimer ∷ At fields.Clock ∷ Key callback ∷ more
 
+-- the words of the declaration of a timer whose callback runs in the soft context
+abbrev pub soft : List ℕ → List Spot → List Spot
+soft callback more = Key (codes "soft") ∷ At fields.NewTimer ∷ At fields.Clock ∷ Key callback ∷ more
+
 -- the words of a call
 abbrev pub called : List ℕ → List Spot → List Spot
 called name more = At fields.Lane ∷ Key name ∷ more
@@ -50,13 +56,17 @@ row forms.RawOnce = raw (codes "once") []
 row forms.RawEvery = raw (codes "every") (At fields.Free ∷ [])
 row forms.RawCancels = raw (codes "cancels") []
 row forms.RawStarts = raw (codes "starts") (At fields.Free ∷ At fields.Base ∷ [])
+row forms.SoftOnce = soft (codes "once") []
+row forms.SoftEvery = soft (codes "every") (At fields.Free ∷ [])
 row forms.Posix = Key (codes "posix") ∷ At fields.NewTimer ∷ At fields.Clock ∷ At fields.Base ∷ []
 row forms.Fd = Key (codes "fd") ∷ At fields.NewTimer ∷ At fields.Clock ∷ At fields.Base ∷ []
 row forms.Round = Key (codes "round") ∷ []
 row forms.Start = called (codes "start") (At fields.Timer ∷ At fields.Mode ∷ At fields.Free ∷ At fields.Base ∷ [])
+row forms.StartRange = called (codes "startrange") (At fields.Timer ∷ At fields.Mode ∷ At fields.Free ∷ At fields.Free ∷ At fields.Base ∷ [])
 row forms.Cancel = called (codes "cancel") (At fields.Timer ∷ [])
 row forms.Peek = called (codes "peek") (At fields.Timer ∷ [])
 row forms.Expire = called (codes "expire") (At fields.Base ∷ At fields.Budget ∷ [])
+row forms.SoftExpire = called (codes "softexpire") (At fields.Base ∷ At fields.Budget ∷ [])
 row forms.Advance = called (codes "advance") (At fields.Free ∷ [])
 row forms.Set = called (codes "set") (At fields.Free ∷ [])
 row forms.Suspend = called (codes "suspend") (At fields.Free ∷ [])
@@ -68,6 +78,24 @@ row forms.Overrun = called (codes "overrun") (At fields.Timer ∷ [])
 row forms.Read = called (codes "read") (At fields.Timer ∷ At fields.Free ∷ [])
 row forms.Readable = called (codes "readable") (At fields.Timer ∷ [])
 
+-- the first version that has a form
+abbrev pub since : Form → Version
+since forms.SoftOnce = versions.Two
+since forms.SoftEvery = versions.Two
+since forms.StartRange = versions.Two
+since forms.SoftExpire = versions.Two
+since form = versions.One
+
+-- whether what comes with one version has come by another
+abbrev pub comes_by : Version → Version → Bool
+comes_by versions.One version = true
+comes_by versions.Two versions.One = false
+comes_by versions.Two versions.Two = true
+
+-- whether scripts of a version have lines of a form
+abbrev pub has_form : Version → Form → Bool
+has_form version form = comes_by (since form) version
+
 -- the part of a script that each form belongs to; a header line has so many before it
 abbrev pub part : Form → Part
 part forms.Version = parts.Header 0
@@ -78,6 +106,8 @@ part forms.RawOnce = parts.Declaration
 part forms.RawEvery = parts.Declaration
 part forms.RawCancels = parts.Declaration
 part forms.RawStarts = parts.Declaration
+part forms.SoftOnce = parts.Declaration
+part forms.SoftEvery = parts.Declaration
 part forms.Posix = parts.Declaration
 part forms.Fd = parts.Declaration
 part forms.Round = parts.Round
@@ -85,8 +115,9 @@ part call = parts.Call
 
 -- whether a form's call can be made on a timer of this kind
 abbrev pub suits : Form → Kind → Bool
-suits forms.Start (kinds.Raw callback) = true
-suits forms.Cancel (kinds.Raw callback) = true
+suits forms.Start (kinds.Raw context callback) = true
+suits forms.StartRange (kinds.Raw context callback) = true
+suits forms.Cancel (kinds.Raw context callback) = true
 suits forms.Peek kind = true
 suits forms.Settime (kinds.Posix base) = true
 suits forms.Settime (kinds.Fd base) = true
@@ -109,10 +140,15 @@ abbrev pub raw_forms : List (List ℕ × Form)
 raw_forms =
     (codes "once", forms.RawOnce) ∷ (codes "every", forms.RawEvery) ∷ (codes "cancels", forms.RawCancels) ∷ (codes "starts", forms.RawStarts) ∷ []
 
+-- those of a timer of the soft context, by the word after its clock
+abbrev pub soft_forms : List (List ℕ × Form)
+soft_forms = (codes "once", forms.SoftOnce) ∷ (codes "every", forms.SoftEvery) ∷ []
+
 -- those of a call, by the word after its lane
 abbrev pub call_forms : List (List ℕ × Form)
 call_forms =
-    (codes "start", forms.Start) ∷ (codes "cancel", forms.Cancel) ∷ (codes "peek", forms.Peek) ∷ (codes "expire", forms.Expire)
+    (codes "start", forms.Start) ∷ (codes "startrange", forms.StartRange) ∷ (codes "cancel", forms.Cancel) ∷ (codes "peek", forms.Peek)
+    ∷ (codes "expire", forms.Expire) ∷ (codes "softexpire", forms.SoftExpire)
     ∷ (codes "advance", forms.Advance) ∷ (codes "set", forms.Set) ∷ (codes "suspend", forms.Suspend)
     ∷ (codes "settime", forms.Settime) ∷ (codes "gettime", forms.Gettime) ∷ (codes "accept", forms.Accept) ∷ (codes "overrun", forms.Overrun)
     ∷ (codes "read", forms.Read) ∷ (codes "readable", forms.Readable) ∷ []

@@ -4,6 +4,8 @@ use Rattle.std.specs.List.{flat_map, range_with_len}
 use Rattle.ktime.specs.declared.clock_id.ClockId.TheVariants as clocks
 use Rattle.ktime.specs.declared.mode.Mode.TheVariants as modes
 use Rattle.clock_model.specs.declared.write.Write.TheVariants as writes
+use Rattle.seq_timer.specs.declared.context.Context.TheVariants as contexts
+use Rattle.record_text.specs.declared.version.Version.TheVariants as versions
 use Rattle.script_text.specs.declared.form.Line.{Line}
 use Rattle.script_text.specs.declared.script.Callback.TheVariants as callbacks
 use Rattle.script_text.specs.declared.script.Kind.TheVariants as kinds
@@ -15,6 +17,7 @@ use Rattle.script_text.specs.declared.script.Round.{Round}
 use Rattle.script_text.specs.declared.script.Script.{Script}
 use Rattle.script_text.specs.Grammar.{spelled}
 use Rattle.script_text.specs.Scripts.{script_lines}
+use Rattle.script_text.specs.Starts.{without_slack}
 
 -- ---- numbers that are drawn
 
@@ -37,8 +40,8 @@ draw x n = number_after (n + 1) x / 65536
 unfoldable pub call_by : ℕ → ℕ → ℕ → ℕ → Call
 call_by lane a b d =
     if a % 4 == 0 then calls.Cancel (2 * lane + b % 2)
-    else if a % 4 == 3 then calls.Expire lane 8
-    else calls.Start (2 * lane + b % 2) modes.Rel (d % 100) lane
+    else if a % 4 == 3 then calls.Expire contexts.Hard lane 8
+    else calls.Start (2 * lane + b % 2) (without_slack modes.Rel (d % 100) lane)
 
 -- a lane's call in a turn that draws from x on: lane 0 has the first three draws, lane 1 the next
 abbrev pub drawn_call : ℕ → ℕ → LaneCall
@@ -57,8 +60,8 @@ turns x lanes count = flat_map (λ i. turn (number_after (3 * lanes * i) x) lane
 -- a lane's timers: a periodic one, and one that runs once
 abbrev pub timers_of_lane : ℕ → List Declaration
 timers_of_lane lane =
-    record { clock = clocks.Monotonic; kind = kinds.Raw (callbacks.Every 100) }
-    ∷ record { clock = clocks.Monotonic; kind = kinds.Raw callbacks.Once } ∷ []
+    record { clock = clocks.Monotonic; kind = kinds.Raw contexts.Hard (callbacks.Every 100) }
+    ∷ record { clock = clocks.Monotonic; kind = kinds.Raw contexts.Hard callbacks.Once } ∷ []
 
 -- the timers of all lanes
 abbrev pub lane_timers : ℕ → List Declaration
@@ -70,7 +73,7 @@ clock_round = record { calls = record { lane = 0; call = calls.Clock (writes.Adv
 
 -- a round in which each lane expires its base
 abbrev pub expiry_round : ℕ → Round
-expiry_round lanes = record { calls = map (λ lane. record { lane = lane; call = calls.Expire lane 8 }) (range_with_len 0 lanes) }
+expiry_round lanes = record { calls = map (λ lane. record { lane = lane; call = calls.Expire contexts.Hard lane 8 }) (range_with_len 0 lanes) }
 
 -- the clock moves, and the four turns from a multiple of four on are made in one round, or as many as are left of all
 abbrev pub four_turns : ℕ → ℕ → ℕ → ℕ → List Round
@@ -80,6 +83,7 @@ four_turns seed lanes count i =
 -- the script of so many turns; in the end the clock moves, and each lane expires its base
 abbrev pub generated : ℕ → ℕ → ℕ → Script
 generated seed lanes count = record {
+  version = versions.One;
   bases = lanes;
   lanes = lanes;
   limit = 1000000;

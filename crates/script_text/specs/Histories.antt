@@ -4,12 +4,20 @@ use Rattle.ktime.specs.Readings.{ClockReading}
 use Rattle.ktime.specs.declared.clock_id.ClockId.{ClockId}
 use Rattle.ktime.specs.declared.clock_id.ClockId.TheVariants as clocks
 use Rattle.clock_model.specs.Clocks.{at_stamp, after_write, clock_after, IsAccepted}
+use Rattle.seq_timer.specs.Tables.{no_declared}
+use Rattle.seq_timer.specs.declared.context.Context.{Context}
+use Rattle.seq_timer.specs.declared.context.Context.TheVariants as contexts
+use Rattle.seq_timer.specs.declared.context.Declared.{Declared}
+use Rattle.seq_timer.specs.declared.context.Terms.{Terms}
 use Rattle.seq_timer.specs.declared.event.Event.TheVariants as events
 use Rattle.seq_timer.specs.declared.event.Reply.TheVariants as replies
 use Rattle.seq_timer.specs.declared.event.Rearmed.{Rearmed}
 use Rattle.seq_timer.specs.declared.event.Rearmed.TheVariants as rearmings
-use Rattle.seq_timer.specs.Steps.{Timer}
+use Rattle.seq_timer.specs.Steps.{Timer, limited}
 use Rattle.seq_timer.specs.Histories as histories
+use Rattle.script_text.specs.declared.script.Declaration.{Declaration}
+use Rattle.script_text.specs.declared.script.Kind.{Kind}
+use Rattle.script_text.specs.declared.script.Kind.TheVariants as kinds
 use Rattle.script_text.specs.declared.script.Script.{Script}
 use Rattle.record_text.specs.declared.record.Answer.{Answer}
 use Rattle.record_text.specs.declared.record.Label.{Label}
@@ -63,13 +71,17 @@ rearmed_as stamp restarts.Spent = rearmings.Spent stamp
 -- the entry of a history that a line shows, with the readings that its stamps name
 abbrev pub entry_shown : List ClockLine → ℕ → Entry → histories.Entry
 entry_shown clock stamp (entries.Out base was_armed) = record { event = events.Out base; reply = replies.Out was_armed }
-entry_shown clock stamp (entries.Start mode ns reading asked base on expires was_armed) =
-    record { event = events.Start mode ns (reading_at clock reading) asked; reply = replies.Start base on expires was_armed }
+entry_shown clock stamp (entries.Start l) = record {
+  event = events.Start (record { mode = l.mode; ns = l.ns; slack = l.slack; reading = reading_at clock l.reading; base = l.asked });
+  reply = replies.Start (record { base = l.base; clock = l.clock; soft = l.soft; expires = l.expires }) l.was_armed;
+}
 entry_shown clock stamp (entries.Cancel generation) = record { event = events.Cancel; reply = replies.Cancel generation }
 entry_shown clock stamp (entries.Claim base reading generation) =
     record { event = events.Claim base (reading_at clock reading); reply = replies.Claim generation }
-entry_shown clock stamp (entries.Forward reading interval count expires) =
-    record { event = events.Forward (reading_at clock reading) interval; reply = replies.Forward count expires }
+entry_shown clock stamp (entries.Forward l) = record {
+  event = events.Forward (reading_at clock l.reading) l.interval;
+  reply = replies.Forward (record { count = l.count; soft = l.soft; expires = l.expires });
+}
 entry_shown clock stamp (entries.Finish restart generation rearmed) =
     record { event = events.Finish restart; reply = replies.Finish generation (rearmed_as stamp rearmed) }
 
@@ -86,6 +98,28 @@ history_of r timer = history_from r.clock 0 (lines_of_timer r timer)
 abbrev pub clock_of : Script → ℕ → ClockId
 clock_of s timer = get_or (map (λ d. d.clock) s.timers) timer clocks.Monotonic
 
+-- the context of a timer of this kind; an object's is the hard one
+abbrev pub context_of : Kind → Context
+context_of (kinds.Raw context callback) = context
+context_of (kinds.Posix base) = contexts.Hard
+context_of (kinds.Fd base) = contexts.Hard
+
+-- as what a declaration's timer is declared
+abbrev pub declared_as : Declaration → Declared
+declared_as d = record { clock = d.clock; context = context_of d.kind }
+
+-- as what all timers are declared
+abbrev pub declareds_of : Script → List Declared
+declareds_of s = map declared_as s.timers
+
+-- as what a timer is declared
+abbrev pub declared_of : Script → ℕ → Declared
+declared_of s timer = get_or (declareds_of s) timer no_declared
+
+-- the terms on which a script's timers take entries
+abbrev pub terms_of : Script → Terms
+terms_of s = limited s.limit
+
 -- a timer after its first so many entries
 abbrev pub timer_after : Script → RunRecord → ℕ → ℕ → Timer
-timer_after s r timer stamp = histories.state_after (clock_of s timer) s.limit (take stamp (history_of r timer))
+timer_after s r timer stamp = histories.state_after (declared_of s timer) (terms_of s) (take stamp (history_of r timer))

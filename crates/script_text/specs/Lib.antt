@@ -13,5 +13,6 @@ pub mod Actions
 pub mod Starts
 pub mod ObjectCalls
 pub mod Told
+pub mod VersionOne
 pub mod Generator
 pub mod Summary

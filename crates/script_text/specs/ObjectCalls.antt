@@ -22,23 +22,23 @@ use Rattle.timer_fd.specs.Steps.{count_length}
 use Rattle.script_text.specs.declared.script.Kind.{Kind}
 use Rattle.script_text.specs.declared.script.Kind.TheVariants as kinds
 use Rattle.script_text.specs.Actions.{Action, Entered, Made}
-use Rattle.script_text.specs.Starts.{Arming, arming_actions, IsJustBefore}
+use Rattle.script_text.specs.Starts.{Arming, arming_actions, without_slack, IsJustBefore}
 
 -- the base of an object's timer
 abbrev pub base_of : Kind → ℕ
-base_of (kinds.Raw callback) = 0
+base_of (kinds.Raw context callback) = 0
 base_of (kinds.Posix base) = base
 base_of (kinds.Fd base) = base
 
 -- a settime's arguments are taken by an object of this kind
 abbrev pub AreValidFor : Kind → ℕ → TimeSpec → TimeSpec → Type 0
-AreValidFor (kinds.Raw callback) flags value interval = ⊥
+AreValidFor (kinds.Raw context callback) flags value interval = ⊥
 AreValidFor (kinds.Posix base) flags value interval = ArePosixArguments flags value interval
 AreValidFor (kinds.Fd base) flags value interval = AreFdArguments flags value interval
 
 -- how a settime's flags give its value
 abbrev pub start_mode : Kind → ℕ → Mode
-start_mode (kinds.Raw callback) flags = modes.Rel
+start_mode (kinds.Raw context callback) flags = modes.Rel
 start_mode (kinds.Posix base) flags = mode_by flags
 start_mode (kinds.Fd base) flags = mode_by flags
 
@@ -46,11 +46,11 @@ start_mode (kinds.Fd base) flags = mode_by flags
 abbrev pub nanoseconds_of : TimeSpec → ℕ
 nanoseconds_of time = nanoseconds time.sec time.nsec
 
--- an object's call armed its timer as its entry tells it: by one start of this mode and time, or by none
+-- an object's call armed its timer as its entry tells it: by one start of this mode and time and without slack, or by none
 abbrev pub Arms : ℕ → Mode → ℕ → ℕ → ℕ → Armed → List Action → Type 0
 Arms timer mode ns reading base armings.None actions = actions ≡ []
 Arms timer mode ns reading base (armings.Generation generation) actions =
-    (a : Arming) × (actions ≡ arming_actions timer mode ns reading base a) × (generation ≡ a.number) × IsJustBefore a.out a.number
+    (a : Arming) × (actions ≡ arming_actions timer (without_slack mode ns base) reading a) × (generation ≡ a.number) × IsJustBefore a.out a.number
 Arms timer mode ns reading base armings.Unarmed actions = actions ≡ []
 
 -- the cancel of a settime, where there is one: its number, and the generation that it cancelled

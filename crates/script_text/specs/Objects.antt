@@ -18,6 +18,7 @@ use Rattle.timer_fd.specs.declared.calls.Call as fd_call
 use Rattle.timer_fd.specs.declared.calls.Reply as fd_reply
 use Rattle.timer_fd.specs.States.{Descriptor}
 use Rattle.timer_fd.specs.Histories as fd
+use Rattle.seq_timer.specs.declared.context.Context.TheVariants as contexts
 use Rattle.script_text.specs.declared.script.Callback.TheVariants as callbacks
 use Rattle.script_text.specs.declared.script.Kind.{Kind}
 use Rattle.script_text.specs.declared.script.Kind.TheVariants as kinds
@@ -40,7 +41,7 @@ object_entries r i = map (λ line. line.entry) (lines_of_object r i)
 
 -- the kind of a declared timer
 abbrev pub kind_of : Script → ℕ → Kind
-kind_of s i = get_or (map (λ d. d.kind) s.timers) i (kinds.Raw callbacks.Once)
+kind_of s i = get_or (map (λ d. d.kind) s.timers) i (kinds.Raw contexts.Hard callbacks.Once)
 
 -- the items that are there
 abbrev pub present : {A : Type 0} → List (Option A) → List A
@@ -58,7 +59,7 @@ fd_history r i = present (map (fd_lines.fd_entry r.clock) (object_entries r i))
 
 -- a timer by itself has no object's entries; those of an object are all of its kind, and make a history that one such object gives
 abbrev pub IsLegalObject : Script → RunRecord → ℕ → Kind → Type 0
-IsLegalObject s r i (kinds.Raw callback) = lines_of_object r i ≡ []
+IsLegalObject s r i (kinds.Raw context callback) = lines_of_object r i ≡ []
 IsLegalObject s r i (kinds.Posix base) =
     AllByRecursion (λ e. is_some (posix_lines.posix_entry r.clock e) ≡ true) (object_entries r i)
     × posix.IsPosixHistory (clock_of s i) base s.limit (posix_history r i)
@@ -88,6 +89,6 @@ armed_in_phase (phases.Expired clock expires) = None
 
 -- how an object of this kind has armed its timer after its first so many entries
 abbrev pub object_armed_after : Script → RunRecord → ℕ → ℕ → Kind → Option ArmedAs
-object_armed_after s r i stamp (kinds.Raw callback) = None
+object_armed_after s r i stamp (kinds.Raw context callback) = None
 object_armed_after s r i stamp (kinds.Posix base) = armed_in_phase (posix_after s r i base stamp).phase
 object_armed_after s r i stamp (kinds.Fd base) = armed_in_phase (fd_after s r i base stamp).phase

@@ -8,6 +8,8 @@ use Rattle.ktime.specs.declared.clock_id.ClockId.{ClockId}
 use Rattle.ktime.specs.declared.clock_id.ClockId.TheVariants as clocks
 use Rattle.ktime.specs.declared.mode.Mode.{Mode}
 use Rattle.ktime.specs.declared.mode.Mode.TheVariants as modes
+use Rattle.record_text.specs.declared.version.Version.{Version}
+use Rattle.record_text.specs.declared.version.Version.TheVariants as versions
 use Rattle.script_text.specs.declared.form.Form.{Form}
 use Rattle.script_text.specs.declared.form.Line.{Line}
 use Rattle.script_text.specs.declared.form.Field.{Field}
@@ -15,7 +17,7 @@ use Rattle.script_text.specs.declared.form.Value.{Value}
 use Rattle.script_text.specs.declared.form.Value.TheVariants as values
 use Rattle.script_text.specs.declared.refusal.Cause.{Cause}
 use Rattle.script_text.specs.declared.refusal.Cause.TheVariants as causes
-use Rattle.script_text.specs.Forms.{Spot, Key, At, Sort, ClockName, ModeName, Numeral, sort, row, plain_forms, raw_forms, call_forms}
+use Rattle.script_text.specs.Forms.{Spot, Key, At, Sort, ClockName, ModeName, Numeral, sort, row, comes_by, has_form, plain_forms, raw_forms, soft_forms, call_forms}
 
 infixl 10 ◌>>=◌
 abbrev pub ◌>>=◌ : {A B E : Type 0} → Result A E → (A → Result B E) → Result B E
@@ -67,28 +69,29 @@ values_in spots words = Ok []
 
 -- ---- forms
 
--- the form that a word names among these
-unfoldable pub find_form : List (List ℕ × Form) → List ℕ → Result Form Cause
-find_form [] word = Err causes.UnknownWord
-find_form (f ∷ fs) word = if bytes_eq word f.0 then Ok f.1 else find_form fs word
+-- the form that a word names among these, in this version
+unfoldable pub find_form : Version → List (List ℕ × Form) → List ℕ → Result Form Cause
+find_form version [] word = Err causes.UnknownWord
+find_form version (f ∷ fs) word = if bytes_eq word f.0 && has_form version f.1 then Ok f.1 else find_form version fs word
 
 -- the form that the first of these words names
-unfoldable pub find_form_by_first : List (List ℕ × Form) → List (List ℕ) → Result Form Cause
-find_form_by_first forms [] = Err causes.WordCount
-find_form_by_first forms (word ∷ words) = find_form forms word
+unfoldable pub find_form_by_first : Version → List (List ℕ × Form) → List (List ℕ) → Result Form Cause
+find_form_by_first version forms [] = Err causes.WordCount
+find_form_by_first version forms (word ∷ words) = find_form version forms word
 
 -- a call line begins with a digit
 unfoldable pub begins_with_digit : List ℕ → Bool
 begins_with_digit [] = false
 begins_with_digit (b ∷ bs) = nat_le 48 b && nat_le b 57
 
--- the form of a line: a call's is chosen by the second word, a raw timer's by the fourth, any other by the first
-unfoldable pub form_in : List (List ℕ) → Result Form Cause
-form_in [] = Err causes.WordCount
-form_in (word ∷ words) =
-    if begins_with_digit word then find_form_by_first call_forms words
-    else if bytes_eq word (codes "raw") then find_form_by_first raw_forms (drop 2 words)
-    else find_form plain_forms word
+-- the form of a line in this version: a call's is chosen by the second word, a raw or soft timer's by the fourth, any other by the first
+unfoldable pub form_in : Version → List (List ℕ) → Result Form Cause
+form_in version [] = Err causes.WordCount
+form_in version (word ∷ words) =
+    if begins_with_digit word then find_form_by_first version call_forms words
+    else if bytes_eq word (codes "raw") then find_form_by_first version raw_forms (drop 2 words)
+    else if bytes_eq word (codes "soft") && comes_by versions.Two version then find_form_by_first version soft_forms (drop 2 words)
+    else find_form version plain_forms word
 
 -- ---- lines
 
@@ -110,9 +113,9 @@ line_of_form form words =
     if length words == length (row form) then (values_in (row form) words >>= λ vs. Ok (record { form = form; values = vs }))
     else Err causes.WordCount
 
--- a line by itself: its bytes, then its spaces, then its form, then its words
-unfoldable pub line_in : List ℕ → Result Line Cause
-line_in line =
+-- a line by itself in this version: its bytes, then its spaces, then its form, then its words
+unfoldable pub line_in : Version → List ℕ → Result Line Cause
+line_in version line =
     if list_any is_bad_byte line then Err causes.BadByte
     else if list_any is_empty_word (words_in line) then Err causes.BadSpace
-    else form_in (words_in line) >>= λ form. line_of_form form (words_in line)
+    else form_in version (words_in line) >>= λ form. line_of_form form (words_in line)

@@ -1,7 +1,8 @@
 -- When a script is refused, at which line and for which cause, and how that is told.
-use Rattle.std.specs.Prelude.{ℕ, ◌≡◌, ◌+◌, ◌&&◌, ◌++◌, Bool, true, false, not, is_some, nat_lt, nat_le, nat_eq, if◌then◌else◌, List, [], ◌∷◌, length, map, get_or, Option, Some, None, Result, Ok, Err, codes}
+use Rattle.std.specs.Prelude.{ℕ, ◌≡◌, ◌+◌, ◌&&◌, ◌||◌, ◌++◌, Bool, true, false, not, is_some, nat_lt, nat_le, nat_eq, if◌then◌else◌, List, [], ◌∷◌, length, map, get_or, Option, Some, None, Result, Ok, Err, codes}
 use Rattle.std.specs.Fmt.{decimal}
 use Rattle.std.specs.Option.{option_or}
+use Rattle.seq_timer.specs.declared.context.Context.TheVariants as contexts
 use Rattle.script_text.specs.declared.form.Form.{Form}
 use Rattle.script_text.specs.declared.form.Line.{Line}
 use Rattle.script_text.specs.declared.form.Part.{Part}
@@ -41,18 +42,18 @@ is_placed d parts.Call = is_some d.begun
 
 -- the cause that refuses one more line of this part
 unfoldable pub check_count : Draft → Part → Option Cause
-check_count d parts.Declaration = unless (nat_lt (length d.timers) most_timers) causes.TimerLimit
+check_count d parts.Declaration = unless (nat_lt (length d.timers) (most_timers d.version)) causes.TimerLimit
 check_count d parts.Call = unless (nat_lt d.calls most_calls) causes.CallLimit
 check_count d part = None
 
 -- the cause that refuses a number in its field
 unfoldable pub check_number : Draft → Field → ℕ → Option Cause
-check_number d fields.Version n = unless (nat_eq n 1) causes.Version
-check_number d fields.Bases n = unless (nat_le 1 n && nat_le n most_bases) causes.BaseLimit
+check_number d fields.Version n = unless (nat_eq n 1 || nat_eq n 2) causes.Version
+check_number d fields.Bases n = unless (nat_le 1 n && nat_le n (most_bases d.version)) causes.BaseLimit
 check_number d fields.Base n = unless (nat_lt n d.bases) causes.BaseLimit
-check_number d fields.Lanes n = unless (nat_le 1 n && nat_le n most_lanes) causes.LaneLimit
+check_number d fields.Lanes n = unless (nat_le 1 n && nat_le n (most_lanes d.version)) causes.LaneLimit
 check_number d fields.Lane n = unless (nat_lt n d.lanes) causes.LaneLimit
-check_number d fields.Limit n = unless (nat_le 1 n && nat_le n most_events) causes.EventLimit
+check_number d fields.Limit n = unless (nat_le 1 n && nat_le n (most_events d.version)) causes.EventLimit
 check_number d fields.NewTimer n = unless (nat_eq n (length d.timers)) causes.BadId
 check_number d fields.Timer n = unless (nat_lt n (length d.timers)) causes.NoTimer
 check_number d fields.Budget n = unless (nat_le n most_budget) causes.BudgetLimit
@@ -71,7 +72,7 @@ check_values d spots vs = None
 
 -- the kind of the timer of a number
 abbrev pub drafted_kind : Draft → ℕ → Kind
-drafted_kind d n = get_or (map (λ t. t.kind) d.timers) n (kinds.Raw callbacks.Once)
+drafted_kind d n = get_or (map (λ t. t.kind) d.timers) n (kinds.Raw contexts.Hard callbacks.Once)
 
 -- the cause that refuses a call on a timer whose kind it doesn't suit; the timer stands behind the call's name
 unfoldable pub check_kind : Draft → Form → List Spot → List Value → Option Cause
@@ -91,7 +92,7 @@ unless_refused (Some cause) x = Err cause
 
 -- what the lines have told after one more, or the first cause that refuses it
 unfoldable pub with_line_in : Draft → List ℕ → Result Draft Cause
-with_line_in d line = line_in line >>= λ l. unless_refused (check_line d l) (draft_with_line d l)
+with_line_in d line = line_in d.version line >>= λ l. unless_refused (check_line d l) (draft_with_line d l)
 
 -- ---- scripts
 

@@ -1,9 +1,13 @@
 -- The lines of a script, the limits that it keeps to, and the bytes that it is read from.
-use Rattle.std.specs.Prelude.{ℕ, ◌≡◌, ◌+◌, ◌-◌, ◌^◌, ◌<◌, ◌≤◌, ◌==◌, Bool, true, not, if◌then◌else◌, List, [], ◌∷◌, ◌++◌, length, map, filter, get_or}
+use Rattle.std.specs.Prelude.{ℕ, ◌≡◌, ◌+◌, ◌-◌, ◌^◌, ◌<◌, ◌≤◌, ◌==◌, Bool, true, not, if◌then◌else◌, List, [], ◌∷◌, ◌++◌, length, map, filter, get_or, Option, Some, None}
 use Rattle.std.specs.List.{AllByRecursion, flat_map, slice_split}
 use Rattle.ktime.specs.declared.clock_id.ClockId.{ClockId}
+use Rattle.ktime.specs.declared.mode.Mode.{Mode}
 use Rattle.ktime.specs.declared.mode.Mode.TheVariants as modes
 use Rattle.clock_model.specs.declared.write.Write.TheVariants as writes
+use Rattle.seq_timer.specs.declared.context.Context.TheVariants as contexts
+use Rattle.record_text.specs.declared.version.Version.{Version}
+use Rattle.record_text.specs.declared.version.Version.TheVariants as versions
 use Rattle.script_text.specs.declared.form.Line.{Line}
 use Rattle.script_text.specs.declared.form.Form.{Form}
 use Rattle.script_text.specs.declared.form.Form.TheVariants as forms
@@ -17,7 +21,7 @@ use Rattle.script_text.specs.declared.script.Declaration.{Declaration}
 use Rattle.script_text.specs.declared.script.LaneCall.{LaneCall}
 use Rattle.script_text.specs.declared.script.Round.{Round}
 use Rattle.script_text.specs.declared.script.Script.{Script}
-use Rattle.script_text.specs.Forms.{suits}
+use Rattle.script_text.specs.Forms.{has_form, suits}
 use Rattle.script_text.specs.Grammar.{IsLine, spelled}
 
 -- ---- limits
@@ -26,21 +30,25 @@ use Rattle.script_text.specs.Grammar.{IsLine, spelled}
 abbrev pub most_script_bytes : ℕ
 most_script_bytes = 1048576
 
--- how many bases a script may have
-abbrev pub most_bases : ℕ
-most_bases = 8
+-- how many bases a script of a version may have
+abbrev pub most_bases : Version → ℕ
+most_bases versions.One = 8
+most_bases versions.Two = 64
 
--- how many lanes a script may have
-abbrev pub most_lanes : ℕ
-most_lanes = 16
+-- how many lanes a script of a version may have
+abbrev pub most_lanes : Version → ℕ
+most_lanes versions.One = 16
+most_lanes versions.Two = 64
 
--- how many timers may be declared
-abbrev pub most_timers : ℕ
-most_timers = 256
+-- how many timers a script of a version may declare
+abbrev pub most_timers : Version → ℕ
+most_timers versions.One = 256
+most_timers versions.Two = 4096
 
--- the greatest limit on a timer's entries
-abbrev pub most_events : ℕ
-most_events = 2 ^ 48 - 16
+-- the greatest limit on a timer's entries in a script of a version
+abbrev pub most_events : Version → ℕ
+most_events versions.One = 2 ^ 48 - 16
+most_events versions.Two = 2 ^ 48 - 2048
 
 -- how many call lines a script may have
 abbrev pub most_calls : ℕ
@@ -56,14 +64,19 @@ most_budget = 4096
 abbrev pub of_numbers : Form → List ℕ → Line
 of_numbers form ns = record { form = form; values = map (λ n. values.Number n) ns }
 
--- the line that declares a timer of this number, on a clock and of a kind
+-- the line that declares a timer of this number, on a clock and of a kind; a callback that cancels or starts has none in the soft context
 abbrev pub declaration_line : ℕ → ClockId → Kind → Line
-declaration_line timer clock (kinds.Raw callbacks.Once) = record { form = forms.RawOnce; values = values.Number timer ∷ values.Clock clock ∷ [] }
-declaration_line timer clock (kinds.Raw (callbacks.Every interval)) =
+declaration_line timer clock (kinds.Raw contexts.Hard callbacks.Once) =
+    record { form = forms.RawOnce; values = values.Number timer ∷ values.Clock clock ∷ [] }
+declaration_line timer clock (kinds.Raw contexts.Soft callbacks.Once) =
+    record { form = forms.SoftOnce; values = values.Number timer ∷ values.Clock clock ∷ [] }
+declaration_line timer clock (kinds.Raw contexts.Hard (callbacks.Every interval)) =
     record { form = forms.RawEvery; values = values.Number timer ∷ values.Clock clock ∷ values.Number interval ∷ [] }
-declaration_line timer clock (kinds.Raw callbacks.Cancels) =
+declaration_line timer clock (kinds.Raw contexts.Soft (callbacks.Every interval)) =
+    record { form = forms.SoftEvery; values = values.Number timer ∷ values.Clock clock ∷ values.Number interval ∷ [] }
+declaration_line timer clock (kinds.Raw context callbacks.Cancels) =
     record { form = forms.RawCancels; values = values.Number timer ∷ values.Clock clock ∷ [] }
-declaration_line timer clock (kinds.Raw (callbacks.Starts ns base)) =
+declaration_line timer clock (kinds.Raw context (callbacks.Starts ns base)) =
     record { form = forms.RawStarts; values = values.Number timer ∷ values.Clock clock ∷ values.Number ns ∷ values.Number base ∷ [] }
 declaration_line timer clock (kinds.Posix base) =
     record { form = forms.Posix; values = values.Number timer ∷ values.Clock clock ∷ values.Number base ∷ [] }
@@ -74,13 +87,22 @@ abbrev pub declaration_lines : ℕ → List Declaration → List Line
 declaration_lines timer [] = []
 declaration_lines timer (d ∷ ds) = declaration_line timer d.clock d.kind ∷ declaration_lines (timer + 1) ds
 
+-- the line of a start of this mode, time and base, without a slack or with one
+abbrev pub asking_line : ℕ → ℕ → Mode → ℕ → ℕ → Option ℕ → Line
+asking_line lane timer mode ns base None =
+    record { form = forms.Start; values = values.Number lane ∷ values.Number timer ∷ values.Mode mode ∷ values.Number ns ∷ values.Number base ∷ [] }
+asking_line lane timer mode ns base (Some slack) = record {
+  form = forms.StartRange;
+  values = values.Number lane ∷ values.Number timer ∷ values.Mode mode ∷ values.Number ns ∷ values.Number slack ∷ values.Number base ∷ [];
+}
+
 -- the line of a lane's call
 abbrev pub call_line : ℕ → Call → Line
-call_line lane (calls.Start timer mode ns base) =
-    record { form = forms.Start; values = values.Number lane ∷ values.Number timer ∷ values.Mode mode ∷ values.Number ns ∷ values.Number base ∷ [] }
+call_line lane (calls.Start timer request) = asking_line lane timer request.mode request.ns request.base request.slack
 call_line lane (calls.Cancel timer) = of_numbers forms.Cancel (lane ∷ timer ∷ [])
 call_line lane (calls.Peek timer) = of_numbers forms.Peek (lane ∷ timer ∷ [])
-call_line lane (calls.Expire base budget) = of_numbers forms.Expire (lane ∷ base ∷ budget ∷ [])
+call_line lane (calls.Expire contexts.Hard base budget) = of_numbers forms.Expire (lane ∷ base ∷ budget ∷ [])
+call_line lane (calls.Expire contexts.Soft base budget) = of_numbers forms.SoftExpire (lane ∷ base ∷ budget ∷ [])
 call_line lane (calls.Clock (writes.Advance by)) = of_numbers forms.Advance (lane ∷ by ∷ [])
 call_line lane (calls.Clock (writes.Set to)) = of_numbers forms.Set (lane ∷ to ∷ [])
 call_line lane (calls.Clock (writes.Suspend by)) = of_numbers forms.Suspend (lane ∷ by ∷ [])
@@ -96,15 +118,20 @@ call_line lane (calls.Readable timer) = of_numbers forms.Readable (lane ∷ time
 abbrev pub round_lines : Round → List Line
 round_lines r = of_numbers forms.Round [] ∷ map (λ c. call_line c.lane c.call) r.calls
 
+-- the number of a version
+abbrev pub version_number : Version → ℕ
+version_number versions.One = 1
+version_number versions.Two = 2
+
 -- the four header lines
-abbrev pub header_lines : ℕ → ℕ → ℕ → List Line
-header_lines bases lanes limit =
-    of_numbers forms.Version (1 ∷ []) ∷ of_numbers forms.Bases (bases ∷ []) ∷ of_numbers forms.Lanes (lanes ∷ []) ∷ of_numbers forms.Limit
-    (limit ∷ []) ∷ []
+abbrev pub header_lines : Version → ℕ → ℕ → ℕ → List Line
+header_lines version bases lanes limit =
+    of_numbers forms.Version (version_number version ∷ []) ∷ of_numbers forms.Bases (bases ∷ []) ∷ of_numbers forms.Lanes (lanes ∷ [])
+    ∷ of_numbers forms.Limit (limit ∷ []) ∷ []
 
 -- the lines of a script: the header, the declarations and the rounds
 abbrev pub script_lines : Script → List Line
-script_lines s = header_lines s.bases s.lanes s.limit ++ declaration_lines 0 s.timers ++ flat_map round_lines s.rounds
+script_lines s = header_lines s.version s.bases s.lanes s.limit ++ declaration_lines 0 s.timers ++ flat_map round_lines s.rounds
 
 -- ---- what a script may ask for
 
@@ -112,24 +139,33 @@ script_lines s = header_lines s.bases s.lanes s.limit ++ declaration_lines 0 s.t
 abbrev pub all_calls : List Round → List LaneCall
 all_calls rounds = flat_map (λ r. r.calls) rounds
 
--- the base that a timer's callback starts it on, or that an object's timer is on, exists
+-- the base that a timer's callback starts it on, or that an object's timer is on, exists; in the soft context no callback cancels or starts
 abbrev pub IsKindInRange : ℕ → Kind → Type 0
-IsKindInRange bases (kinds.Raw (callbacks.Starts ns base)) = base < bases
-IsKindInRange bases (kinds.Raw callback) = Unit
+IsKindInRange bases (kinds.Raw contexts.Hard (callbacks.Starts ns base)) = base < bases
+IsKindInRange bases (kinds.Raw contexts.Hard callback) = Unit
+IsKindInRange bases (kinds.Raw contexts.Soft (callbacks.Starts ns base)) = ⊥
+IsKindInRange bases (kinds.Raw contexts.Soft callbacks.Cancels) = ⊥
+IsKindInRange bases (kinds.Raw contexts.Soft callback) = Unit
 IsKindInRange bases (kinds.Posix base) = base < bases
 IsKindInRange bases (kinds.Fd base) = base < bases
 
 -- there is a timer of this number, and its kind suits calls of this form
 abbrev pub HasTimerFor : List Declaration → ℕ → Form → Type 0
-HasTimerFor timers timer form = (timer < length timers) × (suits form (get_or (map (λ d. d.kind) timers) timer (kinds.Raw callbacks.Once)) ≡ true)
+HasTimerFor timers timer form = (timer < length timers) ×
+    (suits form (get_or (map (λ d. d.kind) timers) timer (kinds.Raw contexts.Hard callbacks.Once)) ≡ true)
+
+-- a script can give this mode of starting
+abbrev pub IsGivenMode : Mode → Type 0
+IsGivenMode modes.Keep = ⊥
+IsGivenMode mode = Unit
 
 -- a call is of a timer and on a base that exist, and suits the timer's kind
 abbrev pub IsCallInRange : ℕ → List Declaration → Call → Type 0
-IsCallInRange bases timers (calls.Start timer modes.Keep ns base) = ⊥
-IsCallInRange bases timers (calls.Start timer mode ns base) = HasTimerFor timers timer forms.Start × (base < bases)
+IsCallInRange bases timers (calls.Start timer request) =
+    HasTimerFor timers timer forms.Start × (request.base < bases) × IsGivenMode request.mode
 IsCallInRange bases timers (calls.Cancel timer) = HasTimerFor timers timer forms.Cancel
 IsCallInRange bases timers (calls.Peek timer) = HasTimerFor timers timer forms.Peek
-IsCallInRange bases timers (calls.Expire base budget) = (base < bases) × (budget ≤ most_budget)
+IsCallInRange bases timers (calls.Expire context base budget) = (base < bases) × (budget ≤ most_budget)
 IsCallInRange bases timers (calls.Clock write) = Unit
 IsCallInRange bases timers (calls.Settime timer flags value interval) = HasTimerFor timers timer forms.Settime
 IsCallInRange bases timers (calls.Gettime timer) = HasTimerFor timers timer forms.Gettime
@@ -138,12 +174,17 @@ IsCallInRange bases timers (calls.Overrun timer) = HasTimerFor timers timer form
 IsCallInRange bases timers (calls.Read timer len) = HasTimerFor timers timer forms.Read
 IsCallInRange bases timers (calls.Readable timer) = HasTimerFor timers timer forms.Readable
 
--- a script keeps to the limits
+-- lines are of forms that a version has
+abbrev pub HasForms : Version → List Line → Type 0
+HasForms version lines = AllByRecursion (λ l. has_form version l.form ≡ true) lines
+
+-- a script keeps to the limits of its version, and has only lines of forms that its version has
 pub record IsInRange (s : Script) : Type 0 where
-  pub bases : (1 ≤ s.bases) × (s.bases ≤ most_bases)
-  pub lanes : (1 ≤ s.lanes) × (s.lanes ≤ most_lanes)
-  pub limit : (1 ≤ s.limit) × (s.limit ≤ most_events)
-  pub timers : length s.timers ≤ most_timers
+  pub bases : (1 ≤ s.bases) × (s.bases ≤ most_bases s.version)
+  pub lanes : (1 ≤ s.lanes) × (s.lanes ≤ most_lanes s.version)
+  pub limit : (1 ≤ s.limit) × (s.limit ≤ most_events s.version)
+  pub timers : length s.timers ≤ most_timers s.version
+  pub forms : HasForms s.version (script_lines s)
   pub kinds : AllByRecursion (λ d. IsKindInRange s.bases d.kind) s.timers
   pub count : length (all_calls s.rounds) ≤ most_calls
   pub callers : AllByRecursion (λ c. c.lane < s.lanes) (all_calls s.rounds)

@@ -22,7 +22,7 @@ cancel_count other = 0
 
 -- the periods by which an entry forwarded its timer
 abbrev pub period_count : Entry → ℕ
-period_count (entries.Forward reading interval count expires) = count
+period_count (entries.Forward l) = l.count
 period_count other = 0
 
 -- what all entries of all timers come to

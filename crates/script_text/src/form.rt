@@ -1,10 +1,10 @@
 //! The forms of line of a script, as the rows of one table.
 ghost use Rattle.std.specs.Prelude.{◌≡◌, map};
-ghost use Rattle.script_text.specs.Forms.{part, field_at, row, suits};
+ghost use Rattle.script_text.specs.Forms.{field_at, has_form, part, comes_by, row, since, suits};
 
 use crate::script::Kind;
 use ktime::{ClockId, Mode};
-use record_text::ItemList;
+use record_text::{ItemList, Version};
 
 /// A form of line: what a line's words are, and what it does. The forms are the rows of one table.
 #[derive(Clone, Copy, Debug, PartialEq, Eq)]
@@ -17,13 +17,17 @@ pub enum Form {
     RawEvery,
     RawCancels,
     RawStarts,
+    SoftOnce,
+    SoftEvery,
     Posix,
     Fd,
     Round,
     Start,
+    StartRange,
     Cancel,
     Peek,
     Expire,
+    SoftExpire,
     Advance,
     Set,
     Suspend,
@@ -95,6 +99,16 @@ const BASE: Option<Field> = Some(Field::Base);
 
 const FREE: Option<Field> = Some(Field::Free);
 
+/// Whether what comes with one version has come by another.
+pub fn comes_by(since: Version, version: Version) -> bool
+    ensures { result ≡ comes_by since version }
+{
+    match since {
+        Version::One => true,
+        Version::Two => matches!(version, Version::Two),
+    }
+}
+
 impl Form {
     /// The fields of its words from left to right, `None` where a key word stands.
     pub fn fields(self) -> &'static [Option<Field>]
@@ -109,13 +123,17 @@ impl Form {
             Form::RawEvery => &[KEY, NEW_TIMER, CLOCK, KEY, FREE],
             Form::RawCancels => &[KEY, NEW_TIMER, CLOCK, KEY],
             Form::RawStarts => &[KEY, NEW_TIMER, CLOCK, KEY, FREE, BASE],
+            Form::SoftOnce => &[KEY, NEW_TIMER, CLOCK, KEY],
+            Form::SoftEvery => &[KEY, NEW_TIMER, CLOCK, KEY, FREE],
             Form::Posix => &[KEY, NEW_TIMER, CLOCK, BASE],
             Form::Fd => &[KEY, NEW_TIMER, CLOCK, BASE],
             Form::Round => &[KEY],
             Form::Start => &[LANE, KEY, TIMER, Some(Field::Mode), FREE, BASE],
+            Form::StartRange => &[LANE, KEY, TIMER, Some(Field::Mode), FREE, FREE, BASE],
             Form::Cancel => &[LANE, KEY, TIMER],
             Form::Peek => &[LANE, KEY, TIMER],
             Form::Expire => &[LANE, KEY, BASE, Some(Field::Budget)],
+            Form::SoftExpire => &[LANE, KEY, BASE, Some(Field::Budget)],
             Form::Advance => &[LANE, KEY, FREE],
             Form::Set => &[LANE, KEY, FREE],
             Form::Suspend => &[LANE, KEY, FREE],
@@ -126,6 +144,23 @@ impl Form {
             Form::Read => &[LANE, KEY, TIMER, FREE],
             Form::Readable => &[LANE, KEY, TIMER],
         }
+    }
+
+    /// The first version that has lines of it.
+    pub fn since(self) -> Version
+        ensures { result ≡ since self }
+    {
+        match self {
+            Form::SoftOnce | Form::SoftEvery | Form::StartRange | Form::SoftExpire => Version::Two,
+            _ => Version::One,
+        }
+    }
+
+    /// Whether scripts of this version have lines of it.
+    pub fn is_in(self, version: Version) -> bool
+        ensures { result ≡ has_form version self }
+    {
+        comes_by(self.since(), version)
     }
 
     /// The part of a script that lines of it stand in.
@@ -141,6 +176,8 @@ impl Form {
             | Form::RawEvery
             | Form::RawCancels
             | Form::RawStarts
+            | Form::SoftOnce
+            | Form::SoftEvery
             | Form::Posix
             | Form::Fd => Part::Declaration,
             Form::Round => Part::Round,
@@ -154,7 +191,7 @@ impl Form {
     {
         match self {
             Form::Peek => true,
-            Form::Start | Form::Cancel => matches!(kind, Kind::Raw { .. }),
+            Form::Start | Form::StartRange | Form::Cancel => matches!(kind, Kind::Raw { .. }),
             Form::Settime | Form::Gettime => matches!(kind, Kind::Posix { .. } | Kind::Fd { .. }),
             Form::Accept | Form::Overrun => matches!(kind, Kind::Posix { .. }),
             Form::Read | Form::Readable => matches!(kind, Kind::Fd { .. }),

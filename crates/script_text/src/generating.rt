@@ -2,6 +2,8 @@
 ghost use Rattle.std.specs.Prelude.{◌≡◌, ◌+◌, ◌*◌, ◌/◌, ◌<◌, ◌≤◌, ◌++◌, ◌∷◌, [], IfOk, OnOk, string_bytes, map};
 ghost use Rattle.script_text.specs.Generator.{call_by, clock_round, draw, drawn_call, expiry_round, four_turns, generated, lane_timers, lines_bytes, next_number, number_after, script_bytes, timers_of_lane, turn, turns};
 ghost use Rattle.script_text.specs.Scripts.{call_line, declaration_lines, header_lines, round_lines, IsInRange, Reads};
+ghost use Rattle.seq_timer.specs.declared.context.Context.TheVariants as contexts;
+ghost use Rattle.record_text.specs.declared.version.Version.TheVariants as versions;
 ghost use Rattle.script_text.specs.declared.script.Call.TheVariants as calls;
 ghost use Rattle.std.specs.List.{flat_map, range_with_len};
 
@@ -50,7 +52,7 @@ fn write_script(alloc: Global, seed: u64, lanes: u32, calls: u64) -> Result<Vec<
 }
 
 fn write_header(out: &mut String, lanes: u32) -> Result<(), AllocError>
-    ensures { OnOk result (string_bytes out.new ≡ string_bytes out.old ++ lines_bytes (header_lines lanes lanes 1000000)) }
+    ensures { OnOk result (string_bytes out.new ≡ string_bytes out.old ++ lines_bytes (header_lines versions.One lanes lanes 1000000)) }
 {
     let version = 1;
     writeln!(
@@ -121,7 +123,7 @@ fn write_expiry_round(out: &mut String, lanes: u32) -> Result<(), AllocError>
 }
 
 fn write_expire(out: &mut String, lane: u32) -> Result<(), AllocError>
-    ensures { OnOk result (string_bytes out.new ≡ string_bytes out.old ++ lines_bytes (call_line lane (calls.Expire lane 8) ∷ [])) }
+    ensures { OnOk result (string_bytes out.new ≡ string_bytes out.old ++ lines_bytes (call_line lane (calls.Expire contexts.Hard lane 8) ∷ [])) }
 {
     writeln!(out, "{lane} expire {lane} {BUDGET}")?;
     Ok(())

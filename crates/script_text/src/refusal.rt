@@ -22,7 +22,7 @@ pub enum Cause {
     BadNumber,
     /// A line of this form may not stand here.
     BadPlace,
-    /// More than 256 timers.
+    /// More timers than the version allows.
     TimerLimit,
     /// More than 65536 calls.
     CallLimit,

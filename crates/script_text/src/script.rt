@@ -1,7 +1,8 @@
 //! A script: its timers, and the rounds of calls.
 use clock_model::Write;
 use ktime::{ClockId, Mode, TimeSpec};
-use record_text::ItemList;
+use record_text::{ItemList, Version};
+use seq_timer::Context;
 
 /// What a raw timer's callback does when it runs.
 #[derive(Clone, Copy, Debug, PartialEq, Eq)]
@@ -19,11 +20,19 @@ pub enum Callback {
 /// What is declared: a timer by itself, or an object with a timer of the same number.
 #[derive(Clone, Copy, Debug, PartialEq, Eq)]
 pub enum Kind {
-    Raw { callback: Callback },
+    /// A timer by itself, whose callback runs in this context.
+    Raw {
+        context: Context,
+        callback: Callback,
+    },
     /// A POSIX timer, its timer on this base.
-    Posix { base: u32 },
+    Posix {
+        base: u32,
+    },
     /// A timerfd descriptor, its timer on this base.
-    Fd { base: u32 },
+    Fd {
+        base: u32,
+    },
 }
 
 /// A timer of a script: the clock that it is declared on, and its kind.
@@ -33,14 +42,21 @@ pub struct Declaration {
     pub kind: Kind,
 }
 
+/// What a start asks for. Where it has a slack, the timer may expire so much later than at `ns`.
+#[derive(Clone, Copy, Debug, PartialEq, Eq)]
+pub struct StartRequest {
+    pub mode: Mode,
+    pub ns: u64,
+    pub slack: Option<u64>,
+    pub base: u32,
+}
+
 /// What one call line asks for. Times are nanoseconds where no seconds stand beside them.
 #[derive(Clone, Copy, Debug, PartialEq, Eq)]
 pub enum Call {
     Start {
         timer: u32,
-        mode: Mode,
-        ns: u64,
-        base: u32,
+        request: StartRequest,
     },
     Cancel {
         timer: u32,
@@ -48,7 +64,9 @@ pub enum Call {
     Peek {
         timer: u32,
     },
+    /// Runs the callbacks of this context that are due on the base.
     Expire {
+        context: Context,
         base: u32,
         budget: u64,
     },
@@ -92,10 +110,11 @@ pub struct Round {
     pub calls: ItemList<LaneCall>,
 }
 
-/// A script: how many bases and lanes there are, how many entries a timer's history may have
+/// A script: its version, how many bases and lanes there are, how many entries a timer's history may have
 /// before a start is refused, the timers, and the rounds of calls.
 #[derive(Drop)]
 pub struct Script {
+    pub version: Version,
     pub bases: u32,
     pub lanes: u32,
     pub limit: u64,

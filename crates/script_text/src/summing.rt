@@ -101,7 +101,7 @@ impl Amount for Periods {
 
     fn amount(entry: Entry) -> u64 {
         match entry {
-            Entry::Forward { count, .. } => count,
+            Entry::Forward(line) => line.count,
             _ => 0,
         }
     }

@@ -3,21 +3,27 @@ use Rattle.std.proofs.Common.{◌≡◌, ℕ, zero, suc, true, List, [], ◌∷�
 use Rattle.std.specs.Prelude.{slice_get}
 use Rattle.std.specs.List.{IsDistinct}
 use Rattle.std.proofs.lemmas.List.{length-map}
-use Rattle.std.proofs.lemmas.Bool.{cases_eq, eq-eqb, ne_eqb, true≢false}
+use Rattle.std.proofs.lemmas.Bool.{cases_Bool, cases_eq, eq-eqb, ne_eqb, true≢false}
 use Rattle.std.proofs.lemmas.Bool.Decides.{nat_tests}
 use Rattle.ktime.specs.declared.clock_id.ClockId.{ClockId}
+use Rattle.seq_timer.specs.declared.context.Declared.{Declared}
+use Rattle.seq_timer.specs.declared.context.Terms.{Terms}
 use Rattle.ktime.specs.declared.clock_id.ClockId.TheVariants as clocks
 use Rattle.seq_timer.specs.declared.event.Event.{Event}
 use Rattle.seq_timer.specs.declared.event.Event.TheVariants as events
 use Rattle.seq_timer.specs.declared.system.TimerEntry.{TimerEntry}
-use Rattle.seq_timer.specs.Steps.{Timer, after, greatest_limit, opening}
-use Rattle.seq_timer.specs.Tables.{timer_at, runs_on}
+use Rattle.seq_timer.specs.Steps.{Timer, after, greatest_limit, limited, opening}
+use Rattle.seq_timer.specs.Tables.{in_context, is_context, no_declared, runs_on, seen_in, timer_at}
 use Rattle.timer_queue.specs.Pairs.{expiry_of, IsByExpiry}
-use Rattle.seq_timer.specs.Contents.{Content, IsContentOf, IsFreeFor, content_after, generation_in, no_content, queue_of, running_on, wanted}
+use Rattle.seq_timer.specs.declared.context.Context.{Context}
+use Rattle.seq_timer.specs.declared.context.Context.TheVariants as contexts
+use Rattle.seq_timer.specs.Halves.{IsFreeFor, IsHalfOf, generation_in, no_half, queue_of, running_on, wanted}
+use Rattle.seq_timer.specs.Contents.{IsContentOf, content_after, half_of, no_content}
 use Rattle.seq_timer.specs.Histories as seq
 use Rattle.seq_timer.specs.Systems.{AreSystemSteps, BaseContent, FitsBase, IsFresh, IsSystemHistory, IsSystemStep, System, after_entries, after_entry, changed, entries_of, first_system, openings, system_after, system_of}
-use Rattle.seq_timer.proofs.Contents.{Changes, IsApart, IsContentOf-after, IsContentOf-elsewhere, apart-after}
-use Rattle.seq_timer.proofs.Limits.{stamp-after_all}
+use Rattle.seq_timer.proofs.Halves.{Changes, IsApart, apart-after}
+use Rattle.seq_timer.proofs.Contents.{IsContentOf-after, IsContentOf-elsewhere, seen_else, seen_here, seen_own}
+use Rattle.seq_timer.proofs.Limits.{soft-after_all, stamp-after_all}
 use Rattle.seq_timer.proofs.Systems.{after_entries-entries_of, base_else, base_here, timer_else, timer_here}
 
 -- the bases agree with the timers, and who is on the move is neither armed nor runs
@@ -29,15 +35,15 @@ pub content_of_changed : (id : ℕ) (t : Timer) (event : Event) (b : BaseContent
 unfolding changed
 content_of_changed id t event b = refl
 
-free_for : (bases : ℕ) (c : Content) (id : ℕ) (t : Timer) (e : Event) → FitsBase bases c id t e → IsFreeFor c e
-free_for bases c id t (events.Out base) fits = tt
-free_for bases c id t (events.Start mode ns reading asked) fits = tt
-free_for bases c id t events.Cancel fits = tt
-free_for bases c id t (events.Claim base reading) fits = fits.0
-free_for bases c id t (events.Forward reading interval) fits = tt
-free_for bases c id t (events.Finish restart) fits = tt
+free_for : (bases : ℕ) (b : BaseContent) (id : ℕ) (t : Timer) (e : Event) → FitsBase bases b id t e → IsFreeFor (half_of t.declared.context b.content) e
+free_for bases b id t (events.Out base) fits = tt
+free_for bases b id t (events.Start asked) fits = tt
+free_for bases b id t events.Cancel fits = tt
+free_for bases b id t (events.Claim base reading) fits = fits.0
+free_for bases b id t (events.Forward reading interval) fits = tt
+free_for bases b id t (events.Finish restart) fits = tt
 
-once : (clock : ClockId) → IsDistinct nat_eq (map (λ p. p.1) (queue_of no_content clock))
+once : (clock : ClockId) → IsDistinct nat_eq (map (λ p. p.1) (queue_of no_half clock))
 unfolding IsDistinct
 once clocks.Monotonic = tt
 once clocks.Realtime = tt
@@ -55,10 +61,10 @@ module _ (bases count : ℕ) where
             (λ (q : b ≡ t.base). subst (λ x. IsContentOf w'.timers x (w'.bases x).content) (sym q)
             (subst (λ c. IsContentOf w'.timers t.base c) (sym (ap (λ (x : BaseContent). x.content) (base_here w e)
             ∙ content_of_changed id t e.event (w.bases t.base)))
-            (IsContentOf-after w.timers w'.timers id e.event (w.bases t.base).content ok.needs (agrees.apart id)
-            (free_for bases (w.bases t.base).content id t e.event ok.base) changes (agrees.contents t.base))))
+            (IsContentOf-after w.timers w'.timers id e.event changes (w.bases t.base).content ok.needs (agrees.apart id)
+            (free_for bases (w.bases t.base) id t e.event ok.base) (agrees.contents t.base))))
             (λ n. subst (λ (x : BaseContent). IsContentOf w'.timers b x.content) (sym (base_else w e b n))
-            (IsContentOf-elsewhere w.timers w'.timers id e.event b (w.bases b).content ok.needs n changes (agrees.contents b)))
+            (IsContentOf-elsewhere w.timers w'.timers id e.event changes b (w.bases b).content ok.needs n (agrees.contents b)))
             (cases_eq b t.base);
         apart = λ k. ⊎_elim
             (λ (q : k ≡ id). subst (λ x. IsApart (w'.timers x)) (sym q)
@@ -92,28 +98,46 @@ module _ (bases count : ℕ) where
 
 -- ---- from the beginning
 
+unarmed : (clock : ClockId) (b : ℕ) (t : Timer) → t.armed ≡ None → None ≡ wanted b clock t
+unarmed clock b t none = grind (arith, nat_tests)
+
+idle : (b : ℕ) (t : Timer) → t.running ≡ None → None ≡ running_on b t
+idle b t none = grind (arith, nat_tests)
+
 -- the bases agree with timers to which nothing has happened
 pub agrees_first : (opened : List Timer) → ((t : ℕ) → IsFresh (timer_at opened t)) → Agrees (first_system opened)
 agrees_first opened fresh = record {
   contents = λ b. record {
-    queues = λ clock. record { exact = λ id. none clock b id; once = once clock; by_expiry = sorted clock };
-    running = λ id. no_one b id;
+    each = λ x. subst (IsHalfOf (in_context x (timer_at opened)) b) (sym (none_there x)) (record {
+      queues = λ clock. record { exact = λ id. none x clock b id; once = once clock; by_expiry = sorted clock };
+      running = λ id. no_one x b id;
+    });
   };
   apart = λ t moves. absurd (true≢false (sym moves ∙ (fresh t).still));
 }
   where
-    none : (clock : ClockId) (b id : ℕ) → expiry_of id (queue_of no_content clock) ≡ wanted b clock (timer_at opened id)
-    none clocks.Monotonic b id = grind (arith, nat_tests, (fresh id).armed)
-    none clocks.Realtime b id = grind (arith, nat_tests, (fresh id).armed)
-    none clocks.Boottime b id = grind (arith, nat_tests, (fresh id).armed)
+    none_there : (x : Context) → half_of x no_content ≡ no_half
+    none_there contexts.Hard = refl
+    none_there contexts.Soft = refl
 
-    sorted : (clock : ClockId) → IsByExpiry (queue_of no_content clock)
+    still : (x : Context) (id : ℕ) → ((in_context x (timer_at opened) id).armed ≡ None) × ((in_context x (timer_at opened) id).running ≡ None)
+    still x id = ⊎_elim
+        (λ own. subst (λ (t : Timer). (t.armed ≡ None) × (t.running ≡ None)) (sym (seen_here x (timer_at opened id) own)) ((fresh id).armed, (fresh id).running))
+        (λ other. subst (λ (t : Timer). (t.armed ≡ None) × (t.running ≡ None)) (sym (seen_else x (timer_at opened id) other)) (refl, refl))
+        (cases_Bool (is_context x (timer_at opened id).declared.context))
+
+    none : (x : Context) (clock : ClockId) (b id : ℕ) → expiry_of id (queue_of no_half clock) ≡ wanted b clock (in_context x (timer_at opened) id)
+    none x clocks.Monotonic b id = unarmed clocks.Monotonic b (in_context x (timer_at opened) id) (still x id).0
+    none x clocks.Realtime b id = unarmed clocks.Realtime b (in_context x (timer_at opened) id) (still x id).0
+    none x clocks.Boottime b id = unarmed clocks.Boottime b (in_context x (timer_at opened) id) (still x id).0
+
+    sorted : (clock : ClockId) → IsByExpiry (queue_of no_half clock)
     sorted clocks.Monotonic = tt
     sorted clocks.Realtime = tt
     sorted clocks.Boottime = tt
 
-    no_one : (b id : ℕ) → None ≡ running_on b (timer_at opened id)
-    no_one b id = grind (arith, nat_tests, (fresh id).running)
+    no_one : (x : Context) (b id : ℕ) → None ≡ running_on b (in_context x (timer_at opened) id)
+    no_one x b id = idle b (in_context x (timer_at opened) id) (still x id).1
 
 -- and after every history of them
 pub agrees : (bases : ℕ) (opened : List Timer) (log : List TimerEntry) → ((t : ℕ) → IsFresh (timer_at opened t))
@@ -121,62 +145,86 @@ pub agrees : (bases : ℕ) (opened : List Timer) (log : List TimerEntry) → ((t
 agrees bases opened log fresh all = agrees_all bases (length opened) (first_system opened) log all (agrees_first opened fresh)
 
 -- each timer is first as it was declared
-opening_at : (list : List ClockId) (limit t : ℕ) → (clock : ClockId) × (most : ℕ) × (timer_at (openings list limit) t ≡ opening clock most)
-    × (most ≤ limit ⊎ (most ≡ 1))
-opening_at [] limit t = (clocks.Monotonic, 1, refl, inr refl)
-opening_at (clock ∷ rest) limit zero = (clock, limit, refl, inl (omega arith))
-opening_at (clock ∷ rest) limit (suc t) = opening_at rest limit t
+opening_at : (list : List Declared) (terms : Terms) (t : ℕ) → (clock : Declared) × (most : Terms) × (timer_at (openings list terms) t ≡ opening clock most)
+    × (most.limit ≤ terms.limit ⊎ (most.limit ≡ 1))
+opening_at [] terms t = (no_declared, limited 1, refl, inr refl)
+opening_at (clock ∷ rest) terms zero = (clock, terms, refl, inl (omega arith))
+opening_at (clock ∷ rest) terms (suc t) = opening_at rest terms t
 
-pub opened_at : (list : List ClockId) (limit t : ℕ) (clock : ClockId) → slice_get list t ≡ Some clock → timer_at (openings list limit) t ≡ opening clock limit
-opened_at [] limit t clock here = cc
-opened_at (c ∷ rest) limit zero clock here = let e : c ≡ clock = cc in ap (λ x. opening x limit) e
-opened_at (c ∷ rest) limit (suc t) clock here = opened_at rest limit t clock here
+pub opened_at : (list : List Declared) (terms : Terms) (t : ℕ) (clock : Declared) → slice_get list t ≡ Some clock
+    → timer_at (openings list terms) t ≡ opening clock terms
+opened_at [] terms t clock here = cc
+opened_at (c ∷ rest) terms zero clock here = let e : c ≡ clock = cc in ap (λ x. opening x terms) e
+opened_at (c ∷ rest) terms (suc t) clock here = opened_at rest terms t clock here
 
-fresh_opening : (clock : ClockId) (limit : ℕ) → IsFresh (opening clock limit)
-fresh_opening clock limit = record { armed = refl; running = refl; still = refl; stamp = refl; first = refl }
+fresh_opening : (clock : Declared) (terms : Terms) → IsFresh (opening clock terms)
+fresh_opening clock terms = record { armed = refl; running = refl; still = refl; stamp = refl; first = refl }
 
-pub all_fresh : (list : List ClockId) (limit t : ℕ) → IsFresh (timer_at (openings list limit) t)
-all_fresh list limit t = let o = opening_at list limit t in subst IsFresh (sym o.2) (fresh_opening o.0 o.1)
+pub all_fresh : (list : List Declared) (terms : Terms) (t : ℕ) → IsFresh (timer_at (openings list terms) t)
+all_fresh list terms t = let o = opening_at list terms t in subst IsFresh (sym o.2) (fresh_opening o.0 o.1)
 
-pub limits_within : (list : List ClockId) (limit : ℕ) → limit ≤ greatest_limit → (t : ℕ) → (timer_at (openings list limit) t).limit ≤ greatest_limit
-limits_within list limit few t =
-    let o = opening_at list limit t in
-    subst (λ (x : Timer). x.limit ≤ greatest_limit) (sym o.2) (⊎_elim (λ less. omega (arith, less, few)) (λ one. omega (arith, one)) o.3)
+pub limits_within : (list : List Declared) (terms : Terms) → terms.limit ≤ greatest_limit → (t : ℕ)
+    → (timer_at (openings list terms) t).terms.limit ≤ greatest_limit
+limits_within list terms few t =
+    let o = opening_at list terms t in
+    subst (λ (x : Timer). x.terms.limit ≤ greatest_limit) (sym o.2) (⊎_elim (λ less. omega (arith, less, few)) (λ one. omega (arith, one)) o.3)
 
-pub first_stamp : (list : List ClockId) (limit t : ℕ) → (timer_at (openings list limit) t).stamp ≡ 0
-first_stamp list limit t = ap (λ (x : Timer). x.stamp) (opening_at list limit t).2
+pub first_stamp : (list : List Declared) (terms : Terms) (t : ℕ) → (timer_at (openings list terms) t).stamp ≡ 0
+first_stamp list terms t = ap (λ (x : Timer). x.stamp) (opening_at list terms t).2
 
-pub first_agrees : (list : List ClockId) (limit : ℕ) → Agrees (first_system (openings list limit))
-first_agrees list limit = agrees_first (openings list limit) (all_fresh list limit)
+pub first_agrees : (list : List Declared) (terms : Terms) → Agrees (first_system (openings list terms))
+first_agrees list terms = agrees_first (openings list terms) (all_fresh list terms)
 
-module _ (bases limit : ℕ) (list : List ClockId) (log : List TimerEntry) (history : IsSystemHistory bases list limit log) where
-  pub part_legal : (t : ℕ) (clock : ClockId) → slice_get list t ≡ Some clock → seq.IsLegal clock limit (entries_of t log)
-  part_legal t clock here = subst (λ x. seq.AreSteps x (entries_of t log)) (opened_at list limit t clock here)
-      (parts bases (length list) (first_system (openings list limit)) log history t)
+module _ (bases : ℕ) (terms : Terms) (list : List Declared) (log : List TimerEntry) (history : IsSystemHistory bases list terms log) where
+  pub part_legal : (t : ℕ) (clock : Declared) → slice_get list t ≡ Some clock → seq.IsLegal clock terms (entries_of t log)
+  part_legal t clock here = subst (λ x. seq.AreSteps x (entries_of t log)) (opened_at list terms t clock here)
+      (parts bases (length list) (first_system (openings list terms)) log history t)
 
-  pub all_agree : Agrees (system_of list limit log)
-  all_agree = agrees bases (openings list limit) log (all_fresh list limit)
-      (subst (λ n. AreSystemSteps bases n (first_system (openings list limit)) log) (sym (length-map list (λ clock. opening clock limit))) history)
+  pub all_agree : Agrees (system_of list terms log)
+  all_agree = agrees bases (openings list terms) log (all_fresh list terms)
+      (subst (λ n. AreSystemSteps bases n (first_system (openings list terms)) log) (sym (length-map list (λ clock. opening clock terms))) history)
 
-  pub one_runs : (base t u : ℕ) → runs_on base ((system_of list limit log).timers t) ≡ true
-      → runs_on base ((system_of list limit log).timers u) ≡ true → t ≡ u
-  one_runs base t u first second =
-      let is = (all_agree.contents base).running in
-      one_only (((system_of list limit log).bases base).content.running) base t u ((system_of list limit log).timers t)
-      ((system_of list limit log).timers u) (is t) (is u) first second
+  pub one_runs : (base t u : ℕ) → runs_on base ((system_of list terms log).timers t) ≡ true
+      → runs_on base ((system_of list terms log).timers u) ≡ true
+      → ((system_of list terms log).timers t).declared.context ≡ ((system_of list terms log).timers u).declared.context → t ≡ u
+  one_runs base t u first second same =
+      let w = system_of list terms log in
+      let x = (w.timers t).declared.context in
+      let is = ((all_agree.contents base).each x).running in
+      one_only ((half_of x (w.bases base).content).running) base t u (w.timers t) (w.timers u)
+      (subst (λ (k : Timer). generation_in t (half_of x (w.bases base).content).running ≡ running_on base k) (seen_own (w.timers t)) (is t))
+      (subst (λ (k : Timer). generation_in u (half_of x (w.bases base).content).running ≡ running_on base k)
+      (ap (λ y. seen_in y (w.timers u)) same ∙ seen_own (w.timers u)) (is u)) first second
     where
       one_only : (r : Option (ℕ × ℕ)) (base t u : ℕ) (x y : Timer) → generation_in t r ≡ running_on base x
           → generation_in u r ≡ running_on base y → runs_on base x ≡ true → runs_on base y ≡ true → t ≡ u
       one_only None base t u x y a b first second = grind (arith, nat_tests)
       one_only (Some r) base t u x y a b first second = grind (arith, nat_tests)
 
-pub stamp_counts : (limit : ℕ) (list : List ClockId) (log : List TimerEntry) (t : ℕ) → ((system_of list limit log).timers t).stamp ≡ length (entries_of t log)
-stamp_counts limit list log t =
-    let first = first_system (openings list limit) in
+pub stamp_counts : (terms : Terms) (list : List Declared) (log : List TimerEntry) (t : ℕ)
+    → ((system_of list terms log).timers t).stamp ≡ length (entries_of t log)
+stamp_counts terms list log t =
+    let first = first_system (openings list terms) in
     omega (
       arith,
       ap (λ (x : Timer). x.stamp) (after_entries-entries_of first t log),
       stamp-after_all (first.timers t)
           (entries_of t log),
-      first_stamp list limit t,
+      first_stamp list terms t,
     )
+
+-- a timer's soft expiry is no later than its expiry, also as a context sees it
+pub soft_within : (terms : Terms) (list : List Declared) (log : List TimerEntry) (t : ℕ)
+    → ((system_of list terms log).timers t).soft ≤ ((system_of list terms log).timers t).expires
+soft_within terms list log t =
+    let first = first_system (openings list terms) in
+    let o = opening_at list terms t in
+    subst (λ (x : Timer). x.soft ≤ x.expires) (sym (after_entries-entries_of first t log))
+    (soft-after_all (first.timers t) (entries_of t log) (subst (λ (x : Timer). x.soft ≤ x.expires) (sym o.2) (omega arith)))
+
+pub soft_within_context : (terms : Terms) (list : List Declared) (log : List TimerEntry) (x : Context) (t : ℕ)
+    → (in_context x (system_of list terms log).timers t).soft ≤ (in_context x (system_of list terms log).timers t).expires
+soft_within_context terms list log x t = ⊎_elim
+    (λ own. subst (λ (k : Timer). k.soft ≤ k.expires) (sym (seen_here x ((system_of list terms log).timers t) own)) (soft_within terms list log t))
+    (λ other. subst (λ (k : Timer). k.soft ≤ k.expires) (sym (seen_else x ((system_of list terms log).timers t) other)) (omega arith))
+    (cases_Bool (is_context x ((system_of list terms log).timers t).declared.context))

@@ -2,16 +2,16 @@
 use Rattle.std.proofs.Common.{◌≡◌, ◌<◌, ◌≤◌, ◌⊎◌, ℕ, Bool, true, false, ◌&&◌, List, [], ◌∷◌, Option, Some, None, nat_eq, nat_lt, nat_le, if◌then◌else◌, arith, refl, sym, ap, ◌∙◌, subst, IfSome, inl, inr}
 use Rattle.std.specs.Option.{option_or}
 use Rattle.std.proofs.Math.Logic.{⊎_elim}
-use Rattle.std.proofs.lemmas.Bool.{cases_lt, and_parts, and_from, and_left, and_right, eqb-true, lt-leb, le-leb, le-ltb}
+use Rattle.std.proofs.lemmas.Bool.{cases_lt, and_parts, and_from, eqb-true, le-leb, le-ltb, true≢false}
 use Rattle.std.proofs.lemmas.Bool.Decides.{nat_tests}
 use Rattle.ktime.specs.declared.clock_id.ClockId.{ClockId}
 use Rattle.ktime.specs.declared.clock_id.ClockId.TheVariants as clocks
 use Rattle.ktime.specs.Readings.{ClockReading, value_of}
-use Rattle.timer_queue.specs.Pairs.{first_of, expiry_of, IsByExpiry}
+use Rattle.timer_queue.specs.Pairs.{first_of}
 use Rattle.timer_queue.proofs.Pairs.{expiry_of-first, first_is_least}
 use Rattle.seq_timer.specs.Steps.{Timer}
-use Rattle.seq_timer.specs.Tables.{rank, is_armed_on, is_kept_on, is_due_on, is_ahead, is_smaller, IsNextDue}
-use Rattle.seq_timer.specs.Contents.{Content, reached, first_due, IsQueueOf, IsContentOf}
+use Rattle.seq_timer.specs.Tables.{rank, is_armed_on, is_kept_on, is_smaller, IsNextDue, IsStopped, IsLeading}
+use Rattle.seq_timer.specs.Halves.{Half, reached, first_in, IsQueueOf, IsHalfOf}
 
 -- a clock is told by its place among the queues
 pub rank-injective : (a b : ClockId) → rank a ≡ rank b → a ≡ b
@@ -25,90 +25,79 @@ rank-injective clocks.Boottime clocks.Monotonic e = absurd (grind arith)
 rank-injective clocks.Boottime clocks.Realtime e = absurd (grind arith)
 rank-injective clocks.Boottime clocks.Boottime e = refl
 
-pub first_reached : (now : ℕ) (queue : List (ℕ × ℕ)) (p : ℕ × ℕ) → reached now queue ≡ Some p → (first_of queue ≡ Some p) × (p.0 ≤ now)
-first_reached now [] p is = cc
-first_reached now (q ∷ qs) p is = ⊎_elim
-    (λ (early : now < q.0). absurd (grind (arith, nat_tests)))
-    (λ (late : q.0 ≤ now).
+pub first_reached : (timers : ℕ → Timer) (now : ℕ) (queue : List (ℕ × ℕ)) (p : ℕ × ℕ) → reached timers now queue ≡ Some p
+    → (first_of queue ≡ Some p) × ((timers p.1).soft ≤ now)
+first_reached timers now [] p is = cc
+first_reached timers now (q ∷ qs) p is = ⊎_elim
+    (λ (early : now < (timers q.1).soft). absurd (grind (arith, nat_tests)))
+    (λ (late : (timers q.1).soft ≤ now).
     let same : Some q ≡ Some p = grind (arith, nat_tests) in
-    (same, subst (λ (o : Option (ℕ × ℕ)). IfSome o (λ r. r.0 ≤ now)) same late))
-    (cases_lt now q.0)
-
--- no timer of a clock is due on a base
-abbrev NoneOf : (ℕ → Timer) → ℕ → ClockReading → ClockId → Type 0
-NoneOf timers base reading clock = (id : ℕ) → (is_kept_on base clock (timers id) && nat_le (timers id).expires (value_of clock reading)) ≡ false
+    (same, subst (λ (o : Option (ℕ × ℕ)). IfSome o (λ r. (timers r.1).soft ≤ now)) same late))
+    (cases_lt now (timers q.1).soft)
 
 pub expiry-kept : (kept : Bool) (expires least : ℕ) → (if kept then Some expires else None) ≡ Some least → (kept ≡ true) × (expires ≡ least)
 expiry-kept true expires least is = (refl, cc)
 expiry-kept false expires least is = absurd (cc)
 
-pub none_reached : (now id expires : ℕ) (queue : List (ℕ × ℕ)) → IsByExpiry queue → reached now queue ≡ None
-    → expiry_of id queue ≡ Some expires → now < expires
-none_reached now id expires [] sorted none found = grind arith
-none_reached now id expires (q ∷ qs) sorted none found =
-    let least = first_is_least (q ∷ qs) q sorted refl id expires found in
-    ⊎_elim
-    (λ (early : now < q.0). omega arith)
-    (λ (late : q.0 ≤ now). absurd (grind (arith, nat_tests)))
-    (cases_lt now q.0)
+none-kept : (kept : Bool) (expires : ℕ) → None ≡ (if kept then Some expires else None) → kept ≡ false
+none-kept true expires is = absurd (cc)
+none-kept false expires is = refl
 
--- where a queue's first pair isn't reached, none of its clock is due
-pub none_of : (timers : ℕ → Timer) (base : ℕ) (reading : ClockReading) (clock : ClockId) (queue : List (ℕ × ℕ))
-    → IsQueueOf timers base clock queue → reached (value_of clock reading) queue ≡ None → NoneOf timers base reading clock
-none_of timers base reading clock queue here none id =
-    let t = timers id in
-    let now = value_of clock reading in
-    elim (is_kept_on base clock t) as (λ b. is_kept_on base clock t ≡ b → (b && nat_le t.expires now) ≡ false) [
-      | true ↦ λ kept. lt-leb t.expires now
-          (none_reached now id t.expires queue here.by_expiry none (here.exact id ∙ ap (λ b. if b then Some t.expires else None) kept))
-      | false ↦ λ absent. refl
-    ] refl
-
-pub due_of_kept : (armed in_time : Bool) (n : ℕ) → ((armed && nat_eq n n) && in_time) ≡ false → (armed && in_time) ≡ false
-due_of_kept false in_time n none = refl
-due_of_kept true in_time n none = grind (arith, nat_tests)
-
--- a timer isn't due where none of its clock is
-pub not_due : (timers : ℕ → Timer) (base id : ℕ) (reading : ClockReading) → NoneOf timers base reading (timers id).clock
-    → is_due_on base reading (timers id) ≡ false
-not_due timers base id reading none =
-    let t = timers id in
-    due_of_kept (is_armed_on base t) (nat_le t.expires (value_of t.clock reading)) (rank t.clock) (none id)
-
--- the first pair of a queue, where it is reached and none of a clock before it is due
-pub next_of : (timers : ℕ → Timer) (base : ℕ) (reading : ClockReading) (clock : ClockId) (queue : List (ℕ × ℕ)) (p : ℕ × ℕ)
-    → IsQueueOf timers base clock queue → reached (value_of clock reading) queue ≡ Some p
-    → ((before : ClockId) → nat_lt (rank before) (rank clock) ≡ true → NoneOf timers base reading before)
-    → IsNextDue timers base reading p.1 × (p.0 ≡ (timers p.1).expires)
-next_of timers base reading clock queue p here is before =
+-- the first pair of a queue is of a timer that leads its clock
+pub leads_of : (timers : ℕ → Timer) (base : ℕ) (clock : ClockId) (queue : List (ℕ × ℕ)) (p : ℕ × ℕ) → IsQueueOf timers base clock queue
+    → first_of queue ≡ Some p → IsLeading timers base clock p.1 × ((timers p.1).expires ≡ p.0)
+leads_of timers base clock queue p here first =
     let t = timers p.1 in
-    let first = first_reached (value_of clock reading) queue p is in
-    let found = expiry_of-first queue p first.0 in
-    let kept = expiry-kept (is_kept_on base clock t) t.expires p.0 (sym (here.exact p.1) ∙ found) in
-    let parts = and_parts (is_armed_on base t) (nat_eq (rank t.clock) (rank clock)) kept.0 in
-    let clock_is : t.clock ≡ clock = rank-injective t.clock clock (eqb-true (rank t.clock) (rank clock) parts.1) in
-    let in_time : t.expires ≤ value_of t.clock reading = subst (λ k. t.expires ≤ value_of k reading) (sym clock_is)
-    (subst (λ e. e ≤ value_of clock reading) (sym kept.1) first.1) in
-    let not_ahead : (other : ℕ) → is_ahead base reading clock (timers other) ≡ false = λ other.
-    elim (nat_lt (rank (timers other).clock) (rank clock)) as
-    (λ b. nat_lt (rank (timers other).clock) (rank clock) ≡ b → (is_due_on base reading (timers other) && b) ≡ false) [
-      | true ↦ λ earlier. and_left (is_due_on base reading (timers other)) true (not_due timers base other reading (before (timers other).clock earlier))
-      | false ↦ λ later. and_right (is_due_on base reading (timers other)) false refl
-    ] refl in
+    let kept = expiry-kept (is_kept_on base clock t) t.expires p.0 (sym (here.exact p.1) ∙ expiry_of-first queue p first) in
     let not_smaller : (other : ℕ) → is_smaller base clock p.0 (timers other) ≡ false = λ other.
     elim (is_kept_on base clock (timers other)) as (λ b. is_kept_on base clock (timers other) ≡ b → (b && nat_lt (timers other).expires p.0) ≡ false) [
       | true ↦ λ there. le-ltb (timers other).expires p.0
-          (first_is_least queue p here.by_expiry first.0 other (timers other).expires
+          (first_is_least queue p here.by_expiry first other (timers other).expires
           (here.exact other ∙ ap (λ b. if b then Some (timers other).expires else None) there))
       | false ↦ λ absent. refl
     ] refl in (
+      record { kept = kept.0; smaller = λ other. subst (λ e. is_smaller base clock e (timers other) ≡ false) (sym kept.1) (not_smaller other) },
+      kept.1,
+    )
+
+-- where a queue's first pair isn't reached, the base is stopped for its clock
+pub stopped_of : (timers : ℕ → Timer) (base : ℕ) (reading : ClockReading) (clock : ClockId) (queue : List (ℕ × ℕ))
+    → IsQueueOf timers base clock queue → reached timers (value_of clock reading) queue ≡ None → IsStopped timers base reading clock
+stopped_of timers base reading clock [] here none = inl (λ id. none-kept (is_kept_on base clock (timers id)) (timers id).expires (here.exact id))
+stopped_of timers base reading clock (q ∷ qs) here none = ⊎_elim
+    (λ (early : value_of clock reading < (timers q.1).soft). inr (q.1, (leads_of timers base clock (q ∷ qs) q here refl).0, early))
+    (λ (late : (timers q.1).soft ≤ value_of clock reading). absurd (grind (arith, nat_tests)))
+    (cases_lt (value_of clock reading) (timers q.1).soft)
+
+-- where a base is stopped for a clock, no expiry of a timer that is kept on it there is reached
+pub stopped-unreached : (timers : ℕ → Timer) (base : ℕ) (reading : ClockReading) (clock : ClockId) → ((id : ℕ) → (timers id).soft ≤ (timers id).expires)
+    → IsStopped timers base reading clock → (id : ℕ) → is_kept_on base clock (timers id) ≡ true → value_of clock reading < (timers id).expires
+stopped-unreached timers base reading clock within (inl none) id kept = absurd (true≢false (sym kept ∙ none id))
+stopped-unreached timers base reading clock within (inr lead) id kept =
+    let first = timers lead.0 in
+    let least : nat_lt (timers id).expires first.expires ≡ false = sym (ap (λ b. b && nat_lt (timers id).expires first.expires) kept) ∙ lead.1.smaller id in
+    let soft = within lead.0 in
+    let late = lead.2 in
+    grind (arith, nat_tests)
+
+-- the first pair of a queue, where it is reached and the base is stopped for each clock before it
+pub next_of : (timers : ℕ → Timer) (base : ℕ) (reading : ClockReading) (clock : ClockId) (queue : List (ℕ × ℕ)) (p : ℕ × ℕ)
+    → IsQueueOf timers base clock queue → reached timers (value_of clock reading) queue ≡ Some p
+    → ((before : ClockId) → nat_lt (rank before) (rank clock) ≡ true → IsStopped timers base reading before)
+    → IsNextDue timers base reading p.1 × (p.0 ≡ (timers p.1).expires)
+next_of timers base reading clock queue p here is before =
+    let t = timers p.1 in
+    let first = first_reached timers (value_of clock reading) queue p is in
+    let leads = leads_of timers base clock queue p here first.0 in
+    let parts = and_parts (is_armed_on base t) (nat_eq (rank t.clock) (rank clock)) leads.0.kept in
+    let clock_is : t.clock ≡ clock = rank-injective t.clock clock (eqb-true (rank t.clock) (rank clock) parts.1) in
+    let in_time : t.soft ≤ value_of t.clock reading = subst (λ k. t.soft ≤ value_of k reading) (sym clock_is) first.1 in (
       record {
-        due = and_from (is_armed_on base t) (nat_le t.expires (value_of t.clock reading)) parts.0 (le-leb t.expires (value_of t.clock reading) in_time);
-        ahead = λ other. subst (λ k. is_ahead base reading k (timers other) ≡ false) (sym clock_is) (not_ahead other);
-        smaller = λ other. subst (λ k. is_smaller base k t.expires (timers other) ≡ false) (sym clock_is)
-            (subst (λ e. is_smaller base clock e (timers other) ≡ false) (sym kept.1) (not_smaller other));
+        due = and_from (is_armed_on base t) (nat_le t.soft (value_of t.clock reading)) parts.0 (le-leb t.soft (value_of t.clock reading) in_time);
+        ahead = subst (λ k. (c : ClockId) → nat_lt (rank c) (rank k) ≡ true → IsStopped timers base reading c) (sym clock_is) before;
+        smaller = λ other. subst (λ k. is_smaller base k t.expires (timers other) ≡ false) (sym clock_is) (leads.0.smaller other);
       },
-      sym kept.1,
+      sym leads.1,
     )
 
 -- ---- over the three queues
@@ -125,21 +114,21 @@ or_none None None (Some x) is = absurd (cc)
 or_none None (Some x) d is = absurd (cc)
 or_none (Some x) b d is = absurd (cc)
 
-pub first_due-next : (timers : ℕ → Timer) (base : ℕ) (reading : ClockReading) (c : Content) (p : ℕ × ℕ) → IsContentOf timers base c
-    → first_due c reading ≡ Some p → IsNextDue timers base reading p.1 × (p.0 ≡ (timers p.1).expires)
-first_due-next timers base reading c p here is =
-    let none_mono = none_of timers base reading clocks.Monotonic c.monotonic (here.queues clocks.Monotonic) in
-    let none_real = none_of timers base reading clocks.Realtime c.realtime (here.queues clocks.Realtime) in
+pub first_in-next : (timers : ℕ → Timer) (base : ℕ) (reading : ClockReading) (c : Half) (p : ℕ × ℕ) → IsHalfOf timers base c
+    → first_in timers c reading ≡ Some p → IsNextDue timers base reading p.1 × (p.0 ≡ (timers p.1).expires)
+first_in-next timers base reading c p here is =
+    let none_mono = stopped_of timers base reading clocks.Monotonic c.monotonic (here.queues clocks.Monotonic) in
+    let none_real = stopped_of timers base reading clocks.Realtime c.realtime (here.queues clocks.Realtime) in
     ⊎_elim
     (λ mono. next_of timers base reading clocks.Monotonic c.monotonic p (here.queues clocks.Monotonic) mono
     (λ before earlier. absurd (none_before before earlier)))
     (λ rest. ⊎_elim
     (λ real. next_of timers base reading clocks.Realtime c.realtime p (here.queues clocks.Realtime) real.1
-    (one_before (NoneOf timers base reading) (none_mono real.0)))
+    (one_before (IsStopped timers base reading) (none_mono real.0)))
     (λ boot. next_of timers base reading clocks.Boottime c.boottime p (here.queues clocks.Boottime) boot.2
-    (two_before (NoneOf timers base reading) (none_mono boot.0) (none_real boot.1)))
+    (two_before (IsStopped timers base reading) (none_mono boot.0) (none_real boot.1)))
     rest)
-    (or_some (reached reading.mono c.monotonic) (reached reading.real c.realtime) (reached reading.boot c.boottime) p is)
+    (or_some (reached timers reading.mono c.monotonic) (reached timers reading.real c.realtime) (reached timers reading.boot c.boottime) p is)
   where
     none_before : (before : ClockId) → nat_lt (rank before) 0 ≡ true → ⊥
     none_before before earlier = grind (arith, nat_tests)
@@ -154,15 +143,15 @@ first_due-next timers base reading c p here is =
     two_before P mono real clocks.Realtime earlier = real
     two_before P mono real clocks.Boottime earlier = absurd (grind (arith, nat_tests))
 
-pub first_due-none : (timers : ℕ → Timer) (base : ℕ) (reading : ClockReading) (c : Content) → IsContentOf timers base c
-    → first_due c reading ≡ None → (id : ℕ) → is_due_on base reading (timers id) ≡ false
-first_due-none timers base reading c here is id =
-    let parts = or_none (reached reading.mono c.monotonic) (reached reading.real c.realtime) (reached reading.boot c.boottime) is in
-    not_due timers base id reading (each (NoneOf timers base reading)
-    (none_of timers base reading clocks.Monotonic c.monotonic (here.queues clocks.Monotonic) parts.0)
-    (none_of timers base reading clocks.Realtime c.realtime (here.queues clocks.Realtime) parts.1)
-    (none_of timers base reading clocks.Boottime c.boottime (here.queues clocks.Boottime) parts.2)
-    (timers id).clock)
+pub first_in-none : (timers : ℕ → Timer) (base : ℕ) (reading : ClockReading) (c : Half) → IsHalfOf timers base c
+    → first_in timers c reading ≡ None → (clock : ClockId) → IsStopped timers base reading clock
+first_in-none timers base reading c here is clock =
+    let parts = or_none (reached timers reading.mono c.monotonic) (reached timers reading.real c.realtime) (reached timers reading.boot c.boottime) is in
+    each (IsStopped timers base reading)
+    (stopped_of timers base reading clocks.Monotonic c.monotonic (here.queues clocks.Monotonic) parts.0)
+    (stopped_of timers base reading clocks.Realtime c.realtime (here.queues clocks.Realtime) parts.1)
+    (stopped_of timers base reading clocks.Boottime c.boottime (here.queues clocks.Boottime) parts.2)
+    clock
   where
     each : (P : ClockId → Type 0) → P clocks.Monotonic → P clocks.Realtime → P clocks.Boottime → (clock : ClockId) → P clock
     each P mono real boot clocks.Monotonic = mono

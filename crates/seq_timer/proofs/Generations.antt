@@ -4,7 +4,8 @@ use Rattle.std.specs.List.{AllByRecursion}
 use Rattle.std.proofs.Math.Logic.{⊎_elim}
 use Rattle.std.proofs.lemmas.Option.{same_Some}
 use Rattle.std.proofs.lemmas.Bool.{eqb-true, eqb-false, ne_eqb, false≢true, or_from, or_parts, cases_Bool}
-use Rattle.ktime.specs.declared.clock_id.ClockId.{ClockId}
+use Rattle.seq_timer.specs.declared.context.Declared.{Declared}
+use Rattle.seq_timer.specs.declared.context.Terms.{Terms}
 use Rattle.seq_timer.specs.declared.event.Event.{Event}
 use Rattle.seq_timer.specs.declared.event.Event.TheVariants as events
 use Rattle.seq_timer.specs.Steps.{Timer, opening, Needs, after, reply_to, arms_again}
@@ -23,7 +24,7 @@ pub record IsGone (t : Timer) (generation : ℕ) : Type 0 where
 
 pub gone-after : (t : Timer) (e : Event) (generation : ℕ) → IsGone t generation → IsGone (after t e) generation
 gone-after t (events.Out base) generation gone = let old = gone.old in record { old = omega (arith, old); unarmed = λ is. cc }
-gone-after t (events.Start mode ns reading asked) generation gone = let old = gone.old in record
+gone-after t (events.Start asked) generation gone = let old = gone.old in record
     { old = omega (arith, old); unarmed = λ is. let same = same_Some (t.stamp + 1) generation is in omega (arith, old, same) }
 gone-after t events.Cancel generation gone = let old = gone.old in record { old = omega (arith, old); unarmed = λ is. cc }
 gone-after t (events.Claim base reading) generation gone = let old = gone.old in record { old = omega (arith, old); unarmed = λ is. cc }
@@ -44,7 +45,7 @@ untold t generation armed gone = ne_eqb (unwrap_or t.armed 0) generation (λ e. 
 pub gone-untold : (t : Timer) (e : Event) (generation : ℕ) → Needs t e → IsGone t generation
     → (is_told generation (claim_in (reply_to t e)) ≡ false) × (is_told generation (cancel_in (reply_to t e)) ≡ false)
 gone-untold t (events.Out base) generation needs gone = (refl, refl)
-gone-untold t (events.Start mode ns reading asked) generation needs gone = (refl, refl)
+gone-untold t (events.Start asked) generation needs gone = (refl, refl)
 gone-untold t events.Cancel generation needs gone = (refl, untold t generation needs.0 gone.unarmed)
 gone-untold t (events.Claim base reading) generation needs gone = (untold t generation needs.0 gone.unarmed, refl)
 gone-untold t (events.Forward reading interval) generation needs gone = (refl, refl)
@@ -62,7 +63,7 @@ gone-later t generation (e ∷ es) steps gone =
 
 pub old-after : (t : Timer) (e : Event) → IsOld t → IsOld (after t e)
 old-after t (events.Out base) old generation is = absurd (cc)
-old-after t (events.Start mode ns reading asked) old generation is = let same = same_Some (t.stamp + 1) generation is in omega (arith, same)
+old-after t (events.Start asked) old generation is = let same = same_Some (t.stamp + 1) generation is in omega (arith, same)
 old-after t events.Cancel old generation is = absurd (cc)
 old-after t (events.Claim base reading) old generation is = absurd (cc)
 old-after t (events.Forward reading interval) old generation is = let before = old generation is in omega (arith, before)
@@ -84,7 +85,7 @@ gone_now t e generation old is disarmed counted = let before = old generation is
 pub cancelled-gone : (t : Timer) (e : Event) (generation : ℕ) → Needs t e → IsOld t → is_told generation (cancel_in (reply_to t e)) ≡ true
     → IsGone (after t e) generation × (is_told generation (claim_in (reply_to t e)) ≡ false)
 cancelled-gone t (events.Out base) generation needs old told = absurd (false≢true told)
-cancelled-gone t (events.Start mode ns reading asked) generation needs old told = absurd (false≢true told)
+cancelled-gone t (events.Start asked) generation needs old told = absurd (false≢true told)
 cancelled-gone t events.Cancel generation needs old told = (gone_now t events.Cancel generation old (told_is t generation needs.0 told) refl refl, refl)
 cancelled-gone t (events.Claim base reading) generation needs old told = absurd (false≢true told)
 cancelled-gone t (events.Forward reading interval) generation needs old told = absurd (false≢true told)
@@ -93,7 +94,7 @@ cancelled-gone t (events.Finish restart) generation needs old told = absurd (fal
 pub claimed-gone : (t : Timer) (e : Event) (generation : ℕ) → Needs t e → IsOld t → is_told generation (claim_in (reply_to t e)) ≡ true
     → IsGone (after t e) generation
 claimed-gone t (events.Out base) generation needs old told = absurd (false≢true told)
-claimed-gone t (events.Start mode ns reading asked) generation needs old told = absurd (false≢true told)
+claimed-gone t (events.Start asked) generation needs old told = absurd (false≢true told)
 claimed-gone t events.Cancel generation needs old told = absurd (false≢true told)
 claimed-gone t (events.Claim base reading) generation needs old told = gone_now t (events.Claim base reading) generation old
     (told_is t generation needs.0 told) refl refl
@@ -121,9 +122,9 @@ never_claimed t generation (e ∷ es) old steps cancelled =
     (cases_Bool (is_told generation (claim_in e.reply))))
     (cases_Bool (is_told generation (cancel_in e.reply)))
 
-pub legal_never_claimed : (clock : ClockId) (limit generation : ℕ) (history : List Entry) → IsLegal clock limit history
+pub legal_never_claimed : (clock : Declared) (terms : Terms) (generation : ℕ) (history : List Entry) → IsLegal clock terms history
     → is_cancelled generation history ≡ true → is_claimed generation history ≡ false
-legal_never_claimed clock limit generation history legal cancelled = never_claimed (opening clock limit) generation history
+legal_never_claimed clock terms generation history legal cancelled = never_claimed (opening clock terms) generation history
     (λ g is. absurd (cc)) legal cancelled
 
 -- no span where there is no claim

@@ -1,6 +1,9 @@
 pub mod Agreement
+pub mod Alike
 pub mod Contents
+pub mod Halves
 pub mod Due
+pub mod Firsts
 pub mod Generations
 pub mod Limits
 pub mod Queues

@@ -6,10 +6,10 @@ use Rattle.ktime.specs.declared.clock_id.ClockId.{ClockId}
 use Rattle.ktime.specs.declared.clock_id.ClockId.TheVariants as clocks
 use Rattle.timer_queue.specs.Pairs.{has_id, put, without}
 use Rattle.timer_queue.proofs.Pairs.{has_id-expiry_of, expiry_of-without}
-use Rattle.seq_timer.specs.Bases.{IsInNone, IsQueuedAs, is_queued}
+use Rattle.seq_timer.specs.Bases.{IsInNone, IsQueuedIn, is_queued}
 use Rattle.seq_timer.specs.Steps.{Timer}
 use Rattle.seq_timer.specs.Tables.{rank}
-use Rattle.seq_timer.specs.Contents.{Content, queue_of, dequeued, enqueued, with_running}
+use Rattle.seq_timer.specs.Halves.{Half, queue_of, dequeued, enqueued, with_running}
 
 -- a timer that was taken out isn't in the queue
 pub has_id-without : (id : ℕ) (queue : List (ℕ × ℕ)) → has_id id (without id queue) ≡ false
@@ -23,12 +23,12 @@ without_absent id (p ∷ ps) absent =
     let rest : has_id id ps ≡ false = grind (arith, nat_tests) in
     rw head (ap (λ qs. p ∷ qs) (without_absent id ps rest))
 
-pub queue_of-dequeued : (id : ℕ) (c : Content) (clock : ClockId) → queue_of (dequeued id c) clock ≡ without id (queue_of c clock)
+pub queue_of-dequeued : (id : ℕ) (c : Half) (clock : ClockId) → queue_of (dequeued id c) clock ≡ without id (queue_of c clock)
 queue_of-dequeued id c clocks.Monotonic = refl
 queue_of-dequeued id c clocks.Realtime = refl
 queue_of-dequeued id c clocks.Boottime = refl
 
-pub queue_of-enqueued : (its clock : ClockId) (expires id : ℕ) (c : Content)
+pub queue_of-enqueued : (its clock : ClockId) (expires id : ℕ) (c : Half)
     → queue_of (enqueued its expires id c) clock ≡ (if nat_eq (rank its) (rank clock) then put expires id (queue_of c clock) else queue_of c clock)
 queue_of-enqueued clocks.Monotonic clocks.Monotonic expires id c = refl
 queue_of-enqueued clocks.Monotonic clocks.Realtime expires id c = refl
@@ -41,23 +41,23 @@ queue_of-enqueued clocks.Boottime clocks.Realtime expires id c = refl
 queue_of-enqueued clocks.Boottime clocks.Boottime expires id c = refl
 
 -- what runs on the base doesn't stand in the queues
-pub queue_of-with_running : (running : Option (ℕ × ℕ)) (c : Content) (clock : ClockId) → queue_of (with_running running c) clock ≡ queue_of c clock
+pub queue_of-with_running : (running : Option (ℕ × ℕ)) (c : Half) (clock : ClockId) → queue_of (with_running running c) clock ≡ queue_of c clock
 queue_of-with_running running c clocks.Monotonic = refl
 queue_of-with_running running c clocks.Realtime = refl
 queue_of-with_running running c clocks.Boottime = refl
 
 -- nor do the queues say what runs
-pub running-enqueued : (its : ClockId) (expires id : ℕ) (c : Content) → (enqueued its expires id c).running ≡ c.running
+pub running-enqueued : (its : ClockId) (expires id : ℕ) (c : Half) → (enqueued its expires id c).running ≡ c.running
 running-enqueued clocks.Monotonic expires id c = refl
 running-enqueued clocks.Realtime expires id c = refl
 running-enqueued clocks.Boottime expires id c = refl
 
 -- ---- taking a timer off the one queue that it is in
 
-pub dequeued-in_none : (id : ℕ) (c : Content) → IsInNone id (dequeued id c)
+pub dequeued-in_none : (id : ℕ) (c : Half) → IsInNone id (dequeued id c)
 dequeued-in_none id c = record { monotonic = has_id-without id c.monotonic; realtime = has_id-without id c.realtime; boottime = has_id-without id c.boottime }
 
-abbrev pub content_of : List (ℕ × ℕ) → List (ℕ × ℕ) → List (ℕ × ℕ) → Option (ℕ × ℕ) → Content
+abbrev pub content_of : List (ℕ × ℕ) → List (ℕ × ℕ) → List (ℕ × ℕ) → Option (ℕ × ℕ) → Half
 content_of m r b running = record { monotonic = m; realtime = r; boottime = b; running = running }
 
 same_queues : (m m' r r' b b' : List (ℕ × ℕ)) (running : Option (ℕ × ℕ)) → m ≡ m' → r ≡ r' → b ≡ b' → content_of m r b running ≡ content_of m' r' b' running
@@ -71,7 +71,7 @@ away id t its clock queue is apart here = sym (without_absent id queue (here ∙
     (subst (λ k. nat_eq (rank k) (rank clock) ≡ false) (sym is) apart)))
 
 -- a timer that isn't armed is in none of them
-pub dequeued-unarmed : (id : ℕ) (t : Timer) (c : Content) → IsQueuedAs id t c → is_some t.armed ≡ false → c ≡ dequeued id c
+pub dequeued-unarmed : (id : ℕ) (t : Timer) (c : Half) → IsQueuedIn id t c → is_some t.armed ≡ false → c ≡ dequeued id c
 dequeued-unarmed id t c here none =
     let off : (clock : ClockId) → is_queued clock t ≡ false = λ clock. and_left (is_some t.armed) (nat_eq (rank t.clock) (rank clock)) none in
     same_queues c.monotonic (without id c.monotonic) c.realtime (without id c.realtime) c.boottime (without id c.boottime) c.running
@@ -79,13 +79,13 @@ dequeued-unarmed id t c here none =
     (sym (without_absent id c.realtime (here.realtime ∙ off clocks.Realtime))) (sym (without_absent id c.boottime (here.boottime ∙ off clocks.Boottime)))
 
 -- the queue of a clock put in the place of the one that is there
-abbrev with_queue : ClockId → List (ℕ × ℕ) → Content → Content
+abbrev with_queue : ClockId → List (ℕ × ℕ) → Half → Half
 with_queue clocks.Monotonic queue c = record c { monotonic = queue }
 with_queue clocks.Realtime queue c = record c { realtime = queue }
 with_queue clocks.Boottime queue c = record c { boottime = queue }
 
 -- one that is, is in its clock's
-dequeued_there : (id : ℕ) (t : Timer) (its : ClockId) (queue : List (ℕ × ℕ)) (c : Content) → IsQueuedAs id t c → t.clock ≡ its
+dequeued_there : (id : ℕ) (t : Timer) (its : ClockId) (queue : List (ℕ × ℕ)) (c : Half) → IsQueuedIn id t c → t.clock ≡ its
     → queue ≡ without id (queue_of c its) → with_queue its queue c ≡ dequeued id c
 dequeued_there id t clocks.Monotonic queue c here on off =
     same_queues queue (without id c.monotonic) c.realtime (without id c.realtime) c.boottime (without id c.boottime) c.running off
@@ -100,6 +100,6 @@ dequeued_there id t clocks.Boottime queue c here on off =
     (away id t clocks.Boottime clocks.Monotonic c.monotonic on refl here.monotonic)
     (away id t clocks.Boottime clocks.Realtime c.realtime on refl here.realtime) off
 
-pub dequeued-armed : (id : ℕ) (t : Timer) (its : ClockId) (queue : List (ℕ × ℕ)) (old c : Content) → old ≡ c → IsQueuedAs id t c → t.clock ≡ its
+pub dequeued-armed : (id : ℕ) (t : Timer) (its : ClockId) (queue : List (ℕ × ℕ)) (old c : Half) → old ≡ c → IsQueuedIn id t c → t.clock ≡ its
     → queue ≡ without id (queue_of old its) → with_queue its queue old ≡ dequeued id c
-dequeued-armed id t its queue old c is here on off = dequeued_there id t its queue old (subst (IsQueuedAs id t) (sym is) here) on off ∙ ap (dequeued id) is
+dequeued-armed id t its queue old c is here on off = dequeued_there id t its queue old (subst (IsQueuedIn id t) (sym is) here) on off ∙ ap (dequeued id) is

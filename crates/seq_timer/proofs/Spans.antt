@@ -3,7 +3,8 @@ use Rattle.std.proofs.Common.{◌≡◌, ◌+◌, ◌-◌, ◌<◌, ◌≤◌, �
 use Rattle.std.specs.List.{AllByRecursion}
 use Rattle.std.proofs.Math.Logic.{⊎_elim}
 use Rattle.std.proofs.lemmas.Option.{same_Some}
-use Rattle.ktime.specs.declared.clock_id.ClockId.{ClockId}
+use Rattle.seq_timer.specs.declared.context.Declared.{Declared}
+use Rattle.seq_timer.specs.declared.context.Terms.{Terms}
 use Rattle.seq_timer.specs.Steps.{Timer, opening, after, reply_to}
 use Rattle.seq_timer.specs.Histories.{Entry, AreSteps, IsLegal, after_all, claim_in, finish_in, is_finish, next_finish, Span, with_span, spans_from, spans_of, IsInside}
 use Rattle.seq_timer.specs.Laws.{AreApart, IsInOne, IsOfOneGeneration}
@@ -138,13 +139,13 @@ runs_inside t before (suc count) generation (e ∷ es) steps within runs =
     others)
     (kind_of t e.event steps.0)
 
-pub legal_runs_inside : (clock : ClockId) (limit stamp generation : ℕ) (history : List Entry) → IsLegal clock limit history
-    → stamp ≤ length history → (after_all (opening clock limit) (take stamp history)).running ≡ Some generation → IsInOne generation stamp (spans_of history)
-legal_runs_inside clock limit stamp generation history legal within runs =
+pub legal_runs_inside : (clock : Declared) (terms : Terms) (stamp generation : ℕ) (history : List Entry) → IsLegal clock terms history
+    → stamp ≤ length history → (after_all (opening clock terms) (take stamp history)).running ≡ Some generation → IsInOne generation stamp (spans_of history)
+legal_runs_inside clock terms stamp generation history legal within runs =
     ⊎_elim
     (λ (before : (None ≡ Some generation) × (0 + stamp < next_finish (0 + 1) history)). absurd (cc before.0))
     (λ (one : IsInOne generation (0 + stamp) (spans_from (0 + 1) history)). subst (λ n. IsInOne generation n (spans_of history)) (plain stamp) one)
-    (runs_inside (opening clock limit) 0 stamp generation history legal within runs)
+    (runs_inside (opening clock terms) 0 stamp generation history legal within runs)
   where
     plain : (n : ℕ) → 0 + n ≡ n
     plain n = omega arith
@@ -261,12 +262,12 @@ spans_own t before (e ∷ es) steps =
           finishes_as (after t e.event) (before + 1) generation es x steps.2 runs (subst (λ n. slice_get (e ∷ es) n ≡ Some x) next found);
     }
 
-pub one_generation : (clock : ClockId) (limit : ℕ) (history : List Entry) → IsLegal clock limit history
-    → AllByRecursion (IsOfOneGeneration clock limit history) (spans_of history)
-one_generation clock limit history legal =
-    all_follow (IsOwn (opening clock limit) 0 history) (IsOfOneGeneration clock limit history)
+pub one_generation : (clock : Declared) (terms : Terms) (history : List Entry) → IsLegal clock terms history
+    → AllByRecursion (IsOfOneGeneration clock terms history) (spans_of history)
+one_generation clock terms history legal =
+    all_follow (IsOwn (opening clock terms) 0 history) (IsOfOneGeneration clock terms history)
     (λ s own. record { runs = λ stamp within fits. own.runs stamp (subst (IsInside s) (plain stamp) within) fits; finishes = own.finishes })
-    (spans_of history) (spans_own (opening clock limit) 0 history legal)
+    (spans_of history) (spans_own (opening clock terms) 0 history legal)
   where
     plain : (n : ℕ) → n ≡ 0 + n
     plain n = omega arith

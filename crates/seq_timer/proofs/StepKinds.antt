@@ -40,7 +40,7 @@ unwrapped None g is = absurd (cc)
 
 pub kind_of : (t : Timer) (e : Event) → Needs t e → IsClaiming t e ⊎ (IsFinishing t e ⊎ IsPassing t e)
 kind_of t (events.Out base) needs = inr (inr (record { told = refl; no_finish = refl; runs = refl }))
-kind_of t (events.Start mode ns reading asked) needs = inr (inr (record { told = refl; no_finish = refl; runs = refl }))
+kind_of t (events.Start asked) needs = inr (inr (record { told = refl; no_finish = refl; runs = refl }))
 kind_of t events.Cancel needs = inr (inr (record { told = refl; no_finish = refl; runs = refl }))
 kind_of t (events.Claim base reading) needs = inl
     (record {

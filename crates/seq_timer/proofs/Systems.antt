@@ -1,6 +1,6 @@
 -- A history of all timers: an entry leaves other timers and bases as they are, bases keep the timers that are on them, and a timer is what its own
 -- entries lead to.
-use Rattle.std.proofs.Common.{◌≡◌, ℕ, ◌<◌, ◌≢◌, eqb, Bool, true, false, List, [], ◌∷◌, ◌++◌, length, refl, ap, sym, ◌∙◌, subst, ◌⊎◌, inl, inr, ⊎_elim, arith, if◌then◌else◌}
+use Rattle.std.proofs.Common.{◌≡◌, ℕ, ◌<◌, ◌≤◌, ◌≢◌, eqb, Bool, true, false, List, [], ◌∷◌, ◌++◌, length, refl, ap, sym, ◌∙◌, subst, ◌⊎◌, inl, inr, ⊎_elim, arith, if◌then◌else◌}
 use Rattle.std.proofs.lemmas.Bool.{cases_eq, ne_eqb, eq-eqb, true≢false}
 use Rattle.std.proofs.lemmas.List.{get_or-set_same, get_or-set_other, length-set}
 use Rattle.seq_timer.specs.declared.event.Event.{Event}
@@ -53,7 +53,7 @@ states_len id t event b = length-set b.states id (after t event)
 -- a step leaves the timer on its base, or on the move
 pub stays_or_moves : (t : Timer) (e : Event) → ((after t e).moving ≡ true) ⊎ ((after t e).base ≡ t.base)
 stays_or_moves t (events.Out base) = inl refl
-stays_or_moves t (events.Start mode ns reading asked) = inr refl
+stays_or_moves t (events.Start asked) = inr refl
 stays_or_moves t events.Cancel = inr refl
 stays_or_moves t (events.Claim base reading) = inr refl
 stays_or_moves t (events.Forward reading interval) = inr refl
@@ -145,6 +145,13 @@ pub same_on : (count : ℕ) (v w : System) (b t : ℕ) → Shows count v → Sho
 same_on count v w b t shows_v shows_w same h on =
     let here : timer_at (w.bases b).states t ≡ v.timers t = ap (λ (x : BaseContent). timer_at x.states t) (sym same) ∙ shows_v.kept b t h on in
     shows_w.shown b t h (subst (λ (x : Timer). IsOn b x) (sym here) on) ∙ here
+
+-- nothing happens to a timer that isn't there
+pub untouched : (bases count : ℕ) (w : System) (log : List TimerEntry) (t : ℕ) → count ≤ t → AreSystemSteps bases count w log
+    → (after_entries w log).timers t ≡ w.timers t
+untouched bases count w [] t past all = refl
+untouched bases count w (e ∷ es) t past all =
+    untouched bases count (after_entry w e) es t past all.1 ∙ timer_else w e t (λ same. absurd (omega (arith, same, all.0.within)))
 
 -- ---- a timer's own history
 

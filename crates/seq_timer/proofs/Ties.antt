@@ -1,9 +1,12 @@
 -- Of timers that expire at the same time on one queue, the one that was armed first stands first, and is claimed first.
-use Rattle.std.proofs.Common.{◌≡◌, ◌≢◌, ◌<◌, ◌≤◌, ◌+◌, ℕ, Bool, true, false, not, ◌&&◌, List, [], ◌∷◌, ◌++◌, Option, Some, None, nat_eq, nat_lt, is_some, unwrap_or, if◌then◌else◌, arith, refl, sym, ap, ◌∙◌, subst, ⊎_elim, length}
+use Rattle.std.proofs.Common.{◌≡◌, ◌≢◌, ◌<◌, ◌≤◌, ◌⊎◌, ◌+◌, ℕ, Bool, true, false, not, ◌&&◌, List, [], ◌∷◌, ◌++◌, Option, Some, None, nat_eq, nat_lt, is_some, unwrap_or, if◌then◌else◌, arith, refl, sym, ap, ◌∙◌, subst, ⊎_elim, inl, inr, length}
 use Rattle.std.specs.List.{AllByRecursion}
-use Rattle.std.proofs.lemmas.Bool.{cases_eq, ne_eqb, eqb-true}
+use Rattle.std.proofs.lemmas.Bool.{cases_Bool, cases_eq, ne_eqb, eqb-true, true≢false}
 use Rattle.std.proofs.lemmas.Bool.Decides.{nat_tests}
+use Rattle.std.proofs.lemmas.List.{length-map}
 use Rattle.ktime.specs.declared.clock_id.ClockId.{ClockId}
+use Rattle.seq_timer.specs.declared.context.Declared.{Declared}
+use Rattle.seq_timer.specs.declared.context.Terms.{Terms}
 use Rattle.ktime.specs.declared.clock_id.ClockId.TheVariants as clocks
 use Rattle.ktime.specs.Readings.{ClockReading}
 use Rattle.timer_queue.specs.Pairs.{IsByExpiry, expiry_of, first_of, has_id, put, without}
@@ -11,14 +14,19 @@ use Rattle.timer_queue.proofs.Pairs.{IsByExpiry-without, expiry_of-first, has_id
 use Rattle.seq_timer.specs.declared.event.Event.{Event}
 use Rattle.seq_timer.specs.declared.event.Event.TheVariants as events
 use Rattle.seq_timer.specs.declared.system.TimerEntry.{TimerEntry}
-use Rattle.seq_timer.specs.Steps.{Timer, Needs, after, arms_again}
-use Rattle.seq_timer.specs.Tables.{is_kept_on, rank, runs_on}
-use Rattle.seq_timer.specs.Contents.{Content, content_after, dequeued, first_due, generation_in, no_content, queue_of, reached, requeued, running_on, with_running}
-use Rattle.seq_timer.specs.Systems.{AreSystemSteps, BaseContent, FitsBase, IsSystemHistory, IsSystemStep, System, after_entries, after_entry, armed_after, armed_in, arms, first_system, openings, system_of, updated}
+use Rattle.seq_timer.specs.Steps.{Timer, Needs, after, arms_again, opening}
+use Rattle.seq_timer.specs.Tables.{in_context, is_context, is_kept_on, rank, runs_on, seen_in}
+use Rattle.seq_timer.specs.declared.context.Context.{Context}
+use Rattle.seq_timer.specs.declared.context.Context.TheVariants as contexts
+use Rattle.seq_timer.specs.Halves.{Half, IsHalfOf, dequeued, generation_in, half_after, queue_of, reached, requeued, running_on, wanted, with_running}
+use Rattle.seq_timer.specs.Contents.{content_after, first_due, half_of, no_content, running_in}
+use Rattle.seq_timer.specs.Systems.{AreSystemSteps, BaseContent, FitsBase, IsSystemHistory, IsSystemStep, System, after_entries, after_entry, armed_after, armed_in, arms, first_system, next_on, openings, system_of, updated}
 use Rattle.seq_timer.specs.Turns.{IsTurn, MayFollow}
-use Rattle.seq_timer.proofs.Agreement.{Agrees, agrees_next, all_agree, content_of_changed, first_agrees}
-use Rattle.seq_timer.proofs.Contents.{wanted-elsewhere}
-use Rattle.seq_timer.proofs.Due.{expiry-kept, first_due-next, first_reached, or_some, rank-injective}
+use Rattle.seq_timer.proofs.Agreement.{Agrees, agrees_next, all_agree, all_fresh, content_of_changed, first_agrees}
+use Rattle.seq_timer.proofs.Halves.{wanted-elsewhere}
+use Rattle.seq_timer.proofs.Contents.{half_of-else, half_of-here, same_context, seen_else, seen_here, seen_own}
+use Rattle.seq_timer.proofs.Due.{expiry-kept, first_reached, or_some, rank-injective}
+use Rattle.seq_timer.proofs.Firsts.{first_due-next, next_on-seen}
 use Rattle.seq_timer.proofs.Queues.{has_id-without, queue_of-dequeued, queue_of-enqueued, queue_of-with_running}
 use Rattle.seq_timer.proofs.Systems.{base_else, base_here, steps_part, updated_else, updated_here}
 
@@ -109,7 +117,7 @@ module _ (armed : ℕ → ℕ) (count id : ℕ) (below : (k : ℕ) → armed k �
   last_armed : (k : ℕ) → k ≢ id → later k < later id
   last_armed k apart = omega (arith, updated_here armed id (count + 1), updated_else armed id k (count + 1) apart, below k)
 
-  order_requeued : (t : Timer) (c : Content) (clock : ClockId) → IsByExpiry (queue_of c clock) → InOrder armed (queue_of c clock)
+  order_requeued : (t : Timer) (c : Half) (clock : ClockId) → IsByExpiry (queue_of c clock) → InOrder armed (queue_of c clock)
       → InOrder later (queue_of (requeued id t c) clock)
   order_requeued t c clock sorted o =
       let off : List (ℕ × ℕ) = without id (queue_of c clock) in
@@ -122,10 +130,10 @@ module _ (armed : ℕ → ℕ) (count id : ℕ) (below : (k : ℕ) → armed k �
         | false ↦ kept
       ])
 
-  order_here : (t : Timer) (e : Event) (c : Content) (clock : ClockId) → IsByExpiry (queue_of c clock) → InOrder armed (queue_of c clock)
-      → InOrder (if arms t e then later else armed) (queue_of (content_after id t e c) clock)
+  order_here : (t : Timer) (e : Event) (c : Half) (clock : ClockId) → IsByExpiry (queue_of c clock) → InOrder armed (queue_of c clock)
+      → InOrder (if arms t e then later else armed) (queue_of (half_after id t e c) clock)
   order_here t (events.Out base) c clock sorted o = subst (InOrder armed) (sym (queue_of-dequeued id c clock)) (order_without armed id (queue_of c clock) o)
-  order_here t (events.Start mode ns reading asked) c clock sorted o = order_requeued (after t (events.Start mode ns reading asked)) c clock sorted o
+  order_here t (events.Start asked) c clock sorted o = order_requeued (after t (events.Start asked)) c clock sorted o
   order_here t events.Cancel c clock sorted o = subst (InOrder armed) (sym (queue_of-dequeued id c clock)) (order_without armed id (queue_of c clock) o)
   order_here t (events.Claim base reading) c clock sorted o =
       subst (InOrder armed) (sym (queue_of-with_running (Some (id, unwrap_or t.armed 0)) (dequeued id c) clock
@@ -137,23 +145,26 @@ module _ (armed : ℕ → ℕ) (count id : ℕ) (below : (k : ℕ) → armed k �
         | false ↦ subst (InOrder armed) (sym (queue_of-with_running None c clock)) o
       ]
 
+-- a timer stands in no queue of another base or another context
+absent_there : (timers : ℕ → Timer) (x : Context) (b t : ℕ) (clock : ClockId) (h : Half) → IsHalfOf (in_context x timers) b h
+    → (b ≢ (timers t).base) ⊎ (is_context x (timers t).declared.context ≡ false) → has_id t (queue_of h clock) ≡ false
+absent_there timers x b t clock h here apart =
+    has_id-expiry_of t (queue_of h clock) ∙ ap is_some ((here.queues clock).exact t ∙ ⊎_elim
+    (λ own. ⊎_elim (λ far. ap (wanted b clock) (seen_here x (timers t) own) ∙ wanted-elsewhere b clock (timers t) far)
+    (λ other. absurd (true≢false (sym own ∙ other))) apart)
+    (λ other. ap (wanted b clock) (seen_else x (timers t) other))
+    (cases_Bool (is_context x (timers t).declared.context)))
+
 -- ---- all bases
 
 pub record Ordered (w : System) (armed : ℕ → ℕ) (count : ℕ) : Type 0 where
   pub below : (t : ℕ) → armed t ≤ count
-  pub each : (b : ℕ) (clock : ClockId) → InOrder armed (queue_of (w.bases b).content clock)
-
-absent_elsewhere : (w : System) → Agrees w → (b t : ℕ) (clock : ClockId) → b ≢ (w.timers t).base → has_id t (queue_of (w.bases b).content clock) ≡ false
-absent_elsewhere w agrees b t clock apart =
-    has_id-expiry_of t (queue_of (w.bases b).content clock) ∙ ap is_some (((agrees.contents b).queues clock).exact t
-    ∙ wanted-elsewhere b clock (w.timers t) apart)
+  pub each : (b : ℕ) (x : Context) (clock : ClockId) → InOrder armed (queue_of (half_of x (w.bases b).content) clock)
 
 module _ (bases timers : ℕ) where
   ordered_next : (w : System) (armed : ℕ → ℕ) (count : ℕ) (e : TimerEntry) → Agrees w → Ordered w armed count
       → Ordered (after_entry w e) (if arms (w.timers e.timer) e.event then updated armed e.timer (count + 1) else armed) (count + 1)
   ordered_next w armed count e agrees o =
-      let id = e.timer in
-      let t = w.timers id in
       record {
         below = λ k. elim (arms t e.event) as (λ b. (if b then updated armed id (count + 1) else armed) k ≤ count + 1) [
           | true ↦ ⊎_elim
@@ -162,22 +173,45 @@ module _ (bases timers : ℕ) where
               (cases_eq k id)
           | false ↦ omega (arith, o.below k)
         ];
-        each = λ b clock. ⊎_elim
-            (λ (same : b ≡ t.base). subst (λ x. InOrder (if arms t e.event then updated armed id (count + 1) else armed)
-            (queue_of ((after_entry w e).bases x).content clock)) (sym same)
-            (subst (λ c. InOrder (if arms t e.event then updated armed id (count + 1) else armed) (queue_of c clock))
-            (sym (ap (λ (x : BaseContent). x.content) (base_here w e) ∙ content_of_changed id t e.event (w.bases t.base)))
-            (order_here armed count id o.below t e.event (w.bases t.base).content clock ((agrees.contents t.base).queues clock).by_expiry
-            (o.each t.base clock))))
-            (λ apart. subst (λ (x : BaseContent). InOrder (if arms t e.event then updated armed id (count + 1) else armed)
-            (queue_of x.content clock)) (sym (base_else w e b apart))
-            (elim (arms t e.event) as (λ a. InOrder (if a then updated armed id (count + 1) else armed) (queue_of (w.bases b).content clock)) [
-              | true ↦ order_same armed (updated armed id (count + 1)) id (λ k n. updated_else armed id k (count + 1) n)
-                  (queue_of (w.bases b).content clock) (absent_elsewhere w agrees b id clock apart) (o.each b clock)
-              | false ↦ o.each b clock
-            ]))
+        each = λ b x clock. ⊎_elim
+            (λ (same : b ≡ t.base). subst (λ k. InOrder new (queue_of (half_of x ((after_entry w e).bases k).content) clock)) (sym same)
+            (subst (λ c. InOrder new (queue_of (half_of x c) clock))
+            (sym (ap (λ (k : BaseContent). k.content) (base_here w e) ∙ content_of_changed id t e.event (w.bases t.base)))
+            (⊎_elim
+            (λ own. subst (λ z. InOrder new (queue_of (half_of z (content_after id t e.event (w.bases t.base).content)) clock))
+            (sym (same_context x y own))
+            (subst (λ h. InOrder new (queue_of h clock)) (sym (half_of-here y (half_after id t e.event (half_of y (w.bases t.base).content)) (w.bases t.base).content))
+            (order_here armed count id o.below t e.event (half_of y (w.bases t.base).content) clock
+            (((agrees.contents t.base).each y).queues clock).by_expiry (o.each t.base y clock))))
+            (λ other. subst (λ h. InOrder new (queue_of h clock))
+            (sym (half_of-else x y (half_after id t e.event (half_of y (w.bases t.base).content)) (w.bases t.base).content other))
+            (stays t.base x clock (inr other)))
+            (cases_Bool (is_context x y)))))
+            (λ apart. subst (λ (k : BaseContent). InOrder new (queue_of (half_of x k.content) clock)) (sym (base_else w e b apart))
+            (stays b x clock (inl apart)))
             (cases_eq b t.base);
       }
+    where
+      id : ℕ
+      id = e.timer
+
+      t : Timer
+      t = w.timers e.timer
+
+      y : Context
+      y = (w.timers e.timer).declared.context
+
+      new : ℕ → ℕ
+      new = if arms (w.timers e.timer) e.event then updated armed e.timer (count + 1) else armed
+
+      stays : (b : ℕ) (x : Context) (clock : ClockId) → (b ≢ t.base) ⊎ (is_context x y ≡ false) → InOrder new (queue_of (half_of x (w.bases b).content) clock)
+      stays b x clock apart =
+          elim (arms t e.event) as (λ a. InOrder (if a then updated armed id (count + 1) else armed) (queue_of (half_of x (w.bases b).content) clock)) [
+            | true ↦ order_same armed (updated armed id (count + 1)) id (λ k n. updated_else armed id k (count + 1) n)
+                (queue_of (half_of x (w.bases b).content) clock)
+                (absent_there w.timers x b id clock (half_of x (w.bases b).content) ((agrees.contents b).each x) apart) (o.each b x clock)
+            | false ↦ o.each b x clock
+          ]
 
   pub ordered_all : (w : System) (armed : ℕ → ℕ) (count : ℕ) (log : List TimerEntry) → AreSystemSteps bases timers w log → Agrees w
       → Ordered w armed count → Ordered (after_entries w log) (armed_after w armed count log) (count + length log)
@@ -206,34 +240,45 @@ first_earlier armed p u (q ∷ qs) o first apart found =
     behind_of armed p u qs (subst (λ x. Behind armed x qs) same o.0) (ap (λ b. if b then Some q.0 else expiry_of u qs) (sym other) ∙ found)
 
 -- the first due timer stands first in its clock's queue
-first_in_queue : (w : System) → Agrees w → (base t : ℕ) (reading : ClockReading)
-    → first_due (w.bases base).content reading ≡ Some ((w.timers t).expires, t)
-    → first_of (queue_of (w.bases base).content (w.timers t).clock) ≡ Some ((w.timers t).expires, t)
-first_in_queue w agrees base t reading is =
-    let c = (w.bases base).content in
-    ⊎_elim (λ m. on clocks.Monotonic (first_reached reading.mono c.monotonic ((w.timers t).expires, t) m).0)
-    (λ rest. ⊎_elim (λ r. on clocks.Realtime (first_reached reading.real c.realtime ((w.timers t).expires, t) r.1).0)
-    (λ b. on clocks.Boottime (first_reached reading.boot c.boottime ((w.timers t).expires, t) b.2).0) rest)
-    (or_some (reached reading.mono c.monotonic) (reached reading.real c.realtime) (reached reading.boot c.boottime) ((w.timers t).expires, t) is)
-  where
-    rank_of : (b : Bool) (x y : ℕ) → (b && nat_eq x y) ≡ true → x ≡ y
-    rank_of b x y e = grind (arith, nat_tests)
+module _ (w : System) (agrees : Agrees w) (base t : ℕ) (reading : ClockReading) where
+  abbrev own_half : Half
+  own_half = half_of (w.timers t).declared.context (w.bases base).content
 
-    on : (clock : ClockId) → first_of (queue_of (w.bases base).content clock) ≡ Some ((w.timers t).expires, t)
-        → first_of (queue_of (w.bases base).content (w.timers t).clock) ≡ Some ((w.timers t).expires, t)
-    on clock first =
-        let kept = expiry-kept (is_kept_on base clock (w.timers t)) (w.timers t).expires (w.timers t).expires
-        (sym (((agrees.contents base).queues clock).exact t) ∙ expiry_of-first (queue_of (w.bases base).content clock) ((w.timers t).expires, t) first) in
-        let its : (w.timers t).clock ≡ clock = rank-injective (w.timers t).clock clock (rank_of _ (rank (w.timers t).clock) (rank clock) kept.0) in
-        subst (λ k. first_of (queue_of (w.bases base).content k) ≡ Some ((w.timers t).expires, t)) (sym its) first
+  exact_own : (u : ℕ) (clock : ClockId) → seen_in (w.timers t).declared.context (w.timers u) ≡ w.timers u
+      → expiry_of u (queue_of own_half clock) ≡ wanted base clock (w.timers u)
+  exact_own u clock is = (((agrees.contents base).each (w.timers t).declared.context).queues clock).exact u ∙ ap (wanted base clock) is
 
-pub claimed_first : (w : System) (armed : ℕ → ℕ) (count : ℕ) → Agrees w → Ordered w armed count → (base t u : ℕ) (reading : ClockReading)
-    → first_due (w.bases base).content reading ≡ Some ((w.timers t).expires, t) → u ≢ t
-    → is_kept_on base (w.timers t).clock (w.timers u) ≡ true → (w.timers u).expires ≡ (w.timers t).expires → armed t < armed u
-claimed_first w armed count agrees o base t u reading is apart kept same =
-    first_earlier armed ((w.timers t).expires, t) u (queue_of (w.bases base).content (w.timers t).clock) (o.each base (w.timers t).clock)
-    (first_in_queue w agrees base t reading is) apart
-    (((agrees.contents base).queues (w.timers t).clock).exact u ∙ (ap (λ b. if b then Some (w.timers u).expires else None) kept ∙ ap (λ e. Some e) same))
+  first_in_queue : first_due (w.timers t).declared.context w.timers (w.bases base).content reading ≡ Some ((w.timers t).expires, t)
+      → first_of (queue_of own_half (w.timers t).clock) ≡ Some ((w.timers t).expires, t)
+  first_in_queue is =
+      let h = own_half in
+      ⊎_elim (λ m. on clocks.Monotonic (first_reached w.timers reading.mono h.monotonic ((w.timers t).expires, t) m).0)
+      (λ rest. ⊎_elim (λ r. on clocks.Realtime (first_reached w.timers reading.real h.realtime ((w.timers t).expires, t) r.1).0)
+      (λ b. on clocks.Boottime (first_reached w.timers reading.boot h.boottime ((w.timers t).expires, t) b.2).0) rest)
+      (or_some (reached w.timers reading.mono h.monotonic) (reached w.timers reading.real h.realtime) (reached w.timers reading.boot h.boottime)
+      ((w.timers t).expires, t) is)
+    where
+      rank_of : (b : Bool) (x y : ℕ) → (b && nat_eq x y) ≡ true → x ≡ y
+      rank_of b x y e = grind (arith, nat_tests)
+
+      on : (clock : ClockId) → first_of (queue_of own_half clock) ≡ Some ((w.timers t).expires, t)
+          → first_of (queue_of own_half (w.timers t).clock) ≡ Some ((w.timers t).expires, t)
+      on clock first =
+          let kept = expiry-kept (is_kept_on base clock (w.timers t)) (w.timers t).expires (w.timers t).expires
+          (sym (exact_own t clock (seen_own (w.timers t))) ∙ expiry_of-first (queue_of own_half clock) ((w.timers t).expires, t) first) in
+          let its : (w.timers t).clock ≡ clock = rank-injective (w.timers t).clock clock (rank_of _ (rank (w.timers t).clock) (rank clock) kept.0) in
+          subst (λ k. first_of (queue_of own_half k) ≡ Some ((w.timers t).expires, t)) (sym its) first
+
+  pub claimed_first : (armed : ℕ → ℕ) (count : ℕ) → Ordered w armed count → (u : ℕ)
+      → first_due (w.timers t).declared.context w.timers (w.bases base).content reading ≡ Some ((w.timers t).expires, t) → u ≢ t
+      → is_kept_on base (w.timers t).clock (seen_in (w.timers t).declared.context (w.timers u)) ≡ true
+      → (seen_in (w.timers t).declared.context (w.timers u)).expires ≡ (w.timers t).expires → armed t < armed u
+  claimed_first armed count o u is apart kept same =
+      let x = (w.timers t).declared.context in
+      first_earlier armed ((w.timers t).expires, t) u (queue_of own_half (w.timers t).clock) (o.each base x (w.timers t).clock)
+      (first_in_queue is) apart
+      ((((agrees.contents base).each x).queues (w.timers t).clock).exact u
+      ∙ (ap (λ b. if b then Some (seen_in x (w.timers u)).expires else None) kept ∙ ap (λ e. Some e) same))
 
 pub step_at : (bases timers : ℕ) (w : System) (before later : List TimerEntry) (e : TimerEntry) → AreSystemSteps bases timers w (before ++ e ∷ later)
     → IsSystemStep bases timers (after_entries w before) e
@@ -244,44 +289,54 @@ no_one_runs : (running : Option (ℕ × ℕ)) (base u : ℕ) (t : Timer) → run
 no_one_runs None base u t none is = grind (arith, nat_tests, is)
 no_one_runs (Some r) base u t none is = cc
 
-module _ (bases limit : ℕ) (list : List ClockId) (before later : List TimerEntry) (e : TimerEntry)
-    (history : IsSystemHistory bases list limit (before ++ e ∷ later)) where
+module _ (bases : ℕ) (terms : Terms) (list : List Declared) (before later : List TimerEntry) (e : TimerEntry)
+    (history : IsSystemHistory bases list terms (before ++ e ∷ later)) where
   -- a claim takes the timer whose turn it is
   turn : (base : ℕ) (reading : ClockReading) → e.event ≡ events.Claim base reading
-      → IsTurn (system_of list limit before).timers (armed_in list limit before) base reading e.timer
+      → IsTurn (in_context ((system_of list terms before).timers e.timer).declared.context (system_of list terms before).timers)
+      (armed_in list terms before) base reading e.timer
   turn base reading is =
-      let first = first_system (openings list limit) in
-      let w = system_of list limit before in
+      let first = first_system (openings list terms) in
+      let w = system_of list terms before in
       let t = w.timers e.timer in
       let part = steps_part bases (length list) first before (e ∷ later) history in
       let step = step_at bases (length list) first before later e history in
       let there : t.base ≡ base = sym (subst (λ x. Needs t x) is step.needs).1 in
-      let fits : ((w.bases base).content.running ≡ None) × (first_due (w.bases base).content reading ≡ Some (t.expires, e.timer)) =
-      subst (λ b. ((w.bases b).content.running ≡ None) × (first_due (w.bases b).content reading ≡ Some (t.expires, e.timer))) there
-      (subst (λ x. FitsBase bases (w.bases t.base).content e.timer t x) is step.base) in
-      let agrees = all_agree bases limit list before part in
-      let start : Ordered first (λ k. 0) 0 = record { below = λ k. omega arith; each = λ b clock. empty clock } in
-      let ordered = ordered_all bases (length list) first (λ k. 0) 0 before part (first_agrees list limit) start in
+      let x = t.declared.context in
+      let fits : (running_in x (w.bases base).content ≡ None) × (next_on x (w.bases base) reading ≡ Some (t.expires, e.timer)) =
+      subst (λ b. (running_in x (w.bases b).content ≡ None) × (next_on x (w.bases b) reading ≡ Some (t.expires, e.timer))) there
+      (subst (λ x. FitsBase bases (w.bases t.base) e.timer t x) is step.base) in
+      let agrees = all_agree bases terms list before part in
+      let whole = subst (λ n. AreSystemSteps bases n first before) (sym (length-map list (λ d. opening d terms))) part in
+      let first_is : first_due x w.timers (w.bases base).content reading ≡ Some (t.expires, e.timer) =
+      sym (next_on-seen bases (openings list terms) before (all_fresh list terms) whole base x reading) ∙ fits.1 in
+      let start : Ordered first (λ k. 0) 0 = record { below = λ k. omega arith; each = λ b x clock. empty x clock } in
+      let ordered = ordered_all bases (length list) first (λ k. 0) 0 before part (first_agrees list terms) start in
       record {
-        idle = λ u. no_one_runs (w.bases base).content.running base u (w.timers u) fits.0 ((agrees.contents base).running u);
-        next = (first_due-next w.timers base reading (w.bases base).content (t.expires, e.timer) (agrees.contents base) fits.1).0;
+        idle = λ u. no_one_runs (running_in x (w.bases base).content) base u (in_context x w.timers u) fits.0 (((agrees.contents base).each x).running u);
+        next = (first_due-next x w.timers base reading (w.bases base).content (agrees.contents base) (t.expires, e.timer) first_is).0;
         ties = λ u apart kept same.
-            claimed_first w (armed_in list limit before) (0 + length before) agrees ordered base e.timer u reading fits.1 apart kept same;
+            claimed_first w agrees base e.timer reading (armed_in list terms before) (0 + length before) ordered u first_is apart
+            (subst (λ (k : Timer). is_kept_on base k.clock (seen_in x (w.timers u)) ≡ true) (seen_own t) kept)
+            (same ∙ ap (λ (k : Timer). k.expires) (seen_own t));
       }
     where
-      empty : (clock : ClockId) → InOrder (λ k. 0) (queue_of no_content clock)
-      empty clocks.Monotonic = tt
-      empty clocks.Realtime = tt
-      empty clocks.Boottime = tt
+      empty : (x : Context) (clock : ClockId) → InOrder (λ k. 0) (queue_of (half_of x no_content) clock)
+      empty contexts.Hard clocks.Monotonic = tt
+      empty contexts.Hard clocks.Realtime = tt
+      empty contexts.Hard clocks.Boottime = tt
+      empty contexts.Soft clocks.Monotonic = tt
+      empty contexts.Soft clocks.Realtime = tt
+      empty contexts.Soft clocks.Boottime = tt
 
-  pub may_follow : MayFollow bases list limit before e
+  pub may_follow : MayFollow bases list terms before e
   may_follow =
-      let step = step_at bases (length list) (first_system (openings list limit)) before later e history in
-      let w = system_of list limit before in
+      let step = step_at bases (length list) (first_system (openings list terms)) before later e history in
+      let w = system_of list terms before in
       record {
         within = step.within;
         needs = step.needs;
         reply = step.reply;
-        sent = λ base is. subst (λ x. FitsBase bases (w.bases (w.timers e.timer).base).content e.timer (w.timers e.timer) x) is step.base;
+        sent = λ base is. subst (λ x. FitsBase bases (w.bases (w.timers e.timer).base) e.timer (w.timers e.timer) x) is step.base;
         turn = turn;
       }

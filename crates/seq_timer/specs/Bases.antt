@@ -6,7 +6,8 @@ use Rattle.timer_queue.specs.Pairs.{has_id}
 use Rattle.seq_timer.specs.declared.event.Event.{Event}
 use Rattle.seq_timer.specs.Steps.{Timer}
 use Rattle.seq_timer.specs.Tables.{rank}
-use Rattle.seq_timer.specs.Contents.{Content, content_after, no_content}
+use Rattle.seq_timer.specs.Halves.{Half, half_after, no_half}
+use Rattle.seq_timer.specs.Contents.{Content, content_after, half_of, no_content}
 
 -- a base: what it has, and the room of its queues
 pub record BaseState : Type 0 where
@@ -21,18 +22,33 @@ empty_base room = record { content = no_content; room = room }
 abbrev pub base_after : ℕ → Timer → Event → BaseState → BaseState
 base_after id t e b = record b { content = content_after id t e b.content }
 
+-- what a base has for one context, and the room of its queues
+pub record HalfState : Type 0 where
+  pub half : Half
+  pub room : ℕ
+
+abbrev pub empty_half : ℕ → HalfState
+empty_half room = record { half = no_half; room = room }
+
+-- the half of a timer's context on the base that it is on before an event, after it
+abbrev pub half_state_after : ℕ → Timer → Event → HalfState → HalfState
+half_state_after id t e h = record h { half = half_after id t e h.half }
+
 -- whether a timer stands in a clock's queue of the base that it is on
 abbrev pub is_queued : ClockId → Timer → Bool
 is_queued clock t = is_some t.armed && nat_eq (rank t.clock) (rank clock)
 
 -- the timer stands in the queues of the base that it is on as it is armed
-pub record IsQueuedAs (id : ℕ) (t : Timer) (c : Content) : Type 0 where
+pub record IsQueuedIn (id : ℕ) (t : Timer) (c : Half) : Type 0 where
   pub monotonic : has_id id c.monotonic ≡ is_queued clocks.Monotonic t
   pub realtime : has_id id c.realtime ≡ is_queued clocks.Realtime t
   pub boottime : has_id id c.boottime ≡ is_queued clocks.Boottime t
 
+abbrev pub IsQueuedAs : ℕ → Timer → Content → Type 0
+IsQueuedAs id t c = IsQueuedIn id t (half_of t.declared.context c)
+
 -- the timer stands in none of the queues
-pub record IsInNone (id : ℕ) (c : Content) : Type 0 where
+pub record IsInNone (id : ℕ) (c : Half) : Type 0 where
   pub monotonic : has_id id c.monotonic ≡ false
   pub realtime : has_id id c.realtime ≡ false
   pub boottime : has_id id c.boottime ≡ false

@@ -1,103 +1,44 @@
--- What a base has: a queue for each clock, and the timer whose function runs there; what each event makes of it; and that it agrees with the timers.
-use Rattle.std.specs.Prelude.{ℕ, ◌≡◌, Option, Some, None, List, [], ◌∷◌, map, nat_eq, nat_le, if◌then◌else◌, unwrap_or}
-use Rattle.std.specs.Option.{option_or}
-use Rattle.std.specs.List.{IsDistinct}
-use Rattle.ktime.specs.declared.clock_id.ClockId.{ClockId}
-use Rattle.ktime.specs.declared.clock_id.ClockId.TheVariants as clocks
+-- What a base has: for each context its queues and the timer whose function runs there. An event changes the half of its timer's context.
+use Rattle.std.specs.Prelude.{ℕ, Option}
 use Rattle.ktime.specs.Readings.{ClockReading}
-use Rattle.timer_queue.specs.Pairs.{expiry_of, put, without, IsByExpiry}
+use Rattle.seq_timer.specs.declared.context.Context.{Context}
+use Rattle.seq_timer.specs.declared.context.Context.TheVariants as contexts
 use Rattle.seq_timer.specs.declared.event.Event.{Event}
-use Rattle.seq_timer.specs.declared.event.Event.TheVariants as events
-use Rattle.seq_timer.specs.Steps.{Timer, after, arms_again}
-use Rattle.seq_timer.specs.Tables.{is_kept_on}
+use Rattle.seq_timer.specs.Steps.{Timer}
+use Rattle.seq_timer.specs.Tables.{in_context}
+use Rattle.seq_timer.specs.Halves.{Half, IsHalfOf, first_in, half_after, no_half}
 
--- a base's queues of pairs (expiry, timer), and the timer whose function runs there, with its generation
+-- a base's queues, with what runs there, for each context
 pub record Content : Type 0 where
-  pub monotonic : List (ℕ × ℕ)
-  pub realtime : List (ℕ × ℕ)
-  pub boottime : List (ℕ × ℕ)
-  pub running : Option (ℕ × ℕ)
+  pub hard : Half
+  pub soft : Half
 
 -- no timer is on the base
 abbrev pub no_content : Content
-no_content = record { monotonic = []; realtime = []; boottime = []; running = None }
+no_content = record { hard = no_half; soft = no_half }
 
--- the base's queue for a clock
-abbrev pub queue_of : Content → ClockId → List (ℕ × ℕ)
-queue_of c clocks.Monotonic = c.monotonic
-queue_of c clocks.Realtime = c.realtime
-queue_of c clocks.Boottime = c.boottime
+-- what the base has for a context
+abbrev pub half_of : Context → Content → Half
+half_of contexts.Hard c = c.hard
+half_of contexts.Soft c = c.soft
 
--- the first pair of a queue, where its expiry is reached now
-abbrev pub reached : ℕ → List (ℕ × ℕ) → Option (ℕ × ℕ)
-reached now [] = None
-reached now (p ∷ ps) = if nat_le p.0 now then Some p else None
+-- the same, with another half for a context
+abbrev pub with_half : Context → Half → Content → Content
+with_half contexts.Hard h c = record c { hard = h }
+with_half contexts.Soft h c = record c { soft = h }
 
--- the first pair of the first queue, in the order of the clocks, whose first pair is reached
-abbrev pub first_due : Content → ClockReading → Option (ℕ × ℕ)
-first_due c reading = option_or (reached reading.mono c.monotonic) (option_or (reached reading.real c.realtime) (reached reading.boot c.boottime))
+-- what runs on the base in a context
+abbrev pub running_in : Context → Content → Option (ℕ × ℕ)
+running_in x c = (half_of x c).running
 
--- ---- what an event makes of the base that its timer is on
+-- the timer of a context that is to expire next
+abbrev pub first_due : Context → (ℕ → Timer) → Content → ClockReading → Option (ℕ × ℕ)
+first_due x timers c reading = first_in timers (half_of x c) reading
 
--- the timer is in none of the queues any more
-abbrev pub dequeued : ℕ → Content → Content
-dequeued id c = record c { monotonic = without id c.monotonic; realtime = without id c.realtime; boottime = without id c.boottime }
-
--- the timer is in this clock's queue, behind all that expire as early or earlier
-abbrev pub enqueued : ClockId → ℕ → ℕ → Content → Content
-enqueued clocks.Monotonic expires id c = record c { monotonic = put expires id c.monotonic }
-enqueued clocks.Realtime expires id c = record c { realtime = put expires id c.realtime }
-enqueued clocks.Boottime expires id c = record c { boottime = put expires id c.boottime }
-
--- the timer is taken off, and then put last among its expiry on its clock's queue
-abbrev pub requeued : ℕ → Timer → Content → Content
-requeued id t c = enqueued t.clock t.expires id (dequeued id c)
-
--- this is what runs on the base
-abbrev pub with_running : Option (ℕ × ℕ) → Content → Content
-with_running running c = record c { running = running }
-
--- the content of the base that the timer is on before the event, after it: arming puts the timer anew, disarming takes it off,
--- a claim makes it the one that runs there, and a finish ends that
+-- the content of the base that the timer is on before the event, after it
 abbrev pub content_after : ℕ → Timer → Event → Content → Content
-content_after id t (events.Out base) c = dequeued id c
-content_after id t (events.Start mode ns reading asked) c = requeued id (after t (events.Start mode ns reading asked)) c
-content_after id t events.Cancel c = dequeued id c
-content_after id t (events.Claim base reading) c = with_running (Some (id, unwrap_or t.armed 0)) (dequeued id c)
-content_after id t (events.Forward reading interval) c = c
-content_after id t (events.Finish restart) c = with_running None (if arms_again t restart then requeued id t c else c)
+content_after id t e c = with_half t.declared.context (half_after id t e (half_of t.declared.context c)) c
 
--- a claim finds no function running on the base
-abbrev pub IsFreeFor : Content → Event → Type 0
-IsFreeFor c (events.Claim base reading) = c.running ≡ None
-IsFreeFor c (events.Out base) = Unit {0}
-IsFreeFor c (events.Start mode ns reading asked) = Unit {0}
-IsFreeFor c events.Cancel = Unit {0}
-IsFreeFor c (events.Forward reading interval) = Unit {0}
-IsFreeFor c (events.Finish restart) = Unit {0}
-
--- ---- that a base agrees with the timers
-
--- the expiry of a timer that is armed on a base and kept on a clock
-abbrev pub wanted : ℕ → ClockId → Timer → Option ℕ
-wanted base clock t = if is_kept_on base clock t then Some t.expires else None
-
--- a queue has exactly the timers that are armed on the base and kept on the clock, each once with its expiry, and expiries never fall
-pub record IsQueueOf (timers : ℕ → Timer) (base : ℕ) (clock : ClockId) (queue : List (ℕ × ℕ)) : Type 0 where
-  pub exact : (id : ℕ) → expiry_of id queue ≡ wanted base clock (timers id)
-  pub once : IsDistinct nat_eq (map (λ p. p.1) queue)
-  pub by_expiry : IsByExpiry queue
-
--- the generation that runs of a timer, where this runs
-abbrev pub generation_in : ℕ → Option (ℕ × ℕ) → Option ℕ
-generation_in id None = None
-generation_in id (Some r) = if nat_eq r.0 id then Some r.1 else None
-
--- the generation of a timer whose function runs on a base
-abbrev pub running_on : ℕ → Timer → Option ℕ
-running_on base t = if nat_eq t.base base then t.running else None
-
--- a base's content agrees with the timers, each by its number
+-- a base's content agrees with the timers: for each context with the timers of that context
 pub record IsContentOf (timers : ℕ → Timer) (base : ℕ) (c : Content) : Type 0 where
-  pub queues : (clock : ClockId) → IsQueueOf timers base clock (queue_of c clock)
-  pub running : (id : ℕ) → generation_in id c.running ≡ running_on base (timers id)
+  pub each : (x : Context) → IsHalfOf (in_context x timers) base (half_of x c)

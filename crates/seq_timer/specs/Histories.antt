@@ -1,6 +1,7 @@
 -- The history of one timer: its entries, the state after each, what an observation says of it, and the spans of its function.
 use Rattle.std.specs.Prelude.{ℕ, ◌≡◌, ◌+◌, ◌≤◌, ◌<◌, Bool, true, false, Option, Some, None, is_some, IsSome, List, [], ◌∷◌, take, if◌then◌else◌}
-use Rattle.ktime.specs.declared.clock_id.ClockId.{ClockId}
+use Rattle.seq_timer.specs.declared.context.Declared.{Declared}
+use Rattle.seq_timer.specs.declared.context.Terms.{Terms}
 use Rattle.seq_timer.specs.declared.event.Event.{Event}
 use Rattle.seq_timer.specs.declared.event.Event.TheVariants as events
 use Rattle.seq_timer.specs.declared.event.Reply.{Reply}
@@ -20,9 +21,9 @@ abbrev pub AreSteps : Timer → List Entry → Type 0
 AreSteps t [] = Unit
 AreSteps t (e ∷ es) = Needs t e.event × (e.reply ≡ reply_to t e.event) × AreSteps (after t e.event) es
 
--- a history that one timer gives, declared on this clock and with this limit on entries
-abbrev pub IsLegal : ClockId → ℕ → List Entry → Type 0
-IsLegal clock limit history = AreSteps (opening clock limit) history
+-- a history that one timer gives, declared so and on these terms
+abbrev pub IsLegal : Declared → Terms → List Entry → Type 0
+IsLegal declared terms history = AreSteps (opening declared terms) history
 
 -- the state after entries
 abbrev pub after_all : Timer → List Entry → Timer
@@ -30,8 +31,8 @@ after_all t [] = t
 after_all t (e ∷ es) = after_all (after t e.event) es
 
 -- the state after a history
-abbrev pub state_after : ClockId → ℕ → List Entry → Timer
-state_after clock limit history = after_all (opening clock limit) history
+abbrev pub state_after : Declared → Terms → List Entry → Timer
+state_after declared terms history = after_all (opening declared terms) history
 
 -- the state word of a timer, taken apart
 abbrev pub peek_of : Timer → Peek
@@ -49,11 +50,11 @@ Holds t (seen.Peek peek) = peek ≡ peek_of t
 Holds t seen.Idle = IsIdle t
 Holds t (seen.Running generation) = t.running ≡ Some generation
 Holds t (seen.Armed generation) = IsSome t.running × (t.armed ≡ Some generation)
-Holds t seen.Spent = t.limit ≤ t.stamp
+Holds t seen.Spent = t.terms.limit ≤ t.stamp
 
 -- an observation speaks of the state after so many entries
-abbrev pub HoldsAt : ClockId → ℕ → List Entry → ℕ → Observation → Type 0
-HoldsAt clock limit history stamp observation = Holds (state_after clock limit (take stamp history)) observation
+abbrev pub HoldsAt : Declared → Terms → List Entry → ℕ → Observation → Type 0
+HoldsAt declared terms history stamp observation = Holds (state_after declared terms (take stamp history)) observation
 
 -- the generation that a claim answers, that a cancel does, and that a finish does
 abbrev pub told_in : Reply → Option ℕ × Option ℕ × Option ℕ
@@ -61,8 +62,8 @@ told_in (replies.Claim generation) = (Some generation, None, None)
 told_in (replies.Cancel generation) = (None, Some generation, None)
 told_in (replies.Finish generation rearmed) = (None, None, Some generation)
 told_in (replies.Out was_armed) = (None, None, None)
-told_in (replies.Start base clock expires was_armed) = (None, None, None)
-told_in (replies.Forward count expires) = (None, None, None)
+told_in (replies.Start placement was_armed) = (None, None, None)
+told_in (replies.Forward moved) = (None, None, None)
 
 abbrev pub claim_in : Reply → Option ℕ
 claim_in reply = (told_in reply).0
@@ -77,7 +78,7 @@ finish_in reply = (told_in reply).2
 abbrev pub is_finish : Event → Bool
 is_finish (events.Finish restart) = true
 is_finish (events.Out base) = false
-is_finish (events.Start mode ns reading asked) = false
+is_finish (events.Start asked) = false
 is_finish events.Cancel = false
 is_finish (events.Claim base reading) = false
 is_finish (events.Forward reading interval) = false

@@ -1,7 +1,8 @@
 -- What a history says of the generations that it cancels, claims and finishes.
 use Rattle.std.specs.Prelude.{ℕ, ◌≡◌, ◌<◌, ◌≤◌, ◌-◌, ◌⊎◌, Bool, false, nat_eq, Option, Some, None, List, [], ◌∷◌, length, take, slice_get}
 use Rattle.std.specs.List.{AllByRecursion, list_any}
-use Rattle.ktime.specs.declared.clock_id.ClockId.{ClockId}
+use Rattle.seq_timer.specs.declared.context.Declared.{Declared}
+use Rattle.seq_timer.specs.declared.context.Terms.{Terms}
 use Rattle.seq_timer.specs.Histories.{Entry, Span, IsInside, claim_in, cancel_in, finish_in, state_after}
 
 -- whether this generation is told
@@ -28,6 +29,6 @@ IsInOne generation stamp [] = ⊥
 IsInOne generation stamp (span ∷ spans) = ((span.generation ≡ generation) × IsInside span stamp) ⊎ IsInOne generation stamp spans
 
 -- in each state inside the span its generation runs, and so the finish that ends it answers
-pub record IsOfOneGeneration (clock : ClockId) (limit : ℕ) (history : List Entry) (span : Span) : Type 0 where
-  pub runs : (stamp : ℕ) → IsInside span stamp → stamp ≤ length history → (state_after clock limit (take stamp history)).running ≡ Some span.generation
+pub record IsOfOneGeneration (declared : Declared) (terms : Terms) (history : List Entry) (span : Span) : Type 0 where
+  pub runs : (stamp : ℕ) → IsInside span stamp → stamp ≤ length history → (state_after declared terms (take stamp history)).running ≡ Some span.generation
   pub finishes : (e : Entry) → slice_get history (span.finish - 1) ≡ Some e → finish_in e.reply ≡ Some span.generation

@@ -1,5 +1,6 @@
 pub mod Bases
 pub mod Contents
+pub mod Halves
 pub mod Histories
 pub mod Laws
 pub mod Steps

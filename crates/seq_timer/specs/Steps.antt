@@ -1,10 +1,15 @@
 -- The step table of one timer: what each event needs, the state after it, and its reply.
-use Rattle.std.specs.Prelude.{ℕ, ◌≡◌, ◌+◌, ◌≤◌, ◌<◌, ◌^◌, ◌-◌, Bool, true, false, not, ◌&&◌, ◌||◌, ◌⊎◌, nat_lt, Option, Some, None, is_some, unwrap_or, IsSome, IsNone, if◌then◌else◌}
+use Rattle.std.specs.Prelude.{ℕ, ◌≡◌, ◌+◌, ◌≤◌, ◌<◌, ◌^◌, ◌-◌, ◌*◌, Bool, true, false, not, ◌&&◌, ◌||◌, ◌⊎◌, nat_lt, Option, Some, None, is_some, unwrap_or, IsSome, IsNone, if◌then◌else◌}
 use Rattle.ktime.specs.declared.clock_id.ClockId.{ClockId}
 use Rattle.ktime.specs.declared.mode.Mode.{Mode}
 use Rattle.ktime.specs.declared.mode.Mode.TheVariants as modes
 use Rattle.ktime.specs.Readings.{ClockReading, value_of}
-use Rattle.ktime.specs.Times.{sat, last_time, effective_clock, passed, next_after}
+use Rattle.ktime.specs.Times.{sat, last_time, effective_clock, passed, next_after, step_of}
+use Rattle.seq_timer.specs.declared.context.Declared.{Declared}
+use Rattle.seq_timer.specs.declared.context.Terms.{Terms}
+use Rattle.seq_timer.specs.declared.event.Placement.{Placement}
+use Rattle.seq_timer.specs.declared.event.Asked.{Asked}
+use Rattle.seq_timer.specs.declared.event.Moved.{Moved}
 use Rattle.seq_timer.specs.declared.event.Event.{Event}
 use Rattle.seq_timer.specs.declared.event.Event.TheVariants as events
 use Rattle.seq_timer.specs.declared.event.Reply.{Reply}
@@ -12,39 +17,44 @@ use Rattle.seq_timer.specs.declared.event.Reply.TheVariants as replies
 use Rattle.seq_timer.specs.declared.event.Rearmed.{Rearmed}
 use Rattle.seq_timer.specs.declared.event.Rearmed.TheVariants as rearmings
 
--- a timer: the clock it was declared on, the clock, base and expiry that it is kept on, the generations that are armed and running,
--- whether it is on the move between bases, how many entries its history has, and the limit on them
+-- a timer: the clock and context it was declared on, the clock, base, soft expiry and expiry that it is kept on, the generations that are armed and running,
+-- whether it is on the move between bases, how many entries its history has, and the terms on which it takes more
 pub record Timer : Type 0 where
-  pub declared : ClockId
+  pub declared : Declared
   pub clock : ClockId
   pub base : ℕ
+  pub soft : ℕ
   pub expires : ℕ
   pub armed : Option ℕ
   pub running : Option ℕ
   pub moving : Bool
   pub stamp : ℕ
-  pub limit : ℕ
+  pub terms : Terms
+
+-- the terms of a timer that is on no base which can go off line: a limit on its entries alone
+abbrev pub limited : ℕ → Terms
+limited limit = record { limit = limit; reach = 0 }
 
 -- a timer of which nothing has happened yet
-abbrev pub opening : ClockId → ℕ → Timer
-opening clock limit = record {
-  declared = clock;
-  clock = clock;
+abbrev pub opening : Declared → Terms → Timer
+opening declared terms = record {
+  declared = declared;
+  clock = declared.clock;
   base = 0;
+  soft = 0;
   expires = 0;
   armed = None;
   running = None;
   moving = false;
-  stamp =
-      0;
-  limit = limit;
+  stamp = 0;
+  terms = terms;
 }
 
 -- the time that the timer's clock shows in a reading
 abbrev pub now_of : Timer → ClockReading → ℕ
 now_of t reading = value_of t.clock reading
 
--- the expiry that a start sets on this clock
+-- the soft expiry that a start sets on this clock
 abbrev pub expiry_from : Mode → ℕ → ClockId → ClockReading → ℕ
 expiry_from modes.Abs ns clock reading = sat ns
 expiry_from modes.Keep ns clock reading = sat ns
@@ -52,21 +62,29 @@ expiry_from modes.Rel ns clock reading = sat (value_of clock reading + ns)
 
 -- whether a finish arms the timer again: a restart was asked for, no start came in, and the limit leaves room
 abbrev pub arms_again : Timer → Bool → Bool
-arms_again t restart = restart && not (is_some t.armed) && nat_lt t.stamp t.limit
+arms_again t restart = restart && not (is_some t.armed) && nat_lt t.stamp t.terms.limit
 
 -- what an event needs
 abbrev pub Needs : Timer → Event → Type 0
-Needs t (events.Out base) = IsNone t.running × (t.moving ≡ false) × (base ≡ t.base → ⊥) × (t.stamp < t.limit)
-Needs t (events.Start mode ns reading asked) = (IsSome t.running ⊎ (asked ≡ t.base)) × ((t.stamp < t.limit) ⊎ (t.moving ≡ true))
+Needs t (events.Out base) = IsNone t.running × (t.moving ≡ false) × (base ≡ t.base → ⊥) × (t.stamp < t.terms.limit)
+Needs t (events.Start asked) = (IsSome t.running ⊎ (asked.base ≡ t.base)) × ((t.stamp < t.terms.limit) ⊎ (t.moving ≡ true))
 Needs t events.Cancel = IsSome t.armed × IsNone t.running × (t.moving ≡ false)
-Needs t (events.Claim base reading) = IsSome t.armed × (base ≡ t.base) × IsNone t.running × (t.moving ≡ false) × (t.expires ≤ now_of t reading)
-Needs t (events.Forward reading interval) = IsSome t.running × IsNone t.armed × (t.stamp < t.limit)
+Needs t (events.Claim base reading) = IsSome t.armed × (base ≡ t.base) × IsNone t.running × (t.moving ≡ false) × (t.soft ≤ now_of t reading)
+Needs t (events.Forward reading interval) = IsSome t.running × IsNone t.armed × (t.stamp < t.terms.limit)
 Needs t (events.Finish restart) = IsSome t.running
 
 -- the timer after a start
-abbrev pub started : Timer → Mode → ℕ → ClockReading → Timer
-started t mode ns reading = let clock = effective_clock t.declared mode t.clock in
-    record t { clock = clock; expires = expiry_from mode ns clock reading; armed = Some (t.stamp + 1); moving = false; stamp = t.stamp + 1 }
+abbrev pub started : Timer → Asked → Timer
+started t asked =
+    let clock = effective_clock t.declared.clock asked.mode t.clock in
+    let soft = expiry_from asked.mode asked.ns clock asked.reading in
+    record t { clock = clock; soft = soft; expires = sat (soft + asked.slack); armed = Some (t.stamp + 1); moving = false; stamp = t.stamp + 1 }
+
+-- the timer after a forward: as many intervals as bring its expiry past the reading are added to both expiries
+abbrev pub forwarded : Timer → ClockReading → ℕ → Timer
+forwarded t reading interval =
+    let now = now_of t reading in
+    record t { soft = sat (t.soft + passed t.expires now interval * step_of interval); expires = next_after t.expires now interval; stamp = t.stamp + 1 }
 
 -- the timer after a finish
 abbrev pub finished : Timer → Bool → Timer
@@ -75,20 +93,33 @@ finished t restart = record t { armed = (if arms_again t restart then Some (t.st
 -- the timer after an event; what isn't named stays
 abbrev pub after : Timer → Event → Timer
 after t (events.Out base) = record t { base = base; armed = None; moving = true; stamp = t.stamp + 1 }
-after t (events.Start mode ns reading asked) = started t mode ns reading
+after t (events.Start asked) = started t asked
 after t events.Cancel = record t { armed = None; stamp = t.stamp + 1 }
 after t (events.Claim base reading) = record t { armed = None; running = t.armed; stamp = t.stamp + 1 }
-after t (events.Forward reading interval) = record t { expires = next_after t.expires (now_of t reading) interval; stamp = t.stamp + 1 }
+after t (events.Forward reading interval) = forwarded t reading interval
 after t (events.Finish restart) = finished t restart
 
 -- how a finish tells of the restart
 abbrev pub rearmed_by : Timer → Bool → Rearmed
 rearmed_by t restart = if restart && not
-    (is_some t.armed) then (if nat_lt t.stamp t.limit then rearmings.Again (t.stamp + 1) else rearmings.Spent t.stamp) else rearmings.No
+    (is_some t.armed) then (if nat_lt t.stamp t.terms.limit then rearmings.Again (t.stamp + 1) else rearmings.Spent t.stamp) else rearmings.No
+
+-- how a timer is kept
+abbrev pub placement_of : Timer → Placement
+placement_of t = record { base = t.base; clock = t.clock; soft = t.soft; expires = t.expires }
+
+-- by what a forward moves a timer's expiries
+abbrev pub moved_by : Timer → ClockReading → ℕ → Moved
+moved_by t reading interval = let now = forwarded t reading interval in
+    record { count = passed t.expires (now_of t reading) interval; soft = now.soft; expires = now.expires }
 
 -- what a start answers
-abbrev pub start_reply : Timer → Mode → ℕ → ClockReading → Reply
-start_reply t mode ns reading = let now = started t mode ns reading in replies.Start now.base now.clock now.expires (is_some t.armed)
+abbrev pub start_reply : Timer → Asked → Reply
+start_reply t asked = replies.Start (placement_of (started t asked)) (is_some t.armed)
+
+-- what a forward answers
+abbrev pub forward_reply : Timer → ClockReading → ℕ → Reply
+forward_reply t reading interval = replies.Forward (moved_by t reading interval)
 
 -- what a finish answers
 abbrev pub finish_reply : Timer → Bool → Reply
@@ -97,11 +128,10 @@ finish_reply t restart = replies.Finish (unwrap_or t.running 0) (rearmed_by t re
 -- what an event answers
 abbrev pub reply_to : Timer → Event → Reply
 reply_to t (events.Out base) = replies.Out (is_some t.armed)
-reply_to t (events.Start mode ns reading asked) = start_reply t mode ns reading
+reply_to t (events.Start asked) = start_reply t asked
 reply_to t events.Cancel = replies.Cancel (unwrap_or t.armed 0)
 reply_to t (events.Claim base reading) = replies.Claim (unwrap_or t.armed 0)
-reply_to t (events.Forward reading interval) = let now = now_of t reading in replies.Forward (passed t.expires now interval)
-    (next_after t.expires now interval)
+reply_to t (events.Forward reading interval) = forward_reply t reading interval
 reply_to t (events.Finish restart) = finish_reply t restart
 
 -- the greatest limit on entries: entries past it keep the stamp below 2^48
@@ -112,13 +142,14 @@ greatest_limit = 2 ^ 48 - 16
 abbrev pub entries_left : Timer → ℕ
 entries_left t = if t.moving then 3 else (if is_some t.armed then 2 else 0) + (if is_some t.running then 1 else 0)
 
--- what holds of a timer at all times: the stamp stays near its limit, the expiry within time, generations are numbers of entries,
--- and a timer on the move is neither armed nor running
+-- what holds of a timer at all times: the stamp stays near its limit, the expiry within time and no earlier than the soft one, generations are
+-- numbers of entries, and a timer on the move is neither armed nor running
 pub record IsBounded (t : Timer) : Type 0 where
-  pub limit : t.limit ≤ greatest_limit
-  pub some : 0 < t.limit
-  pub stamp : t.stamp + entries_left t ≤ t.limit + 3
+  pub limit : t.terms.limit ≤ greatest_limit
+  pub some : 0 < t.terms.limit
+  pub stamp : t.stamp + entries_left t ≤ t.terms.limit + 3
   pub expires : t.expires ≤ last_time
+  pub soft : t.soft ≤ t.expires
   pub armed : unwrap_or t.armed 0 ≤ t.stamp
   pub running : unwrap_or t.running 0 ≤ t.stamp
   pub apart : t.moving && (is_some t.armed || is_some t.running) ≡ false

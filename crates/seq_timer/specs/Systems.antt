@@ -1,19 +1,26 @@
 -- The history of all timers: one list of entries. Each is a step of its timer, and of the base that the timer is on; the list alone says what each
 -- timer is and what each base has after it.
-use Rattle.std.specs.Prelude.{ℕ, ◌≡◌, ◌+◌, ◌<◌, Bool, true, false, ◌==◌, List, [], ◌∷◌, length, map, set, Some, None, if◌then◌else◌}
-use Rattle.ktime.specs.declared.clock_id.ClockId.{ClockId}
+use Rattle.std.specs.Prelude.{ℕ, ◌≡◌, ◌+◌, ◌<◌, Bool, true, false, ◌==◌, List, [], ◌∷◌, length, map, set, Option, Some, None, if◌then◌else◌}
+use Rattle.ktime.specs.Readings.{ClockReading}
+use Rattle.seq_timer.specs.declared.context.Context.{Context}
+use Rattle.seq_timer.specs.declared.context.Declared.{Declared}
+use Rattle.seq_timer.specs.declared.context.Terms.{Terms}
 use Rattle.seq_timer.specs.declared.event.Event.{Event}
 use Rattle.seq_timer.specs.declared.event.Event.TheVariants as events
 use Rattle.seq_timer.specs.declared.system.TimerEntry.{TimerEntry}
 use Rattle.seq_timer.specs.Steps.{Timer, Needs, after, arms_again, opening, reply_to}
 use Rattle.seq_timer.specs.Tables.{timer_at}
-use Rattle.seq_timer.specs.Contents.{Content, content_after, first_due, no_content}
+use Rattle.seq_timer.specs.Contents.{Content, content_after, first_due, no_content, running_in}
 use Rattle.seq_timer.specs.Histories as seq
 
 -- what a base keeps: its queues with what runs there, and each timer as it was when it was last there
 pub record BaseContent : Type 0 where
   pub content : Content
   pub states : List Timer
+
+-- the timer of a context that is to expire next on a base, by what the base keeps
+abbrev pub next_on : Context → BaseContent → ClockReading → Option (ℕ × ℕ)
+next_on x b reading = first_due x (timer_at b.states) b.content reading
 
 -- each timer and each base by its number
 pub record System : Type 0 where
@@ -25,8 +32,8 @@ abbrev pub updated : {A : Type 0} → (ℕ → A) → ℕ → A → ℕ → A
 updated f i x j = if j == i then x else f j
 
 -- timers of which nothing has happened yet
-abbrev pub openings : List ClockId → ℕ → List Timer
-openings clocks limit = map (λ clock. opening clock limit) clocks
+abbrev pub openings : List Declared → Terms → List Timer
+openings declareds terms = map (λ declared. opening declared terms) declareds
 
 -- a base that none of these timers has been on
 abbrev pub no_base : List Timer → BaseContent
@@ -58,38 +65,39 @@ system_after opened log = after_entries (first_system opened) log
 
 -- what an event of a timer needs of the base that it is on: a timer is sent to one of the bases; where one is claimed no function runs, and of
 -- all that is due there it comes first, of equal expiries the one that was armed first
-abbrev pub FitsBase : ℕ → Content → ℕ → Timer → Event → Type 0
-FitsBase bases c id t (events.Out base) = base < bases
-FitsBase bases c id t (events.Start mode ns reading asked) = Unit {0}
-FitsBase bases c id t events.Cancel = Unit {0}
-FitsBase bases c id t (events.Claim base reading) = (c.running ≡ None) × (first_due c reading ≡ Some (t.expires, id))
-FitsBase bases c id t (events.Forward reading interval) = Unit {0}
-FitsBase bases c id t (events.Finish restart) = Unit {0}
+abbrev pub FitsBase : ℕ → BaseContent → ℕ → Timer → Event → Type 0
+FitsBase bases b id t (events.Out base) = base < bases
+FitsBase bases b id t (events.Start asked) = Unit {0}
+FitsBase bases b id t events.Cancel = Unit {0}
+FitsBase bases b id t (events.Claim base reading) =
+    (running_in t.declared.context b.content ≡ None) × (next_on t.declared.context b reading ≡ Some (t.expires, id))
+FitsBase bases b id t (events.Forward reading interval) = Unit {0}
+FitsBase bases b id t (events.Finish restart) = Unit {0}
 
 -- an entry may come next
 pub record IsSystemStep (bases count : ℕ) (w : System) (e : TimerEntry) : Type 0 where
   pub within : e.timer < count
   pub needs : Needs (w.timers e.timer) e.event
   pub reply : e.reply ≡ reply_to (w.timers e.timer) e.event
-  pub base : FitsBase bases (w.bases (w.timers e.timer).base).content e.timer (w.timers e.timer) e.event
+  pub base : FitsBase bases (w.bases (w.timers e.timer).base) e.timer (w.timers e.timer) e.event
 
 -- each of the entries may come in its turn
 abbrev pub AreSystemSteps : ℕ → ℕ → System → List TimerEntry → Type 0
 AreSystemSteps bases count w [] = Unit {0}
 AreSystemSteps bases count w (e ∷ es) = IsSystemStep bases count w e × AreSystemSteps bases count (after_entry w e) es
 
--- a history of timers on these clocks, with this limit on each one's entries, over so many bases
-abbrev pub IsSystemHistory : ℕ → List ClockId → ℕ → List TimerEntry → Type 0
-IsSystemHistory bases clocks limit log = AreSystemSteps bases (length clocks) (first_system (openings clocks limit)) log
+-- a history of timers that are declared so, on these terms, over so many bases
+abbrev pub IsSystemHistory : ℕ → List Declared → Terms → List TimerEntry → Type 0
+IsSystemHistory bases declareds terms log = AreSystemSteps bases (length declareds) (first_system (openings declareds terms)) log
 
 -- all timers and bases after it
-abbrev pub system_of : List ClockId → ℕ → List TimerEntry → System
-system_of clocks limit log = system_after (openings clocks limit) log
+abbrev pub system_of : List Declared → Terms → List TimerEntry → System
+system_of declareds terms log = system_after (openings declareds terms) log
 
 -- whether an event arms its timer, which was so
 abbrev pub arms : Timer → Event → Bool
 arms t (events.Out base) = false
-arms t (events.Start mode ns reading asked) = true
+arms t (events.Start asked) = true
 arms t events.Cancel = false
 arms t (events.Claim base reading) = false
 arms t (events.Forward reading interval) = false
@@ -102,8 +110,8 @@ armed_after w armed count (e ∷ es) = armed_after (after_entry w e) (if arms (w
     (count + 1) else armed) (count + 1) es
 
 -- of each timer the number of the entry that armed it last; 0 where none did
-abbrev pub armed_in : List ClockId → ℕ → List TimerEntry → ℕ → ℕ
-armed_in clocks limit log = armed_after (first_system (openings clocks limit)) (λ t. 0) 0 log
+abbrev pub armed_in : List Declared → Terms → List TimerEntry → ℕ → ℕ
+armed_in declareds terms log = armed_after (first_system (openings declareds terms)) (λ t. 0) 0 log
 
 -- the history of one timer
 abbrev pub entries_of : ℕ → List TimerEntry → List seq.Entry

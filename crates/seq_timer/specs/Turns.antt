@@ -1,11 +1,12 @@
 -- The history of all timers by the timers alone: no base's queue, and nothing else that a library keeps, stands in it.
 use Rattle.std.specs.Prelude.{ℕ, ◌≡◌, ◌≢◌, ◌<◌, true, false, List, ◌∷◌, ◌++◌, length}
-use Rattle.ktime.specs.declared.clock_id.ClockId.{ClockId}
+use Rattle.seq_timer.specs.declared.context.Declared.{Declared}
+use Rattle.seq_timer.specs.declared.context.Terms.{Terms}
 use Rattle.ktime.specs.Readings.{ClockReading}
 use Rattle.seq_timer.specs.declared.event.Event.TheVariants as events
 use Rattle.seq_timer.specs.declared.system.TimerEntry.{TimerEntry}
 use Rattle.seq_timer.specs.Steps.{Timer, Needs, reply_to}
-use Rattle.seq_timer.specs.Tables.{IsNextDue, is_kept_on, runs_on}
+use Rattle.seq_timer.specs.Tables.{IsNextDue, in_context, is_kept_on, runs_on}
 use Rattle.seq_timer.specs.Systems.{armed_in, system_of}
 
 -- It is a timer's turn on a base: no function runs there, the timer is the next to expire there, and of those that are kept on its clock for the same
@@ -16,14 +17,15 @@ pub record IsTurn (timers : ℕ → Timer) (armed : ℕ → ℕ) (base : ℕ) (r
   pub ties : (u : ℕ) → u ≢ t → is_kept_on base (timers t).clock (timers u) ≡ true → (timers u).expires ≡ (timers t).expires → armed t < armed u
 
 -- an entry may stand behind these: it is a step of one of the timers, which is sent to one of the bases, and claimed in its turn
-pub record MayFollow (bases : ℕ) (clocks : List ClockId) (limit : ℕ) (before : List TimerEntry) (e : TimerEntry) : Type 0 where
-  pub within : e.timer < length clocks
-  pub needs : Needs ((system_of clocks limit before).timers e.timer) e.event
-  pub reply : e.reply ≡ reply_to ((system_of clocks limit before).timers e.timer) e.event
+pub record MayFollow (bases : ℕ) (declareds : List Declared) (terms : Terms) (before : List TimerEntry) (e : TimerEntry) : Type 0 where
+  pub within : e.timer < length declareds
+  pub needs : Needs ((system_of declareds terms before).timers e.timer) e.event
+  pub reply : e.reply ≡ reply_to ((system_of declareds terms before).timers e.timer) e.event
   pub sent : (base : ℕ) → e.event ≡ events.Out base → base < bases
   pub turn : (base : ℕ) (reading : ClockReading) → e.event ≡ events.Claim base reading
-      → IsTurn (system_of clocks limit before).timers (armed_in clocks limit before) base reading e.timer
+      → IsTurn (in_context ((system_of declareds terms before).timers e.timer).declared.context (system_of declareds terms before).timers)
+      (armed_in declareds terms before) base reading e.timer
 
 -- each entry may stand behind those before it
-abbrev pub IsInTurn : ℕ → List ClockId → ℕ → List TimerEntry → Type 0
-IsInTurn bases clocks limit log = (before later : List TimerEntry) (e : TimerEntry) → log ≡ before ++ e ∷ later → MayFollow bases clocks limit before e
+abbrev pub IsInTurn : ℕ → List Declared → Terms → List TimerEntry → Type 0
+IsInTurn bases declareds terms log = (before later : List TimerEntry) (e : TimerEntry) → log ≡ before ++ e ∷ later → MayFollow bases declareds terms before e

@@ -2,7 +2,8 @@
 #![tactic(auto)]
 
 pub use base::Base;
-pub use event::{Event, Rearmed, Reply};
+pub use context::{Context, Declared, Terms, all_hard};
+pub use event::{Asked, Event, Moved, Placement, Rearmed, Reply};
 pub use laws::{
     a_cancelled_generation_never_runs, a_span_has_one_generation, a_stamp_counts_entries,
     histories_end, running_is_told_inside_the_span, spans_do_not_overlap,
@@ -10,12 +11,14 @@ pub use laws::{
 pub use observation::{Observation, Peek};
 pub use system::{
     TimerEntry, bases_agree_with_timers, each_claim_is_in_turn, each_part_is_legal,
-    one_function_runs_on_a_base, stamps_count_entries,
+    no_expiry_is_missed, one_function_runs_on_a_base, stamps_count_entries,
 };
-pub use timer_state::TimerState;
+pub use timer_state::{TimerState, make_timers};
 
 mod base;
+mod context;
 mod event;
+mod half;
 mod laws;
 mod observation;
 mod system;

@@ -1,59 +1,64 @@
 //! One timer as a state that events step.
-ghost use Rattle.std.specs.Prelude.{◌≡◌, ◌≤◌, ◌<◌, ◌⊎◌, IsSome, true};
+ghost use Rattle.std.specs.Prelude.{◌≡◌, ◌≤◌, ◌<◌, ◌⊎◌, ◌+◌, ◌*◌, IfOk, IsSome, length, true};
+ghost use Rattle.ktime.specs.Times.{sat, step_of};
 ghost use Rattle.seq_timer.specs.Histories.{peek_of};
-ghost use Rattle.seq_timer.specs.Steps.{Timer, IsBounded, Needs, after, finish_reply, finished, greatest_limit, opening, reply_to, start_reply, started};
+ghost use Rattle.seq_timer.specs.Steps.{Timer, IsBounded, Needs, after, placement_of, finish_reply, finished, forward_reply, forwarded, greatest_limit, opening, reply_to, start_reply, started};
+ghost use Rattle.seq_timer.specs.Systems.{openings};
 
-use crate::event::{Event, Rearmed, Reply};
+use crate::context::{Declared, Terms};
+use crate::event::{Asked, Event, Moved, Placement, Rearmed, Reply};
 use crate::observation::Peek;
 use ktime::{ClockId, Forwarded, LAST_TIME, Mode, Reading, effective, forward, sat_add};
+use std::alloc::{AllocError, Global};
 use std::marker::Model;
 
 /// One timer, by itself: no queue, no lock.
-#[derive(Clone, Copy, Debug, PartialEq, Eq)]
+#[derive(Clone, Copy, Debug)]
 pub struct TimerState {
-    declared: ClockId,
-    clock: ClockId,
-    base: u32,
-    expires: u64,
+    declared: Declared,
+    placement: Placement,
     armed: Option<u64>,
     running: Option<u64>,
     moving: bool,
     stamp: u64,
-    limit: u64,
+    terms: Terms,
 }
 
 impl Model for TimerState {
     ghost Value = { Timer };
 
-    ghost view = { λ t. record { declared = t.declared; clock = t.clock; base = t.base; expires = t.expires; armed = t.armed; running = t.running; moving = t.moving; stamp = t.stamp; limit = t.limit } };
+    ghost view = { λ t. record { declared = t.declared; clock = t.placement.clock; base = t.placement.base; soft = t.placement.soft; expires = t.placement.expires; armed = t.armed; running = t.running; moving = t.moving; stamp = t.stamp; terms = t.terms } };
 
-    ghost invariant = { λ t. IsBounded (record { declared = t.declared; clock = t.clock; base = t.base; expires = t.expires; armed = t.armed; running = t.running; moving = t.moving; stamp = t.stamp; limit = t.limit }) };
+    ghost invariant = { λ t. IsBounded (record { declared = t.declared; clock = t.placement.clock; base = t.placement.base; soft = t.placement.soft; expires = t.placement.expires; armed = t.armed; running = t.running; moving = t.moving; stamp = t.stamp; terms = t.terms }) };
 
-    ghost inverse = { λ v. record { declared = v.declared; clock = v.clock; base = v.base; expires = v.expires; armed = v.armed; running = v.running; moving = v.moving; stamp = v.stamp; limit = v.limit } };
+    ghost inverse = { λ v. record { declared = v.declared; placement = record { base = v.base; clock = v.clock; soft = v.soft; expires = v.expires }; armed = v.armed; running = v.running; moving = v.moving; stamp = v.stamp; terms = v.terms } };
 }
 
 impl TimerState {
-    /// A timer of which nothing has happened yet. At `max_events` entries it takes no start, no forward and no restart any more.
-    pub fn make(clock: ClockId, max_events: u64) -> TimerState
-        requires some { 0 < max_events }
-        requires few { max_events ≤ greatest_limit }
-        ensures { result ≡ opening clock max_events }
+    /// A timer of which nothing has happened yet.
+    pub fn make(declared: Declared, terms: Terms) -> TimerState
+        requires some { 0 < terms.limit }
+        requires few { terms.limit ≤ greatest_limit }
+        ensures { result ≡ opening declared terms }
     {
         TimerState {
-            declared: clock,
-            clock,
-            base: 0,
-            expires: 0,
+            declared,
+            placement: Placement {
+                base: 0,
+                clock: declared.clock,
+                soft: 0,
+                expires: 0,
+            },
             armed: None,
             running: None,
             moving: false,
             stamp: 0,
-            limit: max_events,
+            terms,
         }
     }
 
-    /// The clock that the timer was declared on.
-    pub fn declared(&self) -> ClockId
+    /// The clock and the context that the timer was declared with.
+    pub fn declared(&self) -> Declared
         ensures { result ≡ self.now.declared }
     {
         self.declared
@@ -63,21 +68,35 @@ impl TimerState {
     pub fn clock(&self) -> ClockId
         ensures { result ≡ self.now.clock }
     {
-        self.clock
+        self.placement.clock
     }
 
     /// The base that the timer is on, or moves to.
     pub fn base(&self) -> u32
         ensures { result ≡ self.now.base }
     {
-        self.base
+        self.placement.base
     }
 
-    /// The expiry in nanoseconds of the clock that the timer is kept on.
+    /// The soft expiry in nanoseconds of the clock that the timer is kept on: from then on the timer may be claimed.
+    pub fn soft(&self) -> u64
+        ensures { result ≡ self.now.soft }
+    {
+        self.placement.soft
+    }
+
+    /// The expiry in nanoseconds of the clock that the timer is kept on: by it the timer is queued.
     pub fn expires(&self) -> u64
         ensures { result ≡ self.now.expires }
     {
-        self.expires
+        self.placement.expires
+    }
+
+    /// How the timer is kept.
+    pub fn placement(&self) -> Placement
+        ensures { result ≡ placement_of self.now }
+    {
+        self.placement
     }
 
     /// The generation that is armed.
@@ -110,9 +129,9 @@ impl TimerState {
 
     /// The limit on entries.
     pub fn limit(&self) -> u64
-        ensures { result ≡ self.now.limit }
+        ensures { result ≡ self.now.terms.limit }
     {
-        self.limit
+        self.terms.limit
     }
 
     /// What holds of a timer at all times.
@@ -128,7 +147,7 @@ impl TimerState {
     {
         Peek {
             stamp: self.stamp,
-            base: self.base,
+            base: self.placement.base,
             enqueued: self.armed.is_some(),
             running: self.running.is_some(),
             moving: self.moving,
@@ -146,18 +165,13 @@ impl TimerState {
         let generation = self.armed.unwrap_or(0);
         match event {
             Event::Out { base } => {
-                self.base = base;
+                self.placement.base = base;
                 self.armed = None;
                 self.moving = true;
                 self.stamp = number;
                 Reply::Out { was_armed }
             }
-            Event::Start {
-                mode,
-                ns,
-                reading,
-                ..
-            } => self.start(mode, ns, reading),
+            Event::Start(asked) => self.start(&asked),
             Event::Cancel => {
                 self.armed = None;
                 self.stamp = number;
@@ -169,41 +183,56 @@ impl TimerState {
                 self.stamp = number;
                 Reply::Claim { generation }
             }
-            Event::Forward { reading, interval } => {
-                let now = reading.value(self.clock);
-                let Forwarded { count, expires } = forward(self.expires, now, interval);
-                self.expires = expires;
-                self.stamp = number;
-                Reply::Forward { count, expires }
-            }
+            Event::Forward { reading, interval } => self.forward(reading, interval),
             Event::Finish { restart } => self.finish(restart),
         }
     }
 
     /// Arms the timer, and answers for the start.
-    fn start(&mut self, mode: Mode, ns: u64, reading: Reading) -> Reply
-        requires room { (self.old.stamp < self.old.limit) ⊎ (self.old.moving ≡ true) }
-        ensures state { self.new ≡ started self.old mode ns reading }
-        ensures reply { result ≡ start_reply self.old mode ns reading }
+    fn start(&mut self, asked: &Asked) -> Reply
+        requires room { (self.old.stamp < self.old.terms.limit) ⊎ (self.old.moving ≡ true) }
+        ensures state { self.new ≡ started self.old asked.now }
+        ensures reply { result ≡ start_reply self.old asked.now }
     {
         let number = self.stamp + 1;
         let was_armed = self.armed.is_some();
-        let clock = effective(self.declared, mode, self.clock);
-        let expires = match mode {
-            Mode::Abs | Mode::Keep => ns.min(LAST_TIME),
-            Mode::Rel => sat_add(reading.value(clock), ns),
+        let clock = effective(self.declared.clock, asked.mode, self.placement.clock);
+        let soft = match asked.mode {
+            Mode::Abs | Mode::Keep => asked.ns.min(LAST_TIME),
+            Mode::Rel => sat_add(asked.reading.value(clock), asked.ns),
         };
-        self.clock = clock;
-        self.expires = expires;
+        let expires = sat_add(soft, asked.slack);
+        self.placement.clock = clock;
+        self.placement.soft = soft;
+        self.placement.expires = expires;
         self.armed = Some(number);
         self.moving = false;
         self.stamp = number;
         Reply::Start {
-            base: self.base,
-            clock,
-            expires,
+            placement: self.placement(),
             was_armed,
         }
+    }
+
+    /// Moves both expiries, and answers for the forward.
+    fn forward(&mut self, reading: Reading, interval: u64) -> Reply
+        requires room { self.old.stamp < self.old.terms.limit }
+        requires running { IsSome self.old.running }
+        ensures state { self.new ≡ forwarded self.old reading interval }
+        ensures reply { result ≡ forward_reply self.old reading interval }
+    {
+        let now = reading.value(self.placement.clock);
+        let Forwarded { count, expires } = forward(self.placement.expires, now, interval);
+        let soft = later(self.placement.soft, count, interval);
+        self.placement.soft = soft;
+        self.placement.expires = expires;
+        self.stamp += 1;
+        let moved = Moved {
+            count,
+            soft,
+            expires,
+        };
+        Reply::Forward { moved }
     }
 
     /// Ends the run of the timer's function, and answers for the finish.
@@ -216,7 +245,7 @@ impl TimerState {
         let number = self.stamp + 1;
         let rearmed = if !restart || self.armed.is_some() {
             Rearmed::No
-        } else if self.stamp < self.limit {
+        } else if self.stamp < self.terms.limit {
             Rearmed::Again { generation: number }
         } else {
             Rearmed::Spent { stamp: self.stamp }
@@ -231,4 +260,28 @@ impl TimerState {
             rearmed,
         }
     }
+}
+
+/// Timers of which nothing has happened yet.
+pub fn make_timers(
+    alloc: Global,
+    declareds: &[Declared],
+    terms: Terms,
+) -> Result<Vec<TimerState>, AllocError>
+    requires limit { (0 < terms.limit) × (terms.limit ≤ greatest_limit) }
+    ensures timers { IfOk result (λ v. v.items ≡ openings declareds.now terms) }
+    ensures len { IfOk result (λ v. length v.items ≡ length declareds.now) }
+{
+    let mut timers = Vec::with_capacity(alloc, declareds.len())?;
+    for declared in declareds {
+        timers.push(TimerState::make(*declared, terms))?;
+    }
+    Ok(timers)
+}
+
+/// A time so many intervals later, stopped at the end of time.
+fn later(at: u64, count: u64, interval: u64) -> u64
+    ensures { result ≡ sat (at + count * step_of interval) }
+{
+    sat_add(at, count.saturating_mul(interval.max(1)))
 }

@@ -3,7 +3,6 @@ use Rattle.std.proofs.Common.{◌≡◌, ℕ, ◌+◌, ◌^◌, ◌≢◌, false
 use Rattle.std.specs.Prelude.{Bool, if◌then◌else◌}
 use Rattle.std.proofs.lemmas.Bool.{ne_eqb}
 use Rattle.std.proofs.lemmas.Nat.{pow_pos}
-use Rattle.ktime.specs.declared.clock_id.ClockId.{ClockId}
 use Rattle.ktime.specs.declared.mode.Mode.TheVariants as modes
 use Rattle.ktime.specs.Readings.{ClockReading}
 use Rattle.pass_names.specs.Counts.{count, one_if}
@@ -11,6 +10,7 @@ use Rattle.pass_names.specs.Passes.{is_place, places}
 use Rattle.pass_names.proofs.Counts.{total-append}
 use Rattle.pass_names.proofs.Passes.{begins_refl, begins_trans, places_of_one}
 use Rattle.seq_timer.specs.declared.event.Event.TheVariants as events
+use Rattle.seq_timer.specs.declared.event.Placement.{Placement}
 use Rattle.seq_timer.specs.declared.observation.Peek.{Peek}
 use Rattle.seq_timer.specs.declared.system.TimerEntry.{TimerEntry}
 use Rattle.seq_timer.specs.Histories as seq
@@ -18,7 +18,7 @@ use Rattle.seq_timer.specs.Steps.{Timer}
 use Rattle.seq_timer.specs.Systems.{entries_of}
 use Rattle.seq_timer.specs.Tables.{timer_at}
 use Rattle.seq_timer.proofs.Limits.{stamp-after_all}
-use Rattle.timer_core.specs.Answers.{moves_first}
+use Rattle.timer_core.specs.Answers.{asked_for, moves_first}
 use Rattle.base_row.specs.declared.view.Opening.{Opening}
 use Rattle.hr_timers.specs.declared.answer.StartAnswer.TheVariants as starts
 use Rattle.hr_timers.specs.Known.{HasEachPlace, KnownOfTimers, MadeAt, timer_then}
@@ -72,8 +72,9 @@ makes_none t v = record {
 -- ---- starts
 
 abbrev along : Timer → ℕ → ℕ → ClockReading → Bool → List seq.Entry
-along u ns asked reading b = entries_along u (if b then events.Out asked ∷ events.Start modes.Rel ns reading asked ∷
-    [] else events.Start modes.Rel ns reading asked ∷ [])
+along u ns asked reading b =
+    let start = events.Start (asked_for modes.Rel ns 0 asked reading) in
+    entries_along u (if b then events.Out asked ∷ start ∷ [] else start ∷ [])
 
 stays : (u : Timer) (ns asked : ℕ) (reading : ClockReading) (b : Bool) → (if b then 2 ^ asked else 0) ≡ 0 → length (along u ns asked reading b) ≡ 1
 stays u ns asked reading false is = refl
@@ -83,27 +84,27 @@ moves : (u : Timer) (ns asked : ℕ) (reading : ClockReading) (b : Bool) → ((i
 moves u ns asked reading true is = refl
 moves u ns asked reading false is = absurd (is refl)
 
-same_outs : (a b : Bool) (g n c d e f : ℕ) (k l : ClockId) (x y : ℕ) → starts.Started a g c e k x ≡ starts.Started b n d f l y → e ≡ f
-same_outs a b g n c d e f k l x y is = cc
+same_outs : (a b : Bool) (g n e f : ℕ) (k l : Placement) → starts.Started a g e k ≡ starts.Started b n f l → e ≡ f
+same_outs a b g n e f k l is = cc
 
 module _ (o : Opening) (v w : KnownOfTimers) (t ns asked : ℕ) (reading : ClockReading) where
-  pub start_stays : (was : Bool) (g base outs : ℕ) (clock : ClockId) (expires : ℕ) → outs ≡ 0
-      → StartsTimer o v w t modes.Rel ns asked reading (starts.Started was g base outs clock expires) → MakesEntries t 1 v w
-  start_stays was g base outs clock expires none s =
+  pub start_stays : (was : Bool) (g outs : ℕ) (placement : Placement) → outs ≡ 0
+      → StartsTimer o v w t (asked_for modes.Rel ns 0 asked reading) (starts.Started was g outs placement) → MakesEntries t 1 v w
+  start_stays was g outs placement none s =
       let u = timer_then o s.at t in
       subst (λ n. MakesEntries t n v w)
-      (stays u ns asked reading (moves_first u asked) (sym (same_outs _ _ _ _ _ _ _ _ _ _ _ _ s.fits.2) ∙ none))
+      (stays u ns asked reading (moves_first u asked) (sym (same_outs _ _ _ _ _ _ _ _ s.fits.2) ∙ none))
       (makes_made v w t s.at _ s.made s.claims)
 
-  pub start_moves : (was : Bool) (g base outs : ℕ) (clock : ClockId) (expires : ℕ) → (outs ≡ 0 → ⊥)
-      → StartsTimer o v w t modes.Rel ns asked reading (starts.Started was g base outs clock expires) → MakesEntries t 2 v w
-  start_moves was g base outs clock expires some s =
+  pub start_moves : (was : Bool) (g outs : ℕ) (placement : Placement) → (outs ≡ 0 → ⊥)
+      → StartsTimer o v w t (asked_for modes.Rel ns 0 asked reading) (starts.Started was g outs placement) → MakesEntries t 2 v w
+  start_moves was g outs placement some s =
       let u = timer_then o s.at t in
       subst (λ n. MakesEntries t n v w)
-      (moves u ns asked reading (moves_first u asked) (λ e. some (same_outs _ _ _ _ _ _ _ _ _ _ _ _ s.fits.2 ∙ e)))
+      (moves u ns asked reading (moves_first u asked) (λ e. some (same_outs _ _ _ _ _ _ _ _ s.fits.2 ∙ e)))
       (makes_made v w t s.at _ s.made s.claims)
 
-  pub start_refused : (n : ℕ) → StartsTimer o v w t modes.Rel ns asked reading (starts.Spent n) → MakesEntries t 0 v w
+  pub start_refused : (n : ℕ) → StartsTimer o v w t (asked_for modes.Rel ns 0 asked reading) (starts.Spent n) → MakesEntries t 0 v w
   start_refused n s = makes_made v w t s.at [] s.made s.claims
 
 -- ---- threads

@@ -2,12 +2,12 @@
 use Rattle.std.proofs.Common.{◌≡◌, ℕ, ◌+◌, ◌≤◌, List, [], ◌∷◌, ◌++◌, length, refl, ap, sym, ◌∙◌, subst, true, false, arith, length-append}
 use Rattle.std.specs.Prelude.{Bool, Some, if◌then◌else◌}
 use Rattle.std.proofs.lemmas.List.{append-nil}
-use Rattle.ktime.specs.declared.clock_id.ClockId.{ClockId}
 use Rattle.ktime.specs.declared.mode.Mode.TheVariants as modes
 use Rattle.ktime.specs.Readings.{ClockReading}
 use Rattle.ktime.specs.Times.{sat}
 use Rattle.pass_names.specs.Passes.{Begins, places}
 use Rattle.seq_timer.specs.declared.event.Event.TheVariants as events
+use Rattle.seq_timer.specs.declared.event.Placement.{Placement}
 use Rattle.seq_timer.specs.declared.system.TimerEntry.{TimerEntry}
 use Rattle.seq_timer.specs.Histories as seq
 use Rattle.seq_timer.specs.Steps.{Timer, after, now_of, reply_to}
@@ -16,7 +16,7 @@ use Rattle.seq_timer.specs.Tables.{timer_at}
 use Rattle.seq_timer.proofs.Agreement.{parts}
 use Rattle.timer_core.specs.declared.answer.CancelAnswer.{CancelAnswer}
 use Rattle.timer_core.specs.declared.answer.CancelAnswer.TheVariants as cancels
-use Rattle.timer_core.specs.Answers.{moves_first, start_events}
+use Rattle.timer_core.specs.Answers.{asked_for, moves_first, start_events}
 use Rattle.timer_core.specs.Kept.{step_all}
 use Rattle.base_row.specs.declared.view.Opening.{Opening}
 use Rattle.base_row.proofs.Begun.{entries_of-begins}
@@ -52,8 +52,9 @@ reply_made o v w t x log e made begins history =
 -- ---- start
 
 abbrev started_now : Timer → ℕ → ℕ → ClockReading → Bool → Timer
-started_now t ns asked reading b = step_all t (if b then events.Out asked ∷ events.Start modes.Rel ns reading asked ∷
-    [] else events.Start modes.Rel ns reading asked ∷ [])
+started_now t ns asked reading b =
+    let start = events.Start (asked_for modes.Rel ns 0 asked reading) in
+    step_all t (if b then events.Out asked ∷ start ∷ [] else start ∷ [])
 
 now_armed : (t : Timer) (ns asked : ℕ) (reading : ClockReading) (b : Bool) →
     (started_now t ns asked reading b).armed ≡ Some (started_now t ns asked reading b).stamp
@@ -62,31 +63,31 @@ now_armed t ns asked reading false = refl
 
 now_expires : (t : Timer) (ns asked : ℕ) (reading : ClockReading) (b : Bool) →
     (started_now t ns asked reading b).expires ≡ sat (now_of (started_now t ns asked reading b) reading + ns)
-now_expires t ns asked reading true = refl
-now_expires t ns asked reading false = refl
+now_expires t ns asked reading true = omega arith
+now_expires t ns asked reading false = omega arith
 
-same_generation : (a b : Bool) (g n c d e f : ℕ) (k l : ClockId) (x y : ℕ) → starts.Started a g c e k x ≡ starts.Started b n d f l y → g ≡ n
-same_generation a b g n c d e f k l x y is = cc
+same_generation : (a b : Bool) (g n e f : ℕ) (k l : Placement) → starts.Started a g e k ≡ starts.Started b n f l → g ≡ n
+same_generation a b g n e f k l is = cc
 
-module _ (o : Opening) (v w : KnownOfTimers) (t ns asked : ℕ) (reading : ClockReading) (was : Bool) (generation base outs : ℕ) (clock : ClockId) (expires : ℕ)
-    (s : StartsTimer o v w t modes.Rel ns asked reading (starts.Started was generation base outs clock expires)) where
+module _ (o : Opening) (v w : KnownOfTimers) (t ns asked : ℕ) (reading : ClockReading) (was : Bool) (generation outs : ℕ) (placement : Placement)
+    (s : StartsTimer o v w t (asked_for modes.Rel ns 0 asked reading) (starts.Started was generation outs placement)) where
   now : known_timer o w t ≡ started_now (timer_then o s.at t) ns asked reading (moves_first (timer_then o s.at t) asked)
-  now = timer_after o v w t s.at _ s.made ∙ along (timer_then o s.at t) (start_events (timer_then o s.at t) modes.Rel ns asked reading)
+  now = timer_after o v w t s.at _ s.made ∙ along (timer_then o s.at t) (start_events (timer_then o s.at t) (asked_for modes.Rel ns 0 asked reading))
 
   pub start_armed : (known_timer o w t).armed ≡ Some generation
   start_armed =
       let u = timer_then o s.at t in
-      ap (λ (x : Timer). x.armed) now ∙ (now_armed u ns asked reading (moves_first u asked) ∙ ap (λ n. Some n) (sym (same_generation _ _ _ _ _ _ _ _ _ _ _ _ s.fits.2)))
+      ap (λ (x : Timer). x.armed) now ∙ (now_armed u ns asked reading (moves_first u asked) ∙ ap (λ n. Some n) (sym (same_generation _ _ _ _ _ _ _ _ s.fits.2)))
 
   pub start_expires : (known_timer o w t).expires ≡ sat (now_of (known_timer o w t) reading + ns)
   start_expires =
       let u = timer_then o s.at t in
       subst (λ (x : Timer). x.expires ≡ sat (now_of x reading + ns)) (sym now) (now_expires u ns asked reading (moves_first u asked))
 
-pub start_spent : (o : Opening) (v w : KnownOfTimers) (t ns asked : ℕ) (reading : ClockReading) (n : ℕ) → StartsTimer o v w t modes.Rel ns asked reading (starts.Spent n)
-    → (known_timer o w t).limit ≤ (known_timer o w t).stamp
+pub start_spent : (o : Opening) (v w : KnownOfTimers) (t ns asked : ℕ) (reading : ClockReading) (n : ℕ) → StartsTimer o v w t (asked_for modes.Rel ns 0 asked reading) (starts.Spent n)
+    → (known_timer o w t).terms.limit ≤ (known_timer o w t).stamp
 start_spent o v w t ns asked reading n s =
-    subst (λ (x : Timer). x.limit ≤ x.stamp) (sym (timer_after o v w t s.at [] s.made)) s.fits.1
+    subst (λ (x : Timer). x.terms.limit ≤ x.stamp) (sym (timer_after o v w t s.at [] s.made)) s.fits.1
 
 -- ---- cancel
 

@@ -9,9 +9,10 @@ use Rattle.seq_timer.specs.declared.event.Reply.TheVariants as replies
 use Rattle.seq_timer.specs.declared.event.Rearmed.TheVariants as rearmings
 use Rattle.seq_timer.specs.declared.system.TimerEntry.{TimerEntry}
 use Rattle.seq_timer.specs.Histories.{IsIdle}
-use Rattle.seq_timer.specs.Steps.{Timer, now_of}
-use Rattle.seq_timer.specs.Tables.{IsNextDue}
-use Rattle.seq_timer.specs.Contents.{running_on}
+use Rattle.seq_timer.specs.Steps.{Timer, moved_by, now_of}
+use Rattle.seq_timer.specs.Tables.{IsNextDue, in_context}
+use Rattle.seq_timer.specs.Halves.{running_on}
+use Rattle.seq_timer.specs.declared.context.Context.TheVariants as contexts
 use Rattle.base_row.specs.declared.view.Opening.{Opening}
 use Rattle.base_row.specs.Calls as rows
 use Rattle.hr_timers.specs.Known.{IsPassOf, KnownOfTimers, PassOf, timer_then}
@@ -28,9 +29,10 @@ use Rattle.shared_timer_uses.specs.declared.periodic.Tick.{Tick}
 abbrev pub known_timer : Opening → KnownOfTimers → ℕ → Timer
 known_timer o k t = timer_then o k.seen t
 
--- by all that a pass has seen nothing is due on a base, or a function runs there
+-- by all that a pass has seen no timer of the hard context is next to expire on a base, or the function of one runs there
 abbrev pub HasNothingToRun : Opening → KnownOfTimers → ℕ → ClockReading → Type 0
-HasNothingToRun o k base reading = HasNoneDue o k.seen base reading ⊎ ((t : ℕ) × (g : ℕ) × (running_on base (known_timer o k t) ≡ Some g))
+HasNothingToRun o k base reading = HasNoneDue o k.seen contexts.Hard base reading
+    ⊎ ((t : ℕ) × (g : ℕ) × (running_on base (in_context contexts.Hard (known_timer o k) t) ≡ Some g))
 
 -- a thread may run the function of one timer on a base by its pass, and its log has room for the receipts
 pub record MayRunOne (timers : rows.BaseRowOf) (pass : PassOf) (log : LogOf Receipt) (base : ℕ) : Type 0 where
@@ -45,12 +47,13 @@ pub record KeepsRunner (timers : rows.BaseRowOf) (pass pass' : PassOf) (log log'
   pub keeps : KeepsPass pass.known pass'.known
   pub room : log.spare ≤ log'.spare + 2
 
--- the timer was the next to expire on its base when it was claimed, its function has ended, and that armed nothing
+-- the timer, of the hard context, was the next to expire on its base when it was claimed, its function has ended, and that armed nothing
 pub record RanOnce (o : Opening) (base : ℕ) (reading : ClockReading) (k k' : KnownOfTimers) (t : ℕ) (log log' : List Receipt) : Type 0 where
   pub at : List TimerEntry
   pub from : Begins k.seen at
   pub seen : Begins at k'.seen
-  pub next : IsNextDue (timer_then o at) base reading t
+  pub context : (timer_then o at t).declared.context ≡ contexts.Hard
+  pub next : IsNextDue (in_context contexts.Hard (timer_then o at)) base reading t
   pub ended : (known_timer o k' t).running ≡ None
   pub generation : ℕ
   pub armed : (timer_then o at t).armed ≡ Some generation
@@ -60,17 +63,19 @@ pub record RanOnce (o : Opening) (base : ℕ) (reading : ClockReading) (k k' : K
       ++ record { timer = t; number = claim; event = events.Claim base reading; reply = noteds.Entry (replies.Claim generation) }
       ∷ record { timer = t; number = finish; event = events.Finish false; reply = noteds.Entry (replies.Finish generation rearmings.No) } ∷ []
 
--- The timer was the next to expire on its base when it was claimed. Its function has moved the expiry on by so many intervals, to the first one
+-- The timer, of the hard context, was the next to expire on its base when it was claimed. Its function has moved the expiry on by so many intervals, to the first one
 -- past the reading.
 pub record Ticked (o : Opening) (base : ℕ) (reading : ClockReading) (interval : ℕ) (k k' : KnownOfTimers) (tick : Tick) : Type 0 where
   pub at : List TimerEntry
   pub from : Begins k.seen at
-  pub next : IsNextDue (timer_then o at) base reading tick.timer
+  pub context : (timer_then o at tick.timer).declared.context ≡ contexts.Hard
+  pub next : IsNextDue (in_context contexts.Hard (timer_then o at)) base reading tick.timer
   pub late : List TimerEntry
   pub goes_on : Begins at late
   pub seen : Begins late k'.seen
-  pub count : tick.count ≡ passed (timer_then o late tick.timer).expires (now_of (timer_then o late tick.timer) reading) interval
-  pub expires : tick.expires ≡ next_after (timer_then o late tick.timer).expires (now_of (timer_then o late tick.timer) reading) interval
+  pub count : tick.moved.count ≡ passed (timer_then o late tick.timer).expires (now_of (timer_then o late tick.timer) reading) interval
+  pub moved : tick.moved ≡ moved_by (timer_then o late tick.timer) reading interval
+  pub expires : tick.moved.expires ≡ next_after (timer_then o late tick.timer).expires (now_of (timer_then o late tick.timer) reading) interval
   pub ended : (known_timer o k' tick.timer).running ≡ None
 
 -- what a stop that doesn't wait has come to

@@ -27,7 +27,7 @@ abbrev pub ForwardsBy : ℕ → Option Tick → KnownOfTimers → KnownOfTimers 
 ForwardsBy interval None k k' c reading restart = restart ≡ restarts.Stop
 ForwardsBy interval (Some tick) k k' c reading restart = (restart ≡ restarts.Again) × (tick.timer ≡ c.timer)
     × ((at : List TimerEntry)
-    × MadeAt k k' c.timer at (record { event = events.Forward reading interval; reply = replies.Forward tick.count tick.expires } ∷ []))
+    × MadeAt k k' c.timer at (record { event = events.Forward reading interval; reply = replies.Forward tick.moved } ∷ []))
 
 abbrev pub periodic : Meaning Periodic
 periodic = record {

@@ -29,7 +29,7 @@ pub fn start_once<R: Wait>(
     ensures keeps { KeepsPass pass.old.known pass.new.known }
     ensures armed { IfSome result (λ generation. (known_timer timers.now.about pass.new.known timer).armed ≡ Some generation) }
     ensures expires { IfSome result (λ generation. (known_timer timers.now.about pass.new.known timer).expires ≡ sat (now_of (known_timer timers.now.about pass.new.known timer) reading + ns)) }
-    ensures full { IfNone result ((known_timer timers.now.about pass.new.known timer).limit ≤ (known_timer timers.now.about pass.new.known timer).stamp) }
+    ensures full { IfNone result ((known_timer timers.now.about pass.new.known timer).terms.limit ≤ (known_timer timers.now.about pass.new.known timer).stamp) }
     ensures unmade { IfNone result (pass.new.known.mine ≡ pass.old.known.mine) }
 {
     match timers.start(rt, pass, timer, Mode::Rel, ns, base, reading) {

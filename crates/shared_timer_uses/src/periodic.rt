@@ -5,15 +5,15 @@ ghost use Rattle.shared_timer_uses.specs.Callers.{KeepsRunner, MayRunOne, Ticked
 use expire_pass::{Handler, Log, Restart, expire};
 use hr_timers::{Claim, Pass, Timers};
 use ktime::Reading;
+use seq_timer::Moved;
 use std::sync::Wait;
 use timer_core::ForwardAnswer;
 
-/// A tick of a periodic timer: how many intervals have passed since the last one, and when the next is due.
+/// A tick of a periodic timer: how many intervals have passed since the last one, and the expiries of the next.
 #[derive(Clone, Copy, Debug, PartialEq, Eq)]
 pub struct Tick {
     pub timer: u32,
-    pub count: u64,
-    pub expires: u64,
+    pub moved: Moved,
 }
 
 /// The functions of periodic timers: each moves its timer's expiry past the reading by whole intervals, and asks for a restart. Where a start
@@ -38,13 +38,9 @@ impl Handler for Periodic {
         reading: Reading,
     ) -> Restart {
         match timers.forward(rt, pass, claim, reading, self.interval) {
-            ForwardAnswer::Forwarded { count, expires, .. } => {
+            ForwardAnswer::Forwarded { moved, .. } => {
                 let timer = claim.timer();
-                self.tick = Some(Tick {
-                    timer,
-                    count,
-                    expires,
-                });
+                self.tick = Some(Tick { timer, moved });
                 Restart::Again
             }
             ForwardAnswer::Spent { .. } | ForwardAnswer::Armed { .. } => {

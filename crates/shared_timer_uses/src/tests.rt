@@ -10,11 +10,13 @@ mod drawn;
 mod functions;
 mod of_base_row;
 mod of_clock_cell;
+mod slack;
 mod threads;
 
 use expire_pass::Log;
 use hr_timers::{Pass, Timers};
 use ktime::ClockId;
+use seq_timer::{Context, Declared, Moved, Placement};
 use std::alloc::{AllocError, Global};
 use std::fmt::Debug;
 use std::process::Abort;
@@ -22,6 +24,37 @@ use std::process::Abort;
 /// Fails the test where these differ, and shows both. This is proved once; an `assert_eq!` is proved in each test that has it.
 fn assert_equal<T: PartialEq + Debug + Drop>(rt: &impl Abort, got: T, wanted: T) {
     assert_eq!(rt; got, wanted);
+}
+
+/// A timer of the hard context on the monotonic clock.
+const HARD: Declared = Declared {
+    clock: ClockId::Monotonic,
+    context: Context::Hard,
+};
+
+/// A timer of the soft context on the same clock.
+const SOFT: Declared = Declared {
+    clock: ClockId::Monotonic,
+    context: Context::Soft,
+};
+
+/// A timer without slack, kept on the monotonic clock of a base.
+fn kept(base: u32, expires: u64) -> Placement {
+    Placement {
+        base,
+        clock: ClockId::Monotonic,
+        soft: expires,
+        expires,
+    }
+}
+
+/// So many intervals, and the expiry after them of a timer without slack.
+fn moved(count: u64, expires: u64) -> Moved {
+    Moved {
+        count,
+        soft: expires,
+        expires,
+    }
 }
 
 /// So many timers on the monotonic clock, so many bases, and a log with room for 64 receipts.

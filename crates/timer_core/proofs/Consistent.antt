@@ -8,8 +8,10 @@ use Rattle.seq_timer.specs.declared.event.Event.TheVariants as events
 use Rattle.seq_timer.specs.Steps.{Timer, Needs, after}
 use Rattle.seq_timer.specs.Tables.{no_timer}
 use Rattle.seq_timer.specs.Bases.{BaseState, IsQueuedAs, base_after, empty_base}
-use Rattle.seq_timer.specs.Contents.{IsContentOf, IsFreeFor}
-use Rattle.seq_timer.proofs.Contents.{Changes, IsContentOf-after, IsContentOf-elsewhere, IsQueuedAs-from, apart-after}
+use Rattle.seq_timer.specs.Halves.{IsFreeFor}
+use Rattle.seq_timer.specs.Contents.{IsContentOf, half_of}
+use Rattle.seq_timer.proofs.Halves.{Changes, apart-after}
+use Rattle.seq_timer.proofs.Contents.{IsContentOf-after, IsContentOf-elsewhere, IsQueuedAs-from}
 use Rattle.timer_core.specs.Kept.{Agrees, AreAllowed, IsConsistent, IsSameSize, Kept, Makes, Permits, after_event, base_at, content_at, step_all, timer_in}
 
 -- ---- the timers and bases after an event
@@ -52,9 +54,9 @@ each_timer k id e P within this those other = ⊎_elim
 
 -- ---- it agrees
 
-free_for : (k : Kept) (id : ℕ) (e : Event) → Permits k id e → IsFreeFor (content_at k (timer_in k id).base) e
+free_for : (k : Kept) (id : ℕ) (e : Event) → Permits k id e → IsFreeFor (half_of (timer_in k id).declared.context (content_at k (timer_in k id).base)) e
 free_for k id (events.Out base) permits = tt
-free_for k id (events.Start mode ns reading asked) permits = tt
+free_for k id (events.Start asked) permits = tt
 free_for k id events.Cancel permits = tt
 free_for k id (events.Claim base reading) permits = permits
 free_for k id (events.Forward reading interval) permits = tt
@@ -62,7 +64,7 @@ free_for k id (events.Finish restart) permits = tt
 
 placed-after : (k : Kept) (id : ℕ) (e : Event) → Permits k id e → (timer_in k id).base < length k.bases → (after (timer_in k id) e).base < length k.bases
 placed-after k id (events.Out base) permits placed = permits
-placed-after k id (events.Start mode ns reading asked) permits placed = placed
+placed-after k id (events.Start asked) permits placed = placed
 placed-after k id events.Cancel permits placed = placed
 placed-after k id (events.Claim base reading) permits placed = placed
 placed-after k id (events.Forward reading interval) permits placed = placed
@@ -81,10 +83,10 @@ agrees-after k id e all within needs permits =
       contents = λ base. ⊎_elim
           (λ (here : base ≡ t.base). subst (λ b. IsContentOf (timer_in new) b (content_at new b)) (sym here)
           (subst (λ (b : BaseState). IsContentOf (timer_in new) t.base b.content) (sym (base-here k id e (all.placed id)))
-          (IsContentOf-after (timer_in k) (timer_in new) id e (content_at k t.base) needs (all.apart id) (free_for k id e permits) one
+          (IsContentOf-after (timer_in k) (timer_in new) id e one (content_at k t.base) needs (all.apart id) (free_for k id e permits)
           (all.contents t.base))))
           (λ apart. subst (λ (b : BaseState). IsContentOf (timer_in new) base b.content) (sym (base-else k id base e apart))
-          (IsContentOf-elsewhere (timer_in k) (timer_in new) id e base (content_at k base) needs apart one (all.contents base)))
+          (IsContentOf-elsewhere (timer_in k) (timer_in new) id e one base (content_at k base) needs apart (all.contents base)))
           (cases_eq base t.base);
       rooms = λ base inside. ⊎_elim
           (λ (here : base ≡ t.base). ap (λ b. (base_at new b).room) here ∙ ap (λ (b : BaseState). b.room) (base-here k id e (all.placed id))
@@ -142,7 +144,7 @@ still-after k new id es makes still now other = ⊎_elim
 -- what comes after an Out needs nothing of the bases
 permits-moving : (k : Kept) (id : ℕ) (e : Event) → Needs (timer_in k id) e → (timer_in k id).moving ≡ true → Permits k id e
 permits-moving k id (events.Out base) needs moves = absurd (true≢false (sym moves ∙ needs.1))
-permits-moving k id (events.Start mode ns reading asked) needs moves = tt
+permits-moving k id (events.Start asked) needs moves = tt
 permits-moving k id events.Cancel needs moves = tt
 permits-moving k id (events.Claim base reading) needs moves = absurd (true≢false (sym moves ∙ needs.3))
 permits-moving k id (events.Forward reading interval) needs moves = tt

@@ -2,12 +2,12 @@
 use Rattle.std.proofs.Common.{◌≡◌, ◌<◌, ℕ, true, false, List, [], ◌∷◌, ◌++◌, nat_eq, get_or, length, if◌then◌else◌, refl, sym, ap, subst}
 use Rattle.std.proofs.lemmas.Bool.{eqb-true, eqb-false}
 use Rattle.std.proofs.lemmas.List.{get_or-map}
-use Rattle.ktime.specs.declared.clock_id.ClockId.{ClockId}
-use Rattle.ktime.specs.declared.clock_id.ClockId.TheVariants as clocks
+use Rattle.seq_timer.specs.declared.context.Declared.{Declared}
+use Rattle.seq_timer.specs.declared.context.Terms.{Terms}
 use Rattle.seq_timer.specs.declared.event.Event.{Event}
 use Rattle.seq_timer.specs.Steps.{Timer, after, opening}
 use Rattle.seq_timer.specs.Histories.{Entry, AreSteps, after_all}
-use Rattle.seq_timer.specs.Tables.{timer_at, no_timer}
+use Rattle.seq_timer.specs.Tables.{no_declared, no_timer, timer_at}
 use Rattle.timer_core.specs.Kept.{Kept, AreAllowed, Makes, opened, step_all}
 use Rattle.timer_core.specs.Runs.{AreCalls, Call, entries_along, history_along}
 
@@ -39,12 +39,12 @@ leads_along old new (c ∷ cs) id run =
     ] refl
 
 -- the timer of a clock at the opening
-pub timer_at-opened : (bases limit id : ℕ) (list : List ClockId) → id < length list
-    → timer_at (opened bases list limit).timers id ≡ opening (get_or list id clocks.Monotonic) limit
-timer_at-opened bases limit id list there = get_or-map (λ clock. opening clock limit) list id clocks.Monotonic no_timer there
+pub timer_at-opened : (bases : ℕ) (terms : Terms) (id : ℕ) (list : List Declared) → id < length list
+    → timer_at (opened bases list terms).timers id ≡ opening (get_or list id no_declared) terms
+timer_at-opened bases terms id list there = get_or-map (λ clock. opening clock terms) list id no_declared no_timer there
 
-pub legal_along : (bases limit id : ℕ) (list : List ClockId) (calls : List Call) (end : Kept) → AreCalls (opened bases list limit) calls end
-    → id < length list → LeadsTo (opening (get_or list id clocks.Monotonic) limit)
-    (history_along id (opening (get_or list id clocks.Monotonic) limit) calls) (timer_at end.timers id)
-legal_along bases limit id list calls end run there = subst (λ t. LeadsTo t (history_along id t calls) (timer_at end.timers id))
-    (timer_at-opened bases limit id list there) (leads_along (opened bases list limit) end calls id run)
+pub legal_along : (bases : ℕ) (terms : Terms) (id : ℕ) (list : List Declared) (calls : List Call) (end : Kept) → AreCalls (opened bases list terms) calls end
+    → id < length list → LeadsTo (opening (get_or list id no_declared) terms)
+    (history_along id (opening (get_or list id no_declared) terms) calls) (timer_at end.timers id)
+legal_along bases terms id list calls end run there = subst (λ t. LeadsTo t (history_along id t calls) (timer_at end.timers id))
+    (timer_at-opened bases terms id list there) (leads_along (opened bases list terms) end calls id run)

@@ -1,12 +1,14 @@
 -- All timers and bases, how they change with the events of one timer, and that they agree.
-use Rattle.std.specs.Prelude.{ℕ, ◌≡◌, ◌≤◌, ◌<◌, false, true, None, List, [], ◌∷◌, map, length, get_or, set, replicate}
-use Rattle.ktime.specs.declared.clock_id.ClockId.{ClockId}
-use Rattle.seq_timer.specs.Steps.{Timer, Needs, opening, after}
+use Rattle.std.specs.Prelude.{ℕ, ◌≡◌, ◌≤◌, ◌<◌, false, true, None, List, [], ◌∷◌, length, get_or, set, replicate}
+use Rattle.seq_timer.specs.declared.context.Declared.{Declared}
+use Rattle.seq_timer.specs.declared.context.Terms.{Terms}
+use Rattle.seq_timer.specs.Steps.{Timer, Needs, after}
 use Rattle.seq_timer.specs.declared.event.Event.{Event}
 use Rattle.seq_timer.specs.declared.event.Event.TheVariants as events
 use Rattle.seq_timer.specs.Tables.{timer_at}
 use Rattle.seq_timer.specs.Bases.{BaseState, base_after, empty_base}
-use Rattle.seq_timer.specs.Contents.{Content, IsContentOf}
+use Rattle.seq_timer.specs.Contents.{Content, IsContentOf, running_in}
+use Rattle.seq_timer.specs.Systems.{openings}
 
 -- the timers and the bases, each by its number
 pub record Kept : Type 0 where
@@ -27,15 +29,15 @@ timer_in k id = timer_at k.timers id
 
 -- the timer has reached its limit on entries
 abbrev pub IsSpent : Timer → Type 0
-IsSpent t = t.limit ≤ t.stamp
+IsSpent t = t.terms.limit ≤ t.stamp
 
 -- the timer is below its limit on entries
 abbrev pub HasRoom : Timer → Type 0
-HasRoom t = t.stamp < t.limit
+HasRoom t = t.stamp < t.terms.limit
 
--- so many bases, and a timer of which nothing has happened yet for each clock
-abbrev pub opened : ℕ → List ClockId → ℕ → Kept
-opened bases clocks limit = record { timers = map (λ clock. opening clock limit) clocks; bases = replicate bases (empty_base (length clocks)) }
+-- so many bases, and timers of which nothing has happened yet, declared so and on these terms
+abbrev pub opened : ℕ → List Declared → Terms → Kept
+opened bases declareds terms = record { timers = openings declareds terms; bases = replicate bases (empty_base (length declareds)) }
 
 -- ---- events of one timer
 
@@ -51,12 +53,12 @@ abbrev pub after_events : Kept → ℕ → List Event → Kept
 after_events k id [] = k
 after_events k id (e ∷ es) = after_events (after_event k id e) id es
 
--- what an event needs beyond what its timer needs: a timer is sent to one of the bases, and a claim finds no function running on its own
+-- what an event needs beyond what its timer needs: a timer is sent to one of the bases, and a claim finds no function of its context running on its own
 abbrev pub Permits : Kept → ℕ → Event → Type 0
 Permits k id (events.Out base) = base < length k.bases
-Permits k id (events.Start mode ns reading asked) = Unit {0}
+Permits k id (events.Start asked) = Unit {0}
 Permits k id events.Cancel = Unit {0}
-Permits k id (events.Claim base reading) = (content_at k (timer_in k id).base).running ≡ None
+Permits k id (events.Claim base reading) = running_in (timer_in k id).declared.context (content_at k (timer_in k id).base) ≡ None
 Permits k id (events.Forward reading interval) = Unit {0}
 Permits k id (events.Finish restart) = Unit {0}
 

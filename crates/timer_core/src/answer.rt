@@ -1,6 +1,5 @@
 //! What each call answers.
-use ktime::ClockId;
-use seq_timer::Rearmed;
+use seq_timer::{Moved, Placement, Rearmed};
 
 /// What a start answers.
 #[derive(Clone, Copy, Debug, PartialEq, Eq)]
@@ -10,14 +9,10 @@ pub enum StartAnswer {
         was_armed: bool,
         /// The generation that is armed now.
         generation: u64,
-        /// The base that the timer is on. A timer whose function is running keeps its base.
-        base: u32,
         /// The base that the call moved the timer to, if it did.
         moved_to: Option<u32>,
-        /// The clock that the timer is kept on.
-        clock: ClockId,
-        /// The expiry that the start has set, in nanoseconds of `clock`.
-        expires: u64,
+        /// How the timer is kept. A timer whose function is running keeps its base.
+        placement: Placement,
     },
     /// The limit on entries was reached, at this stamp. Nothing has changed.
     Spent {
@@ -45,7 +40,7 @@ pub enum ClaimAnswer {
         generation: u64,
         number: u64,
     },
-    /// No timer of the base is due.
+    /// No timer of the context is the next to expire: the base is stopped for each of its clocks.
     NoneDue,
     /// The function of this timer still runs on the base.
     BaseBusy {
@@ -58,20 +53,11 @@ pub enum ClaimAnswer {
 #[derive(Clone, Copy, Debug, PartialEq, Eq)]
 pub enum ForwardAnswer {
     /// How many intervals were added, by the entry of this number, and the expiry after them.
-    Forwarded {
-        number: u64,
-        count: u64,
-        expires: u64,
-    },
+    Forwarded { number: u64, moved: Moved },
     /// The limit on entries was reached, at this stamp. Nothing has changed.
-    Spent {
-        stamp: u64,
-    },
+    Spent { stamp: u64 },
     /// A start has armed the timer again while its function was running. Nothing has changed.
-    Armed {
-        generation: u64,
-        stamp: u64,
-    },
+    Armed { generation: u64, stamp: u64 },
 }
 
 /// What a finish answers: the number of its entry, and what became of the restart.

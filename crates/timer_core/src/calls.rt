@@ -2,23 +2,23 @@
 ghost use Rattle.std.specs.Prelude.{◌≡◌, ◌+◌, ◌<◌, ◌≤◌, ◌⊎◌, ◌^◌, ℕ, Some, None, IsSome, false, length, unwrap_or, [], ◌∷◌, if◌then◌else◌};
 ghost use Rattle.seq_timer.specs.declared.event.Event.TheVariants as events;
 ghost use Rattle.seq_timer.specs.Steps.{rearmed_by};
-ghost use Rattle.seq_timer.specs.Contents.{first_due};
+ghost use Rattle.seq_timer.specs.declared.context.Context.TheVariants as contexts;
+ghost use Rattle.seq_timer.specs.Contents.{first_due, running_in};
 ghost use Rattle.timer_core.specs.declared.answer.StartAnswer.TheVariants as starts;
 ghost use Rattle.timer_core.specs.declared.answer.CancelAnswer.TheVariants as cancels;
 ghost use Rattle.timer_core.specs.declared.answer.ClaimAnswer.TheVariants as claims;
 ghost use Rattle.timer_core.specs.declared.answer.ForwardAnswer.TheVariants as forwards;
-ghost use Rattle.timer_core.specs.Answers.{IsClaim, forwarded_as, moves_first, start_events, started_as};
+ghost use Rattle.timer_core.specs.Answers.{IsClaim, asked_for, forwarded_as, moves_first, start_events, started_as};
 ghost use Rattle.timer_core.specs.Kept.{AreAllowed, HasRoom, IsSameSize, IsSpent, Makes, content_at, step_all, timer_in};
 
 use crate::answer::{CancelAnswer, ClaimAnswer, Finished, ForwardAnswer, StartAnswer};
 use crate::timers::Core;
 use ktime::{Mode, Reading};
-use seq_timer::{Event, Reply, TimerState};
+use seq_timer::{Asked, Context, Event, Reply, TimerState};
 use timer_queue::Queue;
 
 impl<Q: Queue> Core<Q> {
-    /// Arms a timer on a base (`hrtimer_start_range_ns`). A timer that is armed is taken off first; one whose function is running keeps
-    /// its base; another one is moved where it was on another base. `ns` is in nanoseconds.
+    /// Arms a timer on a base, with no slack (`hrtimer_start`).
     pub fn start(
         &mut self,
         id: u32,
@@ -32,40 +32,63 @@ impl<Q: Queue> Core<Q> {
         ensures still { (timer_in self.old id).moving ≡ false }
         ensures spent { IsSpent (timer_in self.old id) → (result ≡ starts.Spent (timer_in self.old id).stamp) × (self.new ≡ self.old) }
         ensures started { HasRoom (timer_in self.old id) → result ≡ started_as (timer_in self.old id) (timer_in self.new id) base }
-        ensures entries { HasRoom (timer_in self.old id) → Makes self.old id (start_events (timer_in self.old id) mode ns base reading) self.new }
+        ensures entries { HasRoom (timer_in self.old id) → Makes self.old id (start_events (timer_in self.old id) (asked_for mode ns 0 base reading)) self.new }
+        ensures sizes { IsSameSize self.old self.new }
+    {
+        self.start_range(id, mode, ns, 0, base, reading)
+    }
+
+    /// Arms a timer on a base (`hrtimer_start_range_ns`). A timer that is armed is taken off first; one whose function is running keeps
+    /// its base; another one is moved where it was on another base. `ns`, in nanoseconds, is the soft expiry; the expiry is `slack` later.
+    pub fn start_range(
+        &mut self,
+        id: u32,
+        mode: Mode,
+        ns: u64,
+        slack: u64,
+        base: u32,
+        reading: Reading,
+    ) -> StartAnswer
+        requires timer { id < length self.old.timers }
+        requires base { base < length self.old.bases }
+        ensures still { (timer_in self.old id).moving ≡ false }
+        ensures spent { IsSpent (timer_in self.old id) → (result ≡ starts.Spent (timer_in self.old id).stamp) × (self.new ≡ self.old) }
+        ensures started { HasRoom (timer_in self.old id) → result ≡ started_as (timer_in self.old id) (timer_in self.new id) base }
+        ensures entries { HasRoom (timer_in self.old id) → Makes self.old id (start_events (timer_in self.old id) (asked_for mode ns slack base reading)) self.new }
         ensures sizes { IsSameSize self.old self.new }
     {
         let old = self.state(id);
         if old.stamp() >= old.limit() {
             return StartAnswer::Spent { stamp: old.stamp() };
         }
-        self.arm(id, mode, ns, base, reading);
+        let asked = Asked {
+            mode,
+            ns,
+            slack,
+            reading,
+            base,
+        };
+        self.arm(id, asked);
         let now = self.state(id);
         StartAnswer::Started {
             was_armed: old.armed().is_some(),
             generation: now.stamp(),
-            base: now.base(),
             moved_to: moves_first(&old, base).then_some(base),
-            clock: now.clock(),
-            expires: now.expires(),
+            placement: now.placement(),
         }
     }
 
     /// Makes the entries of a start.
-    fn arm(&mut self, id: u32, mode: Mode, ns: u64, base: u32, reading: Reading)
+    fn arm(&mut self, id: u32, asked: Asked)
         requires timer { id < length self.old.timers }
-        requires base { base < length self.old.bases }
+        requires base { asked.base < length self.old.bases }
         requires room { HasRoom (timer_in self.old id) }
-        ensures makes { Makes self.old id (start_events (timer_in self.old id) mode ns base reading) self.new }
+        ensures makes { Makes self.old id (start_events (timer_in self.old id) asked) self.new }
         ensures sizes { IsSameSize self.old self.new }
     {
-        let start = Event::Start {
-            mode,
-            ns,
-            reading,
-            asked: base,
-        };
+        let base = asked.base;
         let timer = self.state(id);
+        let start = Event::Start(asked);
         if moves_first(&timer, base) {
             self.move_and_step(id, base, start);
             return;
@@ -98,19 +121,44 @@ impl<Q: Queue> Core<Q> {
         }
     }
 
-    /// Claims the timer that is the next to expire on a base: its function is to run (`__run_hrtimer`). One function runs on a base at a time.
+    /// Claims the timer of the hard context that is the next to expire on a base.
     pub fn claim_next(&mut self, base: u32, reading: Reading) -> ClaimAnswer
         requires { base < length self.old.bases }
-        ensures busy { (t g : ℕ) → (content_at self.old base).running ≡ Some (t, g) → (result ≡ claims.BaseBusy t g) × (self.new ≡ self.old) }
-        ensures none { (content_at self.old base).running ≡ None → first_due (content_at self.old base) reading ≡ None → (result ≡ claims.NoneDue) × (self.new ≡ self.old) }
-        ensures claimed { (e t : ℕ) → (content_at self.old base).running ≡ None → first_due (content_at self.old base) reading ≡ Some (e, t) → result ≡ claims.Claimed t (unwrap_or (timer_in self.old t).armed 0) ((timer_in self.old t).stamp + 1) }
-        ensures claim { IsClaim self.old base reading result self.new }
+        ensures busy { (t g : ℕ) → running_in contexts.Hard (content_at self.old base) ≡ Some (t, g) → (result ≡ claims.BaseBusy t g) × (self.new ≡ self.old) }
+        ensures none { running_in contexts.Hard (content_at self.old base) ≡ None → first_due contexts.Hard (timer_in self.old) (content_at self.old base) reading ≡ None → (result ≡ claims.NoneDue) × (self.new ≡ self.old) }
+        ensures claimed { (e t : ℕ) → running_in contexts.Hard (content_at self.old base) ≡ None → first_due contexts.Hard (timer_in self.old) (content_at self.old base) reading ≡ Some (e, t) → result ≡ claims.Claimed t (unwrap_or (timer_in self.old t).armed 0) ((timer_in self.old t).stamp + 1) }
+        ensures claim { IsClaim self.old contexts.Hard base reading result self.new }
         ensures sizes { IsSameSize self.old self.new }
     {
-        if let Some((timer, generation)) = self.running(base) {
+        self.claim_in(Context::Hard, base, reading)
+    }
+
+    /// Claims the timer of the soft context that is the next to expire on a base.
+    pub fn claim_next_soft(&mut self, base: u32, reading: Reading) -> ClaimAnswer
+        requires { base < length self.old.bases }
+        ensures busy { (t g : ℕ) → running_in contexts.Soft (content_at self.old base) ≡ Some (t, g) → (result ≡ claims.BaseBusy t g) × (self.new ≡ self.old) }
+        ensures none { running_in contexts.Soft (content_at self.old base) ≡ None → first_due contexts.Soft (timer_in self.old) (content_at self.old base) reading ≡ None → (result ≡ claims.NoneDue) × (self.new ≡ self.old) }
+        ensures claimed { (e t : ℕ) → running_in contexts.Soft (content_at self.old base) ≡ None → first_due contexts.Soft (timer_in self.old) (content_at self.old base) reading ≡ Some (e, t) → result ≡ claims.Claimed t (unwrap_or (timer_in self.old t).armed 0) ((timer_in self.old t).stamp + 1) }
+        ensures claim { IsClaim self.old contexts.Soft base reading result self.new }
+        ensures sizes { IsSameSize self.old self.new }
+    {
+        self.claim_in(Context::Soft, base, reading)
+    }
+
+    /// Claims the timer of a context that is the next to expire on a base: its function is to run (`__run_hrtimer`). One function of a context
+    /// runs on a base at a time.
+    pub fn claim_in(&mut self, context: Context, base: u32, reading: Reading) -> ClaimAnswer
+        requires { base < length self.old.bases }
+        ensures busy { (t g : ℕ) → running_in context (content_at self.old base) ≡ Some (t, g) → (result ≡ claims.BaseBusy t g) × (self.new ≡ self.old) }
+        ensures none { running_in context (content_at self.old base) ≡ None → first_due context (timer_in self.old) (content_at self.old base) reading ≡ None → (result ≡ claims.NoneDue) × (self.new ≡ self.old) }
+        ensures claimed { (e t : ℕ) → running_in context (content_at self.old base) ≡ None → first_due context (timer_in self.old) (content_at self.old base) reading ≡ Some (e, t) → result ≡ claims.Claimed t (unwrap_or (timer_in self.old t).armed 0) ((timer_in self.old t).stamp + 1) }
+        ensures claim { IsClaim self.old context base reading result self.new }
+        ensures sizes { IsSameSize self.old self.new }
+    {
+        if let Some((timer, generation)) = self.running(context, base) {
             return ClaimAnswer::BaseBusy { timer, generation };
         }
-        let Some((_, timer)) = self.first(base, reading) else {
+        let Some((_, timer)) = self.first(context, base, reading) else {
             return ClaimAnswer::NoneDue;
         };
         let number = self.state(timer).stamp() + 1;
@@ -143,10 +191,9 @@ impl<Q: Queue> Core<Q> {
             return ForwardAnswer::Armed { generation, stamp };
         }
         match self.step(timer, Event::Forward { reading, interval }) {
-            Reply::Forward { count, expires } => ForwardAnswer::Forwarded {
+            Reply::Forward { moved } => ForwardAnswer::Forwarded {
                 number: stamp + 1,
-                count,
-                expires,
+                moved,
             },
             _ => unreachable!(),
         }

@@ -1,15 +1,19 @@
 //! All timers and bases: what is kept of them, and the one way in which it changes.
 ghost use Rattle.std.specs.Prelude.{◌≡◌, ◌<◌, ◌≤◌, ℕ, IfOk, IfSome, IfNone, Some, [], ◌∷◌, false, length, map, replicate};
 ghost use Rattle.seq_timer.specs.Bases.{empty_base};
-ghost use Rattle.seq_timer.specs.Contents.{first_due, running_on};
+ghost use Rattle.seq_timer.specs.Contents.{first_due, running_in};
+ghost use Rattle.seq_timer.specs.Halves.{running_on};
+ghost use Rattle.ktime.specs.declared.clock_id.ClockId.{ClockId};
 ghost use Rattle.seq_timer.specs.Histories.{peek_of};
-ghost use Rattle.seq_timer.specs.Steps.{Needs, after, greatest_limit, opening, reply_to};
-ghost use Rattle.seq_timer.specs.Tables.{IsNextDue, is_due_on, runs_on, timer_at};
+ghost use Rattle.seq_timer.specs.Steps.{Needs, after, greatest_limit, limited, reply_to};
+ghost use Rattle.seq_timer.specs.Tables.{IsNextDue, IsStopped, hard_on, in_context, runs_on, timer_at};
 ghost use Rattle.seq_timer.specs.declared.event.Event.TheVariants as events;
 ghost use Rattle.timer_core.specs.Kept.{Agrees, AreAllowed, IsConsistent, IsSameSize, Kept, Makes, Permits, after_event, content_at, opened, step_all, timer_in};
 
 use ktime::{ClockId, Reading};
-use seq_timer::{Base, Event, Peek, Reply, TimerState};
+use seq_timer::{
+    Base, Context, Declared, Event, Peek, Reply, Terms, TimerState, all_hard, make_timers,
+};
 use std::alloc::{AllocError, Global};
 use std::marker::Model;
 use timer_queue::Queue;
@@ -30,8 +34,8 @@ impl<Q: Queue> Model for Core<Q> {
 }
 
 impl<Q: Queue + Drop> Core<Q> {
-    /// So many bases, 1 to 8, and at most 256 timers, each declared on its clock. At `max_events` entries a timer takes no start, no
-    /// forward and no restart any more.
+    /// So many bases, 1 to 8, and at most 256 timers of the hard context, each declared on its clock. At `max_events` entries a timer takes no
+    /// start, no forward and no restart any more.
     pub fn make(
         alloc: Global,
         bases: u32,
@@ -41,28 +45,28 @@ impl<Q: Queue + Drop> Core<Q> {
         requires bases { (1 ≤ bases) × (bases ≤ 8) }
         requires timers { length clocks.now ≤ 256 }
         requires limit { (0 < max_events) × (max_events ≤ greatest_limit) }
-        ensures { IfOk result (λ c. c ≡ opened bases clocks.now max_events) }
+        ensures { IfOk result (λ c. c ≡ opened bases (map hard_on clocks.now) (limited max_events)) }
     {
-        let timers = make_timers(alloc, clocks, max_events)?;
-        let bases = make_bases(alloc, bases, clocks.len() as u32)?;
+        let timers = all_hard(alloc, clocks)?;
+        Core::make_full(alloc, bases, &timers, max_events)
+    }
+
+    /// The same, with timers of both contexts.
+    pub fn make_full(
+        alloc: Global,
+        bases: u32,
+        timers: &[Declared],
+        max_events: u64,
+    ) -> Result<Core<Q>, AllocError>
+        requires bases { (1 ≤ bases) × (bases ≤ 8) }
+        requires timers { length timers.now ≤ 256 }
+        requires limit { (0 < max_events) × (max_events ≤ greatest_limit) }
+        ensures { IfOk result (λ c. c ≡ opened bases timers.now (limited max_events)) }
+    {
+        let bases = make_bases(alloc, bases, timers.len() as u32)?;
+        let timers = make_timers(alloc, timers, Terms::limited(max_events))?;
         Ok(Core { timers, bases })
     }
-}
-
-/// A timer for each clock.
-fn make_timers(
-    alloc: Global,
-    clocks: &[ClockId],
-    max_events: u64,
-) -> Result<Vec<TimerState>, AllocError>
-    requires limit { (0 < max_events) × (max_events ≤ greatest_limit) }
-    ensures { IfOk result (λ v. v.items ≡ map (λ clock. opening clock max_events) clocks.now) }
-{
-    let mut timers = Vec::with_capacity(alloc, clocks.len())?;
-    for clock in clocks {
-        timers.push(TimerState::make(*clock, max_events))?;
-    }
-    Ok(timers)
 }
 
 /// So many bases without timers, each with this room.
@@ -108,28 +112,29 @@ impl<Q: Queue> Core<Q> {
     }
 
     /// The timer whose function runs on a base, with its generation.
-    pub fn running(&self, base: u32) -> Option<(u32, u64)>
+    pub fn running(&self, context: Context, base: u32) -> Option<(u32, u64)>
         requires { base < length self.now.bases }
-        ensures running { result ≡ (content_at self.now base).running }
-        ensures busy { IfSome result (λ r. running_on base (timer_in self.now r.0) ≡ Some r.1) }
-        ensures idle { IfNone result ((id : ℕ) → runs_on base (timer_in self.now id) ≡ false) }
+        ensures running { result ≡ running_in context (content_at self.now base) }
+        ensures busy { IfSome result (λ r. running_on base (in_context context (timer_in self.now) r.0) ≡ Some r.1) }
+        ensures idle { IfNone result ((id : ℕ) → runs_on base (in_context context (timer_in self.now) id) ≡ false) }
     {
         let here = &self.bases[base as usize];
-        here.running()
+        here.running(context)
     }
 
-    /// The timer that is the next to expire on a base at this reading, with its expiry: of the clocks in their order the first with a
-    /// timer that is due.
-    pub fn first(&self, base: u32, reading: Reading) -> Option<(u64, u32)>
+    /// The timer that is the next to expire on a base at this reading, with its expiry: of the clocks in their order, the first whose first
+    /// timer is due.
+    pub fn first(&self, context: Context, base: u32, reading: Reading) -> Option<(u64, u32)>
         requires { base < length self.now.bases }
-        ensures first { result ≡ first_due (content_at self.now base) reading }
+        ensures first { result ≡ first_due context (timer_in self.now) (content_at self.now base) reading }
         ensures within { IfSome result (λ p. p.1 < length self.now.timers) }
-        ensures next { IfSome result (λ p. IsNextDue (timer_in self.now) base reading p.1) }
+        ensures own { IfSome result (λ p. timer_in self.now p.1 ≡ in_context context (timer_in self.now) p.1) }
+        ensures next { IfSome result (λ p. IsNextDue (in_context context (timer_in self.now)) base reading p.1) }
         ensures expires { IfSome result (λ p. p.0 ≡ (timer_in self.now p.1).expires) }
-        ensures none { IfNone result ((id : ℕ) → is_due_on base reading (timer_in self.now id) ≡ false) }
+        ensures none { IfNone result ((clock : ClockId) → IsStopped (in_context context (timer_in self.now)) base reading clock) }
     {
         let here = &self.bases[base as usize];
-        here.first(reading)
+        here.first(context, &self.timers, reading)
     }
 
     /// Makes one entry of a timer that stays where it is.

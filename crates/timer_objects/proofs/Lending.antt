@@ -13,6 +13,7 @@ use Rattle.timer_objects.specs.declared.object.ObjectCall.{ObjectCall}
 use Rattle.timer_objects.specs.Cells.{cell_meaning}
 use Rattle.timer_objects.specs.Firings.{Fires, FiresBy, Firing, IsSameLoan, LeavesPass, firing}
 use Rattle.timer_objects.specs.Known.{IsObjectsPass, KeepsObjectsPass, ObjectsOf, ObjectsPass, row_of}
+use Rattle.seq_timer.specs.declared.context.Context.{Context}
 use Rattle.expire_pass.specs.Expiring.{Expires}
 use Rattle.expire_pass.proofs.Leaving.{run_leaves}
 use Rattle.pass_names.specs.Passes.{Adds, Begins, Looks}
@@ -74,8 +75,8 @@ pub leaves_fired : (o : Opening) (h h' : Firing) (v w : KnownOfTimers) (c : Clai
 leaves_fired o h h' v w c reading restart fires = by_call o h h' v w c reading restart _ fires.loan fires.fires
 
 -- a run of functions leaves the pass so
-pub leaves_pass : (o : Opening) (reading : ClockReading) (base budget : ℕ) (k : KnownOfTimers) (h : Firing) (log : List Receipt) (k' : KnownOfTimers)
-    (h' : Firing) (log' : List Receipt) (a : ExpireAnswer) → Expires firing o base reading budget k h log k' h' log' a → LeavesPass h h'
+pub leaves_pass : (o : Opening) (reading : ClockReading) (x : Context) (base budget : ℕ) (k : KnownOfTimers) (h : Firing) (log : List Receipt) (k' : KnownOfTimers)
+    (h' : Firing) (log' : List Receipt) (a : ExpireAnswer) → Expires firing o x base reading budget k h log k' h' log' a → LeavesPass h h'
 leaves_pass o reading =
     run_leaves firing o reading LeavesPass leaves_same leaves_trans (λ h h' v w c restart fires. leaves_fired o h h' v w c reading restart fires)
 

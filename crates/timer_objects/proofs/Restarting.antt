@@ -7,7 +7,7 @@ use Rattle.ktime.specs.Times.{sat}
 use Rattle.pass_names.proofs.Passes.{begins_trans}
 use Rattle.base_row.specs.declared.view.Opening.{Opening}
 use Rattle.seq_timer.specs.Steps.{Timer}
-use Rattle.timer_core.specs.Answers.{moves_first, start_events}
+use Rattle.timer_core.specs.Answers.{asked_for, moves_first, start_events}
 use Rattle.timer_core.specs.Kept.{step_all}
 use Rattle.hr_timers.specs.declared.answer.StartAnswer.{StartAnswer}
 use Rattle.hr_timers.specs.declared.answer.StartAnswer.TheVariants as starts
@@ -26,15 +26,15 @@ use Rattle.timer_objects.proofs.Settings.{armed_end}
 use Rattle.timer_objects.proofs.Starting.{events_by}
 
 module _ (o : Opening) (v w : KnownOfTimers) (t ns asked : ℕ) (reading : ClockReading) where
-  kept_expiry : (u : Timer) (moves : Bool) → (step_all u (events_by modes.Keep ns asked reading moves)).expires ≡ sat ns
-  kept_expiry u true = refl
-  kept_expiry u false = refl
+  kept_expiry : (u : Timer) (moves : Bool) → (step_all u (events_by (asked_for modes.Keep ns 0 asked reading) moves)).expires ≡ sat ns
+  kept_expiry u true = omega arith
+  kept_expiry u false = omega arith
 
-  pub expiry : (a : StartAnswer) (g : ℕ) → StartsTimer o v w t modes.Keep ns asked reading a → arms.Armed g ≡ arm_of a
+  pub expiry : (a : StartAnswer) (g : ℕ) → StartsTimer o v w t (asked_for modes.Keep ns 0 asked reading) a → arms.Armed g ≡ arm_of a
       → (timer_then o w.seen t).expires ≡ sat ns
-  expiry (starts.Started was_armed generation base outs clock expires) g s e =
+  expiry (starts.Started was_armed generation outs placement) g s e =
       let u = timer_then o s.at t in
-      ap (λ (x : Timer). x.expires) (timer_after o v w t s.at _ s.made ∙ along u (start_events u modes.Keep ns asked reading))
+      ap (λ (x : Timer). x.expires) (timer_after o v w t s.at _ s.made ∙ along u (start_events u (asked_for modes.Keep ns 0 asked reading)))
       ∙ kept_expiry u (moves_first u asked)
   expiry (starts.Spent n) g s e = cc
 

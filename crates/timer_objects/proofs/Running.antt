@@ -2,7 +2,7 @@
 use Rattle.std.proofs.Common.{◌≡◌, ℕ, ◌<◌, List, [], ◌∷◌, refl, ap, sym, ◌∙◌, subst, true, false}
 use Rattle.std.specs.Prelude.{Bool, Some, unwrap_or, if◌then◌else◌}
 use Rattle.std.proofs.lemmas.Option.{none-some}
-use Rattle.ktime.specs.declared.mode.Mode.{Mode}
+use Rattle.seq_timer.specs.declared.event.Asked.{Asked}
 use Rattle.ktime.specs.Readings.{ClockReading}
 use Rattle.seq_timer.specs.declared.event.Event.TheVariants as events
 use Rattle.seq_timer.specs.declared.system.TimerEntry.{TimerEntry}
@@ -29,15 +29,14 @@ ran_before o v w c x es knows owns claims made stays =
     ∙ (knows.claims c.timer c.generation c.base owns.within (subst (λ l. 0 < count_of c l) (sym claims) owns.stands)).0)
 
 -- a start leaves a function running
-pub start-running : (t : Timer) (mode : Mode) (ns asked : ℕ) (reading : ClockReading) (a : StartAnswer)
-    → (seq.after_all t (start_entries t mode ns asked reading a)).running ≡ t.running
-start-running t mode ns asked reading (starts.Started was_armed generation base outs clock expires) = at (moves_first t asked)
+pub start-running : (t : Timer) (asked : Asked) (a : StartAnswer)
+    → (seq.after_all t (start_entries t asked a)).running ≡ t.running
+start-running t asked (starts.Started was_armed generation outs placement) = at (moves_first t asked.base)
   where
-    at : (b : Bool) → (seq.after_all t (entries_along t (if b then events.Out asked ∷ events.Start mode ns reading asked ∷ [] else
-        events.Start mode ns reading asked ∷ []))).running ≡ t.running
+    at : (b : Bool) → (seq.after_all t (entries_along t (if b then events.Out asked.base ∷ events.Start asked ∷ [] else events.Start asked ∷ []))).running ≡ t.running
     at true = refl
     at false = refl
-start-running t mode ns asked reading (starts.Spent n) = refl
+start-running t asked (starts.Spent n) = refl
 
 -- so does a cancel, and a claim's own timer is seen to run
 cancel-running : (t : Timer) (a : CancelAnswer) → (seq.after_all t (cancel_entries a)).running ≡ t.running

@@ -8,9 +8,12 @@ use Rattle.ktime.specs.Readings.{ClockReading, value_of}
 use Rattle.ktime.specs.Times.{effective_clock, last_time, sat}
 use Rattle.pass_names.specs.Passes.{Begins}
 use Rattle.pass_names.proofs.Passes.{begins_refl, begins_trans}
+use Rattle.ktime.specs.declared.mode.Mode.{Mode}
+use Rattle.seq_timer.specs.declared.context.Declared.{Declared}
+use Rattle.seq_timer.specs.declared.event.Placement.{Placement}
 use Rattle.seq_timer.specs.Steps.{Timer, expiry_from}
 use Rattle.seq_timer.specs.Tables.{timer_at}
-use Rattle.timer_core.specs.Answers.{moves_first, start_events}
+use Rattle.timer_core.specs.Answers.{asked_for, moves_first, start_events}
 use Rattle.timer_core.specs.Kept.{step_all}
 use Rattle.base_row.specs.declared.view.Opening.{Opening}
 use Rattle.hr_timers.specs.declared.answer.StartAnswer.{StartAnswer}
@@ -36,7 +39,7 @@ use Rattle.timer_objects.specs.declared.object.Kind.TheVariants as kinds
 use Rattle.timer_objects.specs.declared.object.Object.{Object}
 use Rattle.timer_objects.specs.declared.object.Object.TheVariants as objects
 use Rattle.timer_objects.specs.Steps.{IsObjectOf, ObjectAllows, object_answer, object_step}
-use Rattle.timer_objects.specs.Arming.{ArmsFor, Disarms, arm_of, stamp_seen}
+use Rattle.timer_objects.specs.Arming.{ArmsFor, Disarms, arm_of, asked_by, stamp_seen}
 use Rattle.timer_objects.proofs.Starting.{events_by}
 use Rattle.timer_objects.specs.Calls.{BearsStart, SettimeTells, flags_of, phase_of, settime_call}
 use Rattle.timer_objects.specs.Valid.{IsSettimeReply, end_by}
@@ -48,16 +51,16 @@ module _ (o : Opening) (v w : KnownOfTimers) (t : ℕ) where
   pub disarmed_end : (last : ℕ) (span : Span) (log log' : List Receipt) → Disarms o v w t last span log log' → span.to ≡ stamp_seen o w t
   disarmed_end last span log log' d = omega (arith, d.to, d.from, stamp_made o v w t d.cancelled.at (cancel_entries d.answer) d.cancelled.made)
 
-  stamp_in : (u : Timer) (asked : ℕ) (now : Timer) (was : Bool) (g there outs : ℕ) (clock : ClockId) (expires : ℕ)
-      → starts.Started was g there outs clock expires ≡ start_answer u now asked → g ≡ now.stamp
-  stamp_in u asked now was g there outs clock expires e = cc
+  stamp_in : (u : Timer) (asked : ℕ) (now : Timer) (was : Bool) (g outs : ℕ) (placement : Placement)
+      → starts.Started was g outs placement ≡ start_answer u now asked → g ≡ now.stamp
+  stamp_in u asked now was g outs placement e = cc
 
   started_end : (wanted : Wanted) (base : ℕ) (reading : ClockReading) (before : ℕ) (a : StartAnswer) (arm : Arm) → arm ≡ arm_of a
-      → StartsTimer o v w t wanted.mode wanted.ns base reading a → end_by arm before ≡ stamp_seen o w t
-  started_end wanted base reading before (starts.Started was g there outs clock expires) arm e s =
+      → StartsTimer o v w t (asked_by wanted base reading) a → end_by arm before ≡ stamp_seen o w t
+  started_end wanted base reading before (starts.Started was g outs placement) arm e s =
       let u = timer_then o s.at t in
-      ap (λ a. end_by a before) e ∙ (stamp_in u base (step_all u (start_events u wanted.mode wanted.ns base reading)) was g there outs clock expires s.fits.2
-      ∙ sym (ap (λ (x : Timer). x.stamp) (timer_after o v w t s.at _ s.made ∙ along u (start_events u wanted.mode wanted.ns base reading))))
+      ap (λ a. end_by a before) e ∙ (stamp_in u base (step_all u (start_events u (asked_by wanted base reading))) was g outs placement s.fits.2
+      ∙ sym (ap (λ (x : Timer). x.stamp) (timer_after o v w t s.at _ s.made ∙ along u (start_events u (asked_by wanted base reading)))))
   started_end wanted base reading before (starts.Spent n) arm e s =
       ap (λ a. end_by a before) e ∙ (s.fits.2 ∙ sym (stamp_made o v w t s.at [] s.made ∙ omega arith))
 
@@ -164,27 +167,34 @@ expiry_same flags ns clock reading few = at (is_absolute flags)
     at true = omega (arith, few)
     at false = refl
 
+-- without slack both expiries are one
+no_slack : (mode : Mode) (ns : ℕ) (clock : ClockId) (reading : ClockReading) → sat (expiry_from mode ns clock reading + 0) ≡ expiry_from mode ns clock reading
+no_slack modes.Abs ns clock reading = omega arith
+no_slack modes.Keep ns clock reading = omega arith
+no_slack modes.Rel ns clock reading = omega arith
+
 module _ (o : Opening) (v w : KnownOfTimers) (t : ℕ) (d : Decl) (flags value base : ℕ) (reading : ClockReading) (log log' : List Receipt)
-    (same : (timer_at o.timers t).declared ≡ d.clock) (few : value ≤ last_time) where
+    (same : (timer_at o.timers t).declared.clock ≡ d.clock) (few : value ≤ last_time) where
   abbrev set_armed : Arm → Phase
   set_armed arm = armed_by arm (clock_by d.clock flags) (expiry_by d.clock flags value reading)
 
   -- the timer after a start that a settime wanted
-  started_as : (u : Timer) → u.declared ≡ d.clock → (b : Bool) → let now = step_all u (events_by (mode_by flags) value base reading b) in
+  started_as : (u : Timer) → u.declared.clock ≡ d.clock → (b : Bool) → let now = step_all u (events_by (asked_for (mode_by flags) value 0 base reading) b) in
       (now.clock ≡ clock_by d.clock flags) × (now.expires ≡ expiry_by d.clock flags value reading)
   started_as u declared true =
       let clock = ap (λ c. effective_clock c (mode_by flags) u.clock) declared ∙ clock_same d.clock u.clock flags in
-      (clock, expiry_same flags value _ reading few ∙ ap (λ c. if is_absolute flags then value else sat (value_of c reading + value)) clock)
+      (clock, no_slack (mode_by flags) value _ reading ∙ expiry_same flags value _ reading few ∙ ap (λ c. if is_absolute flags then value else sat (value_of c reading + value)) clock)
   started_as u declared false =
       let clock = ap (λ c. effective_clock c (mode_by flags) u.clock) declared ∙ clock_same d.clock u.clock flags in
-      (clock, expiry_same flags value _ reading few ∙ ap (λ c. if is_absolute flags then value else sat (value_of c reading + value)) clock)
+      (clock, no_slack (mode_by flags) value _ reading ∙ expiry_same flags value _ reading few ∙ ap (λ c. if is_absolute flags then value else sat (value_of c reading + value)) clock)
 
-  start_bears : (arm : Arm) (a : StartAnswer) → arm ≡ arm_of a → StartsTimer o v w t (mode_by flags) value base reading a → BearsStart o w t arm (set_armed arm)
+  start_bears : (arm : Arm) (a : StartAnswer) → arm ≡ arm_of a → StartsTimer o v w t (asked_for (mode_by flags) value 0 base reading) a
+      → BearsStart o w t arm (set_armed arm)
   start_bears arm (starts.Spent n) e s = subst (λ x. BearsStart o w t x (set_armed x)) (sym e) refl
-  start_bears arm (starts.Started was g there outs clock expires) e s =
+  start_bears arm (starts.Started was g outs placement) e s =
       let u = timer_then o s.at t in
-      let now = timer_after o v w t s.at _ s.made ∙ along u (start_events u (mode_by flags) value base reading) in
-      let set = started_as u (declared_kept o s.at t ∙ same) (moves_first u base) in
+      let now = timer_after o v w t s.at _ s.made ∙ along u (start_events u (asked_for (mode_by flags) value 0 base reading)) in
+      let set = started_as u (ap (λ (x : Declared). x.clock) (declared_kept o s.at t) ∙ same) (moves_first u base) in
       subst (λ x. BearsStart o w t x (set_armed x)) (sym e)
       (ap (λ c. phases.Armed g c (expiry_by d.clock flags value reading)) (sym (ap (λ (x : Timer). x.clock) now ∙ set.0))
       ∙ ap (λ k. phases.Armed g (timer_then o w.seen t).clock k) (sym (ap (λ (x : Timer). x.expires) now ∙ set.1)))

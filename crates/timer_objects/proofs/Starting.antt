@@ -18,7 +18,8 @@ use Rattle.seq_timer.specs.declared.event.Event.{Event}
 use Rattle.seq_timer.specs.declared.event.Event.TheVariants as events
 use Rattle.seq_timer.specs.declared.event.Reply.TheVariants as replies
 use Rattle.seq_timer.specs.declared.observation.Peek.{Peek}
-use Rattle.seq_timer.specs.Steps.{Timer, expiry_from}
+use Rattle.seq_timer.specs.declared.event.Asked.{Asked}
+use Rattle.seq_timer.specs.Steps.{Timer, placement_of}
 use Rattle.timer_core.specs.Answers.{moves_first, start_events}
 use Rattle.timer_core.specs.Kept.{step_all}
 use Rattle.timer_core.specs.Runs.{entries_along}
@@ -33,7 +34,7 @@ use Rattle.hr_timers.proofs.Moments.{stamp_made, stamp_rises, timer_after}
 use Rattle.expire_pass.proofs.Turning.{looks_then}
 use Rattle.expire_pass.specs.declared.log.Noted.TheVariants as noteds
 use Rattle.expire_pass.specs.declared.log.Receipt.{Receipt}
-use Rattle.timer_objects.specs.Arming.{Disarms, SeesQuietly, SeesTimer, Starts, arm_of, quiet_at, receipts_of, stamp_seen}
+use Rattle.timer_objects.specs.Arming.{Disarms, SeesQuietly, SeesTimer, Starts, arm_of, asked_by, quiet_at, receipts_of, stamp_seen}
 use Rattle.timer_objects.specs.Waiting.{IsHindered}
 
 module _ (o : Opening) (v w : KnownOfTimers) (t : ℕ) (p : Peek) (peeks : Peeks o v w t p) where
@@ -133,57 +134,56 @@ module _ (o : Opening) (u v w : KnownOfTimers) (t last n : ℕ) (sees : SeesTime
   }
 
 -- the receipts that a start notes, by its answer; two where it has moved the timer
-abbrev pub noted_by : ℕ → Mode → ℕ → ℕ → ClockReading → Bool → StartAnswer → List Receipt
-noted_by t mode ns asked reading true (starts.Started was_armed generation base outs clock expires) =
-    record { timer = t; number = generation - 1; event = events.Out asked; reply = noteds.Entry (replies.Out was_armed) }
-    ∷ record { timer = t; number = generation; event = events.Start mode ns reading asked; reply = noteds.Entry (replies.Start base clock expires false) } ∷ []
-noted_by t mode ns asked reading false (starts.Started was_armed generation base outs clock expires) =
+abbrev pub noted_by : ℕ → Asked → Bool → StartAnswer → List Receipt
+noted_by t asked true (starts.Started was_armed generation outs placement) =
+    record { timer = t; number = generation - 1; event = events.Out asked.base; reply = noteds.Entry (replies.Out was_armed) }
+    ∷ record { timer = t; number = generation; event = events.Start asked; reply = noteds.Entry (replies.Start placement false) } ∷ []
+noted_by t asked false (starts.Started was_armed generation outs placement) =
     record {
       timer = t;
       number = generation;
-      event = events.Start mode ns reading asked;
-      reply = noteds.Entry (replies.Start base clock expires was_armed);
+      event = events.Start asked;
+      reply = noteds.Entry (replies.Start placement was_armed);
     } ∷ []
-noted_by t mode ns asked reading moved (starts.Spent n) = []
+noted_by t asked moved (starts.Spent n) = []
 
-abbrev pub events_by : Mode → ℕ → ℕ → ClockReading → Bool → List Event
-events_by mode ns asked reading moves = if moves then events.Out asked ∷ events.Start mode ns reading asked ∷ [] else events.Start mode ns reading asked ∷ []
+abbrev pub events_by : Asked → Bool → List Event
+events_by asked moves = if moves then events.Out asked.base ∷ events.Start asked ∷ [] else events.Start asked ∷ []
 
 abbrev answer_by : Timer → ℕ → Bool → List Event → StartAnswer
 answer_by u asked moves es =
-    let now = step_all u es in starts.Started (is_some u.armed) now.stamp now.base (if moves then 2 ^ asked else 0) now.clock now.expires
+    let now = step_all u es in starts.Started (is_some u.armed) now.stamp (if moves then 2 ^ asked else 0) (placement_of now)
 
 abbrev outs_in : StartAnswer → ℕ
-outs_in (starts.Started was_armed generation base outs clock expires) = outs
+outs_in (starts.Started was_armed generation outs placement) = outs
 outs_in (starts.Spent n) = 0
 
-module _ (t : ℕ) (u : Timer) (mode : Mode) (ns asked : ℕ) (reading : ClockReading) where
-  noted_along : (moves : Bool) → noted_by t mode ns asked reading moves (answer_by u asked moves (events_by mode ns asked reading moves))
-      ≡ receipts_of t u.stamp (entries_along u (events_by mode ns asked reading moves))
+module _ (t : ℕ) (u : Timer) (asked : Asked) where
+  noted_along : (moves : Bool) → noted_by t asked moves (answer_by u asked.base moves (events_by asked moves))
+      ≡ receipts_of t u.stamp (entries_along u (events_by asked moves))
   noted_along true =
-      let clock = effective_clock u.declared mode u.clock in
       let start : Receipt = record {
         timer = t;
         number = u.stamp + 1 + 1;
-        event = events.Start mode ns reading asked;
-        reply = noteds.Entry (replies.Start asked clock (expiry_from mode ns clock reading) false);
+        event = events.Start asked;
+        reply = noteds.Entry (replies.Start (placement_of (step_all u (events_by asked true))) false);
       } in
-      ap (λ n. record { timer = t; number = n; event = events.Out asked; reply = noteds.Entry (replies.Out (is_some u.armed)) } ∷ start ∷ [])
+      ap (λ n. record { timer = t; number = n; event = events.Out asked.base; reply = noteds.Entry (replies.Out (is_some u.armed)) } ∷ start ∷ [])
       {x = u.stamp + 1 + 1 - 1} {y = u.stamp + 1} (omega arith)
   noted_along false = refl
 
   -- whether a start has moved the timer is told by its answer's outs
-  moved : (moves : Bool) (a : StartAnswer) → a ≡ answer_by u asked moves (events_by mode ns asked reading moves) → nat_eq (outs_in a) 0 ≡ not moves
-  moved true a e = ap (λ b. nat_eq (outs_in b) 0) e ∙ grind (arith, nat_tests, pow_pos asked)
+  moved : (moves : Bool) (a : StartAnswer) → a ≡ answer_by u asked.base moves (events_by asked moves) → nat_eq (outs_in a) 0 ≡ not moves
+  moved true a e = ap (λ b. nat_eq (outs_in b) 0) e ∙ grind (arith, nat_tests, pow_pos asked.base)
   moved false a e = ap (λ b. nat_eq (outs_in b) 0) e
 
-  pub noted_start : (a : StartAnswer) (moves : Bool) → a ≡ start_answer u (step_all u (start_events u mode ns asked reading)) asked
+  pub noted_start : (a : StartAnswer) (moves : Bool) → a ≡ start_answer u (step_all u (start_events u asked)) asked.base
       → nat_eq (outs_in a) 0 ≡ not moves
-      → noted_by t mode ns asked reading moves a ≡ receipts_of t u.stamp (entries_along u (start_events u mode ns asked reading))
+      → noted_by t asked moves a ≡ receipts_of t u.stamp (entries_along u (start_events u asked))
   noted_start a moves e told =
-      let b = moves_first u asked in
+      let b = moves_first u asked.base in
       let same : moves ≡ b = flip moves b (sym told ∙ moved b a e) in
-      ap (λ m. noted_by t mode ns asked reading m a) same ∙ (ap (noted_by t mode ns asked reading b) e ∙ noted_along b)
+      ap (λ m. noted_by t asked m a) same ∙ (ap (noted_by t asked b) e ∙ noted_along b)
     where
       flip : (x y : Bool) → not x ≡ not y → x ≡ y
       flip true true e = refl
@@ -194,13 +194,13 @@ module _ (t : ℕ) (u : Timer) (mode : Mode) (ns asked : ℕ) (reading : ClockRe
 -- a start that was answered so was made, with these receipts
 pub starts_of : (o : Opening) (v w : KnownOfTimers) (t base : ℕ) (wanted : Wanted) (reading : ClockReading) (log log' : List Receipt) (a : StartAnswer)
     (moves : Bool)
-    → nat_eq (outs_in a) 0 ≡ not moves → (g : ℕ) → arms.Armed g ≡ arm_of a → StartsTimer o v w t wanted.mode wanted.ns base reading a
-    → log' ≡ log ++ noted_by t wanted.mode wanted.ns base reading moves a → Starts o v w t wanted base reading (arms.Armed g) log log'
-starts_of o v w t base wanted reading log log' (starts.Started was g there outs clock expires) moves told k armed s noted = record {
-  answer = starts.Started was g there outs clock expires;
+    → nat_eq (outs_in a) 0 ≡ not moves → (g : ℕ) → arms.Armed g ≡ arm_of a → StartsTimer o v w t (asked_by wanted base reading) a
+    → log' ≡ log ++ noted_by t (asked_by wanted base reading) moves a → Starts o v w t wanted base reading (arms.Armed g) log log'
+starts_of o v w t base wanted reading log log' (starts.Started was g outs placement) moves told k armed s noted = record {
+  answer = starts.Started was g outs placement;
   starts = s;
   outcome = armed;
-  receipts = noted ∙ ap (λ l. log ++ l) (noted_start t (timer_then o s.at t) wanted.mode wanted.ns base reading _ moves s.fits.2 told);
+  receipts = noted ∙ ap (λ l. log ++ l) (noted_start t (timer_then o s.at t) (asked_by wanted base reading) _ moves s.fits.2 told);
 }
 starts_of o v w t base wanted reading log log' (starts.Spent n) moves told k armed s noted = absurd (armed_not k n armed)
   where

@@ -3,6 +3,8 @@ use Rattle.std.specs.Prelude.{ℕ, ◌≡◌, ◌+◌, ◌≤◌, max, List, [],
 use Rattle.ktime.specs.Readings.{ClockReading}
 use Rattle.pass_names.specs.SharedHistory.{LooksOn}
 use Rattle.seq_timer.specs.Histories as seq
+use Rattle.seq_timer.specs.declared.event.Asked.{Asked}
+use Rattle.timer_core.specs.Answers.{asked_for}
 use Rattle.timer_core.specs.declared.answer.CancelAnswer.{CancelAnswer}
 use Rattle.timer_core.specs.declared.answer.CancelAnswer.TheVariants as cancels
 use Rattle.base_row.specs.declared.view.Opening.{Opening}
@@ -26,19 +28,22 @@ receipts_of t n (e ∷ es) = record { timer = t; number = n + 1; event = e.event
 abbrev pub stamp_seen : Opening → KnownOfTimers → ℕ → ℕ
 stamp_seen o k t = (timer_then o k.seen t).stamp
 
+-- what is asked for by a start that an object wants: no slack
+abbrev pub asked_by : Wanted → ℕ → ClockReading → Asked
+asked_by wanted base reading = asked_for wanted.mode wanted.ns 0 base reading
+
 -- the outcome of a start, by what it answered
 abbrev pub arm_of : StartAnswer → Arm
-arm_of (starts.Started was_armed generation base outs clock expires) = arms.Armed generation
+arm_of (starts.Started was_armed generation outs placement) = arms.Armed generation
 arm_of (starts.Spent n) = arms.Unarmed n
 
 -- a start that was wanted was made, with this outcome, and a receipt noted of each of its entries
 pub record Starts (o : Opening) (v w : KnownOfTimers) (t : ℕ) (wanted : Wanted) (base : ℕ) (reading : ClockReading) (arm : Arm)
     (log log' : List Receipt) : Type 0 where
   pub answer : StartAnswer
-  pub starts : StartsTimer o v w t wanted.mode wanted.ns base reading answer
+  pub starts : StartsTimer o v w t (asked_by wanted base reading) answer
   pub outcome : arm ≡ arm_of answer
-  pub receipts : log' ≡ log ++ receipts_of t (timer_then o starts.at t).stamp (start_entries (timer_then o starts.at t) wanted.mode wanted.ns base reading
-      answer)
+  pub receipts : log' ≡ log ++ receipts_of t (timer_then o starts.at t).stamp (start_entries (timer_then o starts.at t) (asked_by wanted base reading) answer)
 
 -- the start that a step wants was made, or none was wanted and nothing is other than before
 abbrev pub ArmsFor : Opening → KnownOfTimers → KnownOfTimers → ℕ → Option Wanted → ℕ → ClockReading → Arm → List Receipt → List Receipt → Type 0

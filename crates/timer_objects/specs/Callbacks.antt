@@ -7,6 +7,7 @@ use Rattle.seq_timer.specs.declared.event.Event.TheVariants as events
 use Rattle.seq_timer.specs.declared.event.Reply.TheVariants as replies
 use Rattle.seq_timer.specs.declared.observation.Observation.{Observation}
 use Rattle.seq_timer.specs.declared.observation.Observation.TheVariants as observations
+use Rattle.timer_core.specs.Answers.{asked_for}
 use Rattle.timer_core.specs.declared.answer.CancelAnswer.TheVariants as cancels
 use Rattle.timer_core.specs.declared.answer.ForwardAnswer.{ForwardAnswer}
 use Rattle.timer_core.specs.declared.answer.ForwardAnswer.TheVariants as forwards
@@ -43,20 +44,20 @@ look_receipt c stamp event seen = record { timer = c.timer; number = stamp; even
 
 -- the receipt of a forward
 abbrev pub forward_receipt : ClaimNumbers → ClockReading → ℕ → ForwardAnswer → Receipt
-forward_receipt c reading interval (forwards.Forwarded number passed expires) =
-    record { timer = c.timer; number = number; event = events.Forward reading interval; reply = noteds.Entry (replies.Forward passed expires) }
+forward_receipt c reading interval (forwards.Forwarded number moved) =
+    record { timer = c.timer; number = number; event = events.Forward reading interval; reply = noteds.Entry (replies.Forward moved) }
 forward_receipt c reading interval (forwards.Spent n) = look_receipt c n (events.Forward reading interval) observations.Spent
 forward_receipt c reading interval (forwards.Armed g n) = look_receipt c n (events.Forward reading interval) (observations.Armed g)
 
 -- the receipt of a start
 abbrev pub start_receipt : ClaimNumbers → ClockReading → ℕ → ℕ → StartAnswer → Receipt
-start_receipt c reading ns asked (starts.Started was_armed generation base outs clock expires) = record {
+start_receipt c reading ns asked (starts.Started was_armed generation outs placement) = record {
   timer = c.timer;
   number = generation;
-  event = events.Start modes.Rel ns reading asked;
-  reply = noteds.Entry (replies.Start base clock expires was_armed);
+  event = events.Start (asked_for modes.Rel ns 0 asked reading);
+  reply = noteds.Entry (replies.Start placement was_armed);
 }
-start_receipt c reading ns asked (starts.Spent n) = look_receipt c n (events.Start modes.Rel ns reading asked) observations.Spent
+start_receipt c reading ns asked (starts.Spent n) = look_receipt c n (events.Start (asked_for modes.Rel ns 0 asked reading)) observations.Spent
 
 -- ---- callbacks
 
@@ -76,7 +77,7 @@ module _ (o : Opening) (v w : KnownOfTimers) (c : ClaimNumbers) where
   -- the claim's timer was started, or its history is full. It ran, so it has kept its base.
   pub record RunsStart (reading : ClockReading) (log log' : List Receipt) (ns asked : ℕ) : Type 0 where
     pub answer : StartAnswer
-    pub starts : StartsTimer o v w c.timer modes.Rel ns asked reading answer
+    pub starts : StartsTimer o v w c.timer (asked_for modes.Rel ns 0 asked reading) answer
     pub runs : (timer_then o starts.at c.timer).running ≡ Some c.generation
     pub receipt : log' ≡ log ++ start_receipt c reading ns asked answer ∷ []
 

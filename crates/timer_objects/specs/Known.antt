@@ -77,7 +77,7 @@ receipt_of h call = record { object = h.index; number = h.stamp + 1; call = call
 -- there are as many timers as objects, each declared on its object's clock, and each object's base is one of theirs
 pub record Suits (x : ObjectsOf) (o : Opening) : Type 0 where
   pub many : length o.timers ≡ length x.decls
-  pub clocks : (i : ℕ) → i < length x.decls → (timer_at o.timers i).declared ≡ (decl_at x i).clock
+  pub clocks : (i : ℕ) → i < length x.decls → (timer_at o.timers i).declared.clock ≡ (decl_at x i).clock
   pub bases : (i : ℕ) → i < length x.decls → (decl_at x i).base < o.bases
 
 -- the pass's name is as it was, and what it has seen and made goes on

@@ -11,8 +11,8 @@ ghost use Rattle.timer_objects.specs.Waiting.{IsHindered};
 use crate::cell::Span;
 use expire_pass::Log;
 use hr_timers::{Pass, StartAnswer, Timers};
-use ktime::{ClockId, Reading};
-use seq_timer::{Event, Reply};
+use ktime::Reading;
+use seq_timer::{Asked, Event, Placement, Reply};
 use std::sync::Wait;
 use timer_core::CancelAnswer;
 use timer_setting::{Arm, Wanted};
@@ -114,21 +114,18 @@ pub(crate) fn arm<R: Wait>(
         StartAnswer::Started {
             was_armed,
             generation,
-            base: there,
             outs,
-            clock,
-            expires,
+            placement,
         } => {
-            let event = Event::Start {
+            let event = Event::Start(Asked {
                 mode,
                 ns,
+                slack: 0,
                 reading,
-                asked: base,
-            };
+                base,
+            });
             if outs == 0 {
-                note_start(
-                    log, timer, generation, event, there, clock, expires, was_armed,
-                );
+                note_start(log, timer, generation, event, placement, was_armed);
             } else {
                 log.note(
                     timer,
@@ -136,7 +133,7 @@ pub(crate) fn arm<R: Wait>(
                     Event::Out { base },
                     Reply::Out { was_armed },
                 );
-                note_start(log, timer, generation, event, there, clock, expires, false);
+                note_start(log, timer, generation, event, placement, false);
             }
             Arm::Armed(generation)
         }
@@ -149,13 +146,11 @@ fn note_start(
     timer: u32,
     generation: u64,
     event: Event,
-    base: u32,
-    clock: ClockId,
-    expires: u64,
+    placement: Placement,
     was_armed: bool,
 )
     requires room { 0 < log.old.spare }
-    ensures receipt { log.new.receipts ≡ log.old.receipts ++ record { timer = timer; number = generation; event = event; reply = noteds.Entry (replies.Start base clock expires was_armed) } ∷ [] }
+    ensures receipt { log.new.receipts ≡ log.old.receipts ++ record { timer = timer; number = generation; event = event; reply = noteds.Entry (replies.Start placement was_armed) } ∷ [] }
     ensures spare { log.new.spare + 1 ≡ log.old.spare }
 {
     log.note(
@@ -163,9 +158,7 @@ fn note_start(
         generation,
         event,
         Reply::Start {
-            base,
-            clock,
-            expires,
+            placement,
             was_armed,
         },
     );

@@ -7,7 +7,7 @@ ghost use Rattle.timer_objects.specs.Callbacks.{RunsCallback, RunsCancel, RunsFo
 use expire_pass::{Log, Restart};
 use hr_timers::{Claim, Pass, StartAnswer, Timers};
 use ktime::{Mode, Reading};
-use seq_timer::{Event, Observation, Reply};
+use seq_timer::{Asked, Event, Observation, Reply};
 use std::sync::Wait;
 use timer_core::{CancelAnswer, ForwardAnswer};
 
@@ -97,11 +97,9 @@ fn note_forward(
     let timer = claim.timer();
     let event = Event::Forward { reading, interval };
     match answer {
-        ForwardAnswer::Forwarded {
-            number,
-            count,
-            expires,
-        } => log.note(timer, number, event, Reply::Forward { count, expires }),
+        ForwardAnswer::Forwarded { number, moved } => {
+            log.note(timer, number, event, Reply::Forward { moved });
+        }
         ForwardAnswer::Spent { stamp } => log.note_look(timer, stamp, event, Observation::Spent),
         ForwardAnswer::Armed { generation, stamp } => {
             log.note_look(timer, stamp, event, Observation::Armed { generation });
@@ -166,25 +164,22 @@ fn note_start(
     ensures spare { log.new.spare + 1 ≡ log.old.spare }
 {
     let timer = claim.timer();
-    let event = Event::Start {
+    let event = Event::Start(Asked {
         mode: Mode::Rel,
         ns,
+        slack: 0,
         reading,
-        asked,
-    };
+        base: asked,
+    });
     match answer {
         StartAnswer::Started {
             was_armed,
             generation,
-            base,
             outs: _,
-            clock,
-            expires,
+            placement,
         } => {
             let reply = Reply::Start {
-                base,
-                clock,
-                expires,
+                placement,
                 was_armed,
             };
             log.note(timer, generation, event, reply);

@@ -1,9 +1,11 @@
 -- Objects and timers that were just made suit each other.
-use Rattle.std.proofs.Common.{◌≡◌, ℕ, ◌<◌, zero, suc, get_or, length, max, arith, replicate, refl, sym, ◌∙◌, ap, subst}
+use Rattle.std.proofs.Common.{◌≡◌, ℕ, ◌<◌, zero, suc, get_or, length, map, max, arith, replicate, refl, sym, ◌∙◌, ap, subst}
 use Rattle.std.proofs.lemmas.List.{get_or-map, get_or-replicate, length-map, length-replicate}
 use Rattle.ktime.specs.declared.clock_id.ClockId.TheVariants as clocks
 use Rattle.seq_timer.specs.Steps.{Timer, opening}
-use Rattle.seq_timer.specs.Tables.{no_timer}
+use Rattle.seq_timer.specs.declared.context.Declared.{Declared}
+use Rattle.seq_timer.specs.declared.context.Terms.{Terms}
+use Rattle.seq_timer.specs.Tables.{hard_on, no_declared, no_timer}
 use Rattle.base_row.specs.Calls.{opening_of}
 use Rattle.timer_objects.specs.declared.callback.Callback.TheVariants as callbacks
 use Rattle.timer_objects.specs.declared.object.Decl.{Decl}
@@ -17,18 +19,21 @@ pub still : (n : ℕ) → bases_of (replicate n callbacks.Once) ≡ 0
 still zero = refl
 still (suc n) = ap (λ m. max 0 m) (still n)
 
-pub suits : (x : ObjectsOf) (kind : Kind) (n limit : ℕ) → x.decls ≡ replicate n (record { kind = kind; clock = clocks.Monotonic; base = 0 })
-    → Suits x (opening_of 1 (replicate n clocks.Monotonic) limit)
-suits x kind n limit same =
+pub suits : (x : ObjectsOf) (kind : Kind) (n : ℕ) (terms : Terms) → x.decls ≡ replicate n (record { kind = kind; clock = clocks.Monotonic; base = 0 })
+    → Suits x (opening_of 1 (map hard_on (replicate n clocks.Monotonic)) terms)
+suits x kind n terms same =
     let decl : Decl = record { kind = kind; clock = clocks.Monotonic; base = 0 } in
     let raw : Decl = record { kind = kinds.Raw; clock = clocks.Monotonic; base = 0 } in
+    let l = replicate n clocks.Monotonic in
     let many : length x.decls ≡ n = ap length same ∙ length-replicate n decl in
     let at : (i : ℕ) → i < length x.decls → get_or x.decls i raw ≡ decl = λ i h. ap (λ l. get_or l i raw) same ∙ get_or-replicate n i decl raw (subst (λ m. i < m) many h) in record {
-      many = length-map (replicate n clocks.Monotonic) (λ clock. opening clock limit) ∙ (length-replicate n clocks.Monotonic ∙ sym many);
+      many = length-map (map hard_on l) (λ d. opening d terms) ∙ (length-map l hard_on ∙ (length-replicate n clocks.Monotonic ∙ sym many));
       clocks = λ i h.
           let there = subst (λ m. i < m) many h in
           let has = subst (λ m. i < m) (sym (length-replicate n clocks.Monotonic)) there in
-          ap (λ (t : Timer). t.declared) (get_or-map (λ clock. opening clock limit) (replicate n clocks.Monotonic) i clocks.Monotonic no_timer has)
-          ∙ (get_or-replicate n i clocks.Monotonic clocks.Monotonic there ∙ sym (ap (λ (d : Decl). d.clock) (at i h)));
+          let declared = subst (λ m. i < m) (sym (length-map l hard_on)) has in
+          ap (λ (t : Timer). t.declared.clock) (get_or-map (λ d. opening d terms) (map hard_on l) i no_declared no_timer declared)
+          ∙ (ap (λ (d : Declared). d.clock) (get_or-map hard_on l i clocks.Monotonic no_declared has)
+          ∙ (get_or-replicate n i clocks.Monotonic clocks.Monotonic there ∙ sym (ap (λ (d : Decl). d.clock) (at i h))));
       bases = λ i h. subst (λ (d : Decl). d.base < 1) (sym (at i h)) (omega arith);
     }

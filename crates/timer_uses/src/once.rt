@@ -3,7 +3,8 @@ ghost use Rattle.std.specs.Prelude.{◌≡◌, ◌+◌, ◌<◌, ℕ, IfNone, If
 ghost use Rattle.ktime.specs.Times.{sat};
 ghost use Rattle.seq_timer.specs.Steps.{now_of};
 ghost use Rattle.seq_timer.specs.Tables.{is_due_on};
-ghost use Rattle.seq_timer.specs.Contents.{first_due};
+ghost use Rattle.seq_timer.specs.declared.context.Context.TheVariants as contexts;
+ghost use Rattle.seq_timer.specs.Contents.{first_due, running_in};
 ghost use Rattle.timer_core.specs.Kept.{IsSameSize, IsSpent, content_at, timer_in};
 
 use ktime::{Mode, Reading};
@@ -32,11 +33,11 @@ pub fn start_once<Q: Queue>(
     }
 }
 
-/// Runs the next timer that is due on a base, if one is, and lets it rest. It answers which one that was.
+/// Runs the timer that is next to expire on a base, if one is, and lets it rest. It answers which one that was.
 pub fn expire_once<Q: Queue>(core: &mut Core<Q>, base: u32, reading: Reading) -> Option<u32>
     requires base { base < length core.old.bases }
     ensures none { IfNone result (core.new ≡ core.old) }
-    ensures next { (expires id : ℕ) → (content_at core.old base).running ≡ None → first_due (content_at core.old base) reading ≡ Some (expires, id) → result ≡ Some id }
+    ensures next { (expires id : ℕ) → running_in contexts.Hard (content_at core.old base) ≡ None → first_due contexts.Hard (timer_in core.old) (content_at core.old base) reading ≡ Some (expires, id) → result ≡ Some id }
     ensures due { IfSome result (λ id. is_due_on base reading (timer_in core.old id) ≡ true) }
     ensures rests { IfSome result (λ id. ((timer_in core.new id).armed ≡ None) × ((timer_in core.new id).running ≡ None)) }
     ensures sizes { IsSameSize core.old core.new }

@@ -15,6 +15,7 @@ use crate::{
 };
 use ktime::{ClockId, Mode, Reading, TimeSpec};
 use posix_timer::PosixState;
+use seq_timer::{Context, Declared, Placement};
 use std::alloc::AllocError;
 use std::fmt::Debug;
 use std::process::Abort;
@@ -27,6 +28,12 @@ use timer_setting::{ObjectTimer, Phase, Wanted};
 fn assert_equal<T: PartialEq + Debug + Drop>(rt: &impl Abort, got: T, wanted: T) {
     assert_eq!(rt; got, wanted);
 }
+
+/// A timer of the hard context on the monotonic clock.
+const MONOTONIC: Declared = Declared {
+    clock: ClockId::Monotonic,
+    context: Context::Hard,
+};
 
 fn ns(nsec: u64) -> TimeSpec
     ensures { result ≡ record { sec = 0; nsec = nsec } }
@@ -51,6 +58,22 @@ fn just_made() -> ObjectTimer {
     }
 }
 
+/// A timer of the soft context on the same clock.
+const SOFT: Declared = Declared {
+    clock: ClockId::Monotonic,
+    context: Context::Soft,
+};
+
+/// A timer without slack, kept on the monotonic clock of a base.
+fn kept(base: u32, expires: u64) -> Placement {
+    Placement {
+        base,
+        clock: ClockId::Monotonic,
+        soft: expires,
+        expires,
+    }
+}
+
 fn armed(generation: u64, clock: ClockId, expires: u64) -> Phase {
     Phase::Armed {
         generation,
@@ -61,7 +84,7 @@ fn armed(generation: u64, clock: ClockId, expires: u64) -> Phase {
 
 #[test]
 fn a_timer_expires_once(rt: HostRuntime) -> Result<(), AllocError> {
-    let mut core = Core::<ListQueue>::make(rt.alloc(), 1, &[ClockId::Monotonic], 100)?;
+    let mut core = Core::<ListQueue>::make_full(rt.alloc(), 1, &[MONOTONIC], 100)?;
     assert_equal(
         &rt,
         start_once(&mut core, 0, 100, 0, Reading::at(5)),
@@ -75,7 +98,7 @@ fn a_timer_expires_once(rt: HostRuntime) -> Result<(), AllocError> {
 
 #[test]
 fn a_periodic_timer_ticks(rt: HostRuntime) -> Result<(), AllocError> {
-    let mut core = Core::<ListQueue>::make(rt.alloc(), 1, &[ClockId::Monotonic], 100)?;
+    let mut core = Core::<ListQueue>::make_full(rt.alloc(), 1, &[MONOTONIC], 100)?;
     start_once(&mut core, 0, 100, 0, Reading::at(0));
     let late = expire_periodic(&mut core, 0, Reading::at(135), 10);
     assert_equal(&rt, late, Some(Tick { timer: 0, count: 4 }));
@@ -91,7 +114,7 @@ fn a_periodic_timer_ticks(rt: HostRuntime) -> Result<(), AllocError> {
 
 #[test]
 fn a_posix_timer_counts_its_overrun(rt: HostRuntime) -> Result<(), AllocError> {
-    let mut core = Core::<ListQueue>::make(rt.alloc(), 1, &[ClockId::Monotonic], 100)?;
+    let mut core = Core::<ListQueue>::make_full(rt.alloc(), 1, &[MONOTONIC], 100)?;
     let mut timer = PosixState::make(ClockId::Monotonic, 0, 100);
     arm_periodic(&mut core, &mut timer, 0, ns(100), ns(10), Reading::at(0));
     assert_equal(&rt, expire_once(&mut core, 0, Reading::at(100)), Some(0));
@@ -106,7 +129,7 @@ fn a_posix_timer_counts_its_overrun(rt: HostRuntime) -> Result<(), AllocError> {
 
 #[test]
 fn a_descriptor_is_read(rt: HostRuntime) -> Result<(), AllocError> {
-    let mut core = Core::<ListQueue>::make(rt.alloc(), 1, &[ClockId::Monotonic], 100)?;
+    let mut core = Core::<ListQueue>::make_full(rt.alloc(), 1, &[MONOTONIC], 100)?;
     let mut descriptor = FdState::make(ClockId::Monotonic, 0, 100);
     set_descriptor(
         &mut core,

@@ -1,10 +1,9 @@
--- Which words there are, the number that a word packs to, and the word of a timer.
-use Rattle.std.specs.Prelude.{ℕ, ◌≡◌, ◌+◌, ◌*◌, ◌^◌, ◌<◌, Bool, false, ◌&&◌, ◌||◌, is_some, if◌then◌else◌}
-use Rattle.seq_timer.specs.Steps.{Timer}
-use Rattle.timer_word.specs.declared.word.TimerWord.{TimerWord}
+-- Which words there are, and the number that a word packs to.
+use Rattle.std.specs.Prelude.{ℕ, ◌≡◌, ◌+◌, ◌*◌, ◌^◌, ◌<◌, Bool, false, ◌&&◌, ◌||◌, if◌then◌else◌}
+use Rattle.seq_timer.specs.declared.observation.Peek.{Peek}
 
 -- a word's stamp has 48 bits and its base 8, and a timer on the move is neither armed nor running
-pub record IsWord (w : TimerWord) : Type 0 where
+pub record IsWord (w : Peek) : Type 0 where
   pub stamp : w.stamp < 2 ^ 48
   pub base : w.base < 256
   pub apart : w.moving && (w.enqueued || w.running) ≡ false
@@ -14,9 +13,5 @@ abbrev pub bit : Bool → ℕ
 bit b = if b then 1 else 0
 
 -- bits 0 to 47 the stamp, 48 to 55 the base, 56 enqueued, 57 running, 58 moving
-abbrev pub packed : TimerWord → ℕ
+abbrev pub packed : Peek → ℕ
 packed w = w.stamp + w.base * 2 ^ 48 + (bit w.enqueued + bit w.running * 2 + bit w.moving * 4) * 2 ^ 56
-
--- the word of a timer
-abbrev pub word_of : Timer → TimerWord
-word_of t = record { stamp = t.stamp; base = t.base; enqueued = is_some t.armed; running = is_some t.running; moving = t.moving }

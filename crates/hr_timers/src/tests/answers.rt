@@ -2,7 +2,7 @@
 use super::callers::Found;
 use crate::StartAnswer;
 use ktime::ClockId;
-use seq_timer::{Peek, Rearmed};
+use seq_timer::{Peek, Placement, Rearmed};
 use timer_core::{CancelAnswer, Finished};
 
 /// A start that moved timer 0 to base 1 at once, and armed it there.
@@ -10,9 +10,17 @@ pub fn moved(expires: u64) -> StartAnswer {
     StartAnswer::Started {
         was_armed: false,
         generation: 2,
-        base: 1,
         outs: 2,
+        placement: kept(1, expires),
+    }
+}
+
+/// A timer without slack on the monotonic clock of a base.
+pub fn kept(base: u32, expires: u64) -> Placement {
+    Placement {
+        base,
         clock: ClockId::Monotonic,
+        soft: expires,
         expires,
     }
 }

@@ -118,6 +118,32 @@ pub fn run<R: Wait>(rt: &R, timers: &Timers, pass: &mut Pass, base: u32, reading
     }
 }
 
+/// Claims the next timer of the soft context of a base, and finishes the claim.
+pub fn run_soft<R: Wait>(
+    rt: &R,
+    timers: &Timers,
+    pass: &mut Pass,
+    base: u32,
+    reading: Reading,
+) -> Found
+    requires pass { IsPassOf timers.now pass.old }
+    requires base { base < timers.now.about.bases }
+    requires unclaimed { pass.old.known.claims ≡ [] }
+    ensures pass { IsPassOf timers.now pass.new }
+    ensures id { pass.new.known.id ≡ pass.old.known.id }
+    ensures unclaimed { pass.new.known.claims ≡ [] }
+{
+    match timers.claim_next_soft(rt, pass, base, reading) {
+        ClaimAnswer::Claimed(claim) => {
+            let timer = claim.timer();
+            finish(rt, timers, pass, claim, false);
+            Found::Ran { timer }
+        }
+        ClaimAnswer::NoneDue => Found::NoneDue,
+        ClaimAnswer::BaseBusy { timer, generation } => Found::Busy { timer, generation },
+    }
+}
+
 /// The first pass takes in the one that was split off it first.
 pub fn retire(timers: &Timers, main: &mut Pass, other: Pass)
     requires pass { IsPassOf timers.now main.old × IsPassOf timers.now other }

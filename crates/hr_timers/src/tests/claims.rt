@@ -4,7 +4,7 @@ use super::callers::{Found, claim, claimed_timer, finish, forward, run};
 use super::{two_started, two_timers};
 use crate::{ClaimNumbers, NowAnswer};
 use ktime::{Mode, Reading};
-use seq_timer::Rearmed;
+use seq_timer::{Moved, Rearmed};
 use std::test::Fail;
 use timer_core::ForwardAnswer;
 
@@ -87,8 +87,11 @@ fn a_periodic_timer_goes_past_the_reading(rt: HostRuntime) -> Result<(), Fail> {
         forward(&rt, &timers, &mut pass, &claim, Reading::at(1030), 10),
         ForwardAnswer::Forwarded {
             number: 3,
-            count: 3,
-            expires: 1037
+            moved: Moved {
+                count: 3,
+                soft: 1037,
+                expires: 1037
+            }
         }
     );
     assert_eq!(rt;

@@ -4,7 +4,7 @@ ghost use Rattle.pass_names.specs.Names.{IsLast, first_pass_id};
 ghost use Rattle.seq_timer.specs.Steps.{greatest_limit};
 ghost use Rattle.hr_timers.specs.Known.{IsPassOf, claimed_as};
 
-use super::answers::{cancelled, finished, moved, running, word};
+use super::answers::{cancelled, finished, kept, moved, running, word};
 use super::callers::{claim, finish, forward};
 use crate::{Claim, Pass, StartAnswer, Timers};
 use ktime::{ClockId, Mode, Reading};
@@ -44,10 +44,8 @@ fn started_again(expires: u64) -> StartAnswer {
     StartAnswer::Started {
         was_armed: false,
         generation: 3,
-        base: 0,
         outs: 0,
-        clock: ClockId::Monotonic,
-        expires,
+        placement: kept(0, expires),
     }
 }
 

@@ -118,7 +118,7 @@ const STREAMS: [Case<'_>; 8] = [
         taken: b"",
     },
     Case {
-        bytes: b"hrt 2\n",
+        bytes: b"hrt 3\n",
         reads: (4096, &[]),
         writes: (4096, &[1]),
         end: End {
@@ -129,7 +129,7 @@ const STREAMS: [Case<'_>; 8] = [
         taken: b"",
     },
     Case {
-        bytes: b"hrt 2\n",
+        bytes: b"hrt 3\n",
         reads: (4096, &[]),
         writes: (1, &[]),
         end: End {

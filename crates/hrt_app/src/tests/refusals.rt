@@ -16,7 +16,7 @@ const HEAD: &[u8] = b"hrt 1\nbases 1\nlanes 1\nlimit 100\n";
 /// a script's first four lines and `/` for a newline.
 const REFUSED: &[u8] = b"\
 1: Unfinished|
-1: Version|hrt 2/
+1: Version|hrt 3/
 1: BadSpace|hrt  1/
 1: WordCount|hrt 1 1/
 2: UnknownWord|hrt 1/bas
@@ -29,6 +29,18 @@ const REFUSED: &[u8] = b"\
 6: NoTimer|@round/0 peek 0/
 6: BudgetLimit|@round/0 expire 0 4097/
 7: WrongKind|@raw 0 monotonic once/round/0 read 0 8/
+";
+
+/// Words and numbers that version 2 alone has, in a script of version 1, and those that it doesn't have either.
+const OF_A_VERSION: &[u8] = b"\
+2: Unfinished|hrt 2/
+2: BaseLimit|hrt 2/bases 65/
+4: EventLimit|hrt 2/bases 64/lanes 64/limit 281474976708609/
+4: EventLimit|hrt 1/bases 8/lanes 16/limit 281474976710641/
+5: UnknownWord|@soft 0 monotonic once/
+5: UnknownWord|hrt 2/bases 1/lanes 1/limit 1/soft 0 monotonic cancels/
+6: UnknownWord|@round/0 softexpire 0 4/
+6: UnknownWord|@round/0 startrange 0 rel 5 5 0/
 ";
 
 /// Zero bytes, carriage returns, tabs, and bytes past 126, in UTF-8 or not.
@@ -139,9 +151,9 @@ const LONG: [(&[u8], &[u8], usize, &[u8], &[u8]); 14] = [
         b" advance 1\n",
         b"line 6: BadNumber\n",
     ),
-    (b"", b"\n", 65_536, b"hrt 2\n", b"line 65537: Version\n"),
-    (b"#", b"\x00", 65_536, b"\nhrt 2\n", b"line 2: Version\n"),
-    (b"", b"#\r\n", 65_536, b"hrt 2\n", b"line 65537: Version\n"),
+    (b"", b"\n", 65_536, b"hrt 3\n", b"line 65537: Version\n"),
+    (b"#", b"\x00", 65_536, b"\nhrt 3\n", b"line 2: Version\n"),
+    (b"", b"#\r\n", 65_536, b"hrt 3\n", b"line 65537: Version\n"),
 ];
 
 /// The bytes of a front, a piece so often, and a back.
@@ -164,6 +176,7 @@ fn joined(
 #[test]
 fn bytes_that_no_script_has_are_refused_by_line_and_cause(rt: HostRuntime) -> Result<(), Fail> {
     assert_eq!(rt; refused_as_named(&rt, REFUSED)?, 14);
+    assert_eq!(rt; refused_as_named(&rt, OF_A_VERSION)?, 8);
     assert_eq!(rt; refused_as_named(&rt, STRANGE)?, 12);
     assert_eq!(rt; refused_as_named(&rt, TWO_CAUSES)?, 12);
     Ok(())

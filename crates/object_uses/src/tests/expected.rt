@@ -2,7 +2,7 @@
 use super::stand::{FD, POSIX, Told};
 use expire_pass::{ExpireAnswer, Noted, Receipt};
 use ktime::{ClockId, Mode, Reading};
-use seq_timer::{Event, Rearmed, Reply};
+use seq_timer::{Asked, Event, Placement, Rearmed, Reply};
 use timer_fd::{ReadAnswer, SettimeAnswer};
 use timer_objects::{ObjectCall, ObjectReceipt, ObjectReply, SpannedCall};
 use timer_setting::{Arm, SettimeCall, TriggerAnswer};
@@ -33,16 +33,21 @@ pub(super) fn start(
     clock: ClockId,
     expires: u64,
 ) -> Receipt {
-    let event = Event::Start {
+    let event = Event::Start(Asked {
         mode,
         ns,
+        slack: 0,
         reading: at,
-        asked: 0,
-    };
-    let reply = Reply::Start {
+        base: 0,
+    });
+    let placement = Placement {
         base: 0,
         clock,
+        soft: expires,
         expires,
+    };
+    let reply = Reply::Start {
+        placement,
         was_armed: false,
     };
     entry(timer, number, event, reply)

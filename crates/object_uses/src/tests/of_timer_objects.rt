@@ -13,7 +13,7 @@ use counted_row::RowPass;
 use expire_pass::{Log, Noted, Receipt};
 use hr_timers::{Pass, Timers};
 use ktime::{ClockId, Mode, Reading};
-use seq_timer::{Event, Observation, Reply};
+use seq_timer::{Event, Moved, Observation, Reply};
 use std::alloc::{AllocError, Global};
 use std::sync::Wait;
 use std::test::Fail;
@@ -151,10 +151,12 @@ fn a_periodic_timer_notes_its_forward(rt: HostRuntime) -> Result<(), Fail> {
         reading: Reading::at(130),
         interval: 20,
     };
-    let forwarded = Reply::Forward {
+    let moved = Moved {
         count: 2,
+        soft: 140,
         expires: 140,
     };
+    let forwarded = Reply::Forward { moved };
     let receipt = entry(0, 3, forward, forwarded);
     assert_equal(&rt, noting.log.receipts(), [receipt].as_slice());
     assert_equal(&rt, noting.object_log.receipts().len(), 0);

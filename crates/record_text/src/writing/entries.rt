@@ -1,52 +1,42 @@
 //! The words of a timer's entries, and of what callbacks were told in place of one.
 ghost use Rattle.std.specs.Prelude.{◌≡◌, ◌++◌, ◌∷◌, [], OnOk, codes, string_bytes};
 ghost use Rattle.std.specs.Fmt.{decimal};
+ghost use Rattle.record_text.specs.declared.record.Entry.TheVariants as entries;
 ghost use Rattle.record_text.specs.Numbers.{entry_numbers, rearmed_numbers, reply_numbers, AreMachineNumbers};
-ghost use Rattle.record_text.specs.Text.{entry_words, flag, rearmed_word, reply_words, restart_word, spaced};
-ghost use Rattle.record_text.specs.Words.{clock_word, mode_word};
+ghost use Rattle.record_text.specs.Text.{entry_words, forward_words, rearmed_word, reply_words, restart_word, spaced, start_words};
 
-use crate::record::{CallbackReply, Entry, Restart};
+use crate::record::{CallbackReply, Entry, ForwardLine, Restart, StartLine};
+use crate::version::Version;
 use crate::writing::sections::HasWords;
 use crate::writing::words::{clock_word, mode_word, restart_word};
-use ktime::{ClockId, Mode};
 use std::alloc::AllocError;
 
-impl HasWords for Entry {
-    ghost words = { entry_words };
+/// An entry as a record of this version shows it.
+#[derive(Clone, Copy)]
+pub(crate) struct EntryIn {
+    pub version: Version,
+    pub entry: Entry,
+}
 
-    ghost numbers = { entry_numbers };
+impl HasWords for EntryIn {
+    ghost words = { λ e. entry_words e.version e.entry };
+
+    ghost numbers = { λ e. entry_numbers e.entry };
 
     fn write_words(&self, out: &mut String) -> Result<(), AllocError> {
-        match *self {
+        match self.entry {
             Entry::Out { base, was_armed } => {
                 let was = u8::from(was_armed);
                 write!(out, " out {base} {was}")?;
             }
-            Entry::Start {
-                mode,
-                ns,
-                reading,
-                asked,
-                base,
-                clock,
-                expires,
-                was_armed,
-            } => {
-                write_asked(out, mode, ns, reading, asked)?;
-                write_started(out, base, clock, expires, was_armed)?;
-            }
+            Entry::Start(line) => write_start(out, self.version, line)?,
             Entry::Cancel { generation } => write!(out, " cancel {generation}")?,
             Entry::Claim {
                 base,
                 reading,
                 generation,
             } => write!(out, " claim {base} {reading} {generation}")?,
-            Entry::Forward {
-                reading,
-                interval,
-                count,
-                expires,
-            } => write!(out, " forward {reading} {interval} {count} {expires}")?,
+            Entry::Forward(line) => write_forward(out, self.version, line)?,
             Entry::Finish {
                 restart,
                 generation,
@@ -57,34 +47,62 @@ impl HasWords for Entry {
     }
 }
 
-/// Writes what a start was asked for: a time in a mode, by a reading, on a base.
-fn write_asked(
-    out: &mut String,
-    mode: Mode,
-    ns: u64,
-    reading: u64,
-    base: u32,
-) -> Result<(), AllocError>
-    ensures { OnOk result (string_bytes out.new ≡ string_bytes out.old ++ spaced (codes "start" ∷ mode_word mode ∷ decimal ns ∷ decimal reading ∷ decimal base ∷ [])) }
+/// Writes what a start was asked for, and what it came to.
+fn write_start(out: &mut String, version: Version, line: StartLine) -> Result<(), AllocError>
+    ensures text { OnOk result (string_bytes out.new ≡ string_bytes out.old ++ spaced (start_words version line)) }
+    ensures numbers { OnOk result (AreMachineNumbers (entry_numbers (entries.Start line))) }
 {
+    let StartLine {
+        mode,
+        ns,
+        slack,
+        reading,
+        asked,
+        base,
+        clock,
+        soft,
+        expires,
+        was_armed,
+    } = line;
     let mode = mode_word(mode);
-    write!(out, " start {mode} {ns} {reading} {base}")?;
+    let clock = clock_word(clock);
+    let was = u8::from(was_armed);
+    match version {
+        Version::One => {
+            write!(
+                out,
+                " start {mode} {ns} {reading} {asked} {base} {clock} {expires} {was}"
+            )?;
+        }
+        Version::Two => {
+            write!(
+                out,
+                " start {mode} {ns} {slack} {reading} {asked} {base} {clock} {soft} {expires} {was}"
+            )?;
+        }
+    }
     Ok(())
 }
 
-/// Writes what a start came to: the timer's base, clock and expiry, and whether it was armed before.
-fn write_started(
-    out: &mut String,
-    base: u32,
-    clock: ClockId,
-    expires: u64,
-    was_armed: bool,
-) -> Result<(), AllocError>
-    ensures { OnOk result (string_bytes out.new ≡ string_bytes out.old ++ spaced (decimal base ∷ clock_word clock ∷ decimal expires ∷ flag was_armed ∷ [])) }
+/// Writes what a forward was made by, and what it came to.
+fn write_forward(out: &mut String, version: Version, line: ForwardLine) -> Result<(), AllocError>
+    ensures text { OnOk result (string_bytes out.new ≡ string_bytes out.old ++ spaced (forward_words version line)) }
+    ensures numbers { OnOk result (AreMachineNumbers (entry_numbers (entries.Forward line))) }
 {
-    let clock = clock_word(clock);
-    let was = u8::from(was_armed);
-    write!(out, " {base} {clock} {expires} {was}")?;
+    let ForwardLine {
+        reading,
+        interval,
+        count,
+        soft,
+        expires,
+    } = line;
+    match version {
+        Version::One => write!(out, " forward {reading} {interval} {count} {expires}")?,
+        Version::Two => write!(
+            out,
+            " forward {reading} {interval} {count} {soft} {expires}"
+        )?,
+    }
     Ok(())
 }
 

@@ -5,13 +5,15 @@ ghost use Rattle.record_text.specs.Numbers.{AreMachineNumbers, HasMachineNumbers
 ghost use Rattle.record_text.specs.Text.{entry_and_looks, spaced, object_entry_and_skips, text_of, OfCall, OfClock, OfLook, OfSkip};
 
 use crate::record::{Answer, ClockLine, Label, Look, ObjectLine, RunRecord, Skip, TimerLine};
+use crate::version::Version;
+use crate::writing::entries::EntryIn;
 use crate::writing::sections::{
     HasLineBelow, HasLines, HasWords, write_below, write_list, write_lists,
 };
-use crate::writing::words::{write_name, write_ns};
+use crate::writing::words::{version_word, write_name, write_ns};
 use std::alloc::{AllocError, Global};
 
-/// The text of a record: a line for each write of the clock, then for each entry of each timer with what
+/// The text of a record, by its version: a line for each write of the clock, then for each entry of each timer with what
 /// callbacks were told there, then for each entry of each object with the expiries that were refused there,
 /// then for each answer of each lane.
 #[tactic(auto, using(crate::proofs::RecordTexts::lines_text_both, crate::proofs::RecordTexts::numbers_both))]
@@ -20,11 +22,13 @@ pub fn text(alloc: Global, run: &RunRecord) -> Result<Vec<u8>, AllocError>
     ensures numbers { OnOk result (HasMachineNumbers run.now) }
 {
     let mut out = String::new(alloc);
-    out.push_str("record 1\n")?;
-    write_list(&mut out, 0, 1, run.clock.as_slice())?;
-    write_lists(&mut out, 1, run.timers.as_slice())?;
-    write_lists(&mut out, 1, run.objects.as_slice())?;
-    write_lists(&mut out, 0, run.answers.as_slice())?;
+    let version = run.version;
+    let number = version_word(version);
+    writeln!(out, "record {number}")?;
+    write_list(&mut out, version, 0, 1, run.clock.as_slice())?;
+    write_lists(&mut out, version, 1, run.timers.as_slice())?;
+    write_lists(&mut out, version, 1, run.objects.as_slice())?;
+    write_lists(&mut out, version, 0, run.answers.as_slice())?;
     out.push_str("end\n")?;
     Ok(out.into_bytes())
 }
@@ -52,7 +56,13 @@ fn write_line_of<W: HasWords>(
 impl HasLines for ClockLine {
     ghost lines = { λ list number line. OfClock number line ∷ [] };
 
-    fn write_lines(&self, out: &mut String, _list: usize, number: usize) -> Result<(), AllocError> {
+    fn write_lines(
+        &self,
+        out: &mut String,
+        _version: Version,
+        _list: usize,
+        number: usize,
+    ) -> Result<(), AllocError> {
         let (lane, call) = (self.label.lane, self.label.call);
         let name = write_name(self.write);
         let ns = write_ns(self.write);
@@ -68,9 +78,19 @@ impl HasLines for ClockLine {
 impl HasLines for TimerLine {
     ghost lines = { entry_and_looks };
 
-    fn write_lines(&self, out: &mut String, timer: usize, number: usize) -> Result<(), AllocError> {
-        write_line_of(out, "timer", timer, number, self.label, &self.entry)?;
-        write_below(out, timer, number, self.looks.as_slice())
+    fn write_lines(
+        &self,
+        out: &mut String,
+        version: Version,
+        timer: usize,
+        number: usize,
+    ) -> Result<(), AllocError> {
+        let entry = EntryIn {
+            version,
+            entry: self.entry,
+        };
+        write_line_of(out, "timer", timer, number, self.label, &entry)?;
+        write_below(out, version, timer, number, self.looks.as_slice())
     }
 }
 
@@ -80,18 +100,25 @@ impl HasLines for ObjectLine {
     fn write_lines(
         &self,
         out: &mut String,
+        version: Version,
         object: usize,
         number: usize,
     ) -> Result<(), AllocError> {
         write_line_of(out, "object", object, number, self.label, &self.entry)?;
-        write_below(out, object, number, self.skips.as_slice())
+        write_below(out, version, object, number, self.skips.as_slice())
     }
 }
 
 impl HasLines for Answer {
     ghost lines = { λ lane call answer. OfCall lane call answer ∷ [] };
 
-    fn write_lines(&self, out: &mut String, lane: usize, call: usize) -> Result<(), AllocError> {
+    fn write_lines(
+        &self,
+        out: &mut String,
+        _version: Version,
+        lane: usize,
+        call: usize,
+    ) -> Result<(), AllocError> {
         write!(out, "call {lane} {call}")?;
         self.write_words(out)?;
         out.push_str("\n")?;
@@ -102,7 +129,13 @@ impl HasLines for Answer {
 impl HasLineBelow for Look {
     ghost line = { OfLook };
 
-    fn write_line(&self, out: &mut String, timer: usize, number: usize) -> Result<(), AllocError> {
+    fn write_line(
+        &self,
+        out: &mut String,
+        _version: Version,
+        timer: usize,
+        number: usize,
+    ) -> Result<(), AllocError> {
         write_line_of(out, "look", timer, number, self.label, &self.reply)
     }
 }
@@ -110,7 +143,13 @@ impl HasLineBelow for Look {
 impl HasLineBelow for Skip {
     ghost line = { OfSkip };
 
-    fn write_line(&self, out: &mut String, object: usize, number: usize) -> Result<(), AllocError> {
+    fn write_line(
+        &self,
+        out: &mut String,
+        _version: Version,
+        object: usize,
+        number: usize,
+    ) -> Result<(), AllocError> {
         write_line_of(out, "skip", object, number, self.label, self)
     }
 }

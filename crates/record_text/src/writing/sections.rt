@@ -4,6 +4,7 @@ ghost use Rattle.record_text.specs.Numbers.{numbers_of, AreMachineNumbers, HaveM
 ghost use Rattle.record_text.specs.Text.{line_text, lines_in_lists, lines_text, numbered, spaced, RecordLine};
 
 use crate::item_list::ItemList;
+use crate::version::Version;
 use std::alloc::AllocError;
 
 /// What is written as words: an entry, a reply or an answer.
@@ -24,8 +25,15 @@ pub(crate) trait HasLines {
     /// Its lines, by the number of its list and its own.
     ghost lines: { ℕ → ℕ → Self → List RecordLine };
 
-    fn write_lines(&self, out: &mut String, list: usize, number: usize) -> Result<(), AllocError>
-        ensures text { OnOk result (string_bytes out.new ≡ string_bytes out.old ++ lines_text (lines list number self.now)) }
+    /// Writes them as a record of this version shows them.
+    fn write_lines(
+        &self,
+        out: &mut String,
+        version: Version,
+        list: usize,
+        number: usize,
+    ) -> Result<(), AllocError>
+        ensures text { OnOk result (string_bytes out.new ≡ string_bytes out.old ++ lines_text version (lines list number self.now)) }
         ensures numbers { OnOk result (HaveMachineNumbers (lines list number self.now)) };
 }
 
@@ -33,8 +41,15 @@ pub(crate) trait HasLines {
 pub(crate) trait HasLineBelow {
     ghost line: { ℕ → ℕ → Self → RecordLine };
 
-    fn write_line(&self, out: &mut String, list: usize, number: usize) -> Result<(), AllocError>
-        ensures text { OnOk result (string_bytes out.new ≡ string_bytes out.old ++ line_text (line list number self.now)) }
+    /// Writes it as a record of this version shows it.
+    fn write_line(
+        &self,
+        out: &mut String,
+        version: Version,
+        list: usize,
+        number: usize,
+    ) -> Result<(), AllocError>
+        ensures text { OnOk result (string_bytes out.new ≡ string_bytes out.old ++ line_text version (line list number self.now)) }
         ensures numbers { OnOk result (AreMachineNumbers (numbers_of (line list number self.now))) };
 }
 
@@ -42,15 +57,16 @@ pub(crate) trait HasLineBelow {
 #[tactic(auto, using(crate::proofs::RecordTexts::lines_text_both, crate::proofs::RecordTexts::numbers_both))]
 pub(crate) fn write_lists<X: HasLines + Drop>(
     out: &mut String,
+    version: Version,
     first: usize,
     lists: &[ItemList<X>],
 ) -> Result<(), AllocError>
     requires { first ≤ 1 }
-    ensures text { OnOk result (string_bytes out.new ≡ string_bytes out.old ++ lines_text (lines_in_lists X.lines first 0 lists.now)) }
+    ensures text { OnOk result (string_bytes out.new ≡ string_bytes out.old ++ lines_text version (lines_in_lists X.lines first 0 lists.now)) }
     ensures numbers { OnOk result (HaveMachineNumbers (lines_in_lists X.lines first 0 lists.now)) }
 {
     for (list, items) in lists.iter().enumerate() {
-        write_list(out, list, first, items.as_slice())?;
+        write_list(out, version, list, first, items.as_slice())?;
     }
     Ok(())
 }
@@ -59,16 +75,17 @@ pub(crate) fn write_lists<X: HasLines + Drop>(
 #[tactic(auto, using(crate::proofs::RecordTexts::lines_text_both, crate::proofs::RecordTexts::numbers_both))]
 pub(crate) fn write_list<X: HasLines>(
     out: &mut String,
+    version: Version,
     list: usize,
     first: usize,
     items: &[X],
 ) -> Result<(), AllocError>
     requires { first ≤ 1 }
-    ensures text { OnOk result (string_bytes out.new ≡ string_bytes out.old ++ lines_text (numbered (X.lines list) first items.now)) }
+    ensures text { OnOk result (string_bytes out.new ≡ string_bytes out.old ++ lines_text version (numbered (X.lines list) first items.now)) }
     ensures numbers { OnOk result (HaveMachineNumbers (numbered (X.lines list) first items.now)) }
 {
     for (index, item) in items.iter().enumerate() {
-        item.write_lines(out, list, first + index)?;
+        item.write_lines(out, version, list, first + index)?;
     }
     Ok(())
 }
@@ -76,15 +93,16 @@ pub(crate) fn write_list<X: HasLines>(
 /// Writes what stands below the item with these numbers.
 pub(crate) fn write_below<K: HasLineBelow>(
     out: &mut String,
+    version: Version,
     list: usize,
     number: usize,
     below: &[K],
 ) -> Result<(), AllocError>
-    ensures text { OnOk result (string_bytes out.new ≡ string_bytes out.old ++ lines_text (map (K.line list number) below.now)) }
+    ensures text { OnOk result (string_bytes out.new ≡ string_bytes out.old ++ lines_text version (map (K.line list number) below.now)) }
     ensures numbers { OnOk result (HaveMachineNumbers (map (K.line list number) below.now)) }
 {
     for item in below {
-        item.write_line(out, list, number)?;
+        item.write_line(out, version, list, number)?;
     }
     Ok(())
 }

@@ -1,10 +1,20 @@
-//! The names of clocks, modes, writes and outcomes in a record's text.
+//! The names of versions, clocks, modes, writes and outcomes in a record's text.
 ghost use Rattle.std.specs.Prelude.{◌≡◌};
 ghost use Rattle.record_text.specs.Text.{counted_word, restart_word, write_ns, write_name};
-ghost use Rattle.record_text.specs.Words.{clock_word, mode_word};
+ghost use Rattle.record_text.specs.Words.{clock_word, mode_word, version_word};
 
+use crate::version::Version;
 use clock_model::Write;
 use ktime::{ClockId, Mode};
+
+pub(crate) fn version_word(version: Version) -> &'static str
+    ensures { result.now ≡ version_word version }
+{
+    match version {
+        Version::One => "1",
+        Version::Two => "2",
+    }
+}
 
 pub(crate) fn clock_word(clock: ClockId) -> &'static str
     ensures { result.now ≡ clock_word clock }

@@ -2,20 +2,21 @@
 ghost use Rattle.std.specs.Prelude.{◌≡◌, ◌≤◌, OnOk, IfOk};
 ghost use Rattle.script_text.specs.Forms.{row};
 ghost use Rattle.script_text.specs.Scripts.{most_calls};
-ghost use Rattle.script_text.specs.Drafts.{AreShort, IsWithinLimits, empty, script_of, with_call, with_header, draft_with_line, with_round, with_timer};
+ghost use Rattle.script_text.specs.Drafts.{AreShort, IsWithinLimits, empty, script_of, version_numbered, with_call, with_header, draft_with_line, with_round, with_timer};
 
 use crate::form::{Form, Line, Part, Value};
 use crate::reading::meaning::{call, declaration};
 use crate::script::{Declaration, LaneCall, Round, Script};
-use record_text::ItemList;
+use record_text::{ItemList, Version};
 use std::alloc::{AllocError, Global};
 
 /// What the lines so far have told: how many header lines there were and their numbers, the
-/// declared timers, the rounds that have ended and the calls of the one that has begun, and how
-/// many calls there were in all.
+/// version being 1 until its line is read; the declared timers, the rounds that have ended and the
+/// calls of the one that has begun, and how many calls there were in all.
 #[derive(Drop)]
 pub struct Draft {
     pub headers: u64,
+    pub version: Version,
     pub bases: u32,
     pub lanes: u32,
     pub limit: u64,
@@ -32,6 +33,7 @@ impl Draft {
     {
         Draft {
             headers: 0,
+            version: Version::One,
             bases: 0,
             lanes: 0,
             limit: 0,
@@ -66,6 +68,7 @@ impl Draft {
         ensures { IfOk result (λ s. s ≡ script_of self) }
     {
         let Draft {
+            version,
             bases,
             lanes,
             limit,
@@ -78,6 +81,7 @@ impl Draft {
             rounds.push(Round { calls })?;
         }
         Ok(Script {
+            version,
             bases,
             lanes,
             limit,
@@ -93,6 +97,7 @@ impl Draft {
         ensures { self.new ≡ with_header self.old form values.now }
     {
         match (form, values) {
+            (Form::Version, [Value::Number(n)]) => self.version = version_numbered(*n),
             (Form::Bases, [Value::Number(n)]) => self.bases = *n as u32,
             (Form::Lanes, [Value::Number(n)]) => self.lanes = *n as u32,
             (Form::Limit, [Value::Number(n)]) => self.limit = *n,
@@ -135,4 +140,14 @@ impl Draft {
         self.calls += 1;
         Ok(())
     }
+}
+
+/// The version of this number; the first where there is none.
+fn version_numbered(n: u64) -> Version
+    ensures { result ≡ version_numbered n }
+{
+    if n == 2 {
+        return Version::Two;
+    }
+    Version::One
 }

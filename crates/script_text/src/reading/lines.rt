@@ -9,7 +9,7 @@ use crate::reading::cutting::split_at;
 use crate::reading::forms::form;
 use crate::reading::words::value;
 use crate::refusal::Cause;
-use record_text::ItemList;
+use record_text::{ItemList, Version};
 use std::alloc::{AllocError, Global};
 
 /// What these words fill the fields of a form with.
@@ -64,10 +64,14 @@ fn has_empty_word(words: &[&[u8]]) -> bool
     words.iter().any(|word| word.is_empty())
 }
 
-/// The line that these bytes spell, or the first cause that refuses them and needs no line before
-/// them.
-pub fn read_line(alloc: Global, line: &[u8]) -> Result<Result<Line, Cause>, AllocError>
-    ensures { IfOk result (λ r. r ≡ line_in line.now) }
+/// The line that these bytes spell in this version, or the first cause that refuses them and needs
+/// no line before them.
+pub fn read_line(
+    alloc: Global,
+    version: Version,
+    line: &[u8],
+) -> Result<Result<Line, Cause>, AllocError>
+    ensures { IfOk result (λ r. r ≡ line_in version line.now) }
 {
     if has_bad_byte(line) {
         return Ok(Err(Cause::BadByte));
@@ -76,7 +80,7 @@ pub fn read_line(alloc: Global, line: &[u8]) -> Result<Result<Line, Cause>, Allo
     if has_empty_word(&words) {
         return Ok(Err(Cause::BadSpace));
     }
-    match form(&words) {
+    match form(version, &words) {
         Ok(form) => line_of_form(alloc, form, &words),
         Err(cause) => Ok(Err(cause)),
     }

@@ -1,16 +1,18 @@
 //! The declaration or the call that a line asks for.
-ghost use Rattle.std.specs.Prelude.{◌≡◌};
+ghost use Rattle.std.specs.Prelude.{◌≡◌, ◌⊎◌};
 ghost use Rattle.script_text.specs.Forms.{row};
 ghost use Rattle.script_text.specs.declared.form.Form.TheVariants as forms;
 ghost use Rattle.script_text.specs.declared.script.Kind.TheVariants as kinds;
+ghost use Rattle.seq_timer.specs.declared.context.Context.TheVariants as contexts;
 ghost use Rattle.script_text.specs.declared.script.Call.TheVariants as calls;
 ghost use Rattle.script_text.specs.Drafts.{AreShort, call_of, declaration_of, object_call_of, plain_call_of, timer_call_of};
 
 use crate::form::Form;
 use crate::form::Value::{self, Clock, Mode, Number};
-use crate::script::{Call, Callback, Declaration, Kind, LaneCall};
+use crate::script::{Call, Callback, Declaration, Kind, LaneCall, StartRequest};
 use clock_model::Write;
 use ktime::TimeSpec;
+use seq_timer::Context;
 
 /// What a declaration declares, by its form and values.
 #[tactic(auto, unfolding(crate::specs::Drafts::declaration_of))]
@@ -19,15 +21,20 @@ pub fn declaration(form: Form, values: &[Value]) -> Option<Declaration>
     ensures { result ≡ declaration_of form values.now }
 {
     let (clock, kind) = match (form, values) {
-        (Form::RawOnce, [Number(_), Clock(clock)]) => (clock, raw(Callback::Once)),
+        (Form::RawOnce, [Number(_), Clock(clock)]) => (clock, hard(Callback::Once)),
         (Form::RawEvery, [Number(_), Clock(clock), Number(interval)]) => {
             let interval = *interval;
-            (clock, raw(Callback::Every { interval }))
+            (clock, hard(Callback::Every { interval }))
         }
-        (Form::RawCancels, [Number(_), Clock(clock)]) => (clock, raw(Callback::Cancels)),
+        (Form::RawCancels, [Number(_), Clock(clock)]) => (clock, hard(Callback::Cancels)),
         (Form::RawStarts, [Number(_), Clock(clock), Number(ns), Number(base)]) => {
             let (ns, base) = (*ns, *base as u32);
-            (clock, raw(Callback::Starts { ns, base }))
+            (clock, hard(Callback::Starts { ns, base }))
+        }
+        (Form::SoftOnce, [Number(_), Clock(clock)]) => (clock, soft(Callback::Once)),
+        (Form::SoftEvery, [Number(_), Clock(clock), Number(interval)]) => {
+            let interval = *interval;
+            (clock, soft(Callback::Every { interval }))
         }
         (Form::Posix, [Number(_), Clock(clock), Number(base)]) => {
             let base = *base as u32;
@@ -43,10 +50,18 @@ pub fn declaration(form: Form, values: &[Value]) -> Option<Declaration>
     Some(Declaration { clock, kind })
 }
 
-fn raw(callback: Callback) -> Kind
-    ensures { result ≡ kinds.Raw callback }
+fn hard(callback: Callback) -> Kind
+    ensures { result ≡ kinds.Raw contexts.Hard callback }
 {
-    Kind::Raw { callback }
+    let context = Context::Hard;
+    Kind::Raw { context, callback }
+}
+
+fn soft(callback: Callback) -> Kind
+    ensures { result ≡ kinds.Raw contexts.Soft callback }
+{
+    let context = Context::Soft;
+    Kind::Raw { context, callback }
 }
 
 /// The call that a line asks for, and its lane, by its form and values.
@@ -65,6 +80,33 @@ fn plain_call(form: Form, values: &[Value]) -> Option<LaneCall>
     ensures { result ≡ plain_call_of form values.now }
 {
     let (lane, call) = match (form, values) {
+        (Form::Start | Form::StartRange, values) => return start(form, values),
+        (Form::Cancel | Form::Peek, [Number(lane), Number(timer)]) => {
+            (lane, timer_call(form, *timer as u32)?)
+        }
+        (Form::Expire, [Number(lane), Number(base), Number(budget)]) => {
+            (lane, expire(Context::Hard, *base as u32, *budget))
+        }
+        (Form::SoftExpire, [Number(lane), Number(base), Number(budget)]) => {
+            (lane, expire(Context::Soft, *base as u32, *budget))
+        }
+        (Form::Advance, [Number(lane), Number(by)]) => (lane, write(Write::Advance { by: *by })),
+        (Form::Set, [Number(lane), Number(to)]) => (lane, write(Write::Set { to: *to })),
+        (Form::Suspend, [Number(lane), Number(by)]) => (lane, write(Write::Suspend { by: *by })),
+        _ => return None,
+    };
+    let lane = *lane as u32;
+    Some(LaneCall { lane, call })
+}
+
+/// The start that a line of these values asks for, with a slack or without one.
+#[tactic(auto, unfolding(crate::specs::Drafts::plain_call_of))]
+fn start(form: Form, values: &[Value]) -> Option<LaneCall>
+    requires form { (form ≡ forms.Start) ⊎ (form ≡ forms.StartRange) }
+    requires short { AreShort (row form) values.now }
+    ensures { result ≡ plain_call_of form values.now }
+{
+    let (lane, timer, mode, ns, slack, base) = match (form, values) {
         (
             Form::Start,
             [
@@ -74,30 +116,39 @@ fn plain_call(form: Form, values: &[Value]) -> Option<LaneCall>
                 Number(ns),
                 Number(base),
             ],
-        ) => {
-            let (timer, mode, ns, base) = (*timer as u32, *mode, *ns, *base as u32);
-            let call = Call::Start {
-                timer,
-                mode,
-                ns,
-                base,
-            };
-            (lane, call)
-        }
-        (Form::Cancel | Form::Peek, [Number(lane), Number(timer)]) => {
-            (lane, timer_call(form, *timer as u32)?)
-        }
-        (Form::Expire, [Number(lane), Number(base), Number(budget)]) => {
-            let (base, budget) = (*base as u32, *budget);
-            (lane, Call::Expire { base, budget })
-        }
-        (Form::Advance, [Number(lane), Number(by)]) => (lane, write(Write::Advance { by: *by })),
-        (Form::Set, [Number(lane), Number(to)]) => (lane, write(Write::Set { to: *to })),
-        (Form::Suspend, [Number(lane), Number(by)]) => (lane, write(Write::Suspend { by: *by })),
+        ) => { (lane, timer, mode, ns, None, base) }
+        (
+            Form::StartRange,
+            [
+                Number(lane),
+                Number(timer),
+                Mode(mode),
+                Number(ns),
+                Number(slack),
+                Number(base),
+            ],
+        ) => (lane, timer, mode, ns, Some(*slack), base),
         _ => return None,
     };
-    let lane = *lane as u32;
+    let (lane, timer, mode, ns, base) = (*lane as u32, *timer as u32, *mode, *ns, *base as u32);
+    let request = StartRequest {
+        mode,
+        ns,
+        slack,
+        base,
+    };
+    let call = Call::Start { timer, request };
     Some(LaneCall { lane, call })
+}
+
+fn expire(context: Context, base: u32, budget: u64) -> Call
+    ensures { result ≡ calls.Expire context base budget }
+{
+    Call::Expire {
+        context,
+        base,
+        budget,
+    }
 }
 
 /// The call that a line of this form asks for, where it has the number of a timer and nothing else.

@@ -111,7 +111,7 @@ fn with_line(
     ensures read { IfOk result (λ r. r ≡ with_line_in draft line.now) }
     ensures room { IfOk result (λ r. IfOk r (λ d. IsWithinLimits d)) }
 {
-    let line = match read_line(alloc, line)? {
+    let line = match read_line(alloc, draft.version, line)? {
         Ok(line) => line,
         Err(cause) => return Ok(Err(cause)),
     };

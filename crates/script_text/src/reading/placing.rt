@@ -1,30 +1,61 @@
 //! The causes that refuse a line after the lines before it.
 ghost use Rattle.std.specs.Prelude.{◌≡◌};
 ghost use Rattle.script_text.specs.Forms.{row};
+ghost use Rattle.script_text.specs.Scripts.{most_bases, most_events, most_lanes, most_timers};
 ghost use Rattle.script_text.specs.Refusals.{check_line, check_count, check_kind, check_number, check_value, check_values, is_placed, drafted_kind};
 
 use crate::form::{Field, Form, Line, Part, Value};
 use crate::reading::drafts::Draft;
 use crate::refusal::Cause;
 use crate::script::{Callback, Kind};
-
-/// How many timers may be declared.
-const MOST_TIMERS: usize = 256;
+use record_text::Version;
+use seq_timer::Context;
 
 /// How many call lines a script may have.
 const MOST_CALLS: u64 = 65536;
 
-/// How many bases a script may have.
-const MOST_BASES: u64 = 8;
-
-/// How many lanes a script may have.
-const MOST_LANES: u64 = 16;
-
-/// The greatest limit on a timer's entries.
-const MOST_EVENTS: u64 = (1 << 48) - 16;
-
 /// How many timers one expire may claim.
 const MOST_BUDGET: u64 = 4096;
+
+/// How many bases a script of a version may have.
+fn most_bases(version: Version) -> u64
+    ensures { result ≡ most_bases version }
+{
+    match version {
+        Version::One => 8,
+        Version::Two => 64,
+    }
+}
+
+/// How many lanes a script of a version may have.
+fn most_lanes(version: Version) -> u64
+    ensures { result ≡ most_lanes version }
+{
+    match version {
+        Version::One => 16,
+        Version::Two => 64,
+    }
+}
+
+/// How many timers a script of a version may declare.
+fn most_timers(version: Version) -> usize
+    ensures { result ≡ most_timers version }
+{
+    match version {
+        Version::One => 256,
+        Version::Two => 4096,
+    }
+}
+
+/// The greatest limit on a timer's entries in a script of a version.
+fn most_events(version: Version) -> u64
+    ensures { result ≡ most_events version }
+{
+    match version {
+        Version::One => (1 << 48) - 16,
+        Version::Two => (1 << 48) - 2048,
+    }
+}
 
 /// The first cause that refuses a line that was read by itself.
 #[tactic(auto, unfolding(crate::specs::Refusals::check_line))]
@@ -64,7 +95,7 @@ fn check_count(draft: &Draft, part: Part) -> Option<Cause>
     ensures { result ≡ check_count draft.now part }
 {
     match part {
-        Part::Declaration if draft.timers.as_slice().len() >= MOST_TIMERS => {
+        Part::Declaration if draft.timers.as_slice().len() >= most_timers(draft.version) => {
             Some(Cause::TimerLimit)
         }
         Part::Call if draft.calls >= MOST_CALLS => Some(Cause::CallLimit),
@@ -79,12 +110,12 @@ fn check_number(draft: &Draft, field: Field, n: u64) -> Option<Cause>
 {
     let timers = draft.timers.as_slice().len() as u64;
     match field {
-        Field::Version if n != 1 => Some(Cause::Version),
-        Field::Bases if n < 1 || n > MOST_BASES => Some(Cause::BaseLimit),
+        Field::Version if n != 1 && n != 2 => Some(Cause::Version),
+        Field::Bases if n < 1 || n > most_bases(draft.version) => Some(Cause::BaseLimit),
         Field::Base if n >= u64::from(draft.bases) => Some(Cause::BaseLimit),
-        Field::Lanes if n < 1 || n > MOST_LANES => Some(Cause::LaneLimit),
+        Field::Lanes if n < 1 || n > most_lanes(draft.version) => Some(Cause::LaneLimit),
         Field::Lane if n >= u64::from(draft.lanes) => Some(Cause::LaneLimit),
-        Field::Limit if n < 1 || n > MOST_EVENTS => Some(Cause::EventLimit),
+        Field::Limit if n < 1 || n > most_events(draft.version) => Some(Cause::EventLimit),
         Field::NewTimer if n != timers => Some(Cause::BadId),
         Field::Timer if n >= timers => Some(Cause::NoTimer),
         Field::Budget if n > MOST_BUDGET => Some(Cause::BudgetLimit),
@@ -129,6 +160,7 @@ fn drafted_kind(draft: &Draft, timer: u64) -> Kind
     match draft.timers.as_slice().get(timer as usize) {
         Some(declared) => declared.kind,
         None => Kind::Raw {
+            context: Context::Hard,
             callback: Callback::Once,
         },
     }

@@ -4,7 +4,7 @@ ghost use Rattle.hr_timers.specs.Known.{OwnsClaim, IsPassOf};
 ghost use Rattle.expire_pass.specs.Handlers.{KeepsPass};
 
 use crate::OneShot;
-use expire_pass::{ExpireAnswer, Handler, Log, Restart, expire};
+use expire_pass::{ExpireAnswer, Handler, Log, Restart, expire, expire_soft};
 use hr_timers::{Claim, Pass, StartAnswer, Timers};
 use ktime::{Mode, Reading};
 use std::sync::Wait;
@@ -174,6 +174,38 @@ impl Handler for OwnBase {
             &mut self.log,
         );
         self.told = Some(told);
+        Restart::Stop
+    }
+}
+
+/// Its function makes a soft expiry run of base 0, and then a hard one, of at most four timers each.
+#[derive(Drop)]
+pub struct BothRuns {
+    pub log: Log,
+    pub soft: Option<ExpireAnswer>,
+    pub hard: Option<ExpireAnswer>,
+}
+
+impl Handler for BothRuns {
+    ghost use Rattle.std.specs.Prelude.{nat_le, if◌then◌else◌};
+
+    ghost meaning = { record { did = λ o h h' k k' c reading restart. Unit; ready = λ h. if nat_le 16 h.log.spare then 1 else 0; timers = λ h. 65536; bases = λ h. 1 } };
+
+    fn fire<R: Wait>(
+        &mut self,
+        rt: &R,
+        timers: &Timers,
+        pass: &mut Pass,
+        _claim: &Claim,
+        reading: Reading,
+    ) -> Restart {
+        let mut function = OneShot { ran: None };
+        let log = &mut self.log;
+        let soft = expire_soft(rt, timers, pass, 0, reading, 4, &mut function, log);
+        let log = &mut self.log;
+        let hard = expire(rt, timers, pass, 0, reading, 4, &mut function, log);
+        self.soft = Some(soft);
+        self.hard = Some(hard);
         Restart::Stop
     }
 }

@@ -1,5 +1,5 @@
 //! The callers, each run by one pass.
-use super::{assert_equal, some_timers};
+use super::{assert_equal, moved, some_timers};
 use crate::{Stopped, Tick, expire_once, expire_periodic, start_once, stop_and_wait, stop_now};
 use expire_pass::{Noted, Receipt};
 use ktime::Reading;
@@ -48,8 +48,7 @@ fn a_periodic_timer_ticks(rt: HostRuntime) -> Result<(), Fail> {
     start_once(&rt, &timers, &mut pass, 0, 100, 0, Reading::at(0));
     let late = Tick {
         timer: 0,
-        count: 4,
-        expires: 140,
+        moved: moved(4, 140),
     };
     let told = expire_periodic(&rt, &timers, &mut pass, 0, Reading::at(135), 10, &mut log);
     assert_equal(&rt, told, Some(late));
@@ -57,8 +56,7 @@ fn a_periodic_timer_ticks(rt: HostRuntime) -> Result<(), Fail> {
     assert_equal(&rt, told, None);
     let next = Tick {
         timer: 0,
-        count: 1,
-        expires: 150,
+        moved: moved(1, 150),
     };
     let told = expire_periodic(&rt, &timers, &mut pass, 0, Reading::at(140), 10, &mut log);
     assert_equal(&rt, told, Some(next));

@@ -2,9 +2,9 @@
 ghost use Rattle.std.specs.Prelude.{◌≡◌, ◌<◌, ◌≤◌, [], length};
 ghost use Rattle.hr_timers.specs.Known.{IsPassOf};
 
-use super::{assert_equal, some_timers};
+use super::{assert_equal, kept, some_timers};
 use hr_timers::{ClaimAnswer, Pass, StartAnswer, Timers};
-use ktime::{ClockId, Mode, Reading};
+use ktime::{Mode, Reading};
 use seq_timer::Peek;
 use std::sync::Wait;
 use std::test::Fail;
@@ -67,10 +67,8 @@ fn expected(base: u32) -> Ninth
         started: StartAnswer::Started {
             was_armed: false,
             generation: number,
-            base,
             outs: if base == 0 { 0 } else { 1 << base },
-            clock: ClockId::Monotonic,
-            expires: 0,
+            placement: kept(base, 0),
         },
         busy: Some((base, if base == 0 { 1 } else { 2 })),
         peek: Peek {

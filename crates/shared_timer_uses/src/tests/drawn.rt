@@ -9,7 +9,7 @@ use super::{assert_equal, some_timers};
 use expire_pass::{ExpireAnswer, Log, Restart, expire};
 use hr_timers::{Pass, StartAnswer, Timers};
 use ktime::{ClockId, Mode, Reading};
-use seq_timer::{Event, Reply};
+use seq_timer::{Declared, Event, Placement, Reply};
 use std::alloc::{AllocError, Global};
 use std::sync::Wait;
 use std::test::Fail;
@@ -55,8 +55,8 @@ fn drawn(x: u64) -> (Call, u64)
 #[derive(Clone, Copy, Debug, PartialEq, Eq)]
 enum Told {
     Cancel(CancelAnswer),
-    /// Whether it was armed, the generation, the base, the bases that it was moved to, and the expiry.
-    Started(bool, u64, u32, u64, u64),
+    /// Whether it was armed, the generation, the bases that it was moved to, and how it is kept.
+    Started(bool, u64, u64, Placement),
     Spent(u64),
     Expire(ExpireAnswer),
 }
@@ -156,11 +156,9 @@ fn start_on_core(core: &mut Core<ListQueue>, call: Call, reading: Reading) -> To
         timer_core::StartAnswer::Started {
             was_armed,
             generation,
-            base,
             moved_to,
-            clock: _,
-            expires,
-        } => Told::Started(was_armed, generation, base, bit_of(moved_to), expires),
+            placement,
+        } => Told::Started(was_armed, generation, bit_of(moved_to), placement),
         timer_core::StartAnswer::Spent { stamp } => Told::Spent(stamp),
     }
 }
@@ -215,11 +213,9 @@ fn start_on_timers<R: Wait>(
         StartAnswer::Started {
             was_armed,
             generation,
-            base,
             outs,
-            clock: _,
-            expires,
-        } => Told::Started(was_armed, generation, base, outs, expires),
+            placement,
+        } => Told::Started(was_armed, generation, outs, placement),
         StartAnswer::Spent { stamp } => Told::Spent(stamp),
     }
 }
@@ -295,8 +291,8 @@ fn call_often<R: Wait>(
 
 #[test]
 fn drawn_calls_are_answered_as_on_one_thread(rt: HostRuntime) -> Result<(), Fail> {
-    let clocks = [ClockId::Monotonic; 4];
-    let mut core = Core::<ListQueue>::make(rt.alloc(), 2, &clocks, 100000)?;
+    let clocks = [Declared::hard(ClockId::Monotonic); 4];
+    let mut core = Core::<ListQueue>::make_full(rt.alloc(), 2, &clocks, 100000)?;
     let (timers, mut pass, _log) = some_timers(rt.alloc(), 2, 4)?;
     let told = call_often(&rt, rt.alloc(), &mut core, &timers, &mut pass);
     timers.close(pass);

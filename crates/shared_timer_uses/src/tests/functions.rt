@@ -1,10 +1,10 @@
 //! Expiry runs: which functions run, and what a function does to timers while it runs.
 use super::acting::{Act, Acting, OwnBase, Told};
-use super::{assert_equal, some_timers};
+use super::{assert_equal, kept, moved, some_timers};
 use crate::{OneShot, Periodic, Tick};
 use expire_pass::{ExpireAnswer, Log, Noted, Restart, expire};
 use hr_timers::StartAnswer;
-use ktime::{ClockId, Mode, Reading};
+use ktime::{Mode, Reading};
 use seq_timer::{Peek, Rearmed, Reply};
 use std::alloc::{AllocError, Global};
 use std::process::Abort;
@@ -103,8 +103,7 @@ fn periodic_functions_are_armed_again(rt: HostRuntime) -> Result<(), Fail> {
     assert_equal(&rt, ran, ExpireAnswer::Done { fired: 2 });
     let last = Tick {
         timer: 0,
-        count: 1,
-        expires: 150,
+        moved: moved(1, 150),
     };
     assert_equal(&rt, function.tick, Some(last));
     assert!(rt; timers.peek(&mut pass, 0).enqueued);
@@ -132,10 +131,8 @@ fn a_function_starts_its_own_timer_again(rt: HostRuntime) -> Result<(), Fail> {
     let started = StartAnswer::Started {
         was_armed: false,
         generation: 3,
-        base: 0,
         outs: 0,
-        clock: ClockId::Monotonic,
-        expires: 1050,
+        placement: kept(0, 1050),
     };
     assert_equal(&rt, ran.told, Told::Start(started));
     let finished = Reply::Finish {

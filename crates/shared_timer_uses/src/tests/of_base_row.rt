@@ -7,26 +7,30 @@ ghost use Rattle.base_row.specs.Rests.{Rests};
 mod callers;
 mod threads;
 
-use super::assert_equal;
+use super::{HARD, SOFT, assert_equal};
 use base_row::{BaseRow, Pass};
 use callers::{cancel, move_to, run, start};
 use ktime::{ClockId, Reading};
+use seq_timer::{Context, Declared, Peek, Terms};
 use std::alloc::{AllocError, Global};
 use std::test::Fail;
 use threads::turns_of_two;
-use timer_word::TimerWord;
 
 /// Two bases and three timers, one on each clock.
 fn three_timers(alloc: Global) -> Result<(BaseRow, Pass), AllocError>
     ensures row { IfOk result (λ r. IsBasePassOf r.0 r.1 × Rests r.1.knows × IsLast r.1.knows.id × (r.1.knows.claims ≡ [])) }
     ensures size { IfOk result (λ r. (length r.0.about.timers ≡ 3) × (r.0.about.bases ≡ 2)) }
 {
-    let clocks = [ClockId::Monotonic, ClockId::Realtime, ClockId::Boottime];
-    BaseRow::make(alloc, 2, &clocks, 100000)
+    let timers = [
+        Declared::hard(ClockId::Monotonic),
+        Declared::hard(ClockId::Realtime),
+        Declared::hard(ClockId::Boottime),
+    ];
+    BaseRow::make(alloc, 2, &timers, Terms::limited(100000))
 }
 
-fn word(stamp: u64, base: u32, enqueued: bool) -> TimerWord {
-    TimerWord {
+fn word(stamp: u64, base: u32, enqueued: bool) -> Peek {
+    Peek {
         stamp,
         base,
         enqueued,
@@ -53,12 +57,29 @@ fn a_timer_starts_moves_and_is_cancelled(rt: HostRuntime) -> Result<(), Fail> {
 fn a_due_timer_is_claimed_and_finished(rt: HostRuntime) -> Result<(), Fail> {
     let (row, mut pass) = three_timers(rt.alloc())?;
     assert!(rt; start(&rt, &row, &mut pass, 0, 1, 500, Reading::at(1000)));
-    assert!(rt; !run(&rt, &row, &mut pass, 1, Reading::at(1000)));
+    assert!(rt; !run(&rt, &row, &mut pass, 1, Context::Hard, Reading::at(1000)));
     assert_equal(&rt, row.load_word(&mut pass, 1), word(1, 0, true));
-    assert!(rt; run(&rt, &row, &mut pass, 0, Reading::at(1000)));
+    assert!(rt; run(&rt, &row, &mut pass, 0, Context::Hard, Reading::at(1000)));
     assert_equal(&rt, row.load_word(&mut pass, 1), word(3, 0, false));
-    assert!(rt; !run(&rt, &row, &mut pass, 0, Reading::at(1000)));
+    assert!(rt; !run(&rt, &row, &mut pass, 0, Context::Hard, Reading::at(1000)));
     assert_equal(&rt, row.load_word(&mut pass, 1), word(3, 0, false));
+    row.close(pass);
+    Ok(())
+}
+
+#[test]
+fn a_claim_is_of_a_timer_of_its_context(rt: HostRuntime) -> Result<(), Fail> {
+    let (row, mut pass) = BaseRow::make(rt.alloc(), 1, &[HARD, SOFT], Terms::limited(100))?;
+    let now = Reading::at(1000);
+    assert!(rt; start(&rt, &row, &mut pass, 0, 0, 500, now));
+    assert!(rt; start(&rt, &row, &mut pass, 0, 1, 500, now));
+    assert!(rt; run(&rt, &row, &mut pass, 0, Context::Soft, now));
+    assert!(rt; !run(&rt, &row, &mut pass, 0, Context::Soft, now));
+    assert_equal(&rt, row.load_word(&mut pass, 0), word(1, 0, true));
+    assert_equal(&rt, row.load_word(&mut pass, 1), word(3, 0, false));
+    assert!(rt; run(&rt, &row, &mut pass, 0, Context::Hard, now));
+    assert!(rt; !run(&rt, &row, &mut pass, 0, Context::Hard, now));
+    assert_equal(&rt, row.load_word(&mut pass, 0), word(3, 0, false));
     row.close(pass);
     Ok(())
 }

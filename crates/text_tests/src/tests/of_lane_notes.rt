@@ -5,8 +5,8 @@ use expire_pass::{Noted, Receipt};
 use ktime::{ClockId, Mode, Reading};
 use lane_notes::{Notes, note_object_receipts, note_receipts, record_of};
 use posix_timer::{AcceptAnswer, Arm, SettimeAnswer, SettimeCall, TriggerAnswer};
-use record_text::{ClockLine, Label};
-use seq_timer::{Event, Observation, Rearmed, Reply};
+use record_text::{ClockLine, Label, Version};
+use seq_timer::{Asked, Event, Moved, Observation, Placement, Rearmed, Reply};
 use std::alloc::{AllocError, Global};
 use std::process::Abort;
 use timer_fd::{GettimeAnswer, ReadAnswer};
@@ -16,20 +16,25 @@ fn label(lane: u32, call: u32) -> Label {
     Label { lane, call }
 }
 
-fn start(timer: u32, number: u64, was_armed: bool) -> Receipt {
-    let event = Event::Start {
+fn start(timer: u32, number: u64, slack: u64, was_armed: bool) -> Receipt {
+    let asked = Asked {
         mode: Mode::Abs,
         ns: 100,
+        slack,
         reading: Reading::at(7),
-        asked: 2,
+        base: 2,
     };
-    let reply = Reply::Start {
+    let placement = Placement {
         base: 2,
         clock: ClockId::Monotonic,
-        expires: 100,
+        soft: 100,
+        expires: slack.saturating_add(100),
+    };
+    let reply = Reply::Start {
+        placement,
         was_armed,
     };
-    entry(timer, number, event, reply)
+    entry(timer, number, Event::Start(asked), reply)
 }
 
 fn finish(number: u64, generation: u64, rearmed: Rearmed) -> Receipt {
@@ -58,16 +63,17 @@ fn claim(number: u64) -> Receipt {
     entry(0, number, event, Reply::Claim { generation: 1 })
 }
 
-fn forward(number: u64) -> Receipt {
+fn forward(number: u64, soft: u64, expires: u64) -> Receipt {
     let event = Event::Forward {
         reading: Reading::at(101),
         interval: 50,
     };
-    let reply = Reply::Forward {
+    let moved = Moved {
         count: 1,
-        expires: 150,
+        soft,
+        expires,
     };
-    entry(0, number, event, reply)
+    entry(0, number, event, Reply::Forward { moved })
 }
 
 fn look(timer: u32, number: u64, observation: Observation) -> Receipt {
@@ -198,15 +204,16 @@ fn trigger(number: u64, generation: u64, answer: TriggerAnswer) -> ObjectReceipt
     )
 }
 
-/// Compares the text of the record that notes make.
+/// Compares the text of the record of this version that notes make.
 fn shows(
     rt: &impl Abort,
     alloc: Global,
+    version: Version,
     notes: Notes,
     timers: usize,
     want: &str,
 ) -> Result<(), AllocError> {
-    let record = record_of(alloc, notes, timers, Vec::new(alloc))?;
+    let record = record_of(alloc, version, notes, timers, Vec::new(alloc))?;
     shows_record(rt, alloc, &record, want)
 }
 
@@ -230,10 +237,10 @@ fn second_lane(alloc: Global) -> Result<Notes, AllocError> {
     notes.note_write(1, write(5, 3))?;
     let receipts = [
         look(0, 2, Observation::Spent),
-        start(0, 1, false),
-        forward(3),
-        start(1, 1, true),
-        start(7, 1, true),
+        start(0, 1, 0, false),
+        forward(3, 150, 150),
+        start(1, 1, 0, true),
+        start(7, 1, 0, true),
     ];
     note_receipts(&mut notes, label(0, 5), &receipts)?;
     Ok(notes)
@@ -257,7 +264,22 @@ timer 0 4 1 0 finish again 1 4
 timer 1 1 0 5 start abs 100 0 2 2 monotonic 100 1
 end
 ";
-    shows(&rt, rt.alloc(), notes, 2, want)
+    shows(&rt, rt.alloc(), Version::One, notes, 2, want)
+}
+
+#[test]
+fn a_note_has_the_slack_and_the_soft_expiry(rt: HostRuntime) -> Result<(), AllocError> {
+    let mut notes = Notes::new(rt.alloc());
+    let receipts = [start(0, 1, 50, false), claim(2), forward(3, 150, 200)];
+    note_receipts(&mut notes, label(0, 5), &receipts)?;
+    let want = "\
+record 2
+timer 0 1 0 5 start abs 100 50 0 2 2 monotonic 100 150 0
+timer 0 2 0 5 claim 2 0 1
+timer 0 3 0 5 forward 0 50 1 150 200
+end
+";
+    shows(&rt, rt.alloc(), Version::Two, notes, 1, want)
 }
 
 #[test]
@@ -276,7 +298,7 @@ object 1 3 1 4 accept 0 5 accepted 2
 skip 1 3 1 4 5
 end
 ";
-    shows(&rt, rt.alloc(), notes, 2, want)
+    shows(&rt, rt.alloc(), Version::One, notes, 2, want)
 }
 
 #[test]
@@ -284,5 +306,5 @@ fn what_does_not_belong_together_is_not_noted(rt: HostRuntime) -> Result<(), All
     let mut notes = Notes::new(rt.alloc());
     let receipts = [entry(0, 1, Event::Cancel, Reply::Out { was_armed: true })];
     note_receipts(&mut notes, label(0, 0), &receipts)?;
-    shows(&rt, rt.alloc(), notes, 1, "record 1\nend\n")
+    shows(&rt, rt.alloc(), Version::One, notes, 1, "record 1\nend\n")
 }

@@ -2,13 +2,14 @@
 use clock_model::Write;
 use ktime::{ClockId, Mode};
 use record_text::{
-    Answer, CallbackReply, ClockLine, Entry, ItemList, Label, Look, ObjectLine, Restart, RunRecord,
-    TimerLine, text, text_determines_the_record,
+    Answer, CallbackReply, ClockLine, Entry, ForwardLine, ItemList, Label, Look, ObjectLine,
+    Restart, RunRecord, StartLine, TimerLine, Version, text, text_determines_the_record,
 };
 use std::alloc::{AllocError, Global};
 use std::process::Abort;
 
 mod objects;
+mod versions;
 
 const FIRST: Label = Label { lane: 0, call: 0 };
 
@@ -27,6 +28,7 @@ pub(crate) fn without_timers(
     answers: ItemList<ItemList<Answer>>,
 ) -> RunRecord {
     RunRecord {
+        version: Version::One,
         clock: ItemList::new(alloc),
         timers: ItemList::new(alloc),
         objects,
@@ -69,16 +71,18 @@ pub(crate) fn timer_lines(
 const ONE_SHOT: [(Label, Entry); 3] = [
     (
         FIRST,
-        Entry::Start {
+        Entry::Start(StartLine {
             mode: Mode::Rel,
             ns: 100,
+            slack: 0,
             reading: 0,
             asked: 0,
             base: 0,
             clock: ClockId::Monotonic,
+            soft: 100,
             expires: 100,
             was_armed: false,
-        },
+        }),
     ),
     (
         Label { lane: 0, call: 2 },
@@ -151,6 +155,7 @@ fn a_one_shot_timer_expires_once(rt: HostRuntime) -> Result<(), AllocError> {
     let lane = one_shot_answers(alloc)?;
     let answers = one(alloc, lane)?;
     let record = RunRecord {
+        version: Version::One,
         clock,
         timers,
         objects: ItemList::new(alloc),
@@ -179,25 +184,28 @@ const MOVED: Entry = Entry::Out {
     was_armed: true,
 };
 
-const LOOKED_AT: Entry = Entry::Start {
+const LOOKED_AT: Entry = Entry::Start(StartLine {
     mode: Mode::Keep,
     ns: 9,
+    slack: 0,
     reading: 8,
     asked: 2,
     base: 1,
     clock: ClockId::Boottime,
+    soft: 70,
     expires: 70,
     was_armed: true,
-};
+});
 
 const LATER: [Entry; 4] = [
     Entry::Cancel { generation: 2 },
-    Entry::Forward {
+    Entry::Forward(ForwardLine {
         reading: 6,
         interval: 10,
         count: 3,
+        soft: 100,
         expires: 100,
-    },
+    }),
     Entry::Finish {
         restart: true,
         generation: 2,
@@ -259,6 +267,7 @@ fn looks_follow_their_entry(rt: HostRuntime) -> Result<(), AllocError> {
     let busy = busy_timer(alloc)?;
     let timers = ItemList::from_vec(vec![in alloc; ItemList::new(alloc), busy]?);
     let record = RunRecord {
+        version: Version::One,
         clock,
         timers,
         objects: ItemList::new(alloc),

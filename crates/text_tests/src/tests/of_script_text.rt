@@ -4,3 +4,4 @@ mod generating;
 mod lines;
 mod reading;
 mod summing;
+mod versions;

@@ -2,9 +2,9 @@
 ghost use Rattle.std.specs.Prelude.{◌<◌, length, IsSome};
 ghost use Rattle.timer_core.specs.Kept.{IsSameSize, timer_in};
 
-use super::assert_equal;
+use super::{MONOTONIC, SOFT, assert_equal, kept};
 use ktime::{ClockId, Mode, Reading};
-use seq_timer::{Peek, Rearmed};
+use seq_timer::{Context, Declared, Moved, Peek, Placement, Rearmed};
 use std::alloc::AllocError;
 use std::process::Abort;
 use timer_core::{
@@ -41,16 +41,14 @@ fn started(was_armed: bool, generation: u64, expires: u64) -> StartAnswer {
     StartAnswer::Started {
         was_armed,
         generation,
-        base: 0,
         moved_to: None,
-        clock: ClockId::Monotonic,
-        expires,
+        placement: kept(0, expires),
     }
 }
 
 #[test]
 fn a_timer_runs_once(rt: HostRuntime) -> Result<(), AllocError> {
-    let mut core = Core::<ListQueue>::make(rt.alloc(), 1, &[ClockId::Monotonic], 100)?;
+    let mut core = Core::<ListQueue>::make_full(rt.alloc(), 1, &[MONOTONIC], 100)?;
     let answer = core.start(0, Mode::Rel, 100, 0, Reading::at(0));
     assert_equal(&rt, answer, started(false, 1, 100));
     assert_equal(
@@ -58,7 +56,11 @@ fn a_timer_runs_once(rt: HostRuntime) -> Result<(), AllocError> {
         core.claim_next(0, Reading::at(99)),
         ClaimAnswer::NoneDue,
     );
-    assert_equal(&rt, core.first(0, Reading::at(100)), Some((100, 0)));
+    assert_equal(
+        &rt,
+        core.first(Context::Hard, 0, Reading::at(100)),
+        Some((100, 0)),
+    );
     let claimed = core.claim_next(0, Reading::at(100));
     let first = ClaimAnswer::Claimed {
         timer: 0,
@@ -66,7 +68,7 @@ fn a_timer_runs_once(rt: HostRuntime) -> Result<(), AllocError> {
         number: 2,
     };
     assert_equal(&rt, claimed, first);
-    assert_equal(&rt, core.running(0), Some((0, 1)));
+    assert_equal(&rt, core.running(Context::Hard, 0), Some((0, 1)));
     let busy = ClaimAnswer::BaseBusy {
         timer: 0,
         generation: 1,
@@ -77,7 +79,7 @@ fn a_timer_runs_once(rt: HostRuntime) -> Result<(), AllocError> {
 
 #[test]
 fn a_timer_that_has_run_is_idle(rt: HostRuntime) -> Result<(), AllocError> {
-    let mut core = Core::<ListQueue>::make(rt.alloc(), 1, &[ClockId::Monotonic], 100)?;
+    let mut core = Core::<ListQueue>::make_full(rt.alloc(), 1, &[MONOTONIC], 100)?;
     core.start(0, Mode::Rel, 100, 0, Reading::at(0));
     let timer = claim(&rt, &mut core, 0, Reading::at(100));
     let finished = Finished {
@@ -85,7 +87,7 @@ fn a_timer_that_has_run_is_idle(rt: HostRuntime) -> Result<(), AllocError> {
         rearmed: Rearmed::No,
     };
     assert_equal(&rt, core.finish(timer, false), finished);
-    assert_equal(&rt, core.running(0), None);
+    assert_equal(&rt, core.running(Context::Hard, 0), None);
     assert_equal(&rt, core.try_to_cancel(0), CancelAnswer::Idle { stamp: 3 });
     let idle = Peek {
         stamp: 3,
@@ -102,7 +104,7 @@ fn a_timer_that_has_run_is_idle(rt: HostRuntime) -> Result<(), AllocError> {
 
 #[test]
 fn equal_expiries_leave_in_the_order_of_arming(rt: HostRuntime) -> Result<(), AllocError> {
-    let mut core = Core::<ListQueue>::make(rt.alloc(), 1, &[ClockId::Monotonic; 3], 100)?;
+    let mut core = Core::<ListQueue>::make_full(rt.alloc(), 1, &[MONOTONIC; 3], 100)?;
     core.start(2, Mode::Abs, 100, 0, Reading::at(0));
     core.start(0, Mode::Abs, 100, 0, Reading::at(0));
     core.start(1, Mode::Abs, 100, 0, Reading::at(0));
@@ -122,7 +124,7 @@ fn equal_expiries_leave_in_the_order_of_arming(rt: HostRuntime) -> Result<(), Al
 fn a_start_in_the_callback_stands_though_the_function_runs(
     rt: HostRuntime,
 ) -> Result<(), AllocError> {
-    let mut core = Core::<ListQueue>::make(rt.alloc(), 2, &[ClockId::Monotonic], 100)?;
+    let mut core = Core::<ListQueue>::make_full(rt.alloc(), 2, &[MONOTONIC], 100)?;
     core.start(0, Mode::Abs, 0, 0, Reading::at(0));
     let timer = claim(&rt, &mut core, 0, Reading::at(0));
     let answer = core.start(timer, Mode::Rel, 50, 1, Reading::at(0));
@@ -148,19 +150,21 @@ fn a_start_in_the_callback_stands_though_the_function_runs(
 
 #[test]
 fn a_start_moves_an_armed_timer(rt: HostRuntime) -> Result<(), AllocError> {
-    let mut core = Core::<ListQueue>::make(rt.alloc(), 2, &[ClockId::Monotonic], 100)?;
+    let mut core = Core::<ListQueue>::make_full(rt.alloc(), 2, &[MONOTONIC], 100)?;
     core.start(0, Mode::Abs, 50, 0, Reading::at(0));
     let moved = StartAnswer::Started {
         was_armed: true,
         generation: 3,
-        base: 1,
         moved_to: Some(1),
-        clock: ClockId::Monotonic,
-        expires: 70,
+        placement: kept(1, 70),
     };
     assert_equal(&rt, core.start(0, Mode::Rel, 70, 1, Reading::at(0)), moved);
-    assert_equal(&rt, core.first(0, Reading::at(100)), None);
-    assert_equal(&rt, core.first(1, Reading::at(100)), Some((70, 0)));
+    assert_equal(&rt, core.first(Context::Hard, 0, Reading::at(100)), None);
+    assert_equal(
+        &rt,
+        core.first(Context::Hard, 1, Reading::at(100)),
+        Some((70, 0)),
+    );
     let cancelled = CancelAnswer::Cancelled {
         generation: 3,
         number: 4,
@@ -171,13 +175,21 @@ fn a_start_moves_an_armed_timer(rt: HostRuntime) -> Result<(), AllocError> {
 
 #[test]
 fn a_periodic_timer_is_forwarded_and_armed_again(rt: HostRuntime) -> Result<(), AllocError> {
-    let mut core = Core::<ListQueue>::make(rt.alloc(), 1, &[ClockId::Boottime], 100)?;
+    let mut core = Core::<ListQueue>::make_full(
+        rt.alloc(),
+        1,
+        &[Declared::hard(ClockId::Boottime)],
+        100,
+    )?;
     core.start(0, Mode::Rel, 100, 0, Reading::at(0));
     let timer = claim(&rt, &mut core, 0, Reading::at(130));
     let forwarded = ForwardAnswer::Forwarded {
         number: 3,
-        count: 4,
-        expires: 140,
+        moved: Moved {
+            count: 4,
+            soft: 140,
+            expires: 140,
+        },
     };
     assert_equal(&rt, core.forward(timer, Reading::at(130), 10), forwarded);
     let finished = Finished {
@@ -185,7 +197,11 @@ fn a_periodic_timer_is_forwarded_and_armed_again(rt: HostRuntime) -> Result<(), 
         rearmed: Rearmed::Again { generation: 4 },
     };
     assert_equal(&rt, core.finish(timer, true), finished);
-    assert_equal(&rt, core.first(0, Reading::at(140)), Some((140, 0)));
+    assert_equal(
+        &rt,
+        core.first(Context::Hard, 0, Reading::at(140)),
+        Some((140, 0)),
+    );
     Ok(())
 }
 
@@ -193,7 +209,12 @@ fn a_periodic_timer_is_forwarded_and_armed_again(rt: HostRuntime) -> Result<(), 
 fn a_relative_time_of_day_expires_by_the_monotonic_clock(
     rt: HostRuntime,
 ) -> Result<(), AllocError> {
-    let mut core = Core::<ListQueue>::make(rt.alloc(), 1, &[ClockId::Realtime; 2], 100)?;
+    let mut core = Core::<ListQueue>::make_full(
+        rt.alloc(),
+        1,
+        &[Declared::hard(ClockId::Realtime); 2],
+        100,
+    )?;
     core.start(0, Mode::Abs, 1000, 0, Reading::at(0));
     core.start(1, Mode::Rel, 1000, 0, Reading::at(0));
     let set = Reading {
@@ -218,7 +239,7 @@ fn a_relative_time_of_day_expires_by_the_monotonic_clock(
 
 #[test]
 fn the_limit_on_entries_refuses_a_start_and_a_restart(rt: HostRuntime) -> Result<(), AllocError> {
-    let mut core = Core::<ListQueue>::make(rt.alloc(), 2, &[ClockId::Monotonic], 2)?;
+    let mut core = Core::<ListQueue>::make_full(rt.alloc(), 2, &[MONOTONIC], 2)?;
     core.start(0, Mode::Rel, 0, 0, Reading::at(0));
     core.start(0, Mode::Rel, 0, 1, Reading::at(0));
     let spent = StartAnswer::Spent { stamp: 3 };
@@ -231,5 +252,61 @@ fn the_limit_on_entries_refuses_a_start_and_a_restart(rt: HostRuntime) -> Result
         rearmed: Rearmed::Spent { stamp: 4 },
     };
     assert_equal(&rt, core.finish(timer, true), finished);
+    Ok(())
+}
+
+/// What a claim of a timer's first generation answers.
+fn claimed(timer: u32, number: u64) -> ClaimAnswer {
+    ClaimAnswer::Claimed {
+        timer,
+        generation: 1,
+        number,
+    }
+}
+
+#[test]
+fn slack_lets_a_timer_wait_for_another(rt: HostRuntime) -> Result<(), AllocError> {
+    let mut core = Core::<ListQueue>::make_full(rt.alloc(), 1, &[MONOTONIC; 2], 100)?;
+    let answer = core.start_range(0, Mode::Abs, 100, 50, 0, Reading::at(0));
+    let placement = Placement {
+        base: 0,
+        clock: ClockId::Monotonic,
+        soft: 100,
+        expires: 150,
+    };
+    let started = StartAnswer::Started {
+        was_armed: false,
+        generation: 1,
+        moved_to: None,
+        placement,
+    };
+    assert_equal(&rt, answer, started);
+    core.start(1, Mode::Abs, 120, 0, Reading::at(0));
+    let early = core.claim_next(0, Reading::at(110));
+    assert_equal(&rt, early, ClaimAnswer::NoneDue);
+    assert_equal(&rt, run_next(&rt, &mut core, Reading::at(120)), 1);
+    assert_equal(&rt, run_next(&rt, &mut core, Reading::at(120)), 0);
+    let none = core.claim_next(0, Reading::at(200));
+    assert_equal(&rt, none, ClaimAnswer::NoneDue);
+    Ok(())
+}
+
+#[test]
+fn each_context_has_a_queue_and_a_mark_of_its_own(rt: HostRuntime) -> Result<(), AllocError> {
+    let mut core = Core::<ListQueue>::make_full(rt.alloc(), 1, &[MONOTONIC, SOFT], 100)?;
+    let now = Reading::at(0);
+    core.start(0, Mode::Rel, 0, 0, now);
+    core.start(1, Mode::Rel, 0, 0, now);
+    assert_equal(&rt, core.first(Context::Soft, 0, now), Some((0, 1)));
+    assert_equal(&rt, core.claim_next(0, now), claimed(0, 2));
+    assert_equal(&rt, core.running(Context::Soft, 0), None);
+    assert_equal(&rt, core.claim_next_soft(0, now), claimed(1, 2));
+    assert_equal(&rt, core.running(Context::Hard, 0), Some((0, 1)));
+    assert_equal(&rt, core.running(Context::Soft, 0), Some((1, 1)));
+    let busy = ClaimAnswer::BaseBusy {
+        timer: 1,
+        generation: 1,
+    };
+    assert_equal(&rt, core.claim_in(Context::Soft, 0, now), busy);
     Ok(())
 }

@@ -1,12 +1,11 @@
 use Rattle.std.proofs.Common.{ap, sym, subst, ◌∙◌}
-use Rattle.ktime.specs.declared.mode.Mode.TheVariants.{Abs}
 use Rattle.seq_timer.specs.declared.event.Event.{Event}
 use Rattle.seq_timer.specs.Steps.{Timer}
 use Rattle.seq_timer.specs.Systems.{BaseContent}
 use Rattle.base_row.specs.declared.view.BaseView.{BaseView}
 use Rattle.base_row.specs.Calls.{MayAppend}
 use Rattle.base_row.proofs.Calling.{may_start, seen_same}
-use Rattle.base_row_bench.specs.Working.{beginning}
+use Rattle.base_row_bench.specs.Working.{asked}
 use Rattle.base_row_bench.proofs.filling.bring.Goals as goal
 
 -- what was seen of the timer stays as the base is locked
@@ -28,6 +27,6 @@ arrive-requires-clause-may g c =
     let moves = ap (λ (t : Timer). t.moving) same ∙ c.requires.moving in
     let here = c.base-to.ensures ∙ sym base in
     let there = base ∙ (sym c.base-to.ensures ∙ sym locks.at) in
-    let may = may_start o w h c.args.timer Abs c.args.ns beginning c.base-to.result c.requires.within.0 (ap (λ (v : BaseView BaseContent). v.held) locks.rest)
+    let may = may_start o w h c.args.timer (asked c.base-to.result c.args.ns) c.requires.within.0 (ap (λ (v : BaseView BaseContent). v.held) locks.rest)
     carries moves here there in
     subst (λ (e : Event). MayAppend o w h c.args.timer e) (sym c.start_event.ensures) may

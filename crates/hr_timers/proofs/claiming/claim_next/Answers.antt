@@ -1,4 +1,5 @@
-use Rattle.std.proofs.Common.{sym}
+use Rattle.std.proofs.Common.{ap, sym, ◌∙◌}
+use Rattle.seq_timer.specs.Systems.{BaseContent, next_on}
 use Rattle.hr_timers.proofs.Making.{looks_on, looks_trans}
 use Rattle.hr_timers.proofs.claiming.claim_next.Goals as goal
 
@@ -8,7 +9,7 @@ returns-in-Some-clause-claims g c =
     let v = c.lock-held.new.pass.knows in
     let w = c.leave_base.new.pass.knows in (
       looks_on u w (looks_trans u v w c.lock-held.ensures.looks c.leave_base.ensures.looks),
-      c.leave_base.ensures.busy c.in-Some.timer
+      c.leave_base.ensures.busy c.args.context c.in-Some.timer
           c.in-Some.generation (sym c.in-Some.ensures.running),
     )
 
@@ -19,5 +20,9 @@ returns-in_default-first-clause-claims g c =
     let w = c.leave_base-in_default-first.new.pass.knows in
     let told = c.leave_base-in_default-first.ensures in (
       looks_on u w (looks_trans u v w c.lock-held.ensures.looks told.looks),
-      record { idle = told.idle (sym c.in_default.ensures.running); none = told.none c.args.reading (sym c.in_default-first.ensures.first) },
+      record {
+        idle = told.idle c.args.context (sym c.in_default.ensures.running);
+        first = ap (λ (b : BaseContent). next_on c.args.context b c.args.reading) told.content ∙ sym c.in_default-first.ensures.first;
+        none = told.none c.args.context c.args.reading (sym c.in_default-first.ensures.first);
+      },
     )

@@ -9,7 +9,7 @@ pub returns-clause-forwards : goal.returns-clause-forwards
 returns-clause-forwards c =
     let v = c.args.pass.now.knows in
     let w = c.enter_once-reply.new.pass.knows in
-    let same = forward_same _ _ _ _ c.in-Forward.ensures.reply in
+    let same = forward_same _ _ c.in-Forward.ensures.reply in
     let stamp = c.stamp-stamp.ensures ∙ ap (λ (t : Timer). t.stamp) c.requires.state in
     record {
       at = v.seen;
@@ -17,9 +17,9 @@ returns-clause-forwards c =
       runs = ap (λ (t : Timer). t.running) (sym c.requires.state) ∙ c.requires.runs;
       base = c.requires.holds.on.at ∙ c.requires.base;
       fits = (
-        omega (arith, stamp, c.limit.ensures ∙ ap (λ (t : Timer). t.limit) c.requires.state, c.if-stamp-limit.false),
+        omega (arith, stamp, c.limit.ensures ∙ ap (λ (t : Timer). t.terms.limit) c.requires.state, c.if-stamp-limit.false),
         ap (λ (t : Timer). t.armed) (sym c.requires.state) ∙ (sym c.armed.ensures ∙ c.in_default.is),
-        (λ i. forwards.Forwarded (stamp i + 1) (same.0 i) (same.1 i)),
+        (λ i. forwards.Forwarded (stamp i + 1) (same i)),
       );
       claims = c.enter_once-reply.ensures.claims;
     }

@@ -23,8 +23,7 @@ arrive-requires-clause-may g c =
     let a = c.args.asked.now in
     let same = arrive-requires-clause-state g c in
     let base = sym (ap (λ (t : Timer). t.base) same) ∙ c.requires.moving.1 in
-    subst (λ (e : Event). MayAppend o w c.lock-held.result c.args.timer e) (sym c.start_event.ensures)
-    (may_start o w c.lock-held.result c.args.timer a.mode a.ns a.reading a.base c.requires.within.0
+    (may_start o w c.lock-held.result c.args.timer a c.requires.within.0
     c.lock-held.ensures.held (c.lock-held.ensures.looks.carry ∙ c.requires.carries.1)
     (ap (λ (t : Timer). t.moving) (sym same) ∙ c.requires.moving.0) (sym base) (base ∙ sym c.lock-held.ensures.at))
 
@@ -37,12 +36,10 @@ returns-clause-adds g c =
     let a = c.args.asked.now in
     let steady = c.lock-held.ensures.steady c.args.timer c.requires.carries.1 in
     let same = c.requires.state ∙ sym (seen_same o u v c.args.timer steady) in
-    let event = Start a.mode a.ns a.reading a.base in
+    let event = Start a in
     let base = sym (ap (λ (t : Timer). t.base) same) ∙ c.requires.moving.1 in
     subst (λ (t : Timer). AddsBehind u x c.args.timer (entry_by t event ∷ [])) (sym same)
     (looks_extends entries_of (known_of u) (known_of v) (known_of x) c.args.timer _ (looks_on u v c.lock-held.ensures.looks) steady
-    (subst (λ (e : Event). AddsBehind v x c.args.timer (entry_by (timer_seen o v c.args.timer) e ∷ [])) c.start_event.ensures
-    (extends_freed o c.fresh.ensures.fresh c.lock-held.result c.arrive.new.held c.args.timer c.start_event.result v c.arrive.new.pass.knows x
+    (extends_freed o c.fresh.ensures.fresh c.lock-held.result c.arrive.new.held c.args.timer event v c.arrive.new.pass.knows x
     c.requires.within.0 c.arrive.ensures.adds c.arrive.ensures.held
-    (subst (λ (e : Event). IsOn c.lock-held.result.base (after (timer_seen o v c.args.timer) e)) (sym c.start_event.ensures)
-    (record { at = base ∙ sym c.lock-held.ensures.at; still = refl })) c.unlock_base.ensures.free)))
+    (record { at = base ∙ sym c.lock-held.ensures.at; still = refl }) c.unlock_base.ensures.free))

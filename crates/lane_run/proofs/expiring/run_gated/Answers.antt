@@ -31,14 +31,14 @@ returns-clause-runs g c =
     let ready = c.reserve-2.new.self in
     let ran = c.run_with-answer in
     let empty : c.reserve.new.self.receipts ≡ [] = search rules in
-    subst (λ (p : ObjectsPass). RunsGated c.args.world.now c.args.pass.now.known c.args.objects_pass.now ran.new.pass.known p c.args.base c.args.budget
+    subst (λ (p : ObjectsPass). RunsGated c.args.world.now c.args.pass.now.known c.args.objects_pass.now ran.new.pass.known p c.args.context c.args.base c.args.budget
     c.args.reading ran.new.log.receipts c.into_logs-callback_log.result.0.receipts c.into_logs-callback_log.result.1.receipts ran.result) (search rules)
     (record {
       before = ready;
       after = ran.new.firing;
-      expires = subst (λ (x : WorldOf). Expires firing x.timers.about c.args.base c.args.reading c.args.budget c.args.pass.now.known ready [] ran.new.pass.known
+      expires = subst (λ (x : WorldOf). Expires firing x.timers.about c.args.context c.args.base c.args.reading c.args.budget c.args.pass.now.known ready [] ran.new.pass.known
           ran.new.firing ran.new.log.receipts ran.result) c.world.view_is
-          (subst (λ (log : List Receipt). Expires firing c.world.inside.timers.about c.args.base c.args.reading c.args.budget c.args.pass.now.known ready log
+          (subst (λ (log : List Receipt). Expires firing c.world.inside.timers.about c.args.context c.args.base c.args.reading c.args.budget c.args.pass.now.known ready log
           ran.new.pass.known ran.new.firing ran.new.log.receipts ran.result) empty ran.ensures.runs.expires);
       objects = c.reserve-2.ensures.loan.objects ∙ c.make-firing.ensures.objects ∙ ap (λ (x : WorldOf). x.objects) c.world.view_is;
       callbacks = c.reserve-2.ensures.loan.callbacks ∙ c.make-firing.ensures.callbacks ∙ c.deref.ensures.value

@@ -5,12 +5,14 @@ use Rattle.script_text.specs.declared.script.LaneCall.{LaneCall}
 use Rattle.script_text.specs.declared.script.Round.{Round}
 use Rattle.lane_run.specs.Rounds.{MakesRounds, none_left}
 use Rattle.lane_run.specs.Worlds.{CanCall}
+use Rattle.lane_run.proofs.Greatest.{lanes_few}
 use Rattle.lane_run.proofs.Ranges.{round_can}
 use Rattle.lane_run.proofs.Taking.{rounds_push}
 use Rattle.lane_run.proofs.running.make_rounds.Goals as goal
 
 pub make_round-requires-clause-few : goal.make_round-requires-clause-few
-make_round-requires-clause-few g c = omega (arith, c.loop-round.invariant.lanes, c.requires.range.lanes.1)
+make_round-requires-clause-few g c = omega
+    (arith, c.loop-round.invariant.lanes, c.requires.range.lanes.1, lanes_few c.args.script.now.version)
 
 pub make_round-requires-clause-calls : goal.make_round-requires-clause-calls
 make_round-requires-clause-calls g c = λ κs outlives.

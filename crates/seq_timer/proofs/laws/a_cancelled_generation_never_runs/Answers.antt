@@ -5,5 +5,5 @@ pub returns-clause-claims : goal.returns-clause-claims
 returns-clause-claims c = legal_never_claimed
 
 pub returns-clause-spans : goal.returns-clause-spans
-returns-clause-spans c clock limit generation history legal cancelled = unclaimed_spans 1 generation history
-    (legal_never_claimed clock limit generation history legal cancelled)
+returns-clause-spans c clock terms generation history legal cancelled = unclaimed_spans 1 generation history
+    (legal_never_claimed clock terms generation history legal cancelled)

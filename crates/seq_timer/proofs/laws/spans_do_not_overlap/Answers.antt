@@ -3,4 +3,4 @@ use Rattle.seq_timer.proofs.Spans.{apart_from}
 use Rattle.seq_timer.proofs.laws.spans_do_not_overlap.Goals as goal
 
 pub returns : goal.returns
-returns c clock limit history legal = apart_from (opening clock limit) 1 history legal
+returns c clock terms history legal = apart_from (opening clock terms) 1 history legal

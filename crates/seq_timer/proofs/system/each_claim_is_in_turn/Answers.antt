@@ -4,5 +4,5 @@ use Rattle.seq_timer.proofs.Ties.{may_follow}
 use Rattle.seq_timer.proofs.system.each_claim_is_in_turn.Goals as goal
 
 pub returns : goal.returns
-returns c bases limit list log history before later e is =
-    may_follow bases limit list before later e (subst (IsSystemHistory bases list limit) is history)
+returns c bases terms list log history before later e is =
+    may_follow bases terms list before later e (subst (IsSystemHistory bases list terms) is history)

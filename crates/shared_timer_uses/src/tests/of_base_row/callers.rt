@@ -1,15 +1,30 @@
 //! Callers of a row. Each takes one base or two, adds its entries there, and lets them go.
 ghost use Rattle.std.specs.Prelude.{◌≡◌, ◌<◌, length, [], MatchBool, Some, None, true};
-ghost use Rattle.seq_timer.specs.declared.event.Event.TheVariants.{Cancel};
+ghost use Rattle.ktime.specs.declared.mode.Mode.TheVariants as modes;
+ghost use Rattle.seq_timer.specs.declared.event.Event.TheVariants.{Cancel, Start};
 ghost use Rattle.seq_timer.specs.Steps.{Needs};
 ghost use Rattle.seq_timer.specs.Systems.{IsOn};
+ghost use Rattle.timer_core.specs.Answers.{asked_for};
 ghost use Rattle.base_row.specs.Calls.{IsBasePassOf, timer_seen};
 ghost use Rattle.base_row.specs.Rests.{Rests};
 
 use base_row::{BaseRow, HeldBase, Pass};
 use ktime::{Mode, Reading};
-use seq_timer::{Event, TimerState};
+use seq_timer::{Asked, Context, Event, TimerState};
 use std::sync::Wait;
+
+/// A start for an absolute time, with no slack.
+fn start_event(ns: u64, base: u32, reading: Reading) -> Event
+    ensures { result ≡ Start (asked_for modes.Abs ns 0 base reading) }
+{
+    Event::Start(Asked {
+        mode: Mode::Abs,
+        ns,
+        slack: 0,
+        reading,
+        base,
+    })
+}
 
 /// Starts a timer that is on this base.
 pub fn start<R: Wait>(
@@ -30,12 +45,7 @@ pub fn start<R: Wait>(
     let state = row.state(pass, &held, timer);
     let may = is_on(&state, base) && state.stamp() < state.limit();
     if may {
-        let event = Event::Start {
-            mode: Mode::Abs,
-            ns,
-            reading,
-            asked: base,
-        };
+        let event = start_event(ns, base, reading);
         row.append(pass, &mut held, timer, event);
     }
     row.unlock_base(pass, held);
@@ -124,18 +134,21 @@ fn bring<R: Wait>(
 {
     let asked = state.base();
     let mut held = row.lock_base(rt, pass, asked);
-    let event = Event::Start {
-        mode: Mode::Abs,
-        ns,
-        reading,
-        asked,
-    };
+    let event = start_event(ns, asked, reading);
     row.arrive(pass, &mut held, timer, state, event);
     row.unlock_base(pass, held);
 }
 
-/// Claims the timer that is the next to expire on a base where no function runs, and finishes the claim. It answers whether it did.
-pub fn run<R: Wait>(rt: &R, row: &BaseRow, pass: &mut Pass, base: u32, reading: Reading) -> bool
+/// Claims the timer of a context that is the next to expire on a base where no function of it runs, and finishes the claim. It answers whether
+/// it did.
+pub fn run<R: Wait>(
+    rt: &R,
+    row: &BaseRow,
+    pass: &mut Pass,
+    base: u32,
+    context: Context,
+    reading: Reading,
+) -> bool
     requires row { IsBasePassOf row.now pass.old × Rests pass.old.knows }
     requires within { base < row.now.about.bases }
     requires unclaimed { pass.old.knows.claims ≡ [] }
@@ -143,11 +156,11 @@ pub fn run<R: Wait>(rt: &R, row: &BaseRow, pass: &mut Pass, base: u32, reading: 
     ensures same { (pass.new.knows.claims ≡ []) × (pass.new.knows.id ≡ pass.old.knows.id) }
 {
     let mut held = row.lock_base(rt, pass, base);
-    if row.running(pass, &held).is_some() {
+    if row.running(pass, &held, context).is_some() {
         row.unlock_base(pass, held);
         return false;
     }
-    let Some((_, timer)) = row.first(pass, &held, reading) else {
+    let Some((_, timer)) = row.first(pass, &held, context, reading) else {
         row.unlock_base(pass, held);
         return false;
     };

@@ -7,6 +7,7 @@ ghost use Rattle.base_row.specs.Rests.{Rests};
 use super::callers::{cancel, move_to, run, start};
 use base_row::{BaseRow, Pass};
 use ktime::Reading;
+use seq_timer::Context;
 use std::sync::Wait;
 use std::thread::{Threads, join_mut};
 
@@ -24,7 +25,7 @@ fn turn<R: Wait>(rt: &R, row: &BaseRow, pass: &mut Pass, number: u32, reading: R
     match number % 5 {
         0 => u64::from(cancel(rt, row, pass, base, timer)),
         1 => 2 * u64::from(move_to(rt, row, pass, base, timer, 1 - base, 500, reading)),
-        2 => 2 * u64::from(run(rt, row, pass, base, reading)),
+        2 => 2 * u64::from(run(rt, row, pass, base, Context::Hard, reading)),
         _ => u64::from(start(rt, row, pass, base, timer, 500, reading)),
     }
 }

@@ -4,7 +4,7 @@ use clock_model::Write;
 use ktime::{ClockId, Mode};
 use record_text::{
     Answer, Armed, ClockLine, Entry, ItemList, Label, ObjectEntry, ObjectLine, ReadReply,
-    RunRecord, SettimeReply, Skip,
+    RunRecord, SettimeReply, Skip, StartLine, Version,
 };
 use std::alloc::{AllocError, Global};
 
@@ -15,16 +15,18 @@ fn on(call: u32) -> Label {
 }
 
 fn start(mode: Mode, ns: u64, reading: u64, clock: ClockId) -> Entry {
-    Entry::Start {
+    Entry::Start(StartLine {
         mode,
         ns,
+        slack: 0,
         reading,
         asked: 0,
         base: 0,
         clock,
+        soft: ns,
         expires: ns,
         was_armed: false,
-    }
+    })
 }
 
 fn armed(generation: u64) -> Armed {
@@ -95,6 +97,7 @@ fn record(
     let objects = one(alloc, object)?;
     let answers = one(alloc, answers)?;
     Ok(RunRecord {
+        version: Version::One,
         clock,
         timers,
         objects,

@@ -1,10 +1,12 @@
 //! Scripts that are read whole, and the refusals of others.
 use clock_model::Write;
 use ktime::{ClockId, Mode, TimeSpec};
+use record_text::Version;
 use script_text::{
-    Call, Callback, Declaration, Kind, LaneCall, ParseError, Round, at_most_one_script_is_read,
-    bytes_are_read_or_refused, parse,
+    Call, Callback, Declaration, Kind, LaneCall, ParseError, Round, StartRequest,
+    at_most_one_script_is_read, bytes_are_read_or_refused, parse,
 };
+use seq_timer::Context;
 use std::alloc::Global;
 use std::process::Abort;
 
@@ -48,7 +50,7 @@ fn tells(rt: &impl Abort, alloc: Global, before: &str, rest: &str, told: &str) {
 }
 
 /// The same of each of these, by what is told of it.
-fn tells_each(rt: &impl Abort, alloc: Global, before: &str, lines: &[(&str, &str)]) {
+pub(super) fn tells_each(rt: &impl Abort, alloc: Global, before: &str, lines: &[(&str, &str)]) {
     for (rest, told) in lines {
         tells(rt, alloc, before, rest, told);
     }
@@ -61,25 +63,18 @@ pub(super) fn tells_all(rt: &impl Abort, alloc: Global, before: &str, told: &str
     }
 }
 
-const FROM_THE_FIRST_LINE: [(&str, &str); 13] = [
+const FROM_THE_FIRST_LINE: [(&str, &str); 9] = [
     ("", "line 1: Unfinished\n"),
-    ("hrt 2\n", "line 1: Version\n"),
     ("hrt  1\n", "line 1: BadSpace\n"),
     ("hrt 1 1\n", "line 1: WordCount\n"),
     ("hrt 1\nbas", "line 2: UnknownWord\n"),
     ("hrt 1\nbases 01\n", "line 2: BadNumber\n"),
-    ("hrt 1\nbases 9\n", "line 2: BaseLimit\n"),
     ("hrt 1\nlanes 1\n", "line 2: BadPlace\n"),
     ("\n# none\nhrt 1\n", "line 4: Unfinished\n"),
-    ("hrt 1\nbases 1\nlanes 17\n", "line 3: LaneLimit\n"),
     ("hrt 1\nbases 1\nlanes 0\n", "line 3: LaneLimit\n"),
     (
         "hrt 1\nbases 1\nlanes 16\nlimit 9\nround\n15 set 7\n16 set 7\n",
         "line 7: LaneLimit\n",
-    ),
-    (
-        "hrt 1\nbases 1\nlanes 1\nlimit 281474976710641\n",
-        "line 4: EventLimit\n",
     ),
 ];
 
@@ -151,14 +146,6 @@ fn counts_bytes(rt: &impl Abort, alloc: Global) {
     shows(rt, alloc, &more, "line 0: TooLong\n");
 }
 
-fn counts_timers(rt: &impl Abort, alloc: Global) {
-    let mut script = format!(in alloc; "{HEADER}").expect(rt, "memory");
-    for timer in 0..257 {
-        writeln!(script, "raw {timer} monotonic once").expect(rt, "memory");
-    }
-    shows(rt, alloc, script.as_bytes(), "line 261: TimerLimit\n");
-}
-
 fn counts_calls(rt: &impl Abort, alloc: Global) {
     let mut script = format!(in alloc; "{HEADER}round\n").expect(rt, "memory");
     for _ in 0..65536 {
@@ -170,9 +157,8 @@ fn counts_calls(rt: &impl Abort, alloc: Global) {
 }
 
 #[test]
-fn counts_bytes_timers_and_calls(rt: HostRuntime) {
+fn counts_bytes_and_calls(rt: HostRuntime) {
     counts_bytes(&rt, rt.alloc());
-    counts_timers(&rt, rt.alloc());
     counts_calls(&rt, rt.alloc());
 }
 
@@ -181,6 +167,7 @@ fn reads_a_script_whole(rt: HostRuntime) {
     let Ok(script) = parse(rt.alloc(), WHOLE.as_bytes()) else {
         panic!(rt; "refused");
     };
+    assert_eq!(rt; script.version, Version::One);
     assert_eq!(rt;
         (script.bases, script.lanes, script.limit),
         (2, 1, 281474976710640)
@@ -202,7 +189,7 @@ fn has_rounds(rt: &impl Abort, rounds: &[Round]) {
 }
 
 /// Compares the calls of a round, which are all of lane 0.
-fn has_calls(rt: &impl Abort, round: &Round, want: &[Call]) {
+pub(super) fn has_calls(rt: &impl Abort, round: &Round, want: &[Call]) {
     let calls = round.calls.as_slice();
     assert_eq!(rt; calls.len(), want.len());
     for (found, call) in calls.iter().zip(want) {
@@ -238,6 +225,7 @@ fn raw_calls() -> [Call; 4] {
 /// The calls of the last round.
 const LAST_CALLS: [Call; 4] = [
     Call::Expire {
+        context: Context::Hard,
         base: 1,
         budget: 4096,
     },
@@ -273,16 +261,35 @@ fn declared(clock: ClockId, kind: Kind) -> Declaration {
 }
 
 pub(super) fn raw(clock: ClockId, callback: Callback) -> Declaration {
-    declared(clock, Kind::Raw { callback })
+    declared_in(clock, Context::Hard, callback)
+}
+
+/// A timer of the soft context.
+pub(super) fn soft(clock: ClockId, callback: Callback) -> Declaration {
+    declared_in(clock, Context::Soft, callback)
+}
+
+fn declared_in(clock: ClockId, context: Context, callback: Callback) -> Declaration {
+    declared(clock, Kind::Raw { context, callback })
 }
 
 pub(super) fn start(timer: u32, mode: Mode, ns: u64, base: u32) -> Call {
-    Call::Start {
-        timer,
+    started(timer, mode, ns, None, base)
+}
+
+/// A start with slack.
+pub(super) fn start_range(timer: u32, mode: Mode, ns: u64, slack: u64, base: u32) -> Call {
+    started(timer, mode, ns, Some(slack), base)
+}
+
+fn started(timer: u32, mode: Mode, ns: u64, slack: Option<u64>, base: u32) -> Call {
+    let request = StartRequest {
         mode,
         ns,
+        slack,
         base,
-    }
+    };
+    Call::Start { timer, request }
 }
 
 fn settime(timer: u32, flags: u64, value: (u64, u64), interval: (u64, u64)) -> Call {

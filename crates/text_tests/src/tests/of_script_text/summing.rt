@@ -3,7 +3,8 @@ use crate::tests::of_record_text::{one, without_timers};
 use clock_model::Write;
 use ktime::{ClockId, Mode};
 use record_text::{
-    Answer, CallbackReply, ClockLine, Entry, ItemList, Label, Look, Restart, RunRecord, TimerLine,
+    Answer, CallbackReply, ClockLine, Entry, ForwardLine, ItemList, Label, Look, Restart,
+    RunRecord, StartLine, TimerLine, Version,
 };
 use script_text::summary;
 use std::alloc::{AllocError, Global};
@@ -33,33 +34,37 @@ const PERIODIC: [(Entry, u64); 4] = [
     ),
 ];
 
-const FORWARDED_FAR: Entry = Entry::Forward {
+const FORWARDED_FAR: Entry = Entry::Forward(ForwardLine {
     reading: 1,
     interval: 100,
     count: 18446744073709551615,
+    soft: 190,
     expires: 200,
-};
+});
 
-const FORWARDED: Entry = Entry::Forward {
+const FORWARDED: Entry = Entry::Forward(ForwardLine {
     reading: 1,
     interval: 100,
     count: 3,
+    soft: 190,
     expires: 200,
-};
+});
 
 /// Those of a timer that is started, canceled and found out of its queue.
 const CANCELED: [(Entry, u64); 3] = [
     (
-        Entry::Start {
+        Entry::Start(StartLine {
             mode: Mode::Rel,
             ns: 5,
+            slack: 0,
             reading: 1,
             asked: 0,
             base: 0,
             clock: ClockId::Monotonic,
+            soft: 55,
             expires: 55,
             was_armed: false,
-        },
+        }),
         1,
     ),
     (Entry::Cancel { generation: 1 }, 0),
@@ -135,6 +140,7 @@ fn sums_a_record_up(rt: HostRuntime) -> Result<(), AllocError> {
     let timers = timers(alloc)?;
     let answers = answers(alloc)?;
     let run = RunRecord {
+        version: Version::One,
         clock,
         timers,
         objects: ItemList::new(alloc),

@@ -3,6 +3,6 @@ use Rattle.timer_core.proofs.laws.calls_keep_histories_legal.Goals as goal
 
 pub returns : goal.returns
 returns c = record {
-  legal = λ bases limit id list calls end run there. (legal_along bases limit id list calls end run there).0;
-  kept = λ bases limit id list calls end run there. (legal_along bases limit id list calls end run there).1;
+  legal = λ bases terms id list calls end run there. (legal_along bases terms id list calls end run there).0;
+  kept = λ bases terms id list calls end run there. (legal_along bases terms id list calls end run there).1;
 }

@@ -73,6 +73,6 @@ number_of-number-requires c =
     let t = timer_seen o v c.args.timer in
     let now_at : Timer → Timer = λ x. after x c.args.event in
     let seen = placed_seen o v c.fresh.ensures.fresh (knows_about o v c.requires.row.about c.known.ensures) c.fresh.ensures.some c.args.timer in
-    let here = placed_after o.bases ((now o.bases o.timers number_of v.seen).bases t.base).content c.args.timer t c.args.event
+    let here = placed_after o.bases ((now o.bases o.timers number_of v.seen).bases t.base) c.args.timer t c.args.event
     c.requires.may.may.allowed.base seen in
     record { base = omega (arith, c.fresh.ensures.few, here, ap (λ (x : Timer). x.base) (c.apply-reply.ensures.state ∙ ap now_at c.requires.state)) }

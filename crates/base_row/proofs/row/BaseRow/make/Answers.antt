@@ -6,4 +6,4 @@ use Rattle.base_row.proofs.row.BaseRow.make.Goals as goal
 pub with_timers-requires-clause-fresh : goal.with_timers-requires-clause-fresh
 with_timers-requires-clause-fresh c =
     subst (λ l. AreFresh l) (sym c.in_ok-timers.ensures.timers)
-    (record { each = all_fresh c.args.clocks.now c.args.max_events; limit = limits_within c.args.clocks.now c.args.max_events c.requires.limit.1 })
+    (record { each = all_fresh c.args.timers.now c.args.terms; limit = limits_within c.args.timers.now c.args.terms c.requires.limit.1 })

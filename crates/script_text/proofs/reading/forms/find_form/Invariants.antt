@@ -4,4 +4,4 @@ use Rattle.script_text.proofs.reading.forms.find_form.Given as goal
 
 -- the word names among the rest what it names among all
 abbrev pub invariant-loop-name : goal.invariant-loop-name
-invariant-loop-name l = found_from l.forms l.name-index l.word ≡ found_from l.forms 0 l.word
+invariant-loop-name l = found_from l.version l.forms l.name-index l.word ≡ found_from l.version l.forms 0 l.word

@@ -4,7 +4,8 @@ use Rattle.script_text.proofs.reading.forms.find_form_at.Goals as goal
 
 pub returns-in-Some : goal.returns-in-Some
 returns-in-Some c = let found =
-    c.in-Some.ensures.lookup in c.find_form.ensures ∙ sym (find_form_by_first_some _ c.args.words.now c.args.at c.in-Some.word.now found.3.0 found.1)
+    c.in-Some.ensures.lookup in c.find_form.ensures
+    ∙ sym (find_form_by_first_some c.args.version _ c.args.words.now c.args.at c.in-Some.word.now found.3.0 found.1)
 
 pub returns-in-None : goal.returns-in-None
-returns-in-None c = sym (find_form_by_first_none _ c.args.words.now c.args.at c.in-None.ensures.lookup.3)
+returns-in-None c = sym (find_form_by_first_none c.args.version _ c.args.words.now c.args.at c.in-None.ensures.lookup.3)

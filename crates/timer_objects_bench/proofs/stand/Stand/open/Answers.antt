@@ -1,4 +1,6 @@
-use Rattle.std.proofs.Common.{rules, refl, sym, ap, subst, ◌∙◌}
+use Rattle.std.proofs.Common.{map, rules, refl, sym, ap, subst, ◌∙◌}
+use Rattle.seq_timer.specs.Steps.{limited}
+use Rattle.seq_timer.specs.Tables.{hard_on}
 use Rattle.base_row.specs.Calls.{opening_of}
 use Rattle.timer_objects.specs.Callbacks.{bases_of}
 use Rattle.timer_objects.specs.Known.{Suits}
@@ -15,8 +17,8 @@ returns c =
         unclaimed = search rules;
         objects = search rules;
         objects_last = search rules;
-        suits = subst (λ o. Suits c.in-Ok.objects o) (sym (c.in_ok-timers.ensures.about ∙ ap (λ l. opening_of 1 l 1099511627776) clocks))
-            (suits c.in-Ok.objects c.args.kind c.args.count 1099511627776 decls);
+        suits = subst (λ o. Suits c.in-Ok.objects o) (sym (c.in_ok-timers.ensures.about ∙ ap (λ l. opening_of 1 (map hard_on l) (limited 1099511627776)) clocks))
+            (suits c.in-Ok.objects c.args.kind c.args.count (limited 1099511627776) decls);
         bases = search rules;
         many = search rules;
         few = search rules;

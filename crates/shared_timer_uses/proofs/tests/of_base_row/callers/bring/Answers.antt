@@ -1,6 +1,9 @@
-use Rattle.std.proofs.Common.{ap, sym, ◌∙◌}
+use Rattle.std.proofs.Common.{ap, subst, sym, ◌∙◌}
+use Rattle.seq_timer.specs.declared.event.Event.{Event}
+use Rattle.base_row.specs.Calls.{MayAppend}
 use Rattle.ktime.specs.declared.mode.Mode.TheVariants as modes
 use Rattle.seq_timer.specs.Steps.{Timer}
+use Rattle.timer_core.specs.Answers.{asked_for}
 use Rattle.base_row.specs.declared.view.BaseView.{BaseView}
 use Rattle.seq_timer.specs.Systems.{BaseContent}
 use Rattle.base_row.proofs.Calling.{may_start, seen_same}
@@ -18,8 +21,9 @@ arrive-requires-clause-may g c =
     let w = c.lock_base-held.new.pass.knows in
     let locks = c.lock_base-held.ensures.locks in
     let same = arrive-requires-clause-state g c in
-    may_start o w c.lock_base-held.result c.args.timer modes.Abs c.args.ns c.args.reading c.base-asked.result c.requires.within.0
+    subst (λ (e : Event). MayAppend o w c.lock_base-held.result c.args.timer e) (sym c.start_event-event.ensures)
+    (may_start o w c.lock_base-held.result c.args.timer (asked_for modes.Abs c.args.ns 0 c.base-asked.result c.args.reading) c.requires.within.0
     (ap (λ (v : BaseView BaseContent). v.held) locks.rest) (ap (λ (v : BaseView BaseContent). v.carry) locks.rest ∙ c.requires.carries.1)
     (ap (λ (t : Timer). t.moving) (sym same) ∙ c.requires.moving)
     (c.base-asked.ensures ∙ ap (λ (t : Timer). t.base) same)
-    (ap (λ (t : Timer). t.base) (sym same) ∙ (sym c.base-asked.ensures ∙ sym locks.at))
+    (ap (λ (t : Timer). t.base) (sym same) ∙ (sym c.base-asked.ensures ∙ sym locks.at)))

@@ -1,12 +1,16 @@
 use Rattle.std.proofs.Common.{◌≡◌, ℕ, ◌<◌, Bool, length, [], ◌∷◌, ◌++◌, refl, ap, sym, ◌∙◌, subst, arith, true, false}
-use Rattle.std.specs.Prelude.{unwrap_or, not, IsSome, Some}
+use Rattle.std.specs.Prelude.{unwrap_or, not, is_some, IfNone, IsSome, None, Option, Some}
+use Rattle.hr_timers.proofs.Claims.{may_claim}
+use Rattle.hr_timers.proofs.Standing.{knows_in}
 use Rattle.std.proofs.lemmas.Bool.{and_from, and_parts, eq-eqb, eqb-true, true≢false}
 use Rattle.ktime.specs.Readings.{ClockReading}
 use Rattle.pass_names.specs.Counts.{count, drop_if, one_if, without_first}
 use Rattle.seq_timer.specs.declared.event.Event.TheVariants.{Claim, Finish}
 use Rattle.seq_timer.specs.Steps.{Timer, after}
 use Rattle.seq_timer.specs.Systems.{BaseContent, IsOn}
-use Rattle.seq_timer.specs.Tables.{is_due_on}
+use Rattle.seq_timer.specs.declared.context.Context.{Context}
+use Rattle.seq_timer.specs.Tables.{in_context, is_due_on, runs_on, seen_in}
+use Rattle.seq_timer.proofs.Contents.{seen_own}
 use Rattle.base_row.specs.declared.view.BaseView.{BaseView}
 use Rattle.base_row.specs.declared.view.Claimed.{Claimed}
 use Rattle.base_row.specs.declared.view.HeldContent.{HeldContent}
@@ -33,6 +37,12 @@ armed_there base reading t due =
     let p = and_parts _ _ (and_parts _ _ due).0 in
     let q = and_parts _ _ p.0 in
     (q.0, record { at = eqb-true t.base base p.1; still = not_true t.moving q.1 })
+
+-- a timer that is due among those of its context is due
+due_of : (x : Context) (base : ℕ) (reading : ClockReading) (f : ℕ → Timer) (id : ℕ) → (f id).declared.context ≡ x
+    → is_due_on base reading (in_context x f id) ≡ true → is_due_on base reading (f id) ≡ true
+due_of x base reading f id own =
+    subst (λ (t : Timer). is_due_on base reading t ≡ true) (subst (λ y. seen_in y (f id) ≡ f id) own (seen_own (f id)))
 
 -- after a claim of a timer that was due on the held base
 module _ {o : Opening} {h g : HeldContent BaseContent} {id base : ℕ} {reading : ClockReading} {v w : BaseView BaseContent}
@@ -79,13 +89,13 @@ module _ {o : Opening} {h g : HeldContent BaseContent} {id base : ℕ} {reading 
         )
 
 pub append-requires-2-clause-on : goal.append-requires-2-clause-on
-append-requires-2-clause-on g c = there c.fresh.ensures.fresh c.append.ensures.adds c.append.ensures.held c.in-Some.ensures.next.due
+append-requires-2-clause-on g c = there c.fresh.ensures.fresh c.append.ensures.adds c.append.ensures.held (due_of c.args.context c.lock_base-held.result.base c.args.reading (timer_seen c.args.row.now.about c.lock_base-held.new.pass.knows) _ c.in-Some.ensures.context c.in-Some.ensures.next.due)
 
 pub append-requires-2-clause-may : goal.append-requires-2-clause-may
 append-requires-2-clause-may g c =
     let v = c.lock_base-held.new.pass.knows in
     let looks = looks_locks c.args.base c.args.pass.now.knows v c.lock_base-held.result c.lock_base-held.ensures.locks in
-    may_finish c.fresh.ensures.fresh c.append.ensures.adds c.append.ensures.held c.in-Some.ensures.next.due (looks.claims ∙ c.requires.unclaimed)
+    may_finish c.fresh.ensures.fresh c.append.ensures.adds c.append.ensures.held (due_of c.args.context c.lock_base-held.result.base c.args.reading (timer_seen c.args.row.now.about c.lock_base-held.new.pass.knows) _ c.in-Some.ensures.context c.in-Some.ensures.next.due) (looks.claims ∙ c.requires.unclaimed)
     c.in-Some.ensures.within
 
 pub returns-clause-same : goal.returns-clause-same
@@ -94,6 +104,24 @@ returns-clause-same g c =
     let x = c.append-2.new.pass.knows in
     let looks = looks_locks c.args.base c.args.pass.now.knows v c.lock_base-held.result c.lock_base-held.ensures.locks in
     let freed = looks_freed c.args.row.now.about c.append-2.new.held x c.unlock_base-2.new.pass.knows c.unlock_base-2.ensures.free in
-    let done = finished c.fresh.ensures.fresh c.append.ensures.adds c.append.ensures.held c.in-Some.ensures.next.due
+    let done = finished c.fresh.ensures.fresh c.append.ensures.adds c.append.ensures.held (due_of c.args.context c.lock_base-held.result.base c.args.reading (timer_seen c.args.row.now.about c.lock_base-held.new.pass.knows) _ c.in-Some.ensures.context c.in-Some.ensures.next.due)
     (looks.claims ∙ c.requires.unclaimed) x c.append-2.ensures.adds in
     (freed.claims ∙ done.0, freed.id ∙ (done.1 ∙ looks.id))
+
+none_of : (r : Option (ℕ × ℕ)) → is_some r ≡ false → r ≡ None
+none_of None is = refl
+none_of (Some m) is = absurd (true≢false is)
+
+pub append-requires-clause-may : goal.append-requires-clause-may
+append-requires-clause-may g c =
+    let o = c.args.row.now.about in
+    let v = c.lock_base-held.new.pass.knows in
+    let h = c.lock_base-held.result in
+    let locks = c.lock_base-held.ensures.locks in
+    let none = none_of c.running.result (sym c.is_some.ensures ∙ c.if-is_some.false) in
+    let free = sym c.running.ensures.running ∙ none in
+    let idle = subst (λ r. IfNone r ((t : ℕ) → runs_on h.base (in_context c.args.context (timer_seen o v) t) ≡ false)) none c.running.ensures.idle in
+    let first = sym c.in-Some.ensures.seen ∙ ap (λ e. Some (e, c.in-Some.timer)) c.in-Some.ensures.expires in
+    subst (λ b. MayAppend o v h c.in-Some.timer (Claim b c.args.reading)) locks.at
+    (may_claim o v (knows_in o v c.lock_base-held.ensures.row.about c.known.ensures) h c.args.context c.in-Some.timer c.args.reading
+    (ap (λ (x : BaseView BaseContent). x.held) locks.rest) c.in-Some.ensures.within free c.in-Some.ensures.context idle c.in-Some.ensures.next first)

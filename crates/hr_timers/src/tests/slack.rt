@@ -1,0 +1,107 @@
+//! Timers with slack, and timers of both contexts on one base.
+use super::answers::finished;
+use super::callers::{Found, claim, finish, forward, retire, run, run_soft};
+use super::two_timers;
+use crate::Timers;
+use ktime::{ClockId, Mode, Reading};
+use seq_timer::{Context, Declared, Moved, Rearmed};
+use std::test::Fail;
+use timer_core::ForwardAnswer;
+
+#[test]
+fn slack_lets_a_timer_wait_for_another(rt: HostRuntime) -> Result<(), Fail> {
+    let (timers, mut pass) = two_timers(rt.alloc())?;
+    let start = Reading::at(0);
+    timers.start_range(&rt, &mut pass, 0, Mode::Abs, 100, 50, 0, start);
+    timers.start(&rt, &mut pass, 1, Mode::Abs, 120, 0, start);
+    assert_eq!(rt;
+        run(&rt, &timers, &mut pass, 0, Reading::at(110)),
+        Found::NoneDue
+    );
+    let now = Reading::at(120);
+    assert_eq!(rt;
+        run(&rt, &timers, &mut pass, 0, now),
+        Found::Ran { timer: 1 }
+    );
+    assert_eq!(rt;
+        run(&rt, &timers, &mut pass, 0, now),
+        Found::Ran { timer: 0 }
+    );
+    timers.close(pass);
+    Ok(())
+}
+
+#[test]
+fn both_expiries_move_on(rt: HostRuntime) -> Result<(), Fail> {
+    let (timers, mut pass) = two_timers(rt.alloc())?;
+    timers.start_range(&rt, &mut pass, 0, Mode::Abs, 100, 50, 0, Reading::at(0));
+    let Some(claim) = claim(&rt, &timers, &mut pass, 0, Reading::at(149)) else {
+        assert!(rt; false);
+        timers.close(pass);
+        return Ok(());
+    };
+    assert_eq!(rt;
+        forward(&rt, &timers, &mut pass, &claim, Reading::at(149), 10),
+        ForwardAnswer::Forwarded {
+            number: 3,
+            moved: Moved {
+                count: 0,
+                soft: 100,
+                expires: 150
+            }
+        }
+    );
+    assert_eq!(rt;
+        forward(&rt, &timers, &mut pass, &claim, Reading::at(150), 10),
+        ForwardAnswer::Forwarded {
+            number: 4,
+            moved: Moved {
+                count: 1,
+                soft: 110,
+                expires: 160
+            }
+        }
+    );
+    assert_eq!(rt;
+        finish(&rt, &timers, &mut pass, claim, false),
+        finished(5, Rearmed::No)
+    );
+    timers.close(pass);
+    Ok(())
+}
+
+#[test]
+fn a_soft_function_runs_beside_a_hard_one(rt: HostRuntime) -> Result<(), Fail> {
+    let clock = ClockId::Monotonic;
+    let declared = [
+        Declared {
+            clock,
+            context: Context::Hard,
+        },
+        Declared {
+            clock,
+            context: Context::Soft,
+        },
+    ];
+    let (timers, mut pass) = Timers::make_full(rt.alloc(), 1, &declared, 100)?;
+    let mut other = timers.split(&mut pass);
+    let now = Reading::at(0);
+    timers.start(&rt, &mut pass, 0, Mode::Rel, 0, 0, now);
+    timers.start(&rt, &mut pass, 1, Mode::Rel, 0, 0, now);
+    if let Some(hard) = claim(&rt, &timers, &mut pass, 0, now) {
+        assert_eq!(rt; hard.timer(), 0);
+        let ran = run_soft(&rt, &timers, &mut other, 0, now);
+        assert_eq!(rt; ran, Found::Ran { timer: 1 });
+        let busy = Found::Busy {
+            timer: 0,
+            generation: 1,
+        };
+        assert_eq!(rt; run(&rt, &timers, &mut other, 0, now), busy);
+        finish(&rt, &timers, &mut pass, hard, false);
+    }
+    assert_eq!(rt; timers.peek(&mut pass, 0).stamp, 3);
+    assert_eq!(rt; timers.peek(&mut pass, 1).stamp, 3);
+    retire(&timers, &mut pass, other);
+    timers.close(pass);
+    Ok(())
+}

@@ -1,0 +1,374 @@
+-- A record that fits a script without slack has none: no start asks for slack, so each timer's soft expiry is its expiry at all times.
+use Rattle.std.proofs.Common.{◌≡◌, ◌<◌, ℕ, ◌+◌, ◌*◌, zero, suc, nat_eq, Bool, true, false, List, [], ◌∷◌, ◌++◌, Option, Some, None, get_or, length, map, arith, refl, sym, ap, ◌∙◌, subst}
+use Rattle.std.specs.List.{AllByRecursion, slice_get}
+use Rattle.std.proofs.lemmas.Option.{same_Some}
+use Rattle.std.specs.Prelude.{filter, flat_map, if◌then◌else◌, unwrap_or}
+use Rattle.std.proofs.Math.Logic.{⊎_elim}
+use Rattle.ktime.specs.Readings.{ClockReading}
+use Rattle.ktime.specs.Times.{effective_clock, passed, sat, step_of}
+use Rattle.ktime.specs.declared.clock_id.ClockId.{ClockId}
+use Rattle.ktime.specs.declared.mode.Mode.{Mode}
+use Rattle.ktime.specs.declared.mode.Mode.TheVariants as modes
+use Rattle.ktime.specs.declared.timespec.TimeSpec.{TimeSpec}
+use Rattle.seq_timer.specs.declared.context.Context.{Context}
+use Rattle.seq_timer.specs.declared.event.Event.{Event}
+use Rattle.seq_timer.specs.declared.event.Event.TheVariants as events
+use Rattle.seq_timer.specs.declared.event.Reply.{Reply}
+use Rattle.seq_timer.specs.declared.event.Reply.TheVariants as replies
+use Rattle.seq_timer.specs.Histories as histories
+use Rattle.seq_timer.specs.Steps.{Timer, after, expiry_from, now_of, opening, reply_to}
+use Rattle.record_text.specs.Numbers.{EntryHasNoSlack, HasNoSlack, HaveNoSlack}
+use Rattle.record_text.specs.declared.record.Answer.{Answer}
+use Rattle.record_text.specs.declared.record.Answer.TheVariants as answers
+use Rattle.record_text.specs.declared.record.ClockLine.{ClockLine}
+use Rattle.record_text.specs.declared.record.Entry.{Entry}
+use Rattle.record_text.specs.declared.record.Entry.TheVariants as entries
+use Rattle.record_text.specs.declared.record.Label.{Label}
+use Rattle.record_text.specs.declared.record.ObjectEntry.{ObjectEntry}
+use Rattle.record_text.specs.declared.record.RunRecord.{RunRecord}
+use Rattle.record_text.specs.declared.record.SettimeReply.{SettimeReply}
+use Rattle.record_text.specs.declared.record.TimerLine.{TimerLine}
+use Rattle.record_text.specs.declared.record.Armed.{Armed}
+use Rattle.record_text.specs.declared.record.Armed.TheVariants as armings
+use Rattle.script_text.specs.Actions.{Action, Entered, Looked, Made, Skipped, Wrote, also, entered, own}
+use Rattle.script_text.specs.Histories.{answers_of, declared_of, entry_shown, history_from, history_of, lines_of_timer, terms_of}
+use Rattle.script_text.specs.ObjectCalls.{Arms, DoesAccept, DoesGettime, DoesRead, DoesSettime, MakesRearming, MakesSettime, cancels}
+use Rattle.script_text.specs.Objects.{kind_of}
+use Rattle.script_text.specs.Order.{CallInRound, IsLabel, calls_from, calls_of, is_label}
+use Rattle.script_text.specs.Scripts.{IsInRange, all_calls}
+use Rattle.script_text.specs.VersionOne.{IsHardCall}
+use Rattle.script_text.proofs.Lists.{All-append}
+use Rattle.script_text.proofs.VersionOne.{version_one_is_hard}
+use Rattle.record_text.proofs.Lists.{All-back, All-front}
+use Rattle.record_text.specs.declared.version.Version.TheVariants as versions
+use Rattle.script_text.specs.Starts.{Arming, arming_actions, asked_slack, without_slack}
+use Rattle.script_text.specs.declared.script.Call.{Call}
+use Rattle.script_text.specs.declared.script.Call.TheVariants as calls
+use Rattle.script_text.specs.declared.script.Callback.TheVariants as callbacks
+use Rattle.script_text.specs.declared.script.Kind.{Kind}
+use Rattle.script_text.specs.declared.script.Kind.TheVariants as kinds
+use Rattle.script_text.specs.declared.script.LaneCall.{LaneCall}
+use Rattle.script_text.specs.declared.script.Round.{Round}
+use Rattle.script_text.specs.declared.script.Script.{Script}
+use Rattle.script_text.specs.declared.script.StartRequest.{StartRequest}
+use Rattle.run_history.specs.Calls.{Does, IsBody, IsExpiryRun, fires}
+use Rattle.run_history.specs.Courses.{Fired}
+use Rattle.run_history.specs.EachTimer.{FitsTimers, HasTimers}
+use Rattle.run_history.specs.Fits.{Fits}
+use Rattle.run_history.proofs.EachTimer.{fits_for_each_timer}
+use Rattle.run_history.proofs.Labels.{label_itself}
+
+-- ---- histories
+
+-- an event asks for no slack
+abbrev EventAsksNone : Event → Type 0
+EventAsksNone (events.Start asked) = asked.slack ≡ 0
+EventAsksNone other = Unit {0}
+
+-- what a reply tells of both expiries: they are one
+abbrev RepliesOne : Reply → Type 0
+RepliesOne (replies.Start placement was) = placement.soft ≡ placement.expires
+RepliesOne (replies.Forward moved) = moved.soft ≡ moved.expires
+RepliesOne other = Unit {0}
+
+no_slack : (mode : Mode) (ns : ℕ) (clock : ClockId) (reading : ClockReading) → expiry_from mode ns clock reading ≡ sat (expiry_from mode ns clock reading + 0)
+no_slack modes.Abs ns clock reading = omega arith
+no_slack modes.Keep ns clock reading = omega arith
+no_slack modes.Rel ns clock reading = omega arith
+
+-- one step: the reply tells one expiry, and the timer has one after it
+one_step : (t : Timer) (e : Event) → t.soft ≡ t.expires → EventAsksNone e → RepliesOne (reply_to t e) × ((after t e).soft ≡ (after t e).expires)
+one_step t (events.Out base) one none = (tt, one)
+one_step t (events.Start asked) one none =
+    let clock = effective_clock t.declared.clock asked.mode t.clock in
+    let same = no_slack asked.mode asked.ns clock asked.reading ∙ ap (λ n. sat (expiry_from asked.mode asked.ns clock asked.reading + n)) (sym none) in
+    (same, same)
+one_step t events.Cancel one none = (tt, one)
+one_step t (events.Claim base reading) one none = (tt, one)
+one_step t (events.Forward reading interval) one none =
+    let same = ap (λ n. sat (n + passed t.expires (now_of t reading) interval * step_of interval)) one in (same, same)
+one_step t (events.Finish restart) one none = (tt, one)
+
+one_along : (t : Timer) (es : List histories.Entry) → t.soft ≡ t.expires → histories.AreSteps t es
+    → AllByRecursion (λ (e : histories.Entry). EventAsksNone e.event) es → AllByRecursion (λ (e : histories.Entry). RepliesOne e.reply) es
+one_along t [] one steps none = tt
+one_along t (e ∷ es) one steps none =
+    let step = one_step t e.event one none.0 in
+    (subst RepliesOne (sym steps.1) step.0, one_along (after t e.event) es step.1 steps.2 none.1)
+
+-- ---- lines
+
+-- an entry asks for no slack
+abbrev AsksNone : Entry → Type 0
+AsksNone (entries.Start l) = l.slack ≡ 0
+AsksNone other = Unit {0}
+
+shown_none : (clock : List ClockLine) (stamp : ℕ) (e : Entry) → AsksNone e → EventAsksNone (entry_shown clock stamp e).event
+shown_none clock stamp (entries.Out base was) none = tt
+shown_none clock stamp (entries.Start l) none = none
+shown_none clock stamp (entries.Cancel generation) none = tt
+shown_none clock stamp (entries.Claim base reading generation) none = tt
+shown_none clock stamp (entries.Forward l) none = tt
+shown_none clock stamp (entries.Finish restart generation rearmed) none = tt
+
+shown_one : (clock : List ClockLine) (stamp : ℕ) (e : Entry) → AsksNone e → RepliesOne (entry_shown clock stamp e).reply → EntryHasNoSlack e
+shown_one clock stamp (entries.Out base was) none one = tt
+shown_one clock stamp (entries.Start l) none one = (none, one)
+shown_one clock stamp (entries.Cancel generation) none one = tt
+shown_one clock stamp (entries.Claim base reading generation) none one = tt
+shown_one clock stamp (entries.Forward l) none one = one
+shown_one clock stamp (entries.Finish restart generation rearmed) none one = tt
+
+lines_none : (clock : List ClockLine) (stamp : ℕ) (lines : List TimerLine) → AllByRecursion (λ (l : TimerLine). AsksNone l.entry) lines
+    → AllByRecursion (λ (e : histories.Entry). EventAsksNone e.event) (history_from clock stamp lines)
+lines_none clock stamp [] none = tt
+lines_none clock stamp (l ∷ lines) none = (shown_none clock stamp l.entry none.0, lines_none clock (stamp + 1) lines none.1)
+
+lines_one : (clock : List ClockLine) (stamp : ℕ) (lines : List TimerLine) → AllByRecursion (λ (l : TimerLine). AsksNone l.entry) lines
+    → AllByRecursion (λ (e : histories.Entry). RepliesOne e.reply) (history_from clock stamp lines) → HaveNoSlack lines
+lines_one clock stamp [] none one = tt
+lines_one clock stamp (l ∷ lines) none one = (shown_one clock stamp l.entry none.0 one.0, lines_one clock (stamp + 1) lines none.1 one.1)
+
+-- ---- what calls did
+
+-- an action enters nothing with slack
+abbrev ActsNone : Action → Type 0
+ActsNone (Entered timer number entry) = AsksNone entry
+ActsNone other = Unit {0}
+
+abbrev AllNone : List Action → Type 0
+AllNone ds = AllByRecursion ActsNone ds
+
+none-append : (ds es : List Action) → AllNone ds → AllNone es → AllNone (ds ++ es)
+none-append [] es one two = two
+none-append (d ∷ ds) es one two = (one.0, none-append ds es one.1 two)
+
+also_none : (b : Bool) (x : ℕ × Entry) (xs : List (ℕ × Entry)) → AsksNone x.1 → AllByRecursion (λ (x : ℕ × Entry). AsksNone x.1) xs
+    → AllByRecursion (λ (x : ℕ × Entry). AsksNone x.1) (also b x xs)
+also_none true x xs one rest = (one, rest)
+also_none false x xs one rest = rest
+
+entered_none : (t : ℕ) (ds : List Action) → AllNone ds → AllByRecursion (λ (x : ℕ × Entry). AsksNone x.1) (entered t ds)
+entered_none t [] none = tt
+entered_none t (Wrote number write ∷ ds) none = entered_none t ds none.1
+entered_none t (Entered timer number entry ∷ ds) none = also_none (nat_eq timer t) (number, entry) (entered t ds) none.0 (entered_none t ds none.1)
+entered_none t (Looked timer number reply ∷ ds) none = entered_none t ds none.1
+entered_none t (Made i number entry ∷ ds) none = entered_none t ds none.1
+entered_none t (Skipped i number generation ∷ ds) none = entered_none t ds none.1
+
+start_none : (timer reading : ℕ) (request : StartRequest) (a : Arming) → asked_slack request ≡ 0 → AllNone (arming_actions timer request reading a)
+start_none timer reading request a none = go a.out
+  where
+    go : (out : Option (ℕ × Bool)) → AllNone (arming_actions timer request reading (record a { out = out }))
+    go None = (none, tt)
+    go (Some out) = (tt, (none, tt))
+
+arms_none : (timer ns reading base : ℕ) (mode : Mode) (arm : Armed) (start : List Action) → Arms timer mode ns reading base arm start → AllNone start
+arms_none timer ns reading base mode armings.None start is = subst AllNone (sym is) tt
+arms_none timer ns reading base mode (armings.Generation generation) start is =
+    subst AllNone (sym is.1) (start_none timer reading (without_slack mode ns base) is.0 refl)
+arms_none timer ns reading base mode armings.Unarmed start is = subst AllNone (sym is) tt
+
+nothing_none : (actions : List Action) → actions ≡ [] → AllNone actions
+nothing_none actions is = subst AllNone (sym is) tt
+
+settime_made_none : {kind : Kind} {timer flags : ℕ} {value interval : TimeSpec} {reading : ℕ} {reply : SettimeReply} {actions : List Action}
+    → MakesSettime kind timer flags value interval reading reply actions → AllNone actions
+settime_made_none {timer = timer} makes =
+    subst AllNone (sym makes.done) (none-append (cancels timer makes.cancel ++ makes.start) _
+    (none-append (cancels timer makes.cancel) makes.start (cancelled makes.cancel) (arms_none _ _ _ _ _ makes.arm makes.start makes.arms)) (tt, tt))
+  where
+    cancelled : (cancel : Option (ℕ × ℕ)) → AllNone (cancels timer cancel)
+    cancelled None = tt
+    cancelled (Some c) = (tt, tt)
+
+rearming_made_none : {kind : Kind} {timer reading : ℕ} {entry : Armed → ObjectEntry} {actions : List Action} → MakesRearming kind timer reading entry actions
+    → AllNone actions
+rearming_made_none makes =
+    subst AllNone (sym makes.done) (none-append makes.start _ (arms_none _ _ _ _ _ makes.arm makes.start makes.arms) (tt, tt))
+
+settime_none : (kind : Kind) (timer flags : ℕ) (value interval : TimeSpec) (reading : ℕ) (answer : Answer) (actions : List Action)
+    → DoesSettime kind timer flags value interval reading answer actions → AllNone actions
+settime_none kind timer flags value interval reading answers.Invalid actions does = nothing_none actions does.0
+settime_none kind timer flags value interval reading (answers.Spent stamp) actions does = nothing_none actions does.0
+settime_none kind timer flags value interval reading (answers.Old left old) actions does = settime_made_none does
+settime_none kind timer flags value interval reading answers.Canceled actions does = settime_made_none does
+settime_none kind timer flags value interval reading (answers.Unarmed stamp) actions does = settime_made_none does
+settime_none kind timer flags value interval reading answer actions does = absurd does
+
+gettime_none : (kind : Kind) (timer reading : ℕ) (answer : Answer) (actions : List Action) → DoesGettime kind timer reading answer actions → AllNone actions
+gettime_none (kinds.Posix base) timer reading (answers.LeftAt left interval shown stamp) actions does = nothing_none actions does.0
+gettime_none (kinds.Fd base) timer reading (answers.Left left interval) actions does = rearming_made_none does
+gettime_none (kinds.Fd base) timer reading (answers.Spent stamp) actions does = nothing_none actions does
+gettime_none kind timer reading answer actions does = absurd does
+
+accept_none : (kind : Kind) (timer reading : ℕ) (answer : Answer) (actions : List Action) → DoesAccept kind timer reading answer actions → AllNone actions
+accept_none kind timer reading (answers.Accepted overrun) actions does = rearming_made_none does
+accept_none kind timer reading answers.NoSignal actions does = rearming_made_none does
+accept_none kind timer reading (answers.Spent stamp) actions does = nothing_none actions does
+accept_none kind timer reading answer actions does = absurd does
+
+read_none : (kind : Kind) (timer len reading : ℕ) (answer : Answer) (actions : List Action) → DoesRead kind timer len reading answer actions → AllNone actions
+read_none kind timer len reading answers.Invalid actions does = nothing_none actions does.0
+read_none kind timer len reading (answers.Spent stamp) actions does = nothing_none actions does.0
+read_none kind timer len reading (answers.Count total) actions does = rearming_made_none does.1
+read_none kind timer len reading answers.Again actions does = rearming_made_none does.1
+read_none kind timer len reading answers.Canceled actions does = rearming_made_none does.1
+read_none kind timer len reading answer actions does = absurd does
+
+-- a callback that starts its timer asks for no slack
+body_none : (kind : Kind) (reading : ℕ) (f : Fired) → IsBody kind reading f → AllNone f.body
+body_none (kinds.Raw context callbacks.Once) reading f is = nothing_none f.body is.0
+body_none (kinds.Raw context (callbacks.Every interval)) reading f is =
+    ⊎_elim (λ forward. subst AllNone (sym forward.4) (tt, tt))
+    (λ looked. ⊎_elim (λ armed. subst AllNone (sym armed.2) (tt, tt)) (λ spent. subst AllNone (sym spent.1) (tt, tt)) looked) is.0
+body_none (kinds.Raw context callbacks.Cancels) reading f is = subst AllNone (sym is.0.1) (tt, tt)
+body_none (kinds.Raw context (callbacks.Starts ns base)) reading f is =
+    ⊎_elim (λ a. subst AllNone (sym a.1) (start_none f.timer reading (without_slack modes.Rel ns base) a.0 refl))
+    (λ spent. subst AllNone (sym spent.1) (tt, tt)) is.0
+body_none (kinds.Posix base) reading f is =
+    ⊎_elim (λ trigger. subst AllNone (sym trigger.2) (tt, tt)) (λ skipped. subst AllNone (sym skipped.1) (tt, tt)) is.0
+body_none (kinds.Fd base) reading f is =
+    ⊎_elim (λ trigger. subst AllNone (sym trigger.2) (tt, tt)) (λ skipped. subst AllNone (sym skipped.1) (tt, tt)) is.0
+
+fired_none : (s : Script) (base reading : ℕ) (fired : List Fired) → AllByRecursion (λ f. IsBody (kind_of s f.timer) reading f) fired
+    → AllNone (flat_map (fires base reading) fired)
+fired_none s base reading [] bodies = tt
+fired_none s base reading (f ∷ fired) bodies =
+    none-append (fires base reading f) _ (tt, none-append f.body _ (body_none (kind_of s f.timer) reading f bodies.0) (tt, tt))
+    (fired_none s base reading fired bodies.1)
+
+run_none : {s : Script} {context : Context} {reading base : ℕ} {fired : List Fired} {shown : ℕ} {timers : List ℕ} {actions : List Action}
+    → IsExpiryRun s context reading base fired shown timers actions → AllNone actions
+run_none {s = s} {reading = reading} {base = base} {fired = fired} run = subst AllNone (sym run.done) (fired_none s base reading fired run.bodies)
+
+-- a call asks for no slack
+abbrev pub CallAsksNone : Call → Type 0
+CallAsksNone (calls.Start timer request) = asked_slack request ≡ 0
+CallAsksNone other = Unit {0}
+
+does_none : (s : Script) (reading : ℕ) (call : Call) (answer : Answer) (fired : List Fired) (actions : List Action) → CallAsksNone call
+    → Does s reading call answer fired actions → AllNone actions
+does_none s reading (calls.Start timer request) (answers.Started generation on was) fired actions none does =
+    subst AllNone (sym does.1) (start_none timer reading request does.0 none)
+does_none s reading (calls.Start timer request) (answers.Spent stamp) fired actions none does = nothing_none actions does
+does_none s reading (calls.Cancel timer) (answers.Cancelled generation) fired actions none does = subst AllNone (sym does.1) (tt, tt)
+does_none s reading (calls.Cancel timer) (answers.Running generation stamp) fired actions none does = nothing_none actions does
+does_none s reading (calls.Cancel timer) (answers.Idle stamp) fired actions none does = nothing_none actions does
+does_none s reading (calls.Peek timer) (answers.Peek stamp base enqueued running moving) fired actions none does = nothing_none actions does
+does_none s reading (calls.Expire context base budget) (answers.Done shown timers) fired actions none does = run_none does.0
+does_none s reading (calls.Expire context base budget) (answers.More shown timers) fired actions none does = run_none does.0
+does_none s reading (calls.Expire context base budget) (answers.Busy shown timers timer generation) fired actions none does = run_none does.0
+does_none s reading (calls.Clock write) (answers.Clock stamp) fired actions none does = subst AllNone (sym does) (tt, tt)
+does_none s reading (calls.Clock write) (answers.Range would_be) fired actions none does = nothing_none actions does
+does_none s reading (calls.Settime timer flags value interval) answer fired actions none does =
+    settime_none (kind_of s timer) timer flags value interval reading answer actions does
+does_none s reading (calls.Gettime timer) answer fired actions none does = gettime_none (kind_of s timer) timer reading answer actions does
+does_none s reading (calls.Accept timer) answer fired actions none does = accept_none (kind_of s timer) timer reading answer actions does
+does_none s reading (calls.Overrun timer) (answers.Overrun overrun stamp) fired actions none does = nothing_none actions does
+does_none s reading (calls.Read timer len) answer fired actions none does = read_none (kind_of s timer) timer len reading answer actions does
+does_none s reading (calls.Readable timer) (answers.Readable ready shown stamp) fired actions none does = nothing_none actions does.0
+does_none s reading call answer fired actions none does = absurd does
+
+-- ---- the record
+
+-- what stands at a place of a list
+found : {A : Type 0} (xs : List A) (i : ℕ) → i < length xs → (x : A) × (slice_get xs i ≡ Some x)
+found [] i less = absurd (omega (arith, less))
+found (x ∷ xs) zero less = (x, refl)
+found (x ∷ xs) (suc i) less = found xs i (omega (arith, less))
+
+-- what holds of each list by its number holds of all
+all_lists : (lists : List (List TimerLine)) → ((t : ℕ) → HaveNoSlack (get_or lists t [])) → AllByRecursion HaveNoSlack lists
+all_lists [] each = tt
+all_lists (x ∷ xs) each = (each 0, all_lists xs (λ t. each (suc t)))
+
+-- where all lines of each label ask for none, and each line bears such a label, all do
+each_none : (Is : Label → Type 0) (number : ℕ) (lines : List TimerLine)
+    → ((c : Label) → Is c → AllByRecursion (λ (x : ℕ × Entry). AsksNone x.1) (own (λ l. l.label) (λ l. l.entry) c number lines))
+    → AllByRecursion Is (map (λ (l : TimerLine). l.label) lines) → AllByRecursion (λ (l : TimerLine). AsksNone l.entry) lines
+each_none Is number [] own_none labels = tt
+each_none Is number (l ∷ lines) own_none labels = (
+  (subst (λ b. AllByRecursion (λ (x : ℕ × Entry). AsksNone x.1) (also b (number, l.entry) (own (λ l. l.label) (λ l. l.entry) l.label (number + 1) lines)))
+      (label_itself l.label) (own_none l.label labels.0)).0,
+  each_none Is (number + 1) lines (λ c is. behind c (is_label c l.label) (own_none c is)) labels.1,
+)
+  where
+    behind : (c : Label) (b : Bool) → AllByRecursion (λ (x : ℕ × Entry). AsksNone x.1) (also b (number, l.entry) (own (λ l. l.label) (λ l. l.entry) c (number + 1) lines))
+        → AllByRecursion (λ (x : ℕ × Entry). AsksNone x.1) (own (λ l. l.label) (λ l. l.entry) c (number + 1) lines)
+    behind c true all = all.1
+    behind c false all = all
+
+-- each call of a script asks for no slack
+abbrev pub NoneAsked : Script → Type 0
+NoneAsked s = (lane index : ℕ) (p : CallInRound) → slice_get (calls_of s lane) index ≡ Some p → CallAsksNone p.call
+
+timer_none : (s : Script) (r : RunRecord) → HasTimers s r → NoneAsked s → (t : ℕ) → HaveNoSlack (lines_of_timer r t)
+timer_none s r has none t =
+    let lines = lines_of_timer r t in
+    let asks : AllByRecursion (λ (l : TimerLine). AsksNone l.entry) lines =
+    each_none (IsLabel s) 1 lines (λ c is. own_of c is) (has.labels t) in
+    lines_one r.clock 0 lines asks (one_along (opening (declared_of s t) (terms_of s)) (history_of r t) refl (has.histories t) (lines_none r.clock 0 lines asks))
+  where
+    own_of : (c : Label) → IsLabel s c → AllByRecursion (λ (x : ℕ × Entry). AsksNone x.1) (own (λ l. l.label) (λ l. l.entry) c 1 (lines_of_timer r t))
+    own_of c is =
+        let p = found (calls_of s c.lane) c.call is in
+        let a = found (answers_of r c.lane) c.call (subst (λ n. c.call < n) (sym (has.answered c.lane)) is) in
+        let fits : FitsTimers s r c p.0.call a.0 = has.calls c.lane c.call p.0 a.0 p.1 a.1 in
+        subst (λ xs. AllByRecursion (λ (x : ℕ × Entry). AsksNone x.1) xs) (sym (fits.entered t))
+        (entered_none t fits.actions (does_none s fits.at p.0.call a.0 fits.fired fits.actions (none c.lane c.call p.0 p.1) fits.does))
+
+-- law: the record of a script whose calls ask for no slack has none
+pub none_recorded : (s : Script) (r : RunRecord) → HasTimers s r → NoneAsked s → HasNoSlack r
+none_recorded s r has none = all_lists r.timers (λ t. timer_none s r has none t)
+
+-- ---- scripts of version 1
+
+hard_none : (call : Call) → IsHardCall call → CallAsksNone call
+hard_none (calls.Start timer request) hard = ap (λ slack. unwrap_or slack 0) hard
+hard_none (calls.Cancel timer) hard = tt
+hard_none (calls.Peek timer) hard = tt
+hard_none (calls.Expire context base budget) hard = tt
+hard_none (calls.Clock write) hard = tt
+hard_none (calls.Settime timer flags value interval) hard = tt
+hard_none (calls.Gettime timer) hard = tt
+hard_none (calls.Accept timer) hard = tt
+hard_none (calls.Overrun timer) hard = tt
+hard_none (calls.Read timer len) hard = tt
+hard_none (calls.Readable timer) hard = tt
+
+-- these calls, in a round
+abbrev in_round : ℕ → List LaneCall → List CallInRound
+in_round round cs = map (λ (c : LaneCall). record { round = round; call = c.call }) cs
+
+-- the calls of one lane among those of a round
+lane_none : (lane round : ℕ) (cs : List LaneCall) → AllByRecursion (λ (c : LaneCall). IsHardCall c.call) cs
+    → AllByRecursion (λ (p : CallInRound). CallAsksNone p.call)
+    (in_round round (filter (λ (c : LaneCall). nat_eq c.lane lane) cs))
+lane_none lane round [] hard = tt
+lane_none lane round (c ∷ cs) hard = kept (nat_eq c.lane lane) (lane_none lane round cs hard.1)
+  where
+    kept : (b : Bool) → AllByRecursion (λ (p : CallInRound). CallAsksNone p.call) (in_round round (filter (λ (c : LaneCall). nat_eq c.lane lane) cs))
+        → AllByRecursion (λ (p : CallInRound). CallAsksNone p.call)
+        (in_round round (if b then c ∷ filter (λ (c : LaneCall). nat_eq c.lane lane) cs else filter (λ (c : LaneCall). nat_eq c.lane lane) cs))
+    kept true rest = (hard_none c.call hard.0, rest)
+    kept false rest = rest
+
+rounds_none : (lane round : ℕ) (rs : List Round) → AllByRecursion (λ (c : LaneCall). IsHardCall c.call) (all_calls rs)
+    → AllByRecursion (λ (p : CallInRound). CallAsksNone p.call) (calls_from lane round rs)
+rounds_none lane round [] hard = tt
+rounds_none lane round (r ∷ rs) hard =
+    All-append (λ (p : CallInRound). CallAsksNone p.call) _ (calls_from lane (round + 1) rs)
+    (lane_none lane round r.calls (All-front _ r.calls (all_calls rs) hard)) (rounds_none lane (round + 1) rs (All-back _ r.calls (all_calls rs) hard))
+
+at_none : (ps : List CallInRound) (i : ℕ) (p : CallInRound) → AllByRecursion (λ (p : CallInRound). CallAsksNone p.call) ps → slice_get ps i ≡ Some p
+    → CallAsksNone p.call
+at_none [] i p all at = absurd cc
+at_none (q ∷ ps) zero p all at = subst (λ (p : CallInRound). CallAsksNone p.call) (same_Some q p at) all.0
+at_none (q ∷ ps) (suc i) p all at = at_none ps i p all.1 at
+
+-- law: a record that fits a script of version 1 has no slack
+pub version_one_recorded : (s : Script) (r : RunRecord) → IsInRange s → s.version ≡ versions.One → Fits s r → HasNoSlack r
+version_one_recorded s r range one fits =
+    none_recorded s r (fits_for_each_timer s r fits)
+    (λ lane index p at. at_none (calls_of s lane) index p (rounds_none lane 0 s.rounds (version_one_is_hard s range one).calls) at)

@@ -1,0 +1,20 @@
+-- What a script of the first version never asks for: a slack, or the soft context.
+use Rattle.std.specs.Prelude.{◌≡◌, None}
+use Rattle.std.specs.List.{AllByRecursion}
+use Rattle.seq_timer.specs.declared.context.Context.TheVariants as contexts
+use Rattle.script_text.specs.declared.script.Call.{Call}
+use Rattle.script_text.specs.declared.script.Call.TheVariants as calls
+use Rattle.script_text.specs.declared.script.Script.{Script}
+use Rattle.script_text.specs.Histories.{context_of}
+use Rattle.script_text.specs.Scripts.{all_calls}
+
+-- a call asks for no slack, and runs no callbacks of the soft context
+abbrev pub IsHardCall : Call → Type 0
+IsHardCall (calls.Start timer request) = request.slack ≡ None
+IsHardCall (calls.Expire context base budget) = context ≡ contexts.Hard
+IsHardCall call = Unit
+
+-- each timer of a script is of the hard context, and each of its calls asks for no more
+pub record IsHard (s : Script) : Type 0 where
+  pub timers : AllByRecursion (λ d. context_of d.kind ≡ contexts.Hard) s.timers
+  pub calls : AllByRecursion (λ c. IsHardCall c.call) (all_calls s.rounds)
