@@ -7,18 +7,16 @@ use Rattle.pass_names.specs.Names.{IsLast}
 use Rattle.pass_names.specs.Passes.{Begins}
 use Rattle.pass_names.specs.SharedHistory.{ExtendsBy, Known, LooksOn, MeetWith, TakesIn}
 use Rattle.pass_names.proofs.Passes.{begins_trans, begins_more}
-use Rattle.ktime.specs.declared.mode.Mode.{Mode}
-use Rattle.ktime.specs.Readings.{ClockReading}
-use Rattle.seq_timer.specs.declared.event.Asked.{Asked}
-use Rattle.seq_timer.specs.declared.event.Event.{Event}
+use Rattle.seq_timer.specs.Events.{Asked}
+use Rattle.seq_timer.specs.Events.{Event}
 use Rattle.seq_timer.specs.declared.system.TimerEntry.{TimerEntry}
-use Rattle.seq_timer.specs.declared.event.Event.TheVariants.{Start}
+use Rattle.seq_timer.specs.declared.event.EventBy.TheVariants.{Start}
 use Rattle.seq_timer.specs.Steps.{Timer, after}
 use Rattle.seq_timer.specs.Tables.{timer_at}
 use Rattle.seq_timer.specs.Histories as seq
-use Rattle.seq_timer.specs.Systems.{BaseContent, changed, entries_of, first_system}
+use Rattle.seq_timer.specs.Systems.{BaseContent, entries_of, first_system}
 use Rattle.seq_timer.proofs.Limits.{stamp-after_all}
-use Rattle.seq_timer.proofs.Systems.{after_entries-entries_of, entries_of-append, states_here, states_len}
+use Rattle.seq_timer.proofs.Systems.{after_entries-entries_of, entries_of-append}
 use Rattle.base_row.specs.declared.view.Claimed.{Claimed}
 use Rattle.base_row.specs.declared.view.HeldContent.{HeldContent}
 use Rattle.base_row.specs.declared.view.Opening.{Opening}
@@ -27,7 +25,6 @@ use Rattle.base_row.specs.Rules.{takes_at}
 use Rattle.base_row.specs.Plays.{SeatState, GotBase, KnowsOwn, Lost, carried_slots}
 use Rattle.base_row.specs.Calls.{Absorbs, Appended, AreFresh, LearnsFrom, LetsGo, GetsBase, MayAppend}
 use Rattle.base_row.specs.Calls.{MissesBase, SeesFurther, Waits, entry_in, known_of, own_entry, timer_seen}
-use Rattle.base_row.proofs.Frames.{some_same}
 
 -- ---- takes
 
@@ -205,23 +202,6 @@ module _ (o : Opening) (fresh : AreFresh o.timers) (h : HeldContent BaseContent)
       after_entries-entries_of (first_system o.timers) t w.seen ∙ (ap (seq.after_all first) extends_appended.own
       ∙ (after_all-push first (entries_of t v.seen) e ∙ ap (λ x. after x event) (sym (after_entries-entries_of (first_system o.timers) t v.seen))))
 
--- and as the base then keeps it
-pub state_entered : (o : Opening) → AreFresh o.timers → (h g : HeldContent BaseContent) (t : ℕ) (event : Event) (v w : BaseView BaseContent)
-    → Appended o h t event v w → w.held ≡ Some g → t < length g.content.states
-    → timer_at g.content.states t ≡ timer_seen o w t
-state_entered o fresh h g t event v w told held room =
-    let now : HeldContent BaseContent = record { base = h.base; word = h.word; content = changed t (timer_seen o v t) event h.content } in
-    let is : now ≡ g = some_same now g (sym (ap (λ (x : BaseView BaseContent). x.held) told.rest) ∙ held) in
-    let room' : t < length h.content.states = omega (
-      arith,
-      ap (λ (x : HeldContent BaseContent). length x.content.states) is,
-      states_len t
-          (timer_seen o v t) event h.content,
-      room,
-    ) in
-    ap (λ (x : HeldContent BaseContent). timer_at x.content.states t) (sym is)
-    ∙ (states_here t (timer_seen o v t) event h.content room' ∙ sym (seen_after o fresh h t event v w told))
-
 -- a timer of which nothing more was seen is as it was
 pub seen_same : (o : Opening) (v w : BaseView BaseContent) (t : ℕ) → entries_of t w.seen ≡ entries_of t v.seen → timer_seen o w t ≡ timer_seen o v t
 seen_same o v w t own = after_entries-entries_of (first_system o.timers) t w.seen
@@ -239,5 +219,5 @@ may_start o v h t asked inside held carry moves here there = record {
     base = there;
     carries = λ m. carry;
   };
-  own = λ m. carry;
+  own = tt;
 }

@@ -17,7 +17,7 @@ use Rattle.base_row.specs.declared.view.Claimed.{Claimed}
 use Rattle.base_row.specs.declared.view.HeldContent.{HeldContent}
 use Rattle.base_row.specs.declared.view.Opening.{Opening}
 use Rattle.base_row.specs.declared.view.BaseView.{BaseView}
-use Rattle.seq_timer.specs.declared.event.Event.{Event}
+use Rattle.seq_timer.specs.Events.{Event}
 use Rattle.base_row.proofs.Events.{go_along}
 use Rattle.seq_timer.specs.Systems.{BaseContent, System, first_system, after_entry, changed, IsSystemStep, FitsBase}
 use Rattle.base_row.specs.Rules.{held_in, places_at, base_claims_at, holds_at, carries_at, runs, now, HeldHolds, PassHolds, RowHolds, HasOneHistory, number_of}
@@ -217,7 +217,7 @@ pub enters_by : (bases : ℕ) (opened : List Timer) (id : ℕ) (v : BaseView Bas
 enters_by bases opened id v h timer event asked opening picked live may own slots slot word stamp word_is stamp_is s kept many at small =
     let t = seen_timer bases opened number_of v timer in
     let e = entry_of_event bases opened number_of v timer event in
-    let along = go_along v timer t event (reply_to t event) may.allowed.needs own in
+    let along = go_along v timer t event (reply_to t event) may.allowed.needs own may.carries in
     let r = enters bases opened number_of id v h e (claims_with_event timer t event v.claims)
     (carry_after timer t event v.carry) live may slots slot along s kept many at
     (subst (λ i. slice_index s.words i < 18446744073709551616) word_is small) in (

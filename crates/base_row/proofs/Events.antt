@@ -1,22 +1,24 @@
 -- How claims and carry go along with each event.
-use Rattle.std.proofs.Common.{◌≡◌, ℕ, eqb, ◌&&◌, ◌+◌, ◌≢◌, Bool, true, false, List, [], ◌∷◌, ◌++◌, refl, ap, sym, arith, if◌then◌else◌}
-use Rattle.std.specs.Prelude.{Option, Some, None, IsSome, IsNone, unwrap_or}
-use Rattle.std.proofs.lemmas.Bool.{true≢false, and_parts, eqb-true, eq-eqb, ne_eqb}
-use Rattle.seq_timer.specs.declared.event.Event.{Event}
-use Rattle.seq_timer.specs.declared.event.Event.TheVariants as events
+use Rattle.std.proofs.Common.{◌≡◌, ℕ, eqb, ◌&&◌, ◌+◌, ◌<◌, ◌≢◌, ◌⊎◌, ⊎_elim, ◌∙◌, Bool, true, false, List, [], ◌∷◌, ◌++◌, refl, ap, sym, arith, if◌then◌else◌}
+use Rattle.std.specs.Prelude.{Option, Some, None, IsSome, unwrap_or}
+use Rattle.std.proofs.lemmas.Bool.{false≢true, true≢false, and_parts, eqb-true, eq-eqb, ne_eqb}
+use Rattle.seq_timer.specs.Events.{Event}
+use Rattle.seq_timer.specs.declared.effect.RunEffect.{RunEffect}
+use Rattle.seq_timer.specs.declared.effect.RunEffect.TheVariants as functions
 use Rattle.seq_timer.specs.declared.event.Reply.{Reply}
-use Rattle.seq_timer.specs.Steps.{Timer, Needs}
+use Rattle.seq_timer.specs.Effects.{effect}
+use Rattle.seq_timer.specs.Steps.{Timer, Needs, after}
+use Rattle.seq_timer.proofs.Effects.{IsSent, RunNeeds, SentNeeds, by_effect, running_afterwards}
 use Rattle.pass_names.specs.Counts.{one_if, count}
 use Rattle.pass_names.proofs.Counts.{total-append, count-without_first}
 use Rattle.base_row.specs.declared.view.Claimed.{Claimed}
 use Rattle.base_row.specs.declared.view.BaseView.{BaseView}
 use Rattle.seq_timer.specs.Systems.{BaseContent}
-use Rattle.base_row.specs.Rules.{is_base_claim, carried_in, is_generation}
-use Rattle.base_row.specs.Plays.{claims_with_event, carry_after, OwnNeeds, GoAlong}
+use Rattle.base_row.specs.Rules.{base_claims_at, carried_in, is_base_claim, is_generation, runs}
+use Rattle.base_row.specs.Plays.{GoAlong, OwnNeeds, OwnNeedsBy, carried_by, carry_after, claims_by, claims_with_event}
 
-no_generation : (g : ℕ) (o : Option ℕ) (b : Bool) → IsNone o → one_if (is_generation g o && b) ≡ 0
-no_generation g None b none = refl
-no_generation g (Some r) b none = absurd (true≢false none)
+none_runs : (g b : ℕ) (t : Timer) → t.running ≡ None → one_if (runs g b t) ≡ 0
+none_runs g b t none = ap (λ r. one_if (is_generation g r && eqb t.base b)) none
 
 its_generation : (g : ℕ) (o : Option ℕ) → IsSome o → is_generation g o ≡ eqb (unwrap_or o 0) g
 its_generation g None is = absurd (true≢false (sym is))
@@ -40,64 +42,117 @@ claim_is id g b c e =
 let_go : (id k g b r base : ℕ) (c : Claimed) → is_base_claim id r base c ≡ true → is_base_claim k g b c ≡ (eqb id k && (eqb r g && eqb base b))
 let_go id k g b r base c e = let t = claim_is id r base c e in rw (t.0, t.1.0, t.1.1) refl
 
-carry_start : (id : ℕ) (m : Bool) (carry : Option ℕ) → (m ≡ true → carry ≡ Some id)
-    → carried_in id (if m then None else carry) + one_if m ≡ carried_in id carry + 0
-carry_start id true carry has = omega (arith, ap (carried_in id) (has refl), ap one_if (eq-eqb id id refl))
-carry_start id false carry has = refl
+-- what an event needs of its pass, taken apart
+own_claims : (v : BaseView BaseContent) (id : ℕ) (t : Timer) (by_claimer : Bool) (sent : Option ℕ) → OwnNeedsBy by_claimer sent v id t → by_claimer ≡ true
+    → 0 < base_claims_at id (unwrap_or t.running 0) t.base v
+own_claims v id t false sent own is = absurd (false≢true is)
+own_claims v id t true None own is = own
+own_claims v id t true (Some base) own is = own.0
 
-carry_start_else : (id k : ℕ) (m : Bool) (carry : Option ℕ) → k ≢ id → (m ≡ true → carry ≡ Some id)
-    → carried_in k (if m then None else carry) ≡ carried_in k carry
-carry_start_else id k true carry n has = omega (arith, ap (carried_in k) (has refl), ap one_if (ne_eqb id k (λ e. n (sym e))))
-carry_start_else id k false carry n has = refl
+own_carry : (v : BaseView BaseContent) (id base : ℕ) (t : Timer) (by_claimer : Bool) → OwnNeedsBy by_claimer (Some base) v id t → v.carry ≡ None
+own_carry v id base t false own = own
+own_carry v id base t true own = own.1
 
-pub go_along : (v : BaseView BaseContent) (id : ℕ) (t : Timer) (event : Event) (reply : Reply) → Needs t event → OwnNeeds v id t event
-    → GoAlong t (record { timer = id; event = event; reply = reply }) v (claims_with_event id t event v.claims) (carry_after id t event v.carry)
-go_along v id t (events.Out base) reply needs mine = record {
-  own = λ g b. omega (arith, no_generation g t.running (eqb t.base b) needs.0, no_generation g t.running (eqb base b) needs.0);
-  apart = λ k g b n. refl;
-  carry_here = omega (arith, ap (carried_in id) mine, ap one_if (eq-eqb id id refl), ap one_if needs.1);
-  carry_else = λ k n. omega (arith, ap (carried_in k) mine, ap one_if (ne_eqb id k (λ e. n (sym e))));
-}
-go_along v id t (events.Start asked) reply needs mine = record {
-  own = λ g b. refl;
-  apart = λ k g b n. refl;
-  carry_here = carry_start id t.moving v.carry mine;
-  carry_else = λ k n. carry_start_else id k t.moving v.carry n mine;
-}
-go_along v id t events.Cancel reply needs mine = record { own = λ g b. refl; apart = λ k g b n. refl; carry_here = refl; carry_else = λ k n. refl }
-go_along v id t (events.Claim base reading) reply needs mine = record {
-  own = λ g b. omega (
+-- ---- what is carried
+
+carry_none : (id : ℕ) (was is : Bool) (carry : Option ℕ) → (is ≡ was) ⊎ (is ≡ false) → (was ≡ true → carry ≡ Some id)
+    → carried_in id (if is then carry else if was then None else carry) + one_if was ≡ carried_in id carry + one_if is
+carry_none id true true carry goes has = refl
+carry_none id true false carry goes has = omega (arith, ap (carried_in id) (has refl), ap one_if (eq-eqb id id refl))
+carry_none id false true carry goes has = ⊎_elim (λ same. absurd (true≢false same)) (λ stops. absurd (true≢false stops)) goes
+carry_none id false false carry goes has = refl
+
+carry_none_else : (id k : ℕ) (was is : Bool) (carry : Option ℕ) → k ≢ id → (was ≡ true → carry ≡ Some id)
+    → carried_in k (if is then carry else if was then None else carry) ≡ carried_in k carry
+carry_none_else id k was true carry n has = refl
+carry_none_else id k true false carry n has = omega (arith, ap (carried_in k) (has refl), ap one_if (ne_eqb id k (λ e. n (sym e))))
+carry_none_else id k false false carry n has = refl
+
+module _ (v : BaseView BaseContent) (id : ℕ) (t now : Timer) (by_claimer : Bool) (moves : t.moving ≡ true → v.carry ≡ Some id) where
+  carry_here : (sent : Option ℕ) → IsSent sent t now → SentNeeds sent t now → OwnNeedsBy by_claimer sent v id t
+      → carried_in id (carried_by sent id t now v.carry) + one_if t.moving ≡ carried_in id v.carry + one_if now.moving
+  carry_here None is needs own = carry_none id t.moving now.moving v.carry is.1 moves
+  carry_here (Some base) is needs own = omega (
+    arith,
+    ap (carried_in id) (own_carry v id base t by_claimer own),
+    ap one_if (eq-eqb id id refl),
+    ap one_if needs.1,
+    ap one_if is.1,
+  )
+
+  carry_else : (sent : Option ℕ) → OwnNeedsBy by_claimer sent v id t → (k : ℕ) → k ≢ id
+      → carried_in k (carried_by sent id t now v.carry) ≡ carried_in k v.carry
+  carry_else None own k n = carry_none_else id k t.moving now.moving v.carry n moves
+  carry_else (Some base) own k n = omega (arith, ap (carried_in k) (own_carry v id base t by_claimer own), ap one_if (ne_eqb id k (λ e. n (sym e))))
+
+-- ---- claims
+
+-- a timer whose function runs on does so in the same generation on the same base
+runs_same : (g b : ℕ) (t now : Timer) (sent : Option ℕ) → IsSent sent t now → SentNeeds sent t now → now.running ≡ t.running
+    → one_if (runs g b now) ≡ one_if (runs g b t)
+runs_same g b t now None is needs same = λ i. one_if (is_generation g (same i) && eqb (is.0 i) b)
+runs_same g b t now (Some base) is needs same = none_runs g b now needs.3 ∙ sym (none_runs g b t needs.0)
+
+module _ (v : BaseView BaseContent) (id : ℕ) (t now : Timer) (by_claimer : Bool)
+    (claimed : by_claimer ≡ true → 0 < base_claims_at id (unwrap_or t.running 0) t.base v) where
+  abbrev kept : RunEffect → ℕ → ℕ → ℕ → ℕ
+  kept f k g b = count (is_base_claim k g b) (claims_by f id t v.claims)
+
+  -- of a function that ends its claim is gone
+  gone : by_claimer ≡ true → (k g b : ℕ)
+      → kept functions.Ends k g b + one_if (eqb id k && (eqb (unwrap_or t.running 0) g && eqb t.base b)) ≡ base_claims_at k g b v
+  gone is k g b = count-without_first (is_base_claim id (unwrap_or t.running 0) t.base) (is_base_claim k g b)
+      (eqb id k && (eqb (unwrap_or t.running 0) g && eqb t.base b)) (let_go id k g b (unwrap_or t.running 0) t.base) v.claims (claimed is)
+
+  claims_here : (f : RunEffect) → now.running ≡ running_afterwards f t → RunNeeds f by_claimer t now
+      → ((g b : ℕ) → now.running ≡ t.running → one_if (runs g b now) ≡ one_if (runs g b t))
+      → (g b : ℕ) → kept f id g b + one_if (runs g b t) ≡ base_claims_at id g b v + one_if (runs g b now)
+  claims_here functions.Stays running needs same g b = omega (arith, same g b running)
+  claims_here (functions.Begins reading) running needs same g b = omega (
     arith,
     one_claim id id g b (unwrap_or t.armed 0) t.base v.claims,
     ap (λ x. one_if (x && (eqb (unwrap_or t.armed 0) g && eqb t.base b))) (eq-eqb id id refl),
-    no_generation g t.running (eqb t.base b) needs.2,
-    ap (λ x. one_if (x && eqb t.base b)) (its_generation g t.armed needs.0),
-  );
-  apart = λ k g b n. omega (
+    none_runs g b t needs.idle,
+    begun_runs,
+  )
+    where
+      begun_runs : one_if (runs g b now) ≡ one_if (eqb (unwrap_or t.armed 0) g && eqb t.base b)
+      begun_runs = (λ i. one_if (is_generation g (running i) && eqb (needs.base i) b))
+          ∙ ap (λ x. one_if (x && eqb t.base b)) (its_generation g t.armed needs.armed)
+  claims_here functions.Ends running needs same g b = omega (
+    arith,
+    gone needs.claimed id g b,
+    ap (λ x. one_if (x && (eqb (unwrap_or t.running 0) g && eqb t.base b))) (eq-eqb id id refl),
+    ap (λ x. one_if (x && eqb t.base b)) (its_generation g t.running needs.runs),
+    none_runs g b now running,
+  )
+
+  claims_else : (f : RunEffect) → RunNeeds f by_claimer t now → (k g b : ℕ) → k ≢ id → kept f k g b ≡ base_claims_at k g b v
+  claims_else functions.Stays needs k g b n = refl
+  claims_else (functions.Begins reading) needs k g b n = omega (
     arith,
     one_claim id k g b (unwrap_or t.armed 0) t.base v.claims,
-    ap
-        (λ x. one_if (x && (eqb (unwrap_or t.armed 0) g && eqb t.base b))) (ne_eqb id k (λ e. n (sym e))),
-  );
-  carry_here = refl;
-  carry_else = λ k n. refl;
-}
-go_along v id t (events.Forward reading interval) reply needs mine =
-    record { own = λ g b. refl; apart = λ k g b n. refl; carry_here = refl; carry_else = λ k n. refl }
-go_along v id t (events.Finish restart) reply needs mine =
-    let r = unwrap_or t.running 0 in
-    let left : (k g b : ℕ) → count (is_base_claim k g b) (claims_with_event id t (events.Finish restart) v.claims) + one_if
-    (eqb id k && (eqb r g && eqb t.base b)) ≡ count (is_base_claim k g b) v.claims =
-    λ k g b. count-without_first (is_base_claim id r t.base) (is_base_claim k g b) (eqb id k && (eqb r g && eqb t.base b))
-    (let_go id k g b r t.base) v.claims mine in
+    ap (λ x. one_if (x && (eqb (unwrap_or t.armed 0) g && eqb t.base b))) (ne_eqb id k (λ e. n (sym e))),
+  )
+  claims_else functions.Ends needs k g b n = omega (
+    arith,
+    gone needs.claimed k g b,
+    ap (λ x. one_if (x && (eqb (unwrap_or t.running 0) g && eqb t.base b))) (ne_eqb id k (λ e. n (sym e))),
+  )
+
+pub go_along : (v : BaseView BaseContent) (id : ℕ) (t : Timer) (event : Event) (reply : Reply) → Needs t event → OwnNeeds v id t event
+    → (t.moving ≡ true → v.carry ≡ Some id)
+    → GoAlong t (record { timer = id; event = event; reply = reply }) v (claims_with_event id t event v.claims) (carry_after id t event v.carry)
+go_along v id t event reply needs own moves =
+    let d = effect t event in
+    let now = after t event in
+    let goes = by_effect t event in
+    let allowed = goes.needs needs in
+    let claimed = own_claims v id t d.by_claimer d.sent own in
     record {
-      own = λ g b. omega (
-        arith,
-        left id g b,
-        ap (λ x. one_if (x && (eqb r g && eqb t.base b))) (eq-eqb id id refl),
-        ap (λ x. one_if (x && eqb t.base b)) (its_generation g t.running needs),
-      );
-      apart = λ k g b n. omega (arith, left k g b, ap (λ x. one_if (x && (eqb r g && eqb t.base b))) (ne_eqb id k (λ e. n (sym e))));
-      carry_here = refl;
-      carry_else = λ k n. refl;
+      own = claims_here v id t now d.by_claimer claimed d.function goes.running allowed.function
+          (λ g b same. runs_same g b t now d.sent goes.sent allowed.sent same);
+      apart = claims_else v id t now d.by_claimer claimed d.function allowed.function;
+      carry_here = carry_here v id t now d.by_claimer moves d.sent goes.sent allowed.sent own;
+      carry_else = carry_else v id t now d.by_claimer moves d.sent own;
     }

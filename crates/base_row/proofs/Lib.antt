@@ -11,4 +11,5 @@ pub mod Catching
 pub mod Beginning
 pub mod Stable
 pub mod Calling
+pub mod Logging
 pub mod Placed

@@ -5,10 +5,9 @@ use Rattle.std.proofs.lemmas.Bool.{cases_eq}
 use Rattle.std.proofs.lemmas.Bool.Decides.{nat_tests}
 use Rattle.std.proofs.lemmas.List.{get_or_past}
 use Rattle.ktime.specs.Readings.{ClockReading}
-use Rattle.seq_timer.specs.declared.event.Event.{Event}
-use Rattle.seq_timer.specs.declared.event.Event.TheVariants as events
-use Rattle.seq_timer.specs.Steps.{Timer, after, greatest_limit}
-use Rattle.seq_timer.proofs.Limits.{HasLeft, left-after, stamp-after}
+use Rattle.seq_timer.specs.Steps.{Timer, greatest_limit}
+use Rattle.seq_timer.proofs.Effects.{HasLeft, placed_by}
+use Rattle.seq_timer.proofs.Limits.{left-after, stamp-after}
 use Rattle.seq_timer.specs.Histories.{peek_of}
 use Rattle.timer_word.specs.Words.{IsWord, packed}
 use Rattle.seq_timer.specs.declared.observation.Peek.{Peek}
@@ -21,7 +20,7 @@ use Rattle.seq_timer.specs.declared.system.TimerEntry.{TimerEntry}
 use Rattle.base_row.specs.declared.view.HeldContent.{HeldContent}
 use Rattle.base_row.specs.declared.view.Opening.{Opening}
 use Rattle.base_row.specs.declared.view.BaseView.{BaseView}
-use Rattle.seq_timer.specs.Systems.{BaseContent, System, first_system, after_entry, after_entries, AreSystemSteps, FitsBase, IsFresh, next_on}
+use Rattle.seq_timer.specs.Systems.{BaseContent, System, first_system, after_entry, after_entries, AreSystemSteps, BeginsInTurn, IsFresh, next_on}
 use Rattle.seq_timer.specs.Tables.{IsNextDue}
 use Rattle.base_row.specs.Rules.{number_of}
 use Rattle.base_row.specs.Plays.{KnowsBases}
@@ -30,15 +29,6 @@ use Rattle.seq_timer.proofs.Systems.{timer_here, timer_else, untouched}
 use Rattle.seq_timer.proofs.Agreement.{agrees}
 use Rattle.seq_timer.proofs.Firsts.{next_on-next, next_on-none}
 
--- an event leaves a timer on one of the bases
-pub placed_after : (bases : ℕ) (b : BaseContent) (id : ℕ) (t : Timer) (e : Event) → FitsBase bases b id t e → t.base < bases → (after t e).base < bases
-placed_after bases b id t (events.Out base) fits here = fits
-placed_after bases b id t (events.Start asked) fits here = here
-placed_after bases b id t events.Cancel fits here = here
-placed_after bases b id t (events.Claim base reading) fits here = here
-placed_after bases b id t (events.Forward reading interval) fits here = here
-placed_after bases b id t (events.Finish restart) fits here = here
-
 module _ (bases count : ℕ) where
   pub placed : (w : System) (log : List TimerEntry) → ((t : ℕ) → (w.timers t).base < bases) → AreSystemSteps bases count w log → (t : ℕ)
       → ((after_entries w log).timers t).base < bases
@@ -46,7 +36,8 @@ module _ (bases count : ℕ) where
   placed w (e ∷ es) first all t = placed (after_entry w e) es (λ k. ⊎_elim
       (λ (same : k ≡ e.timer). subst (λ i. ((after_entry w e).timers i).base < bases) (sym same)
       (subst (λ (x : Timer). x.base < bases) (sym (timer_here w e))
-      (placed_after bases (w.bases (w.timers e.timer).base) e.timer (w.timers e.timer) e.event all.0.base (first e.timer))))
+      (placed_by (BeginsInTurn (w.bases (w.timers e.timer).base) e.timer (w.timers e.timer)) bases (w.timers e.timer) e.event all.0.needs all.0.base
+      (first e.timer))))
       (λ apart. subst (λ (x : Timer). x.base < bases) (sym (timer_else w e k apart)) (first k))
       (cases_eq k e.timer)) all.1 t
 

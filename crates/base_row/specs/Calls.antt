@@ -5,12 +5,14 @@ use Rattle.pass_names.specs.Passes.{Begins}
 use Rattle.pass_names.specs.SharedHistory.{Known}
 use Rattle.seq_timer.specs.declared.context.Terms.{Terms}
 use Rattle.seq_timer.specs.declared.context.Declared.{Declared}
-use Rattle.seq_timer.specs.declared.event.Event.{Event}
+use Rattle.seq_timer.specs.Events.{Event}
 use Rattle.seq_timer.specs.declared.system.TimerEntry.{TimerEntry}
 use Rattle.seq_timer.specs.Steps.{Timer, greatest_limit, reply_to}
 use Rattle.seq_timer.specs.Tables.{timer_at}
 use Rattle.seq_timer.specs.Histories as seq
 use Rattle.seq_timer.specs.Systems.{BaseContent, IsFresh, IsOn, entries_of, openings}
+use Rattle.base_row.specs.declared.log.Noted.TheVariants as noteds
+use Rattle.base_row.specs.declared.log.Receipt.{Receipt}
 use Rattle.base_row.specs.declared.view.Claimed.{Claimed}
 use Rattle.base_row.specs.declared.view.HeldContent.{HeldContent}
 use Rattle.base_row.specs.declared.view.Opening.{Opening}
@@ -71,6 +73,10 @@ known_of v = record { id = v.id; seen = v.seen; mine = v.mine; claims = v.claims
 -- the entry of an event in its timer's part of the history, with the reply that it gets after what the pass has seen
 abbrev pub own_entry : Opening → BaseView BaseContent → ℕ → Event → seq.Entry
 own_entry o v t event = record { event = event; reply = reply_to (timer_seen o v t) event }
+
+-- and its receipt
+abbrev pub own_receipt : Opening → BaseView BaseContent → ℕ → Event → Receipt
+own_receipt o v t event = record { timer = t; number = (timer_seen o v t).stamp + 1; event = event; reply = noteds.Entry (reply_to (timer_seen o v t) event) }
 
 -- a pass has got a base. The take is its own, and the lock word that it knows is the take's.
 pub record GetsBase (base : ℕ) (v w : BaseView BaseContent) (h : HeldContent BaseContent) : Type 0 where

@@ -1,5 +1,6 @@
 pub mod Places
 pub mod Rests
 pub mod Rules
+pub mod Logs
 pub mod Calls
 pub mod Plays

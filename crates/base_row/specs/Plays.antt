@@ -1,14 +1,16 @@
 -- What each step tells.
 use Rattle.base_row.specs.Places.{lock_at, word_at}
-use Rattle.std.specs.Prelude.{◌≡◌, ℕ, ◌+◌, ◌<◌, ◌≤◌, ◌==◌, true, List, [], ◌∷◌, ◌++◌, length, set}
+use Rattle.std.specs.Prelude.{◌≡◌, ℕ, ◌+◌, ◌<◌, ◌≤◌, ◌==◌, Bool, true, false, List, [], ◌∷◌, ◌++◌, length, set}
 use Rattle.std.specs.Prelude.{slice_index, max, replicate, ◌≢◌, ◌⊎◌, ◌^◌, ◌-◌, Option, Some, None, MatchBool, unwrap_or, if◌then◌else◌}
 use Rattle.atomic_table.specs.Seated.{TableId}
 use Rattle.atomic_table.specs.Table.{Me, Step, rest}
 use Rattle.pass_names.specs.Counts.{one_if, count, without_first}
 use Rattle.pass_names.specs.Names.{IsLast, first_pass_id, gone_pass_id, after_split, child_of, after_retire}
 use Rattle.pass_names.specs.Passes.{Begins, within}
-use Rattle.seq_timer.specs.declared.event.Event.{Event}
-use Rattle.seq_timer.specs.declared.event.Event.TheVariants as events
+use Rattle.seq_timer.specs.Events.{Event}
+use Rattle.seq_timer.specs.declared.effect.RunEffect.{RunEffect}
+use Rattle.seq_timer.specs.declared.effect.RunEffect.TheVariants as functions
+use Rattle.seq_timer.specs.Effects.{effect}
 use Rattle.seq_timer.specs.Steps.{Timer, after, reply_to}
 use Rattle.seq_timer.specs.declared.system.TimerEntry.{TimerEntry}
 use Rattle.base_row.specs.declared.view.Claimed.{Claimed}
@@ -232,32 +234,35 @@ module _ (bases : ℕ) (opened : List Timer) (code : Timer → ℕ) where
     pub steady : Steady me.0 new.0
     pub knows : KnowsBases new.0
 
+-- the claims, by what becomes of a timer's function; the timer was so before
+abbrev pub claims_by : RunEffect → ℕ → Timer → List Claimed → List Claimed
+claims_by functions.Stays id t claims = claims
+claims_by (functions.Begins reading) id t claims = claims ++ record { timer = id; generation = unwrap_or t.armed 0; base = t.base } ∷ []
+claims_by functions.Ends id t claims = without_first (is_base_claim id (unwrap_or t.running 0) t.base) claims
+
 -- the claims after an event of a timer, which was so
 abbrev pub claims_with_event : ℕ → Timer → Event → List Claimed → List Claimed
-claims_with_event id t (events.Out base) claims = claims
-claims_with_event id t (events.Start asked) claims = claims
-claims_with_event id t events.Cancel claims = claims
-claims_with_event id t (events.Claim base reading) claims = claims ++ record { timer = id; generation = unwrap_or t.armed 0; base = t.base } ∷ []
-claims_with_event id t (events.Forward reading interval) claims = claims
-claims_with_event id t (events.Finish restart) claims = without_first (is_base_claim id (unwrap_or t.running 0) t.base) claims
+claims_with_event id t event claims = claims_by (effect t event).function id t claims
+
+-- the timer that is carried: one that is sent, and no more one that was on the move and isn't
+abbrev pub carried_by : Option ℕ → ℕ → Timer → Timer → Option ℕ → Option ℕ
+carried_by None id was is carry = if is.moving then carry else if was.moving then None else carry
+carried_by (Some base) id was is carry = Some id
 
 -- the timer that is carried after an event of a timer, which was so
 abbrev pub carry_after : ℕ → Timer → Event → Option ℕ → Option ℕ
-carry_after id t (events.Out base) carry = Some id
-carry_after id t (events.Start asked) carry = if t.moving then None else carry
-carry_after id t events.Cancel carry = carry
-carry_after id t (events.Claim base reading) carry = carry
-carry_after id t (events.Forward reading interval) carry = carry
-carry_after id t (events.Finish restart) carry = carry
+carry_after id t event carry = carried_by (effect t event).sent id t (after t event) carry
 
--- what an event needs of the pass that makes it
+-- what an effect needs of the pass that makes it: the claim, where it is made by who has that; and that no timer is carried yet, where one is sent
+abbrev pub OwnNeedsBy : Bool → Option ℕ → BaseView BaseContent → ℕ → Timer → Type 0
+OwnNeedsBy false None v id t = Unit {0}
+OwnNeedsBy false (Some base) v id t = v.carry ≡ None
+OwnNeedsBy true None v id t = 0 < base_claims_at id (unwrap_or t.running 0) t.base v
+OwnNeedsBy true (Some base) v id t = (0 < base_claims_at id (unwrap_or t.running 0) t.base v) × (v.carry ≡ None)
+
+-- and what an event does
 abbrev pub OwnNeeds : BaseView BaseContent → ℕ → Timer → Event → Type 0
-OwnNeeds v id t (events.Out base) = v.carry ≡ None
-OwnNeeds v id t (events.Start asked) = t.moving ≡ true → v.carry ≡ Some id
-OwnNeeds v id t events.Cancel = Unit {0}
-OwnNeeds v id t (events.Claim base reading) = Unit {0}
-OwnNeeds v id t (events.Forward reading interval) = 0 < base_claims_at id (unwrap_or t.running 0) t.base v
-OwnNeeds v id t (events.Finish restart) = 0 < base_claims_at id (unwrap_or t.running 0) t.base v
+OwnNeeds v id t event = OwnNeedsBy (effect t event).by_claimer (effect t event).sent v id t
 
 -- a pass's claims and carry go along with an entry of a timer, which was so
 pub record GoAlong (t : Timer) (e : TimerEntry) (v : BaseView BaseContent) (claims : List Claimed) (carry : Option ℕ) : Type 0 where

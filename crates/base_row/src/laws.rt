@@ -1,11 +1,17 @@
 //! What calls on a row say, in the words of their callers: laws over what the calls' clauses name.
-ghost use Rattle.std.specs.Prelude.{ℕ, [], ◌∷◌};
+ghost use Rattle.std.specs.Prelude.{◌≡◌, ◌<◌, ◌⊎◌, ℕ, [], ◌∷◌, List, length, Option, Some};
+ghost use mathlib.Core.Option.{some};
+ghost use lib.ListN.{get_elem?};
+ghost use Rattle.atomic_table.specs.Table.{State};
 ghost use Rattle.pass_names.specs.SharedHistory.{ExtendsBy, LooksOn, MeetWith, TakesIn};
-ghost use Rattle.seq_timer.specs.declared.event.Event.{Event};
-ghost use Rattle.seq_timer.specs.Systems.{BaseContent, entries_of};
+ghost use Rattle.seq_timer.specs.Events.{Event};
+ghost use Rattle.seq_timer.specs.Steps.{Timer};
+ghost use Rattle.seq_timer.specs.declared.system.TimerEntry as entry;
+ghost use Rattle.seq_timer.specs.Systems.{BaseContent, IsOn, entries_of};
 ghost use Rattle.base_row.specs.declared.view.HeldContent as locked;
 ghost use Rattle.base_row.specs.declared.view.Opening as opening;
 ghost use Rattle.base_row.specs.declared.view.BaseView as view;
+ghost use Rattle.base_row.specs.Rules.{RowHolds, now, number_of};
 ghost use Rattle.base_row.specs.Calls.{Absorbs, Appended, AreFresh, LearnsFrom, LetsGo, GetsBase, SeesFurther, Waits, known_of, own_entry};
 
 /// Taking a base's lock, letting it go and loading a word add no entry: what was seen goes on, and name, places and claims stay.
@@ -29,4 +35,12 @@ pub fn passes_tell_what_they_saw()
     ensures retire { (v u w : view.BaseView BaseContent) → Absorbs v u w → TakesIn (known_of v) (known_of u) (known_of w) }
     ensures meet { (a b new_a new_b : view.BaseView BaseContent) → LearnsFrom b a new_b → LearnsFrom a new_b new_a
         → MeetWith (known_of a) (known_of b) (known_of new_a) (known_of new_b) }
+{}
+
+/// What a pass that holds a base has seen of the timers on it, and of the one that it carries there, is all that has happened to them.
+pub fn a_holder_has_seen_all_of_its_timers()
+    ensures { (bases : ℕ) (opened : List Timer) (log : List entry.TimerEntry) (s : State (Option BaseContent) (view.BaseView BaseContent))
+        → RowHolds bases opened number_of log s → (j : ℕ) (v : view.BaseView BaseContent) → get_elem? s.views j ≡ some v
+        → (h : locked.HeldContent BaseContent) → v.held ≡ Some h → (t : ℕ) → t < length opened
+        → (IsOn h.base ((now bases opened number_of v.seen).timers t) ⊎ (v.carry ≡ Some t)) → entries_of t log ≡ entries_of t v.seen }
 {}

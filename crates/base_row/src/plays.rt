@@ -24,13 +24,13 @@ impl TableRule<BaseCell, SlotView, About> for BaseRule {
 
 /// Which event an entry has. Each entry picks it.
 pub trait Asked {
-    ghost use Rattle.seq_timer.specs.declared.event.Event.{Event};
+    ghost use Rattle.seq_timer.specs.Events.{Event};
 
     ghost event: { Event };
 }
 
 impl Asked for Brand {
-    ghost use Rattle.seq_timer.specs.declared.event.Event.TheVariants.{Cancel};
+    ghost use Rattle.seq_timer.specs.declared.event.EventBy.TheVariants.{Cancel};
 
     ghost event = { Cancel };
 }

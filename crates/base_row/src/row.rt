@@ -1,9 +1,9 @@
 //! A row of bases behind locks, with timers that have a word each.
 ghost use Rattle.base_row.specs.Places.{lock_at, word_at};
-ghost use Rattle.std.specs.Prelude.{◌≡◌, ◌-◌, ◌^◌, ◌<◌, ◌≤◌, ℕ, length, slice_index, Some, None, [], MatchOption, IfOk, IfSome, IfNone, false};
+ghost use Rattle.std.specs.Prelude.{◌≡◌, ◌+◌, ◌-◌, ◌^◌, ◌<◌, ◌≤◌, ℕ, length, slice_index, Some, None, [], MatchOption, IfOk, IfSome, IfNone, false};
 ghost use Rattle.pass_names.specs.Names.{AnswersFor, IsLast};
 ghost use Rattle.base_row.specs.Rules.{number_of};
-ghost use Rattle.seq_timer.specs.declared.event.Event.TheVariants as events;
+ghost use Rattle.seq_timer.specs.declared.event.EventBy.TheVariants as events;
 ghost use Rattle.seq_timer.specs.Histories.{peek_of};
 ghost use Rattle.seq_timer.specs.Steps.{after, greatest_limit, reply_to};
 ghost use Rattle.seq_timer.specs.Tables.{IsNextDue, IsStopped, in_context, runs_on};
@@ -13,17 +13,18 @@ ghost use Rattle.ktime.specs.declared.clock_id.ClockId.{ClockId};
 ghost use Rattle.seq_timer.specs.Systems.{IsOn, next_on};
 ghost use Rattle.base_row.specs.Plays.{KnowsOwn, first_base_view, Lost, GotBase, carried_slots, split_base_view, new_base_view, Steady};
 ghost use Rattle.base_row.specs.Calls.{AreFresh, GetsBase, MissesBase, opening_of, IsBasePassOf, LetsGo, SeesFurther, Absorbs};
-ghost use Rattle.base_row.specs.Calls.{LearnsFrom, MayAppend, Appended, timer_seen, base_seen};
+ghost use Rattle.base_row.specs.Calls.{LearnsFrom, MayAppend, Appended, own_receipt, timer_seen, base_seen};
 
 use crate::cell::BaseCell;
 use crate::held::{HeldBase, Pass};
+use crate::log::{Sink, Unlogged};
 use crate::parts::{empty_slots, lock_index, number_of, timer_index, zeros};
 use crate::plays::{About, BaseRule, Child, SlotView};
 use crate::slots::{attempt, put_back};
 use crate::steps::{absorb, enter, free, look, tell};
 use atomic_table::{Refused, Table};
-use crossbeam_utils::Backoff;
 use ktime::Reading;
+use pass_names::Retries;
 use seq_timer::{Context, Declared, Event, Peek, Reply, Terms, TimerState, make_timers};
 use std::alloc::{AllocError, Global};
 use std::marker::{Brand, Model};
@@ -107,9 +108,8 @@ impl BaseRow {
         ensures held { pass.new.knows.held ≡ Some held.new }
         ensures adds { Appended self.now.about held.old timer event pass.old.knows pass.new.knows }
     {
-        pass.known();
-        let state = held.slot.state(timer);
-        self.enter_state(pass, held, timer, state, event)
+        let mut state = self.state(pass, held, timer);
+        self.append_logged(pass, &mut Unlogged, held, timer, &mut state, event)
     }
 
     /// Takes a timer off the held base, for another base (`switch_hrtimer_base`). The pass carries it until it arrives there.
@@ -123,10 +123,10 @@ impl BaseRow {
         ensures state { result ≡ timer_seen self.now.about pass.new.knows timer }
         ensures after { result ≡ after (timer_seen self.now.about pass.old.knows timer) (events.Out to) }
     {
-        self.append(pass, held, timer, Event::Out { base: to });
-        pass.known();
-        self.fresh();
-        held.slot.state(timer)
+        let mut state = self.state(pass, held, timer);
+        let event = Event::Out { base: to };
+        self.append_logged(pass, &mut Unlogged, held, timer, &mut state, event);
+        state
     }
 
     /// Starts a timer that the pass carries, on the held base, to which it was sent. `state` is its state as `out` gave it.
@@ -149,35 +149,44 @@ impl BaseRow {
         ensures arrived { pass.new.knows.carry ≡ None }
     {
         pass.known();
-        self.enter_state(pass, held, timer, state, event)
+        let mut state = state;
+        self.append_logged(pass, &mut Unlogged, held, timer, &mut state, event)
     }
 
-    /// Adds an entry of a timer whose state is known.
-    fn enter_state(
+    /// Adds an entry of a timer whose state the caller knows, and puts its receipt into a sink. The timer is on the held base, or is carried to it.
+    /// The state is stepped as the timer is.
+    pub fn append_logged<S: Sink>(
         &self,
         pass: &mut Pass,
+        sink: &mut S,
         held: &mut HeldBase,
         timer: u32,
-        state: TimerState,
+        state: &mut TimerState,
         event: Event,
     ) -> Reply
         requires row { IsBasePassOf self.now pass.old }
         requires may { MayAppend self.now.about pass.old.knows held.old timer event }
-        requires state { state ≡ timer_seen self.now.about pass.old.knows timer }
+        requires state { state.old ≡ timer_seen self.now.about pass.old.knows timer }
+        requires room { 0 < S.room sink.old }
         ensures row { IsBasePassOf self.now pass.new }
         ensures reply { result ≡ reply_to (timer_seen self.now.about pass.old.knows timer) event }
         ensures held { pass.new.knows.held ≡ Some held.new }
         ensures adds { Appended self.now.about held.old timer event pass.old.knows pass.new.knows }
+        ensures after { state.new ≡ after (timer_seen self.now.about pass.old.knows timer) event }
+        ensures state { state.new ≡ timer_seen self.now.about pass.new.knows timer }
+        ensures logged { sink.new ≡ S.pushed sink.old (own_receipt self.now.about pass.old.knows timer event) }
+        ensures room { S.room sink.old ≤ S.room sink.new + 1 }
     {
         pass.known();
         self.fresh();
-        let mut now = state;
-        let reply = now.apply(event);
-        held.slot.step(timer, &state, &event, &now);
-        let number = number_of(&now);
+        let old = *state;
+        let reply = state.apply(event);
+        held.slot.step(timer, &old, &event, state);
+        let number = number_of(state);
         let word = self.word_index(timer);
         let cells = &self.table.shared;
         enter::<Brand>(cells, &mut pass.seat, word, timer, number, &event);
+        sink.note(timer, state.stamp(), event, reply);
         reply
     }
 
@@ -218,12 +227,10 @@ impl BaseRow {
         ensures row { IsBasePassOf self.now pass.new }
         ensures locks { GetsBase base pass.old.knows pass.new.knows result }
     {
-        let backoff = Backoff::new();
-        for _ in rt.forever() {
+        for _ in Retries::new(rt) {
             if let Some(held) = self.try_lock_base(pass, base) {
                 return held;
             }
-            backoff.snooze();
         }
         unreachable!()
     }

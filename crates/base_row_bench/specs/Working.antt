@@ -2,7 +2,7 @@
 use Rattle.std.specs.Prelude.{◌≡◌, ℕ, ◌+◌, ◌≤◌, [], length, None, Some}
 use Rattle.ktime.specs.Readings.{ClockReading}
 use Rattle.ktime.specs.declared.mode.Mode.TheVariants as modes
-use Rattle.seq_timer.specs.declared.event.Asked.{Asked}
+use Rattle.seq_timer.specs.Events.{Asked}
 use Rattle.pass_names.specs.Names.{AreFirstTwo}
 use Rattle.seq_timer.specs.Systems.{BaseContent}
 use Rattle.base_row.specs.declared.view.BaseView.{BaseView}

@@ -1,6 +1,6 @@
 //! What the threads do: a timer is started and cancelled under one lock of its base, so many times.
 ghost use Rattle.std.specs.Prelude.{◌≡◌, ◌*◌, ◌^◌, ◌<◌, ◌≤◌, length};
-ghost use Rattle.seq_timer.specs.declared.event.Event.TheVariants as events;
+ghost use Rattle.seq_timer.specs.declared.event.EventBy.TheVariants as events;
 ghost use Rattle.base_row_bench.specs.Working.{AreBoth, HoldsOneBase, IsReady, Worked, WorkedOn, asked};
 
 use base_row::{BaseRow, HeldBase, Pass};

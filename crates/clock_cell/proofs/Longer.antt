@@ -2,13 +2,13 @@
 use Rattle.std.proofs.Common.{◌≡◌, ◌≤◌, Bool, true, false, if◌then◌else◌, List, [], ◌∷◌, ◌++◌, length, refl, ap, sym, ◌∙◌, subst, arith}
 use Rattle.std.specs.Prelude.{nat_lt, All}
 use Rattle.std.proofs.lemmas.Bool.Decides.{nat_tests}
-use Rattle.std.proofs.lemmas.List.Elements.{All-head, All-tail}
+use Rattle.std.proofs.lemmas.List.Elements.{All-nil, All-cons, All-head, All-tail}
 use Rattle.clock_model.specs.Clocks.{at_stamp, AreAccepted}
 use Rattle.clock_model.specs.declared.write.Write.{Write}
-use Rattle.pass_names.specs.Passes.{Begins, GoesOn, Retires, Meets}
+use Rattle.pass_names.specs.Passes.{Begins, GoesOn, Looks, Retires, Meets}
 use Rattle.pass_names.proofs.Passes.{begins_refl, begins_nil, begins_trans}
 use Rattle.clock_cell.specs.declared.view.ClockView.{ClockView}
-use Rattle.clock_cell.specs.Views.{AreOfOne, Hears, longer, writes, all_heard, told_clock_view, joined_clock_view}
+use Rattle.clock_cell.specs.Views.{AreOfOne, Hears, KnowsClock, longer, writes, all_heard, told_clock_view, joined_clock_view}
 use Rattle.clock_cell.specs.Plays.{IsRestingView}
 use Rattle.clock_cell.proofs.Frames.{goes_one}
 
@@ -52,6 +52,24 @@ of_one v w old new heard hears =
       All-head P (writes w) (v.heard ++ w.heard) (All-tail P (writes v) (writes w ∷ v.heard ++ w.heard) all),
     )
 
+all_front : (P : List Write → Type 0) (xs ys : List (List Write)) → All P (xs ++ ys) → All P xs
+all_front P [] ys all = All-nil P
+all_front P (x ∷ xs) ys all = All-cons P x xs (All-head P x (xs ++ ys) all) (all_front P xs ys (All-tail P x (xs ++ ys) all))
+
+-- what a pass hears that was told of another goes on from all that it had been told of before
+pub hears_before : (v w old new : ClockView) → old.heard ≡ all_heard v w → Hears old new → Hears v new
+hears_before v w old new heard hears =
+    let P : List Write → Type 0 = λ ws. Begins ws (writes new) in
+    let all : All P (all_heard v w) = subst (All P) heard hears.begins in
+    let both = All-tail P (writes w) (v.heard ++ w.heard) (All-tail P (writes v) (writes w ∷ v.heard ++ w.heard) all) in
+    record { begins = all_front P v.heard w.heard both; none = hears.none }
+
+-- what one pass has seen goes on in what another has, where its one list does
+pub goes_between : (v new : ClockView) → v.pass.seen ≡ writes v ∷ [] → new.pass.seen ≡ writes new ∷ [] → Begins (writes v) (writes new)
+    → GoesOn v.pass.seen new.pass.seen
+goes_between v new one one_new b =
+    subst (λ seen. GoesOn seen new.pass.seen) (sym one) (subst (λ seen. GoesOn (writes v ∷ []) seen) (sym one_new) (goes_one (writes v) (writes new) b))
+
 module _ (v w : ClockView) (is : IsRestingView v) (is_w : IsRestingView w) (one : AreOfOne (writes v) (writes w)) where
   -- what was seen with a pass goes on where its one list does
   from : (u : ClockView) (ws : List Write) → IsRestingView u → Begins (writes u) ws → GoesOn u.pass.seen (ws ∷ [])
@@ -90,3 +108,22 @@ module _ (v w before other : ClockView) (e : before ≡ v) (f : other ≡ w) (is
       subst (λ u. Meets v.pass w.pass u.pass second.pass) (sym (back ∙ (ap (λ u. told_clock_view u to) (same ∙ e) ∙ ap (told_clock_view v) heard)))
       (subst (λ u. Meets v.pass w.pass (told_clock_view v (told_clock_view w v)).pass u.pass) (sym (again ∙ heard))
       (meets v w (subst IsRestingView e is) (subst IsRestingView f is_w) one))
+
+-- a pass that was told of another and has looked: of the views inside the passes, and those before and after
+module _ (v w before other told new : ClockView) (e : before ≡ v) (f : other ≡ w) (is : IsRestingView before) (is_w : IsRestingView other)
+    (tells : told ≡ told_clock_view before other) (looks : Looks told.pass new.pass) (hears : Hears told new) (known : KnowsClock new) where
+  heard_both : told.heard ≡ all_heard v w
+  heard_both = ap (λ u. u.heard) tells ∙ (ap (λ u. all_heard u other) e ∙ ap (all_heard v) f)
+
+  pub looks_told : Looks v.pass new.pass
+  looks_told = record {
+    seen = goes_between v new (subst IsRestingView e is).one known.one (of_one v w told new heard_both hears).0;
+    mine = looks.mine ∙ (ap (λ u. u.pass.mine) tells ∙ ap (λ u. u.pass.mine) e);
+    id = looks.id ∙ (ap (λ u. u.pass.id) tells ∙ ap (λ u. u.pass.id) e);
+  }
+
+  pub goes_on_told : GoesOn w.pass.seen new.pass.seen
+  goes_on_told = goes_between w new (subst IsRestingView f is_w).one known.one (of_one v w told new heard_both hears).1
+
+  pub hears_told : Hears v new
+  hears_told = hears_before v w told new heard_both hears

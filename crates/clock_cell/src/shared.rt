@@ -1,7 +1,7 @@
 //! The shared clock.
 ghost use Rattle.std.specs.Prelude.{◌≡◌, length, IfOk, [], MatchBool};
 ghost use Rattle.pass_names.specs.Names.{AnswersFor, IsLast};
-ghost use Rattle.pass_names.specs.Passes.{Looks, Retires, Meets};
+ghost use Rattle.pass_names.specs.Passes.{Looks, Retires, Meets, GoesOn};
 ghost use Rattle.clock_model.specs.Clocks.{at_stamp, after_write, AreAccepted, IsAccepted};
 ghost use Rattle.clock_model.specs.declared.write.Write.TheVariants.{Advance, Set, Suspend};
 ghost use Rattle.clock_cell.specs.Turns.{Misses, Turned};
@@ -178,6 +178,44 @@ impl SharedClock {
     {
         tell(&self.cell, &mut a.seat, &mut b.seat);
         tell(&self.cell, &mut b.seat, &mut a.seat);
+    }
+
+    /// Two passes tell each other what they have seen, as by `meet`, and both look: each has then seen
+    /// all that both had seen. The second one looks first, so that the first has then seen as much. It
+    /// answers both readings, the first one's before the second one's.
+    pub fn meet_and_read<R: Wait>(
+        &self,
+        rt: &R,
+        a: &mut ClockPass,
+        b: &mut ClockPass,
+    ) -> (Reading, Reading)
+        requires pass { IsPassOfClock self.now a.old × IsPassOfClock self.now b.old }
+        ensures pass { IsPassOfClock self.now a.new × IsPassOfClock self.now b.new }
+        ensures readings { (result.0 ≡ seen_reading a.new.knows) × (result.1 ≡ seen_reading b.new.knows) }
+        ensures count { (result.0.stamp ≡ length (writes a.new.knows)) × (result.1.stamp ≡ length (writes b.new.knows)) }
+        ensures meets { Meets a.old.knows.pass b.old.knows.pass a.new.knows.pass b.new.knows.pass }
+        ensures heard { Hears a.old.knows a.new.knows × Hears b.old.knows b.new.knows }
+        ensures known { KnowsClock a.new.knows × KnowsClock b.new.knows }
+    {
+        let second = self.hear(rt, a, b);
+        let first = self.hear(rt, b, a);
+        (first, second)
+    }
+
+    /// Tells a pass what another has seen, and the one that was told looks.
+    fn hear<R: Wait>(&self, rt: &R, from: &mut ClockPass, to: &mut ClockPass) -> Reading
+        requires pass { IsPassOfClock self.now from.old × IsPassOfClock self.now to.old }
+        ensures pass { IsPassOfClock self.now from.new × IsPassOfClock self.now to.new }
+        ensures from { from.new.knows ≡ from.old.knows }
+        ensures reading { result ≡ seen_reading to.new.knows }
+        ensures count { result.stamp ≡ length (writes to.new.knows) }
+        ensures looks { Looks to.old.knows.pass to.new.knows.pass }
+        ensures told { GoesOn from.old.knows.pass.seen to.new.knows.pass.seen }
+        ensures heard { Hears to.old.knows to.new.knows }
+        ensures known { KnowsClock to.new.knows }
+    {
+        tell(&self.cell, &mut from.seat, &mut to.seat);
+        self.read(rt, to)
     }
 
     /// A pass takes in another, which was split off it, or off one that it took in. What the other had

@@ -13,7 +13,7 @@ use crate::plays::{Child, RowRule};
 use crate::slots::{attempt, put_back};
 use crate::steps::{Known, TAKEN, absorb, check, enter, free, look, tell};
 use atomic_table::{Refused, Table};
-use crossbeam_utils::Backoff;
+use pass_names::Retries;
 use std::alloc::{AllocError, Global};
 use std::marker::{Brand, Model};
 use std::snapshot::Snapshot;
@@ -80,12 +80,10 @@ impl<O: Object> Row<O> {
         ensures row { IsPassOfRow self.now pass.new }
         ensures locks { Locks O.meaning pass.old pass.new index result }
     {
-        let backoff = Backoff::new();
-        for _ in rt.forever() {
+        for _ in Retries::new(rt) {
             if let Some(held) = self.attempt(pass, index) {
                 return held;
             }
-            backoff.snooze();
         }
         unreachable!()
     }

@@ -8,7 +8,7 @@ use Rattle.hr_timers.specs.Known.{KnownOfTimers}
 use Rattle.expire_pass.specs.declared.expiry.ExpireAnswer.{ExpireAnswer}
 use Rattle.expire_pass.specs.declared.expiry.ExpireAnswer.TheVariants as expiries
 use Rattle.expire_pass.specs.declared.handler.Restart.{Restart}
-use Rattle.expire_pass.specs.declared.log.Receipt.{Receipt}
+use Rattle.base_row.specs.declared.log.Receipt.{Receipt}
 use Rattle.expire_pass.specs.Handlers.{Meaning}
 use Rattle.expire_pass.specs.Expiring.{Expires, Turns}
 
@@ -55,8 +55,8 @@ module _ {A B : Type 0} (m : Meaning A) (n : Meaning B) (of : A → B) (o : Open
             keeps = ran.keeps;
             finished = ran.finished;
             finishes = ran.finishes;
-            receipts = ran.receipts;
           };
+          receipts = turns.4.receipts;
         },
       )
 

@@ -1,6 +1,6 @@
 -- What a turn of an expiry run leaves of what its pass knows.
-use Rattle.std.proofs.Common.{◌≡◌, ℕ, ◌<◌, List, [], ◌∷◌, ◌++◌, refl, ap, sym, ◌∙◌, subst, true, false, arith, length, append_assoc}
-use Rattle.std.specs.Prelude.{Bool}
+use Rattle.std.proofs.Common.{◌≡◌, ℕ, ◌+◌, ◌<◌, List, [], ◌∷◌, ◌++◌, refl, ap, sym, ◌∙◌, subst, true, false, arith, length}
+use Rattle.std.specs.Prelude.{Bool, unwrap_or}
 use Rattle.std.proofs.lemmas.List.{append-nil}
 use Rattle.ktime.specs.Readings.{ClockReading}
 use Rattle.pass_names.specs.Counts.{count, drop_if, one_if, without_first}
@@ -12,18 +12,22 @@ use Rattle.base_row.specs.declared.view.Claimed.{Claimed}
 use Rattle.base_row.specs.declared.view.Opening.{Opening}
 use Rattle.base_row.specs.Rules.{is_base_claim}
 use Rattle.hr_timers.specs.declared.numbers.ClaimNumbers.{ClaimNumbers}
-use Rattle.timer_core.specs.declared.answer.Finished.{Finished}
+use Rattle.seq_timer.specs.declared.answer.Finished.{Finished}
 use Rattle.seq_timer.specs.declared.context.Context.{Context}
-use Rattle.seq_timer.specs.declared.event.Event.TheVariants as events
+use Rattle.seq_timer.specs.declared.event.EventBy.TheVariants as events
 use Rattle.seq_timer.specs.declared.event.Reply.TheVariants as replies
-use Rattle.hr_timers.specs.Known.{KnownOfTimers, MadeAt, OwnsClaim, claimed_as, count_of}
+use Rattle.hr_timers.specs.Known.{KnownOfTimers, MadeAt, OwnsClaim, claimed_as, count_of, timer_then}
 use Rattle.hr_timers.proofs.OneClaim.{is_own}
+use Rattle.hr_timers.specs.declared.answer.ClaimAnswer.TheVariants as claimings
 use Rattle.hr_timers.specs.Calls.{ClaimsNextDue}
+use Rattle.hr_timers.specs.Logged.{ClaimsLogged, FinishesLogged}
+use Rattle.base_row.specs.Logs.{LogOf, kept}
+use Rattle.seq_timer.specs.Steps.{restarted_by}
 use Rattle.seq_timer.specs.Histories as seq
 use Rattle.seq_timer.specs.declared.system.TimerEntry.{TimerEntry}
 use Rattle.seq_timer.specs.Systems.{entries_of}
-use Rattle.expire_pass.specs.declared.log.Noted.TheVariants as noteds
-use Rattle.expire_pass.specs.declared.log.Receipt.{Receipt}
+use Rattle.base_row.specs.declared.log.Noted.TheVariants as noteds
+use Rattle.base_row.specs.declared.log.Receipt.{Receipt}
 use Rattle.expire_pass.specs.Handlers.{KeepsPass, Meaning, asks}
 use Rattle.expire_pass.specs.declared.handler.Restart.{Restart}
 use Rattle.expire_pass.specs.Expiring.{Ran, claim_receipt, finish_receipt}
@@ -65,10 +69,10 @@ mine_begins : (v w : KnownOfTimers) (t : ℕ) (x : List TimerEntry) (es : List s
 mine_begins v w t x es made = record { rest = places t (length (entries_of t x)) es; whole = made.mine }
 
 -- a claim, its function and its finish leave the pass's name and claims
-pub turn_keeps : {A : Type 0} (m : Meaning A) (o : Opening) (x : Context) (base : ℕ) (reading : ClockReading) (k : KnownOfTimers) (h : A) (log : List Receipt)
-    (k' : KnownOfTimers) (h' : A) (log' : List Receipt) (c : ClaimNumbers) (claimed : KnownOfTimers)
-    → ClaimsNextDue o k claimed x base reading c → Ran m o reading c claimed h log k' h' log' → KeepsPass k k'
-turn_keeps m o x base reading k h log k' h' log' c claimed next ran =
+pub turn_keeps : {A : Type 0} (m : Meaning A) (o : Opening) (x : Context) (base : ℕ) (reading : ClockReading) (k : KnownOfTimers) (h : A)
+    (k' : KnownOfTimers) (h' : A) (c : ClaimNumbers) (claimed : KnownOfTimers)
+    → ClaimsNextDue o k claimed x base reading c → Ran m o reading c claimed h k' h' → KeepsPass k k'
+turn_keeps m o x base reading k h k' h' c claimed next ran =
     let f = ran.finishes in
     record {
       id = f.made.id ∙ (ran.keeps.id ∙ next.made.id);
@@ -78,18 +82,30 @@ turn_keeps m o x base reading k h log k' h' log' c claimed next ran =
       mine = begins_trans (mine_begins k claimed c.timer next.at _ next.made) (begins_trans ran.keeps.mine (mine_begins ran.done k' c.timer f.at _ f.made));
     }
 
--- the receipts of a claim and of its finish, as they are noted
-pub two_receipts : (reading : ClockReading) (c d : ClaimNumbers) (again : Bool) (restart : Restart) (f : Finished) (log mid end : List Receipt)
-    → d ≡ c → again ≡ asks restart
-    → mid ≡ log ++ record { timer = d.timer; number = d.number; event = events.Claim d.base reading; reply = noteds.Entry (replies.Claim d.generation) } ∷ []
-    → end ≡ mid ++ record { timer = d.timer; number = f.number; event = events.Finish again; reply = noteds.Entry (replies.Finish d.generation f.rearmed) } ∷ []
-    → end ≡ log ++ claim_receipt reading c ∷ finish_receipt c restart f ∷ []
-two_receipts reading c d again restart f log mid end n a first second =
-    let one : Receipt = record { timer = d.timer; number = d.number; event = events.Claim d.base reading; reply = noteds.Entry (replies.Claim d.generation) } in
-    let two : Receipt = record { timer = d.timer; number = f.number; event = events.Finish again; reply = noteds.Entry (replies.Finish d.generation f.rearmed) } in
-    second ∙ (ap (λ l. l ++ two ∷ []) first ∙ (append_assoc log (one ∷ []) (two ∷ [])
-    ∙ (λ i. log ++ claim_receipt reading (n i) ∷
-    record { timer = (n i).timer; number = f.number; event = events.Finish (a i); reply = noteds.Entry (replies.Finish (n i).generation f.rearmed) } ∷ [])))
+-- a log has the receipt of a claim behind its own
+pub claim_noted : (o : Opening) (v w : KnownOfTimers) (x : Context) (base : ℕ) (reading : ClockReading) (c : ClaimNumbers) (log log' : LogOf Receipt)
+    → ClaimsLogged kept o v w x base reading (claimings.Claimed c) log log' → log'.receipts ≡ log.receipts ++ claim_receipt reading c ∷ []
+claim_noted o v w x base reading c log log' l =
+    let r = l.claims in
+    ap (λ (k : LogOf Receipt). k.receipts) l.logged ∙ (λ i. log.receipts ++ record {
+      timer = c.timer;
+      number = sym r.number i;
+      event = events.Claim (sym r.there i) reading;
+      reply = noteds.Entry (replies.Claim (unwrap_or (r.armed i) 0));
+    } ∷ [])
+
+-- and of a finish
+pub finish_noted : (o : Opening) (v w : KnownOfTimers) (c : ClaimNumbers) (restart : Restart) (f : Finished) (log log' : LogOf Receipt)
+    → (l : FinishesLogged kept o v w c (asks restart) f log log')
+    → log'.receipts ≡ log.receipts ++ finish_receipt c restart (timer_then o l.finishes.at c.timer) ∷ []
+finish_noted o v w c restart f log log' l =
+    let t = timer_then o l.finishes.at c.timer in
+    ap (λ (k : LogOf Receipt). k.receipts) l.logged ∙ (λ i. log.receipts ++ record {
+      timer = c.timer;
+      number = t.stamp + 1;
+      event = events.Finish (asks restart);
+      reply = noteds.Entry (replies.Finish (unwrap_or (l.finishes.runs i) 0) (restarted_by t (asks restart)));
+    } ∷ [])
 
 -- ---- cancel
 

@@ -1,17 +1,18 @@
 -- What an expiry run does: for each function a claim, what the function did, and a finish.
-use Rattle.std.specs.Prelude.{ℕ, zero, suc, ◌≡◌, ◌<◌, List, [], ◌∷◌, ◌++◌}
+use Rattle.std.specs.Prelude.{ℕ, zero, suc, ◌≡◌, ◌<◌, ◌+◌, List, [], ◌∷◌, ◌++◌}
 use Rattle.ktime.specs.Readings.{ClockReading}
 use Rattle.seq_timer.specs.declared.context.Context.{Context}
-use Rattle.seq_timer.specs.declared.event.Event.TheVariants as events
+use Rattle.seq_timer.specs.declared.event.EventBy.TheVariants as events
 use Rattle.seq_timer.specs.declared.event.Reply.TheVariants as replies
-use Rattle.timer_core.specs.declared.answer.Finished.{Finished}
+use Rattle.seq_timer.specs.Steps.{Timer, restarted_by}
+use Rattle.seq_timer.specs.declared.answer.Finished.{Finished}
 use Rattle.base_row.specs.declared.view.Opening.{Opening}
 use Rattle.hr_timers.specs.declared.numbers.ClaimNumbers.{ClaimNumbers}
 use Rattle.hr_timers.specs.declared.answer.ClaimAnswer.TheVariants as claimings
-use Rattle.hr_timers.specs.Known.{KnownOfTimers}
+use Rattle.hr_timers.specs.Known.{KnownOfTimers, timer_then}
 use Rattle.hr_timers.specs.Calls.{ClaimFits, Finishes}
-use Rattle.expire_pass.specs.declared.log.Noted.TheVariants as noteds
-use Rattle.expire_pass.specs.declared.log.Receipt.{Receipt}
+use Rattle.base_row.specs.declared.log.Noted.TheVariants as noteds
+use Rattle.base_row.specs.declared.log.Receipt.{Receipt}
 use Rattle.expire_pass.specs.declared.handler.Restart.{Restart}
 use Rattle.expire_pass.specs.declared.expiry.Next.{Next}
 use Rattle.expire_pass.specs.declared.expiry.Next.TheVariants as nexts
@@ -23,30 +24,34 @@ use Rattle.expire_pass.specs.Handlers.{KeepsPass, Meaning, asks}
 abbrev pub claim_receipt : ClockReading → ClaimNumbers → Receipt
 claim_receipt reading c = record { timer = c.timer; number = c.number; event = events.Claim c.base reading; reply = noteds.Entry (replies.Claim c.generation) }
 
--- the receipt of its finish
-abbrev pub finish_receipt : ClaimNumbers → Restart → Finished → Receipt
-finish_receipt c restart f =
-    record { timer = c.timer; number = f.number; event = events.Finish (asks restart); reply = noteds.Entry (replies.Finish c.generation f.rearmed) }
+-- the receipt of its finish, which its timer was so before
+abbrev pub finish_receipt : ClaimNumbers → Restart → Timer → Receipt
+finish_receipt c restart t = record {
+  timer = c.timer;
+  number = t.stamp + 1;
+  event = events.Finish (asks restart);
+  reply = noteds.Entry (replies.Finish c.generation (restarted_by t (asks restart)));
+}
 
 -- A claim's function has run, and the claim is finished: `done` is what the pass knows after the function. Each goes on from what the one before
 -- has seen.
-pub record Ran {A : Type 0} (m : Meaning A) (o : Opening) (reading : ClockReading) (c : ClaimNumbers) (k : KnownOfTimers) (h : A) (log : List Receipt)
-    (k' : KnownOfTimers) (h' : A) (log' : List Receipt) : Type 0 where
+pub record Ran {A : Type 0} (m : Meaning A) (o : Opening) (reading : ClockReading) (c : ClaimNumbers) (k : KnownOfTimers) (h : A)
+    (k' : KnownOfTimers) (h' : A) : Type 0 where
   pub done : KnownOfTimers
   pub restart : Restart
   pub did : m.did o h h' k done c reading restart
   pub keeps : KeepsPass k done
   pub finished : Finished
   pub finishes : Finishes o done k' c (asks restart) finished
-  pub receipts : log' ≡ log ++ claim_receipt reading c ∷ finish_receipt c restart finished ∷ []
 
 module _ {A : Type 0} (m : Meaning A) (o : Opening) (x : Context) (base : ℕ) (reading : ClockReading) where
-  -- a claim, after which the pass knows `claimed`, and the run of its function
+  -- a claim, after which the pass knows `claimed`, and the run of its function; the log has a receipt of the claim, and one of the finish
   pub record Turn (k : KnownOfTimers) (h : A) (log : List Receipt) (k' : KnownOfTimers) (h' : A) (log' : List Receipt) : Type 0 where
     pub claim : ClaimNumbers
     pub claimed : KnownOfTimers
     pub claims : ClaimFits o k claimed x base reading (claimings.Claimed claim)
-    pub ran : Ran m o reading claim claimed h log k' h' log'
+    pub ran : Ran m o reading claim claimed h k' h'
+    pub receipts : log' ≡ log ++ claim_receipt reading claim ∷ finish_receipt claim ran.restart (timer_then o ran.finishes.at claim.timer) ∷ []
 
   -- so many turns
   abbrev pub Turns : ℕ → KnownOfTimers → A → List Receipt → KnownOfTimers → A → List Receipt → Type 0

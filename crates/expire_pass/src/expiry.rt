@@ -1,20 +1,18 @@
 //! The expiry run of a base, and the cancel that waits.
-ghost use Rattle.std.specs.Prelude.{◌≡◌, ◌<◌, ◌≤◌, ◌+◌, ◌*◌, ℕ, length};
+ghost use Rattle.std.specs.Prelude.{◌≡◌, ◌<◌, ◌≤◌, ◌+◌, ◌*◌, ℕ, [], ◌∷◌, ◌++◌, length};
 ghost use Rattle.seq_timer.specs.declared.context.Context.TheVariants as contexts;
-ghost use Rattle.timer_core.specs.declared.answer.CancelAnswer.TheVariants as cancels;
-ghost use Rattle.hr_timers.specs.Known.{OwnsClaim, IsPassOf};
+ghost use Rattle.seq_timer.specs.declared.answer.CancelAnswer.TheVariants as cancels;
+ghost use Rattle.hr_timers.specs.Known.{OwnsClaim, IsPassOf, timer_then};
 ghost use Rattle.hr_timers.specs.Calls.{Cancels};
 ghost use Rattle.expire_pass.specs.Handlers.{KeepsPass, CanServe};
-ghost use Rattle.expire_pass.specs.Expiring.{Expires, Nexts, Ran};
+ghost use Rattle.expire_pass.specs.Expiring.{Expires, Nexts, Ran, finish_receipt};
 
 use crate::handler::{Handler, asks};
-use crate::log::Log;
-use crossbeam_utils::Backoff;
-use hr_timers::{Claim, ClaimAnswer, ClaimNumbers, Pass, Timers};
+use hr_timers::{Claim, ClaimAnswer, Log, Pass, Timers};
 use ktime::Reading;
-use seq_timer::{Context, Event, Reply};
+use pass_names::Retries;
+use seq_timer::{CancelAnswer, Context};
 use std::sync::Wait;
-use timer_core::CancelAnswer;
 
 /// What an expiry run answers.
 #[derive(Clone, Copy, Debug, PartialEq, Eq)]
@@ -180,7 +178,7 @@ fn turn<R: Wait, H: Handler>(
     ensures ready { H.meaning.ready handler.old ≤ H.meaning.ready handler.new + 1 }
     ensures suits { CanServe H.meaning timers.now.about handler.new }
 {
-    match timers.claim_in(rt, pass, context, base, reading) {
+    match timers.claim_in_logged(rt, pass, log, context, base, reading) {
         ClaimAnswer::NoneDue => Next::NoneDue,
         ClaimAnswer::BaseBusy { timer, generation } => Next::BaseBusy { timer, generation },
         ClaimAnswer::Claimed(claim) => {
@@ -202,40 +200,18 @@ fn run<R: Wait, H: Handler>(
 )
     requires pass { IsPassOf timers.now pass.old }
     requires claim { OwnsClaim timers.now.about pass.old.known claim }
-    requires room { 2 ≤ log.old.spare }
+    requires room { 0 < log.old.spare }
     requires ready { 0 < H.meaning.ready handler.old }
     requires suits { CanServe H.meaning timers.now.about handler.old }
     ensures pass { IsPassOf timers.now pass.new }
-    ensures ran { Ran H.meaning timers.now.about reading claim pass.old.known handler.old log.old.receipts pass.new.known handler.new log.new.receipts }
-    ensures room { log.old.spare ≤ log.new.spare + 2 }
+    ensures ran { (r : Ran H.meaning timers.now.about reading claim pass.old.known handler.old pass.new.known handler.new)
+        × (log.new.receipts ≡ log.old.receipts ++ finish_receipt claim r.restart (timer_then timers.now.about r.finishes.at claim.timer) ∷ []) }
+    ensures room { log.old.spare ≤ log.new.spare + 1 }
     ensures ready { H.meaning.ready handler.old ≤ H.meaning.ready handler.new + 1 }
     ensures suits { CanServe H.meaning timers.now.about handler.new }
 {
     let restart = handler.fire(rt, timers, pass, &claim, reading);
-    let again = asks(restart);
-    let ClaimNumbers {
-        timer,
-        generation,
-        base,
-        number,
-    } = claim.numbers();
-    let finished = timers.finish(rt, pass, claim, again);
-    log.note(
-        timer,
-        number,
-        Event::Claim { base, reading },
-        Reply::Claim { generation },
-    );
-    let rearmed = finished.rearmed;
-    log.note(
-        timer,
-        finished.number,
-        Event::Finish { restart: again },
-        Reply::Finish {
-            generation,
-            rearmed,
-        },
-    );
+    timers.finish_logged(rt, pass, log, claim, asks(restart));
 }
 
 /// Disarms a timer, once its function isn't running (`hrtimer_cancel`). It never answers Running.
@@ -246,10 +222,9 @@ pub fn cancel<R: Wait>(rt: &R, timers: &Timers, pass: &mut Pass, timer: u32) -> 
     ensures cancels { Cancels timers.now.about pass.old.known pass.new.known timer result }
     ensures ended { (g n : ℕ) → result ≡ cancels.Running g n → ⊥ }
 {
-    let backoff = Backoff::new();
-    for _ in rt.forever() {
+    for _ in Retries::new(rt) {
         match timers.try_to_cancel(rt, pass, timer) {
-            CancelAnswer::Running { .. } => backoff.snooze(),
+            CancelAnswer::Running { .. } => {}
             answer => return answer,
         }
     }

@@ -3,8 +3,7 @@
 
 mod expiry;
 mod handler;
-mod log;
 
 pub use expiry::{ExpireAnswer, cancel, expire, expire_in, expire_soft};
 pub use handler::{Handler, Restart};
-pub use log::{Log, Noted, Receipt, ReceiptLog};
+pub use hr_timers::{Log, Noted, Receipt, ReceiptLog};

@@ -1,16 +1,16 @@
 -- The number that a call answers is how many entries its pass has then seen of the timer, so it is near the timer's limit.
 use Rattle.std.proofs.Common.{◌≡◌, ℕ, Bool, [], arith, ap, sym, ◌∙◌}
 use Rattle.seq_timer.specs.declared.context.Context.{Context}
-use Rattle.seq_timer.specs.declared.event.Asked.{Asked}
+use Rattle.seq_timer.specs.Events.{Asked}
 use Rattle.ktime.specs.Readings.{ClockReading}
 use Rattle.seq_timer.specs.declared.observation.Peek.{Peek}
 use Rattle.seq_timer.specs.Steps.{Timer}
-use Rattle.timer_core.specs.declared.answer.CancelAnswer.{CancelAnswer}
-use Rattle.timer_core.specs.declared.answer.CancelAnswer.TheVariants as cancels
-use Rattle.timer_core.specs.declared.answer.ForwardAnswer.{ForwardAnswer}
-use Rattle.timer_core.specs.declared.answer.ForwardAnswer.TheVariants as forwards
-use Rattle.timer_core.specs.declared.answer.Finished.{Finished}
-use Rattle.timer_core.specs.Answers.{start_events}
+use Rattle.seq_timer.specs.declared.answer.CancelAnswer.{CancelAnswer}
+use Rattle.seq_timer.specs.declared.answer.CancelAnswer.TheVariants as cancels
+use Rattle.seq_timer.specs.declared.answer.ForwardAnswer.{ForwardAnswer}
+use Rattle.seq_timer.specs.declared.answer.ForwardAnswer.TheVariants as forwards
+use Rattle.seq_timer.specs.declared.answer.Finished.{Finished}
+use Rattle.seq_timer.specs.Calls.{start_events}
 use Rattle.base_row.specs.declared.view.Opening.{Opening}
 use Rattle.hr_timers.specs.declared.answer.StartAnswer.{StartAnswer}
 use Rattle.hr_timers.specs.declared.answer.StartAnswer.TheVariants as starts

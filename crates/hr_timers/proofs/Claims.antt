@@ -1,12 +1,12 @@
 -- A claim of the timer that is the next of its context to expire on a held base.
-use Rattle.std.proofs.Common.{◌≡◌, ℕ, ◌<◌, ◌≤◌, length, refl, ap, sym, ◌∙◌, subst, true, false, arith, ⊎_elim}
-use Rattle.std.specs.Prelude.{Bool, Option, Some, None, is_some, nat_eq}
+use Rattle.std.proofs.Common.{◌≡◌, ℕ, ◌<◌, length, refl, sym, ◌∙◌, subst, true, false, arith, ⊎_elim}
+use Rattle.std.specs.Prelude.{Some, None, is_some}
 use Rattle.std.proofs.lemmas.Bool.{cases_lt, true≢false}
 use Rattle.std.proofs.lemmas.Bool.Decides.{nat_tests}
 use Rattle.ktime.specs.Readings.{ClockReading}
 use Rattle.pass_names.specs.Counts.{count}
 use Rattle.seq_timer.specs.declared.context.Context.{Context}
-use Rattle.seq_timer.specs.declared.event.Event.TheVariants as events
+use Rattle.seq_timer.specs.declared.event.EventBy.TheVariants as events
 use Rattle.seq_timer.specs.Steps.{Timer, Needs}
 use Rattle.seq_timer.specs.Tables.{IsNextDue, in_context, is_due_on, runs_on, seen_in}
 use Rattle.seq_timer.specs.Contents.{running_in}
@@ -15,7 +15,7 @@ use Rattle.seq_timer.proofs.Contents.{seen_own}
 use Rattle.base_row.specs.declared.view.HeldContent.{HeldContent}
 use Rattle.base_row.specs.declared.view.Opening.{Opening}
 use Rattle.base_row.specs.declared.view.BaseView.{BaseView}
-use Rattle.base_row.specs.Rules.{is_base_claim, now, number_of, runs}
+use Rattle.base_row.specs.Rules.{is_base_claim, number_of, runs}
 use Rattle.base_row.specs.Plays.{KnowsBases}
 use Rattle.base_row.specs.Calls.{MayAppend, base_seen, timer_seen}
 

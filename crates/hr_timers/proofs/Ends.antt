@@ -5,7 +5,8 @@ use Rattle.seq_timer.specs.Steps.{Timer}
 use Rattle.seq_timer.specs.Tables.{timer_at}
 use Rattle.seq_timer.specs.Systems.{AreSystemSteps, IsFresh, entries_of, first_system}
 use Rattle.seq_timer.proofs.Agreement.{parts}
-use Rattle.seq_timer.proofs.Limits.{HasLeft, few_entries}
+use Rattle.seq_timer.proofs.Effects.{HasLeft}
+use Rattle.seq_timer.proofs.Limits.{few_entries}
 use Rattle.base_row.specs.declared.view.Opening.{Opening}
 use Rattle.base_row.specs.Calls.{AreFresh}
 use Rattle.hr_timers.specs.Known.{limit_of, timer_then}

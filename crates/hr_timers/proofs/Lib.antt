@@ -1,5 +1,6 @@
 pub mod Making
 pub mod Standing
+pub mod Logging
 pub mod Leaving
 pub mod True
 pub mod TriedNow
@@ -9,3 +10,4 @@ pub mod Moments
 pub mod Ends
 pub mod Answered
 pub mod Claims
+pub mod Hindered

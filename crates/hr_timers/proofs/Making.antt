@@ -6,17 +6,18 @@ use Rattle.pass_names.specs.Passes.{places}
 use Rattle.pass_names.specs.SharedHistory.{LooksOn}
 use Rattle.pass_names.proofs.Passes.{begins_refl, begins_trans}
 use Rattle.pass_names.proofs.SharedHistory.{extends_looks}
-use Rattle.seq_timer.specs.declared.event.Event.{Event}
-use Rattle.seq_timer.specs.declared.event.Event.TheVariants as events
+use Rattle.seq_timer.specs.Events.{Event}
+use Rattle.seq_timer.specs.Effects.{effect}
 use Rattle.seq_timer.specs.declared.system.TimerEntry.{TimerEntry}
 use Rattle.seq_timer.specs.Histories as seq
 use Rattle.seq_timer.specs.Steps.{Timer, after}
 use Rattle.seq_timer.specs.Systems.{BaseContent, IsOn, changed, entries_of}
+use Rattle.seq_timer.proofs.Effects.{IsSent, by_effect}
 use Rattle.base_row.specs.declared.view.HeldContent.{HeldContent}
 use Rattle.base_row.specs.declared.view.Opening.{Opening}
 use Rattle.base_row.specs.declared.view.BaseView.{BaseView}
 use Rattle.base_row.specs.Calls as rows
-use Rattle.base_row.specs.Plays.{carry_after}
+use Rattle.base_row.specs.Plays.{carried_by, carry_after}
 use Rattle.base_row.proofs.Calling.{extends_appended, looks_freed, seen_after}
 use Rattle.hr_timers.specs.Known.{AddsBehind, KnownOfTimers, Looks, MadeAt}
 use Rattle.hr_timers.specs.Calls.{entry_by}
@@ -77,16 +78,16 @@ made_before u v w t x es first made = record {
 
 -- a pass that carries nothing carries nothing after an event that leaves its timer on a base
 pub carry_stays : (id b : ℕ) (t : Timer) (event : Event) (carry : Option ℕ) → IsOn b (after t event) → carry ≡ None → carry_after id t event carry ≡ None
-carry_stays id b t (events.Out base) carry on none = absurd (true≢false on.still)
-carry_stays id b t (events.Start asked) carry on none = either_way t.moving
+carry_stays id b t event carry on none = by_sent (effect t event).sent (by_effect t event).sent
   where
-    either_way : (m : Bool) → (if m then None else carry) ≡ None
-    either_way true = refl
-    either_way false = none
-carry_stays id b t events.Cancel carry on none = none
-carry_stays id b t (events.Claim base reading) carry on none = none
-carry_stays id b t (events.Forward reading interval) carry on none = none
-carry_stays id b t (events.Finish restart) carry on none = none
+    either_way : (was is : Bool) → (if is then carry else if was then None else carry) ≡ None
+    either_way was true = none
+    either_way true false = refl
+    either_way false false = none
+
+    by_sent : (sent : Option ℕ) → IsSent sent t (after t event) → carried_by sent id t (after t event) carry ≡ None
+    by_sent None is = either_way t.moving (after t event).moving
+    by_sent (Some base) is = absurd (true≢false (sym is.1 ∙ on.still))
 
 same_place : (h g : HeldContent BaseContent) → Some h ≡ Some g → h.base ≡ g.base
 same_place h g e = let t : h ≡ g = cc in ap (λ (x : HeldContent BaseContent). x.base) t

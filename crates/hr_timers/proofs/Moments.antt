@@ -1,17 +1,16 @@
 -- A timer at the moments of a call, and after the entries that the call made.
 use Rattle.std.proofs.Common.{◌≡◌, ℕ, ◌+◌, ◌≤◌, List, [], ◌∷◌, ◌++◌, length, refl, ap, sym, ◌∙◌, arith, length-append}
 use Rattle.pass_names.specs.Passes.{Begins}
-use Rattle.seq_timer.specs.declared.event.Event.{Event}
-use Rattle.seq_timer.specs.declared.event.Event.TheVariants as events
+use Rattle.seq_timer.specs.Events.{Event}
 use Rattle.seq_timer.specs.declared.system.TimerEntry.{TimerEntry}
 use Rattle.seq_timer.specs.Histories as seq
 use Rattle.seq_timer.specs.Steps.{Timer, after}
 use Rattle.seq_timer.specs.Systems.{entries_of, first_system}
 use Rattle.seq_timer.specs.Tables.{timer_at}
+use Rattle.seq_timer.proofs.Contents.{declared-after_all}
 use Rattle.seq_timer.proofs.Limits.{stamp-after_all}
 use Rattle.seq_timer.proofs.Systems.{after_entries-entries_of}
-use Rattle.timer_core.specs.Kept.{step_all}
-use Rattle.timer_core.specs.Runs.{entries_along}
+use Rattle.seq_timer.specs.Calls.{step_all, entries_along}
 use Rattle.base_row.specs.declared.view.Opening.{Opening}
 use Rattle.base_row.proofs.Begun.{entries_of-begins}
 use Rattle.hr_timers.specs.Known.{KnownOfTimers, MadeAt, timer_then}
@@ -50,17 +49,5 @@ stamp_rises o x y t begins =
     omega (arith, stamp_then o x t, stamp_then o y t, ap length own.whole, length-append (entries_of t x) own.rest)
 
 -- a timer keeps the clock that it was declared on
-declared-after : (t : Timer) (e : Event) → (after t e).declared ≡ t.declared
-declared-after t (events.Out base) = refl
-declared-after t (events.Start asked) = refl
-declared-after t events.Cancel = refl
-declared-after t (events.Claim base reading) = refl
-declared-after t (events.Forward reading interval) = refl
-declared-after t (events.Finish restart) = refl
-
-declared-after_all : (t : Timer) (es : List seq.Entry) → (seq.after_all t es).declared ≡ t.declared
-declared-after_all t [] = refl
-declared-after_all t (e ∷ es) = declared-after_all (after t e.event) es ∙ declared-after t e.event
-
 pub declared_kept : (o : Opening) (x : List TimerEntry) (t : ℕ) → (timer_then o x t).declared ≡ (timer_at o.timers t).declared
 declared_kept o x t = ap (λ (s : Timer). s.declared) (timer_own o x t) ∙ declared-after_all (timer_at o.timers t) (entries_of t x)

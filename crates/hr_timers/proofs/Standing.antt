@@ -4,7 +4,7 @@ use Rattle.std.specs.Prelude.{Option, Some, None, Bool}
 use Rattle.std.proofs.lemmas.Bool.{eqb-true, and_parts, true≢false}
 use Rattle.pass_names.specs.Counts.{count}
 use Rattle.seq_timer.specs.declared.event.Moved.{Moved}
-use Rattle.seq_timer.specs.declared.event.Rearmed.{Rearmed}
+use Rattle.seq_timer.specs.declared.event.Restarted.{Restarted}
 use Rattle.seq_timer.specs.declared.event.Reply.TheVariants as replies
 use Rattle.base_row.specs.declared.view.Claimed.{Claimed}
 use Rattle.base_row.specs.declared.view.Opening.{Opening}
@@ -60,7 +60,7 @@ still_runs o u v c fresh is own some looks owns =
       claim_inside o v fresh knows c.timer c.generation c.base owns.within stands some,
     )
 
-pub finish_same : (g h : ℕ) (a b : Rearmed) → replies.Finish g a ≡ replies.Finish h b → a ≡ b
+pub finish_same : (g h : ℕ) (a b : Restarted) → replies.Finish g a ≡ replies.Finish h b → a ≡ b
 finish_same g h a b e = cc
 
 pub forward_same : (a b : Moved) → replies.Forward a ≡ replies.Forward b → a ≡ b

@@ -1,9 +1,9 @@
 -- The number of an entry that each call answers: that of its own last entry, or how many entries its timer had where it made none.
 use Rattle.std.specs.Prelude.{ℕ}
-use Rattle.timer_core.specs.declared.answer.CancelAnswer.{CancelAnswer}
-use Rattle.timer_core.specs.declared.answer.CancelAnswer.TheVariants as cancels
-use Rattle.timer_core.specs.declared.answer.ForwardAnswer.{ForwardAnswer}
-use Rattle.timer_core.specs.declared.answer.ForwardAnswer.TheVariants as forwards
+use Rattle.seq_timer.specs.declared.answer.CancelAnswer.{CancelAnswer}
+use Rattle.seq_timer.specs.declared.answer.CancelAnswer.TheVariants as cancels
+use Rattle.seq_timer.specs.declared.answer.ForwardAnswer.{ForwardAnswer}
+use Rattle.seq_timer.specs.declared.answer.ForwardAnswer.TheVariants as forwards
 use Rattle.hr_timers.specs.declared.answer.StartAnswer.{StartAnswer}
 use Rattle.hr_timers.specs.declared.answer.StartAnswer.TheVariants as starts
 

@@ -1,29 +1,26 @@
 -- What each call answers, and which entries it makes, in the one history of all timers. A clause names the moment of the call, `at`, as the list of
 -- all entries so far; what the call answers is a function of the timer at that moment.
-use Rattle.std.specs.Prelude.{ℕ, ◌≡◌, ◌≢◌, ◌^◌, ◌+◌, ◌≤◌, ◌<◌, Bool, true, false, List, [], ◌∷◌, ◌++◌, length, Some, None, is_some, if◌then◌else◌}
+use Rattle.std.specs.Prelude.{ℕ, ◌≡◌, ◌≢◌, ◌^◌, ◌+◌, ◌≤◌, ◌<◌, ◌⊎◌, Bool, true, false, List, [], ◌∷◌, ◌++◌, length, Some, None, is_some, if◌then◌else◌}
 use Rattle.ktime.specs.Readings.{ClockReading}
 use Rattle.pass_names.specs.Counts.{without_first}
 use Rattle.pass_names.specs.Passes.{Begins}
 use Rattle.pass_names.specs.SharedHistory.{LooksOn}
-use Rattle.seq_timer.specs.declared.event.Event.{Event}
-use Rattle.seq_timer.specs.declared.event.Event.TheVariants as events
+use Rattle.seq_timer.specs.Events.{Asked, Event}
+use Rattle.seq_timer.specs.declared.event.EventBy.TheVariants as events
 use Rattle.seq_timer.specs.declared.event.Reply.TheVariants as replies
 use Rattle.seq_timer.specs.declared.observation.Peek.{Peek}
 use Rattle.seq_timer.specs.Steps.{Timer, placement_of, reply_to, rearmed_by}
 use Rattle.ktime.specs.declared.clock_id.ClockId.{ClockId}
 use Rattle.seq_timer.specs.declared.context.Context.{Context}
-use Rattle.seq_timer.specs.declared.event.Asked.{Asked}
 use Rattle.seq_timer.specs.Tables.{IsNextDue, IsStopped, in_context, runs_on}
 use Rattle.seq_timer.specs.Halves.{running_on}
 use Rattle.seq_timer.specs.Histories as seq
-use Rattle.timer_core.specs.declared.answer.CancelAnswer.{CancelAnswer}
-use Rattle.timer_core.specs.declared.answer.CancelAnswer.TheVariants as cancels
-use Rattle.timer_core.specs.declared.answer.ForwardAnswer.{ForwardAnswer}
-use Rattle.timer_core.specs.declared.answer.ForwardAnswer.TheVariants as forwards
-use Rattle.timer_core.specs.declared.answer.Finished.{Finished}
-use Rattle.timer_core.specs.Answers.{forwarded_as, moves_first, start_events}
-use Rattle.timer_core.specs.Kept.{step_all}
-use Rattle.timer_core.specs.Runs.{entries_along}
+use Rattle.seq_timer.specs.declared.answer.CancelAnswer.{CancelAnswer}
+use Rattle.seq_timer.specs.declared.answer.CancelAnswer.TheVariants as cancels
+use Rattle.seq_timer.specs.declared.answer.ForwardAnswer.{ForwardAnswer}
+use Rattle.seq_timer.specs.declared.answer.ForwardAnswer.TheVariants as forwards
+use Rattle.seq_timer.specs.declared.answer.Finished.{Finished}
+use Rattle.seq_timer.specs.Calls.{forwarded_as, moves_first, start_events, step_all, entries_along}
 use Rattle.seq_timer.specs.declared.system.TimerEntry.{TimerEntry}
 use Rattle.base_row.specs.declared.view.Opening.{Opening}
 use Rattle.base_row.specs.Rules.{is_base_claim}
@@ -123,9 +120,15 @@ pub record WasMoved (o : Opening) (v w : KnownOfTimers) (t from to : ℕ) : Type
   pub base_later : (timer_then o later t).base ≡ to
   pub apart : from ≢ to
 
+-- at moments of a call that made no entry the timer was on the move, or on two bases
+abbrev pub IsHindered : Opening → KnownOfTimers → KnownOfTimers → ℕ → Type 0
+IsHindered o v w t = ((b : ℕ) × WasMoving o v w t b) ⊎ ((a : ℕ) × (b : ℕ) × WasMoved o v w t a b)
+
+-- what a cancel answers that waits for nobody. Where another pass has the lock the call took none, so the take that it missed is none of its pass's
+-- afterwards either.
 abbrev pub NowFits : Opening → PassOf → PassOf → ℕ → NowAnswer → Type 0
 NowFits o p q t (nows.Tried a) = Cancels o p.known q.known t a
-NowFits o p q t (nows.Contended b) = HasMissed p q b × WasOn o p.known q.known t b
+NowFits o p q t (nows.Contended b) = HasMissed p q b × WasOn o p.known q.known t b × (q.takes ≡ p.takes)
 NowFits o p q t (nows.Moving b) = WasMoving o p.known q.known t b
 NowFits o p q t (nows.Moved a b) = WasMoved o p.known q.known t a b
 

@@ -1,7 +1,6 @@
 //! What each call answers, where `Core` doesn't answer the same.
 use crate::tokens::Claim;
-use seq_timer::Placement;
-use timer_core::CancelAnswer;
+use seq_timer::{CancelAnswer, Placement};
 
 /// What a start answers.
 #[derive(Clone, Copy, Debug, PartialEq, Eq)]

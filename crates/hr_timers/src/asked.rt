@@ -1,9 +1,8 @@
-//! What a start asks for, and what that does to a timer's state.
-ghost use Rattle.std.specs.Prelude.{◌≡◌, ◌<◌, ◌^◌, false, if◌then◌else◌};
-ghost use Rattle.timer_core.specs.Answers.{moves_first, start_events};
-ghost use Rattle.timer_core.specs.Kept.{step_all};
+//! What a start asks for, and whether that moves its timer.
+ghost use Rattle.std.specs.Prelude.{◌≡◌, ◌<◌, ◌^◌, if◌then◌else◌};
+ghost use Rattle.seq_timer.specs.Calls.{moves_first};
 
-use seq_timer::{Asked, Event, TimerState};
+use seq_timer::TimerState;
 
 /// Whether a start that asks for a base first moves the timer there.
 pub fn moves_first(timer: &TimerState, base: u32) -> bool
@@ -12,29 +11,14 @@ pub fn moves_first(timer: &TimerState, base: u32) -> bool
     timer.running().is_none() && timer.base() != base
 }
 
-/// A timer after a start, and the bit of the base to which that moves it first.
-pub fn started(state: &TimerState, asked: &Asked) -> (TimerState, u64)
-    requires room { state.now.stamp < state.now.terms.limit }
-    requires still { state.now.moving ≡ false }
-    requires few { asked.now.base < 64 }
-    ensures now { result.0 ≡ step_all state.now (start_events state.now asked.now) }
-    ensures outs { result.1 ≡ (if moves_first state.now asked.now.base then 2 ^ asked.now.base else 0) }
-{
-    let base = asked.base;
-    let mut now = *state;
-    if moves_first(state, base) {
-        now.apply(Event::Out { base });
-        now.apply(Event::Start(*asked));
-        return (now, one_bit(base));
-    }
-    now.apply(Event::Start(*asked));
-    (now, 0)
-}
-
-/// The bit of a base.
-fn one_bit(base: u32) -> u64
+/// The bit of the base to which a start moves the timer first.
+pub fn outs_of(timer: &TimerState, base: u32) -> u64
     requires { base < 64 }
-    ensures { result ≡ 2 ^ base }
+    ensures { result ≡ (if moves_first timer.now base then 2 ^ base else 0) }
 {
-    1 << base
+    if moves_first(timer, base) {
+        1 << base
+    } else {
+        0
+    }
 }

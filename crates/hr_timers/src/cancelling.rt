@@ -1,55 +1,69 @@
 //! Cancelling a timer: by a wait for its base's lock, or by one try.
-ghost use Rattle.std.specs.Prelude.{◌≡◌, ◌<◌, length, MatchOption};
+ghost use Rattle.std.specs.Prelude.{◌≡◌, ◌<◌, ◌≤◌, ◌+◌, length, IfNone, MatchOption};
+ghost use Rattle.seq_timer.specs.Histories.{IsIdle};
 ghost use Rattle.base_row.specs.Calls.{known_of, timer_seen};
 ghost use Rattle.hr_timers.specs.Known.{HoldsTimer, IsAtRest, Looks};
+ghost use Rattle.seq_timer.specs.declared.answer.CancelAnswer.TheVariants as cancels;
 ghost use Rattle.hr_timers.specs.Calls.{Cancels};
+ghost use Rattle.hr_timers.specs.Logged.{CancelsLogged};
 
 use crate::under_lock::{enter_once, leave, lock_timer};
-use base_row::{BaseRow, HeldBase, Pass};
-use seq_timer::{Event, TimerState};
+use base_row::{BaseRow, HeldBase, Pass, Sink};
+use seq_timer::{CancelAnswer, Event, TimerState};
 use std::sync::Wait;
-use timer_core::CancelAnswer;
 
 /// Takes the lock of the timer's base, but where a load shows the timer idle.
-pub fn try_to_cancel<R: Wait>(rt: &R, row: &BaseRow, pass: &mut Pass, timer: u32) -> CancelAnswer
+pub fn try_to_cancel<R: Wait, S: Sink>(
+    rt: &R,
+    row: &BaseRow,
+    pass: &mut Pass,
+    sink: &mut S,
+    timer: u32,
+) -> CancelAnswer
     requires rest { IsAtRest row.now pass.old }
     requires timer { timer < length row.now.about.timers }
+    requires room { 0 < S.room sink.old }
     ensures rest { IsAtRest row.now pass.new }
-    ensures cancels { Cancels row.now.about (known_of pass.old.knows) (known_of pass.new.knows) timer result }
+    ensures cancels { CancelsLogged S.pushed row.now.about (known_of pass.old.knows) (known_of pass.new.knows) timer result sink.old sink.new }
+    ensures room { S.room sink.old ≤ S.room sink.new + 1 }
 {
-    if let Some(idle) = look_idle(row, pass, timer) {
-        return idle;
+    if let Some(stamp) = look_idle(row, pass, timer) {
+        return CancelAnswer::Idle { stamp };
     }
     let (held, state) = lock_timer(rt, row, pass, timer);
-    cancel_held(row, pass, held, timer, state)
+    cancel_held(row, pass, sink, held, timer, state)
 }
 
-/// Answers Idle, if one load tells it.
-fn look_idle(row: &BaseRow, pass: &mut Pass, timer: u32) -> Option<CancelAnswer>
+/// Answers the stamp of a timer, if one load tells that it is idle.
+fn look_idle(row: &BaseRow, pass: &mut Pass, timer: u32) -> Option<u64>
     requires rest { IsAtRest row.now pass.old }
     requires timer { timer < length row.now.about.timers }
     ensures rest { IsAtRest row.now pass.new }
-    ensures cancels { MatchOption result (Looks pass.old.knows pass.new.knows) (λ a. Cancels row.now.about (known_of pass.old.knows) (known_of pass.new.knows) timer a) }
+    ensures cancels { MatchOption result (Looks pass.old.knows pass.new.knows) (λ n. Cancels row.now.about (known_of pass.old.knows) (known_of pass.new.knows) timer (cancels.Idle n)) }
+    ensures busy { IfNone result (IsIdle (timer_seen row.now.about pass.new.knows timer) → ⊥) }
 {
     let word = row.load_word(pass, timer);
     if word.enqueued || word.running || word.moving {
         return None;
     }
-    Some(CancelAnswer::Idle { stamp: word.stamp })
+    Some(word.stamp)
 }
 
 /// Disarms a timer of a held base, and lets the base go.
-pub fn cancel_held(
+pub fn cancel_held<S: Sink>(
     row: &BaseRow,
     pass: &mut Pass,
+    sink: &mut S,
     held: HeldBase,
     timer: u32,
     state: TimerState,
 ) -> CancelAnswer
     requires holds { HoldsTimer row.now pass.old held timer }
     requires state { state ≡ timer_seen row.now.about pass.old.knows timer }
+    requires room { 0 < S.room sink.old }
     ensures rest { IsAtRest row.now pass.new }
-    ensures cancels { Cancels row.now.about (known_of pass.old.knows) (known_of pass.new.knows) timer result }
+    ensures cancels { CancelsLogged S.pushed row.now.about (known_of pass.old.knows) (known_of pass.new.knows) timer result sink.old sink.new }
+    ensures room { S.room sink.old ≤ S.room sink.new + 1 }
 {
     let stamp = state.stamp();
     if let Some(generation) = state.running() {
@@ -61,7 +75,8 @@ pub fn cancel_held(
         return CancelAnswer::Idle { stamp };
     };
     state.bounded();
-    enter_once(row, pass, held, timer, Event::Cancel);
+    let mut state = state;
+    enter_once(row, pass, sink, held, timer, &mut state, Event::Cancel);
     CancelAnswer::Cancelled {
         generation,
         number: stamp + 1,

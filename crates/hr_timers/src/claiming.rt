@@ -1,35 +1,38 @@
 //! Claiming the next timer of a base, and what its function may do.
-ghost use Rattle.std.specs.Prelude.{◌≡◌, ◌<◌, ◌+◌, ℕ, length, Some, None, IsSome, false};
+ghost use Rattle.std.specs.Prelude.{◌≡◌, ◌<◌, ◌≤◌, ◌+◌, ℕ, length, Some, None, IsSome, false};
 ghost use Rattle.seq_timer.specs.Tables.{IsNextDue, in_context, runs_on};
 ghost use Rattle.seq_timer.specs.Contents.{running_in};
 ghost use Rattle.seq_timer.specs.Systems.{next_on};
 ghost use Rattle.base_row.specs.Calls.{base_seen, known_of, timer_seen};
 ghost use Rattle.hr_timers.specs.Known.{HoldsBase, HoldsTimer, IsAtRest, Looks, OwnsClaim};
-ghost use Rattle.hr_timers.specs.Calls.{ClaimFits, ClaimsNextDue, Finishes, Forwards};
+ghost use Rattle.hr_timers.specs.declared.answer.ClaimAnswer.TheVariants as claimings;
+ghost use Rattle.hr_timers.specs.Logged.{ClaimsLogged, FinishesLogged, ForwardsLogged};
 
 use crate::answer::ClaimAnswer;
 use crate::numbers::ClaimNumbers;
 use crate::tokens::Claim;
 use crate::under_lock::{enter_once, leave, leave_base, lock};
-use base_row::{BaseRow, HeldBase, Pass};
+use base_row::{BaseRow, HeldBase, Pass, Sink};
 use ktime::Reading;
-use seq_timer::{Context, Event, Reply, TimerState};
+use seq_timer::{Context, Event, Finished, ForwardAnswer, Rearmed, Reply, TimerState};
 use std::sync::Wait;
-use timer_core::{Finished, ForwardAnswer};
 
 /// Claims the timer of a context that is the next to expire on a base: its function is to run (`__run_hrtimer`).
-pub fn claim_next<R: Wait>(
+pub fn claim_next<R: Wait, S: Sink>(
     rt: &R,
     row: &BaseRow,
     pass: &mut Pass,
+    sink: &mut S,
     context: Context,
     base: u32,
     reading: Reading,
 ) -> ClaimAnswer
     requires rest { IsAtRest row.now pass.old }
     requires base { base < row.now.about.bases }
+    requires room { 0 < S.room sink.old }
     ensures rest { IsAtRest row.now pass.new }
-    ensures claims { ClaimFits row.now.about (known_of pass.old.knows) (known_of pass.new.knows) context base reading result }
+    ensures claims { ClaimsLogged S.pushed row.now.about (known_of pass.old.knows) (known_of pass.new.knows) context base reading result sink.old sink.new }
+    ensures room { S.room sink.old ≤ S.room sink.new + 1 }
 {
     let held = lock(rt, row, pass, base);
     if let Some((timer, generation)) = row.running(pass, &held, context) {
@@ -40,14 +43,15 @@ pub fn claim_next<R: Wait>(
         leave_base(row, pass, held, base);
         return ClaimAnswer::NoneDue;
     };
-    let numbers = claim_held(row, pass, held, context, base, timer, reading);
+    let numbers = claim_held(row, pass, sink, held, context, base, timer, reading);
     ClaimAnswer::Claimed(Claim { numbers })
 }
 
 /// Claims a timer that is the next to expire on a held base, and lets the base go.
-fn claim_held(
+fn claim_held<S: Sink>(
     row: &BaseRow,
     pass: &mut Pass,
+    sink: &mut S,
     held: HeldBase,
     context: Context,
     base: u32,
@@ -62,15 +66,18 @@ fn claim_held(
     requires idle { (t : ℕ) → runs_on held.base (in_context context (timer_seen row.now.about pass.old.knows) t) ≡ false }
     requires next { IsNextDue (in_context context (timer_seen row.now.about pass.old.knows)) held.base reading timer }
     requires first { next_on context (base_seen row.now.about pass.old.knows base) reading ≡ Some ((timer_seen row.now.about pass.old.knows timer).expires, timer) }
+    requires room { 0 < S.room sink.old }
     ensures rest { IsAtRest row.now pass.new }
     ensures timer { result.timer ≡ timer }
-    ensures claimed { ClaimsNextDue row.now.about (known_of pass.old.knows) (known_of pass.new.knows) context base reading result }
+    ensures claimed { ClaimsLogged S.pushed row.now.about (known_of pass.old.knows) (known_of pass.new.knows) context base reading (claimings.Claimed result) sink.old sink.new }
+    ensures room { S.room sink.old ≤ S.room sink.new + 1 }
 {
     row.fresh();
     pass.known();
-    let state = row.state(pass, &held, timer);
+    let mut state = row.state(pass, &held, timer);
     let (generation, number) = numbers(&state);
-    enter_once(row, pass, held, timer, Event::Claim { base, reading });
+    let event = Event::Claim { base, reading };
+    enter_once(row, pass, sink, held, timer, &mut state, event);
     ClaimNumbers {
         timer,
         generation,
@@ -116,50 +123,61 @@ fn hold_claimed<R: Wait>(
 }
 
 /// Ends the run of a claim's function. `restart` is what the function answered.
-pub fn finish<R: Wait>(
+pub fn finish<R: Wait, S: Sink>(
     rt: &R,
     row: &BaseRow,
     pass: &mut Pass,
+    sink: &mut S,
     claim: ClaimNumbers,
     restart: bool,
 ) -> Finished
     requires rest { IsAtRest row.now pass.old }
     requires claim { OwnsClaim row.now.about (known_of pass.old.knows) claim }
+    requires room { 0 < S.room sink.old }
     ensures rest { IsAtRest row.now pass.new }
-    ensures finishes { Finishes row.now.about (known_of pass.old.knows) (known_of pass.new.knows) claim restart result }
+    ensures finishes { FinishesLogged S.pushed row.now.about (known_of pass.old.knows) (known_of pass.new.knows) claim restart result sink.old sink.new }
+    ensures room { S.room sink.old ≤ S.room sink.new + 1 }
 {
-    let (held, state) = hold_claimed(rt, row, pass, claim);
+    let (held, mut state) = hold_claimed(rt, row, pass, claim);
     state.bounded();
-    let number = state.stamp() + 1;
-    let reply = enter_once(row, pass, held, claim.timer, Event::Finish { restart });
+    let stamp = state.stamp();
+    let event = Event::Finish { restart };
+    let reply = enter_once(row, pass, sink, held, claim.timer, &mut state, event);
     match reply {
-        Reply::Finish { rearmed, .. } => Finished { number, rearmed },
+        Reply::Finish { restarted, .. } => Finished {
+            number: stamp + 1,
+            rearmed: Rearmed::at(stamp, restarted),
+        },
         _ => unreachable!(),
     }
 }
 
 /// Moves the expiry of a claim's timer past the reading by whole intervals (`hrtimer_forward`). It doesn't arm it.
-pub fn forward<R: Wait>(
+pub fn forward<R: Wait, S: Sink>(
     rt: &R,
     row: &BaseRow,
     pass: &mut Pass,
+    sink: &mut S,
     claim: ClaimNumbers,
     reading: Reading,
     interval: u64,
 ) -> ForwardAnswer
     requires rest { IsAtRest row.now pass.old }
     requires claim { OwnsClaim row.now.about (known_of pass.old.knows) claim }
+    requires room { 0 < S.room sink.old }
     ensures rest { IsAtRest row.now pass.new }
-    ensures forwards { Forwards row.now.about (known_of pass.old.knows) (known_of pass.new.knows) claim reading interval result }
+    ensures forwards { ForwardsLogged S.pushed row.now.about (known_of pass.old.knows) (known_of pass.new.knows) claim reading interval result sink.old sink.new }
+    ensures room { S.room sink.old ≤ S.room sink.new + 1 }
 {
     let (held, state) = hold_claimed(rt, row, pass, claim);
-    forward_held(row, pass, held, claim, state, reading, interval)
+    forward_held(row, pass, sink, held, claim, state, reading, interval)
 }
 
 /// The same on the held base, which is let go.
-fn forward_held(
+fn forward_held<S: Sink>(
     row: &BaseRow,
     pass: &mut Pass,
+    sink: &mut S,
     held: HeldBase,
     claim: ClaimNumbers,
     state: TimerState,
@@ -171,8 +189,10 @@ fn forward_held(
     requires base { held.base ≡ claim.base }
     requires state { state ≡ timer_seen row.now.about pass.old.knows claim.timer }
     requires runs { state.running ≡ Some claim.generation }
+    requires room { 0 < S.room sink.old }
     ensures rest { IsAtRest row.now pass.new }
-    ensures forwards { Forwards row.now.about (known_of pass.old.knows) (known_of pass.new.knows) claim reading interval result }
+    ensures forwards { ForwardsLogged S.pushed row.now.about (known_of pass.old.knows) (known_of pass.new.knows) claim reading interval result sink.old sink.new }
+    ensures room { S.room sink.old ≤ S.room sink.new + 1 }
 {
     let stamp = state.stamp();
     if stamp >= state.limit() {
@@ -185,13 +205,9 @@ fn forward_held(
     }
     state.bounded();
     let number = stamp + 1;
-    let reply = enter_once(
-        row,
-        pass,
-        held,
-        claim.timer,
-        Event::Forward { reading, interval },
-    );
+    let mut state = state;
+    let event = Event::Forward { reading, interval };
+    let reply = enter_once(row, pass, sink, held, claim.timer, &mut state, event);
     match reply {
         Reply::Forward { moved } => ForwardAnswer::Forwarded { number, moved },
         _ => unreachable!(),

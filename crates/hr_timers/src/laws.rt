@@ -1,12 +1,12 @@
 //! What the calls' clauses say of the numbers in their answers: laws over what those clauses name.
 ghost use Rattle.std.specs.Prelude.{◌≡◌, ◌+◌, ◌≤◌, ℕ, Bool};
 ghost use Rattle.seq_timer.specs.declared.context.Context.{Context};
-ghost use Rattle.seq_timer.specs.declared.event.Asked.{Asked};
+ghost use Rattle.seq_timer.specs.Events.{Asked};
 ghost use Rattle.ktime.specs.Readings.{ClockReading};
 ghost use Rattle.seq_timer.specs.declared.observation.Peek.{Peek};
-ghost use Rattle.timer_core.specs.declared.answer.CancelAnswer.{CancelAnswer};
-ghost use Rattle.timer_core.specs.declared.answer.Finished.{Finished};
-ghost use Rattle.timer_core.specs.declared.answer.ForwardAnswer.{ForwardAnswer};
+ghost use Rattle.seq_timer.specs.declared.answer.CancelAnswer.{CancelAnswer};
+ghost use Rattle.seq_timer.specs.declared.answer.Finished.{Finished};
+ghost use Rattle.seq_timer.specs.declared.answer.ForwardAnswer.{ForwardAnswer};
 ghost use Rattle.base_row.specs.declared.view.Opening.{Opening};
 ghost use Rattle.hr_timers.specs.declared.answer.StartAnswer as answers;
 ghost use Rattle.hr_timers.specs.declared.numbers.ClaimNumbers as claimed;

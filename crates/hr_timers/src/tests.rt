@@ -14,10 +14,10 @@ mod threads;
 use crate::{NowAnswer, Pass, StartAnswer, Timers};
 use answers::{cancelled, moved, word};
 use ktime::{ClockId, Mode, Reading};
+use seq_timer::CancelAnswer;
 use std::alloc::{AllocError, Global};
 use std::sync::Wait;
 use std::test::Fail;
-use timer_core::CancelAnswer;
 
 /// Two bases and two timers.
 fn two_timers(alloc: Global) -> Result<(Timers, Pass), AllocError>

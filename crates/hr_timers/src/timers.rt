@@ -1,11 +1,12 @@
 //! The calls on timers.
-ghost use Rattle.std.specs.Prelude.{◌≡◌, ◌≤◌, ◌<◌, ◌^◌, ◌-◌, ◌++◌, ℕ, length, map, slice_index, [], IfOk};
+ghost use Rattle.std.specs.Prelude.{◌≡◌, ◌≤◌, ◌<◌, ◌^◌, ◌-◌, ◌++◌, ℕ, length, map, replicate, slice_index, [], IfOk};
 ghost use Rattle.pass_names.specs.Names.{AnswersFor, IsLast};
 ghost use Rattle.seq_timer.specs.declared.context.Context.TheVariants as contexts;
 ghost use Rattle.seq_timer.specs.Steps.{greatest_limit, limited};
 ghost use Rattle.seq_timer.specs.Tables.{hard_on};
-ghost use Rattle.timer_core.specs.Answers.{asked_for};
+ghost use Rattle.seq_timer.specs.Calls.{asked_for};
 ghost use Rattle.base_row.specs.Calls.{opening_of};
+ghost use Rattle.base_row.specs.Plays.{greater};
 ghost use Rattle.pass_names.specs.SharedHistory.{MeetWith, TakesIn, child_known, first_known, splitter_known};
 ghost use Rattle.hr_timers.specs.Known.{IsPassOf, OwnsClaim, HasEachPlace};
 ghost use Rattle.hr_timers.specs.Calls.{Cancels, ClaimFits, Finishes, Forwards, NowFits, Peeks, StartsTimer};
@@ -13,14 +14,15 @@ ghost use Rattle.hr_timers.specs.declared.answer.NowAnswer.TheVariants as nows;
 
 use crate::answer::{ClaimAnswer, NowAnswer, StartAnswer};
 use crate::tokens::{Claim, Pass};
-use crate::{cancelling, claiming, starting, trying_now};
-use base_row::BaseRow;
+use crate::trying_now;
+use base_row::{BaseRow, Unlogged};
 use ktime::{ClockId, Mode, Reading};
-use seq_timer::{Asked, Context, Declared, Peek, Terms, all_hard};
+use seq_timer::{
+    Asked, CancelAnswer, Context, Declared, Finished, ForwardAnswer, Peek, Terms, all_hard,
+};
 use std::alloc::{AllocError, Global};
 use std::marker::Model;
 use std::sync::Wait;
-use timer_core::{CancelAnswer, Finished, ForwardAnswer};
 
 /// Timers that many threads share, each thread with a pass of its own.
 #[derive(Drop)]
@@ -53,6 +55,7 @@ impl Timers {
         ensures pass { IfOk result (λ r. IsPassOf r.0 r.1) }
         ensures about { IfOk result (λ r. r.0.about ≡ opening_of bases (map hard_on clocks.now) (limited max_events)) }
         ensures first { IfOk result (λ r. r.1.known ≡ first_known) }
+        ensures locks { IfOk result (λ r. (r.1.takes ≡ []) × (r.1.met ≡ replicate bases 0)) }
     {
         let timers = all_hard(alloc, clocks)?;
         Timers::make_full(alloc, bases, &timers, max_events)
@@ -70,6 +73,7 @@ impl Timers {
         ensures pass { IfOk result (λ r. IsPassOf r.0 r.1) }
         ensures about { IfOk result (λ r. r.0.about ≡ opening_of bases timers.now (limited max_events)) }
         ensures first { IfOk result (λ r. r.1.known ≡ first_known) }
+        ensures locks { IfOk result (λ r. (r.1.takes ≡ []) × (r.1.met ≡ replicate bases 0)) }
     {
         let (row, inner) = BaseRow::make(alloc, bases, timers, Terms::limited(max_events))?;
         let timers = Timers { row };
@@ -117,7 +121,6 @@ impl Timers {
         ensures pass { IsPassOf self.now pass.new }
         ensures starts { StartsTimer self.now.about pass.old.known pass.new.known timer (asked_for mode ns slack base reading) result }
     {
-        self.small();
         let asked = Asked {
             mode,
             ns,
@@ -125,9 +128,7 @@ impl Timers {
             reading,
             base,
         };
-        let answer = starting::start(rt, &self.row, &mut pass.inner, timer, &asked);
-        self.check(pass);
-        answer
+        self.start_logged(rt, pass, &mut Unlogged, timer, &asked)
     }
 
     /// Disarms a timer, if its function isn't running (`hrtimer_try_to_cancel`). It waits only where one load doesn't show the timer idle.
@@ -137,9 +138,7 @@ impl Timers {
         ensures pass { IsPassOf self.now pass.new }
         ensures cancels { Cancels self.now.about pass.old.known pass.new.known timer result }
     {
-        let answer = cancelling::try_to_cancel(rt, &self.row, &mut pass.inner, timer);
-        self.check(pass);
-        answer
+        self.try_to_cancel_logged(rt, pass, &mut Unlogged, timer)
     }
 
     /// Disarms a timer, if its function isn't running, at one try that waits for nobody. To the last pass it never answers Moving or Moved,
@@ -204,9 +203,7 @@ impl Timers {
         ensures pass { IsPassOf self.now pass.new }
         ensures claims { ClaimFits self.now.about pass.old.known pass.new.known context base reading result }
     {
-        let answer = claiming::claim_next(rt, &self.row, &mut pass.inner, context, base, reading);
-        self.check(pass);
-        answer
+        self.claim_in_logged(rt, pass, &mut Unlogged, context, base, reading)
     }
 
     /// Moves the expiry of a claim's timer past the reading by whole intervals (`hrtimer_forward`). It doesn't arm it.
@@ -223,16 +220,7 @@ impl Timers {
         ensures pass { IsPassOf self.now pass.new }
         ensures forwards { Forwards self.now.about pass.old.known pass.new.known claim.now reading interval result }
     {
-        let answer = claiming::forward(
-            rt,
-            &self.row,
-            &mut pass.inner,
-            claim.numbers,
-            reading,
-            interval,
-        );
-        self.check(pass);
-        answer
+        self.forward_logged(rt, pass, &mut Unlogged, claim, reading, interval)
     }
 
     /// Ends the run of a claim's function. `restart` is what the function answered.
@@ -242,10 +230,7 @@ impl Timers {
         ensures pass { IsPassOf self.now pass.new }
         ensures finishes { Finishes self.now.about pass.old.known pass.new.known claim restart result }
     {
-        let Claim { numbers } = claim;
-        let answer = claiming::finish(rt, &self.row, &mut pass.inner, numbers, restart);
-        self.check(pass);
-        answer
+        self.finish_logged(rt, pass, &mut Unlogged, claim, restart)
     }
 
     /// The state word of a timer, taken apart: one load, also while another pass holds the timer's base.
@@ -254,6 +239,8 @@ impl Timers {
         requires timer { timer < length self.now.about.timers }
         ensures pass { IsPassOf self.now pass.new }
         ensures peeks { Peeks self.now.about pass.old.known pass.new.known timer result }
+        // No lock was looked at.
+        ensures locks { (pass.new.takes ≡ pass.old.takes) × (pass.new.met ≡ pass.old.met) }
     {
         let word = self.row.load_word(&mut pass.inner, timer);
         self.check(pass);
@@ -266,6 +253,9 @@ impl Timers {
         ensures pass { IsPassOf self.now pass.new × IsPassOf self.now result }
         ensures splitter { pass.new.known ≡ splitter_known pass.old.known }
         ensures new { result.known ≡ child_known pass.old.known }
+        // The new pass has taken no lock, and knows the same of each.
+        ensures locks { (pass.new.takes ≡ pass.old.takes) × (pass.new.met ≡ pass.old.met) }
+        ensures new_locks { (result.takes ≡ []) × (result.met ≡ pass.old.met) }
     {
         let inner = self.row.split(&mut pass.inner);
         let new = Pass { inner };
@@ -279,6 +269,9 @@ impl Timers {
         requires pass { IsPassOf self.now a.old × IsPassOf self.now b.old }
         ensures pass { IsPassOf self.now a.new × IsPassOf self.now b.new }
         ensures meets { MeetWith a.old.known b.old.known a.new.known b.new.known }
+        // The takes of each stay its own, and each knows the newest that both knew of each lock.
+        ensures takes { (a.new.takes ≡ a.old.takes) × (b.new.takes ≡ b.old.takes) }
+        ensures met { (b.new.met ≡ greater b.old.met a.old.met) × (a.new.met ≡ greater a.old.met b.new.met) }
     {
         self.row.meet(&mut a.inner, &mut b.inner);
         self.check(a);
@@ -291,6 +284,7 @@ impl Timers {
         requires answers { AnswersFor main.old.known.id other.known.id }
         ensures pass { IsPassOf self.now main.new }
         ensures retires { TakesIn main.old.known other.known main.new.known }
+        ensures locks { (main.new.takes ≡ main.old.takes ++ other.takes) × (main.new.met ≡ greater main.old.met other.met) }
     {
         let Pass { inner } = other;
         self.row.retire(&mut main.inner, inner);
@@ -327,7 +321,7 @@ impl Timers {
     }
 
     /// There are at most 64 bases.
-    fn small(&self)
+    pub(crate) fn small(&self)
         ensures { self.now.about.bases ≤ 64 }
     {
         let _row = &self.row;

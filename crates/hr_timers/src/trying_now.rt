@@ -8,8 +8,8 @@ ghost use Rattle.hr_timers.specs.declared.answer.NowAnswer.TheVariants as nows;
 use crate::answer::NowAnswer;
 use crate::cancelling::cancel_held;
 use crate::under_lock::leave;
-use base_row::{BaseRow, HeldBase, Pass};
-use timer_core::CancelAnswer;
+use base_row::{BaseRow, HeldBase, Pass, Unlogged};
+use seq_timer::CancelAnswer;
 
 /// Looks at the timer's word, and tries the lock of the base that it names once.
 pub fn cancel_now(row: &BaseRow, pass: &mut Pass, timer: u32) -> NowAnswer
@@ -59,5 +59,5 @@ fn cancel_held_now(
         return NowAnswer::Moving { base };
     }
     let state = row.state(pass, &held, timer);
-    NowAnswer::Tried(cancel_held(row, pass, held, timer, state))
+    NowAnswer::Tried(cancel_held(row, pass, &mut Unlogged, held, timer, state))
 }

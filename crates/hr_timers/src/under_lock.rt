@@ -1,5 +1,5 @@
 //! Steps under a base's lock.
-ghost use Rattle.std.specs.Prelude.{◌≡◌, ◌<◌, ℕ, length, Some, None, [], ◌∷◌, false, MatchOption};
+ghost use Rattle.std.specs.Prelude.{◌≡◌, ◌<◌, ◌≤◌, ◌+◌, ℕ, length, Some, None, [], ◌∷◌, false, IfNone, MatchBool, MatchOption};
 ghost use Rattle.ktime.specs.Readings.{ClockReading};
 ghost use Rattle.ktime.specs.declared.clock_id.ClockId.{ClockId};
 ghost use Rattle.seq_timer.specs.declared.context.Context.{Context};
@@ -9,12 +9,13 @@ ghost use Rattle.seq_timer.specs.Contents.{running_in};
 ghost use Rattle.seq_timer.specs.Steps.{after, reply_to};
 ghost use Rattle.seq_timer.specs.Systems.{IsOn, entries_of, next_on};
 ghost use Rattle.base_row.specs.Plays.{Steady, claims_with_event};
-ghost use Rattle.base_row.specs.Calls.{base_seen, IsBasePassOf, MayAppend, timer_seen};
+ghost use Rattle.base_row.specs.Calls.{base_seen, IsBasePassOf, MayAppend, known_of, timer_seen};
 ghost use Rattle.hr_timers.specs.Known.{AddsBehind, HoldsBase, HoldsTimer, IsAtRest, Looks};
-ghost use Rattle.hr_timers.specs.Calls.{entry_by};
+ghost use Rattle.hr_timers.specs.Calls.{IsHindered, entry_by};
+ghost use Rattle.hr_timers.specs.Logged.{IsLogged};
 
-use base_row::{BaseRow, HeldBase, Pass};
-use crossbeam_utils::Backoff;
+use base_row::{BaseRow, HeldBase, Pass, Sink};
+use pass_names::Retries;
 use seq_timer::{Event, Reply, TimerState};
 use std::sync::Wait;
 
@@ -28,6 +29,7 @@ pub fn lock<R: Wait>(rt: &R, row: &BaseRow, pass: &mut Pass, base: u32) -> HeldB
     ensures held { pass.new.knows.held ≡ Some result }
     ensures looks { Looks pass.old.knows pass.new.knows }
     ensures steady { Steady pass.old.knows pass.new.knows }
+    ensures once { length pass.new.knows.takes ≡ length pass.old.knows.takes + 1 }
 {
     row.lock_base(rt, pass, base)
 }
@@ -45,17 +47,15 @@ pub fn lock_timer<R: Wait>(
     ensures state { result.1 ≡ timer_seen row.now.about pass.new.knows timer }
     ensures looks { Looks pass.old.knows pass.new.knows }
 {
-    let backoff = Backoff::new();
-    for _ in rt.forever() {
+    for _ in Retries::new(rt) {
         if let Some(locked) = lock_named(rt, row, pass, timer) {
             return locked;
         }
-        backoff.snooze();
     }
     unreachable!()
 }
 
-/// One try, on the base that the timer's word names.
+/// One try, on the base that the timer's word names. It answers `None` only where the timer was seen on the move, or on two bases.
 fn lock_named<R: Wait>(
     rt: &R,
     row: &BaseRow,
@@ -67,6 +67,7 @@ fn lock_named<R: Wait>(
     ensures holds { MatchOption result (IsAtRest row.now pass.new) (λ l. HoldsTimer row.now pass.new l.0 timer) }
     ensures state { MatchOption result Unit (λ l. l.1 ≡ timer_seen row.now.about pass.new.knows timer) }
     ensures looks { Looks pass.old.knows pass.new.knows }
+    ensures why { IfNone result (IsHindered row.now.about (known_of pass.old.knows) (known_of pass.new.knows) timer) }
 {
     let word = row.load_word(pass, timer);
     if word.moving {
@@ -74,26 +75,49 @@ fn lock_named<R: Wait>(
     }
     let held = lock(rt, row, pass, word.base);
     let state = row.state(pass, &held, timer);
-    if state.base() != word.base || state.is_moving() {
+    if !is_on(&state, word.base) {
         leave(row, pass, held, timer);
         return None;
     }
     Some((held, state))
 }
 
-/// Adds an entry of a timer that stays on a held base, and lets the base go.
-pub fn enter_once(row: &BaseRow, pass: &mut Pass, held: HeldBase, timer: u32, event: Event) -> Reply
+/// Whether a timer is on a base, and not on the move.
+fn is_on(state: &TimerState, base: u32) -> bool
+    ensures { MatchBool result (IsOn base state.now) (IsOn base state.now → ⊥) }
+{
+    if state.base() != base {
+        return false;
+    }
+    !state.is_moving()
+}
+
+/// Adds an entry of a timer that stays on a held base, with its receipt, and lets the base go. The state is stepped as the timer is.
+pub fn enter_once<S: Sink>(
+    row: &BaseRow,
+    pass: &mut Pass,
+    sink: &mut S,
+    held: HeldBase,
+    timer: u32,
+    state: &mut TimerState,
+    event: Event,
+) -> Reply
     requires holds { HoldsTimer row.now pass.old held timer }
+    requires state { state.old ≡ timer_seen row.now.about pass.old.knows timer }
+    requires room { 0 < S.room sink.old }
     requires may { MayAppend row.now.about pass.old.knows held timer event }
     requires stays { IsOn held.base (after (timer_seen row.now.about pass.old.knows timer) event) }
     ensures rest { IsAtRest row.now pass.new }
     ensures claims { pass.new.knows.claims ≡ claims_with_event timer (timer_seen row.now.about pass.old.knows timer) event pass.old.knows.claims }
     ensures reply { result ≡ reply_to (timer_seen row.now.about pass.old.knows timer) event }
     ensures adds { AddsBehind pass.old.knows pass.new.knows timer (entry_by (timer_seen row.now.about pass.old.knows timer) event ∷ []) }
+    ensures after { state.new ≡ after (timer_seen row.now.about pass.old.knows timer) event }
+    ensures logged { IsLogged S.pushed row.now.about timer pass.old.knows.seen (entry_by (timer_seen row.now.about pass.old.knows timer) event ∷ []) sink.old sink.new }
+    ensures room { S.room sink.old ≤ S.room sink.new + 1 }
 {
     row.fresh();
     let mut held = held;
-    let reply = row.append(pass, &mut held, timer, event);
+    let reply = row.append_logged(pass, sink, &mut held, timer, state, event);
     row.unlock_base(pass, held);
     reply
 }

@@ -5,16 +5,15 @@ use Rattle.std.proofs.lemmas.Bool.Decides.{nat_tests}
 use Rattle.std.proofs.lemmas.List.{length-append}
 use Rattle.std.proofs.lemmas.Nat.{pow_pos}
 use Rattle.pass_names.specs.Passes.{places}
-use Rattle.seq_timer.specs.declared.event.Asked.{Asked}
-use Rattle.seq_timer.specs.declared.event.Event.TheVariants as events
+use Rattle.seq_timer.specs.Events.{Asked}
+use Rattle.seq_timer.specs.declared.event.EventBy.TheVariants as events
 use Rattle.seq_timer.specs.Steps.{Timer}
 use Rattle.seq_timer.specs.Systems.{entries_of}
-use Rattle.timer_core.specs.Answers.{moves_first}
+use Rattle.seq_timer.specs.Calls.{moves_first, entries_along}
 use Rattle.base_row.specs.declared.view.Opening.{Opening}
 use Rattle.hr_timers.specs.declared.answer.StartAnswer.{StartAnswer}
 use Rattle.hr_timers.specs.declared.answer.StartAnswer.TheVariants as starts
 use Rattle.hr_timers.specs.Known.{KnownOfTimers, timer_then}
-use Rattle.timer_core.specs.Runs.{entries_along}
 use Rattle.hr_timers.specs.Calls.{StartsTimer}
 use Rattle.hr_timers_bench.specs.Working.{entries_told}
 

@@ -4,8 +4,8 @@ ghost use Rattle.hr_timers_bench.specs.Working.{IsUnclaimed, MadeEntries, entrie
 
 use hr_timers::{ClaimAnswer, NowAnswer, Pass, StartAnswer, Timers};
 use ktime::{Mode, Reading};
+use seq_timer::CancelAnswer;
 use std::sync::Wait;
-use timer_core::CancelAnswer;
 
 /// The time of all calls.
 const NOW: u64 = 1000;

@@ -3,6 +3,7 @@ mod ends;
 mod generated;
 mod lanes;
 mod limits;
+mod many_lanes;
 mod refusals;
 mod streams;
 

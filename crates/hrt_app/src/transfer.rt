@@ -81,4 +81,21 @@ mod tests {
         assert_eq!(rt; sink.kept.bytes(), Some(b"abcdefg".as_slice()));
         Ok(())
     }
+
+    #[test]
+    fn as_many_bytes_as_a_script_may_have_are_moved(rt: HostRuntime) -> Result<(), Fail> {
+        let mut given = Vec::new(rt.alloc());
+        for place in 0..MOST_BYTES {
+            given.push((place % 251) as u8)?;
+        }
+        let mut source = BytesSource::new(&given, CHUNK, &[]);
+        let mut sink = BytesSink::new(rt.alloc(), CHUNK, &[]);
+        let written = match read_all(rt.alloc(), &mut source) {
+            Ok(bytes) => write_all(&mut sink, &bytes),
+            Err(_) => Err(Failed),
+        };
+        assert_eq!(rt; written, Ok(()));
+        assert!(rt; sink.kept.bytes() == Some(given.as_slice()));
+        Ok(())
+    }
 }

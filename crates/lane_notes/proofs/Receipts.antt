@@ -1,8 +1,8 @@
 -- Notes of receipts, one more receipt at a time.
 use Rattle.std.proofs.Common.{◌≡◌, ℕ, ◌+◌, ◌<◌, Option, Some, None, List, [], ◌∷◌, ◌++◌, length, map, take, get_or, refl, sym, ap, ◌∙◌}
 use Rattle.std.proofs.lemmas.List.{append_assoc, map-append, take_more}
-use Rattle.script_text.specs.Objects.{present}
-use Rattle.expire_pass.specs.declared.log.Receipt.{Receipt}
+use Rattle.run_history.specs.Objects.{present}
+use Rattle.base_row.specs.declared.log.Receipt.{Receipt}
 use Rattle.timer_objects.specs.declared.log.ObjectReceipt.{ObjectReceipt}
 use Rattle.record_text.specs.declared.record.Label.{Label}
 use Rattle.lane_notes.specs.Notes.{NotesOf}

@@ -3,7 +3,7 @@ use Rattle.std.proofs.Common.{◌≡◌, ℕ, ◌<◌, ◌≤◌, ◌⊎◌, Boo
 use Rattle.std.specs.List.{AllByRecursion}
 use Rattle.std.proofs.Math.Logic.{⊎_elim}
 use Rattle.std.proofs.lemmas.Bool.{and_from, cases_lt, eq-eqb, eqb-false, ltb-false, or_parts}
-use Rattle.script_text.specs.Order.{is_lower}
+use Rattle.run_history.specs.Order.{is_lower}
 use Rattle.lane_notes.specs.Sorted.{StandInOrder, IsSortedOf, Place, comes_before}
 use Rattle.lane_notes.proofs.Standing.{AtMostOne, AtMostOne-head, AtMostOne-permuted, AtMostOne-tail, All-permuted}
 

@@ -5,7 +5,7 @@ use Rattle.std.specs.List.{AllByRecursion}
 use Rattle.std.proofs.Math.Logic.{⊎_elim}
 use Rattle.std.proofs.lemmas.Bool.{and_from, cases_lt, eq-eqb, eqb-false, eqb-true, lt-ltb, ltb-false, or_left, or_parts, or_right}
 use Rattle.record_text.specs.declared.record.Label.{Label}
-use Rattle.script_text.specs.Order.{AreSorted, is_label, is_lower}
+use Rattle.run_history.specs.Order.{AreSorted, is_label, is_lower}
 use Rattle.lane_notes.specs.Sorted.{StandInOrder, IsSortedOf, Place, comes_before, is_of_list, is_of_number}
 use Rattle.lane_notes.proofs.Standing.{AtMostOne, AtMostOne-head, AtMostOne-permuted, AtMostOne-tail}
 use Rattle.lane_notes.proofs.Rising.{both, is_at, strictly}

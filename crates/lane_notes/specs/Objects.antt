@@ -7,7 +7,7 @@ use Rattle.timer_objects.specs.declared.object.ObjectReply.TheVariants as replie
 use Rattle.timer_objects.specs.declared.log.ObjectReceipt.{ObjectReceipt}
 use Rattle.record_text.specs.declared.record.Label.{Label}
 use Rattle.record_text.specs.declared.record.ObjectEntry.{ObjectEntry}
-use Rattle.script_text.specs.Objects.{present}
+use Rattle.run_history.specs.Objects.{present}
 use Rattle.lane_notes.specs.declared.notes.ObjectNote.{ObjectNote}
 use Rattle.lane_notes.specs.declared.notes.SkipNote.{SkipNote}
 use Rattle.lane_notes.specs.Notes.{NotesOf}

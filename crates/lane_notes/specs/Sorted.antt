@@ -3,7 +3,7 @@ use Rattle.std.specs.Prelude.{ℕ, ◌≡◌, Bool, false, nat_eq, nat_lt, ◌&&
 use Rattle.std.specs.List.{AllByRecursion}
 use Rattle.std.specs.List.Sorted.{IsPermutation}
 use Rattle.record_text.specs.declared.record.Label.{Label}
-use Rattle.script_text.specs.Order.{is_lower}
+use Rattle.run_history.specs.Order.{is_lower}
 use Rattle.lane_notes.specs.declared.notes.EntryNote.{EntryNote}
 use Rattle.lane_notes.specs.declared.notes.LookNote.{LookNote}
 use Rattle.lane_notes.specs.declared.notes.ObjectNote.{ObjectNote}

@@ -6,14 +6,11 @@ use Rattle.ktime.specs.Readings.{ClockReading}
 use Rattle.ktime.specs.declared.mode.Mode.{Mode}
 use Rattle.seq_timer.specs.Histories as histories
 use Rattle.seq_timer.specs.Histories.{Holds}
-use Rattle.seq_timer.specs.Steps.{after, Timer}
-use Rattle.seq_timer.specs.declared.event.Event.TheVariants as events
-use Rattle.seq_timer.specs.declared.event.Event.{Event}
+use Rattle.seq_timer.specs.Steps.{Timer}
 use Rattle.seq_timer.specs.declared.observation.Observation.TheVariants as observations
 use Rattle.seq_timer.specs.declared.system.TimerEntry.{TimerEntry}
-use Rattle.timer_core.specs.Answers.{asked_for, moves_first, start_events}
-use Rattle.timer_core.specs.Runs.{entries_along}
-use Rattle.expire_pass.specs.declared.log.Receipt.{Receipt}
+use Rattle.seq_timer.specs.Calls.{asked_for, start_events, entries_along, step_all}
+use Rattle.base_row.specs.declared.log.Receipt.{Receipt}
 use Rattle.hr_timers.specs.Calls.{start_entries, StartsTimer}
 use Rattle.hr_timers.specs.Known.{KnownOfTimers, MadeAt, timer_then}
 use Rattle.hr_timers.specs.declared.answer.StartAnswer.TheVariants as starts
@@ -22,38 +19,39 @@ use Rattle.hr_timers.proofs.Moments.{along, timer_after}
 use Rattle.timer_setting.specs.declared.arming.Arm.TheVariants as arms
 use Rattle.timer_setting.specs.declared.arming.Arm.{Arm}
 use Rattle.timer_setting.specs.declared.arming.Wanted.{Wanted}
-use Rattle.timer_objects.specs.Arming.{arm_of, receipts_of, Starts}
+use Rattle.base_row.specs.Logs.{receipts_of}
+use Rattle.timer_objects.specs.Arming.{arm_of, Starts}
 use Rattle.record_text.specs.declared.record.ClockLine.{ClockLine}
 use Rattle.record_text.specs.declared.record.Label.{Label}
-use Rattle.script_text.specs.Actions.{Action}
-use Rattle.script_text.specs.Told.{IsArmedLike}
-use Rattle.script_text.specs.Histories.{declareds_of, reading_at, terms_of}
-use Rattle.script_text.specs.ObjectCalls.{Arms}
-use Rattle.script_text.specs.Objects.{kind_of, object_armed_after}
-use Rattle.script_text.specs.Starts.{arming_actions, without_slack}
+use Rattle.run_history.specs.Actions.{Action}
+use Rattle.run_history.specs.Told.{IsArmedLike}
+use Rattle.run_history.specs.Histories.{reading_at}
+use Rattle.script_text.specs.Declarations.{declareds_of, terms_of, kind_of, without_slack}
+use Rattle.run_history.specs.ObjectCalls.{Arms}
+use Rattle.run_history.specs.Objects.{object_armed_after}
+use Rattle.run_history.specs.Starts.{arming_actions}
 use Rattle.script_text.specs.declared.script.Script.{Script}
 use Rattle.lane_notes.specs.Arms.{arm_noted}
-use Rattle.lane_notes.specs.Entries.{entry_notes, look_notes}
 use Rattle.run_history.specs.Courses.{Course, entries_in}
 use Rattle.run_history.specs.Receipts.{Noted}
 use Rattle.run_history.specs.Traces.{all_entered}
 use Rattle.run_history.specs.Truths.{IsTrueStart}
 use Rattle.run_history.proofs.Known.{numbered}
-use Rattle.lane_run.proofs.Kept.{entry_in_note, begins_same, IsNextCall}
+use Rattle.lane_run.proofs.Kept.{begins_same, IsNextCall}
 use Rattle.lane_run.proofs.CallKept.{inside_of}
-use Rattle.lane_run.proofs.Entering.{enters_along, EntersNotes, HasReading, line_entry, lines_along}
-use Rattle.lane_run.proofs.Parts.{IsPart, part_none, part_entered}
+use Rattle.lane_run.proofs.Entering.{EntersNotes}
+use Rattle.run_history.proofs.Stamped.{HaveReadings, entry_stamped}
+use Rattle.lane_run.proofs.Parts.{IsPart, part_at, part_none}
 use Rattle.lane_run.proofs.PartLists.{IsEntered}
 use Rattle.lane_run.proofs.Entering.{looks_made}
 use Rattle.lane_run.proofs.Starts.{start_reads, started_so}
-use Rattle.std.proofs.Common.{unwrap_or, Option, None}
+use Rattle.std.proofs.Common.{Option, None}
 use Rattle.seq_timer.specs.Histories.{IsIdle}
-use Rattle.seq_timer.specs.declared.event.Reply.TheVariants as replies
-use Rattle.timer_core.specs.declared.answer.CancelAnswer.TheVariants as cancelled
-use Rattle.timer_core.specs.declared.answer.CancelAnswer.{CancelAnswer}
+use Rattle.seq_timer.specs.declared.answer.CancelAnswer.TheVariants as cancelled
+use Rattle.seq_timer.specs.declared.answer.CancelAnswer.{CancelAnswer}
 use Rattle.hr_timers.specs.Calls.{cancel_entries, Cancels}
-use Rattle.script_text.specs.ObjectCalls.{cancels}
-use Rattle.script_text.specs.Objects.{ArmedAs}
+use Rattle.run_history.specs.ObjectCalls.{cancels}
+use Rattle.run_history.specs.Objects.{ArmedAs}
 use Rattle.script_text.specs.declared.script.Call.{Call}
 use Rattle.run_history.specs.Courses as courses
 use Rattle.lane_run.specs.Called.{LaneOf}
@@ -66,26 +64,10 @@ use Rattle.std.proofs.Common.{true}
 use Rattle.timer_setting.specs.Arguments as settings
 use Rattle.timer_setting.specs.Arguments.{mode_by}
 use Rattle.timer_objects.specs.Arming.{ArmsFor}
-use Rattle.timer_core.specs.Kept.{step_all}
 
 -- a record's clock has a reading
 abbrev pub HasRead : ClockReading → List ClockLine → Type 0
 HasRead reading clock = reading_at clock reading.stamp ≡ reading
-
--- ---- receipts of entries
-
--- receipts of a timer's entries are noted as the record's entries, by number
-receipts_of-noted : (label : Label) (t n : ℕ) (s : Timer) (es : List Event)
-    → map entry_in_note (entry_notes label (receipts_of t n (entries_along s es))) ≡ numbered t n (lines_along s es)
-receipts_of-noted label t n s [] = refl
-receipts_of-noted label t n s (events.Cancel ∷ es) =
-    ap (λ xs. (t, (n + 1, line_entry s events.Cancel)) ∷ xs) (receipts_of-noted label t (n + 1) (after s events.Cancel) es)
-receipts_of-noted label t n s (e ∷ es) = ap (λ xs. (t, (n + 1, line_entry s e)) ∷ xs) (receipts_of-noted label t (n + 1) (after s e) es)
-
--- they are no looks
-receipts_of-no_looks : (label : Label) (t n : ℕ) (es : List histories.Entry) → look_notes label (receipts_of t n es) ≡ []
-receipts_of-no_looks label t n [] = refl
-receipts_of-no_looks label t n (e ∷ es) = receipts_of-no_looks label t (n + 1) es
 
 -- ---- entries of a timer
 
@@ -122,18 +104,11 @@ IsRearmSpan before now arm from to = (from ≡ before.stamp) × (to ≡ now.stam
 
 module _ {s : Script} {x : WorldOf} {l : LaneOf} {call : Call} (next : IsNextCall s x l call) (t : ℕ) (reading : ClockReading) {v w : KnownOfTimers} where
   -- the entries that the call made of its timer at a moment, with a receipt of each
-  part_along : (at : List TimerEntry) (es : List Event) (actions : List Action) → MadeAt v w t at (entries_along (timer_then x.timers.about at t) es)
-      → ((clock : List ClockLine) → HasRead reading clock → AllByRecursion (HasReading clock) es) → AllByRecursion IsEntered actions
-      → numbered t (timer_then x.timers.about at t).stamp (lines_along (timer_then x.timers.about at t) es) ≡ all_entered actions
-      → TimersPart l reading v w actions (receipts_of t (timer_then x.timers.about at t).stamp (entries_along (timer_then x.timers.about at t) es))
-  part_along at es actions made reads only lines =
-      let u = timer_then x.timers.about at t in
-      let log = receipts_of t u.stamp (entries_along u es) in
-      let along = enters_along (HasRead reading) x.timers.about (declareds_of s) (terms_of s) es (opened_timers next) made reads in (
-        along.notes,
-        part_entered along.enters refl only (along.are ∙ lines)
-            (along.are ∙ sym (receipts_of-noted l.label t u.stamp u es)) (receipts_of-no_looks l.label t u.stamp (entries_along u es)),
-      )
+  part_of : {at : List TimerEntry} {es : List histories.Entry} {actions : List Action} → MadeAt v w t at es
+      → ((clock : List ClockLine) → HasRead reading clock → HaveReadings clock es) → AllByRecursion IsEntered actions
+      → numbered t (timer_then x.timers.about at t).stamp (map entry_stamped es) ≡ all_entered actions
+      → TimersPart l reading v w actions (receipts_of t (timer_then x.timers.about at t).stamp es)
+  part_of made reads only are = part_at x.timers.about (declareds_of s) (terms_of s) (opened_timers next) made reads refl only are
 
   -- law: the disarming of a settime is a part of it: the cancel of its timer, or a look at an idle one
   pub disarmed_part : {log : List Receipt} (answer : CancelAnswer) (c : Cancels x.timers.about v w t answer) → ((g n : ℕ) → answer ≡ cancelled.Running g n → ⊥)
@@ -144,15 +119,10 @@ module _ {s : Script} {x : WorldOf} {l : LaneOf} {call : Call} (next : IsNextCal
       (None, subst (TimersPart l reading v w []) (sym adds) ([], part_none looks.0 looks.1), λ none. c.fits.0)
   disarmed_part (cancelled.Running g n) c ended adds = absurd (ended g n refl)
   disarmed_part (cancelled.Cancelled g n) c ended adds =
-      let u = timer_then x.timers.about c.at t in
-      let cancel = Some (u.stamp + 1, unwrap_or u.armed 0) in
-      let entry : ℕ → List histories.Entry = λ k. record { event = events.Cancel; reply = replies.Cancel k } ∷ [] in
-      let generation : g ≡ unwrap_or u.armed 0 = sym (ap (λ a. unwrap_or a 0) c.fits.0) in
-      let its = part_along c.at (events.Cancel ∷ []) (cancels t cancel) (subst (λ k. MadeAt v w t c.at (entry k)) generation c.made)
-      (λ clock has. (tt, tt)) (tt, tt) refl in (
-        cancel,
-        subst (TimersPart l reading v w (cancels t cancel)) (sym (adds ∙ ap (λ k. receipts_of t u.stamp (entry k)) generation)) its,
-        λ none. let no : Some (u.stamp + 1, unwrap_or u.armed 0) ≡ None = none in absurd (cc),
+      let number = (timer_then x.timers.about c.at t).stamp + 1 in (
+        Some (number, g),
+        subst (TimersPart l reading v w (cancels t (Some (number, g)))) (sym adds) (part_of c.made (λ clock has. (refl, tt)) (tt, tt) refl),
+        λ none. let no : Some (number, g) ≡ None = none in absurd (cc),
       )
 
 -- a start, or none, behind what the call had done to the timer by then
@@ -188,8 +158,7 @@ module _ {s : Script} {x : WorldOf} {l : LaneOf} {call : Call} (next : IsNextCal
       let stamp : (step_all u es).stamp ≡ generation = cc in
       let actions = arming_actions t (without_slack mode ns base) reading.stamp as_told.arming in
       started actions adds (as_told.arming, refl, number, as_told.just)
-      (part_along next t reading c.at es actions c.made (λ clock has. start_reads (without_slack mode ns base) reading clock (moves_first u base) has) as_told.only
-      as_told.lines)
+      (part_of next t reading c.made (λ clock has. start_reads u (without_slack mode ns base) reading clock has) as_told.only as_told.entries)
       (ap (λ (y : Timer). y.stamp) (timer_after x.timers.about v w t c.at (entries_along u es) c.made ∙ along u es) ∙ stamp)
 
   -- law: a start that was wanted

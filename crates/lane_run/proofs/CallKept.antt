@@ -11,18 +11,19 @@ use Rattle.clock_cell.specs.Views.{writes}
 use Rattle.pass_names.specs.Counts.{count, one_if, total}
 use Rattle.pass_names.specs.Passes.{Begins, GoesOn, is_place, Looks}
 use Rattle.pass_names.proofs.Counts.{total-append}
-use Rattle.expire_pass.specs.declared.log.Receipt.{Receipt}
+use Rattle.base_row.specs.declared.log.Receipt.{Receipt}
 use Rattle.timer_objects.specs.Known.{seen_of}
 use Rattle.timer_objects.specs.declared.log.ObjectReceipt.{ObjectReceipt}
 use Rattle.record_text.specs.declared.record.Answer.{Answer}
 use Rattle.record_text.specs.declared.record.ClockLine.{ClockLine}
 use Rattle.record_text.specs.declared.record.Entry.{Entry}
 use Rattle.record_text.specs.declared.record.Label.{Label}
-use Rattle.script_text.specs.Actions.{made, wrote}
-use Rattle.script_text.specs.Told.{object_steps_on}
-use Rattle.script_text.specs.Histories.{declareds_of, reading_at, terms_of}
-use Rattle.script_text.specs.Objects.{present}
-use Rattle.script_text.specs.Order.{calls_of, IsLabel, NeverFall}
+use Rattle.run_history.specs.Actions.{made, wrote}
+use Rattle.run_history.specs.Told.{object_steps_on}
+use Rattle.run_history.specs.Histories.{reading_at}
+use Rattle.script_text.specs.Declarations.{declareds_of, terms_of}
+use Rattle.run_history.specs.Objects.{present}
+use Rattle.run_history.specs.Order.{calls_of, IsLabel, NeverFall}
 use Rattle.script_text.specs.declared.script.Call.{Call}
 use Rattle.script_text.specs.declared.script.Script.{Script}
 use Rattle.lane_notes.specs.Entries.{entry_notes, look_notes, receipt_entry, receipt_look}
@@ -45,8 +46,8 @@ use Rattle.lane_run.specs.declared.world.WorldPass.{WorldPass}
 use Rattle.lane_run.proofs.Entering.{EntersNotes, place_of}
 use Rattle.pass_names.proofs.Passes.{begins_length}
 use Rattle.std.proofs.Common.{true, false, nat_eq, if◌then◌else◌}
-use Rattle.script_text.specs.Actions.{Action, numbers_of_object}
-use Rattle.script_text.specs.Told.{object_called, object_stamp_in, stamps_on}
+use Rattle.run_history.specs.Actions.{Action, numbers_of_object}
+use Rattle.run_history.specs.Told.{object_called, object_stamp_in, stamps_on}
 use Rattle.clock_model.specs.declared.write.Write.{Write}
 use Rattle.clock_cell.specs.Views.{reading_after}
 use Rattle.seq_timer.specs.Systems.{openings}

@@ -4,7 +4,7 @@ use Rattle.std.specs.List.{AllByRecursion, list_any}
 use Rattle.std.proofs.lemmas.Bool.Decides.{nat_tests}
 use Rattle.std.proofs.lemmas.Bool.{cond-false, eqb-true, or_cases, or_parts}
 use Rattle.std.proofs.lemmas.List.{length-map}
-use Rattle.script_text.specs.Order.{CallInRound, calls_from, calls_of}
+use Rattle.run_history.specs.Order.{CallInRound, calls_from, calls_of}
 use Rattle.script_text.specs.Scripts.{all_calls, IsInRange}
 use Rattle.script_text.specs.declared.script.Call.{Call}
 use Rattle.script_text.specs.declared.script.LaneCall.{LaneCall}

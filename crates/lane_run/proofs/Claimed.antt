@@ -1,8 +1,8 @@
 -- The timers that a run's receipts claim, one receipt after another.
 use Rattle.std.proofs.Common.{◌≡◌, ◌<◌, ◌+◌, ℕ, Bool, List, [], ◌∷◌, ◌++◌, length, take, get_or, refl, sym, ap, ◌∙◌}
 use Rattle.std.proofs.lemmas.List.{take_more}
-use Rattle.expire_pass.specs.declared.log.Receipt.{Receipt}
-use Rattle.script_text.specs.Actions.{also}
+use Rattle.base_row.specs.declared.log.Receipt.{Receipt}
+use Rattle.run_history.specs.Actions.{also}
 use Rattle.lane_run.specs.Called.{claimed_in, is_claim_event}
 use Rattle.lane_run.proofs.PartLists.{also-append}
 

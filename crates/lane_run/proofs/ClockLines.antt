@@ -12,9 +12,9 @@ use Rattle.lane_notes.specs.Sorted.{is_of_list, IsSortedFrom, place_of_write}
 use Rattle.lane_notes.specs.declared.notes.WriteNote.{WriteNote}
 use Rattle.record_text.specs.declared.record.ClockLine.{ClockLine}
 use Rattle.record_text.specs.declared.record.Label.{Label}
-use Rattle.script_text.specs.Actions.{own, wrote}
-use Rattle.script_text.specs.Histories.{AreWrites, ShowsReading}
-use Rattle.script_text.specs.Order.{is_label}
+use Rattle.run_history.specs.Actions.{own, wrote}
+use Rattle.run_history.specs.Histories.{AreWrites, ShowsReading}
+use Rattle.run_history.specs.Order.{is_label}
 use Rattle.script_text.specs.declared.script.Script.{Script}
 use Rattle.run_history.specs.Promises.{GoesOnClock}
 use Rattle.run_history.specs.Runs.{CallLog, Ending}

@@ -8,9 +8,7 @@ use Rattle.timer_objects.specs.declared.object.Decl.{Decl}
 use Rattle.timer_objects.specs.declared.object.Kind as object_kind
 use Rattle.timer_objects.specs.declared.object.Kind.TheVariants as over
 use Rattle.seq_timer.specs.declared.context.Context.TheVariants as contexts
-use Rattle.script_text.specs.Histories.{clock_of}
-use Rattle.script_text.specs.ObjectCalls.{base_of}
-use Rattle.script_text.specs.Objects.{kind_of}
+use Rattle.script_text.specs.Declarations.{clock_of, base_of, kind_of}
 use Rattle.script_text.specs.declared.script.Callback.TheVariants as callbacks
 use Rattle.script_text.specs.declared.script.Declaration.{Declaration}
 use Rattle.script_text.specs.declared.script.Kind.{Kind}

@@ -5,7 +5,7 @@ use Rattle.record_text.specs.declared.record.Answer.{Answer}
 use Rattle.record_text.specs.declared.record.ClockLine.{ClockLine}
 use Rattle.record_text.specs.declared.record.Label.{Label}
 use Rattle.record_text.specs.declared.record.ObjectLine.{ObjectLine}
-use Rattle.script_text.specs.Objects.{lines_of_object}
+use Rattle.run_history.specs.Objects.{lines_of_object}
 use Rattle.script_text.specs.declared.script.Script.{Script}
 use Rattle.lane_notes.specs.Notes.{NotesOf}
 use Rattle.lane_notes.specs.Records.{record_from}
@@ -26,8 +26,9 @@ use Rattle.lane_notes.proofs.Lists.{length-objects, length-timers}
 use Rattle.std.proofs.Common.{◌≡◌, ℕ}
 use Rattle.clock_cell.specs.Views.{writes}
 use Rattle.run_history.specs.Promises.{HasLog}
-use Rattle.script_text.specs.Histories.{clock_labels, declareds_of, terms_of}
-use Rattle.script_text.specs.Objects.{object_labels}
+use Rattle.run_history.specs.Histories.{clock_labels}
+use Rattle.script_text.specs.Declarations.{declareds_of, terms_of}
+use Rattle.run_history.specs.Objects.{object_labels}
 
 module _ {s : Script} {x : WorldOf} {q : WorldPass} {notes sorted : NotesOf} {logs : Label → CallLog} (last : AreLastOf s x q) (left : AreLeft s q notes logs)
     (is : IsSortedFrom notes sorted) (answers : List (List Answer)) (starts : RoundStarts) where

@@ -17,16 +17,16 @@ use Rattle.hr_timers.specs.Known.{KnownOfTimers, timer_then}
 use Rattle.expire_pass.specs.declared.expiry.ExpireAnswer.{ExpireAnswer}
 use Rattle.expire_pass.specs.declared.expiry.ExpireAnswer.TheVariants as expiries
 use Rattle.expire_pass.specs.Expiring.{Expires, Turns}
-use Rattle.expire_pass.specs.declared.log.Receipt.{Receipt}
+use Rattle.base_row.specs.declared.log.Receipt.{Receipt}
 use Rattle.timer_objects.specs.Firings.{firing}
 use Rattle.timer_objects.specs.Known.{ObjectsPass}
 use Rattle.timer_objects.specs.declared.log.ObjectReceipt.{ObjectReceipt}
 use Rattle.record_text.specs.declared.record.Answer.TheVariants as answers
 use Rattle.record_text.specs.declared.record.Answer.{Answer}
 use Rattle.record_text.specs.declared.record.Label.{Label}
-use Rattle.script_text.specs.Actions.{Action, numbers_of_object}
-use Rattle.script_text.specs.Histories.{reading_at}
-use Rattle.script_text.specs.Order.{calls_of, IsLabel}
+use Rattle.run_history.specs.Actions.{Action, numbers_of_object}
+use Rattle.run_history.specs.Histories.{reading_at}
+use Rattle.run_history.specs.Order.{calls_of, IsLabel}
 use Rattle.script_text.specs.declared.script.Call.TheVariants as calls
 use Rattle.script_text.specs.declared.script.Script.{Script}
 use Rattle.run_history.specs.Calls.{fires}

@@ -14,8 +14,8 @@ use Rattle.lane_notes.proofs.Rising.{RiseBehind, RiseBehind-sorted}
 use Rattle.lane_notes.proofs.Standing.{stands_permuted, stood_before}
 use Rattle.record_text.specs.declared.record.Answer.{Answer}
 use Rattle.record_text.specs.declared.record.Label.{Label}
-use Rattle.script_text.specs.Actions.{also}
-use Rattle.script_text.specs.Order.{IsLabel}
+use Rattle.run_history.specs.Actions.{also}
+use Rattle.run_history.specs.Order.{IsLabel}
 use Rattle.script_text.specs.declared.script.Script.{Script}
 use Rattle.run_history.specs.Receipts.{AreFiled, file_shape, Filed, files_on, IsMade, line_shape, Noted, RiseBy}
 use Rattle.run_history.specs.Runs.{CallLog}

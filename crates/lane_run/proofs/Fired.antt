@@ -1,5 +1,5 @@
 -- The callbacks of an expiry run: one with its claim and its finish, and all of them one behind the other.
-use Rattle.std.proofs.Common.{◌≡◌, ◌≤◌, ◌<◌, ℕ, unwrap_or, List, [], ◌∷◌, ◌++◌, length, length-append, map, get_or, arith, refl, sym, ap, ◌∙◌, subst, zero, suc, Option}
+use Rattle.std.proofs.Common.{◌≡◌, ◌≤◌, ◌<◌, ℕ, ◌+◌, unwrap_or, List, [], ◌∷◌, ◌++◌, length, length-append, map, get_or, arith, refl, sym, ap, ◌∙◌, subst, zero, suc, Option}
 use Rattle.std.specs.List.{AllByRecursion}
 use Rattle.std.specs.List.Sorted.{IsPermutation}
 use Rattle.std.proofs.lemmas.List.{append_assoc, append-nil, map-append}
@@ -13,7 +13,7 @@ use Rattle.seq_timer.specs.declared.system.TimerEntry.{TimerEntry}
 use Rattle.seq_timer.specs.Tables.{no_declared, timer_at}
 use Rattle.seq_timer.proofs.Contents.{declared-after_all}
 use Rattle.hr_timers.proofs.Moments.{timer_own}
-use Rattle.seq_timer.specs.Steps.{Timer, rearmed_by, reply_to}
+use Rattle.seq_timer.specs.Steps.{Timer, reply_to, restarted_by}
 use Rattle.seq_timer.specs.Systems.{entries_of, openings}
 use Rattle.base_row.specs.declared.view.Opening.{Opening}
 use Rattle.hr_timers.specs.Calls.{ClaimsNextDue}
@@ -22,19 +22,19 @@ use Rattle.hr_timers.specs.declared.numbers.ClaimNumbers.{ClaimNumbers}
 use Rattle.expire_pass.specs.Expiring.{claim_receipt, finish_receipt, Turn, Turns}
 use Rattle.expire_pass.specs.Handlers.{asks}
 use Rattle.expire_pass.specs.declared.handler.Restart.{Restart}
-use Rattle.expire_pass.specs.declared.log.Receipt.{Receipt}
+use Rattle.base_row.specs.declared.log.Receipt.{Receipt}
 use Rattle.timer_objects.specs.Callbacks.{RunsCallback}
 use Rattle.timer_objects.specs.Firings.{callback_at, Fires, FiresBy, Firing, firing}
 use Rattle.timer_objects.specs.Known.{decl_at, ObjectsPass, seen_of}
 use Rattle.timer_objects.specs.Triggers.{trigger_of}
 use Rattle.timer_objects.specs.declared.log.ObjectReceipt.{ObjectReceipt}
 use Rattle.record_text.specs.declared.record.Label.{Label}
-use Rattle.script_text.specs.Histories.{declared_of, declareds_of, terms_of}
-use Rattle.script_text.specs.Actions.{Action, Entered, made}
-use Rattle.script_text.specs.Objects.{kind_of, present}
+use Rattle.script_text.specs.Declarations.{declared_of, declareds_of, terms_of, kind_of}
+use Rattle.run_history.specs.Actions.{Action, Entered, made}
+use Rattle.run_history.specs.Objects.{present}
 use Rattle.script_text.specs.declared.script.Kind.{Kind}
 use Rattle.script_text.specs.declared.script.Script.{Script}
-use Rattle.lane_notes.specs.Entries.{entry_notes, look_notes, restart_noted, entry_note, look_note}
+use Rattle.lane_notes.specs.Entries.{entry_notes, look_notes, entry_note, look_note}
 use Rattle.run_history.specs.Calls.{fires}
 use Rattle.run_history.specs.Courses.{Fired}
 use Rattle.run_history.specs.Receipts.{Noted, receipt}
@@ -56,13 +56,13 @@ use Rattle.lane_run.proofs.Bodies.{callback_kept}
 use Rattle.lane_run.proofs.Parts.{BodyKept, fired_of, HasRead, IsClaimed, IsPart, objects_grow, part-append, part_entered, part_none}
 use Rattle.lane_run.proofs.PartLists.{each_joined, each_weaker, notes-append}
 use Rattle.lane_run.proofs.Entering.{enters_once, EntersNotes}
-use Rattle.record_text.specs.declared.record.Restart as line_restart
-use Rattle.seq_timer.specs.declared.event.Event.TheVariants as events
+use Rattle.seq_timer.specs.declared.event.Restarted.{Restarted}
+use Rattle.seq_timer.specs.declared.event.Reply.TheVariants as replies
+use Rattle.seq_timer.specs.declared.event.EventBy.TheVariants as events
 use Rattle.timer_objects.specs.declared.callback.Callback.TheVariants as runs
 use Rattle.timer_objects.specs.declared.object.ObjectCall.TheVariants as of_kind
 use Rattle.posix_timer.specs.declared.calls.Call.TheVariants as posix_calls
 use Rattle.timer_fd.specs.declared.calls.Call.TheVariants as fd_calls
-use Rattle.record_text.specs.declared.record.Entry.TheVariants as entries
 use Rattle.script_text.specs.declared.script.Kind.TheVariants as kinds
 use Rattle.run_history.specs.Promises as promises
 use Rattle.run_history.proofs.Expires as expires
@@ -134,14 +134,13 @@ module _ (s : Script) (x : WorldOf) (is : IsWorldOf s x) (some : 1 ≤ s.limit) 
   claim_made {c = c} claims =
       let event = events.Claim base reading in
       let u = timer_then o claims.at c.timer in
-      let one = enters_once (HasRead reading) o (declareds_of s) (terms_of s) event on claims.made (λ clock has. has) claims.number
-      (ap (λ g. entries.Claim base reading.stamp (unwrap_or g 0)) claims.armed) in
+      let one = enters_once (HasRead reading) o (declareds_of s) (terms_of s) on claims.made (λ clock has. ap (events.Claim base) has) claims.number in
       let le = count_begins c.timer claims.made.from in
       let own = length-append (entries_of c.timer claims.at) (record { event = event; reply = reply_to u event } ∷ []) in
       record {
         note = one.0;
         enters = one.1;
-        is = one.2;
+        is = one.2 ∙ ap (λ g. (c.timer, (c.number, record { event = events.Claim base reading.stamp; reply = replies.Claim (unwrap_or g 0) }))) claims.armed;
         there = claims.there;
         some = omega (arith, claims.number);
         more = omega (arith, le, ap length claims.made.own, own);
@@ -177,16 +176,16 @@ module _ (s : Script) (x : WorldOf) (is : IsWorldOf s x) (some : 1 ≤ s.limit) 
 
   -- a callback ran, with its claim and its finish, in every run that goes on from there
   turn_ran : {k v w k' : KnownOfTimers} {c : ClaimNumbers} {restart : Restart} {h h' : Firing} (claim : IsClaimed base c reading k v)
-      (b : BodyKept s label claim restart w h h') (number : ℕ) (rearmed : line_restart.Restart)
+      (b : BodyKept s label claim restart w h h') (number : ℕ) (restarted : Restarted)
       (own : (declared_of s c.timer).context ≡ context)
       (finish : (n : Noted) × EntersNotes (HasRead reading) w k' (n ∷ [])
-      × (receipt n ≡ (c.timer, (number, entries.Finish (asks restart) c.generation rearmed)))) (e : Ending) → IsJoined s e → promises.GoesOn k'.seen e
+      × (receipt n ≡ (c.timer, (number, record { event = events.Finish (asks restart); reply = replies.Finish c.generation restarted })))) (e : Ending) → IsJoined s e → promises.GoesOn k'.seen e
       → ((i : ℕ) → FollowsObject e i (seen_of h'.objects_pass.now i)) → (before : List Action)
       → ((i : ℕ) → ((j : ℕ) → made j b.body ≡ []) → IsObjectPoint (course_of s e) label
-      (with_claim base reading.stamp (fired_of c b.body number (asks restart) rearmed) before) i (length (seen_of h'.objects_pass.now i)))
-      → (ran : expires.Ran (course_of s e) label e.order context base reading.stamp before (fired_of c b.body number (asks restart) rearmed) (length k.seen)
+      (with_claim base reading.stamp (fired_of c b.body number (asks restart) restarted) before) i (length (seen_of h'.objects_pass.now i)))
+      → (ran : expires.Ran (course_of s e) label e.order context base reading.stamp before (fired_of c b.body number (asks restart) restarted) (length k.seen)
       (length k'.seen)) × (claim.note ∷ b.notes ++ finish.0 ∷ [] ≡ expires.notes_of ran)
-  turn_ran {k = k} {v = v} {w = w} {k' = k'} {c = c} {restart = restart} claim b number rearmed own finish e joined goes follows before points =
+  turn_ran {k = k} {v = v} {w = w} {k' = k'} {c = c} {restart = restart} claim b number restarted own finish e joined goes follows before points =
       let acted = goes_before finish.1.seen goes in
       let claimed = goes_before b.enters.seen acted in (
         record {
@@ -205,9 +204,9 @@ module _ (s : Script) (x : WorldOf) (is : IsWorldOf s x) (some : 1 ≤ s.limit) 
           finish_made = made_goes_on e.order k'.seen goes.0 (length w.seen) (length k'.seen) (finish.0 ∷ []) goes.1 finish.1.made;
           finish_is = finish.2;
           own = own;
-          kind = b.kind number rearmed;
-          holds = b.holds e joined acted (with_claim base reading.stamp (fired_of c b.body number (asks restart) rearmed) before) points;
-          span = b.span e follows number rearmed;
+          kind = b.kind number restarted;
+          holds = b.holds e joined acted (with_claim base reading.stamp (fired_of c b.body number (asks restart) restarted) before) points;
+          span = b.span e follows number restarted;
         },
         refl,
       )
@@ -222,19 +221,21 @@ module _ (s : Script) (x : WorldOf) (is : IsWorldOf s x) (some : 1 ≤ s.limit) 
       let c = turn.claim in
       let ran = turn.ran in
       let restart = asks ran.restart in
-      let rearmed = restart_noted ran.finished.rearmed in
       let claim : IsClaimed base c reading k1 turn.claimed = claim_made turn.claims in
       let b = fires_kept h h' ran.done claim ran.restart objects handlers ran.did in
-      let f = fired_of c b.body ran.finished.number restart rearmed in
+      let u = timer_then o ran.finishes.at c.timer in
+      let restarted = restarted_by u restart in
+      let f = fired_of c b.body (u.stamp + 1) restart restarted in
       let own : (declared_of s c.timer).context ≡ context =
       sym (ap (λ (d : Declared). d.context) (declared_seen turn.claims.at c.timer)) ∙ turn.claims.context in
-      let u = timer_then o ran.finishes.at c.timer in
-      let finish = enters_once (HasRead reading) o (declareds_of s) (terms_of s) (events.Finish restart) on
-      ran.finishes.made (λ clock has. tt) ran.finishes.number
-      (ap (λ g. entries.Finish restart (unwrap_or g 0) (restart_noted (rearmed_by u restart))) ran.finishes.runs
-      ∙ ap (λ r. entries.Finish restart c.generation (restart_noted r)) (sym ran.finishes.rearmed)) in
+      let one = enters_once (HasRead reading) o (declareds_of s) (terms_of s) {number = u.stamp + 1} on ran.finishes.made (λ clock has. refl) refl in
+      let finish : (n : Noted) × EntersNotes (HasRead reading) ran.done k' (n ∷ []) × (receipt n ≡ (c.timer, (u.stamp + 1, finish_of f))) = (
+        one.0,
+        one.1,
+        one.2 ∙ ap (λ g. (c.timer, (u.stamp + 1, record { event = events.Finish restart; reply = replies.Finish (unwrap_or g 0) restarted }))) ran.finishes.runs,
+      ) in
       let first = claim_receipt reading c in
-      let last = finish_receipt c ran.restart ran.finished in
+      let last = finish_receipt c ran.restart u in
       let p1 = h.objects_pass.now in
       let p' = h'.objects_pass.now in
       let at = reading.stamp in
@@ -267,9 +268,9 @@ module _ (s : Script) (x : WorldOf) (is : IsWorldOf s x) (some : 1 ≤ s.limit) 
         fired = run.fired ++ f ∷ [];
         many = omega (arith, run.many, length-append run.fired (f ∷ []));
         notes = run.notes ++ notes;
-        no_looks = rw (ran.receipts, notes-append (look_note label) log more, run.no_looks) refl;
-        claimed = rw (ran.receipts, claimed_in-append log more, run.claimed) (sym (map-append (λ (g : Fired). g.timer) run.fired (f ∷ [])));
-        part = rw (all, ran.receipts)
+        no_looks = rw (turn.receipts, notes-append (look_note label) log more, run.no_looks) refl;
+        claimed = rw (turn.receipts, claimed_in-append log more, run.claimed) (sym (map-append (λ (g : Fired). g.timer) run.fired (f ∷ [])));
+        part = rw (all, turn.receipts)
             (subst (λ rs. IsPart (HasRead reading) label k p k' p' (done ++ one) (run.notes ++ notes) ((log ++ more) ++ rs) h'.object_log.receipts) (sym b.adds)
             (subst (IsPart (HasRead reading) label k p k' p' (done ++ one) (run.notes ++ notes) ((log ++ more) ++ (cb ++ b.more))) (sym b.adds_objects)
             whole_part));
@@ -282,7 +283,7 @@ module _ (s : Script) (x : WorldOf) (is : IsWorldOf s x) (some : 1 ≤ s.limit) 
             (part.objects.rise i).above (behind i)))
             (λ i m before rest parts low high below above.
             points i m before rest (whole ∙ parts) low (let le = grows i in omega (arith, high, le)) below above) in
-            let one_run = turn_ran claim b ran.finished.number rearmed own finish e joined goes follows done
+            let one_run = turn_ran claim b (u.stamp + 1) restarted own finish e joined goes follows done
             (λ i none. let le = grows i in
             points i (length (seen_of p' i)) (with_claim base at f done) ((f.body ++ finishing) ++ later)
             (whole ∙ sym (append_assoc done claiming ((f.body ++ finishing) ++ later)))

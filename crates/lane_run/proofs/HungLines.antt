@@ -16,10 +16,10 @@ use Rattle.record_text.specs.declared.record.Answer.{Answer}
 use Rattle.record_text.specs.declared.record.CallbackReply.{CallbackReply}
 use Rattle.record_text.specs.declared.record.Label.{Label}
 use Rattle.record_text.specs.declared.record.TimerLine.{TimerLine}
-use Rattle.script_text.specs.Actions.{looked, own_looks, own_skips, skipped}
-use Rattle.script_text.specs.Histories.{lines_of_timer}
-use Rattle.script_text.specs.Objects.{lines_of_object}
-use Rattle.script_text.specs.Order.{AreSorted, AreUnder, is_label, IsLabel}
+use Rattle.run_history.specs.Actions.{looked, own_looks, own_skips, skipped}
+use Rattle.run_history.specs.Histories.{lines_of_timer}
+use Rattle.run_history.specs.Objects.{lines_of_object}
+use Rattle.run_history.specs.Order.{AreSorted, AreUnder, is_label, IsLabel}
 use Rattle.script_text.specs.declared.script.Script.{Script}
 use Rattle.run_history.specs.Fits.{AreSkipsUnder, LabelsNeverFall}
 use Rattle.run_history.specs.Receipts.{Rises}

@@ -10,7 +10,7 @@ use Rattle.lane_notes.specs.Sorted.{is_of_list, is_of_number, IsSortedOf, Place}
 use Rattle.lane_notes.proofs.Standing.{AtMostOne, HasPlace, stood_before, filter_stands_in}
 use Rattle.lane_notes.proofs.UnderLines.{is_of_call}
 use Rattle.record_text.specs.declared.record.Label.{Label}
-use Rattle.script_text.specs.Order.{is_label, IsLabel}
+use Rattle.run_history.specs.Order.{is_label, IsLabel}
 use Rattle.run_history.specs.Receipts.{Rises}
 use Rattle.run_history.proofs.Looks.{of_call, all_under}
 use Rattle.std.proofs.Math.Bool.{and_comm}

@@ -25,10 +25,10 @@ use Rattle.run_history.specs.Promises.{GoesOnClock, IsPromised}
 use Rattle.run_history.specs.Receipts as receipts
 use Rattle.run_history.specs.Receipts.{IsMade, Noted, receipt, Rises, ShowsEntry}
 use Rattle.run_history.specs.Runs.{CallLog, Ending}
-use Rattle.script_text.specs.Actions.{Action, also, looked, made, skipped, wrote}
-use Rattle.script_text.specs.Histories.{ShowsReading}
-use Rattle.script_text.specs.Objects.{lines_of_object}
-use Rattle.script_text.specs.Order.{CallInRound, calls_of, is_label}
+use Rattle.run_history.specs.Actions.{Action, also, looked, made, skipped, wrote}
+use Rattle.run_history.specs.Histories.{ShowsReading}
+use Rattle.run_history.specs.Objects.{lines_of_object}
+use Rattle.run_history.specs.Order.{CallInRound, calls_of, is_label}
 use Rattle.script_text.specs.Scripts.{IsInRange}
 use Rattle.script_text.specs.declared.script.Call.{Call}
 use Rattle.script_text.specs.declared.script.Script.{Script}

@@ -2,9 +2,9 @@
 use Rattle.std.proofs.Common.{ℕ, List, [], ◌∷◌, map, arith}
 use Rattle.record_text.specs.declared.record.Answer.{Answer}
 use Rattle.record_text.specs.declared.record.Label.{Label}
-use Rattle.script_text.specs.Actions.{wrote}
-use Rattle.script_text.specs.Told.{object_steps_on}
-use Rattle.script_text.specs.Order.{CallInRound}
+use Rattle.run_history.specs.Actions.{wrote}
+use Rattle.run_history.specs.Told.{object_steps_on}
+use Rattle.run_history.specs.Order.{CallInRound}
 use Rattle.script_text.specs.declared.script.Call.{Call}
 use Rattle.script_text.specs.declared.script.Script.{Script}
 use Rattle.run_history.specs.Courses.{Course}

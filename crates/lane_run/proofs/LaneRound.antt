@@ -8,7 +8,7 @@ use Rattle.record_text.specs.declared.record.Label.{Label}
 use Rattle.run_history.specs.Fits.{Seen}
 use Rattle.run_history.specs.Promises.{IsPromisedSoFar, IsPromised}
 use Rattle.run_history.specs.Runs.{CallLog, course_of}
-use Rattle.script_text.specs.Order.{CallInRound, calls_of}
+use Rattle.run_history.specs.Order.{CallInRound, calls_of}
 use Rattle.script_text.specs.Scripts.{IsInRange}
 use Rattle.script_text.specs.declared.script.Call.{Call}
 use Rattle.script_text.specs.declared.script.Round.{Round}

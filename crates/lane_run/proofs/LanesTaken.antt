@@ -5,7 +5,7 @@ use Rattle.std.proofs.lemmas.List.{get_or-set_other, get_or-set_same}
 use Rattle.record_text.specs.declared.record.Label.{Label}
 use Rattle.run_history.specs.Fits.{Seen}
 use Rattle.run_history.specs.Runs.{CallLog}
-use Rattle.script_text.specs.Order.{CallInRound}
+use Rattle.run_history.specs.Order.{CallInRound}
 use Rattle.script_text.specs.declared.script.Script.{Script}
 use Rattle.lane_run.proofs.Kept.{seen_by, Tallies, more_heard, more_taken, no_less, stands_on}
 use Rattle.lane_run.specs.Rounds.{LeftOf, TakesInPass, with_lane}

@@ -20,7 +20,7 @@ use Rattle.lane_notes.proofs.Rising.{is_at}
 use Rattle.lane_notes.proofs.Standing.{HasPlace, map_stands_in, stands_in_filter, stands_in_map, stands_permuted, stood_before, filter_stands_in}
 use Rattle.record_text.specs.declared.record.Entry.{Entry}
 use Rattle.record_text.specs.declared.record.Label.{Label}
-use Rattle.script_text.specs.Order.{is_label}
+use Rattle.run_history.specs.Order.{is_label}
 use Rattle.script_text.specs.declared.script.Declaration.{Declaration}
 use Rattle.script_text.specs.declared.script.Script.{Script}
 use Rattle.run_history.specs.Receipts.{IsMade, Noted, receipt}
@@ -35,8 +35,9 @@ use Rattle.run_history.proofs.Shown.{entry_place}
 use Rattle.lane_run.proofs.Numbered.{AreEachOnce, nobody, as_many, lines_are, none_long, once_from}
 use Rattle.lane_notes.specs.Records.{noted_object_lines, noted_timer_lines, record_from, numbered_from}
 use Rattle.record_text.specs.declared.record.Answer.{Answer}
-use Rattle.script_text.specs.Histories.{declared_as, declareds_of, lines_of_timer}
-use Rattle.script_text.specs.Objects.{lines_of_object}
+use Rattle.run_history.specs.Histories.{lines_of_timer}
+use Rattle.script_text.specs.Declarations.{declared_as, declareds_of}
+use Rattle.run_history.specs.Objects.{lines_of_object}
 
 -- ---- entries and receipts
 

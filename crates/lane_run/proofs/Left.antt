@@ -10,7 +10,7 @@ use Rattle.run_history.specs.Promises.{HasLog}
 use Rattle.run_history.specs.Runs.{CallLog, Ending, IsJoined, RoundStarts, course_of, clock_spans, moves_spans, object_spans}
 use Rattle.run_history.specs.Rounds.{IsLedger}
 use Rattle.run_history.specs.Fits.{FitsLane, unseen}
-use Rattle.script_text.specs.Order.{calls_of, IsLabel}
+use Rattle.run_history.specs.Order.{calls_of, IsLabel}
 use Rattle.script_text.specs.Scripts.{IsInRange}
 use Rattle.script_text.specs.declared.script.Script.{Script}
 use Rattle.record_text.specs.declared.record.Answer.{Answer}

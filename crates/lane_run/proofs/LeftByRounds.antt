@@ -13,7 +13,7 @@ use Rattle.run_history.specs.Rounds.{IsLedger, label_at, Spans}
 use Rattle.run_history.specs.Runs.{CallLog, course_of, Ending, RoundStarts}
 use Rattle.run_history.proofs.Lists.{all_at, at_map}
 use Rattle.run_history.proofs.Promise.{promised_all}
-use Rattle.script_text.specs.Order.{CallInRound, calls_of, IsLabel, round_of}
+use Rattle.run_history.specs.Order.{CallInRound, calls_of, IsLabel, round_of}
 use Rattle.script_text.specs.Scripts.{all_calls, IsInRange}
 use Rattle.script_text.specs.declared.script.Call.TheVariants as calls
 use Rattle.script_text.specs.declared.script.Script.{Script}

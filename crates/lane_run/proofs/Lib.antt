@@ -1,3 +1,4 @@
+pub mod Logged
 pub mod Making
 pub mod Mains
 pub mod Objects

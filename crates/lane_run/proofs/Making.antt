@@ -10,7 +10,7 @@ use Rattle.seq_timer.specs.Tables.{timer_at}
 use Rattle.timer_objects.specs.declared.object.Decl.{Decl}
 use Rattle.timer_objects.specs.declared.object.Kind.TheVariants as over
 use Rattle.timer_objects.specs.Callbacks.{bases_for, bases_of}
-use Rattle.script_text.specs.Histories.{declared_as, declareds_of, terms_of}
+use Rattle.script_text.specs.Declarations.{declared_as, declareds_of, terms_of}
 use Rattle.script_text.specs.declared.script.Callback.TheVariants as callbacks
 use Rattle.script_text.specs.declared.script.Declaration.{Declaration}
 use Rattle.script_text.specs.declared.script.Kind.{Kind}

@@ -8,7 +8,7 @@ use Rattle.record_text.specs.declared.record.Answer.{Answer}
 use Rattle.record_text.specs.declared.record.Label.{Label}
 use Rattle.run_history.specs.Runs.{CallLog}
 use Rattle.run_history.proofs.Labels.{label_itself, refuted, same_label}
-use Rattle.script_text.specs.Order.{is_label}
+use Rattle.run_history.specs.Order.{is_label}
 use Rattle.script_text.specs.declared.script.Call.{Call}
 use Rattle.script_text.specs.declared.script.Script.{Script}
 use Rattle.lane_run.specs.Called.{LaneOf}
@@ -16,7 +16,7 @@ use Rattle.lane_run.proofs.Kept.{KeepsCall, log_of, label_of, list_of, IsSeen, T
 use Rattle.lane_run.specs.declared.world.WorldPass.{WorldPass}
 use Rattle.lane_run.proofs.PartLists.{no_notes-joins, notes_same, each_weaker}
 use Rattle.record_text.proofs.Lists.{All-append}
-use Rattle.script_text.specs.Actions.{also}
+use Rattle.run_history.specs.Actions.{also}
 
 -- notes of calls, with what was kept of each, and of something that the passes have seen; which calls, and what was kept of them, is `Of`
 pub record AreOf (p : WorldPass) (notes : NotesOf) (Of : Label → CallLog → Type 0) : Type 0 where

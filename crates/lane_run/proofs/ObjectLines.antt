@@ -19,9 +19,10 @@ use Rattle.record_text.specs.declared.record.Answer.{Answer}
 use Rattle.record_text.specs.declared.record.Label.{Label}
 use Rattle.record_text.specs.declared.record.ObjectEntry.{ObjectEntry}
 use Rattle.record_text.specs.declared.record.ObjectLine.{ObjectLine}
-use Rattle.script_text.specs.Actions.{made, own}
-use Rattle.script_text.specs.Objects.{IsLegalObject, kind_of, lines_of_object}
-use Rattle.script_text.specs.Order.{is_label}
+use Rattle.run_history.specs.Actions.{made, own}
+use Rattle.run_history.specs.Objects.{IsLegalObject, lines_of_object}
+use Rattle.script_text.specs.Declarations.{kind_of, clock_of}
+use Rattle.run_history.specs.Order.{is_label}
 use Rattle.script_text.specs.declared.script.Script.{Script}
 use Rattle.run_history.specs.Fits.{AreBehind}
 use Rattle.run_history.specs.Promises.{GoesOnClock}
@@ -37,7 +38,6 @@ use Rattle.posix_timer.specs.States.{posix_opening}
 use Rattle.timer_fd.specs.States.{fd_opening}
 use Rattle.record_text.specs.declared.record.ClockLine.{ClockLine}
 use Rattle.record_text.specs.declared.record.RunRecord.{RunRecord}
-use Rattle.script_text.specs.Histories.{clock_of}
 use Rattle.script_text.specs.declared.script.Kind.{Kind}
 use Rattle.lane_notes.proofs.Shelves.{add_later, add_none}
 use Rattle.lane_run.proofs.ClockLines.{clock_goes_on}

@@ -8,7 +8,7 @@ use Rattle.timer_objects.specs.Calls.{Gettimes, LooksAtObject}
 use Rattle.timer_objects.specs.declared.answers.Gettime.{Gettime}
 use Rattle.timer_objects.specs.declared.answers.Gettime.TheVariants as gettimes
 use Rattle.timer_objects.specs.declared.log.ObjectReceipt.{ObjectReceipt}
-use Rattle.expire_pass.specs.declared.log.Receipt.{Receipt}
+use Rattle.base_row.specs.declared.log.Receipt.{Receipt}
 use Rattle.timer_objects.specs.Cells.{cell_meaning}
 use Rattle.timer_objects.specs.Known.{seen_of}
 use Rattle.timer_objects.specs.declared.object.Kind.TheVariants as over
@@ -16,10 +16,11 @@ use Rattle.timer_objects.specs.declared.object.Object.TheVariants as objects
 use Rattle.timer_objects.specs.declared.object.Object.{Object}
 use Rattle.record_text.specs.declared.record.Answer.TheVariants as answers
 use Rattle.record_text.specs.declared.record.Answer.{Answer}
-use Rattle.script_text.specs.Told.{object_called, object_stamp_in}
-use Rattle.script_text.specs.Histories.{reading_at}
-use Rattle.script_text.specs.ObjectCalls.{base_of, DoesGettime}
-use Rattle.script_text.specs.Objects.{fd_after, kind_of, posix_after}
+use Rattle.run_history.specs.Told.{object_called, object_stamp_in}
+use Rattle.run_history.specs.Histories.{reading_at}
+use Rattle.run_history.specs.ObjectCalls.{DoesGettime}
+use Rattle.script_text.specs.Declarations.{base_of, kind_of}
+use Rattle.run_history.specs.Objects.{fd_after, posix_after}
 use Rattle.script_text.specs.declared.script.Call.TheVariants as calls
 use Rattle.script_text.specs.declared.script.Call.{Call}
 use Rattle.script_text.specs.declared.script.Kind.TheVariants as kinds

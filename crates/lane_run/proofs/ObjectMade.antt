@@ -3,7 +3,7 @@ use Rattle.std.proofs.Common.{◌≤◌, ◌≡◌, ℕ, ◌+◌, Option, Some, 
 use Rattle.ktime.specs.Readings.{ClockReading}
 use Rattle.seq_timer.specs.Steps.{Timer}
 use Rattle.seq_timer.specs.declared.system.TimerEntry.{TimerEntry}
-use Rattle.expire_pass.specs.declared.log.Receipt.{Receipt}
+use Rattle.base_row.specs.declared.log.Receipt.{Receipt}
 use Rattle.hr_timers.specs.Known.{KnownOfTimers, timer_then}
 use Rattle.timer_objects.specs.Calls.{phase_of, EntersCall}
 use Rattle.timer_objects.specs.Known.{seen_of}
@@ -11,9 +11,9 @@ use Rattle.timer_objects.specs.Steps.{object_step}
 use Rattle.timer_objects.specs.declared.log.ObjectReceipt.{ObjectReceipt}
 use Rattle.record_text.specs.declared.record.Answer.{Answer}
 use Rattle.record_text.specs.declared.record.ObjectEntry.{ObjectEntry}
-use Rattle.script_text.specs.Told.{object_stamp_in, object_called}
-use Rattle.script_text.specs.Objects.{armed_in_phase}
-use Rattle.script_text.specs.Order.{NeverFall}
+use Rattle.run_history.specs.Told.{object_stamp_in, object_called}
+use Rattle.run_history.specs.Objects.{armed_in_phase}
+use Rattle.run_history.specs.Order.{NeverFall}
 use Rattle.script_text.specs.declared.script.Script.{Script}
 use Rattle.lane_notes.specs.Arms.{arm_noted}
 use Rattle.run_history.specs.Courses.{entries_in}
@@ -53,7 +53,8 @@ use Rattle.counted_row.specs.Views.{StateAfter}
 use Rattle.counted_row.proofs.Histories.{after_push}
 use Rattle.timer_objects.specs.Cells.{cell_meaning, opened_cells}
 use Rattle.timer_objects.specs.declared.cell.ObjectCell.{ObjectCell}
-use Rattle.script_text.specs.Objects.{kind_of, object_armed_after}
+use Rattle.run_history.specs.Objects.{object_armed_after}
+use Rattle.script_text.specs.Declarations.{kind_of}
 use Rattle.script_text.specs.declared.script.Kind.TheVariants as kinds
 use Rattle.script_text.specs.declared.script.Kind.{Kind}
 use Rattle.run_history.proofs.Lists.{at_seam}

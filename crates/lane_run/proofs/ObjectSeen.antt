@@ -20,10 +20,10 @@ use Rattle.timer_objects.specs.declared.object.ObjectReply.{ObjectReply}
 use Rattle.record_text.specs.declared.record.ClockLine.{ClockLine}
 use Rattle.record_text.specs.declared.record.ObjectEntry.{ObjectEntry}
 use Rattle.record_text.specs.declared.record.ObjectLine.{ObjectLine}
-use Rattle.script_text.specs.FdHistories.{fd_entry}
-use Rattle.script_text.specs.Histories.{clock_of}
-use Rattle.script_text.specs.Objects.{fd_after, kind_of, lines_of_object, posix_after, present}
-use Rattle.script_text.specs.PosixHistories.{posix_entry}
+use Rattle.run_history.specs.FdHistories.{fd_entry}
+use Rattle.script_text.specs.Declarations.{clock_of, kind_of}
+use Rattle.run_history.specs.Objects.{fd_after, lines_of_object, posix_after, present}
+use Rattle.run_history.specs.PosixHistories.{posix_entry}
 use Rattle.script_text.specs.declared.script.Kind.TheVariants as kinds
 use Rattle.script_text.specs.declared.script.Script.{Script}
 use Rattle.lane_notes.specs.FdNotes.{fd_as_told}

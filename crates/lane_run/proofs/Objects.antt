@@ -1,7 +1,7 @@
 -- A call on an object from what the library says of it.
 use Rattle.std.proofs.Common.{◌≡◌, List, [], sym, subst}
 use Rattle.ktime.specs.Readings.{ClockReading}
-use Rattle.expire_pass.specs.declared.log.Receipt.{Receipt}
+use Rattle.base_row.specs.declared.log.Receipt.{Receipt}
 use Rattle.timer_objects.specs.declared.log.ObjectReceipt.{ObjectReceipt}
 use Rattle.timer_objects.specs.Calls.{Caller}
 use Rattle.record_text.specs.declared.record.Answer.{Answer}

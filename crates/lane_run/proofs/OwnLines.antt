@@ -10,8 +10,8 @@ use Rattle.std.proofs.lemmas.List.Sorted.{IsPermutation-map, IsPermutation-sym}
 use Rattle.lane_notes.specs.Sorted.{is_of_list, IsSortedOf, Place}
 use Rattle.lane_notes.proofs.Standing.{HasPlace}
 use Rattle.record_text.specs.declared.record.Label.{Label}
-use Rattle.script_text.specs.Actions.{also, own}
-use Rattle.script_text.specs.Order.{is_label, IsLabel}
+use Rattle.run_history.specs.Actions.{also, own}
+use Rattle.run_history.specs.Order.{is_label, IsLabel}
 use Rattle.script_text.specs.declared.script.Script.{Script}
 use Rattle.run_history.specs.Receipts.{Rises}
 use Rattle.run_history.proofs.Items.{own_rises, RiseIn, same_risen}

@@ -1,17 +1,17 @@
 -- What a lane keeps of a call that is a part: of any call but a write of the clock.
-use Rattle.script_text.specs.Told.{object_steps_on}
-use Rattle.script_text.specs.Order.{NeverFall}
+use Rattle.run_history.specs.Told.{object_steps_on}
+use Rattle.run_history.specs.Order.{NeverFall}
 use Rattle.std.proofs.Common.{◌≡◌, ◌+◌, List, length, map, arith, sym, ap, ◌∙◌, subst, ℕ}
 use Rattle.clock_cell.specs.Views.{writes}
 use Rattle.pass_names.specs.Counts.{count, one_if}
 use Rattle.pass_names.specs.Passes.{is_place}
 use Rattle.pass_names.proofs.Counts.{total-append}
-use Rattle.expire_pass.specs.declared.log.Receipt.{Receipt}
+use Rattle.base_row.specs.declared.log.Receipt.{Receipt}
 use Rattle.timer_objects.specs.Known.{seen_of}
 use Rattle.timer_objects.specs.declared.log.ObjectReceipt.{ObjectReceipt}
 use Rattle.record_text.specs.declared.record.Answer.{Answer}
 use Rattle.record_text.specs.declared.record.ClockLine.{ClockLine}
-use Rattle.script_text.specs.Actions.{looked, made}
+use Rattle.run_history.specs.Actions.{looked, made}
 use Rattle.script_text.specs.declared.script.Call.{Call}
 use Rattle.script_text.specs.declared.script.Script.{Script}
 use Rattle.lane_notes.specs.Entries.{entry_notes, look_notes}

@@ -2,9 +2,9 @@
 use Rattle.std.proofs.Common.{◌≡◌, ◌≤◌, ◌<◌, ℕ, ◌+◌, true, false, nat_eq, Option, List, [], ◌∷◌, ◌++◌, map, arith, refl, ap, ◌∙◌, Bool}
 use Rattle.std.specs.List.{AllByRecursion}
 use Rattle.std.proofs.lemmas.List.{map-append}
-use Rattle.script_text.specs.Actions.{Action, also, Entered, Looked, looked, Made, numbers_of_object, Skipped, skipped, Wrote, wrote}
-use Rattle.script_text.specs.Objects.{present}
-use Rattle.script_text.specs.Order.{NeverFall}
+use Rattle.run_history.specs.Actions.{Action, also, Entered, Looked, looked, Made, numbers_of_object, Skipped, skipped, Wrote, wrote}
+use Rattle.run_history.specs.Objects.{present}
+use Rattle.run_history.specs.Order.{NeverFall}
 use Rattle.lane_notes.proofs.Receipts.{present-append}
 use Rattle.run_history.specs.Receipts.{Rises}
 use Rattle.run_history.proofs.Known.{rises_lower}
@@ -16,7 +16,7 @@ use Rattle.std.proofs.Common.{sym}
 use Rattle.std.proofs.lemmas.List.{append-nil}
 use Rattle.clock_cell.specs.Views.{writes}
 use Rattle.lane_notes.specs.Notes.{both_noted, no_notes, NotesOf}
-use Rattle.script_text.specs.Actions.{made}
+use Rattle.run_history.specs.Actions.{made}
 use Rattle.std.proofs.lemmas.Bool.{eqb-true}
 
 -- ---- what holds of each

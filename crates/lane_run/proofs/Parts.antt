@@ -5,16 +5,24 @@ use Rattle.std.specs.List.Sorted.{IsPermutation}
 use Rattle.std.proofs.lemmas.List.{append_assoc, append-nil, map-append}
 use Rattle.std.proofs.lemmas.List.Sorted.{IsPermutation-append, IsPermutation-map, IsPermutation-trans}
 use Rattle.pass_names.specs.Passes.{Begins, GoesOn, Adds}
-use Rattle.expire_pass.specs.declared.log.Receipt.{Receipt}
-use Rattle.hr_timers.specs.Known.{KnownOfTimers}
+use Rattle.base_row.specs.declared.log.Receipt.{Receipt}
+use Rattle.hr_timers.specs.Known.{KnownOfTimers, MadeAt, timer_then}
+use Rattle.seq_timer.specs.Histories as seq
+use Rattle.seq_timer.specs.Systems.{openings}
+use Rattle.seq_timer.specs.declared.context.Declared.{Declared}
+use Rattle.seq_timer.specs.declared.context.Terms.{Terms}
+use Rattle.seq_timer.specs.declared.system.TimerEntry.{TimerEntry}
+use Rattle.base_row.specs.Logs.{receipts_of}
+use Rattle.base_row.specs.declared.view.Opening.{Opening}
+use Rattle.run_history.proofs.Known.{numbered}
 use Rattle.timer_objects.specs.Known.{ObjectsPass, seen_of}
 use Rattle.timer_objects.specs.declared.log.ObjectReceipt.{ObjectReceipt}
 use Rattle.record_text.specs.declared.record.ClockLine.{ClockLine}
 use Rattle.record_text.specs.declared.record.Label.{Label}
-use Rattle.script_text.specs.Actions.{Action, Entered, looked, Looked, Made, made, numbers_of_object, skipped, wrote}
-use Rattle.script_text.specs.Histories.{reading_at}
+use Rattle.run_history.specs.Actions.{Action, Entered, looked, Looked, Made, made, numbers_of_object, skipped, wrote}
+use Rattle.run_history.specs.Histories.{reading_at}
 use Rattle.ktime.specs.Readings.{ClockReading}
-use Rattle.script_text.specs.Order.{NeverFall}
+use Rattle.run_history.specs.Order.{NeverFall}
 use Rattle.lane_notes.specs.Entries.{entry_notes, look_notes}
 use Rattle.lane_notes.specs.Objects.{object_notes, skip_notes, object_entry_noted, skip_generation}
 use Rattle.lane_notes.specs.declared.notes.LookNote.{LookNote}
@@ -26,14 +34,15 @@ use Rattle.run_history.proofs.Actions.{all_entered-append, made-append}
 use Rattle.run_history.proofs.Lists.{at_left, at_seam}
 use Rattle.lane_run.specs.Runs.{ObjectMove, ShowsObjectCall}
 use Rattle.lane_run.proofs.Kept.{entry_in_note, looks_on, made_on, skips_on, begins_same, count_begins, FollowsObject}
-use Rattle.lane_run.proofs.Entering.{enters-append, enters_none, EntersNotes}
+use Rattle.lane_run.proofs.Entering.{enters-append, enters_at, enters_none, EntersNotes, receipts_of-no_looks, receipts_of-noted}
+use Rattle.run_history.proofs.Stamped.{HaveReadings, entry_stamped}
 use Rattle.pass_names.proofs.Passes.{begins_length, begins_trans}
 use Rattle.record_text.specs.declared.record.ObjectEntry.{ObjectEntry}
 use Rattle.lane_run.proofs.PartLists.{same_order, IsEntered, no_other}
 use Rattle.timer_objects.specs.declared.object.ObjectCall.{ObjectCall}
 use Rattle.timer_objects.specs.declared.object.ObjectReply.{ObjectReply}
 use Rattle.lane_run.proofs.PartLists.{each_joined, falls_on, looked-append, numbers-append, one_falls, one_rises, rises_on, RisesTo, skipped-append, also-append, wrote-append}
-use Rattle.seq_timer.specs.declared.event.Event.{Event}
+use Rattle.seq_timer.specs.Events.{Event}
 use Rattle.seq_timer.specs.declared.observation.Observation.{Observation}
 use Rattle.hr_timers.specs.declared.numbers.ClaimNumbers.{ClaimNumbers}
 use Rattle.expire_pass.specs.Expiring.{claim_receipt}
@@ -42,10 +51,11 @@ use Rattle.expire_pass.specs.declared.handler.Restart.{Restart}
 use Rattle.timer_objects.specs.Callbacks.{look_receipt}
 use Rattle.timer_objects.specs.Firings.{Firing}
 use Rattle.record_text.specs.declared.record.CallbackReply.{CallbackReply}
-use Rattle.record_text.specs.declared.record.Entry.TheVariants as entries
 use Rattle.record_text.specs.declared.record.Entry.{Entry}
-use Rattle.record_text.specs.declared.record.Restart as line_restart
-use Rattle.script_text.specs.Objects.{kind_of}
+use Rattle.seq_timer.specs.declared.event.Restarted.{Restarted}
+use Rattle.seq_timer.specs.declared.event.EventBy.TheVariants as events
+use Rattle.seq_timer.specs.declared.event.Reply.TheVariants as replies
+use Rattle.script_text.specs.Declarations.{kind_of}
 use Rattle.script_text.specs.declared.script.Script.{Script}
 use Rattle.lane_notes.specs.Entries.{entry_note, look_note, look_noted}
 use Rattle.lane_notes.specs.Objects.{object_note, skip_note}
@@ -205,6 +215,19 @@ module _ {IsSo : List ClockLine → Type 0} {label : Label} where
         objects = objects_alone same none.made none.skipped none.numbers;
       }
 
+  -- law: the entries that a call made of a timer at a moment, with a receipt of each
+  pub part_at : (o : Opening) (clocks : List Declared) (terms : Terms) {v : KnownOfTimers} {p : ObjectsPass} {w : KnownOfTimers} {q : ObjectsPass}
+      {t : ℕ} {at : List TimerEntry} {es : List seq.Entry} {actions : List Action} → o.timers ≡ openings clocks terms → MadeAt v w t at es
+      → ((clock : List ClockLine) → IsSo clock → HaveReadings clock es) → q ≡ p → AllByRecursion IsEntered actions
+      → numbered t (timer_then o at t).stamp (map entry_stamped es) ≡ all_entered actions
+      → (notes : List Noted) × IsPart IsSo label v p w q actions notes (receipts_of t (timer_then o at t).stamp es) []
+  part_at o clocks terms {t = t} {at = at} {es = es} is made reads same only are =
+      let n = (timer_then o at t).stamp in
+      let its = enters_at IsSo o clocks terms is made reads in (
+        its.notes,
+        part_entered its.enters same only (its.are ∙ are) (its.are ∙ sym (receipts_of-noted label t n es)) (receipts_of-no_looks label t n es),
+      )
+
   -- ---- entries of objects
 
   -- law: what was done of objects, and nothing of timers
@@ -304,15 +327,19 @@ abbrev pub HasRead : ClockReading → List ClockLine → Type 0
 HasRead reading clock = reading_at clock reading.stamp ≡ reading
 
 -- the record's callback of a claim, by its function's actions and what came of the finish
-abbrev pub fired_of : ClaimNumbers → List Action → ℕ → Bool → line_restart.Restart → Fired
-fired_of c body finish restart rearmed =
-    record { timer = c.timer; claim = c.number; generation = c.generation; body = body; finish = finish; restart = restart; rearmed = rearmed }
+abbrev pub fired_of : ClaimNumbers → List Action → ℕ → Bool → Restarted → Fired
+fired_of c body finish restart restarted =
+    record { timer = c.timer; claim = c.number; generation = c.generation; body = body; finish = finish; restart = restart; restarted = restarted }
+
+-- the record's entry of a claim, by a reading with this stamp
+abbrev pub claim_in : ℕ → ℕ → ClaimNumbers → Entry
+claim_in base stamp c = record { event = events.Claim base stamp; reply = replies.Claim c.generation }
 
 -- a pass has made a claim, and seen it
 pub record IsClaimed (base : ℕ) (c : ClaimNumbers) (reading : ClockReading) (k v : KnownOfTimers) : Type 0 where
   pub note : Noted
   pub enters : EntersNotes (HasRead reading) k v (note ∷ [])
-  pub is : receipt note ≡ (c.timer, (c.number, entries.Claim base reading.stamp c.generation))
+  pub is : receipt note ≡ (c.timer, (c.number, claim_in base reading.stamp c))
   pub there : c.base ≡ base
   pub some : 0 < c.number
   pub more : count c.timer k.seen < count c.timer v.seen
@@ -329,30 +356,30 @@ pub record BodyKept (s : Script) (label : Label) {base : ℕ} {c : ClaimNumbers}
   pub adds_objects : h'.object_log.receipts ≡ h.object_log.receipts ++ object_more
   pub enters : EntersNotes (HasRead reading) v w notes
   pub part : IsPart (HasRead reading) label k h.objects_pass.now w h'.objects_pass.now
-      (Entered c.timer c.number (entries.Claim base reading.stamp c.generation) ∷ body) (claim.note ∷ notes) (claim_receipt reading c ∷ more) object_more
-  pub kind : (finish : ℕ) (rearmed : line_restart.Restart) → IsBody (kind_of s c.timer) reading.stamp (fired_of c body finish (asks restart) rearmed)
+      (Entered c.timer c.number (claim_in base reading.stamp c) ∷ body) (claim.note ∷ notes) (claim_receipt reading c ∷ more) object_more
+  pub kind : (finish : ℕ) (restarted : Restarted) → IsBody (kind_of s c.timer) reading.stamp (fired_of c body finish (asks restart) restarted)
   pub holds : (e : Ending) → IsJoined s e → promises.GoesOn w.seen e → (before : List Action)
       → ((i : ℕ) → ((j : ℕ) → made j body ≡ []) → IsObjectPoint (course_of s e) label before i (length (seen_of h'.objects_pass.now i)))
       → ReplyHolds (course_of s e) label before (length w.seen) body
-  pub span : (e : Ending) → ((i : ℕ) → FollowsObject e i (seen_of h'.objects_pass.now i)) → (finish : ℕ) (rearmed : line_restart.Restart)
-      → IsClaimSpan (course_of s e) (fired_of c body finish (asks restart) rearmed) body
+  pub span : (e : Ending) → ((i : ℕ) → FollowsObject e i (seen_of h'.objects_pass.now i)) → (finish : ℕ) (restarted : Restarted)
+      → IsClaimSpan (course_of s e) (fired_of c body finish (asks restart) restarted) body
 
 module _ {label : Label} {base : ℕ} {c : ClaimNumbers} {reading : ClockReading} {k v w : KnownOfTimers} {p q : ObjectsPass} where
   -- law: a claim, and behind it a part that its function made
   pub part_claimed : {body : List Action} {notes : List Noted} {more : List Receipt} {object_more : List ObjectReceipt}
       (claim : IsClaimed base c reading k v) → IsPart (HasRead reading) label v p w q body notes more object_more
-      → IsPart (HasRead reading) label k p w q (Entered c.timer c.number (entries.Claim base reading.stamp c.generation) ∷ body) (claim.note ∷ notes)
+      → IsPart (HasRead reading) label k p w q (Entered c.timer c.number (claim_in base reading.stamp c) ∷ body) (claim.note ∷ notes)
       (claim_receipt reading c ∷ more) object_more
   part_claimed claim part =
       let are = ap (λ (r : ℕ × (ℕ × Entry)). r ∷ []) claim.is in
-      part_then {ds = Entered c.timer c.number (entries.Claim base reading.stamp c.generation) ∷ []} {log = claim_receipt reading c ∷ []}
+      part_then {ds = Entered c.timer c.number (claim_in base reading.stamp c) ∷ []} {log = claim_receipt reading c ∷ []}
       (part_entered claim.enters refl (tt, tt) are (rw claim.there are) refl) part
 
   -- law: a claim, and behind it a look at its timer
   pub part_looked : (claim : IsClaimed base c reading k v) (number : ℕ) (event : Event) (observation : Observation) (reply : CallbackReply)
       → Begins v.seen w.seen → w.mine ≡ v.mine → q ≡ p → look_noted observation ≡ Some reply → count c.timer v.seen ≤ number
       → number ≤ count c.timer w.seen → IsPart (HasRead reading) label k p w q
-      (Entered c.timer c.number (entries.Claim base reading.stamp c.generation) ∷ Looked c.timer number reply ∷ []) (claim.note ∷ [])
+      (Entered c.timer c.number (claim_in base reading.stamp c) ∷ Looked c.timer number reply ∷ []) (claim.note ∷ [])
       (claim_receipt reading c ∷ look_receipt c number event observation ∷ []) []
   part_looked claim number event observation reply seen mine same noted low high =
       let are : look_notes label (claim_receipt reading c ∷ look_receipt c number event observation ∷ [])

@@ -23,7 +23,7 @@ use Rattle.lane_run.specs.Worlds.{CanCall, IsWorldOf, WorldOf, decl_of}
 use Rattle.lane_run.proofs.Making.{whole_of}
 use Rattle.lane_run.proofs.Declared.{declared_over, over_of}
 use Rattle.lane_run.proofs.PartLists.{each_weaker}
-use Rattle.script_text.specs.Objects.{kind_of}
+use Rattle.script_text.specs.Declarations.{kind_of}
 use Rattle.script_text.specs.declared.script.Callback.{Callback}
 
 module _ {s : Script} {x : WorldOf} (range : IsInRange s) (is : IsWorldOf s x) where

@@ -29,12 +29,12 @@ use Rattle.record_text.specs.declared.record.Answer.{Answer}
 use Rattle.record_text.specs.declared.record.ObjectEntry.TheVariants as object_entries
 use Rattle.record_text.specs.declared.record.ReadReply.TheVariants as reads
 use Rattle.record_text.specs.declared.record.ReadReply.{ReadReply}
-use Rattle.script_text.specs.FdHistories.{fd_arm, read_answer_of}
-use Rattle.script_text.specs.Told.{object_stamp_in}
-use Rattle.script_text.specs.Histories.{reading_at}
-use Rattle.script_text.specs.ObjectCalls.{DoesGettime}
-use Rattle.script_text.specs.Objects.{kind_of}
-use Rattle.script_text.specs.PosixHistories.{accept_answer_of, posix_arm}
+use Rattle.run_history.specs.FdHistories.{fd_arm, read_answer_of}
+use Rattle.run_history.specs.Told.{object_stamp_in}
+use Rattle.run_history.specs.Histories.{reading_at}
+use Rattle.run_history.specs.ObjectCalls.{DoesGettime}
+use Rattle.script_text.specs.Declarations.{kind_of}
+use Rattle.run_history.specs.PosixHistories.{accept_answer_of, posix_arm}
 use Rattle.script_text.specs.declared.script.Call.TheVariants as calls
 use Rattle.script_text.specs.declared.script.Kind.TheVariants as kinds
 use Rattle.script_text.specs.declared.script.Script.{Script}
@@ -50,8 +50,8 @@ use Rattle.std.proofs.Common.{◌+◌, false, [], arith}
 use Rattle.ktime.specs.declared.mode.Mode.TheVariants as modes
 use Rattle.timer_objects.specs.Calls.{wanted_by}
 use Rattle.record_text.specs.declared.record.Armed.{Armed}
-use Rattle.script_text.specs.Actions.{Action}
-use Rattle.script_text.specs.Told.{object_called}
+use Rattle.run_history.specs.Actions.{Action}
+use Rattle.run_history.specs.Told.{object_called}
 use Rattle.run_history.specs.Fits.{FitsCall}
 use Rattle.run_history.specs.Receipts.{Noted}
 use Rattle.run_history.specs.Runs.{course_of, Ending, IsJoined, moves_spans}
@@ -69,7 +69,7 @@ use Rattle.lane_run.proofs.ObjectMade.{keeps_made, rearm_span, start_is}
 use Rattle.lane_run.proofs.Rearmed.{like_restart, rearm_part, RearmPart, wanted_timely}
 use Rattle.script_text.specs.declared.script.Call.{Call}
 use Rattle.timer_objects.specs.declared.wanting.Rearming.{Rearming}
-use Rattle.script_text.specs.ObjectCalls.{Arms}
+use Rattle.run_history.specs.ObjectCalls.{Arms}
 use Rattle.record_text.specs.declared.record.ObjectEntry.{ObjectEntry}
 use Rattle.timer_objects.specs.declared.object.ObjectReply.{ObjectReply}
 use Rattle.lane_notes.specs.Objects.{object_entry_noted, skip_generation}

@@ -7,7 +7,7 @@ use Rattle.std.proofs.lemmas.List.Elements.{recursion_from_All}
 use Rattle.record_text.proofs.Lists.{All-back, All-front}
 use Rattle.record_text.specs.declared.record.Answer.{Answer}
 use Rattle.run_history.specs.Fits.{Seen, unseen}
-use Rattle.script_text.specs.Order.{CallInRound, calls_from, calls_of}
+use Rattle.run_history.specs.Order.{CallInRound, calls_from, calls_of}
 use Rattle.script_text.specs.Scripts.{all_calls, IsInRange}
 use Rattle.script_text.specs.declared.script.LaneCall.{LaneCall}
 use Rattle.script_text.specs.declared.script.Round.{Round}
@@ -25,7 +25,7 @@ use Rattle.lane_run.proofs.LanesTaken.{AreLeftSoFar, left_taken, put, put_at}
 use Rattle.lane_run.proofs.NotesJoined.{are_later, none_noted}
 use Rattle.lane_run.proofs.Tallies.{tallies_split, tallies_none}
 use Rattle.run_history.specs.Runs.{course_of}
-use Rattle.script_text.specs.Actions.{also}
+use Rattle.run_history.specs.Actions.{also}
 use Rattle.lane_run.specs.Called.{lane_of}
 
 -- the number of a lane

@@ -28,7 +28,7 @@ use Rattle.lane_run.proofs.TimerCalls.{keeps_cancel, keeps_start}
 use Rattle.lane_run.proofs.Writing.{keeps_write}
 use Rattle.timer_objects.specs.Calls.{Gettimes}
 use Rattle.timer_objects.specs.declared.object.Kind as object_kind
-use Rattle.script_text.specs.Objects.{kind_of}
+use Rattle.script_text.specs.Declarations.{kind_of}
 use Rattle.script_text.specs.declared.script.Kind.{Kind}
 use Rattle.script_text.specs.declared.script.Kind.TheVariants as kinds
 use Rattle.lane_run.proofs.Declared.{declared_over, over_of}

@@ -20,7 +20,7 @@ use Rattle.record_text.specs.Replies.{answer_of_settime}
 use Rattle.record_text.specs.declared.record.ObjectEntry.TheVariants as object_entries
 use Rattle.record_text.specs.declared.record.SettimeReply.TheVariants as settimes
 use Rattle.record_text.specs.declared.record.SettimeReply.{SettimeReply}
-use Rattle.script_text.specs.Histories.{reading_at}
+use Rattle.run_history.specs.Histories.{reading_at}
 use Rattle.lane_notes.specs.Arms.{arm_noted}
 use Rattle.run_history.specs.Courses.{Course}
 use Rattle.run_history.proofs.ObjectsMade.{RefusedBy}

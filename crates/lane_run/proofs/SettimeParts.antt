@@ -14,7 +14,7 @@ use Rattle.timer_objects.specs.declared.object.Kind.TheVariants as over
 use Rattle.timer_objects.specs.declared.object.Object.TheVariants as objects
 use Rattle.timer_objects.specs.declared.object.Object.{Object}
 use Rattle.record_text.specs.declared.record.Answer.TheVariants as answers
-use Rattle.script_text.specs.ObjectCalls.{AreValidFor, start_mode}
+use Rattle.run_history.specs.ObjectCalls.{AreValidFor, start_mode}
 use Rattle.script_text.specs.declared.script.Kind.TheVariants as kinds
 use Rattle.script_text.specs.declared.script.Kind.{Kind}
 use Rattle.lane_run.specs.Called.{settime_told}
@@ -26,7 +26,7 @@ use Rattle.lane_run.specs.Called.{LaneOf}
 use Rattle.lane_run.proofs.Kept.{IsNextCall}
 use Rattle.lane_run.specs.Worlds.{WorldOf}
 use Rattle.std.proofs.Common.{◌∙◌, length}
-use Rattle.script_text.specs.Told.{IsArmedLike}
+use Rattle.run_history.specs.Told.{IsArmedLike}
 use Rattle.timer_objects.specs.Calls.{BearsStart}
 use Rattle.lane_run.specs.Runs.{ObjectMove}
 use Rattle.timer_setting.specs.declared.arming.Arm.TheVariants as arms
@@ -36,7 +36,8 @@ use Rattle.base_row.specs.declared.view.Opening.{Opening}
 use Rattle.timer_setting.specs.declared.phase.Phase.{Phase}
 use Rattle.counted_row.specs.Views.{StateAfter}
 use Rattle.timer_objects.specs.Cells.{cell_meaning}
-use Rattle.script_text.specs.Objects.{armed_in_phase, kind_of}
+use Rattle.run_history.specs.Objects.{armed_in_phase}
+use Rattle.script_text.specs.Declarations.{kind_of}
 use Rattle.hr_timers.specs.Known.{timer_then}
 use Rattle.timer_objects.specs.Known.{decl_at}
 use Rattle.timer_objects.specs.declared.object.Kind as object_kind

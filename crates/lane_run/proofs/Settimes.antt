@@ -7,7 +7,7 @@ use Rattle.seq_timer.specs.Histories.{IsIdle}
 use Rattle.timer_setting.specs.Arguments.{AreValid, bits_beyond, mode_by, time_of}
 use Rattle.timer_fd.specs.declared.answers.SettimeAnswer.TheVariants as settings
 use Rattle.timer_fd.specs.declared.answers.SettimeAnswer.{SettimeAnswer}
-use Rattle.expire_pass.specs.declared.log.Receipt.{Receipt}
+use Rattle.base_row.specs.declared.log.Receipt.{Receipt}
 use Rattle.hr_timers.specs.Known.{KnownOfTimers, timer_then}
 use Rattle.timer_objects.specs.Calls.{argument_refusal, flags_of, SetsTimer, settime_by, SettimeMade, Settimes, SettimeTells}
 use Rattle.timer_objects.specs.Known.{decl_at}
@@ -17,9 +17,9 @@ use Rattle.record_text.specs.declared.record.Answer.TheVariants as answers
 use Rattle.record_text.specs.declared.record.Answer.{Answer}
 use Rattle.record_text.specs.declared.record.SettimeReply.TheVariants as settimes
 use Rattle.record_text.specs.declared.record.SettimeReply.{SettimeReply}
-use Rattle.script_text.specs.Told.{object_stamp_in}
-use Rattle.script_text.specs.ObjectCalls.{Arms, cancels, nanoseconds_of, start_mode}
-use Rattle.script_text.specs.Objects.{kind_of}
+use Rattle.run_history.specs.Told.{object_stamp_in}
+use Rattle.run_history.specs.ObjectCalls.{Arms, cancels, nanoseconds_of, start_mode}
+use Rattle.script_text.specs.Declarations.{kind_of}
 use Rattle.script_text.specs.declared.script.Call.TheVariants as calls
 use Rattle.script_text.specs.declared.script.Script.{Script}
 use Rattle.lane_notes.specs.Arms.{arm_noted}
@@ -33,7 +33,7 @@ use Rattle.pass_names.proofs.Passes.{begins_length}
 use Rattle.lane_run.proofs.Declared.{declared_base, declared_over}
 use Rattle.lane_run.proofs.Sights.{keeps_full, keeps_same}
 use Rattle.timer_objects.specs.Steps.{ObjectAllows}
-use Rattle.timer_objects.specs.Arming.{receipts_of}
+use Rattle.base_row.specs.Logs.{receipts_of}
 use Rattle.hr_timers.specs.Calls.{cancel_entries}
 use Rattle.lane_run.proofs.Armed.{disarmed_part, places_inside, settime_start, TimerPart, TimersPart}
 use Rattle.lane_run.proofs.ObjectMade.{keeps_made, outcome_is, start_is, timer_found, whole_span}

@@ -4,14 +4,16 @@ use Rattle.std.proofs.lemmas.Bool.{eqb-true}
 use Rattle.std.proofs.lemmas.Option.{slice_get_within}
 use Rattle.clock_cell.specs.Views.{writes}
 use Rattle.pass_names.specs.Passes.{Begins, GoesOn}
-use Rattle.expire_pass.specs.declared.log.Receipt.{Receipt}
+use Rattle.base_row.specs.Logs.{receipts_of}
+use Rattle.base_row.specs.declared.log.Receipt.{Receipt}
+use Rattle.seq_timer.specs.Histories as seq
 use Rattle.timer_objects.specs.Calls.{Caller, FindsFull}
 use Rattle.timer_objects.specs.Known.{seen_of}
 use Rattle.timer_objects.specs.declared.log.ObjectReceipt.{ObjectReceipt}
 use Rattle.record_text.specs.declared.record.Answer.{Answer}
-use Rattle.script_text.specs.Actions.{Action, numbers_of_object}
-use Rattle.script_text.specs.Told.{object_called, object_stamp_in, object_steps_on, stamps_on}
-use Rattle.script_text.specs.Order.{calls_of, IsLabel, NeverFall}
+use Rattle.run_history.specs.Actions.{Action, numbers_of_object}
+use Rattle.run_history.specs.Told.{object_called, object_stamp_in, object_steps_on, stamps_on}
+use Rattle.run_history.specs.Order.{calls_of, IsLabel, NeverFall}
 use Rattle.script_text.specs.declared.script.Call.{Call}
 use Rattle.script_text.specs.declared.script.Script.{Script}
 use Rattle.run_history.specs.Calls.{Does}
@@ -41,9 +43,10 @@ use Rattle.seq_timer.specs.declared.observation.Observation.{Observation}
 use Rattle.seq_timer.specs.declared.system.TimerEntry.{TimerEntry}
 use Rattle.record_text.specs.declared.record.Answer.TheVariants as answers
 use Rattle.record_text.specs.declared.record.ClockLine.{ClockLine}
-use Rattle.script_text.specs.Actions.{made}
+use Rattle.run_history.specs.Actions.{made}
 use Rattle.script_text.specs.declared.script.Call.TheVariants as calls
-use Rattle.lane_notes.specs.Entries.{entry_notes, look_notes}
+use Rattle.run_history.proofs.Known.{numbered}
+use Rattle.script_text.specs.Declarations.{declareds_of, terms_of}
 use Rattle.run_history.specs.Courses as courses
 use Rattle.run_history.specs.Promises.{GoesOnClock}
 use Rattle.run_history.specs.Receipts.{Noted, receipt}
@@ -53,9 +56,11 @@ use Rattle.run_history.proofs.PassState.{saw_from, state_seen, timer_seen}
 use Rattle.run_history.proofs.Promise.{seen_first}
 use Rattle.lane_run.specs.Called.{CallsPeek}
 use Rattle.lane_run.specs.declared.world.WorldPass.{WorldPass}
-use Rattle.lane_run.proofs.Entering.{EntersNotes, looks_made}
+use Rattle.lane_run.proofs.Entering.{looks_made}
+use Rattle.run_history.proofs.Stamped.{HaveReadings, entry_stamped}
 use Rattle.lane_run.proofs.CallKept.{clock_left, FitsOn, LooksAtClock, same_objects, unstamped, with_done-joins}
-use Rattle.lane_run.proofs.Parts.{part_entered}
+use Rattle.lane_run.proofs.CallKept.{opened_timers}
+use Rattle.lane_run.proofs.Parts.{part_at}
 use Rattle.lane_run.proofs.PartLists.{IsEntered, no_other}
 
 -- ---- what such a call saw
@@ -196,18 +201,18 @@ no_object_steps p q call a ds none on_none goes_on i =
 
 -- ---- the call
 
--- law: a lane keeps a call on no object that made entries of timers and nothing else, where it fits in every run that goes on from there
-pub keeps_entered : {s : Script} {x : WorldOf} {l : LaneOf} {call : Call} {IsSo : List ClockLine → Type 0} {notes : List Noted}
-    (next : IsNextCall s x l call) (m : LaneOf) (a : Answer) (log : List Receipt) (t : Trace) → EntersNotes IsSo l.pass.timers.known m.pass.timers.known notes
-    → ((e : Ending) → GoesOnClock (writes m.pass.clock.knows) e → IsSo e.run.clock) → LooksAtClock l.pass m.pass → m.pass.objects ≡ l.pass.objects
-    → m.notes ≡ with_done l.notes l.label log [] → AllByRecursion IsEntered t.actions → map receipt notes ≡ all_entered t.actions
-    → map receipt notes ≡ map entry_in_note (entry_notes l.label log) → look_notes l.label log ≡ [] → t.last ≡ length m.pass.timers.known.seen
-    → t.at ≡ length (writes m.pass.clock.knows) → object_called call ≡ None → FitsOn s l m call a notes t → KeepsCall s l call a m
-keeps_entered {l = l} {call = call} {IsSo = IsSo} {notes = notes} next m a log t enters so clock objects joins only are told looks last at on_none =
-    let part : IsPart IsSo l.label l.pass.timers.known l.pass.objects m.pass.timers.known m.pass.objects t.actions notes log [] =
-    part_entered enters objects only are told looks in
-    keeps_part next m a t part so clock joins last at
-    (no_object_steps l.pass m.pass call a t.actions (no_other t.actions only).numbers on_none part.objects.goes_on)
+-- law: a lane keeps a call on no object that made entries of a timer at a moment and nothing else, where it fits in every run that goes on from there
+pub keeps_entered : {s : Script} {x : WorldOf} {l : LaneOf} {call : Call} (IsSo : List ClockLine → Type 0) {timer : ℕ} {at : List TimerEntry}
+    {es : List seq.Entry} (next : IsNextCall s x l call) (m : LaneOf) (a : Answer) (t : Trace) → MadeAt l.pass.timers.known m.pass.timers.known timer at es
+    → ((clock : List ClockLine) → IsSo clock → HaveReadings clock es) → ((e : Ending) → GoesOnClock (writes m.pass.clock.knows) e → IsSo e.run.clock)
+    → LooksAtClock l.pass m.pass → m.pass.objects ≡ l.pass.objects
+    → m.notes ≡ with_done l.notes l.label (receipts_of timer (timer_then x.timers.about at timer).stamp es) [] → AllByRecursion IsEntered t.actions
+    → numbered timer (timer_then x.timers.about at timer).stamp (map entry_stamped es) ≡ all_entered t.actions → t.last ≡ length m.pass.timers.known.seen
+    → t.at ≡ length (writes m.pass.clock.knows) → object_called call ≡ None → ((notes : List Noted) → FitsOn s l m call a notes t) → KeepsCall s l call a m
+keeps_entered {s = s} {x = x} {l = l} {call = call} IsSo next m a t made reads so clock objects joins only are last at on_none fits =
+    let part = part_at x.timers.about (declareds_of s) (terms_of s) (opened_timers next) made reads objects only are in
+    keeps_part next m a t part.1 so clock joins last at
+    (no_object_steps l.pass m.pass call a t.actions (no_other t.actions only).numbers on_none part.1.objects.goes_on) (fits part.0)
 
 -- law: a lane keeps a call on no object that only looked, where what it saw holds when it ended
 pub keeps_quiet : {s : Script} {x : WorldOf} {l m : LaneOf} {call : Call} (next : IsNextCall s x l call) (a : Answer) → LooksOnly l m

@@ -11,7 +11,7 @@ use Rattle.lane_run.specs.declared.world.WorldPass.{WorldPass}
 use Rattle.lane_run.specs.Rounds.{BeginsRound, HasSplit, IsLaneOf, IsMain, LeftOf, as_index, calling_from, has_calls}
 use Rattle.lane_run.specs.Worlds.{WorldOf}
 use Rattle.lane_run.proofs.Mains.{lane_new, main_split, SplitsLane}
-use Rattle.script_text.specs.Actions.{also}
+use Rattle.run_history.specs.Actions.{also}
 
 -- the numbers of lanes
 abbrev pub lane_names : List Lane → List ℕ

@@ -27,9 +27,9 @@ use Rattle.timer_objects.specs.declared.object.ObjectReply.TheVariants as replie
 use Rattle.timer_objects.specs.declared.object.ObjectReply.{ObjectReply}
 use Rattle.record_text.specs.declared.record.Label.{Label}
 use Rattle.record_text.specs.declared.record.ObjectEntry.TheVariants as object_entries
-use Rattle.script_text.specs.Actions.{Made, Skipped}
-use Rattle.script_text.specs.Histories.{reading_at}
-use Rattle.script_text.specs.Objects.{kind_of}
+use Rattle.run_history.specs.Actions.{Made, Skipped}
+use Rattle.run_history.specs.Histories.{reading_at}
+use Rattle.script_text.specs.Declarations.{kind_of}
 use Rattle.script_text.specs.declared.script.Script.{Script}
 use Rattle.lane_notes.specs.Objects.{object_entry_noted, object_notes, skip_generation, skip_notes}
 use Rattle.run_history.specs.Calls.{IsBody, IsTrigger}

@@ -12,8 +12,8 @@ use Rattle.clock_cell.specs.Views.{AnswersWrite, reading_after, seen_reading, wr
 use Rattle.record_text.specs.declared.record.Answer.TheVariants as answers
 use Rattle.record_text.specs.declared.record.Answer.{Answer}
 use Rattle.record_text.specs.declared.record.ClockLine.{ClockLine}
-use Rattle.script_text.specs.Actions.{Wrote}
-use Rattle.script_text.specs.Histories.{ShowsReading}
+use Rattle.run_history.specs.Actions.{Wrote}
+use Rattle.run_history.specs.Histories.{ShowsReading}
 use Rattle.script_text.specs.declared.script.Call.TheVariants as calls
 use Rattle.script_text.specs.declared.script.Script.{Script}
 use Rattle.lane_notes.specs.Notes.{both_noted, NotesOf, with_write_note}

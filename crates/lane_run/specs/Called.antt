@@ -5,28 +5,26 @@ use Rattle.clock_model.specs.declared.write.ClockFault.TheVariants as faults
 use Rattle.clock_model.specs.declared.write.Write.{Write}
 use Rattle.clock_cell.specs.Views.{AnswersWrite, seen_reading, writes}
 use Rattle.pass_names.specs.Passes.{Looks}
-use Rattle.seq_timer.specs.declared.event.Event.TheVariants as events
-use Rattle.seq_timer.specs.declared.event.Asked.{Asked}
-use Rattle.timer_core.specs.Answers.{asked_for}
-use Rattle.timer_core.specs.declared.answer.CancelAnswer.{CancelAnswer}
-use Rattle.timer_core.specs.declared.answer.CancelAnswer.TheVariants as cancels
+use Rattle.seq_timer.specs.declared.event.EventBy.TheVariants as events
+use Rattle.seq_timer.specs.Events.{Asked, Event}
+use Rattle.seq_timer.specs.Calls.{asked_for}
+use Rattle.seq_timer.specs.declared.answer.CancelAnswer.{CancelAnswer}
+use Rattle.seq_timer.specs.declared.answer.CancelAnswer.TheVariants as cancels
 use Rattle.hr_timers.specs.declared.answer.StartAnswer.{StartAnswer}
 use Rattle.hr_timers.specs.declared.answer.StartAnswer.TheVariants as starts
-use Rattle.hr_timers.specs.Calls.{Cancels, Peeks, StartsTimer}
+use Rattle.base_row.specs.Logs.{receipts_of}
+use Rattle.hr_timers.specs.Known.{timer_then}
+use Rattle.hr_timers.specs.Calls.{Cancels, Peeks, StartsTimer, cancel_entries, start_entries}
 use Rattle.expire_pass.specs.declared.expiry.ExpireAnswer.{ExpireAnswer}
 use Rattle.expire_pass.specs.declared.expiry.ExpireAnswer.TheVariants as expiries
-use Rattle.expire_pass.specs.declared.log.Receipt.{Receipt}
+use Rattle.base_row.specs.declared.log.Receipt.{Receipt}
 use Rattle.timer_objects.specs.declared.log.ObjectReceipt.{ObjectReceipt}
 use Rattle.timer_objects.specs.Calls.{Accepts, Caller, Gettimes, LooksOverrun, LooksReadable, ReadsFd, Settimes}
 use Rattle.record_text.specs.declared.record.Answer.{Answer}
 use Rattle.record_text.specs.declared.record.Answer.TheVariants as answers
 use Rattle.record_text.specs.declared.record.Label.{Label}
-use Rattle.seq_timer.specs.declared.event.Event.{Event}
-use Rattle.seq_timer.specs.declared.event.Reply.{Reply}
-use Rattle.seq_timer.specs.declared.event.Reply.TheVariants as replies
 use Rattle.seq_timer.specs.declared.observation.Peek.{Peek}
 use Rattle.clock_model.specs.declared.write.ClockFault.{ClockFault}
-use Rattle.expire_pass.specs.declared.log.Noted.TheVariants as noteds
 use Rattle.posix_timer.specs.declared.answers.AcceptAnswer.{AcceptAnswer}
 use Rattle.posix_timer.specs.declared.answers.AcceptAnswer.TheVariants as acceptances
 use Rattle.timer_fd.specs.declared.answers.ReadAnswer.{ReadAnswer}
@@ -41,10 +39,10 @@ use Rattle.timer_objects.specs.declared.object.Kind.{Kind}
 use Rattle.timer_objects.specs.declared.object.Kind.TheVariants as over
 use Rattle.timer_objects.specs.Known.{decl_at}
 use Rattle.record_text.specs.declared.record.ClockLine.{ClockLine}
-use Rattle.script_text.specs.Starts.{asked_slack}
+use Rattle.script_text.specs.Declarations.{asked_slack}
 use Rattle.script_text.specs.declared.script.StartRequest.{StartRequest}
 use Rattle.seq_timer.specs.declared.context.Context.{Context}
-use Rattle.script_text.specs.Actions.{also}
+use Rattle.run_history.specs.Actions.{also}
 use Rattle.script_text.specs.declared.script.Call.{Call}
 use Rattle.script_text.specs.declared.script.Call.TheVariants as calls
 use Rattle.lane_notes.specs.Notes.{NotesOf, with_write_note}
@@ -98,35 +96,12 @@ lane_caller p log object_log = record { timers = p.timers.known; objects = p.obj
 
 -- ---- timers by themselves
 
--- the receipt of an entry
-abbrev pub entry_receipt : ℕ → ℕ → Event → Reply → Receipt
-entry_receipt timer number event reply = record { timer = timer; number = number; event = event; reply = noteds.Entry reply }
-
--- the receipt of a start that was made; the timer was armed before it, and on this base
-abbrev pub started_receipt : ℕ → Asked → Bool → StartAnswer → List Receipt
-started_receipt timer asked armed (starts.Started was_armed generation outs placement) =
-    entry_receipt timer generation (events.Start asked) (replies.Start placement armed) ∷ []
-started_receipt timer asked armed (starts.Spent stamp) = []
-
--- the receipts of a start: of an Out too where it moved the timer, which is then not armed any more
-abbrev pub start_receipts : ℕ → Asked → StartAnswer → List Receipt
-start_receipts timer asked (starts.Started was_armed generation outs placement) =
-    if nat_eq outs 0
-    then started_receipt timer asked was_armed (starts.Started was_armed generation outs placement)
-    else entry_receipt timer (generation - 1) (events.Out asked.base) (replies.Out was_armed)
-    ∷ started_receipt timer asked false (starts.Started was_armed generation outs placement)
-start_receipts timer asked (starts.Spent stamp) = []
-
+-- what a start answers
 abbrev pub start_told : StartAnswer → Answer
 start_told (starts.Started was_armed generation outs placement) = answers.Started generation placement.base was_armed
 start_told (starts.Spent stamp) = answers.Spent stamp
 
--- the receipt of a cancel
-abbrev pub cancel_receipts : ℕ → CancelAnswer → List Receipt
-cancel_receipts timer (cancels.Idle stamp) = []
-cancel_receipts timer (cancels.Cancelled generation number) = entry_receipt timer number events.Cancel (replies.Cancel generation) ∷ []
-cancel_receipts timer (cancels.Running generation stamp) = []
-
+-- what a cancel answers
 abbrev pub cancel_told : CancelAnswer → Answer
 cancel_told (cancels.Idle stamp) = answers.Idle stamp
 cancel_told (cancels.Cancelled generation number) = answers.Cancelled generation
@@ -204,7 +179,8 @@ module _ (x : WorldOf) (l m : LaneOf) (a : Answer) where
     pub answer : StartAnswer
     pub starts : StartsTimer x.timers.about l.pass.timers.known m.pass.timers.known timer (asked_in request reading) answer
     pub objects : m.pass.objects ≡ l.pass.objects
-    pub notes : m.notes ≡ with_done l.notes l.label (start_receipts timer (asked_in request reading) answer) []
+    pub notes : let t = timer_then x.timers.about starts.at timer in
+        m.notes ≡ with_done l.notes l.label (receipts_of timer t.stamp (start_entries t (asked_in request reading) answer)) []
     pub told : a ≡ start_told answer
 
   pub record CallsCancel (timer : ℕ) : Type 0 where
@@ -212,7 +188,7 @@ module _ (x : WorldOf) (l m : LaneOf) (a : Answer) where
     pub answer : CancelAnswer
     pub cancels : Cancels x.timers.about l.pass.timers.known m.pass.timers.known timer answer
     pub objects : m.pass.objects ≡ l.pass.objects
-    pub notes : m.notes ≡ with_done l.notes l.label (cancel_receipts timer answer) []
+    pub notes : m.notes ≡ with_done l.notes l.label (receipts_of timer (timer_then x.timers.about cancels.at timer).stamp (cancel_entries answer)) []
     pub told : a ≡ cancel_told answer
 
   pub record CallsPeek (timer : ℕ) : Type 0 where

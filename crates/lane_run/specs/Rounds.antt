@@ -1,7 +1,7 @@
 -- Rounds: the calls of a lane in turn; passes of its own for each lane, which are taken in again; and all rounds of a script.
 use Rattle.std.specs.Prelude.{ℕ, ◌≡◌, ◌+◌, ◌-◌, ◌^◌, ◌<◌, min, nat_eq, Bool, zero, suc, List, [], ◌∷◌, ◌++◌, All, false, filter, get_or, length, map, replicate, set}
 use Rattle.std.specs.List.{list_any}
-use Rattle.script_text.specs.Actions.{also}
+use Rattle.run_history.specs.Actions.{also}
 use Rattle.pass_names.specs.Names.{Covers}
 use Rattle.pass_names.specs.Passes.{Retires}
 use Rattle.pass_names.specs.SharedHistory.{TakesIn}

@@ -6,8 +6,8 @@ use Rattle.script_text.specs.declared.script.Script.{Script}
 use Rattle.lane_notes.specs.Notes.{NotesOf}
 use Rattle.lane_notes.specs.Records.{record_from}
 use Rattle.lane_notes.specs.Sorted.{IsSortedFrom}
-use Rattle.script_text.specs.Histories.{history_of}
-use Rattle.script_text.specs.Objects.{lines_of_object}
+use Rattle.run_history.specs.Histories.{history_of}
+use Rattle.run_history.specs.Objects.{lines_of_object}
 use Rattle.seq_timer.specs.Systems.{entries_of}
 use Rattle.timer_objects.specs.Known.{seen_of}
 use Rattle.lane_run.specs.Rounds.{LeftOf, MakesRounds, none_left}
@@ -19,8 +19,8 @@ use Rattle.lane_notes.specs.PosixNotes.{posix_as_told}
 use Rattle.record_text.specs.declared.record.ClockLine.{ClockLine}
 use Rattle.record_text.specs.declared.record.ObjectEntry.{ObjectEntry}
 use Rattle.record_text.specs.declared.record.ObjectLine.{ObjectLine}
-use Rattle.script_text.specs.FdHistories.{fd_entry}
-use Rattle.script_text.specs.PosixHistories.{posix_entry}
+use Rattle.run_history.specs.FdHistories.{fd_entry}
+use Rattle.run_history.specs.PosixHistories.{posix_entry}
 use Rattle.timer_objects.specs.declared.cell.SpannedCall.{SpannedCall}
 use Rattle.timer_objects.specs.declared.object.ObjectCall.TheVariants as of_kind
 use Rattle.timer_objects.specs.declared.object.ObjectCall.{ObjectCall}

@@ -16,7 +16,7 @@ use Rattle.timer_objects.specs.declared.object.Kind.TheVariants as over
 use Rattle.timer_objects.specs.Callbacks.{bases_of}
 use Rattle.timer_objects.specs.Cells.{opened_cells}
 use Rattle.timer_objects.specs.Known.{IsObjectsPass, ObjectsOf, Suits, decl_at}
-use Rattle.script_text.specs.Histories.{declareds_of, terms_of}
+use Rattle.script_text.specs.Declarations.{declareds_of, terms_of}
 use Rattle.script_text.specs.Scripts.{most_budget}
 use Rattle.script_text.specs.declared.script.Call.{Call}
 use Rattle.script_text.specs.declared.script.Call.TheVariants as calls

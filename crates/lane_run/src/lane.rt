@@ -114,8 +114,8 @@ fn make<R: Wait, G: Gate>(
     ensures call { IfOk result (λ a. Called world.now (lane_of lane.old) call a (lane_of lane.new)) }
 {
     match call {
-        Call::Start { timer, request } => start(rt, world, lane, timer, request),
-        Call::Cancel { timer } => cancel(rt, world, lane, timer),
+        Call::Start { timer, request } => start(rt, alloc, world, lane, timer, request),
+        Call::Cancel { timer } => cancel(rt, alloc, world, lane, timer),
         Call::Peek { timer } => Ok(peek(world, lane, timer)),
         Call::Expire {
             context,

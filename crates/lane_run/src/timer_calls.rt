@@ -1,25 +1,33 @@
 //! The calls on timers by themselves, and the writes of the clock.
-ghost use Rattle.std.specs.Prelude.{◌≡◌, ◌<◌, [], ◌∷◌, IfOk, OnOk, length};
-ghost use Rattle.lane_notes.specs.Entries.{with_receipts};
-ghost use Rattle.lane_run.specs.Called.{LeavesRest, CallsCancel, CallsPeek, CallsStart, CallsWrite, LeavesLane, cancel_receipts, cancel_told, entry_receipt, lane_of, start_receipts, start_told, with_done};
+ghost use Rattle.std.specs.Prelude.{◌≡◌, ◌≤◌, ◌<◌, [], IfOk, length};
+ghost use Rattle.lane_run.specs.Called.{CallsCancel, CallsPeek, CallsStart, CallsWrite, LeavesLane, cancel_told, lane_of, start_told};
 ghost use Rattle.lane_run.specs.Worlds.{ArePassesOf};
 
 use crate::lane::Lane;
 use crate::world::World;
 use clock_model::{ClockFault, Write};
-use expire_pass::{Noted, Receipt};
-use hr_timers::StartAnswer;
+use hr_timers::{Log, StartAnswer};
 use lane_notes::note_receipts;
 use record_text::{Answer, ClockLine};
 use script_text::StartRequest;
-use seq_timer::{Asked, Event, Reply};
-use std::alloc::AllocError;
+use seq_timer::{Asked, CancelAnswer};
+use std::alloc::{AllocError, Global};
 use std::sync::Wait;
-use timer_core::CancelAnswer;
+
+/// A log with room for what a call makes of one timer: an Out and a start, or a cancel.
+fn make_log(alloc: Global) -> Result<Log, AllocError>
+    ensures empty { IfOk result (λ l. l.receipts ≡ []) }
+    ensures room { IfOk result (λ l. 2 ≤ l.spare) }
+{
+    let mut log = Log::make(alloc);
+    log.reserve(2)?;
+    Ok(log)
+}
 
 /// A start.
 pub(crate) fn start<R: Wait>(
     rt: &R,
+    alloc: Global,
     world: &World,
     lane: &mut Lane,
     timer: u32,
@@ -31,21 +39,19 @@ pub(crate) fn start<R: Wait>(
     ensures leaves { LeavesLane world.now lane.old lane.new }
     ensures call { IfOk result (λ a. CallsStart world.now (lane_of lane.old) (lane_of lane.new) a timer request) }
 {
+    let mut log = make_log(alloc)?;
     let reading = world.clock.read(rt, &mut lane.pass.clock);
-    let pass = &mut lane.pass.timers;
     let StartRequest { mode, ns, base, .. } = request;
-    let slack = request.slack.unwrap_or(0);
-    let answer = world
-        .timers
-        .start_range(rt, pass, timer, mode, ns, slack, base, reading);
     let asked = Asked {
         mode,
         ns,
-        slack,
+        slack: request.slack.unwrap_or(0),
         reading,
         base,
     };
-    note_start(lane, timer, asked, answer)?;
+    let pass = &mut lane.pass.timers;
+    let answer = world.timers.start_logged(rt, pass, &mut log, timer, &asked);
+    note_receipts(&mut lane.notes, lane.label, log.receipts())?;
     Ok(start_answer(answer))
 }
 
@@ -68,43 +74,10 @@ fn start_answer(answer: StartAnswer) -> Answer
     }
 }
 
-/// Notes the entries of a start: the Start, and before it an Out where it moved the timer, which is then not armed any more.
-fn note_start(
-    lane: &mut Lane,
-    timer: u32,
-    asked: Asked,
-    answer: StartAnswer,
-) -> Result<(), AllocError>
-    ensures rest { LeavesRest lane.old lane.new }
-    ensures notes { OnOk result (lane.new.notes ≡ with_done lane.old.notes lane.old.label (start_receipts timer asked answer) []) }
-{
-    let StartAnswer::Started {
-        was_armed,
-        generation,
-        outs,
-        placement,
-    } = answer
-    else {
-        return Ok(());
-    };
-    let base = asked.base;
-    let event = Event::Start(asked);
-    let moved = outs != 0;
-    if moved {
-        let out = Event::Out { base };
-        let number = generation.saturating_sub(1);
-        note(lane, timer, number, out, Reply::Out { was_armed })?;
-    }
-    let reply = Reply::Start {
-        placement,
-        was_armed: was_armed && !moved,
-    };
-    note(lane, timer, generation, event, reply)
-}
-
 /// A try to cancel.
 pub(crate) fn cancel<R: Wait>(
     rt: &R,
+    alloc: Global,
     world: &World,
     lane: &mut Lane,
     timer: u32,
@@ -114,16 +87,10 @@ pub(crate) fn cancel<R: Wait>(
     ensures leaves { LeavesLane world.now lane.old lane.new }
     ensures call { IfOk result (λ a. CallsCancel world.now (lane_of lane.old) (lane_of lane.new) a timer) }
 {
-    let answer = world.timers.try_to_cancel(rt, &mut lane.pass.timers, timer);
-    if let CancelAnswer::Cancelled { generation, number } = answer {
-        note(
-            lane,
-            timer,
-            number,
-            Event::Cancel,
-            Reply::Cancel { generation },
-        )?;
-    }
+    let mut log = make_log(alloc)?;
+    let pass = &mut lane.pass.timers;
+    let answer = world.timers.try_to_cancel_logged(rt, pass, &mut log, timer);
+    note_receipts(&mut lane.notes, lane.label, log.receipts())?;
     Ok(cancel_answer(answer))
 }
 
@@ -182,24 +149,4 @@ pub(crate) fn write<R: Wait>(
         Err(ClockFault::ClockRange { would_be }) => Ok(Answer::Range { would_be }),
         Err(ClockFault::ClockSpent) => Ok(Answer::ClockSpent),
     }
-}
-
-/// Notes an entry of a timer that the lane's call made.
-fn note(
-    lane: &mut Lane,
-    timer: u32,
-    number: u64,
-    event: Event,
-    reply: Reply,
-) -> Result<(), AllocError>
-    ensures rest { LeavesRest lane.old lane.new }
-    ensures notes { OnOk result (lane.new.notes ≡ with_receipts lane.old.notes lane.old.label (entry_receipt timer number event reply ∷ [])) }
-{
-    let receipt = Receipt {
-        timer,
-        number,
-        event,
-        reply: Noted::Entry(reply),
-    };
-    note_receipts(&mut lane.notes, lane.label, &[receipt])
 }

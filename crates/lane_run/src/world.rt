@@ -1,7 +1,7 @@
 //! What a script's calls are made on: its timers, its objects and the clock, with the first passes.
 ghost use Rattle.std.specs.Prelude.{◌≡◌, ◌≤◌, ◌<◌, IfOk, OnOk, map};
 ghost use Rattle.script_text.specs.Scripts.{IsInRange};
-ghost use Rattle.script_text.specs.Histories.{declared_as};
+ghost use Rattle.script_text.specs.Declarations.{declared_as};
 ghost use Rattle.lane_run.specs.Rounds.{TakesInPass};
 ghost use Rattle.lane_run.specs.Worlds.{AnswerFor, AreFirst, AreLast, ArePassesOf, IsWorldOf, SplitsPass, callback_of, decl_of};
 

@@ -7,8 +7,8 @@ use Rattle.pass_names.specs.Passes.{Begins, GoesOn}
 use Rattle.base_row.specs.Calls as rows
 use Rattle.hr_timers.specs.Known.{IsPassOf, PassOf}
 use Rattle.expire_pass.specs.Handlers.{KeepsPass}
-use Rattle.expire_pass.specs.declared.log.Receipt.{Receipt}
-use Rattle.expire_pass.specs.Logs.{LogOf}
+use Rattle.base_row.specs.declared.log.Receipt.{Receipt}
+use Rattle.base_row.specs.Logs.{LogOf}
 use Rattle.timer_setting.specs.declared.arming.Arm.{Arm}
 use Rattle.timer_setting.specs.Phases.{periods_in}
 use Rattle.posix_timer.specs.States.{PosixTimer}

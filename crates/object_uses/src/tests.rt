@@ -2,6 +2,7 @@
 mod answers;
 mod beside;
 mod expected;
+mod greatest;
 mod of_expire_pass;
 mod of_timer_objects;
 mod passes;

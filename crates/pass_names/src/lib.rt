@@ -1,8 +1,12 @@
 //! What a caller of a shared structure knows, as plain data: its pass's name, the histories that it
 //! has seen and the places of its own entries. No value of these types is made; they stand in the
-//! contracts and proofs of the crates that hand out passes.
+//! contracts and proofs of the crates that hand out passes. Beside them the loop by which calls of
+//! these crates try again.
 #![tactic(auto)]
 
+mod retries;
+
+pub use retries::Retries;
 use std::collections::LinkedList;
 
 /// A pass's name and the passes that it answers for.

@@ -1,13 +1,17 @@
 -- The words of entries and of answers are read back: each form from its own words.
-use Rattle.std.proofs.Common.{◌≡◌, ◌∷◌, [], ℕ, List, true, if◌then◌else◌, map, length, codes, refl, sym, ap, ◌∙◌}
+use Rattle.std.proofs.Common.{◌≡◌, ◌∷◌, [], ℕ, List, Bool, true, if◌then◌else◌, map, length, codes, refl, sym, ◌∙◌}
 use Rattle.record_text.specs.declared.version.Version.{Version}
 use Rattle.record_text.specs.declared.version.Version.TheVariants as versions
-use Rattle.record_text.specs.declared.record.StartLine.{StartLine}
-use Rattle.record_text.specs.declared.record.ForwardLine.{ForwardLine}
+use Rattle.seq_timer.specs.declared.event.AskedBy.{AskedBy}
+use Rattle.seq_timer.specs.declared.event.EventBy.{EventBy}
+use Rattle.seq_timer.specs.declared.event.EventBy.TheVariants as events
+use Rattle.seq_timer.specs.declared.event.Moved.{Moved}
+use Rattle.seq_timer.specs.declared.event.Placement.{Placement}
+use Rattle.seq_timer.specs.declared.event.Reply.{Reply}
+use Rattle.seq_timer.specs.declared.event.Reply.TheVariants as replies
 use Rattle.record_text.specs.declared.record.Entry.{Entry}
-use Rattle.record_text.specs.declared.record.Entry.TheVariants as entries
 use Rattle.record_text.specs.declared.record.CallbackReply.{CallbackReply}
-use Rattle.record_text.specs.declared.record.CallbackReply.TheVariants as replies
+use Rattle.record_text.specs.declared.record.CallbackReply.TheVariants as told
 use Rattle.record_text.specs.declared.record.SettimeReply.{SettimeReply}
 use Rattle.record_text.specs.declared.record.SettimeReply.TheVariants as settimes
 use Rattle.record_text.specs.declared.record.AcceptReply.{AcceptReply}
@@ -19,10 +23,10 @@ use Rattle.record_text.specs.declared.record.ObjectEntry.TheVariants as object_e
 use Rattle.record_text.specs.declared.record.Answer.{Answer}
 use Rattle.record_text.specs.declared.record.Answer.TheVariants as answers
 use Rattle.record_text.specs.Replies.{answer_of_settime, answer_of_accept, answer_of_read}
-use Rattle.record_text.specs.Text.{start_words, forward_words, entry_words, reply_words, answer_words, object_entry_words}
-use Rattle.record_text.specs.Numbers.{AreMachineNumbers, EntryHasNoSlack, entry_numbers, reply_numbers, answer_numbers, object_entry_numbers}
+use Rattle.record_text.specs.Text.{entry_words, told_words, answer_words, object_entry_words}
+use Rattle.record_text.specs.Numbers.{AreMachineNumbers, EntryHasNoSlack, IsReplyTo, entry_numbers, told_numbers, answer_numbers, object_entry_numbers}
 use Rattle.record_text.proofs.Words.{are_words}
-use Rattle.record_text.proofs.Spelling.{value, value_again, word_decimal, words_decimals, values_again, nth, number, after, is_key, flag_of, flag_read, clock_of, clock_read, mode_of, mode_read, restart_of, restart_read, rearmed_of, rearmed_read, armed_of, armed_read, counted_of, counted_read}
+use Rattle.record_text.proofs.Spelling.{value, value_again, word_decimal, words_decimals, values_again, nth, number, after, is_key, flag_of, flag_read, clock_of, clock_read, mode_of, mode_read, restart_of, restart_read, restarted_of, restarted_read, armed_of, armed_read, counted_of, counted_read}
 
 -- a value is read back from these words, each of which is one
 abbrev pub IsReadBack : {X : Type 0} → (List (List ℕ) → X) → X → List (List ℕ) → Type 0
@@ -32,116 +36,117 @@ IsReadBack of x words = (of words ≡ x) × (are_words words ≡ true)
 abbrev pub AreReadBack : {X : Type 0} → (List (List ℕ) → X) → (X → List (List ℕ)) → (X → List ℕ) → Type 0
 AreReadBack {X} of words numbers = (x : X) → AreMachineNumbers (numbers x) → IsReadBack of x (words x)
 
--- the lines of a start and of a forward; one of version 1 has no slack
-start_of : Version → List (List ℕ) → StartLine
-start_of versions.One ws = record {
-  mode = mode_of (nth 1 ws);
-  ns = number 2 ws;
-  slack = 0;
-  reading = number 3 ws;
-  asked = number 4 ws;
-  base = number 5 ws;
-  clock = clock_of (nth 6 ws);
-  soft = number 7 ws;
-  expires = number 7 ws;
-  was_armed = flag_of (nth 8 ws);
-}
-start_of versions.Two ws = record {
-  mode = mode_of (nth 1 ws);
-  ns = number 2 ws;
-  slack = number 3 ws;
-  reading = number 4 ws;
-  asked = number 5 ws;
-  base = number 6 ws;
-  clock = clock_of (nth 7 ws);
-  soft = number 8 ws;
-  expires = number 9 ws;
-  was_armed = flag_of (nth 10 ws);
-}
+-- the entry of an event and a reply
+abbrev entry : EventBy ℕ → Reply → Entry
+entry event reply = record { event = event; reply = reply }
 
-forward_of : Version → List (List ℕ) → ForwardLine
-forward_of versions.One ws = record { reading = number 1 ws; interval = number 2 ws; count = number 3 ws; soft = number 4 ws; expires = number 4 ws }
-forward_of versions.Two ws = record { reading = number 1 ws; interval = number 2 ws; count = number 3 ws; soft = number 4 ws; expires = number 5 ws }
+-- a start and a forward; one of version 1 has no slack
+start_of : Version → List (List ℕ) → Entry
+start_of versions.One ws =
+    entry (events.Start (record { mode = mode_of (nth 1 ws); ns = number 2 ws; slack = 0; reading = number 3 ws; base = number 4 ws }))
+    (replies.Start (record { base = number 5 ws; clock = clock_of (nth 6 ws); soft = number 7 ws; expires = number 7 ws }) (flag_of (nth 8 ws)))
+start_of versions.Two ws =
+    entry (events.Start (record { mode = mode_of (nth 1 ws); ns = number 2 ws; slack = number 3 ws; reading = number 4 ws; base = number 5 ws }))
+    (replies.Start (record { base = number 6 ws; clock = clock_of (nth 7 ws); soft = number 8 ws; expires = number 9 ws }) (flag_of (nth 10 ws)))
 
--- what version 1 does not show is told by its premise
-start_read : (v : Version) (l : StartLine) → AreMachineNumbers (entry_numbers (entries.Start l))
-    → (v ≡ versions.One → EntryHasNoSlack (entries.Start l)) → IsReadBack (start_of v) l (start_words v l)
+forward_of : Version → List (List ℕ) → Entry
+forward_of versions.One ws =
+    entry (events.Forward (number 1 ws) (number 2 ws)) (replies.Forward (record { count = number 3 ws; soft = number 4 ws; expires = number 4 ws }))
+forward_of versions.Two ws =
+    entry (events.Forward (number 1 ws) (number 2 ws)) (replies.Forward (record { count = number 3 ws; soft = number 4 ws; expires = number 5 ws }))
+
+-- an entry is one that is read back from its words in a text of this version: its reply is its event's, and what version 1 does not show is told
+abbrev pub IsReadable : Version → Entry → Type 0
+IsReadable v e = IsReplyTo e.event e.reply × (v ≡ versions.One → EntryHasNoSlack e)
+
+start_read : (v : Version) (a : AskedBy ℕ) (p : Placement) (was : Bool) → AreMachineNumbers (entry_numbers (entry (events.Start a) (replies.Start p was)))
+    → (v ≡ versions.One → EntryHasNoSlack (entry (events.Start a) (replies.Start p was)))
+    → IsReadBack (start_of v) (entry (events.Start a) (replies.Start p was)) (entry_words v (entry (events.Start a) (replies.Start p was)))
 unfolding start_of
-start_read versions.One l h plain =
-    rw ((mode_read l.mode).0, value_again l.ns h.0, value_again l.reading h.1.1.0, value_again l.asked h.1.1.1.0, value_again l.base h.1.1.1.1.0)
-    (rw ((clock_read l.clock).0, value_again l.expires h.1.1.1.1.1.1.0, (flag_read l.was_armed).0, (mode_read l.mode).1, word_decimal l.ns h.0)
-    (rw (word_decimal l.reading h.1.1.0, word_decimal l.asked h.1.1.1.0, word_decimal l.base h.1.1.1.1.0, (clock_read l.clock).1)
-    (rw (word_decimal l.expires h.1.1.1.1.1.1.0, (flag_read l.was_armed).1)
-    ((λ i. record l { slack = sym (plain refl).0 i; soft = sym (plain refl).1 i }), refl))))
-start_read versions.Two l h plain =
-    rw ((mode_read l.mode).0, value_again l.ns h.0, value_again l.slack h.1.0, value_again l.reading h.1.1.0, value_again l.asked h.1.1.1.0)
-    (rw (value_again l.base h.1.1.1.1.0, (clock_read l.clock).0, value_again l.soft h.1.1.1.1.1.0, value_again l.expires h.1.1.1.1.1.1.0)
-    (rw ((flag_read l.was_armed).0, (mode_read l.mode).1, word_decimal l.ns h.0, word_decimal l.slack h.1.0, word_decimal l.reading h.1.1.0)
-    (rw (word_decimal l.asked h.1.1.1.0, word_decimal l.base h.1.1.1.1.0, (clock_read l.clock).1, word_decimal l.soft h.1.1.1.1.1.0)
-    (rw (word_decimal l.expires h.1.1.1.1.1.1.0, (flag_read l.was_armed).1) (refl, refl)))))
+start_read versions.One a p was h plain =
+    rw ((mode_read a.mode).0, value_again a.ns h.0, value_again a.reading h.1.1.0, value_again a.base h.1.1.1.0, value_again p.base h.1.1.1.1.0)
+    (rw ((clock_read p.clock).0, value_again p.expires h.1.1.1.1.1.1.0, (flag_read was).0, (mode_read a.mode).1, word_decimal a.ns h.0)
+    (rw (word_decimal a.reading h.1.1.0, word_decimal a.base h.1.1.1.0, word_decimal p.base h.1.1.1.1.0, (clock_read p.clock).1)
+    (rw (word_decimal p.expires h.1.1.1.1.1.1.0, (flag_read was).1)
+    ((λ i. entry (events.Start (record a { slack = sym (plain refl).0 i })) (replies.Start (record p { soft = sym (plain refl).1 i }) was)), refl))))
+start_read versions.Two a p was h plain =
+    rw ((mode_read a.mode).0, value_again a.ns h.0, value_again a.slack h.1.0, value_again a.reading h.1.1.0, value_again a.base h.1.1.1.0)
+    (rw (value_again p.base h.1.1.1.1.0, (clock_read p.clock).0, value_again p.soft h.1.1.1.1.1.0, value_again p.expires h.1.1.1.1.1.1.0)
+    (rw ((flag_read was).0, (mode_read a.mode).1, word_decimal a.ns h.0, word_decimal a.slack h.1.0, word_decimal a.reading h.1.1.0)
+    (rw (word_decimal a.base h.1.1.1.0, word_decimal p.base h.1.1.1.1.0, (clock_read p.clock).1, word_decimal p.soft h.1.1.1.1.1.0)
+    (rw (word_decimal p.expires h.1.1.1.1.1.1.0, (flag_read was).1) (refl, refl)))))
 
-forward_read : (v : Version) (l : ForwardLine) → AreMachineNumbers (entry_numbers (entries.Forward l))
-    → (v ≡ versions.One → EntryHasNoSlack (entries.Forward l)) → IsReadBack (forward_of v) l (forward_words v l)
+forward_read : (v : Version) (reading interval : ℕ) (m : Moved)
+    → AreMachineNumbers (entry_numbers (entry (events.Forward reading interval) (replies.Forward m)))
+    → (v ≡ versions.One → EntryHasNoSlack (entry (events.Forward reading interval) (replies.Forward m)))
+    → IsReadBack (forward_of v) (entry (events.Forward reading interval) (replies.Forward m))
+    (entry_words v (entry (events.Forward reading interval) (replies.Forward m)))
 unfolding forward_of
-forward_read versions.One l h plain =
-    rw (value_again l.reading h.0, value_again l.interval h.1.0, value_again l.count h.1.1.0, value_again l.expires h.1.1.1.1.0)
-    (rw (word_decimal l.reading h.0, word_decimal l.interval h.1.0, word_decimal l.count h.1.1.0, word_decimal l.expires h.1.1.1.1.0)
-    ((λ i. record l { soft = sym (plain refl) i }), refl))
-forward_read versions.Two l h plain =
-    rw (value_again l.reading h.0, value_again l.interval h.1.0, value_again l.count h.1.1.0, value_again l.soft h.1.1.1.0)
-    (rw (value_again l.expires h.1.1.1.1.0, word_decimal l.reading h.0, word_decimal l.interval h.1.0, word_decimal l.count h.1.1.0)
-    (rw (word_decimal l.soft h.1.1.1.0, word_decimal l.expires h.1.1.1.1.0) (refl, refl)))
+forward_read versions.One reading interval m h plain =
+    rw (value_again reading h.0, value_again interval h.1.0, value_again m.count h.1.1.0, value_again m.expires h.1.1.1.1.0)
+    (rw (word_decimal reading h.0, word_decimal interval h.1.0, word_decimal m.count h.1.1.0, word_decimal m.expires h.1.1.1.1.0)
+    ((λ i. entry (events.Forward reading interval) (replies.Forward (record m { soft = sym (plain refl).1 i }))), refl))
+forward_read versions.Two reading interval m h plain =
+    rw (value_again reading h.0, value_again interval h.1.0, value_again m.count h.1.1.0, value_again m.soft h.1.1.1.0)
+    (rw (value_again m.expires h.1.1.1.1.0, word_decimal reading h.0, word_decimal interval h.1.0, word_decimal m.count h.1.1.0)
+    (rw (word_decimal m.soft h.1.1.1.0, word_decimal m.expires h.1.1.1.1.0) (refl, refl)))
 
 pub entry_of : Version → List (List ℕ) → Entry
 entry_of v ws =
-    if is_key ws (codes "out") then entries.Out (number 1 ws) (flag_of (nth 2 ws))
-    else if is_key ws (codes "start") then entries.Start (start_of v ws)
-    else if is_key ws (codes "cancel") then entries.Cancel (number 1 ws)
-    else if is_key ws (codes "claim") then entries.Claim (number 1 ws) (number 2 ws) (number 3 ws)
-    else if is_key ws (codes "forward") then entries.Forward (forward_of v ws)
-    else entries.Finish (restart_of (nth 1 ws)) (number 2 ws) (rearmed_of (nth 3 ws))
+    if is_key ws (codes "out") then entry (events.Out (number 1 ws)) (replies.Out (flag_of (nth 2 ws)))
+    else if is_key ws (codes "start") then start_of v ws
+    else if is_key ws (codes "cancel") then entry events.Cancel (replies.Cancel (number 1 ws))
+    else if is_key ws (codes "claim") then entry (events.Claim (number 1 ws) (number 2 ws)) (replies.Claim (number 3 ws))
+    else if is_key ws (codes "forward") then forward_of v ws
+    else entry (events.Finish (restart_of (nth 1 ws))) (replies.Finish (number 2 ws) (restarted_of (nth 3 ws)))
 
 -- which entry the words of a start and of a forward are of
-start_is : (v : Version) (l : StartLine) → entry_of v (start_words v l) ≡ entries.Start (start_of v (start_words v l))
+start_is : (v : Version) (a : AskedBy ℕ) (p : Placement) (was : Bool) → let ws = entry_words v (entry (events.Start a) (replies.Start p was)) in
+    entry_of v ws ≡ start_of v ws
 unfolding entry_of
-start_is versions.One l = refl
-start_is versions.Two l = refl
+start_is versions.One a p was = refl
+start_is versions.Two a p was = refl
 
-forward_is : (v : Version) (l : ForwardLine) → entry_of v (forward_words v l) ≡ entries.Forward (forward_of v (forward_words v l))
+forward_is : (v : Version) (reading interval : ℕ) (m : Moved) → let ws = entry_words v (entry (events.Forward reading interval) (replies.Forward m)) in
+    entry_of v ws ≡ forward_of v ws
 unfolding entry_of
-forward_is versions.One l = refl
-forward_is versions.Two l = refl
+forward_is versions.One reading interval m = refl
+forward_is versions.Two reading interval m = refl
 
-pub entry_read : (v : Version) (x : Entry) → AreMachineNumbers (entry_numbers x) → (v ≡ versions.One → EntryHasNoSlack x)
-    → IsReadBack (entry_of v) x (entry_words v x)
+each_read : (v : Version) (e : EventBy ℕ) (r : Reply) → AreMachineNumbers (entry_numbers (entry e r)) → IsReadable v (entry e r)
+    → IsReadBack (entry_of v) (entry e r) (entry_words v (entry e r))
 unfolding entry_of
-entry_read v (entries.Out base was_armed) h plain =
-    rw (value_again base h.0, (flag_read was_armed).0, word_decimal base h.0, (flag_read was_armed).1) (refl, refl)
-entry_read v (entries.Start l) h plain =
-    let read = start_read v l h plain in
-    (start_is v l ∙ ap entries.Start read.0, read.1)
-entry_read v (entries.Cancel generation) h plain = rw (value_again generation h.0, word_decimal generation h.0) (refl, refl)
-entry_read v (entries.Claim base reading generation) h plain =
+each_read v (events.Out base) (replies.Out was) h plain =
+    rw (value_again base h.0, (flag_read was).0, word_decimal base h.0, (flag_read was).1) (refl, refl)
+each_read v (events.Start a) (replies.Start p was) h plain =
+    let read = start_read v a p was h plain.1 in
+    (start_is v a p was ∙ read.0, read.1)
+each_read v events.Cancel (replies.Cancel generation) h plain = rw (value_again generation h.0, word_decimal generation h.0) (refl, refl)
+each_read v (events.Claim base reading) (replies.Claim generation) h plain =
     rw (value_again base h.0, value_again reading h.1.0, value_again generation h.1.1.0, word_decimal base h.0)
     (rw (word_decimal reading h.1.0, word_decimal generation h.1.1.0) (refl, refl))
-entry_read v (entries.Forward l) h plain =
-    let read = forward_read v l h plain in
-    (forward_is v l ∙ ap entries.Forward read.0, read.1)
-entry_read v (entries.Finish restart generation rearmed) h plain =
-    rw ((restart_read restart).0, value_again generation h.0, (rearmed_read rearmed h.1).0, (restart_read restart).1)
-    (rw (word_decimal generation h.0, (rearmed_read rearmed h.1).1) (refl, refl))
+each_read v (events.Forward reading interval) (replies.Forward m) h plain =
+    let read = forward_read v reading interval m h plain.1 in
+    (forward_is v reading interval m ∙ read.0, read.1)
+each_read v (events.Finish restart) (replies.Finish generation restarted) h plain =
+    rw ((restart_read restart).0, value_again generation h.0, (restarted_read restarted h.1).0, (restart_read restart).1)
+    (rw (word_decimal generation h.0, (restarted_read restarted h.1).1) (refl, refl))
+each_read v e r h plain = absurd plain.0
 
-pub reply_of : List (List ℕ) → CallbackReply
-reply_of ws =
-    if is_key ws (codes "running") then replies.Running (number 1 ws)
-    else if is_key ws (codes "armed") then replies.Armed (number 1 ws)
-    else replies.Spent
+pub entry_read : (v : Version) (x : Entry) → AreMachineNumbers (entry_numbers x) → IsReadable v x → IsReadBack (entry_of v) x (entry_words v x)
+entry_read v x h plain = each_read v x.event x.reply h plain
 
-pub reply_read : AreReadBack reply_of reply_words reply_numbers
-unfolding reply_of
-reply_read (replies.Running generation) h = rw (value_again generation h.0, word_decimal generation h.0) (refl, refl)
-reply_read (replies.Armed generation) h = rw (value_again generation h.0, word_decimal generation h.0) (refl, refl)
-reply_read replies.Spent h = (refl, refl)
+pub told_of : List (List ℕ) → CallbackReply
+told_of ws =
+    if is_key ws (codes "running") then told.Running (number 1 ws)
+    else if is_key ws (codes "armed") then told.Armed (number 1 ws)
+    else told.Spent
+
+pub told_read : AreReadBack told_of told_words told_numbers
+unfolding told_of
+told_read (told.Running generation) h = rw (value_again generation h.0, word_decimal generation h.0) (refl, refl)
+told_read (told.Armed generation) h = rw (value_again generation h.0, word_decimal generation h.0) (refl, refl)
+told_read told.Spent h = (refl, refl)
 
 -- a time left with its interval: a POSIX timer's has the reading and the stamp behind it
 pub left_of : ℕ → ℕ → List (List ℕ) → Answer

@@ -4,6 +4,6 @@ pub mod EntriesAndAnswers
 pub mod Lines
 pub mod RecordTexts
 pub mod Sections
-pub mod Slack
+pub mod EntryLines
 pub mod Spelling
 pub mod Words

@@ -3,15 +3,16 @@ use Rattle.std.proofs.Common.{◌≡◌, ◌++◌, ◌∷◌, [], List, ℕ, tru
 use Rattle.std.specs.Fmt.{decimal}
 use Rattle.std.specs.List.{AllByRecursion}
 use Rattle.std.proofs.lemmas.List.{append_cancel_right}
-use Rattle.record_text.specs.Text.{RecordLine, Heading, OfClock, OfTimer, OfLook, OfObject, OfSkip, OfCall, End, join_words, lines_text, line_words, write_ns, entry_words, reply_words, object_entry_words}
-use Rattle.record_text.specs.Numbers.{AreMachineNumbers, EntryHasNoSlack, numbers_of}
+use Rattle.record_text.specs.Text.{RecordLine, Heading, OfClock, OfTimer, OfLook, OfObject, OfSkip, OfCall, End, join_words, lines_text, line_words, write_ns, entry_words, told_words, object_entry_words}
+use Rattle.record_text.specs.Numbers.{AreMachineNumbers, numbers_of}
 use Rattle.record_text.proofs.Words.{are_words, parts, words_again, line_again}
 use Rattle.std.proofs.lemmas.Bool.{and_parts}
+use Rattle.record_text.specs.declared.record.Entry.{Entry}
 use Rattle.record_text.specs.declared.record.Label.{Label}
 use Rattle.record_text.specs.declared.version.Version.{Version}
 use Rattle.record_text.specs.declared.version.Version.TheVariants as versions
 use Rattle.record_text.proofs.Spelling.{value, value_again, word_decimal, nth, number, after, is_key, version_of, version_read, write_of, write_read}
-use Rattle.record_text.proofs.EntriesAndAnswers.{IsReadBack, entry_of, entry_read, reply_of, reply_read, answer_of, answer_read, object_entry_of, object_entry_read}
+use Rattle.record_text.proofs.EntriesAndAnswers.{IsReadBack, IsReadable, entry_of, entry_read, told_of, told_read, answer_of, answer_read, object_entry_of, object_entry_read}
 
 abbrev label_at : ℕ → List (List ℕ) → Label
 label_at n ws = record { lane = number n ws; call = number (n + 1) ws }
@@ -30,7 +31,7 @@ line_of v ws =
       changes = number 9 ws;
     })
     else if is_key ws (codes "timer") then OfTimer (number 1 ws) (number 2 ws) (label_at 3 ws) (entry_of v (after 5 ws))
-    else if is_key ws (codes "look") then OfLook (number 1 ws) (number 2 ws) (record { label = label_at 3 ws; reply = reply_of (after 5 ws) })
+    else if is_key ws (codes "look") then OfLook (number 1 ws) (number 2 ws) (record { label = label_at 3 ws; reply = told_of (after 5 ws) })
     else if is_key ws (codes "object") then OfObject (number 1 ws) (number 2 ws) (label_at 3 ws) (object_entry_of (after 5 ws))
     else if is_key ws (codes "skip") then OfSkip (number 1 ws) (number 2 ws) (record { label = label_at 3 ws; generation = number 5 ws })
     else if is_key ws (codes "call") then OfCall (number 1 ws) (number 2 ws) (answer_of (after 3 ws))
@@ -45,12 +46,12 @@ head_read make list n label rest more h made words =
     rw (value_again list h.0, value_again n h.1.0, value_again label.lane h.1.1.0, value_again label.call h.1.1.1.0)
     (rw (word_decimal list h.0, word_decimal n h.1.0, word_decimal label.lane h.1.1.0, word_decimal label.call h.1.1.1.0) (made, words))
 
--- a line of an entry has no slack
-abbrev pub LineHasNoSlack : RecordLine → Type 0
-LineHasNoSlack (OfTimer timer number label entry) = EntryHasNoSlack entry
-LineHasNoSlack other = Unit {0}
+-- this is so of a line's entry, where it is a line of one
+abbrev pub LineHas : (Entry → Type 0) → RecordLine → Type 0
+LineHas Is (OfTimer timer number label entry) = Is entry
+LineHas Is other = Unit {0}
 
-words_read : (v : Version) (l : RecordLine) → AreMachineNumbers (numbers_of l) → (v ≡ versions.One → LineHasNoSlack l)
+words_read : (v : Version) (l : RecordLine) → AreMachineNumbers (numbers_of l) → LineHas (IsReadable v) l
     → IsReadBack (line_of v) l (line_words v l)
 unfolding line_of
 words_read v Heading h p = rw ((version_read v).1) (refl, refl)
@@ -66,8 +67,8 @@ words_read v (OfTimer timer n label entry) h p =
     head_read (λ i m by. OfTimer i m by (entry_of v (entry_words v entry))) timer n label (entry_words v entry) _ h
     (ap (OfTimer timer n label) read.0) read.1
 words_read v (OfLook timer n look) h p =
-    let read = reply_read look.reply h.1.1.1.1 in
-    head_read (λ i m by. OfLook i m (record { label = by; reply = reply_of (reply_words look.reply) })) timer n look.label (reply_words look.reply) _ h
+    let read = told_read look.reply h.1.1.1.1 in
+    head_read (λ i m by. OfLook i m (record { label = by; reply = told_of (told_words look.reply) })) timer n look.label (told_words look.reply) _ h
     (ap (λ reply. OfLook timer n (record { label = look.label; reply = reply })) read.0) read.1
 words_read v (OfObject object n label entry) h p =
     let read = object_entry_read entry h.1.1.1.1 in
@@ -104,23 +105,23 @@ joined_again (w ∷ ws) has h = words_again w ws (and_parts _ _ h).0 (and_parts 
 read_line : Version → List ℕ → RecordLine
 read_line v bytes = line_of v (parts 32 bytes)
 
-line_read : (v : Version) (l : RecordLine) → AreMachineNumbers (numbers_of l) → (v ≡ versions.One → LineHasNoSlack l)
+line_read : (v : Version) (l : RecordLine) → AreMachineNumbers (numbers_of l) → LineHas (IsReadable v) l
     → read_line v (join_words (line_words v l)) ≡ l
 unfolding read_line
 line_read v l h p = ap (line_of v) (joined_again (line_words v l) (each_has_words v l) (words_read v l h p).1) ∙ (words_read v l h p).0
 
 -- an end of the text is read as one line more
 lines_read : (v : Version) (ls : List RecordLine) → AllByRecursion (λ l. AreMachineNumbers (numbers_of l)) ls
-    → (v ≡ versions.One → AllByRecursion LineHasNoSlack ls) → map (read_line v) (parts 10 (lines_text v ls)) ≡ ls ++ read_line v [] ∷ []
+    → AllByRecursion (LineHas (IsReadable v)) ls → map (read_line v) (parts 10 (lines_text v ls)) ≡ ls ++ read_line v [] ∷ []
 lines_read v [] h p = refl
 lines_read v (l ∷ ls) h p =
-    ap (λ ps. map (read_line v) ps) (line_again (line_words v l) (lines_text v ls) (words_read v l h.0 (λ one. (p one).0)).1)
-    ∙ ap (λ x. x ∷ map (read_line v) (parts 10 (lines_text v ls))) (line_read v l h.0 (λ one. (p one).0))
-    ∙ ap (λ r. l ∷ r) (lines_read v ls h.1 (λ one. (p one).1))
+    ap (λ ps. map (read_line v) ps) (line_again (line_words v l) (lines_text v ls) (words_read v l h.0 p.0).1)
+    ∙ ap (λ x. x ∷ map (read_line v) (parts 10 (lines_text v ls))) (line_read v l h.0 p.0)
+    ∙ ap (λ r. l ∷ r) (lines_read v ls h.1 p.1)
 
 pub lines_from_text : (v : Version) (ls ms : List RecordLine) → AllByRecursion (λ l. AreMachineNumbers (numbers_of l)) ls
-    → AllByRecursion (λ l. AreMachineNumbers (numbers_of l)) ms → (v ≡ versions.One → AllByRecursion LineHasNoSlack ls)
-    → (v ≡ versions.One → AllByRecursion LineHasNoSlack ms) → lines_text v ls ≡ lines_text v ms → ls ≡ ms
+    → AllByRecursion (λ l. AreMachineNumbers (numbers_of l)) ms → AllByRecursion (LineHas (IsReadable v)) ls
+    → AllByRecursion (LineHas (IsReadable v)) ms → lines_text v ls ≡ lines_text v ms → ls ≡ ms
 lines_from_text v ls ms h k p q e =
     append_cancel_right ls ms (read_line v [] ∷ [])
     (sym (lines_read v ls h p) ∙ ap (λ text. map (read_line v) (parts 10 text)) e ∙ lines_read v ms k q)
@@ -135,7 +136,7 @@ version_in (line ∷ lines) = version_of (nth 1 (parts 32 line))
 heading_read : (v : Version) (ls : List RecordLine) → version_in (parts 10 (lines_text v (Heading ∷ ls))) ≡ v
 unfolding version_in
 heading_read v ls =
-    let words = (words_read v Heading tt (λ one. tt)).1 in
+    let words = (words_read v Heading tt tt).1 in
     ap version_in (line_again (line_words v Heading) (lines_text v ls) words)
     ∙ ap (λ ws. version_of (nth 1 ws)) (joined_again (line_words v Heading) tt words) ∙ (version_read v).0
 

@@ -13,15 +13,15 @@ use Rattle.ktime.specs.declared.mode.Mode.{Mode}
 use Rattle.ktime.specs.declared.mode.Mode.TheVariants as modes
 use Rattle.clock_model.specs.declared.write.Write.{Write}
 use Rattle.clock_model.specs.declared.write.Write.TheVariants as writes
-use Rattle.record_text.specs.declared.record.Restart.{Restart}
-use Rattle.record_text.specs.declared.record.Restart.TheVariants as restarts
+use Rattle.seq_timer.specs.declared.event.Restarted.{Restarted}
+use Rattle.seq_timer.specs.declared.event.Restarted.TheVariants as restarts
 use Rattle.record_text.specs.declared.record.Armed.{Armed}
 use Rattle.record_text.specs.declared.record.Armed.TheVariants as arms
 use Rattle.record_text.specs.declared.version.Version.{Version}
 use Rattle.record_text.specs.declared.version.Version.TheVariants as versions
 use Rattle.record_text.specs.Words.{clock_word, mode_word, version_word}
-use Rattle.record_text.specs.Text.{flag, write_name, write_ns, restart_word, rearmed_word, armed_word, counted_word}
-use Rattle.record_text.specs.Numbers.{AreMachineNumbers, rearmed_numbers, armed_number}
+use Rattle.record_text.specs.Text.{flag, write_name, write_ns, restart_word, restarted_word, armed_word, counted_word}
+use Rattle.record_text.specs.Numbers.{AreMachineNumbers, restarted_numbers, armed_number}
 use Rattle.record_text.proofs.Words.{is_word, are_words}
 
 -- the number that a word writes
@@ -102,8 +102,8 @@ restart_of w = one_of restart_word (true ∷ []) false w
 pub counted_of : List ℕ → Bool
 counted_of w = one_of counted_word (true ∷ []) false w
 
-pub rearmed_of : List ℕ → Restart
-rearmed_of w = if is_number w then restarts.Again (value w) else if bytes_eq w (codes "none") then restarts.None else restarts.Spent
+pub restarted_of : List ℕ → Restarted
+restarted_of w = if is_number w then restarts.Again (value w) else if bytes_eq w (codes "none") then restarts.No else restarts.Spent
 
 pub armed_of : List ℕ → Armed
 armed_of w = if is_number w then arms.Generation (value w) else if bytes_eq w (codes "none") then arms.None else arms.Unarmed
@@ -152,11 +152,11 @@ unfolding counted_of
 counted_read true = (refl, refl)
 counted_read false = (refl, refl)
 
-pub rearmed_read : (r : Restart) → AreMachineNumbers (rearmed_numbers r) → IsOfWord rearmed_of r (rearmed_word r)
-unfolding rearmed_of
-rearmed_read restarts.None h = (refl, refl)
-rearmed_read (restarts.Again generation) h = rw (is_number_decimal generation h.0, value_again generation h.0) (refl, word_decimal generation h.0)
-rearmed_read restarts.Spent h = (refl, refl)
+pub restarted_read : (r : Restarted) → AreMachineNumbers (restarted_numbers r) → IsOfWord restarted_of r (restarted_word r)
+unfolding restarted_of
+restarted_read restarts.No h = (refl, refl)
+restarted_read (restarts.Again generation) h = rw (is_number_decimal generation h.0, value_again generation h.0) (refl, word_decimal generation h.0)
+restarted_read restarts.Spent h = (refl, refl)
 
 pub armed_read : (a : Armed) → armed_number a < 2 ^ 128 → IsOfWord armed_of a (armed_word a)
 unfolding armed_of

@@ -1,12 +1,15 @@
 -- The numbers of a record's lines, and that a program can hold them.
-use Rattle.std.specs.Prelude.{ℕ, ◌≡◌, ◌<◌, ◌^◌, List, [], ◌∷◌, length}
+use Rattle.std.specs.Prelude.{ℕ, ◌≡◌, ◌<◌, ◌^◌, List, [], ◌∷◌, ◌++◌, length}
 use Rattle.std.specs.List.{AllByRecursion}
-use Rattle.record_text.specs.declared.record.Restart.{Restart}
-use Rattle.record_text.specs.declared.record.Restart.TheVariants as restarts
+use Rattle.seq_timer.specs.declared.event.EventBy.{EventBy}
+use Rattle.seq_timer.specs.declared.event.EventBy.TheVariants as events
+use Rattle.seq_timer.specs.declared.event.Reply.{Reply}
+use Rattle.seq_timer.specs.declared.event.Reply.TheVariants as replies
+use Rattle.seq_timer.specs.declared.event.Restarted.{Restarted}
+use Rattle.seq_timer.specs.declared.event.Restarted.TheVariants as restarts
 use Rattle.record_text.specs.declared.record.Entry.{Entry}
-use Rattle.record_text.specs.declared.record.Entry.TheVariants as entries
 use Rattle.record_text.specs.declared.record.CallbackReply.{CallbackReply}
-use Rattle.record_text.specs.declared.record.CallbackReply.TheVariants as replies
+use Rattle.record_text.specs.declared.record.CallbackReply.TheVariants as told
 use Rattle.record_text.specs.declared.record.Armed.{Armed}
 use Rattle.record_text.specs.declared.record.Armed.TheVariants as arms
 use Rattle.record_text.specs.declared.record.ObjectEntry.{ObjectEntry}
@@ -18,26 +21,39 @@ use Rattle.record_text.specs.declared.record.RunRecord.{RunRecord}
 use Rattle.record_text.specs.Replies.{answer_of_accept, answer_of_read, answer_of_settime}
 use Rattle.record_text.specs.Text.{RecordLine, Heading, OfClock, OfTimer, OfLook, OfObject, OfSkip, OfCall, End, write_ns, record_lines}
 
+-- the numbers of an event
+abbrev pub event_numbers : EventBy ℕ → List ℕ
+event_numbers (events.Out base) = base ∷ []
+event_numbers (events.Start asked) = asked.ns ∷ asked.slack ∷ asked.reading ∷ asked.base ∷ []
+event_numbers events.Cancel = []
+event_numbers (events.Claim base reading) = base ∷ reading ∷ []
+event_numbers (events.Forward reading interval) = reading ∷ interval ∷ []
+event_numbers (events.Finish restart) = []
+
 -- the numbers that tell what came of a restart
-abbrev pub rearmed_numbers : Restart → List ℕ
-rearmed_numbers restarts.None = []
-rearmed_numbers (restarts.Again generation) = generation ∷ []
-rearmed_numbers restarts.Spent = []
+abbrev pub restarted_numbers : Restarted → List ℕ
+restarted_numbers restarts.No = []
+restarted_numbers (restarts.Again generation) = generation ∷ []
+restarted_numbers restarts.Spent = []
+
+-- the numbers of a reply
+abbrev pub reply_numbers : Reply → List ℕ
+reply_numbers (replies.Out was_armed) = []
+reply_numbers (replies.Start p was_armed) = p.base ∷ p.soft ∷ p.expires ∷ []
+reply_numbers (replies.Cancel generation) = generation ∷ []
+reply_numbers (replies.Claim generation) = generation ∷ []
+reply_numbers (replies.Forward moved) = moved.count ∷ moved.soft ∷ moved.expires ∷ []
+reply_numbers (replies.Finish generation restarted) = generation ∷ restarted_numbers restarted
 
 -- the numbers of an entry
 abbrev pub entry_numbers : Entry → List ℕ
-entry_numbers (entries.Out base was_armed) = base ∷ []
-entry_numbers (entries.Start l) = l.ns ∷ l.slack ∷ l.reading ∷ l.asked ∷ l.base ∷ l.soft ∷ l.expires ∷ []
-entry_numbers (entries.Cancel generation) = generation ∷ []
-entry_numbers (entries.Claim base reading generation) = base ∷ reading ∷ generation ∷ []
-entry_numbers (entries.Forward l) = l.reading ∷ l.interval ∷ l.count ∷ l.soft ∷ l.expires ∷ []
-entry_numbers (entries.Finish restart generation rearmed) = generation ∷ rearmed_numbers rearmed
+entry_numbers e = event_numbers e.event ++ reply_numbers e.reply
 
 -- the numbers of what a callback was told
-abbrev pub reply_numbers : CallbackReply → List ℕ
-reply_numbers (replies.Running generation) = generation ∷ []
-reply_numbers (replies.Armed generation) = generation ∷ []
-reply_numbers replies.Spent = []
+abbrev pub told_numbers : CallbackReply → List ℕ
+told_numbers (told.Running generation) = generation ∷ []
+told_numbers (told.Armed generation) = generation ∷ []
+told_numbers told.Spent = []
 
 -- the numbers of what an object's call alone is answered, and none for another answer
 abbrev pub object_answer_numbers : Answer → List ℕ
@@ -96,7 +112,7 @@ abbrev pub numbers_of : RecordLine → List ℕ
 numbers_of Heading = []
 numbers_of (OfClock number w) = number ∷ w.label.lane ∷ w.label.call ∷ write_ns w.write ∷ w.mono ∷ w.real ∷ w.boot ∷ w.changes ∷ []
 numbers_of (OfTimer timer number label entry) = timer ∷ number ∷ label.lane ∷ label.call ∷ entry_numbers entry
-numbers_of (OfLook timer number look) = timer ∷ number ∷ look.label.lane ∷ look.label.call ∷ reply_numbers look.reply
+numbers_of (OfLook timer number look) = timer ∷ number ∷ look.label.lane ∷ look.label.call ∷ told_numbers look.reply
 numbers_of (OfObject object number label entry) = object ∷ number ∷ label.lane ∷ label.call ∷ object_entry_numbers entry
 numbers_of (OfSkip object number skip) = object ∷ number ∷ skip.label.lane ∷ skip.label.call ∷ skip.generation ∷ []
 numbers_of (OfCall lane call answer) = lane ∷ call ∷ answer_numbers answer
@@ -114,11 +130,20 @@ HaveMachineNumbers ls = AllByRecursion (λ l. AreMachineNumbers (numbers_of l)) 
 abbrev pub HasMachineNumbers : RunRecord → Type 0
 HasMachineNumbers r = HaveMachineNumbers (record_lines r)
 
+-- an event asks for no slack
+abbrev pub AsksNoSlack : {R : Type 0} → EventBy R → Type 0
+AsksNoSlack (events.Start asked) = asked.slack ≡ 0
+AsksNoSlack other = Unit {0}
+
+-- a reply that tells of both expiries tells that they are one
+abbrev pub ShowsNoSlack : Reply → Type 0
+ShowsNoSlack (replies.Start placement was_armed) = placement.soft ≡ placement.expires
+ShowsNoSlack (replies.Forward moved) = moved.soft ≡ moved.expires
+ShowsNoSlack other = Unit {0}
+
 -- an entry has no slack: one that starts or forwards the timer leaves its soft expiry at its expiry
 abbrev pub EntryHasNoSlack : Entry → Type 0
-EntryHasNoSlack (entries.Start l) = (l.slack ≡ 0) × (l.soft ≡ l.expires)
-EntryHasNoSlack (entries.Forward l) = l.soft ≡ l.expires
-EntryHasNoSlack other = Unit {0}
+EntryHasNoSlack e = AsksNoSlack e.event × ShowsNoSlack e.reply
 
 -- no entry of a timer has slack
 abbrev pub HaveNoSlack : List TimerLine → Type 0
@@ -127,3 +152,21 @@ HaveNoSlack lines = AllByRecursion (λ line. EntryHasNoSlack line.entry) lines
 -- no entry of the record has slack
 abbrev pub HasNoSlack : RunRecord → Type 0
 HasNoSlack r = AllByRecursion HaveNoSlack r.timers
+
+-- a reply is one that the event has
+abbrev pub IsReplyTo : {R : Type 0} → EventBy R → Reply → Type 0
+IsReplyTo (events.Out base) (replies.Out was_armed) = Unit {0}
+IsReplyTo (events.Start asked) (replies.Start placement was_armed) = Unit {0}
+IsReplyTo events.Cancel (replies.Cancel generation) = Unit {0}
+IsReplyTo (events.Claim base reading) (replies.Claim generation) = Unit {0}
+IsReplyTo (events.Forward reading interval) (replies.Forward moved) = Unit {0}
+IsReplyTo (events.Finish restart) (replies.Finish generation restarted) = Unit {0}
+IsReplyTo event reply = ⊥
+
+-- the reply of each entry of a timer is one that its event has
+abbrev pub HaveReplies : List TimerLine → Type 0
+HaveReplies lines = AllByRecursion (λ line. IsReplyTo line.entry.event line.entry.reply) lines
+
+-- the reply of each entry of the record's timers is one that its event has
+abbrev pub HasReplies : RunRecord → Type 0
+HasReplies r = AllByRecursion HaveReplies r.timers

@@ -5,14 +5,16 @@ use Rattle.clock_model.specs.declared.write.Write.{Write}
 use Rattle.clock_model.specs.declared.write.Write.TheVariants as writes
 use Rattle.record_text.specs.declared.record.Label.{Label}
 use Rattle.record_text.specs.declared.record.ClockLine.{ClockLine}
-use Rattle.record_text.specs.declared.record.Restart.{Restart}
-use Rattle.record_text.specs.declared.record.Restart.TheVariants as restarts
-use Rattle.record_text.specs.declared.record.StartLine.{StartLine}
-use Rattle.record_text.specs.declared.record.ForwardLine.{ForwardLine}
+use Rattle.seq_timer.specs.declared.event.AskedBy.{AskedBy}
+use Rattle.seq_timer.specs.declared.event.EventBy.{EventBy}
+use Rattle.seq_timer.specs.declared.event.EventBy.TheVariants as events
+use Rattle.seq_timer.specs.declared.event.Reply.{Reply}
+use Rattle.seq_timer.specs.declared.event.Reply.TheVariants as replies
+use Rattle.seq_timer.specs.declared.event.Restarted.{Restarted}
+use Rattle.seq_timer.specs.declared.event.Restarted.TheVariants as restarts
 use Rattle.record_text.specs.declared.record.Entry.{Entry}
-use Rattle.record_text.specs.declared.record.Entry.TheVariants as entries
 use Rattle.record_text.specs.declared.record.CallbackReply.{CallbackReply}
-use Rattle.record_text.specs.declared.record.CallbackReply.TheVariants as replies
+use Rattle.record_text.specs.declared.record.CallbackReply.TheVariants as told
 use Rattle.record_text.specs.declared.record.Look.{Look}
 use Rattle.record_text.specs.declared.record.TimerLine.{TimerLine}
 use Rattle.record_text.specs.declared.record.Armed.{Armed}
@@ -98,10 +100,10 @@ abbrev pub restart_word : Bool → List ℕ
 restart_word asked = if asked then codes "again" else codes "stop"
 
 -- what came of it: the new generation, none where the timer was not armed again by the finish, or spent where its history was full
-abbrev pub rearmed_word : Restart → List ℕ
-rearmed_word restarts.None = codes "none"
-rearmed_word (restarts.Again generation) = decimal generation
-rearmed_word restarts.Spent = codes "spent"
+abbrev pub restarted_word : Restarted → List ℕ
+restarted_word restarts.No = codes "none"
+restarted_word (restarts.Again generation) = decimal generation
+restarted_word restarts.Spent = codes "spent"
 
 -- what a call made of its object's timer: the new generation, none where it wanted no start, or unarmed where its history was full
 abbrev pub armed_word : Armed → List ℕ
@@ -113,36 +115,44 @@ armed_word arms.Unarmed = codes "unarmed"
 abbrev pub counted_word : Bool → List ℕ
 counted_word counted = if counted then codes "counted" else codes "stale"
 
--- the words of a start: what was asked for, and what it came to
-abbrev pub start_words : Version → StartLine → List (List ℕ)
-start_words versions.One l =
-    codes "start" ∷ mode_word l.mode ∷ decimal l.ns ∷ decimal l.reading ∷ decimal l.asked ∷ decimal l.base ∷ clock_word l.clock ∷ decimal l.expires ∷
-    flag l.was_armed ∷ []
-start_words versions.Two l =
-    codes "start" ∷ mode_word l.mode ∷ decimal l.ns ∷ decimal l.slack ∷ decimal l.reading ∷ decimal l.asked ∷ decimal l.base ∷ clock_word l.clock ∷
-    decimal l.soft ∷ decimal l.expires ∷ flag l.was_armed ∷ []
+-- the words of what a start asks for; those of version 1 have no slack
+abbrev pub asked_words : Version → AskedBy ℕ → List (List ℕ)
+asked_words versions.One a = codes "start" ∷ mode_word a.mode ∷ decimal a.ns ∷ decimal a.reading ∷ decimal a.base ∷ []
+asked_words versions.Two a = codes "start" ∷ mode_word a.mode ∷ decimal a.ns ∷ decimal a.slack ∷ decimal a.reading ∷ decimal a.base ∷ []
 
--- the words of a forward
-abbrev pub forward_words : Version → ForwardLine → List (List ℕ)
-forward_words versions.One l = codes "forward" ∷ decimal l.reading ∷ decimal l.interval ∷ decimal l.count ∷ decimal l.expires ∷ []
-forward_words versions.Two l =
-    codes "forward" ∷ decimal l.reading ∷ decimal l.interval ∷ decimal l.count ∷ decimal l.soft ∷ decimal l.expires ∷ []
+-- the words of an event
+abbrev pub event_words : Version → EventBy ℕ → List (List ℕ)
+event_words version (events.Out base) = codes "out" ∷ decimal base ∷ []
+event_words version (events.Start asked) = asked_words version asked
+event_words version events.Cancel = codes "cancel" ∷ []
+event_words version (events.Claim base reading) = codes "claim" ∷ decimal base ∷ decimal reading ∷ []
+event_words version (events.Forward reading interval) = codes "forward" ∷ decimal reading ∷ decimal interval ∷ []
+event_words version (events.Finish restart) = codes "finish" ∷ restart_word restart ∷ []
 
--- the words of an entry
+-- the words of a soft expiry; there are none in version 1
+abbrev pub soft_words : Version → ℕ → List (List ℕ)
+soft_words versions.One soft = []
+soft_words versions.Two soft = decimal soft ∷ []
+
+-- the words of a reply
+abbrev pub reply_words : Version → Reply → List (List ℕ)
+reply_words version (replies.Out was_armed) = flag was_armed ∷ []
+reply_words version (replies.Start p was_armed) =
+    decimal p.base ∷ clock_word p.clock ∷ soft_words version p.soft ++ decimal p.expires ∷ flag was_armed ∷ []
+reply_words version (replies.Cancel generation) = decimal generation ∷ []
+reply_words version (replies.Claim generation) = decimal generation ∷ []
+reply_words version (replies.Forward moved) = decimal moved.count ∷ soft_words version moved.soft ++ decimal moved.expires ∷ []
+reply_words version (replies.Finish generation restarted) = decimal generation ∷ restarted_word restarted ∷ []
+
+-- the words of an entry: what happened, and what it came to
 abbrev pub entry_words : Version → Entry → List (List ℕ)
-entry_words version (entries.Out base was_armed) = codes "out" ∷ decimal base ∷ flag was_armed ∷ []
-entry_words version (entries.Start l) = start_words version l
-entry_words version (entries.Cancel generation) = codes "cancel" ∷ decimal generation ∷ []
-entry_words version (entries.Claim base reading generation) = codes "claim" ∷ decimal base ∷ decimal reading ∷ decimal generation ∷ []
-entry_words version (entries.Forward l) = forward_words version l
-entry_words version (entries.Finish restart generation rearmed) =
-    codes "finish" ∷ restart_word restart ∷ decimal generation ∷ rearmed_word rearmed ∷ []
+entry_words version e = event_words version e.event ++ reply_words version e.reply
 
 -- the words of what a callback was told in place of an entry
-abbrev pub reply_words : CallbackReply → List (List ℕ)
-reply_words (replies.Running generation) = codes "running" ∷ decimal generation ∷ []
-reply_words (replies.Armed generation) = codes "armed" ∷ decimal generation ∷ []
-reply_words replies.Spent = codes "spent" ∷ []
+abbrev pub told_words : CallbackReply → List (List ℕ)
+told_words (told.Running generation) = codes "running" ∷ decimal generation ∷ []
+told_words (told.Armed generation) = codes "armed" ∷ decimal generation ∷ []
+told_words told.Spent = codes "spent" ∷ []
 
 -- the words of what an object's call alone is answered, and none for another answer
 abbrev pub object_answer_words : Answer → List (List ℕ)
@@ -202,7 +212,7 @@ line_words version (OfClock number w) =
 line_words version (OfTimer timer number label entry) =
     codes "timer" ∷ decimal timer ∷ decimal number ∷ decimal label.lane ∷ decimal label.call ∷ entry_words version entry
 line_words version (OfLook timer number look) =
-    codes "look" ∷ decimal timer ∷ decimal number ∷ decimal look.label.lane ∷ decimal look.label.call ∷ reply_words look.reply
+    codes "look" ∷ decimal timer ∷ decimal number ∷ decimal look.label.lane ∷ decimal look.label.call ∷ told_words look.reply
 line_words version (OfObject object number label entry) =
     codes "object" ∷ decimal object ∷ decimal number ∷ decimal label.lane ∷ decimal label.call ∷ object_entry_words entry
 line_words version (OfSkip object number skip) =

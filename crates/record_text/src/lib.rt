@@ -3,9 +3,8 @@
 
 pub use item_list::ItemList;
 pub use record::{
-    AcceptReply, Answer, Armed, CallbackReply, ClockLine, Entry, ForwardLine, Label, Look,
-    ObjectEntry, ObjectLine, ReadReply, Restart, RunRecord, SettimeReply, Skip, StartLine,
-    TimerLine,
+    AcceptReply, Answer, Armed, CallbackReply, ClockLine, Entry, Label, Look, ObjectEntry,
+    ObjectLine, ReadReply, RunRecord, SettimeReply, Skip, TimerLine,
 };
 pub use version::Version;
 pub use writing::{text, text_determines_the_record};

@@ -5,7 +5,7 @@ ghost use Rattle.record_text.specs.Replies.{answer_of_accept, answer_of_read, an
 use crate::item_list::ItemList;
 use crate::version::Version;
 use clock_model::Write;
-use ktime::{ClockId, Mode};
+use seq_timer::{EventBy, Reply};
 
 /// The call that made a line: its lane, and its place among that lane's calls, from 0.
 #[derive(Clone, Copy, Debug, PartialEq, Eq)]
@@ -25,64 +25,12 @@ pub struct ClockLine {
     pub changes: u64,
 }
 
-/// How a finish left the timer.
+/// An entry of a timer's history as its line shows it: the event, which names its reading by the stamp, and its reply. Of version 1 a line shows
+/// neither the slack nor the soft expiry.
 #[derive(Clone, Copy, Debug, PartialEq, Eq)]
-pub enum Restart {
-    /// It was not armed again by the finish.
-    None,
-    /// It was armed again, as this generation.
-    Again { generation: u64 },
-    /// It was to be armed again, and its history was full.
-    Spent,
-}
-
-/// What the line of a start shows; of version 1 neither the slack nor the soft expiry.
-#[derive(Clone, Copy, Debug, PartialEq, Eq)]
-pub struct StartLine {
-    pub mode: Mode,
-    pub ns: u64,
-    pub slack: u64,
-    pub reading: u64,
-    pub asked: u32,
-    pub base: u32,
-    pub clock: ClockId,
-    pub soft: u64,
-    pub expires: u64,
-    pub was_armed: bool,
-}
-
-/// What the line of a forward shows; of version 1 not the soft expiry.
-#[derive(Clone, Copy, Debug, PartialEq, Eq)]
-pub struct ForwardLine {
-    pub reading: u64,
-    pub interval: u64,
-    pub count: u64,
-    pub soft: u64,
-    pub expires: u64,
-}
-
-/// An entry of a timer's history as its line shows it. A reading is named by its stamp.
-#[derive(Clone, Copy, Debug, PartialEq, Eq)]
-pub enum Entry {
-    Out {
-        base: u32,
-        was_armed: bool,
-    },
-    Start(StartLine),
-    Cancel {
-        generation: u64,
-    },
-    Claim {
-        base: u32,
-        reading: u64,
-        generation: u64,
-    },
-    Forward(ForwardLine),
-    Finish {
-        restart: bool,
-        generation: u64,
-        rearmed: Restart,
-    },
+pub struct Entry {
+    pub event: EventBy<u64>,
+    pub reply: Reply,
 }
 
 /// What a callback was told of its timer in place of an entry.

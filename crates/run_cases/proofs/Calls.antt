@@ -10,11 +10,11 @@ use Rattle.record_text.specs.declared.record.Answer.{Answer}
 use Rattle.record_text.specs.declared.record.Label.{Label}
 use Rattle.record_text.specs.declared.record.ObjectLine.{ObjectLine}
 use Rattle.script_text.specs.declared.script.Call.{Call}
-use Rattle.script_text.specs.Actions.{own, looked, made, own_looks, skips_under, own_skips, skipped, wrote}
-use Rattle.script_text.specs.Told.{object_called, object_stamp_in, object_steps_on, stamps_on}
-use Rattle.script_text.specs.Histories.{clock_labels, lines_of_timer}
-use Rattle.script_text.specs.Objects.{lines_of_object}
-use Rattle.script_text.specs.Order.{CallInRound, NeverFall}
+use Rattle.run_history.specs.Actions.{own, looked, made, own_looks, skips_under, own_skips, skipped, wrote}
+use Rattle.run_history.specs.Told.{object_called, object_stamp_in, object_steps_on, stamps_on}
+use Rattle.run_history.specs.Histories.{clock_labels, lines_of_timer}
+use Rattle.run_history.specs.Objects.{lines_of_object}
+use Rattle.run_history.specs.Order.{CallInRound, NeverFall}
 use Rattle.run_history.specs.Calls.{Does}
 use Rattle.run_history.specs.Courses.{Course, labels}
 use Rattle.run_history.specs.Fits.{FitsLane}

@@ -13,15 +13,16 @@ use Rattle.seq_timer.specs.Tables.{in_context, is_kept_on, IsStopped, no_timer, 
 use Rattle.seq_timer.specs.declared.system.TimerEntry.{TimerEntry}
 use Rattle.seq_timer.proofs.Systems.{after_entries-entries_of}
 use Rattle.record_text.specs.declared.record.ClockLine.{ClockLine}
-use Rattle.record_text.specs.declared.record.Restart.TheVariants as restarts
+use Rattle.seq_timer.specs.declared.event.Restarted.TheVariants as restarts
 use Rattle.record_text.specs.declared.record.RunRecord.{RunRecord}
 use Rattle.script_text.specs.declared.script.LaneCall.{LaneCall}
 use Rattle.script_text.specs.declared.script.Round.{Round}
 use Rattle.script_text.specs.declared.script.Script.{Script}
-use Rattle.script_text.specs.Actions.{Action, also}
-use Rattle.script_text.specs.Histories.{declared_as, declareds_of, entry_shown, lines_of_timer, reading_at, terms_of}
-use Rattle.script_text.specs.Order.{calls_from}
-use Rattle.script_text.specs.Starts.{Arming}
+use Rattle.run_history.specs.Actions.{Action, also}
+use Rattle.run_history.specs.Histories.{entry_shown, lines_of_timer, reading_at}
+use Rattle.script_text.specs.Declarations.{declared_as, declareds_of, terms_of}
+use Rattle.run_history.specs.Order.{calls_from}
+use Rattle.run_history.specs.Starts.{Arming}
 use Rattle.run_history.specs.Calls.{fires}
 use Rattle.run_history.specs.Courses.{Course, entries_in, entry_of_move, Fired, Move, moves_on, system_along, timer_along, Trace}
 use Rattle.run_history.specs.Receipts.{no_line}
@@ -51,7 +52,7 @@ ran base reading each first last = record { at = reading; fired = each; actions 
 -- a callback that did these things, and by which the timer wasn't armed again
 abbrev pub fired : ℕ → ℕ → List Action → ℕ → Bool → Fired
 fired claim generation body finish restart =
-    record { timer = 0; claim = claim; generation = generation; body = body; finish = finish; restart = restart; rearmed = restarts.None }
+    record { timer = 0; claim = claim; generation = generation; body = body; finish = finish; restart = restart; restarted = restarts.No }
 
 -- the course of a script and a record, where timers' entries follow one another so, each lane's calls did these things, and objects' entries have
 -- such spans
@@ -64,17 +65,18 @@ course_by s r order traces spans = record {
   spans = spans;
 }
 
--- a start with one entry, of this number, on base 0
-abbrev pub armed_by : ℕ → ℕ → Arming
-armed_by number expires = record {
+-- a start with one entry, of this number, which puts the timer on a base with these expiries
+abbrev pub armed_as : ℕ → ℕ → ℕ → ℕ → Arming
+armed_as number base soft expires = record {
   out = None;
   number = number;
-  base = 0;
-  clock = clocks.Monotonic;
-  soft = expires;
-  expires = expires;
+  placement = record { base = base; clock = clocks.Monotonic; soft = soft; expires = expires };
   was_armed = false;
 }
+
+-- the same on base 0, without a slack
+abbrev pub armed_by : ℕ → ℕ → Arming
+armed_by number expires = armed_as number 0 expires expires
 
 -- pairs, whose types say what stands in them
 pub two : {A B : Type 0} → A → B → A × B
@@ -151,7 +153,7 @@ none_at clock t (suc n) [] none = refl
 none_at clock t zero (m ∷ ms) none = refl
 none_at clock t (suc n) (m ∷ ms) none =
     let rest = entries_of t (take n (map (entry_of_move clock) ms)) in
-    ap (λ b. if b then entry_shown clock m.before m.line.entry ∷ rest else rest) none.0 ∙ none_at clock t n ms none.1
+    ap (λ b. if b then entry_shown clock m.line.entry ∷ rest else rest) none.0 ∙ none_at clock t n ms none.1
 
 absent_then : (w : Course) (n t : ℕ) → list_all (λ m. nat_lt m.timer (length w.script.timers)) w.moves ≡ true → length w.script.timers ≤ t
     → timer_along w n t ≡ no_timer

@@ -12,18 +12,18 @@ use Rattle.record_text.specs.declared.record.Answer.TheVariants as answers
 use Rattle.record_text.specs.declared.record.Answer.{Answer}
 use Rattle.record_text.specs.declared.record.Armed.TheVariants as armings
 use Rattle.record_text.specs.declared.record.CallbackReply.TheVariants as replies
-use Rattle.record_text.specs.declared.record.Entry.TheVariants as entries
 use Rattle.record_text.specs.declared.record.RunRecord.{RunRecord}
-use Rattle.script_text.specs.Histories.{declareds_of, reading_at, terms_of}
+use Rattle.run_history.specs.Histories.{reading_at}
+use Rattle.script_text.specs.Declarations.{declareds_of, terms_of}
 use Rattle.script_text.specs.declared.script.Call.TheVariants as calls
-use Rattle.script_text.specs.Actions.{Entered, Looked, Made, Wrote}
-use Rattle.script_text.specs.Order.{calls_of}
+use Rattle.run_history.specs.Actions.{Entered, Looked, Made, Wrote}
+use Rattle.run_history.specs.Order.{calls_of}
 use Rattle.run_history.specs.Courses.{Course, entries_in, timer_along, Trace}
 use Rattle.run_history.specs.Fits.{Fits}
 use Rattle.run_cases.specs.Fitting.{accept_entry, accepted_record, accepted_script, beside, beside_script, cancelled_record, expired_lines, idle_record, idle_script, kept_start, late_record, moved_record, moved_script, moved_start, rearming_start, none_entry, running_record, set_entry, told_record, told_script, trigger_entry, early_record, early_script, waiting_record, waiting_script, contexts_record, contexts_script}
-use Rattle.run_cases.specs.Lines.{at, slack_entry, start}
+use Rattle.run_cases.specs.Lines.{at, slack_entry, start, cancel_entry, out_entry}
 use Rattle.run_cases.proofs.Calls.{are_placed, IsRight, right}
-use Rattle.run_cases.proofs.Courses.{armed_by, course_by, did, done_by, fired, next, none_then, stopped_by, ran, step, three, two}
+use Rattle.run_cases.proofs.Courses.{armed_as, armed_by, course_by, did, done_by, fired, next, none_then, stopped_by, ran, step, three, two}
 use Rattle.run_cases.proofs.Small.{fits_by}
 use Rattle.run_cases.proofs.Tests.{le, lt, point_passes}
 
@@ -109,7 +109,7 @@ told_fits = fits_by told_course (record {
 abbrev moved_course : Course
 moved_course = course_by moved_script moved_record (0 ∷ 0 ∷ 0 ∷ 0 ∷ 0 ∷ 0 ∷ []) ((did 0 (Entered 0 1 (start modes.Abs 0 0) ∷ []) 0 1
     ∷ ran 0 0 (fired 2 1 (Entered 0 3 kept_start ∷ []) 4 true ∷ []) 1 4 ∷ did 0 [] 4 4
-    ∷ did 0 (Entered 0 5 (entries.Out 1 true) ∷ Entered 0 6 moved_start ∷ []) 4 6 ∷ []) ∷ []) (λ i k. (0, 0))
+    ∷ did 0 (Entered 0 5 (out_entry 1 true) ∷ Entered 0 6 moved_start ∷ []) 4 6 ∷ []) ∷ []) (λ i k. (0, 0))
 
 -- law: it fits
 pub moved_fits : Fits moved_script moved_record
@@ -132,7 +132,7 @@ moved_fits = fits_by moved_course (record {
       (inl refl) (tt, tt) tt)
       (next 0 (right refl refl refl (refl, tt) (refl, tt) (le refl, tt) refl (inl refl) tt (record { stamp = refl; holds = refl }))
       (next 0 (right refl refl refl (refl, tt) (refl, tt) (le refl, tt)
-      (record (armed_by 6 70) { out = Some (5, true); base = 1 }, refl, refl, refl, refl, refl) (inl refl) tt tt) tt)))
+      (record (armed_as 6 1 70 70) { out = Some (5, true) }, refl, refl, refl, refl, refl) (inl refl) tt tt) tt)))
       ) tt;
 })
 
@@ -145,7 +145,7 @@ beside_course r order cancel expire =
 
 -- the cancel came first
 abbrev cancelled_course : Course
-cancelled_course = beside_course cancelled_record (0 ∷ []) (did 0 (Entered 0 2 (entries.Cancel 1) ∷ []) 1 2) (ran 0 0 [] 2 2)
+cancelled_course = beside_course cancelled_record (0 ∷ []) (did 0 (Entered 0 2 (cancel_entry 1) ∷ []) 1 2) (ran 0 0 [] 2 2)
 
 -- law: it fits
 pub cancelled_fits : Fits beside_script cancelled_record
@@ -292,7 +292,7 @@ early_fits = fits_by early_course (record {
   placed = (refl, tt);
   calls = two (
       next 0 (right refl refl refl (refl, tt) (refl, tt) (le refl, tt)
-      (record (armed_by 1 100) { soft = 0 }, refl, refl, refl, refl, tt) (inl refl) tt tt)
+      (armed_as 1 0 0 100, refl, refl, refl, refl, tt) (inl refl) tt tt)
       (next 0 (right refl refl refl (refl, tt) (refl, tt) (le refl, tt)
       (record { one_reading = refl; claimed = refl; done = refl; contexts = (refl, tt); bodies = ((refl, refl), tt) }, lt refl)
       (inl refl) (tt, tt) (done_by early_course contexts.Hard 0 0 3 refl refl (refl, tt) (λ clock. (refl, tt)))) tt)
@@ -334,7 +334,7 @@ waiting_fits = fits_by waiting_course (record {
   placed = (refl, tt);
   calls = two (
       next 0 (right refl refl refl (refl, (refl, tt)) (refl, (refl, tt)) (le refl, (le refl, tt))
-      (record (armed_by 1 100) { soft = 0 }, refl, refl, refl, refl, tt) (inl refl) tt tt)
+      (armed_as 1 0 0 100, refl, refl, refl, refl, tt) (inl refl) tt tt)
       (next 0 (right refl refl refl (refl, (refl, tt)) (refl, (refl, tt)) (le refl, (le refl, tt))
       (armed_by 1 50, refl, refl, refl, refl, tt) (inl refl) tt tt)
       (next 0 (right refl refl refl (refl, (refl, tt)) (refl, (refl, tt)) (le refl, (le refl, tt))

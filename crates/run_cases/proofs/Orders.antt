@@ -8,9 +8,9 @@ use Rattle.std.proofs.lemmas.Option.{same_Some}
 use Rattle.record_text.specs.declared.record.Label.{Label}
 use Rattle.record_text.specs.declared.record.RunRecord.{RunRecord}
 use Rattle.script_text.specs.declared.script.Script.{Script}
-use Rattle.script_text.specs.Actions.{also}
-use Rattle.script_text.specs.Histories.{lines_of_timer}
-use Rattle.script_text.specs.Order.{is_before, IsInOrder}
+use Rattle.run_history.specs.Actions.{also}
+use Rattle.run_history.specs.Histories.{lines_of_timer}
+use Rattle.run_history.specs.Order.{is_before, IsInOrder}
 use Rattle.run_history.specs.Courses.{Course, Move, moves_from, moves_on, Trace}
 use Rattle.run_history.specs.Fits.{Fits, FitsIn}
 use Rattle.run_cases.proofs.Courses.{Along, everywhere, moves_by, none_on}

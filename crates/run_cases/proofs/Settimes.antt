@@ -6,38 +6,37 @@ use Rattle.std.proofs.lemmas.List.{append-nil}
 use Rattle.ktime.specs.declared.timespec.TimeSpec.{TimeSpec}
 use Rattle.seq_timer.specs.Histories.{IsIdle}
 use Rattle.record_text.specs.declared.record.Answer.TheVariants as answers
-use Rattle.record_text.specs.declared.record.Entry.TheVariants as entries
+use Rattle.seq_timer.specs.declared.event.EventBy.{EventBy}
+use Rattle.seq_timer.specs.declared.event.EventBy.TheVariants as events
 use Rattle.record_text.specs.declared.record.Entry.{Entry}
 use Rattle.record_text.specs.declared.record.Label.{Label}
 use Rattle.record_text.specs.declared.record.ObjectEntry.TheVariants as object_entries
 use Rattle.record_text.specs.declared.record.ObjectEntry.{ObjectEntry}
 use Rattle.record_text.specs.declared.record.SettimeReply.TheVariants as settings
 use Rattle.script_text.specs.declared.script.Call.TheVariants as calls
-use Rattle.script_text.specs.Actions.{Action, also, Entered, Looked, Made, made, own, Skipped, Wrote}
-use Rattle.script_text.specs.ObjectCalls.{cancels, nanoseconds_of}
-use Rattle.script_text.specs.Objects.{lines_of_object}
-use Rattle.script_text.specs.Order.{made_by}
+use Rattle.run_history.specs.Actions.{Action, also, Entered, Looked, Made, made, own, Skipped, Wrote}
+use Rattle.run_history.specs.ObjectCalls.{cancels, nanoseconds_of}
+use Rattle.run_history.specs.Objects.{lines_of_object}
+use Rattle.run_history.specs.Order.{made_by}
 use Rattle.run_history.specs.Courses.{Course, labels, timer_along}
 use Rattle.run_history.specs.Fits.{FitsCall, Seen}
 use Rattle.run_history.specs.Traces.{all_entered, own_moves}
-use Rattle.run_history.specs.Truths.{DisarmedFirst}
+use Rattle.run_history.specs.Truths.{ButOfCancel, DisarmedFirst}
 use Rattle.run_history.proofs.Actions.{all_entered-append, made-append}
 use Rattle.run_history.proofs.EachTimer.{heads, true_at}
 
 -- what began with a start had found the timer idle
 pub idle_first : (w : Course) (t : ℕ) (actions : List Action) (first u number : ℕ) (entry : Entry) (rest : List (ℕ × (ℕ × Entry)))
-    → ((generation : ℕ) → entry ≡ entries.Cancel generation → ⊥) → (u, (number, entry)) ∷ rest ≡ all_entered actions
+    → (entry.event ≡ events.Cancel → ⊥) → (u, (number, entry)) ∷ rest ≡ all_entered actions
     → DisarmedFirst w t actions first → IsIdle (timer_along w first t)
 idle_first w t [] first u number entry rest other is idle = idle
 idle_first w t (Wrote n write ∷ ds) first u number entry rest other is idle = idle
-idle_first w t (Entered v n (entries.Cancel generation) ∷ ds) first u number entry rest other is idle =
-    absurd (other generation (ap (λ (e : ℕ × (ℕ × Entry)). e.1.1)
-    (heads (u, (number, entry)) (v, (n, entries.Cancel generation)) rest (all_entered ds) is)))
-idle_first w t (Entered v n (entries.Out base was) ∷ ds) first u number entry rest other is idle = idle
-idle_first w t (Entered v n (entries.Start l) ∷ ds) first u number entry rest other is idle = idle
-idle_first w t (Entered v n (entries.Claim base reading generation) ∷ ds) first u number entry rest other is idle = idle
-idle_first w t (Entered v n (entries.Forward l) ∷ ds) first u number entry rest other is idle = idle
-idle_first w t (Entered v n (entries.Finish restart generation rearmed) ∷ ds) first u number entry rest other is idle = idle
+idle_first w t (Entered v n e ∷ ds) first u number entry rest other is idle =
+    by_event e.event (ap (λ (x : ℕ × (ℕ × Entry)). x.1.1.event) (heads (u, (number, entry)) (v, (n, e)) rest (all_entered ds) is)) idle
+  where
+    by_event : (event : EventBy ℕ) → entry.event ≡ event → ButOfCancel event (IsIdle (timer_along w first t)) → IsIdle (timer_along w first t)
+    by_event events.Cancel same idle = absurd (other same)
+    by_event event same idle = idle
 idle_first w t (Looked v n look ∷ ds) first u number entry rest other is idle = idle
 idle_first w t (Made v n e ∷ ds) first u number entry rest other is idle = idle
 idle_first w t (Skipped v n generation ∷ ds) first u number entry rest other is idle = idle

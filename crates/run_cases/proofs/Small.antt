@@ -13,9 +13,10 @@ use Rattle.script_text.specs.declared.script.Kind.TheVariants as kinds
 use Rattle.script_text.specs.declared.script.LaneCall.{LaneCall}
 use Rattle.script_text.specs.declared.script.Round.{Round}
 use Rattle.script_text.specs.declared.script.Script.{Script}
-use Rattle.script_text.specs.Histories.{answers_of, AreWrites, clock_labels, declareds_of, lines_of_timer, terms_of}
-use Rattle.script_text.specs.Objects.{IsLegalObject, kind_of, lines_of_object}
-use Rattle.script_text.specs.Order.{AreUnder, calls_of, IsInOrder, IsLabel}
+use Rattle.run_history.specs.Histories.{answers_of, AreWrites, clock_labels, lines_of_timer}
+use Rattle.script_text.specs.Declarations.{declareds_of, terms_of, kind_of}
+use Rattle.run_history.specs.Objects.{IsLegalObject, lines_of_object}
+use Rattle.run_history.specs.Order.{AreUnder, calls_of, IsInOrder, IsLabel}
 use Rattle.run_history.specs.Courses.{Course, entries_in, labels, Move, moves_from, moves_on}
 use Rattle.run_history.specs.Fits.{AreBehind, AreSkipsUnder, Fits, FitsIn, FitsLane, unseen}
 use Rattle.run_cases.proofs.Calls.{AreRight, are_placed, is_unrefused, lane_fits}

@@ -3,15 +3,15 @@ use Rattle.std.proofs.Common.{◌≡◌, ◌<◌, ◌≤◌, ◌&&◌, ℕ, ◌+
 use Rattle.std.specs.List.{AllByRecursion, list_all}
 use Rattle.std.proofs.lemmas.Bool.Decides.{nat_tests}
 use Rattle.std.proofs.lemmas.Bool.{and_parts, eqb-true}
-use Rattle.record_text.specs.declared.record.Entry.TheVariants as entries
-use Rattle.record_text.specs.declared.record.Entry.{Entry}
+use Rattle.seq_timer.specs.declared.event.EventBy.{EventBy}
+use Rattle.seq_timer.specs.declared.event.EventBy.TheVariants as events
 use Rattle.record_text.specs.declared.record.Label.{Label}
 use Rattle.script_text.specs.declared.script.Script.{Script}
-use Rattle.script_text.specs.Actions.{Action, also, Entered, Looked, looked, Made, made, numbers_of_object, Skipped, skipped, Wrote}
-use Rattle.script_text.specs.Order.{AreSorted, calls_of, is_before, is_label, is_lower, IsInOrder, IsLabel, IsPoint, made_by, NeverFall}
+use Rattle.run_history.specs.Actions.{Action, also, Entered, Looked, looked, Made, made, numbers_of_object, Skipped, skipped, Wrote}
+use Rattle.run_history.specs.Order.{AreSorted, calls_of, is_before, is_label, is_lower, IsInOrder, IsLabel, IsPoint, made_by, NeverFall}
 use Rattle.run_history.specs.Courses.{Course, labels}
 use Rattle.run_history.specs.Traces.{all_entered}
-use Rattle.run_history.specs.Truths.{AreTrue, IsMoment, IsTrue}
+use Rattle.run_history.specs.Truths.{AreTrue, OfClaim}
 
 -- numbers that a test compared
 pub below : (a b : ℕ) → nat_lt a b ≡ true → a < b
@@ -121,6 +121,10 @@ are_plain w c from before (Looked t number look ∷ ds) last = false
 are_plain w c from before (Made i number entry ∷ ds) last = false
 are_plain w c from before (Skipped i number generation ∷ ds) last = false
 
+of_claim : {P : Type 0} (event : EventBy ℕ) → P → OfClaim event P
+of_claim (events.Claim base reading) is = is
+of_claim event is = tt
+
 -- law: so what it did is true
 pub plain_pass : (w : Course) (c : Label) (first from : ℕ) (before ds : List Action) (last : ℕ) → are_plain w c from before ds last ≡ true
     → AreTrue w c first from before ds last
@@ -136,17 +140,9 @@ plain_pass w c first from before (Entered t number entry ∷ ds) last e =
     (are_plain w c n (before ++ Entered t number entry ∷ []) ds last) parts.1 in (
       n,
       upto from n parts.0,
-      entry_true entry n (point_passes w.script c (length (all_entered before)) n (labels w) rest.0),
+      of_claim entry.event (point_passes w.script c (length (all_entered before)) n (labels w) rest.0),
       plain_pass w c first n (before ++ Entered t number entry ∷ []) ds last rest.1,
     )
-  where
-    entry_true : (entry : Entry) (n : ℕ) → IsMoment w c before n → IsTrue w c first before (Entered t number entry) n
-    entry_true (entries.Out base was) n moment = tt
-    entry_true (entries.Start l) n moment = tt
-    entry_true (entries.Cancel generation) n moment = tt
-    entry_true (entries.Claim base reading generation) n moment = moment
-    entry_true (entries.Forward l) n moment = tt
-    entry_true (entries.Finish restart generation rearmed) n moment = tt
 plain_pass w c first from before (Looked t number look ∷ ds) last e = absurd (cc)
 plain_pass w c first from before (Made i number entry ∷ ds) last e = absurd (cc)
 plain_pass w c first from before (Skipped i number generation ∷ ds) last e = absurd (cc)

@@ -10,7 +10,6 @@ use Rattle.seq_timer.specs.declared.context.Declared.{Declared}
 use Rattle.seq_timer.specs.Histories.{IsIdle}
 use Rattle.seq_timer.specs.Systems.{after_entry, changed}
 use Rattle.seq_timer.specs.Tables.{IsStopped, in_context, is_context, is_kept_on, no_timer, runs_on, seen_in}
-use Rattle.record_text.specs.declared.record.Entry.TheVariants as entries
 use Rattle.record_text.specs.declared.record.Entry.{Entry}
 use Rattle.record_text.specs.declared.record.Label.{Label}
 use Rattle.record_text.specs.declared.record.ObjectEntry.TheVariants as object_entries
@@ -19,10 +18,10 @@ use Rattle.seq_timer.proofs.Due.{stopped-unreached}
 use Rattle.seq_timer.proofs.Agreement.{soft_within_context}
 use Rattle.record_text.specs.declared.version.Version.TheVariants as versions
 use Rattle.script_text.specs.declared.script.Script.{Script}
-use Rattle.script_text.specs.Actions.{Action, also, Entered, made}
-use Rattle.script_text.specs.Histories.{declared_of, declareds_of, reading_at, terms_of, timer_after}
-use Rattle.script_text.specs.Objects.{kind_of}
-use Rattle.script_text.specs.Order.{is_before, IsPoint, made_by}
+use Rattle.run_history.specs.Actions.{Action, also, Entered, made}
+use Rattle.run_history.specs.Histories.{reading_at, timer_after}
+use Rattle.script_text.specs.Declarations.{declared_of, declareds_of, terms_of, kind_of}
+use Rattle.run_history.specs.Order.{is_before, IsPoint, made_by}
 use Rattle.run_history.specs.Calls.{fires, IsBody, IsTrigger}
 use Rattle.run_history.specs.Courses.{labels, Move, timer_along, entries_in, Course, Trace, Fired}
 use Rattle.run_history.specs.Fits.{Fits}
@@ -30,8 +29,9 @@ use Rattle.run_history.specs.Traces.{all_entered}
 use Rattle.run_history.specs.Truths.{IsDone, IsClaimSpan}
 use Rattle.run_history.proofs.EachTimer.{heads}
 use Rattle.run_history.proofs.Lists.{at_map}
+use Rattle.run_history.proofs.Expires.{claim_of, finish_of}
 use Rattle.run_history.proofs.OwnPoints.{declared_then, same_then, seen, seen_rises, stamp_then, turn_at}
-use Rattle.run_cases.specs.Lines.{at, line}
+use Rattle.run_cases.specs.Lines.{at, line, claim_entry}
 use Rattle.run_cases.specs.Fitting.{waiting_script}
 use Rattle.run_cases.specs.Wrong.{both_record, both_script, tie_record, tie_script, due_record, due_script, uncancelled_record, uncancelled_script, crossed_record, crossed_script, set_entry_of, settimes_record, settimes_script, soon_record, soon_script, past_record, missed_record, missed_script, astray_record, astray_script, versions_record, versions_script}
 use Rattle.run_cases.proofs.Courses.{moves_by}
@@ -43,7 +43,7 @@ use Rattle.run_cases.proofs.Settimes.{idle_first, settime_span}
 
 -- the claim that lane 1 makes
 abbrev claim : Move
-claim = record { timer = 1; before = 1; line = line 1 1 (entries.Claim 0 0 1) }
+claim = record { timer = 1; before = 1; line = line 1 1 (claim_entry 0 0 1) }
 
 -- law: it does not fit
 pub both_dont_fit : Fits both_script both_record → ⊥
@@ -80,7 +80,7 @@ both_dont_fit fits =
     let hard : (t : ℕ) → (timer_along w p t).declared ≡ declared_of both_script t = declared_then w f.history f.timers p in
     let idle : runs_on 0 (seen_in contexts.Hard (timer_along w p 0)) ≡ false =
     subst (λ d. runs_on 0 (seen_in d.context (timer_along w p 0)) ≡ false) (hard 1)
-    ((turn_at w f.history f.timers p claim 0 0 1 place.1 refl).idle 0) in
+    ((turn_at w f.history f.timers p claim 0 0 place.1 refl).idle 0) in
     false≢true (sym idle
     ∙ ap (λ (d : Declared). runs_on 0 (if is_context contexts.Hard d.context then timer_along w p 0 else no_timer)) (hard 0) ∙ runs)
 
@@ -93,7 +93,7 @@ tie_doesnt_fit fits =
     let o = in_one_order tie_script tie_record (0 ∷ 1 ∷ 1 ∷ 1 ∷ 0 ∷ 0 ∷ []) refl (refl, (refl, tt)) refl fits in
     let w = course_with tie_script tie_record (moves_by tie_record [] (0 ∷ 1 ∷ 1 ∷ 1 ∷ 0 ∷ 0 ∷ [])) o.0 o.1 in
     -- at the third place, where the second timer is claimed
-    let wrong : 2 < 1 = (turn_at w o.2.history o.2.timers 2 _ 0 1 1 refl refl).ties 0 (λ e. omega (arith, e)) refl refl in
+    let wrong : 2 < 1 = (turn_at w o.2.history o.2.timers 2 _ 0 1 refl refl).ties 0 (λ e. omega (arith, e)) refl refl in
     omega (arith, wrong)
 
 -- ---- an expiry run has nothing left to do, though at each moment one timer or the other was due
@@ -157,7 +157,7 @@ uncancelled_doesnt_fit fits =
     let o = in_one_order uncancelled_script uncancelled_record (0 ∷ 0 ∷ []) refl (refl, tt) refl fits in
     let call = (o.2.calls 0).2.1 in
     armed_there o.0 o.1 (o.0 (at 0 1)).first call.begins
-    (idle_first (uncancelled_course o.0 o.1) 0 (o.0 (at 0 1)).actions (o.0 (at 0 1)).first _ _ _ _ (λ generation is. cc) call.traced.timers call.seen)
+    (idle_first (uncancelled_course o.0 o.1) 0 (o.0 (at 0 1)).actions (o.0 (at 0 1)).first _ _ _ _ (λ is. cc) call.traced.timers call.seen)
 
 -- ---- a settime's start stands behind the claim of an expiry, but its entry stands before that expiry's
 
@@ -191,8 +191,7 @@ module _ (w : Course) (base reading claim number : ℕ) (entry : ObjectEntry) wh
       trigger.0
     where
       of_body : Fired → List Action → List Action
-      of_body f body = Entered f.timer f.claim (entries.Claim base reading f.generation)
-          ∷ (body ++ Entered f.timer f.finish (entries.Finish f.restart f.generation f.rearmed) ∷ []) ++ []
+      of_body f body = Entered f.timer f.claim (claim_of base reading f) ∷ (body ++ Entered f.timer f.finish (finish_of f) ∷ []) ++ []
 
   one_span : (fired : List Fired) (claimed : Entry) (rest : List (ℕ × (ℕ × Entry))) → length fired ≡ 1
       → (0, (claim, claimed)) ∷ rest ≡ all_entered (flat_map (fires base reading) fired)
@@ -202,7 +201,7 @@ module _ (w : Course) (base reading claim number : ℕ) (entry : ObjectEntry) wh
   one_span [] claimed rest one entered its bodies spans = absurd (cc)
   one_span (f ∷ g ∷ fs) claimed rest one entered its bodies spans = absurd (cc)
   one_span (f ∷ []) claimed rest one entered its bodies spans =
-      let first = heads (0, (claim, claimed)) (f.timer, (f.claim, entries.Claim base reading f.generation)) rest _ entered in
+      let first = heads (0, (claim, claimed)) (f.timer, (f.claim, claim_of base reading f)) rest _ entered in
       let timer : f.timer ≡ 0 = sym (ap (λ (x : ℕ × (ℕ × Entry)). x.0) first) in
       claimed_span f timer (sym (ap (λ (x : ℕ × (ℕ × Entry)). x.1.0) first))
       (subst (λ t. IsBody (kind_of crossed_script t) reading f) timer bodies.0) its spans.0
@@ -269,7 +268,7 @@ unfolding after_entry changed
 soon_doesnt_fit fits =
     let o = in_one_order soon_script soon_record (0 ∷ 0 ∷ 0 ∷ []) refl (refl, tt) refl fits in
     let w = course_with soon_script soon_record (moves_by soon_record [] (0 ∷ 0 ∷ 0 ∷ [])) o.0 o.1 in
-    let due : false ≡ true = (turn_at w o.2.history o.2.timers 1 _ 0 0 1 refl refl).next.due in
+    let due : false ≡ true = (turn_at w o.2.history o.2.timers 1 _ 0 0 refl refl).next.due in
     false≢true due
 
 -- ---- a claim looks past the timer with the earliest hard expiry, whose soft one isn't reached, to a timer whose soft one is
@@ -281,7 +280,7 @@ past_doesnt_fit fits =
     let o = in_one_order waiting_script past_record (0 ∷ 1 ∷ 0 ∷ 0 ∷ []) refl (refl, (refl, tt)) refl fits in
     let w = course_with waiting_script past_record (moves_by past_record [] (0 ∷ 1 ∷ 0 ∷ 0 ∷ [])) o.0 o.1 in
     -- at the third place, where the first timer is claimed, the second one's expiry is earlier
-    let smaller : true ≡ false = (turn_at w o.2.history o.2.timers 2 _ 0 0 1 refl refl).next.smaller 1 in
+    let smaller : true ≡ false = (turn_at w o.2.history o.2.timers 2 _ 0 0 refl refl).next.smaller 1 in
     false≢true (sym smaller)
 
 -- ---- nothing was left to do, though a timer's hard expiry was reached

@@ -8,11 +8,9 @@ use Rattle.record_text.specs.declared.record.Answer.TheVariants as answers
 use Rattle.record_text.specs.declared.record.Answer.{Answer}
 use Rattle.record_text.specs.declared.record.Armed.TheVariants as armings
 use Rattle.record_text.specs.declared.record.CallbackReply.TheVariants as replies
-use Rattle.record_text.specs.declared.record.Entry.TheVariants as entries
 use Rattle.record_text.specs.declared.record.Entry.{Entry}
 use Rattle.record_text.specs.declared.record.ObjectEntry.TheVariants as object_entries
 use Rattle.record_text.specs.declared.record.ObjectEntry.{ObjectEntry}
-use Rattle.record_text.specs.declared.record.Restart.TheVariants as restarts
 use Rattle.record_text.specs.declared.record.RunRecord.{RunRecord}
 use Rattle.record_text.specs.declared.record.SettimeReply.TheVariants as settings
 use Rattle.record_text.specs.declared.record.TimerLine.{TimerLine}
@@ -21,7 +19,7 @@ use Rattle.script_text.specs.declared.script.Call.TheVariants as calls
 use Rattle.script_text.specs.declared.script.Callback.TheVariants as callbacks
 use Rattle.script_text.specs.declared.script.Kind.TheVariants as kinds
 use Rattle.script_text.specs.declared.script.Script.{Script}
-use Rattle.run_cases.specs.Lines.{at, by, case_object_line, case_script, case_start, claim_lines, hard_expire, hard_raw, line, case_start_entry, raw_record, case_record_in, case_script_in, slack_entry, slack_start, start}
+use Rattle.run_cases.specs.Lines.{at, by, case_object_line, case_script, case_start, claim_lines, hard_expire, hard_raw, line, case_start_entry, raw_record, case_record_in, case_script_in, slack_entry, slack_start, start, cancel_entry, claim_entry, finish_entry, out_entry}
 
 -- ---- a timer is started, expires, is cancelled when it is idle, and is looked at
 
@@ -33,7 +31,7 @@ idle_script = case_script 1 1 (hard_raw callbacks.Once ∷ []) ((by 0 (case_star
 -- its record
 abbrev pub idle_record : RunRecord
 idle_record = raw_record (record { label = at 0 1; write = writes.Advance 100; mono = 100; real = 100; boot = 100; changes = 0 } ∷ [])
-    ((line 0 0 (start modes.Rel 100 100) ∷ line 0 2 (entries.Claim 0 1 1) ∷ line 0 2 (entries.Finish false 1 restarts.None) ∷ []) ∷ [])
+    ((line 0 0 (start modes.Rel 100 100) ∷ line 0 2 (claim_entry 0 1 1) ∷ line 0 2 (finish_entry false 1) ∷ []) ∷ [])
     ((answers.Started 1 0 false ∷ answers.Clock 1 ∷ answers.Done 1 (0 ∷ []) ∷ answers.Idle 3 ∷ answers.Peek 3 0 false false false ∷ []) ∷ [])
 
 -- ---- a lane cancels a timer beside another lane's expiry run
@@ -50,11 +48,11 @@ beside lines cancelled expired = raw_record [] ((line 0 0 (start modes.Rel 0 0) 
 
 -- the cancel came first
 abbrev pub cancelled_record : RunRecord
-cancelled_record = beside (line 0 1 (entries.Cancel 1) ∷ []) (answers.Cancelled 1) (answers.Done 0 [])
+cancelled_record = beside (line 0 1 (cancel_entry 1) ∷ []) (answers.Cancelled 1) (answers.Done 0 [])
 
 -- the timer's lines where it expired
 abbrev pub expired_lines : List TimerLine
-expired_lines = line 1 0 (entries.Claim 0 0 1) ∷ line 1 0 (entries.Finish false 1 restarts.None) ∷ []
+expired_lines = line 1 0 (claim_entry 0 0 1) ∷ line 1 0 (finish_entry false 1) ∷ []
 
 -- the cancel came while the timer's function ran
 abbrev pub running_record : RunRecord
@@ -74,9 +72,9 @@ told_script = case_script 1 1 (hard_raw callbacks.Cancels ∷ []) ((by 0 (case_s
 abbrev pub told_record : RunRecord
 told_record = raw_record [] ((line 0 0 (start modes.Rel 0 0) ∷ record {
   label = at 0 1;
-  entry = entries.Claim 0 0 1;
+  entry = claim_entry 0 0 1;
   looks = record { label = at 0 1; reply = replies.Running 1 } ∷ [];
-} ∷ line 0 1 (entries.Finish false 1 restarts.None) ∷ []) ∷ [])
+} ∷ line 0 1 (finish_entry false 1) ∷ []) ∷ [])
     ((answers.Started 1 0 false ∷ answers.More 0 (0 ∷ []) ∷ []) ∷ [])
 
 -- ---- a callback starts its own timer while it runs, and a later start moves the timer to another base
@@ -96,8 +94,8 @@ moved_start = case_start_entry modes.Rel 70 0 1 1 70 false
 
 -- its record
 abbrev pub moved_record : RunRecord
-moved_record = raw_record [] ((line 0 0 (start modes.Abs 0 0) ∷ line 0 1 (entries.Claim 0 0 1) ∷ line 0 1 kept_start
-    ∷ line 0 1 (entries.Finish true 1 restarts.None) ∷ line 0 3 (entries.Out 1 true) ∷ line 0 3 moved_start ∷ []) ∷ [])
+moved_record = raw_record [] ((line 0 0 (start modes.Abs 0 0) ∷ line 0 1 (claim_entry 0 0 1) ∷ line 0 1 kept_start
+    ∷ line 0 1 (finish_entry true 1) ∷ line 0 3 (out_entry 1 true) ∷ line 0 3 moved_start ∷ []) ∷ [])
     ((answers.Started 1 0 false ∷ answers.More 0 (0 ∷ []) ∷ answers.Peek 4 0 true false false ∷ answers.Started 6 1 true ∷ []) ∷ [])
 
 -- ---- a POSIX timer is set, expires, and has its signal accepted, which arms it again; a second acceptance finds none
@@ -134,7 +132,7 @@ accepted_record = record {
   version = versions.One;
   clock = record { label = at 0 1; write = writes.Advance 100; mono = 100; real = 100; boot = 100; changes = 0 }
       ∷ record { label = at 0 3; write = writes.Advance 35; mono = 135; real = 135; boot = 135; changes = 0 } ∷ [];
-  timers = (line 0 0 (start modes.Abs 100 100) ∷ line 0 2 (entries.Claim 0 1 1) ∷ line 0 2 (entries.Finish false 1 restarts.None)
+  timers = (line 0 0 (start modes.Abs 100 100) ∷ line 0 2 (claim_entry 0 1 1) ∷ line 0 2 (finish_entry false 1)
       ∷ line 0 4 rearming_start ∷ []) ∷ [];
   objects = (case_object_line 0 0 set_entry ∷ case_object_line 0 2 trigger_entry ∷ case_object_line 0 4 accept_entry
       ∷ case_object_line 0 5 none_entry ∷ []) ∷ [];

@@ -6,12 +6,13 @@ use Rattle.ktime.specs.declared.mode.Mode.TheVariants as modes
 use Rattle.seq_timer.specs.declared.context.Context.TheVariants as contexts
 use Rattle.record_text.specs.declared.record.Answer.{Answer}
 use Rattle.record_text.specs.declared.record.ClockLine.{ClockLine}
-use Rattle.record_text.specs.declared.record.Entry.TheVariants as entries
+use Rattle.seq_timer.specs.declared.event.EventBy.TheVariants as events
+use Rattle.seq_timer.specs.declared.event.Reply.TheVariants as replies
 use Rattle.record_text.specs.declared.record.Entry.{Entry}
 use Rattle.record_text.specs.declared.record.Label.{Label}
 use Rattle.record_text.specs.declared.record.ObjectEntry.{ObjectEntry}
 use Rattle.record_text.specs.declared.record.ObjectLine.{ObjectLine}
-use Rattle.record_text.specs.declared.record.Restart.TheVariants as restarts
+use Rattle.seq_timer.specs.declared.event.Restarted.TheVariants as restarts
 use Rattle.record_text.specs.declared.record.RunRecord.{RunRecord}
 use Rattle.record_text.specs.declared.record.TimerLine.{TimerLine}
 use Rattle.record_text.specs.declared.version.Version.{Version}
@@ -23,7 +24,7 @@ use Rattle.script_text.specs.declared.script.Kind.{Kind}
 use Rattle.script_text.specs.declared.script.Kind.TheVariants as kinds
 use Rattle.script_text.specs.declared.script.LaneCall.{LaneCall}
 use Rattle.script_text.specs.declared.script.Script.{Script}
-use Rattle.script_text.specs.Starts.{without_slack}
+use Rattle.script_text.specs.Declarations.{without_slack}
 
 -- a raw timer of the hard context
 abbrev pub hard_raw : Callback → Kind
@@ -68,21 +69,29 @@ at lane call = record { lane = lane; call = call }
 abbrev pub line : ℕ → ℕ → Entry → TimerLine
 line lane call entry = record { label = at lane call; entry = entry; looks = [] }
 
+-- the entry of a move off a base
+abbrev pub out_entry : ℕ → Bool → Entry
+out_entry base was_armed = record { event = events.Out base; reply = replies.Out was_armed }
+
+-- the entry of a cancel
+abbrev pub cancel_entry : ℕ → Entry
+cancel_entry generation = record { event = events.Cancel; reply = replies.Cancel generation }
+
+-- the entry of a claim
+abbrev pub claim_entry : ℕ → ℕ → ℕ → Entry
+claim_entry base reading generation = record { event = events.Claim base reading; reply = replies.Claim generation }
+
+-- the entry of a finish that doesn't arm the timer again
+abbrev pub finish_entry : Bool → ℕ → Entry
+finish_entry restart generation = record { event = events.Finish restart; reply = replies.Finish generation restarts.No }
+
 -- the entry of a start without a slack: what was asked for by the reading of a stamp, the base, the expiry that came of it, and whether the timer
 -- was armed before
 abbrev pub case_start_entry : Mode → ℕ → ℕ → ℕ → ℕ → ℕ → Bool → Entry
-case_start_entry mode ns reading asked base expires was_armed = entries.Start (record {
-  mode = mode;
-  ns = ns;
-  slack = 0;
-  reading = reading;
-  asked = asked;
-  base = base;
-  clock = clocks.Monotonic;
-  soft = expires;
-  expires = expires;
-  was_armed = was_armed;
-})
+case_start_entry mode ns reading asked base expires was_armed = record {
+  event = events.Start (record { mode = mode; ns = ns; slack = 0; reading = reading; base = asked });
+  reply = replies.Start (record { base = base; clock = clocks.Monotonic; soft = expires; expires = expires }) was_armed;
+}
 
 -- a start on base 0 of a timer that wasn't armed, with the expiry that came of it
 abbrev pub start : Mode → ℕ → ℕ → Entry
@@ -90,22 +99,14 @@ start mode ns expires = case_start_entry mode ns 0 0 0 expires false
 
 -- the entry of a start with a slack by the first reading: the timer wasn't armed, and has a soft expiry and a hard one
 abbrev pub slack_entry : ℕ → ℕ → Entry
-slack_entry ns slack = entries.Start (record {
-  mode = modes.Abs;
-  ns = ns;
-  slack = slack;
-  reading = 0;
-  asked = 0;
-  base = 0;
-  clock = clocks.Monotonic;
-  soft = ns;
-  expires = ns + slack;
-  was_armed = false;
-})
+slack_entry ns slack = record {
+  event = events.Start (record { mode = modes.Abs; ns = ns; slack = slack; reading = 0; base = 0 });
+  reply = replies.Start (record { base = 0; clock = clocks.Monotonic; soft = ns; expires = ns + slack }) false;
+}
 
 -- the claim that a lane's call made of a timer's first generation, by the first reading, and the finish
 abbrev pub claim_lines : ℕ → ℕ → List TimerLine
-claim_lines lane call = line lane call (entries.Claim 0 0 1) ∷ line lane call (entries.Finish false 1 restarts.None) ∷ []
+claim_lines lane call = line lane call (claim_entry 0 0 1) ∷ line lane call (finish_entry false 1) ∷ []
 
 -- a record of a version of timers by themselves, which has no objects
 abbrev pub case_record_in : Version → List ClockLine → List (List TimerLine) → List (List Answer) → RunRecord

@@ -5,11 +5,9 @@ use Rattle.clock_model.specs.declared.write.Write.TheVariants as writes
 use Rattle.seq_timer.specs.declared.context.Context.TheVariants as contexts
 use Rattle.record_text.specs.declared.record.Answer.TheVariants as answers
 use Rattle.record_text.specs.declared.record.Armed.TheVariants as armings
-use Rattle.record_text.specs.declared.record.Entry.TheVariants as entries
 use Rattle.record_text.specs.declared.record.Entry.{Entry}
 use Rattle.record_text.specs.declared.record.ObjectEntry.TheVariants as object_entries
 use Rattle.record_text.specs.declared.record.ObjectEntry.{ObjectEntry}
-use Rattle.record_text.specs.declared.record.Restart.TheVariants as restarts
 use Rattle.record_text.specs.declared.record.RunRecord.{RunRecord}
 use Rattle.record_text.specs.declared.record.SettimeReply.TheVariants as settings
 use Rattle.record_text.specs.declared.record.TimerLine.{TimerLine}
@@ -20,7 +18,7 @@ use Rattle.script_text.specs.declared.script.Callback.TheVariants as callbacks
 use Rattle.script_text.specs.declared.script.Kind.TheVariants as kinds
 use Rattle.script_text.specs.declared.script.Kind.{Kind}
 use Rattle.script_text.specs.declared.script.Script.{Script}
-use Rattle.run_cases.specs.Lines.{at, by, case_object_line, case_script, case_start, claim_lines, hard_expire, hard_raw, line, case_start_entry, raw_record, case_record_in, case_script_in, slack_entry, slack_start, start}
+use Rattle.run_cases.specs.Lines.{at, by, case_object_line, case_script, case_start, claim_lines, hard_expire, hard_raw, line, case_start_entry, raw_record, case_record_in, case_script_in, slack_entry, slack_start, start, cancel_entry, claim_entry, finish_entry}
 
 -- two timers whose callbacks do nothing
 abbrev pub two_timers : List Kind
@@ -29,7 +27,7 @@ two_timers = hard_raw callbacks.Once ∷ hard_raw callbacks.Once ∷ []
 -- the lines of a timer that this call of lane 0 starts, and that a call of a lane then claims, by the reading of this stamp
 abbrev pub claimed_by : ℕ → ℕ → ℕ → ℕ → ℕ → List TimerLine
 claimed_by call ns lane other stamp =
-    line 0 call (start modes.Abs ns ns) ∷ line lane other (entries.Claim 0 stamp 1) ∷ line lane other (entries.Finish false 1 restarts.None) ∷ []
+    line 0 call (start modes.Abs ns ns) ∷ line lane other (claim_entry 0 stamp 1) ∷ line lane other (finish_entry false 1) ∷ []
 
 -- ---- two functions of one context at once on one base: a lane is told that a timer runs before it claims another timer there, and behind that, too
 
@@ -66,7 +64,7 @@ due_script = case_script 1 2 two_timers ((by 0 (case_start 0 modes.Abs 0 0) ∷ 
 
 -- a record that breaks it
 abbrev pub due_record : RunRecord
-due_record = raw_record [] ((line 0 0 (start modes.Abs 0 0) ∷ line 0 2 (entries.Cancel 1) ∷ []) ∷ (line 0 1 (start modes.Abs 0 0) ∷ []) ∷ [])
+due_record = raw_record [] ((line 0 0 (start modes.Abs 0 0) ∷ line 0 2 (cancel_entry 1) ∷ []) ∷ (line 0 1 (start modes.Abs 0 0) ∷ []) ∷ [])
     ((answers.Started 1 0 false ∷ answers.Started 1 0 false ∷ answers.Cancelled 1 ∷ []) ∷ (answers.Done 0 [] ∷ []) ∷ [])
 
 -- ---- a settime of an armed POSIX timer starts it with no cancel before
@@ -109,7 +107,7 @@ abbrev pub crossed_record : RunRecord
 crossed_record = record {
   version = versions.One;
   clock = record { label = at 0 1; write = writes.Advance 1; mono = 1; real = 1; boot = 1; changes = 0 } ∷ [];
-  timers = (line 0 0 (set_start 1 0 false) ∷ line 1 0 (entries.Claim 0 1 1) ∷ line 1 0 (entries.Finish false 1 restarts.None)
+  timers = (line 0 0 (set_start 1 0 false) ∷ line 1 0 (claim_entry 0 1 1) ∷ line 1 0 (finish_entry false 1)
       ∷ line 0 2 (set_start 50 1 false) ∷ []) ∷ [];
   objects = (case_object_line 0 0 (set_entry_of 1 0 1 0) ∷ case_object_line 0 2 (set_entry_of 50 1 4 1)
       ∷ case_object_line 1 0 (object_entries.Trigger 1 1 false) ∷ []) ∷ [];
@@ -127,7 +125,7 @@ abbrev pub settimes_record : RunRecord
 settimes_record = record {
   version = versions.One;
   clock = [];
-  timers = (line 0 0 (set_start 100 0 false) ∷ line 1 0 (entries.Cancel 1) ∷ line 1 0 (set_start 200 0 false) ∷ []) ∷ [];
+  timers = (line 0 0 (set_start 100 0 false) ∷ line 1 0 (cancel_entry 1) ∷ line 1 0 (set_start 200 0 false) ∷ []) ∷ [];
   objects = (case_object_line 1 0 (set_entry_of 200 0 3 0) ∷ case_object_line 0 0 (set_entry_of 100 0 1 200) ∷ []) ∷ [];
   answers = (answers.Old 200 0 ∷ []) ∷ (answers.Old 0 0 ∷ []) ∷ [];
 }

@@ -1,6 +1,6 @@
 -- What a call did, of one list, in two parts.
 use Rattle.std.proofs.Common.{◌≡◌, ℕ, true, false, nat_eq, List, [], ◌∷◌, ◌++◌, refl, ap}
-use Rattle.script_text.specs.Actions.{Action, also, Entered, Looked, Made, made, Skipped, Wrote}
+use Rattle.run_history.specs.Actions.{Action, also, Entered, Looked, Made, made, Skipped, Wrote}
 use Rattle.run_history.specs.Traces.{all_entered}
 
 pub all_entered-append : (ds es : List Action) → all_entered (ds ++ es) ≡ all_entered ds ++ all_entered es

@@ -20,16 +20,18 @@ use Rattle.seq_timer.proofs.Alike.{next_due-alike, seen-alike, stopped-alike, un
 use Rattle.record_text.specs.declared.record.Answer.{Answer}
 use Rattle.record_text.specs.declared.record.Answer.TheVariants as answers
 use Rattle.record_text.specs.declared.record.Entry.{Entry}
-use Rattle.record_text.specs.declared.record.Entry.TheVariants as entries
+use Rattle.seq_timer.specs.declared.event.EventBy.TheVariants as events
+use Rattle.seq_timer.specs.declared.event.Reply.{Reply}
 use Rattle.record_text.specs.declared.record.Label.{Label}
 use Rattle.record_text.specs.declared.record.RunRecord.{RunRecord}
 use Rattle.script_text.specs.declared.script.Call.{Call}
 use Rattle.script_text.specs.declared.script.Call.TheVariants as calls
 use Rattle.script_text.specs.declared.script.Script.{Script}
-use Rattle.script_text.specs.Actions.{Action, also, Entered, Looked}
-use Rattle.script_text.specs.Told.{observed}
-use Rattle.script_text.specs.Histories.{answers_of, declared_of, reading_at, timer_after, terms_of}
-use Rattle.script_text.specs.Order.{CallInRound, calls_of, is_before, is_label, IsInOrder, IsLabel, IsWithin, made_by, round_of}
+use Rattle.run_history.specs.Actions.{Action, also, Entered, Looked}
+use Rattle.run_history.specs.Told.{observed}
+use Rattle.run_history.specs.Histories.{answers_of, reading_at, timer_after}
+use Rattle.script_text.specs.Declarations.{declared_of, terms_of}
+use Rattle.run_history.specs.Order.{CallInRound, calls_of, is_before, is_label, IsInOrder, IsLabel, IsWithin, made_by, round_of}
 use Rattle.run_history.specs.Courses.{Course, labels, Move, timer_along}
 use Rattle.run_history.specs.EachTimer.{HasTimers, FitsTimers, TookNextDue, WasRefused, WasSo, WasTold}
 use Rattle.run_history.specs.Fits.{Fits, FitsCall, FitsIn, FitsLane, Seen, unseen}
@@ -175,24 +177,25 @@ true_at w c first from done (x ∷ ds) (m ∷ mid) d rest last all is =
 
 module _ (w : Course) (f : FitsIn w) where
   -- a claim was made at the place where its entry stands
-  claim_then : (c : Label) (before rest : List Action) (t number base reading generation : ℕ)
-      → own_moves c w.moves ≡ all_entered (before ++ Entered t number (entries.Claim base reading generation) ∷ rest)
+  claim_then : (c : Label) (before rest : List Action) (t number base reading : ℕ) (reply : Reply)
+      → own_moves c w.moves ≡ all_entered (before ++ Entered t number (record { event = events.Claim base reading; reply = reply }) ∷ rest)
       → TookNextDue w.script w.run c before base reading t number
-  claim_then c before rest t number base reading generation own_are =
-      let e = Entered t number (entries.Claim base reading generation) in
-      let s = stands c w.moves (all_entered before) (all_entered rest) (t, (number, entries.Claim base reading generation))
+  claim_then c before rest t number base reading reply own_are =
+      let claim : Entry = record { event = events.Claim base reading; reply = reply } in
+      let e = Entered t number claim in
+      let s = stands c w.moves (all_entered before) (all_entered rest) (t, (number, claim))
       (own_are ∙ all_entered-append before (e ∷ rest)) in
       let p = s.place in
       let m = s.move in
       let clock = w.run.clock in
       let timer_is : m.timer ≡ t = ap (λ (x : ℕ × (ℕ × Entry)). x.0) s.is in
-      let entry_is : m.line.entry ≡ entries.Claim base reading generation = ap (λ (x : ℕ × (ℕ × Entry)). x.1.1) s.is in
+      let event_is : m.line.entry.event ≡ events.Claim base reading = ap (λ (x : ℕ × (ℕ × Entry)). x.1.1.event) s.is in
       let label : slice_get (labels w) p ≡ Some c = at_map (λ (m : Move). m.line.label) w.moves p m s.there ∙ ap (λ l. Some l) s.label in
       let moment : IsMoment w c before p = record {
         within = within_at w.script c (labels w) p f.order label;
         so_many = ap (made_by c) (take-map (λ (m : Move). m.line.label) p w.moves) ∙ count_moves c (take p w.moves) ∙ ap length s.own;
       } in
-      let turn = turn_at w f.history f.timers p m base reading generation s.there entry_is in
+      let turn = turn_at w f.history f.timers p m base reading s.there event_is in
       let context : (timer_along w p m.timer).declared.context ≡ (declared_of w.script t).context =
       ap (λ (d : Declared). d.context) (declared_then w f.history f.timers p m.timer ∙ ap (declared_of w.script) timer_is) in
       let x : Context = (declared_of w.script t).context in
@@ -269,8 +272,8 @@ module _ (w : Course) (f : FitsIn w) where
             let true_there = true_at w c t.first t.first [] t.actions early (Looked u number look) rest t.last fits.truth is in
             saw_then w f.history f.timers c early (Looked u number look ∷ rest) true_there.0 u number (observed look) (fits.traced.timers ∙ ap all_entered is)
             true_there.1.0 true_there.1.1;
-        claims = λ early rest u number base reading generation is.
-            claim_then c early rest u number base reading generation (fits.traced.timers ∙ ap all_entered is);
+        claims = λ early rest u number base reading reply is.
+            claim_then c early rest u number base reading reply (fits.traced.timers ∙ ap all_entered is);
         told = told_then c t.at t.first t.last t.actions fits.traced.timers fits.ends call answer fits.seen;
       }
 

@@ -11,17 +11,17 @@ use Rattle.seq_timer.specs.Tables.{in_context}
 use Rattle.seq_timer.specs.declared.system.TimerEntry.{TimerEntry}
 use Rattle.record_text.specs.declared.record.Answer.TheVariants as answers
 use Rattle.record_text.specs.declared.record.Answer.{Answer}
-use Rattle.record_text.specs.declared.record.CallbackReply.TheVariants as replies
+use Rattle.record_text.specs.declared.record.CallbackReply.TheVariants as told
 use Rattle.record_text.specs.declared.record.CallbackReply.{CallbackReply}
-use Rattle.record_text.specs.declared.record.Entry.TheVariants as entries
+use Rattle.seq_timer.specs.declared.event.EventBy.TheVariants as events
+use Rattle.seq_timer.specs.declared.event.Reply.TheVariants as replies
 use Rattle.record_text.specs.declared.record.Entry.{Entry}
 use Rattle.record_text.specs.declared.record.Label.{Label}
 use Rattle.record_text.specs.declared.record.ObjectEntry.TheVariants as object_entries
-use Rattle.script_text.specs.Actions.{Action, Entered, Looked, Made, Skipped}
-use Rattle.script_text.specs.Told.{IsBelowLimit, observed}
-use Rattle.script_text.specs.Objects.{kind_of}
-use Rattle.script_text.specs.Histories.{declared_of}
-use Rattle.script_text.specs.Starts.{arming_actions, without_slack}
+use Rattle.run_history.specs.Actions.{Action, Entered, Looked, Made, Skipped}
+use Rattle.run_history.specs.Told.{IsBelowLimit, observed}
+use Rattle.script_text.specs.Declarations.{kind_of, declared_of, without_slack}
+use Rattle.run_history.specs.Starts.{arming_actions}
 use Rattle.script_text.specs.declared.script.Call.TheVariants as calls
 use Rattle.script_text.specs.declared.script.Callback.TheVariants as callbacks
 use Rattle.script_text.specs.declared.script.Callback.{Callback}
@@ -63,10 +63,10 @@ true-append w c first from mid last before (d ∷ ds) es one two = (
 
 -- the claim of a callback, and its finish
 abbrev pub claim_of : ℕ → ℕ → Fired → Entry
-claim_of base at f = entries.Claim base at f.generation
+claim_of base at f = record { event = events.Claim base at; reply = replies.Claim f.generation }
 
 abbrev pub finish_of : Fired → Entry
-finish_of f = entries.Finish f.restart f.generation f.rearmed
+finish_of f = record { event = events.Finish f.restart; reply = replies.Finish f.generation f.restarted }
 
 -- what was done before a callback, and its claim
 abbrev pub with_claim : ℕ → ℕ → Fired → List Action → List Action
@@ -196,15 +196,16 @@ module _ {w : Course} {c : Label} {order : List TimerEntry} {context : Context} 
       by_callback callbacks.Once is = by_body [] is.0 (λ holds. onward)
       by_callback (callbacks.Every interval) is =
           ⊎_elim
-          (λ forward. by_body (Entered f.timer forward.0 (entries.Forward forward.1) ∷ []) forward.4
+          (λ forward. by_body
+          (Entered f.timer forward.0 (record { event = events.Forward at interval; reply = replies.Forward forward.1 }) ∷ []) forward.2
           (λ holds. (from, omega arith, tt, onward)))
-          (λ looked. ⊎_elim (λ armed. looks f.timer armed.0 (replies.Armed armed.1) armed.2) (λ spent. looks f.timer spent.0 replies.Spent spent.1) looked) is.0
-      by_callback callbacks.Cancels is = looks f.timer is.0.0 (replies.Running f.generation) is.0.1
+          (λ looked. ⊎_elim (λ armed. looks f.timer armed.0 (told.Armed armed.1) armed.2) (λ spent. looks f.timer spent.0 told.Spent spent.1) looked) is.0
+      by_callback callbacks.Cancels is = looks f.timer is.0.0 (told.Running f.generation) is.0.1
       by_callback (callbacks.Starts ns asked) is =
           ⊎_elim
           (λ a. by_body (arming_actions f.timer (without_slack modes.Rel ns asked) at a.0) a.1
           (λ holds. start_true w c first from ran.acted f.timer at (without_slack modes.Rel ns asked) since a.0 onward))
-          (λ spent. looks f.timer spent.0 replies.Spent spent.1) is.0
+          (λ spent. looks f.timer spent.0 told.Spent spent.1) is.0
 
       by_trigger : IsTrigger at f → AreTrue w c first from since f.body ran.acted
       by_trigger is =

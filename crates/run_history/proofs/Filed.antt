@@ -10,8 +10,8 @@ use Rattle.record_text.specs.declared.record.Entry.{Entry}
 use Rattle.record_text.specs.declared.record.Label.{Label}
 use Rattle.record_text.specs.declared.record.RunRecord.{RunRecord}
 use Rattle.record_text.specs.declared.record.TimerLine.{TimerLine}
-use Rattle.script_text.specs.Actions.{also}
-use Rattle.script_text.specs.Histories.{lines_of_timer}
+use Rattle.run_history.specs.Actions.{also}
+use Rattle.run_history.specs.Histories.{lines_of_timer}
 use Rattle.run_history.specs.Receipts.{AreFiled, count, file_shape, Filed, files_on, IsMade, line_shape, Noted, RiseBy, Rises}
 use Rattle.run_history.proofs.Laid.{AreReceipts, counts_more, IsLine, IsNoted}
 use Rattle.run_history.proofs.Lists.{all_at, at_map, each, map_get}

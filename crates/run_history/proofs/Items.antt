@@ -5,8 +5,8 @@ use Rattle.std.proofs.Math.Logic.{⊎_elim}
 use Rattle.std.proofs.lemmas.Option.{same_Some}
 use Rattle.record_text.specs.declared.record.Label.{Label}
 use Rattle.record_text.specs.declared.record.ObjectLine.{ObjectLine}
-use Rattle.script_text.specs.Actions.{also, own}
-use Rattle.script_text.specs.Order.{is_label}
+use Rattle.run_history.specs.Actions.{also, own}
+use Rattle.run_history.specs.Order.{is_label}
 use Rattle.run_history.specs.Fits.{AreBehind}
 use Rattle.run_history.proofs.Permuted.{along_permutation}
 use Rattle.std.specs.List.Sorted.{IsPermutation}

@@ -5,11 +5,11 @@ use Rattle.std.specs.List.Sorted.{IsPermutation}
 use Rattle.std.proofs.lemmas.List.{append-nil, length-map, map-append}
 use Rattle.record_text.specs.declared.record.Answer.{Answer}
 use Rattle.record_text.specs.declared.record.Label.{Label}
-use Rattle.script_text.specs.Actions.{Action, also, looked, made, own, own_looks, own_skips, skipped, wrote}
-use Rattle.script_text.specs.Told.{object_steps_on}
-use Rattle.script_text.specs.Histories.{clock_labels, lines_of_timer}
-use Rattle.script_text.specs.Objects.{lines_of_object}
-use Rattle.script_text.specs.Order.{is_label, IsLabel, IsPoint, NeverFall}
+use Rattle.run_history.specs.Actions.{Action, also, looked, made, own, own_looks, own_skips, skipped, wrote}
+use Rattle.run_history.specs.Told.{object_steps_on}
+use Rattle.run_history.specs.Histories.{clock_labels, lines_of_timer}
+use Rattle.run_history.specs.Objects.{lines_of_object}
+use Rattle.run_history.specs.Order.{is_label, IsLabel, IsPoint, NeverFall}
 use Rattle.script_text.specs.declared.script.Call.{Call}
 use Rattle.run_history.specs.Calls.{Does}
 use Rattle.run_history.specs.Courses.{Course, labels, Move, Trace}

@@ -9,12 +9,11 @@ use Rattle.std.proofs.lemmas.Option.{same_Some, slice_get_within}
 use Rattle.seq_timer.specs.Histories as histories
 use Rattle.seq_timer.specs.Systems.{entries_of}
 use Rattle.seq_timer.specs.declared.system.TimerEntry.{TimerEntry}
-use Rattle.record_text.specs.declared.record.ClockLine.{ClockLine}
 use Rattle.record_text.specs.declared.record.Entry.{Entry}
 use Rattle.record_text.specs.declared.record.Label.{Label}
 use Rattle.record_text.specs.declared.record.RunRecord.{RunRecord}
-use Rattle.script_text.specs.Actions.{Action}
-use Rattle.script_text.specs.Histories.{entry_shown}
+use Rattle.run_history.specs.Actions.{Action}
+use Rattle.run_history.specs.Histories.{entry_shown}
 use Rattle.script_text.proofs.Lists.{All-append, All-weaker}
 use Rattle.run_history.specs.Receipts.{as_own, count, IsMade, Noted, receipt, Rises, ShowsEntry}
 use Rattle.run_history.specs.Traces.{all_entered}
@@ -41,13 +40,6 @@ AreEntries order (x ∷ xs) [] = ⊥
 abbrev pub numbered : ℕ → ℕ → List Entry → List (ℕ × (ℕ × Entry))
 numbered t k [] = []
 numbered t k (e ∷ es) = (t, (k + 1, e)) ∷ numbered t (k + 1) es
-
--- a record's entries show these, behind so many of the timer's
-abbrev pub AreShown : List ClockLine → ℕ → List histories.Entry → List Entry → Type 0
-AreShown clock k [] [] = Unit
-AreShown clock k (e ∷ es) (x ∷ xs) = (e ≡ entry_shown clock k x) × AreShown clock (k + 1) es xs
-AreShown clock k [] (x ∷ xs) = ⊥
-AreShown clock k (e ∷ es) [] = ⊥
 
 -- ---- a call's entries
 
@@ -150,22 +142,22 @@ made_goes_on order seen later low high notes is made = record {
 
 -- so each receipt shows its entry, in a record whose clock has the readings
 pub shows_made : (r : RunRecord) (order seen later : List TimerEntry) (t k : ℕ) (notes : List Noted) (es : List histories.Entry) (shown : List Entry)
-    → order ≡ seen ++ later → AreEntries seen notes es → map receipt notes ≡ numbered t k shown → AreShown r.clock k es shown
+    → order ≡ seen ++ later → AreEntries seen notes es → map receipt notes ≡ numbered t k shown → es ≡ map (entry_shown r.clock) shown
     → AllByRecursion (ShowsEntry r order) notes
 shows_made r order seen later t k [] es shown is those are shows = tt
 shows_made r order seen later t k (x ∷ xs) [] shown is those are shows = absurd those
-shows_made r order seen later t k (x ∷ xs) (e ∷ es) [] is those are shows = absurd shows
+shows_made r order seen later t k (x ∷ xs) (e ∷ es) [] is those are shows = absurd (cc)
 shows_made r order seen later t k (x ∷ xs) (e ∷ es) (y ∷ ys) is those are shows =
     let here : receipt x ≡ (t, (k + 1, y)) = cc in
-    let rest : map receipt xs ≡ numbered t (k + 1) ys = cc in (
+    let rest : map receipt xs ≡ numbered t (k + 1) ys = cc in
+    let shown : e ≡ entry_shown r.clock y = cc in
+    let further : es ≡ map (entry_shown r.clock) ys = cc in (
       record {
-        before = k;
-        number = sym (ap (λ (q : ℕ × (ℕ × Entry)). q.1.0) here);
         step = those.0.0;
         there = ap (λ zs. slice_get zs x.place) is ∙ at_left seen later x.place those.0.0 those.0.1;
-        entry = those.0.2 ∙ shows.0 ∙ ap (entry_shown r.clock k) (sym (ap (λ (q : ℕ × (ℕ × Entry)). q.1.1) here));
+        entry = those.0.2 ∙ shown ∙ ap (entry_shown r.clock) (sym (ap (λ (q : ℕ × (ℕ × Entry)). q.1.1) here));
       },
-      shows_made r order seen later t (k + 1) xs es ys is those.1 rest shows.1,
+      shows_made r order seen later t (k + 1) xs es ys is those.1 rest further,
     )
 
 -- ---- calls one behind the other

@@ -2,7 +2,7 @@
 use Rattle.std.proofs.Common.{◌≡◌, ℕ, Bool, true, false, nat_eq, refl, sym, ap, ◌∙◌}
 use Rattle.std.proofs.lemmas.Bool.{and_from, and_parts, eq-eqb, eqb-true}
 use Rattle.record_text.specs.declared.record.Label.{Label}
-use Rattle.script_text.specs.Order.{is_label}
+use Rattle.run_history.specs.Order.{is_label}
 
 pub label_itself : (c : Label) → is_label c c ≡ true
 label_itself c = and_from _ _ (eq-eqb c.lane c.lane refl) (eq-eqb c.call c.call refl)

@@ -11,8 +11,8 @@ use Rattle.record_text.specs.declared.record.Entry.{Entry}
 use Rattle.record_text.specs.declared.record.Label.{Label}
 use Rattle.record_text.specs.declared.record.RunRecord.{RunRecord}
 use Rattle.record_text.specs.declared.record.TimerLine.{TimerLine}
-use Rattle.script_text.specs.Histories.{lines_of_timer}
-use Rattle.script_text.specs.Order.{is_label}
+use Rattle.run_history.specs.Histories.{lines_of_timer}
+use Rattle.run_history.specs.Order.{is_label}
 use Rattle.run_history.specs.Courses.{Move}
 use Rattle.run_history.specs.Receipts.{AreAll, at_place, count, IsMade, move_of, no_line, Noted, receipt, Rises, shape, weave}
 use Rattle.run_history.proofs.Items.{Among, own_items, RiseIn, StandsIn}

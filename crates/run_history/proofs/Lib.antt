@@ -22,3 +22,5 @@ pub mod Run
 pub mod Shown
 pub mod Weave
 pub mod NoSlack
+pub mod Replies
+pub mod Stamped

@@ -1,5 +1,5 @@
 -- Lists by the places of their items.
-use Rattle.std.proofs.Common.{◌∙◌, ◌≡◌, ◌<◌, ◌≤◌, ℕ, zero, suc, List, [], ◌∷◌, ◌++◌, Some, length, take, drop, map, arith, refl, ap, subst}
+use Rattle.std.proofs.Common.{◌∙◌, ◌≡◌, ◌<◌, ◌≤◌, ℕ, zero, suc, List, [], ◌∷◌, ◌++◌, Some, length, take, drop, map, get_or, arith, refl, ap, subst}
 use Rattle.std.specs.List.{AllByRecursion, slice_get}
 use Rattle.std.specs.Option.{option_map}
 use Rattle.std.proofs.lemmas.Option.{same_Some, slice_get-map}
@@ -40,3 +40,8 @@ at_left (y ∷ xs) ys (suc p) x at = at_left xs ys p x at
 pub at_seam : {X : Type 0} (xs ys : List X) (y : X) → slice_get (xs ++ y ∷ ys) (length xs) ≡ Some y
 at_seam [] ys y = refl
 at_seam (x ∷ xs) ys y = at_seam xs ys y
+
+-- what holds of each list by its number holds of all
+pub all_lists : {X : Type 0} (P : List X → Type 0) (lists : List (List X)) → ((t : ℕ) → P (get_or lists t [])) → AllByRecursion P lists
+all_lists P [] each = tt
+all_lists P (x ∷ xs) each = (each 0, all_lists P xs (λ t. each (suc t)))

@@ -16,8 +16,8 @@ use Rattle.record_text.specs.declared.record.Look.{Look}
 use Rattle.record_text.specs.declared.record.ObjectLine.{ObjectLine}
 use Rattle.record_text.specs.declared.record.Skip.{Skip}
 use Rattle.record_text.specs.declared.record.TimerLine.{TimerLine}
-use Rattle.script_text.specs.Actions.{also, looks_under, own_looks, own_skips, skips_under}
-use Rattle.script_text.specs.Order.{AreSorted, is_label, is_lower}
+use Rattle.run_history.specs.Actions.{also, looks_under, own_looks, own_skips, skips_under}
+use Rattle.run_history.specs.Order.{AreSorted, is_label, is_lower}
 use Rattle.run_history.proofs.Items.{lower, RiseIn, same_risen}
 use Rattle.run_history.proofs.Labels.{same_label}
 

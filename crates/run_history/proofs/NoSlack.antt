@@ -1,5 +1,5 @@
 -- A record that fits a script without slack has none: no start asks for slack, so each timer's soft expiry is its expiry at all times.
-use Rattle.std.proofs.Common.{◌≡◌, ◌<◌, ℕ, ◌+◌, ◌*◌, zero, suc, nat_eq, Bool, true, false, List, [], ◌∷◌, ◌++◌, Option, Some, None, get_or, length, map, arith, refl, sym, ap, ◌∙◌, subst}
+use Rattle.std.proofs.Common.{◌≡◌, ◌<◌, ℕ, ◌+◌, ◌*◌, zero, suc, nat_eq, Bool, true, false, List, [], ◌∷◌, ◌++◌, Option, Some, None, length, map, arith, refl, sym, ap, ◌∙◌, subst}
 use Rattle.std.specs.List.{AllByRecursion, slice_get}
 use Rattle.std.proofs.lemmas.Option.{same_Some}
 use Rattle.std.specs.Prelude.{filter, flat_map, if◌then◌else◌, unwrap_or}
@@ -11,18 +11,16 @@ use Rattle.ktime.specs.declared.mode.Mode.{Mode}
 use Rattle.ktime.specs.declared.mode.Mode.TheVariants as modes
 use Rattle.ktime.specs.declared.timespec.TimeSpec.{TimeSpec}
 use Rattle.seq_timer.specs.declared.context.Context.{Context}
-use Rattle.seq_timer.specs.declared.event.Event.{Event}
-use Rattle.seq_timer.specs.declared.event.Event.TheVariants as events
-use Rattle.seq_timer.specs.declared.event.Reply.{Reply}
-use Rattle.seq_timer.specs.declared.event.Reply.TheVariants as replies
+use Rattle.seq_timer.specs.Events.{Event, map_reading}
+use Rattle.seq_timer.specs.declared.event.EventBy.{EventBy}
+use Rattle.seq_timer.specs.declared.event.EventBy.TheVariants as events
 use Rattle.seq_timer.specs.Histories as histories
 use Rattle.seq_timer.specs.Steps.{Timer, after, expiry_from, now_of, opening, reply_to}
-use Rattle.record_text.specs.Numbers.{EntryHasNoSlack, HasNoSlack, HaveNoSlack}
+use Rattle.record_text.specs.Numbers.{AsksNoSlack, HasNoSlack, HaveNoSlack, ShowsNoSlack}
 use Rattle.record_text.specs.declared.record.Answer.{Answer}
 use Rattle.record_text.specs.declared.record.Answer.TheVariants as answers
 use Rattle.record_text.specs.declared.record.ClockLine.{ClockLine}
 use Rattle.record_text.specs.declared.record.Entry.{Entry}
-use Rattle.record_text.specs.declared.record.Entry.TheVariants as entries
 use Rattle.record_text.specs.declared.record.Label.{Label}
 use Rattle.record_text.specs.declared.record.ObjectEntry.{ObjectEntry}
 use Rattle.record_text.specs.declared.record.RunRecord.{RunRecord}
@@ -30,18 +28,18 @@ use Rattle.record_text.specs.declared.record.SettimeReply.{SettimeReply}
 use Rattle.record_text.specs.declared.record.TimerLine.{TimerLine}
 use Rattle.record_text.specs.declared.record.Armed.{Armed}
 use Rattle.record_text.specs.declared.record.Armed.TheVariants as armings
-use Rattle.script_text.specs.Actions.{Action, Entered, Looked, Made, Skipped, Wrote, also, entered, own}
-use Rattle.script_text.specs.Histories.{answers_of, declared_of, entry_shown, history_from, history_of, lines_of_timer, terms_of}
-use Rattle.script_text.specs.ObjectCalls.{Arms, DoesAccept, DoesGettime, DoesRead, DoesSettime, MakesRearming, MakesSettime, cancels}
-use Rattle.script_text.specs.Objects.{kind_of}
-use Rattle.script_text.specs.Order.{CallInRound, IsLabel, calls_from, calls_of, is_label}
+use Rattle.run_history.specs.Actions.{Action, Entered, Looked, Made, Skipped, Wrote, also, entered, own}
+use Rattle.run_history.specs.Histories.{answers_of, history_from, history_of, lines_of_timer, reading_at}
+use Rattle.script_text.specs.Declarations.{declared_of, terms_of, kind_of, asked_slack, without_slack}
+use Rattle.run_history.specs.ObjectCalls.{Arms, DoesAccept, DoesGettime, DoesRead, DoesSettime, MakesRearming, MakesSettime, cancels}
+use Rattle.run_history.specs.Order.{CallInRound, IsLabel, calls_from, calls_of, is_label}
 use Rattle.script_text.specs.Scripts.{IsInRange, all_calls}
 use Rattle.script_text.specs.VersionOne.{IsHardCall}
 use Rattle.script_text.proofs.Lists.{All-append}
 use Rattle.script_text.proofs.VersionOne.{version_one_is_hard}
 use Rattle.record_text.proofs.Lists.{All-back, All-front}
 use Rattle.record_text.specs.declared.version.Version.TheVariants as versions
-use Rattle.script_text.specs.Starts.{Arming, arming_actions, asked_slack, without_slack}
+use Rattle.run_history.specs.Starts.{Arming, arming_actions}
 use Rattle.script_text.specs.declared.script.Call.{Call}
 use Rattle.script_text.specs.declared.script.Call.TheVariants as calls
 use Rattle.script_text.specs.declared.script.Callback.TheVariants as callbacks
@@ -57,19 +55,9 @@ use Rattle.run_history.specs.EachTimer.{FitsTimers, HasTimers}
 use Rattle.run_history.specs.Fits.{Fits}
 use Rattle.run_history.proofs.EachTimer.{fits_for_each_timer}
 use Rattle.run_history.proofs.Labels.{label_itself}
+use Rattle.run_history.proofs.Lists.{all_lists}
 
 -- ---- histories
-
--- an event asks for no slack
-abbrev EventAsksNone : Event → Type 0
-EventAsksNone (events.Start asked) = asked.slack ≡ 0
-EventAsksNone other = Unit {0}
-
--- what a reply tells of both expiries: they are one
-abbrev RepliesOne : Reply → Type 0
-RepliesOne (replies.Start placement was) = placement.soft ≡ placement.expires
-RepliesOne (replies.Forward moved) = moved.soft ≡ moved.expires
-RepliesOne other = Unit {0}
 
 no_slack : (mode : Mode) (ns : ℕ) (clock : ClockId) (reading : ClockReading) → expiry_from mode ns clock reading ≡ sat (expiry_from mode ns clock reading + 0)
 no_slack modes.Abs ns clock reading = omega arith
@@ -77,57 +65,41 @@ no_slack modes.Keep ns clock reading = omega arith
 no_slack modes.Rel ns clock reading = omega arith
 
 -- one step: the reply tells one expiry, and the timer has one after it
-one_step : (t : Timer) (e : Event) → t.soft ≡ t.expires → EventAsksNone e → RepliesOne (reply_to t e) × ((after t e).soft ≡ (after t e).expires)
-one_step t (events.Out base) one none = (tt, one)
+one_step : (t : Timer) (e : Event) → t.soft ≡ t.expires → AsksNoSlack e → ShowsNoSlack (reply_to t e) × ((after t e).soft ≡ (after t e).expires)
 one_step t (events.Start asked) one none =
     let clock = effective_clock t.declared.clock asked.mode t.clock in
     let same = no_slack asked.mode asked.ns clock asked.reading ∙ ap (λ n. sat (expiry_from asked.mode asked.ns clock asked.reading + n)) (sym none) in
     (same, same)
-one_step t events.Cancel one none = (tt, one)
-one_step t (events.Claim base reading) one none = (tt, one)
 one_step t (events.Forward reading interval) one none =
     let same = ap (λ n. sat (n + passed t.expires (now_of t reading) interval * step_of interval)) one in (same, same)
-one_step t (events.Finish restart) one none = (tt, one)
+one_step t e one none = (tt, one)
 
 one_along : (t : Timer) (es : List histories.Entry) → t.soft ≡ t.expires → histories.AreSteps t es
-    → AllByRecursion (λ (e : histories.Entry). EventAsksNone e.event) es → AllByRecursion (λ (e : histories.Entry). RepliesOne e.reply) es
+    → AllByRecursion (λ (e : histories.Entry). AsksNoSlack e.event) es → AllByRecursion (λ (e : histories.Entry). ShowsNoSlack e.reply) es
 one_along t [] one steps none = tt
 one_along t (e ∷ es) one steps none =
     let step = one_step t e.event one none.0 in
-    (subst RepliesOne (sym steps.1) step.0, one_along (after t e.event) es step.1 steps.2 none.1)
+    (subst ShowsNoSlack (sym steps.1) step.0, one_along (after t e.event) es step.1 steps.2 none.1)
 
 -- ---- lines
 
 -- an entry asks for no slack
 abbrev AsksNone : Entry → Type 0
-AsksNone (entries.Start l) = l.slack ≡ 0
-AsksNone other = Unit {0}
+AsksNone e = AsksNoSlack e.event
 
-shown_none : (clock : List ClockLine) (stamp : ℕ) (e : Entry) → AsksNone e → EventAsksNone (entry_shown clock stamp e).event
-shown_none clock stamp (entries.Out base was) none = tt
-shown_none clock stamp (entries.Start l) none = none
-shown_none clock stamp (entries.Cancel generation) none = tt
-shown_none clock stamp (entries.Claim base reading generation) none = tt
-shown_none clock stamp (entries.Forward l) none = tt
-shown_none clock stamp (entries.Finish restart generation rearmed) none = tt
+named_none : (name : ℕ → ClockReading) (e : EventBy ℕ) → AsksNoSlack e → AsksNoSlack (map_reading name e)
+named_none name (events.Start asked) none = none
+named_none name e none = tt
 
-shown_one : (clock : List ClockLine) (stamp : ℕ) (e : Entry) → AsksNone e → RepliesOne (entry_shown clock stamp e).reply → EntryHasNoSlack e
-shown_one clock stamp (entries.Out base was) none one = tt
-shown_one clock stamp (entries.Start l) none one = (none, one)
-shown_one clock stamp (entries.Cancel generation) none one = tt
-shown_one clock stamp (entries.Claim base reading generation) none one = tt
-shown_one clock stamp (entries.Forward l) none one = one
-shown_one clock stamp (entries.Finish restart generation rearmed) none one = tt
+lines_none : (clock : List ClockLine) (lines : List TimerLine) → AllByRecursion (λ (l : TimerLine). AsksNone l.entry) lines
+    → AllByRecursion (λ (e : histories.Entry). AsksNoSlack e.event) (history_from clock lines)
+lines_none clock [] none = tt
+lines_none clock (l ∷ lines) none = (named_none (reading_at clock) l.entry.event none.0, lines_none clock lines none.1)
 
-lines_none : (clock : List ClockLine) (stamp : ℕ) (lines : List TimerLine) → AllByRecursion (λ (l : TimerLine). AsksNone l.entry) lines
-    → AllByRecursion (λ (e : histories.Entry). EventAsksNone e.event) (history_from clock stamp lines)
-lines_none clock stamp [] none = tt
-lines_none clock stamp (l ∷ lines) none = (shown_none clock stamp l.entry none.0, lines_none clock (stamp + 1) lines none.1)
-
-lines_one : (clock : List ClockLine) (stamp : ℕ) (lines : List TimerLine) → AllByRecursion (λ (l : TimerLine). AsksNone l.entry) lines
-    → AllByRecursion (λ (e : histories.Entry). RepliesOne e.reply) (history_from clock stamp lines) → HaveNoSlack lines
-lines_one clock stamp [] none one = tt
-lines_one clock stamp (l ∷ lines) none one = (shown_one clock stamp l.entry none.0 one.0, lines_one clock (stamp + 1) lines none.1 one.1)
+lines_one : (clock : List ClockLine) (lines : List TimerLine) → AllByRecursion (λ (l : TimerLine). AsksNone l.entry) lines
+    → AllByRecursion (λ (e : histories.Entry). ShowsNoSlack e.reply) (history_from clock lines) → HaveNoSlack lines
+lines_one clock [] none one = tt
+lines_one clock (l ∷ lines) none one = ((none.0, one.0), lines_one clock lines none.1 one.1)
 
 -- ---- what calls did
 
@@ -220,7 +192,7 @@ read_none kind timer len reading answer actions does = absurd does
 body_none : (kind : Kind) (reading : ℕ) (f : Fired) → IsBody kind reading f → AllNone f.body
 body_none (kinds.Raw context callbacks.Once) reading f is = nothing_none f.body is.0
 body_none (kinds.Raw context (callbacks.Every interval)) reading f is =
-    ⊎_elim (λ forward. subst AllNone (sym forward.4) (tt, tt))
+    ⊎_elim (λ forward. subst AllNone (sym forward.2) (tt, tt))
     (λ looked. ⊎_elim (λ armed. subst AllNone (sym armed.2) (tt, tt)) (λ spent. subst AllNone (sym spent.1) (tt, tt)) looked) is.0
 body_none (kinds.Raw context callbacks.Cancels) reading f is = subst AllNone (sym is.0.1) (tt, tt)
 body_none (kinds.Raw context (callbacks.Starts ns base)) reading f is =
@@ -278,11 +250,6 @@ found [] i less = absurd (omega (arith, less))
 found (x ∷ xs) zero less = (x, refl)
 found (x ∷ xs) (suc i) less = found xs i (omega (arith, less))
 
--- what holds of each list by its number holds of all
-all_lists : (lists : List (List TimerLine)) → ((t : ℕ) → HaveNoSlack (get_or lists t [])) → AllByRecursion HaveNoSlack lists
-all_lists [] each = tt
-all_lists (x ∷ xs) each = (each 0, all_lists xs (λ t. each (suc t)))
-
 -- where all lines of each label ask for none, and each line bears such a label, all do
 each_none : (Is : Label → Type 0) (number : ℕ) (lines : List TimerLine)
     → ((c : Label) → Is c → AllByRecursion (λ (x : ℕ × Entry). AsksNone x.1) (own (λ l. l.label) (λ l. l.entry) c number lines))
@@ -308,7 +275,7 @@ timer_none s r has none t =
     let lines = lines_of_timer r t in
     let asks : AllByRecursion (λ (l : TimerLine). AsksNone l.entry) lines =
     each_none (IsLabel s) 1 lines (λ c is. own_of c is) (has.labels t) in
-    lines_one r.clock 0 lines asks (one_along (opening (declared_of s t) (terms_of s)) (history_of r t) refl (has.histories t) (lines_none r.clock 0 lines asks))
+    lines_one r.clock lines asks (one_along (opening (declared_of s t) (terms_of s)) (history_of r t) refl (has.histories t) (lines_none r.clock lines asks))
   where
     own_of : (c : Label) → IsLabel s c → AllByRecursion (λ (x : ℕ × Entry). AsksNone x.1) (own (λ l. l.label) (λ l. l.entry) c 1 (lines_of_timer r t))
     own_of c is =
@@ -320,7 +287,7 @@ timer_none s r has none t =
 
 -- law: the record of a script whose calls ask for no slack has none
 pub none_recorded : (s : Script) (r : RunRecord) → HasTimers s r → NoneAsked s → HasNoSlack r
-none_recorded s r has none = all_lists r.timers (λ t. timer_none s r has none t)
+none_recorded s r has none = all_lists HaveNoSlack r.timers (λ t. timer_none s r has none t)
 
 -- ---- scripts of version 1
 

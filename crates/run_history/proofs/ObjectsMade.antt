@@ -18,8 +18,8 @@ use Rattle.record_text.specs.declared.record.Answer.TheVariants as answers
 use Rattle.record_text.specs.declared.record.Answer.{Answer}
 use Rattle.record_text.specs.declared.record.Armed.TheVariants as armings
 use Rattle.record_text.specs.declared.record.Armed.{Armed}
-use Rattle.record_text.specs.declared.record.Entry.TheVariants as entries
-use Rattle.record_text.specs.declared.record.Entry.{Entry}
+use Rattle.seq_timer.specs.declared.event.EventBy.{EventBy}
+use Rattle.seq_timer.specs.declared.event.EventBy.TheVariants as events
 use Rattle.record_text.specs.declared.record.Label.{Label}
 use Rattle.record_text.specs.declared.record.ObjectEntry.TheVariants as object_entries
 use Rattle.record_text.specs.declared.record.ObjectEntry.{ObjectEntry}
@@ -27,11 +27,12 @@ use Rattle.record_text.specs.declared.record.ReadReply.TheVariants as reads
 use Rattle.record_text.specs.declared.record.ReadReply.{ReadReply}
 use Rattle.record_text.specs.declared.record.SettimeReply.TheVariants as settings
 use Rattle.record_text.specs.declared.record.SettimeReply.{SettimeReply}
-use Rattle.script_text.specs.Actions.{Action, Entered, Looked, Made, Skipped, Wrote}
-use Rattle.script_text.specs.Told.{IsArmedLike}
-use Rattle.script_text.specs.ObjectCalls.{AreValidFor, Arms, base_of, cancels, DoesGettime, MakesRearming, MakesSettime, nanoseconds_of, start_mode}
-use Rattle.script_text.specs.Objects.{ArmedAs, kind_of, object_armed_after}
-use Rattle.script_text.specs.Starts.{Arming, arming_actions, without_slack}
+use Rattle.run_history.specs.Actions.{Action, Entered, Looked, Made, Skipped, Wrote}
+use Rattle.run_history.specs.Told.{IsArmedLike}
+use Rattle.run_history.specs.ObjectCalls.{AreValidFor, Arms, cancels, DoesGettime, MakesRearming, MakesSettime, nanoseconds_of, start_mode}
+use Rattle.script_text.specs.Declarations.{base_of, kind_of, without_slack}
+use Rattle.run_history.specs.Objects.{ArmedAs, object_armed_after}
+use Rattle.run_history.specs.Starts.{Arming, arming_actions}
 use Rattle.script_text.specs.declared.script.StartRequest.{StartRequest}
 use Rattle.script_text.specs.declared.script.Call.TheVariants as calls
 use Rattle.script_text.specs.declared.script.Call.{Call}
@@ -42,7 +43,7 @@ use Rattle.run_history.specs.Fits.{FitsCall, Seen}
 use Rattle.run_history.specs.Receipts.{Noted}
 use Rattle.run_history.specs.Rounds.{Spans}
 use Rattle.run_history.specs.Traces.{all_entered}
-use Rattle.run_history.specs.Truths.{AreTrue, DisarmedFirst, HasSpan, IsEmptySpan, IsSeen, IsSpan, IsSpanBy, IsTrue, IsTrueEntry, IsTrueStart, SawRefusal}
+use Rattle.run_history.specs.Truths.{AreTrue, DisarmedFirst, HasSpan, IsEmptySpan, IsMoment, IsSeen, IsSpan, IsSpanBy, IsTrue, IsTrueEntry, IsTrueStart, OfClaim, SawRefusal}
 use Rattle.run_history.proofs.Actions.{all_entered-append}
 use Rattle.run_history.proofs.Kept.{call_made, inside_behind, inside_below, IsKept, made_all, moment_of}
 use Rattle.run_history.proofs.OthersMade.{plain}
@@ -97,9 +98,12 @@ module _ (w : Course) (seen later : List TimerEntry) (is : entries_in w ≡ seen
 
 -- an entry of a timer that isn't a claim tells nothing that must be looked up
 abbrev pub IsPlain : Action → Type 0
-IsPlain (Entered timer number (entries.Claim base reading generation)) = ⊥
-IsPlain (Entered timer number entry) = Unit
+IsPlain (Entered timer number entry) = OfClaim entry.event ⊥
 IsPlain action = ⊥
+
+no_claim : (event : EventBy ℕ) (P : Type 0) → OfClaim event ⊥ → OfClaim event P
+no_claim (events.Claim base reading) P plain = absurd plain
+no_claim event P plain = tt
 
 plain_then : (w : Course) (c : Label) (first from n last : ℕ) (before ds : List Action) (d : Action) → AllByRecursion IsPlain ds → from ≤ n → n ≤ last
     → IsTrue w c first (before ++ ds) d n → AreTrue w c first from before (ds ++ d ∷ []) last
@@ -107,18 +111,10 @@ plain_then w c first from n last before [] d plain le high is = (n, le, subst (�
 plain_then w c first from n last before (Entered timer number entry ∷ ds) d plain le high is = (
   from,
   omega arith,
-  nothing entry plain.0,
+  no_claim entry.event (IsMoment w c before from) plain.0,
   plain_then w c first from n last (before ++ Entered timer number entry ∷ []) ds d plain.1 le high
       (subst (λ b. IsTrue w c first b d n) (sym (append_assoc before (Entered timer number entry ∷ []) ds)) is),
 )
-  where
-    nothing : (entry : Entry) → IsPlain (Entered timer number entry) → IsTrue w c first before (Entered timer number entry) from
-    nothing (entries.Out base was) plain = tt
-    nothing (entries.Start l) plain = tt
-    nothing (entries.Cancel generation) plain = tt
-    nothing (entries.Claim base reading generation) plain = absurd plain
-    nothing (entries.Forward l) plain = tt
-    nothing (entries.Finish restart generation rearmed) plain = tt
 plain_then w c first from n last before (Wrote number write ∷ ds) d plain le high is = absurd plain.0
 plain_then w c first from n last before (Looked timer number reply ∷ ds) d plain le high is = absurd plain.0
 plain_then w c first from n last before (Made i number entry ∷ ds) d plain le high is = absurd plain.0

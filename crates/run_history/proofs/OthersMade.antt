@@ -4,10 +4,11 @@ use Rattle.std.specs.List.{AllByRecursion}
 use Rattle.clock_model.specs.declared.write.Write.{Write}
 use Rattle.record_text.specs.declared.record.Answer.TheVariants as answers
 use Rattle.record_text.specs.declared.record.Answer.{Answer}
-use Rattle.record_text.specs.declared.record.Entry.TheVariants as entries
+use Rattle.seq_timer.specs.declared.event.EventBy.TheVariants as events
+use Rattle.seq_timer.specs.declared.event.Reply.TheVariants as replies
 use Rattle.record_text.specs.declared.record.Label.{Label}
-use Rattle.script_text.specs.Actions.{Action, Entered, Wrote}
-use Rattle.script_text.specs.Starts.{Arming, arming_actions, IsJustBefore, was_armed_before}
+use Rattle.run_history.specs.Actions.{Action, Entered, Wrote}
+use Rattle.run_history.specs.Starts.{Arming, arming_actions, IsJustBefore, was_armed_before}
 use Rattle.script_text.specs.declared.script.StartRequest.{StartRequest}
 use Rattle.script_text.specs.declared.script.Call.TheVariants as calls
 use Rattle.script_text.specs.declared.script.Call.{Call}
@@ -36,8 +37,8 @@ quiet_made {last = last} {notes = notes} kept does seen =
 
 -- a cancel that cancelled
 pub cancelled_made : {w : Course} {moves : Spans} {c : Label} {at first last : ℕ} {notes : List Noted} {before after : Seen} (timer number generation : ℕ)
-    → IsKept w moves c (plain at first last (Entered timer number (entries.Cancel generation) ∷ [])) notes (calls.Cancel timer) (answers.Cancelled generation)
-    before after
+    → IsKept w moves c (plain at first last (Entered timer number (record { event = events.Cancel; reply = replies.Cancel generation }) ∷ [])) notes
+    (calls.Cancel timer) (answers.Cancelled generation) before after
     → first ≡ moves.first c → FitsCall w c (calls.Cancel timer) (answers.Cancelled generation) before after
 cancelled_made {first = first} timer number generation kept starts =
     call_made_whole kept starts (number, refl) (first, omega arith, tt, omega (arith, starts, kept.forward)) tt tt
@@ -62,9 +63,9 @@ start_true w c first from to timer reading request before a order = go a.out
 pub started_made : {w : Course} {moves : Spans} {c : Label} {at first last : ℕ} {notes : List Noted} {before after : Seen} (timer : ℕ) (request : StartRequest)
     (a : Arming)
     → IsKept w moves c (plain at first last (arming_actions timer request at a)) notes (calls.Start timer request)
-    (answers.Started a.number a.base (was_armed_before a.out a.was_armed)) before after
+    (answers.Started a.number a.placement.base (was_armed_before a.out a.was_armed)) before after
     → first ≡ moves.first c → IsJustBefore a.out a.number
-    → FitsCall w c (calls.Start timer request) (answers.Started a.number a.base (was_armed_before a.out a.was_armed)) before after
+    → FitsCall w c (calls.Start timer request) (answers.Started a.number a.placement.base (was_armed_before a.out a.was_armed)) before after
 started_made {w = w} {c = c} {at = at} {first = first} {last = last} timer request a kept starts just =
     call_made_whole kept starts (a, refl, refl, refl, refl, just)
     (start_true w c first first last timer at request [] a (omega (arith, starts, kept.forward))) tt tt

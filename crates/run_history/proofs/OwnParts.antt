@@ -9,9 +9,9 @@ use Rattle.record_text.specs.declared.record.ClockLine.{ClockLine}
 use Rattle.record_text.specs.declared.record.Entry.{Entry}
 use Rattle.record_text.specs.declared.record.Label.{Label}
 use Rattle.record_text.specs.declared.record.TimerLine.{TimerLine}
-use Rattle.script_text.specs.Actions.{Action, also, Entered, entered, Looked, Made, own, Skipped, Wrote}
-use Rattle.script_text.specs.Histories.{entry_shown, history_from}
-use Rattle.script_text.specs.Order.{is_label, made_by}
+use Rattle.run_history.specs.Actions.{Action, also, Entered, entered, Looked, Made, own, Skipped, Wrote}
+use Rattle.run_history.specs.Histories.{entry_shown, history_from}
+use Rattle.run_history.specs.Order.{is_label, made_by}
 use Rattle.seq_timer.specs.Histories as histories
 use Rattle.seq_timer.specs.Systems.{entries_of}
 use Rattle.run_history.specs.Courses.{entry_of_move, Move, moves_from, moves_on}
@@ -89,7 +89,7 @@ labels_of_lines t b (l ∷ lines) = ap (λ xs. l.label ∷ xs) (labels_of_lines 
 
 -- the entry that a move shows, of its timer's history
 abbrev pub own_entry : List ClockLine → Move → histories.Entry
-own_entry clock m = entry_shown clock m.before m.line.entry
+own_entry clock m = entry_shown clock m.line.entry
 
 -- a timer's entries are what its moves show
 pub entries_on : (clock : List ClockLine) (t : ℕ) (ms : List Move) → entries_of t (map (entry_of_move clock) ms) ≡ map (own_entry clock) (moves_on t ms)
@@ -102,9 +102,9 @@ entries_on clock t (m ∷ ms) =
     ]
 
 -- and a timer's lines show its history
-pub history_shown : (clock : List ClockLine) (t b : ℕ) (lines : List TimerLine) → map (own_entry clock) (moves_from t b lines) ≡ history_from clock b lines
+pub history_shown : (clock : List ClockLine) (t b : ℕ) (lines : List TimerLine) → map (own_entry clock) (moves_from t b lines) ≡ history_from clock lines
 history_shown clock t b [] = refl
-history_shown clock t b (l ∷ lines) = ap (λ xs. entry_shown clock b l.entry ∷ xs) (history_shown clock t (b + 1) lines)
+history_shown clock t b (l ∷ lines) = ap (λ xs. entry_shown clock l.entry ∷ xs) (history_shown clock t (b + 1) lines)
 
 -- ---- the moves of a call
 

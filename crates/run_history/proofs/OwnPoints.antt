@@ -19,12 +19,14 @@ use Rattle.seq_timer.proofs.Contents.{declared-after_all}
 use Rattle.seq_timer.specs.Turns.{IsInTurn, IsTurn}
 use Rattle.seq_timer.proofs.Agreement.{stamp_counts}
 use Rattle.seq_timer.proofs.Systems.{after_entries-append, after_entries-entries_of, timer_else, timer_here}
-use Rattle.record_text.specs.declared.record.Entry.TheVariants as entries
+use Rattle.seq_timer.specs.declared.event.EventBy.TheVariants as events
+use Rattle.seq_timer.specs.Events.{map_reading}
 use Rattle.record_text.specs.declared.record.Label.{Label}
 use Rattle.record_text.specs.declared.record.TimerLine.{TimerLine}
-use Rattle.script_text.specs.Actions.{Action, also, entered, own}
-use Rattle.script_text.specs.Histories.{declared_as, declared_of, entry_shown, history_from, history_of, lines_of_timer, reading_at, timer_after, timer_labels, terms_of, declareds_of}
-use Rattle.script_text.specs.Order.{is_before, IsInOrder, made_by}
+use Rattle.run_history.specs.Actions.{Action, also, entered, own}
+use Rattle.run_history.specs.Histories.{history_from, history_of, lines_of_timer, reading_at, timer_after, timer_labels}
+use Rattle.script_text.specs.Declarations.{declared_as, declared_of, terms_of, declareds_of}
+use Rattle.run_history.specs.Order.{is_before, IsInOrder, made_by}
 use Rattle.run_history.specs.Courses.{Course, entries_in, entry_of_move, IsOneHistory, labels, Move, moves_on, timer_along}
 use Rattle.run_history.specs.EachTimer.{IsOwnPoint, WasSo}
 use Rattle.run_history.specs.Traces.{all_entered, own_moves}
@@ -114,7 +116,7 @@ module _ (w : Course) (one : IsOneHistory w) (timers : length w.run.timers ≡ l
       (λ past. inr (
         absent (declareds_of w.script) (terms_of w.script) t past,
         get_or_past (declareds_of w.script) t no_declared past,
-        ap (history_from w.run.clock 0) (get_or_past w.run.timers t [] (subst (λ n. n ≤ t) (length-map w.script.timers declared_as ∙ sym timers) past)),
+        ap (history_from w.run.clock) (get_or_past w.run.timers t [] (subst (λ n. n ≤ t) (length-map w.script.timers declared_as ∙ sym timers) past)),
       ))
       (cases_lt t (length (declareds_of w.script)))
 
@@ -227,11 +229,11 @@ module _ (w : Course) (one : IsOneHistory w) (timers : length w.run.timers ≡ l
           ]
 
   -- law: a claim was in turn at its place
-  pub turn_at : (p : ℕ) (m : Move) (base reading generation : ℕ) → slice_get w.moves p ≡ Some m → m.line.entry ≡ entries.Claim base reading generation
+  pub turn_at : (p : ℕ) (m : Move) (base reading : ℕ) → slice_get w.moves p ≡ Some m → m.line.entry.event ≡ events.Claim base reading
       → IsTurn (in_context (timer_along w p m.timer).declared.context (timer_along w p)) (armed_in (declareds_of w.script) (terms_of w.script) (take p (entries_in w))) base (reading_at w.run.clock reading) m.timer
-  turn_at p m base reading generation at is =
+  turn_at p m base reading at is =
       (in_turn (take p (entries_in w)) _ (entry_of_move w.run.clock m) (split_at (entries_in w) p (entry_of_move w.run.clock m)
-      (at_map (entry_of_move w.run.clock) w.moves p m at))).turn base (reading_at w.run.clock reading) (ap (λ x. (entry_shown w.run.clock m.before x).event) is)
+      (at_map (entry_of_move w.run.clock) w.moves p m at))).turn base (reading_at w.run.clock reading) (ap (map_reading (reading_at w.run.clock)) is)
 
   -- law: what a call saw at a moment was so after a number of the timer's entries
   pub saw_then : (c : Label) (before rest : List Action) (n t number : ℕ) (observation : Observation) → own_moves c w.moves ≡ all_entered (before ++ rest)

@@ -3,10 +3,10 @@ use Rattle.std.proofs.Common.{◌≡◌, ◌<◌, ◌≤◌, ℕ, ◌+◌, zero,
 use Rattle.std.specs.List.{AllByRecursion}
 use Rattle.std.proofs.lemmas.List.{take-map}
 use Rattle.record_text.specs.declared.record.Label.{Label}
-use Rattle.script_text.specs.Actions.{Action, also, made, own, wrote}
-use Rattle.script_text.specs.Histories.{clock_labels}
-use Rattle.script_text.specs.Objects.{lines_of_object, object_labels}
-use Rattle.script_text.specs.Order.{is_label, IsLabel, IsPoint, made_by}
+use Rattle.run_history.specs.Actions.{Action, also, made, own, wrote}
+use Rattle.run_history.specs.Histories.{clock_labels}
+use Rattle.run_history.specs.Objects.{lines_of_object, object_labels}
+use Rattle.run_history.specs.Order.{is_label, IsLabel, IsPoint, made_by}
 use Rattle.script_text.specs.declared.script.Script.{Script}
 use Rattle.run_history.specs.Courses.{Course}
 use Rattle.run_history.specs.Rounds.{IsLaid, Spans}

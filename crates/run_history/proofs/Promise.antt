@@ -8,9 +8,9 @@ use Rattle.seq_timer.specs.declared.system.TimerEntry.{TimerEntry}
 use Rattle.record_text.specs.declared.record.Answer.{Answer}
 use Rattle.record_text.specs.declared.record.ClockLine.{ClockLine}
 use Rattle.record_text.specs.declared.record.Label.{Label}
-use Rattle.script_text.specs.Actions.{Action, made}
-use Rattle.script_text.specs.Histories.{reading_at}
-use Rattle.script_text.specs.Order.{CallInRound, calls_of, IsLabel}
+use Rattle.run_history.specs.Actions.{Action, made}
+use Rattle.run_history.specs.Histories.{reading_at}
+use Rattle.run_history.specs.Order.{CallInRound, calls_of, IsLabel}
 use Rattle.script_text.specs.declared.script.Call.{Call}
 use Rattle.script_text.specs.declared.script.Script.{Script}
 use Rattle.run_history.specs.Courses.{Course, entries_in}

@@ -5,7 +5,7 @@ use Rattle.std.proofs.Math.Logic.{⊎_elim}
 use Rattle.std.proofs.lemmas.Bool.Decides.{nat_tests}
 use Rattle.std.proofs.lemmas.Bool.{and_parts, eqb-true}
 use Rattle.record_text.specs.declared.record.Label.{Label}
-use Rattle.script_text.specs.Order.{calls_of, is_before, IsInOrder, IsLabel, IsWithin, round_of}
+use Rattle.run_history.specs.Order.{calls_of, is_before, IsInOrder, IsLabel, IsWithin, round_of}
 use Rattle.script_text.specs.declared.script.Script.{Script}
 use Rattle.run_history.specs.Rounds.{IsLaid, IsLedger, label_at, Spans}
 use Rattle.run_history.proofs.Labels.{refuted}

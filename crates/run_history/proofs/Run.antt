@@ -5,9 +5,9 @@ use Rattle.seq_timer.specs.Systems.{entries_of}
 use Rattle.record_text.specs.declared.record.Entry.{Entry}
 use Rattle.record_text.specs.declared.record.Label.{Label}
 use Rattle.record_text.specs.declared.record.RunRecord.{RunRecord}
-use Rattle.script_text.specs.Histories.{clock_labels, history_of}
-use Rattle.script_text.specs.Objects.{object_labels}
-use Rattle.script_text.specs.Order.{is_label, IsLabel}
+use Rattle.run_history.specs.Histories.{clock_labels, history_of}
+use Rattle.run_history.specs.Objects.{object_labels}
+use Rattle.run_history.specs.Order.{is_label, IsLabel}
 use Rattle.script_text.specs.declared.script.Script.{Script}
 use Rattle.run_history.specs.Courses.{labels, Move}
 use Rattle.run_history.specs.Fits.{Fits, FitsIn}

@@ -7,14 +7,13 @@ use Rattle.seq_timer.specs.Histories as histories
 use Rattle.seq_timer.specs.Histories.{after_all}
 use Rattle.seq_timer.specs.Systems.{entries_of}
 use Rattle.seq_timer.specs.declared.system.TimerEntry.{TimerEntry}
-use Rattle.record_text.specs.declared.record.ClockLine.{ClockLine}
 use Rattle.record_text.specs.declared.record.Label.{Label}
 use Rattle.record_text.specs.declared.record.RunRecord.{RunRecord}
 use Rattle.record_text.specs.declared.record.TimerLine.{TimerLine}
-use Rattle.script_text.specs.Histories.{entry_shown, history_from, history_of, lines_of_timer}
+use Rattle.run_history.specs.Histories.{entry_shown, history_of, lines_of_timer}
 use Rattle.run_history.specs.Receipts.{as_own, count, IsMade, no_line, Noted, ShowsEntry}
 use Rattle.run_history.proofs.Laid.{AreReceipts, IsLine, same_place}
-use Rattle.run_history.proofs.Lists.{all_at}
+use Rattle.run_history.proofs.Lists.{all_at, at_map}
 use Rattle.run_history.proofs.Weave.{length_history, with_own}
 
 -- lists of the same length with the same items
@@ -51,19 +50,6 @@ entry_place t k e (y ∷ xs) at =
     here (suc k) at is further =
         let r = further k at in later (suc k) r (ap (λ b. length (with_own b y (entries_of t (take r.place xs)))) is ∙ ap suc r.number)
 
-history_at : (clock : List ClockLine) (b n : ℕ) (lines : List TimerLine) (line : TimerLine) → slice_get lines n ≡ Some line
-    → slice_get (history_from clock b lines) n ≡ Some (entry_shown clock (b + n) line.entry)
-history_at clock b n [] line at = absurd (cc)
-history_at clock b zero (l ∷ lines) line at =
-    ap (λ (z : TimerLine). Some (entry_shown clock b z.entry)) (same_Some l line at) ∙ ap (λ m. Some (entry_shown clock m line.entry)) (none b)
-  where
-    none : (b : ℕ) → b ≡ b + 0
-    none b = omega arith
-history_at clock b (suc n) (l ∷ lines) line at = history_at clock (b + 1) n lines line at ∙ ap (λ m. Some (entry_shown clock m line.entry)) (further b n)
-  where
-    further : (b n : ℕ) → b + 1 + n ≡ b + suc n
-    further b n = omega arith
-
 module _ (r : RunRecord) (order : List TimerEntry) (notes : Label → List Noted) (all : AreReceipts r order notes)
     (entries : (c : Label) → AllByRecursion (ShowsEntry r order) (notes c)) where
   -- the line of a timer's entry shows it
@@ -85,15 +71,12 @@ module _ (r : RunRecord) (order : List TimerEntry) (notes : Label → List Noted
       same_place order note.place f.place t made.step f.step made.there f.there timer f.timer
       (less_one (count t (take note.place order)) _ note.number k number noted.number f.number) in
       let step_is : shows.step ≡ f.step = same_Some shows.step f.step (sym shows.there ∙ ap (slice_get order) place ∙ f.there) in
-      let before_is : shows.before ≡ k = one_less shows.before k note.number shows.number noted.number in
       let own_is : its.before ≡ k = one_less its.before k note.number its.number noted.number in
       let line_is : its.line ≡ line = same_Some its.line line (sym its.there ∙ ap (slice_get (lines_of_timer r note.timer)) own_is
       ∙ ap (λ u. slice_get (lines_of_timer r u) k) noted.timer ∙ there) in
-      history_at r.clock 0 k (lines_of_timer r t) line there
-      ∙ ap (λ n. Some (entry_shown r.clock n line.entry)) (from_none k)
-      ∙ ap (λ (l : TimerLine). Some (entry_shown r.clock k l.entry)) (sym line_is)
-      ∙ ap (λ x. Some (entry_shown r.clock k x)) its.entry
-      ∙ ap (λ n. Some (entry_shown r.clock n note.entry)) (sym before_is)
+      at_map (λ (l : TimerLine). entry_shown r.clock l.entry) (lines_of_timer r t) k line there
+      ∙ ap (λ (l : TimerLine). Some (entry_shown r.clock l.entry)) (sym line_is)
+      ∙ ap (λ x. Some (entry_shown r.clock x)) its.entry
       ∙ ap (λ x. Some x) (sym shows.entry ∙ ap as_own step_is ∙ f.is)
     where
       less_one : (a b n k : ℕ) → a + 1 ≡ n → n ≡ k + 1 → b ≡ k → a ≡ b
@@ -102,10 +85,7 @@ module _ (r : RunRecord) (order : List TimerEntry) (notes : Label → List Noted
       one_less : (a k n : ℕ) → a + 1 ≡ n → n ≡ k + 1 → a ≡ k
       one_less a k n e f = omega (arith, e, f)
 
-      from_none : (k : ℕ) → 0 + k ≡ k
-      from_none k = omega arith
-
   -- law: so each timer's lines show its part of the order
   pub shows_from : (t : ℕ) → history_of r t ≡ entries_of t order
   shows_from t =
-      sym (same_items (entries_of t order) (history_of r t) (sym (length_history r.clock 0 (lines_of_timer r t) ∙ all.whole t)) (λ k e at. shows_at t k e at))
+      sym (same_items (entries_of t order) (history_of r t) (sym (length_history r.clock (lines_of_timer r t) ∙ all.whole t)) (λ k e at. shows_at t k e at))

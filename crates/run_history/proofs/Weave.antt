@@ -3,7 +3,7 @@
 use Rattle.std.proofs.Common.{◌≡◌, ℕ, ◌+◌, zero, suc, Bool, true, false, nat_eq, List, [], ◌∷◌, ◌++◌, Some, length, map, drop, get_or, arith, refl, sym, ap, ◌∙◌, subst, if◌then◌else◌}
 use Rattle.std.specs.List.{slice_get}
 use Rattle.std.proofs.lemmas.Bool.{eq-eqb, eqb-true}
-use Rattle.std.proofs.lemmas.List.{append_assoc, drop_all, drop_more, length-append}
+use Rattle.std.proofs.lemmas.List.{append_assoc, drop_all, drop_more, length-append, length-map}
 use Rattle.std.proofs.lemmas.Option.{same_Some}
 use Rattle.seq_timer.proofs.Systems.{entries_of-append}
 use Rattle.seq_timer.specs.Histories.{Entry}
@@ -12,8 +12,9 @@ use Rattle.seq_timer.specs.declared.system.TimerEntry.{TimerEntry}
 use Rattle.record_text.specs.declared.record.ClockLine.{ClockLine}
 use Rattle.record_text.specs.declared.record.RunRecord.{RunRecord}
 use Rattle.record_text.specs.declared.record.TimerLine.{TimerLine}
-use Rattle.script_text.specs.Actions.{also}
-use Rattle.script_text.specs.Histories.{entry_shown, history_from, history_of, lines_of_timer, terms_of, declareds_of}
+use Rattle.run_history.specs.Actions.{also}
+use Rattle.run_history.specs.Histories.{entry_shown, history_from, history_of, lines_of_timer}
+use Rattle.script_text.specs.Declarations.{terms_of, declareds_of}
 use Rattle.script_text.specs.declared.script.Script.{Script}
 use Rattle.run_history.specs.Courses.{entries_in, entry_of_move, IsOneHistory, Move, moves_from, moves_on}
 use Rattle.run_history.specs.Receipts.{as_own, count, move_of, no_line, weave}
@@ -58,17 +59,11 @@ weave_on r t done (x ∷ xs) all =
 
 -- ---- and show the order's entries
 
-shown_at : (clock : List ClockLine) (b n : ℕ) (lines : List TimerLine) (e : Entry) → slice_get (history_from clock b lines) n ≡ Some e
-    → entry_shown clock (b + n) (get_or lines n no_line).entry ≡ e
-shown_at clock b n [] e is = absurd (cc)
-shown_at clock b zero (l ∷ lines) e is = ap (λ k. entry_shown clock k l.entry) (none b) ∙ same_Some _ e is
-  where
-    none : (b : ℕ) → b + 0 ≡ b
-    none b = omega arith
-shown_at clock b (suc n) (l ∷ lines) e is = ap (λ k. entry_shown clock k (get_or lines n no_line).entry) (further b n) ∙ shown_at clock (b + 1) n lines e is
-  where
-    further : (b n : ℕ) → b + suc n ≡ b + 1 + n
-    further b n = omega arith
+shown_at : (clock : List ClockLine) (n : ℕ) (lines : List TimerLine) (e : Entry) → slice_get (history_from clock lines) n ≡ Some e
+    → entry_shown clock (get_or lines n no_line).entry ≡ e
+shown_at clock n [] e is = absurd (cc)
+shown_at clock zero (l ∷ lines) e is = same_Some _ e is
+shown_at clock (suc n) (l ∷ lines) e is = shown_at clock n lines e is
 
 pub weave_shows : (r : RunRecord) (order done xs : List TimerEntry) → order ≡ done ++ xs → ((t : ℕ) → history_of r t ≡ entries_of t order)
     → map (entry_of_move r.clock) (weave r done xs) ≡ xs
@@ -80,18 +75,12 @@ weave_shows r order done (x ∷ xs) is shows =
     let at : slice_get (history_of r t) n ≡ Some (as_own x) =
     ap (λ es. slice_get es n) (shows t ∙ ap (entries_of t) is ∙ entries_of-append t done (x ∷ xs) ∙ ap (λ es. entries_of t done ++ es) itself)
     ∙ at_seam (entries_of t done) (entries_of t xs) (as_own x) in
-    let here : entry_shown r.clock n (get_or (lines_of_timer r t) n no_line).entry ≡ as_own x =
-    ap (λ k. entry_shown r.clock k (get_or (lines_of_timer r t) n no_line).entry) (from_none n)
-    ∙ shown_at r.clock 0 n (lines_of_timer r t) (as_own x) at in
+    let here : entry_shown r.clock (get_or (lines_of_timer r t) n no_line).entry ≡ as_own x = shown_at r.clock n (lines_of_timer r t) (as_own x) at in
     ap (λ (e : Entry). record { timer = t; event = e.event; reply = e.reply } ∷ map (entry_of_move r.clock) (weave r (done ++ x ∷ []) xs)) here
     ∙ ap (λ ys. x ∷ ys) (weave_shows r order (done ++ x ∷ []) xs (is ∙ sym (append_assoc done (x ∷ []) xs)) shows)
-  where
-    from_none : (n : ℕ) → n ≡ 0 + n
-    from_none n = omega arith
 
-pub length_history : (clock : List ClockLine) (b : ℕ) (lines : List TimerLine) → length (history_from clock b lines) ≡ length lines
-length_history clock b [] = refl
-length_history clock b (l ∷ lines) = ap suc (length_history clock (b + 1) lines)
+pub length_history : (clock : List ClockLine) (lines : List TimerLine) → length (history_from clock lines) ≡ length lines
+length_history clock lines = length-map lines (λ (line : TimerLine). entry_shown clock line.entry)
 
 pub length_weave : (r : RunRecord) (done xs : List TimerEntry) → length (weave r done xs) ≡ length xs
 length_weave r done [] = refl
@@ -105,7 +94,7 @@ module _ (s : Script) (e : Ending) (shows : (t : ℕ) → history_of e.run t ≡
   pub one_history_from : IsSystemHistory s.bases (declareds_of s) (terms_of s) e.order → IsOneHistory (course_of s e)
   one_history_from history = record {
     all = λ t. weave_on e.run t [] e.order
-        (sym (from_none (count t e.order)) ∙ ap length (sym (shows t)) ∙ length_history e.run.clock 0 (lines_of_timer e.run t));
+        (sym (from_none (count t e.order)) ∙ ap length (sym (shows t)) ∙ length_history e.run.clock (lines_of_timer e.run t));
     history = subst (IsSystemHistory s.bases (declareds_of s) (terms_of s)) (sym woven) history;
   }
     where

@@ -10,37 +10,38 @@ use Rattle.script_text.specs.declared.script.Call.{Call}
 use Rattle.script_text.specs.declared.script.Call.TheVariants as calls
 use Rattle.script_text.specs.declared.script.Script.{Script}
 use Rattle.seq_timer.specs.declared.context.Context.{Context}
-use Rattle.record_text.specs.declared.record.Entry.TheVariants as entries
-use Rattle.record_text.specs.declared.record.ForwardLine.{ForwardLine}
-use Rattle.record_text.specs.declared.record.CallbackReply.TheVariants as replies
+use Rattle.seq_timer.specs.declared.event.EventBy.TheVariants as events
+use Rattle.seq_timer.specs.declared.event.Moved.{Moved}
+use Rattle.seq_timer.specs.declared.event.Reply.TheVariants as replies
+use Rattle.record_text.specs.declared.record.CallbackReply.TheVariants as told
 use Rattle.record_text.specs.declared.record.Answer.{Answer}
 use Rattle.record_text.specs.declared.record.Answer.TheVariants as answers
 use Rattle.record_text.specs.declared.record.ObjectEntry.TheVariants as object_entries
-use Rattle.script_text.specs.Histories.{declared_of}
-use Rattle.script_text.specs.Starts.{Arming, IsJustBefore, arming_actions, without_slack, was_armed_before}
-use Rattle.script_text.specs.ObjectCalls.{DoesSettime, DoesGettime, DoesAccept, DoesRead}
-use Rattle.script_text.specs.Objects.{kind_of}
-use Rattle.script_text.specs.Actions.{Action, Wrote, Entered, Looked, Made, Skipped}
+use Rattle.script_text.specs.Declarations.{declared_of, without_slack, kind_of}
+use Rattle.run_history.specs.Starts.{Arming, IsJustBefore, arming_actions, was_armed_before}
+use Rattle.run_history.specs.ObjectCalls.{DoesSettime, DoesGettime, DoesAccept, DoesRead}
+use Rattle.run_history.specs.Actions.{Action, Wrote, Entered, Looked, Made, Skipped}
 use Rattle.run_history.specs.Courses.{Fired}
 
 -- all that an expiry run did for one callback
 abbrev pub fires : ℕ → ℕ → Fired → List Action
 fires base reading f =
-    Entered f.timer f.claim (entries.Claim base reading f.generation)
-    ∷ f.body ++ Entered f.timer f.finish (entries.Finish f.restart f.generation f.rearmed) ∷ []
+    Entered f.timer f.claim (record { event = events.Claim base reading; reply = replies.Claim f.generation })
+    ∷ f.body ++ Entered f.timer f.finish (record { event = events.Finish f.restart; reply = replies.Finish f.generation f.restarted }) ∷ []
 
 -- what a raw timer's callback may do, and whether it asks for a restart, by its declaration
 abbrev pub IsCallback : Callback → ℕ → Fired → Type 0
 IsCallback callbacks.Once reading f = (f.body ≡ []) × (f.restart ≡ false)
 IsCallback (callbacks.Every interval) reading f =
-    (((number : ℕ) × (l : ForwardLine) × (l.reading ≡ reading) × (l.interval ≡ interval) × (f.body ≡ Entered f.timer number (entries.Forward l) ∷ []))
-    ⊎ (((number : ℕ) × (generation : ℕ) × (f.body ≡ Looked f.timer number (replies.Armed generation) ∷ []))
-    ⊎ ((number : ℕ) × (f.body ≡ Looked f.timer number replies.Spent ∷ []))))
+    (((number : ℕ) × (moved : Moved)
+    × (f.body ≡ Entered f.timer number (record { event = events.Forward reading interval; reply = replies.Forward moved }) ∷ []))
+    ⊎ (((number : ℕ) × (generation : ℕ) × (f.body ≡ Looked f.timer number (told.Armed generation) ∷ []))
+    ⊎ ((number : ℕ) × (f.body ≡ Looked f.timer number told.Spent ∷ []))))
     × (f.restart ≡ true)
-IsCallback callbacks.Cancels reading f = ((number : ℕ) × (f.body ≡ Looked f.timer number (replies.Running f.generation) ∷ [])) × (f.restart ≡ false)
+IsCallback callbacks.Cancels reading f = ((number : ℕ) × (f.body ≡ Looked f.timer number (told.Running f.generation) ∷ [])) × (f.restart ≡ false)
 IsCallback (callbacks.Starts ns base) reading f =
     (((a : Arming) × (f.body ≡ arming_actions f.timer (without_slack modes.Rel ns base) reading a))
-    ⊎ ((number : ℕ) × (f.body ≡ Looked f.timer number replies.Spent ∷ [])))
+    ⊎ ((number : ℕ) × (f.body ≡ Looked f.timer number told.Spent ∷ [])))
     × (f.restart ≡ true)
 
 -- what a claim of an object's timer does: an entry of the object that tells the expiry, or none where its history is full; it
@@ -70,11 +71,11 @@ pub record IsExpiryRun (s : Script) (context : Context) (reading base : ℕ) (fi
 -- what a call did is what its arguments and its answer say; the answer that the clock has taken too many writes never comes
 abbrev pub Does : Script → ℕ → Call → Answer → List Fired → List Action → Type 0
 Does s reading (calls.Start timer request) (answers.Started generation on was_armed) fired actions =
-    (a : Arming) × (actions ≡ arming_actions timer request reading a) × (generation ≡ a.number) × (on ≡ a.base)
+    (a : Arming) × (actions ≡ arming_actions timer request reading a) × (generation ≡ a.number) × (on ≡ a.placement.base)
     × (was_armed ≡ was_armed_before a.out a.was_armed) × IsJustBefore a.out a.number
 Does s reading (calls.Start timer request) (answers.Spent stamp) fired actions = actions ≡ []
 Does s reading (calls.Cancel timer) (answers.Cancelled generation) fired actions =
-    (number : ℕ) × (actions ≡ Entered timer number (entries.Cancel generation) ∷ [])
+    (number : ℕ) × (actions ≡ Entered timer number (record { event = events.Cancel; reply = replies.Cancel generation }) ∷ [])
 Does s reading (calls.Cancel timer) (answers.Running generation stamp) fired actions = actions ≡ []
 Does s reading (calls.Cancel timer) (answers.Idle stamp) fired actions = actions ≡ []
 Does s reading (calls.Peek timer) (answers.Peek stamp base enqueued running moving) fired actions = actions ≡ []

@@ -2,14 +2,15 @@
 use Rattle.std.specs.Prelude.{ℕ, ◌≡◌, ◌+◌, nat_eq, Bool, List, [], ◌∷◌, map, take}
 use Rattle.record_text.specs.declared.record.ClockLine.{ClockLine}
 use Rattle.record_text.specs.declared.record.Label.{Label}
-use Rattle.record_text.specs.declared.record.Restart.{Restart}
 use Rattle.record_text.specs.declared.record.RunRecord.{RunRecord}
 use Rattle.record_text.specs.declared.record.TimerLine.{TimerLine}
-use Rattle.script_text.specs.Actions.{Action, also}
-use Rattle.script_text.specs.Histories.{declareds_of, entry_shown, lines_of_timer, terms_of}
+use Rattle.run_history.specs.Actions.{Action, also}
+use Rattle.run_history.specs.Histories.{entry_shown, lines_of_timer}
+use Rattle.script_text.specs.Declarations.{declareds_of, terms_of}
 use Rattle.script_text.specs.declared.script.Script.{Script}
 use Rattle.seq_timer.specs.Steps.{Timer}
 use Rattle.seq_timer.specs.Systems.{IsSystemHistory, System, system_of}
+use Rattle.seq_timer.specs.declared.event.Restarted.{Restarted}
 use Rattle.seq_timer.specs.declared.system.TimerEntry.{TimerEntry}
 
 -- one callback of an expiry run: the timer, and the number and the generation of its claim; what the callback did; the number of the
@@ -21,7 +22,7 @@ pub record Fired : Type 0 where
   pub body : List Action
   pub finish : ℕ
   pub restart : Bool
-  pub rearmed : Restart
+  pub restarted : Restarted
 
 -- what one call did: the stamp of its one reading; the callbacks that it ran; its actions in their order; and two numbers of the order, at the
 -- first of which it had made no entry yet, and at the last of which it had made them all
@@ -59,11 +60,8 @@ moves_from t before (line ∷ lines) = record { timer = t; before = before; line
 
 -- the entry that a move shows
 abbrev pub entry_of_move : List ClockLine → Move → TimerEntry
-entry_of_move clock m = record {
-  timer = m.timer;
-  event = (entry_shown clock m.before m.line.entry).event;
-  reply = (entry_shown clock m.before m.line.entry).reply;
-}
+entry_of_move clock m =
+    record { timer = m.timer; event = (entry_shown clock m.line.entry).event; reply = (entry_shown clock m.line.entry).reply }
 
 -- the labels along the order
 abbrev pub labels : Course → List Label

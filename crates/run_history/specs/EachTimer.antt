@@ -11,16 +11,18 @@ use Rattle.seq_timer.specs.Tables.{IsNextDue, IsStopped, in_context, runs_on, se
 use Rattle.record_text.specs.declared.record.Answer.{Answer}
 use Rattle.record_text.specs.declared.record.Answer.TheVariants as answers
 use Rattle.record_text.specs.declared.record.CallbackReply.{CallbackReply}
-use Rattle.record_text.specs.declared.record.Entry.TheVariants as entries
+use Rattle.seq_timer.specs.declared.event.EventBy.TheVariants as events
+use Rattle.seq_timer.specs.declared.event.Reply.{Reply}
 use Rattle.record_text.specs.declared.record.Label.{Label}
 use Rattle.record_text.specs.declared.record.RunRecord.{RunRecord}
 use Rattle.script_text.specs.declared.script.Call.{Call}
 use Rattle.script_text.specs.declared.script.Call.TheVariants as calls
 use Rattle.script_text.specs.declared.script.Script.{Script}
-use Rattle.script_text.specs.Actions.{Action, Entered, entered, Looked, looked, own, own_looks}
-use Rattle.script_text.specs.Told.{observed}
-use Rattle.script_text.specs.Histories.{answers_of, clock_labels, declared_of, history_of, lines_of_timer, reading_at, timer_after, timer_labels, terms_of}
-use Rattle.script_text.specs.Order.{CallInRound, calls_of, IsInOrder, IsLabel, IsPoint}
+use Rattle.run_history.specs.Actions.{Action, Entered, entered, Looked, looked, own, own_looks}
+use Rattle.run_history.specs.Told.{observed}
+use Rattle.run_history.specs.Histories.{answers_of, clock_labels, history_of, lines_of_timer, reading_at, timer_after, timer_labels}
+use Rattle.script_text.specs.Declarations.{declared_of, terms_of}
+use Rattle.run_history.specs.Order.{CallInRound, calls_of, IsInOrder, IsLabel, IsPoint}
 use Rattle.run_history.specs.Calls.{Does}
 use Rattle.run_history.specs.Courses.{Fired}
 
@@ -78,8 +80,9 @@ pub record FitsTimers (s : Script) (r : RunRecord) (c : Label) (call : Call) (an
   pub looked : (t : ℕ) → own_looks c 1 (lines_of_timer r t) ≡ looked t actions
   pub looks : (before rest : List Action) (t number : ℕ) (look : CallbackReply) → actions ≡ before ++ Looked t number look ∷ rest
       → WasSo s r c before t number (observed look)
-  pub claims : (before rest : List Action) (t number base reading generation : ℕ)
-      → actions ≡ before ++ Entered t number (entries.Claim base reading generation) ∷ rest → TookNextDue s r c before base reading t number
+  pub claims : (before rest : List Action) (t number base reading : ℕ) (reply : Reply)
+      → actions ≡ before ++ Entered t number (record { event = events.Claim base reading; reply = reply }) ∷ rest
+      → TookNextDue s r c before base reading t number
   pub told : WasTold s r c at actions call answer
 
 -- each timer's list by itself, and each call by such lists

@@ -9,11 +9,12 @@ use Rattle.record_text.specs.declared.record.Label.{Label}
 use Rattle.record_text.specs.declared.record.Answer.{Answer}
 use Rattle.record_text.specs.declared.record.ObjectLine.{ObjectLine}
 use Rattle.record_text.specs.declared.record.RunRecord.{RunRecord}
-use Rattle.script_text.specs.Order.{AreUnder, CallInRound, calls_of, is_lower, IsInOrder, IsLabel, IsPoint, NeverFall}
-use Rattle.script_text.specs.Histories.{answers_of, AreWrites, clock_labels, lines_of_timer}
-use Rattle.script_text.specs.Objects.{IsLegalObject, kind_of, object_labels, lines_of_object}
-use Rattle.script_text.specs.Actions.{wrote}
-use Rattle.script_text.specs.Told.{object_steps_on}
+use Rattle.run_history.specs.Order.{AreUnder, CallInRound, calls_of, is_lower, IsInOrder, IsLabel, IsPoint, NeverFall}
+use Rattle.run_history.specs.Histories.{answers_of, AreWrites, clock_labels, lines_of_timer}
+use Rattle.run_history.specs.Objects.{IsLegalObject, object_labels, lines_of_object}
+use Rattle.script_text.specs.Declarations.{kind_of}
+use Rattle.run_history.specs.Actions.{wrote}
+use Rattle.run_history.specs.Told.{object_steps_on}
 use Rattle.run_history.specs.Courses.{Course, IsOneHistory, labels}
 use Rattle.run_history.specs.Traces.{HasTraced}
 use Rattle.run_history.specs.Calls.{Does}

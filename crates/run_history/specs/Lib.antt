@@ -1,3 +1,12 @@
+pub mod Order
+pub mod Histories
+pub mod PosixHistories
+pub mod FdHistories
+pub mod Objects
+pub mod Actions
+pub mod Starts
+pub mod ObjectCalls
+pub mod Told
 pub mod Courses
 pub mod Traces
 pub mod Calls

@@ -6,11 +6,11 @@ use Rattle.clock_model.specs.declared.write.Write.{Write}
 use Rattle.seq_timer.specs.declared.system.TimerEntry.{TimerEntry}
 use Rattle.record_text.specs.declared.record.Answer.{Answer}
 use Rattle.record_text.specs.declared.record.Label.{Label}
-use Rattle.script_text.specs.Actions.{looked, made, own, own_looks, own_skips, skipped, wrote}
-use Rattle.script_text.specs.Told.{object_steps_on}
-use Rattle.script_text.specs.Histories.{lines_of_timer}
-use Rattle.script_text.specs.Objects.{lines_of_object}
-use Rattle.script_text.specs.Order.{CallInRound, calls_of, NeverFall}
+use Rattle.run_history.specs.Actions.{looked, made, own, own_looks, own_skips, skipped, wrote}
+use Rattle.run_history.specs.Told.{object_steps_on}
+use Rattle.run_history.specs.Histories.{lines_of_timer}
+use Rattle.run_history.specs.Objects.{lines_of_object}
+use Rattle.run_history.specs.Order.{CallInRound, calls_of, NeverFall}
 use Rattle.script_text.specs.declared.script.Call.{Call}
 use Rattle.script_text.specs.declared.script.Script.{Script}
 use Rattle.run_history.specs.Courses.{Course}

@@ -4,13 +4,14 @@ use Rattle.std.specs.Prelude.{ℕ, ◌≡◌, ◌≤◌, ◌<◌, ◌+◌, ◌�
 use Rattle.seq_timer.specs.Histories as histories
 use Rattle.seq_timer.specs.Systems.{entries_of}
 use Rattle.seq_timer.specs.declared.system.TimerEntry.{TimerEntry}
-use Rattle.record_text.specs.declared.record.Entry.TheVariants as entries
+use Rattle.seq_timer.specs.declared.event.EventBy.TheVariants as events
+use Rattle.seq_timer.specs.declared.event.Reply.TheVariants as replies
 use Rattle.record_text.specs.declared.record.Entry.{Entry}
 use Rattle.record_text.specs.declared.record.Label.{Label}
 use Rattle.record_text.specs.declared.record.RunRecord.{RunRecord}
 use Rattle.record_text.specs.declared.record.TimerLine.{TimerLine}
-use Rattle.script_text.specs.Actions.{also, own}
-use Rattle.script_text.specs.Histories.{entry_shown, lines_of_timer}
+use Rattle.run_history.specs.Actions.{also, own}
+use Rattle.run_history.specs.Histories.{entry_shown, lines_of_timer}
 use Rattle.run_history.specs.Courses.{Move}
 
 -- a receipt of an entry: how many entries of all timers stand before it, and the entry with its number among its timer's
@@ -46,11 +47,9 @@ pub record IsMade (order : List TimerEntry) (x : Noted) : Type 0 where
 
 -- it is the entry that the receipt shows
 pub record ShowsEntry (r : RunRecord) (order : List TimerEntry) (x : Noted) : Type 0 where
-  pub before : ℕ
-  pub number : before + 1 ≡ x.number
   pub step : TimerEntry
   pub there : slice_get order x.place ≡ Some step
-  pub entry : as_own step ≡ entry_shown r.clock before x.entry
+  pub entry : as_own step ≡ entry_shown r.clock x.entry
 
 -- ---- a record's lines
 
@@ -94,7 +93,7 @@ pub record AreFiled (r : RunRecord) (order : List TimerEntry) (notes : Label →
 
 -- what stands for a line that isn't there
 abbrev pub no_line : TimerLine
-no_line = record { label = record { lane = 0; call = 0 }; entry = entries.Cancel 0; looks = [] }
+no_line = record { label = record { lane = 0; call = 0 }; entry = record { event = events.Cancel; reply = replies.Cancel 0 }; looks = [] }
 
 -- the line of an entry that stands behind these
 abbrev pub move_of : RunRecord → List TimerEntry → TimerEntry → Move

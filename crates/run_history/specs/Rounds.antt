@@ -2,7 +2,7 @@
 use Rattle.std.specs.List.{slice_get}
 use Rattle.std.specs.Prelude.{ℕ, ◌≡◌, ◌≤◌, ◌<◌, ◌+◌, Some, List, length}
 use Rattle.record_text.specs.declared.record.Label.{Label}
-use Rattle.script_text.specs.Order.{IsLabel, round_of}
+use Rattle.run_history.specs.Order.{IsLabel, round_of}
 use Rattle.script_text.specs.declared.script.Script.{Script}
 
 -- a call of a lane by its number

@@ -6,9 +6,10 @@ use Rattle.seq_timer.specs.Systems.{IsSystemHistory}
 use Rattle.seq_timer.specs.declared.system.TimerEntry.{TimerEntry}
 use Rattle.record_text.specs.declared.record.Label.{Label}
 use Rattle.record_text.specs.declared.record.RunRecord.{RunRecord}
-use Rattle.script_text.specs.Histories.{answers_of, AreWrites, clock_labels, lines_of_timer, terms_of, declareds_of}
-use Rattle.script_text.specs.Objects.{IsLegalObject, kind_of, lines_of_object, object_labels}
-use Rattle.script_text.specs.Order.{AreUnder, calls_of, IsLabel}
+use Rattle.run_history.specs.Histories.{answers_of, AreWrites, clock_labels, lines_of_timer}
+use Rattle.script_text.specs.Declarations.{terms_of, declareds_of, kind_of}
+use Rattle.run_history.specs.Objects.{IsLegalObject, lines_of_object, object_labels}
+use Rattle.run_history.specs.Order.{AreUnder, calls_of, IsLabel}
 use Rattle.script_text.specs.declared.script.Script.{Script}
 use Rattle.run_history.specs.Courses.{Course, entries_in, IsOneHistory, labels, Trace}
 use Rattle.run_history.specs.Fits.{AreBehind, AreSkipsUnder, FitsLane, unseen}

@@ -4,10 +4,10 @@ use Rattle.std.specs.List.Sorted.{IsPermutation}
 use Rattle.record_text.specs.declared.record.Entry.{Entry}
 use Rattle.record_text.specs.declared.record.Label.{Label}
 use Rattle.run_history.specs.Courses.{Course, Move}
-use Rattle.script_text.specs.Actions.{Action, Entered, Looked, Made, Skipped, Wrote, also, looked, made, own, own_looks, own_skips, skipped, wrote}
-use Rattle.script_text.specs.Histories.{lines_of_timer}
-use Rattle.script_text.specs.Objects.{lines_of_object}
-use Rattle.script_text.specs.Order.{is_label}
+use Rattle.run_history.specs.Actions.{Action, Entered, Looked, Made, Skipped, Wrote, also, looked, made, own, own_looks, own_skips, skipped, wrote}
+use Rattle.run_history.specs.Histories.{lines_of_timer}
+use Rattle.run_history.specs.Objects.{lines_of_object}
+use Rattle.run_history.specs.Order.{is_label}
 
 -- the entries of timers among these, each with its timer and number
 abbrev pub all_entered : List Action → List (ℕ × (ℕ × Entry))

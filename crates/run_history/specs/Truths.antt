@@ -7,7 +7,8 @@ use Rattle.seq_timer.specs.Histories.{Holds}
 use Rattle.script_text.specs.declared.script.Call.{Call}
 use Rattle.script_text.specs.declared.script.Call.TheVariants as calls
 use Rattle.record_text.specs.declared.record.Label.{Label}
-use Rattle.record_text.specs.declared.record.Entry.TheVariants as entries
+use Rattle.seq_timer.specs.declared.event.EventBy.{EventBy}
+use Rattle.seq_timer.specs.declared.event.EventBy.TheVariants as events
 use Rattle.record_text.specs.declared.record.Answer.{Answer}
 use Rattle.record_text.specs.declared.record.Answer.TheVariants as answers
 use Rattle.record_text.specs.declared.record.Armed.{Armed}
@@ -16,12 +17,12 @@ use Rattle.record_text.specs.declared.record.ObjectEntry.{ObjectEntry}
 use Rattle.record_text.specs.declared.record.ObjectEntry.TheVariants as object_entries
 use Rattle.posix_timer.specs.States.{setting_of}
 use Rattle.timer_fd.specs.States.{is_readable}
-use Rattle.script_text.specs.ObjectCalls.{base_of}
-use Rattle.script_text.specs.Order.{IsPoint}
-use Rattle.script_text.specs.Histories.{reading_at}
-use Rattle.script_text.specs.Objects.{object_armed_after, fd_after, kind_of, object_labels, posix_after}
-use Rattle.script_text.specs.Actions.{Action, Entered, Looked, Made, Skipped, made}
-use Rattle.script_text.specs.Told.{IsBelowLimit, IsOutOfRange, IsArmedLike, observed}
+use Rattle.script_text.specs.Declarations.{base_of, kind_of}
+use Rattle.run_history.specs.Order.{IsPoint}
+use Rattle.run_history.specs.Histories.{reading_at}
+use Rattle.run_history.specs.Objects.{object_armed_after, fd_after, object_labels, posix_after}
+use Rattle.run_history.specs.Actions.{Action, Entered, Looked, Made, Skipped, made}
+use Rattle.run_history.specs.Told.{IsBelowLimit, IsOutOfRange, IsArmedLike, observed}
 use Rattle.ktime.specs.declared.clock_id.ClockId.{ClockId}
 use Rattle.seq_timer.specs.declared.context.Context.{Context}
 use Rattle.seq_timer.specs.Halves.{running_on}
@@ -52,9 +53,19 @@ IsObjectPoint w c before i n = IsPoint w.script c (length (made i before)) n (ob
 abbrev pub SawFull : Course → Label → List Action → ℕ → ℕ → Type 0
 SawFull w c before i stamp = IsObjectPoint w c before i stamp × (w.script.limit ≤ stamp)
 
+-- what is asked where an event is a claim
+abbrev pub OfClaim : EventBy ℕ → Type 0 → Type 0
+OfClaim (events.Claim base reading) P = P
+OfClaim event P = Unit
+
+-- what is asked where an event is no cancel
+abbrev pub ButOfCancel : EventBy ℕ → Type 0 → Type 0
+ButOfCancel events.Cancel P = Unit
+ButOfCancel event P = P
+
 -- a settime disarmed its timer first: it cancelled it, or it was idle at the call's first moment, before which the call had made no entry
 abbrev pub DisarmedFirst : Course → ℕ → List Action → ℕ → Type 0
-DisarmedFirst w timer (Entered t number (entries.Cancel generation) ∷ actions) first = Unit
+DisarmedFirst w timer (Entered t number entry ∷ actions) first = ButOfCancel entry.event (Holds (timer_along w first timer) observations.Idle)
 DisarmedFirst w timer actions first = Holds (timer_along w first timer) observations.Idle
 
 -- what an entry of an object tells of its timer's start is true
@@ -104,7 +115,7 @@ IsClaimSpan w f body = Unit
 
 -- what a thing that a call did tells of a timer or an object is true, at a moment after what the call did before it
 abbrev pub IsTrue : Course → Label → ℕ → List Action → Action → ℕ → Type 0
-IsTrue w c first before (Entered timer number (entries.Claim base reading generation)) n = IsMoment w c before n
+IsTrue w c first before (Entered timer number entry) n = OfClaim entry.event (IsMoment w c before n)
 IsTrue w c first before (Looked timer number look) n = IsMoment w c before n × Saw w timer number (observed look) n × IsBelowLimit w.script.limit number look
 IsTrue w c first before (Made i number entry) n = IsMoment w c before n × IsTrueEntry w i number entry n × HasSpan w first i number entry n
 IsTrue w c first before (Skipped i number generation) n = SawFull w c before i number

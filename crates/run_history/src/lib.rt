@@ -4,7 +4,7 @@
 ghost use Rattle.std.specs.Prelude.{◌≡◌};
 ghost use Rattle.script_text.specs.Scripts.{IsInRange};
 ghost use Rattle.script_text.specs.declared.script.Script.{Script};
-ghost use Rattle.record_text.specs.Numbers.{HasNoSlack};
+ghost use Rattle.record_text.specs.Numbers.{HasNoSlack, HasReplies};
 ghost use Rattle.record_text.specs.declared.version.Version.TheVariants as versions;
 ghost use Rattle.record_text.specs.declared.record.RunRecord.{RunRecord};
 ghost use Rattle.run_history.specs.EachTimer.{HasTimers};
@@ -24,4 +24,9 @@ pub fn a_record_that_fits_is_right_of_each_timer()
 /// A record that fits a script of version 1 has no slack: a soft expiry is the expiry. So the text of such a record, which shows neither, determines it.
 pub fn a_record_of_version_one_has_no_slack()
     ensures { (s : Script) (r : RunRecord) → IsInRange s → s.version ≡ versions.One → Fits s r → HasNoSlack r }
+{}
+
+/// Each entry of a record that fits has a reply that its event has, as the law asks by which a text determines its record.
+pub fn each_entry_of_a_record_that_fits_has_a_reply_of_its_event()
+    ensures { (s : Script) (r : RunRecord) → Fits s r → HasReplies r }
 {}

@@ -23,7 +23,7 @@ use Rattle.script_text.specs.declared.script.LaneCall.{LaneCall}
 use Rattle.script_text.specs.declared.script.Round.{Round}
 use Rattle.script_text.specs.Forms.{has_form, row, suits}
 use Rattle.script_text.specs.Generator.{call_by, clock_round, draw, drawn_call, expiry_round, four_turns, generated, lane_timers, number_after, timers_of_lane, turn, turns}
-use Rattle.script_text.specs.Starts.{without_slack}
+use Rattle.script_text.specs.Declarations.{without_slack}
 use Rattle.script_text.specs.Grammar.{IsLine, fill_form, spelled}
 use Rattle.script_text.specs.Scripts.{HasTimerFor, IsCallInRange, call_line}
 use Rattle.script_text.proofs.Generated.{length-lane_timers}

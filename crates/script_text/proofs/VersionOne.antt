@@ -17,7 +17,7 @@ use Rattle.script_text.specs.declared.script.LaneCall.{LaneCall}
 use Rattle.script_text.specs.declared.script.Round.{Round}
 use Rattle.script_text.specs.declared.script.Script.{Script}
 use Rattle.script_text.specs.Forms.{has_form}
-use Rattle.script_text.specs.Histories.{context_of}
+use Rattle.script_text.specs.Declarations.{context_of}
 use Rattle.script_text.specs.Scripts.{HasForms, IsInRange, IsKindInRange, all_calls, asking_line, call_line, declaration_line, declaration_lines, header_lines, round_lines}
 use Rattle.script_text.specs.VersionOne.{IsHard, IsHardCall}
 

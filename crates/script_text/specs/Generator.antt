@@ -17,7 +17,7 @@ use Rattle.script_text.specs.declared.script.Round.{Round}
 use Rattle.script_text.specs.declared.script.Script.{Script}
 use Rattle.script_text.specs.Grammar.{spelled}
 use Rattle.script_text.specs.Scripts.{script_lines}
-use Rattle.script_text.specs.Starts.{without_slack}
+use Rattle.script_text.specs.Declarations.{without_slack}
 
 -- ---- numbers that are drawn
 

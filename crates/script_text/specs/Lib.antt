@@ -4,15 +4,7 @@ pub mod Scripts
 pub mod Reading
 pub mod Drafts
 pub mod Refusals
-pub mod Order
-pub mod Histories
-pub mod PosixHistories
-pub mod FdHistories
-pub mod Objects
-pub mod Actions
-pub mod Starts
-pub mod ObjectCalls
-pub mod Told
+pub mod Declarations
 pub mod VersionOne
 pub mod Generator
 pub mod Summary

@@ -2,28 +2,31 @@
 use Rattle.std.specs.Prelude.{ℕ, List, [], ◌∷◌, ◌++◌, length, codes}
 use Rattle.std.specs.List.{sum_by}
 use Rattle.std.specs.Fmt.{decimal}
+use Rattle.seq_timer.specs.declared.event.EventBy.{EventBy}
+use Rattle.seq_timer.specs.declared.event.EventBy.TheVariants as events
+use Rattle.seq_timer.specs.declared.event.Reply.{Reply}
+use Rattle.seq_timer.specs.declared.event.Reply.TheVariants as replies
 use Rattle.record_text.specs.declared.record.Entry.{Entry}
-use Rattle.record_text.specs.declared.record.Entry.TheVariants as entries
 use Rattle.record_text.specs.declared.record.RunRecord.{RunRecord}
 
 -- an entry is counted as one
 abbrev pub entry_count : Entry → ℕ
 entry_count entry = 1
 
--- a claim is counted as one, and no other entry
-abbrev pub claim_count : Entry → ℕ
-claim_count (entries.Claim base reading generation) = 1
-claim_count other = 0
+-- a claim is counted as one, and no other event
+abbrev pub claims_in : EventBy ℕ → ℕ
+claims_in (events.Claim base reading) = 1
+claims_in other = 0
 
--- a cancel is counted as one, and no other entry
-abbrev pub cancel_count : Entry → ℕ
-cancel_count (entries.Cancel generation) = 1
-cancel_count other = 0
+-- a cancel is counted as one, and no other event
+abbrev pub cancels_in : EventBy ℕ → ℕ
+cancels_in events.Cancel = 1
+cancels_in other = 0
 
--- the periods by which an entry forwarded its timer
-abbrev pub period_count : Entry → ℕ
-period_count (entries.Forward l) = l.count
-period_count other = 0
+-- the periods by which a forward moved its timer
+abbrev pub periods_in : Reply → ℕ
+periods_in (replies.Forward moved) = moved.count
+periods_in other = 0
 
 -- what all entries of all timers come to
 abbrev pub of_entries : (Entry → ℕ) → RunRecord → ℕ
@@ -41,7 +44,7 @@ summary_of r =
     ++ (named (codes "calls") (sum_by length r.answers)
     ++ (named (codes "clock") (length r.clock)
     ++ (named (codes "entries") (of_entries entry_count r)
-    ++ (named (codes "claims") (of_entries claim_count r)
-    ++ (named (codes "cancels") (of_entries cancel_count r)
-    ++ (named (codes "periods") (of_entries period_count r)
+    ++ (named (codes "claims") (of_entries (λ e. claims_in e.event) r)
+    ++ (named (codes "cancels") (of_entries (λ e. cancels_in e.event) r)
+    ++ (named (codes "periods") (of_entries (λ e. periods_in e.reply) r)
     ++ codes "end\n")))))))

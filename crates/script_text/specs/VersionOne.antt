@@ -5,7 +5,7 @@ use Rattle.seq_timer.specs.declared.context.Context.TheVariants as contexts
 use Rattle.script_text.specs.declared.script.Call.{Call}
 use Rattle.script_text.specs.declared.script.Call.TheVariants as calls
 use Rattle.script_text.specs.declared.script.Script.{Script}
-use Rattle.script_text.specs.Histories.{context_of}
+use Rattle.script_text.specs.Declarations.{context_of}
 use Rattle.script_text.specs.Scripts.{all_calls}
 
 -- a call asks for no slack, and runs no callbacks of the soft context

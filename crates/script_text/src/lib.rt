@@ -1,4 +1,4 @@
-//! Scripts of timer calls, and what it means that a record fits a script.
+//! Scripts of timer calls, and their text.
 #![tactic(auto)]
 
 pub use form::{Field, Form, Line, Part, Value};

@@ -2,9 +2,10 @@
 ghost use Rattle.std.specs.Prelude.{◌≡◌, ◌+◌, ℕ, IfOk, length};
 ghost use Rattle.std.specs.List.{sum_by};
 ghost use Rattle.record_text.specs.declared.record.Entry.{Entry};
-ghost use Rattle.script_text.specs.Summary.{cancel_count, claim_count, entry_count, period_count, summary_of};
+ghost use Rattle.script_text.specs.Summary.{cancels_in, claims_in, entry_count, periods_in, summary_of};
 
 use record_text::{Answer, Entry, ItemList, RunRecord, TimerLine};
+use seq_timer::{EventBy, Reply};
 use std::alloc::{AllocError, Global};
 
 /// The summary of a record, in nine lines. A record for which a sum has more than 128 bits would have more lines than
@@ -75,33 +76,33 @@ impl Amount for Entries {
 }
 
 impl Amount for Claims {
-    ghost amount = { claim_count };
+    ghost amount = { λ e. claims_in e.event };
 
     fn amount(entry: Entry) -> u64 {
-        match entry {
-            Entry::Claim { .. } => 1,
+        match entry.event {
+            EventBy::Claim { .. } => 1,
             _ => 0,
         }
     }
 }
 
 impl Amount for Cancels {
-    ghost amount = { cancel_count };
+    ghost amount = { λ e. cancels_in e.event };
 
     fn amount(entry: Entry) -> u64 {
-        match entry {
-            Entry::Cancel { .. } => 1,
+        match entry.event {
+            EventBy::Cancel => 1,
             _ => 0,
         }
     }
 }
 
 impl Amount for Periods {
-    ghost amount = { period_count };
+    ghost amount = { λ e. periods_in e.reply };
 
     fn amount(entry: Entry) -> u64 {
-        match entry {
-            Entry::Forward(line) => line.count,
+        match entry.reply {
+            Reply::Forward { moved } => moved.count,
             _ => 0,
         }
     }

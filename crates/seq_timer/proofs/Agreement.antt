@@ -9,19 +9,20 @@ use Rattle.ktime.specs.declared.clock_id.ClockId.{ClockId}
 use Rattle.seq_timer.specs.declared.context.Declared.{Declared}
 use Rattle.seq_timer.specs.declared.context.Terms.{Terms}
 use Rattle.ktime.specs.declared.clock_id.ClockId.TheVariants as clocks
-use Rattle.seq_timer.specs.declared.event.Event.{Event}
-use Rattle.seq_timer.specs.declared.event.Event.TheVariants as events
+use Rattle.seq_timer.specs.Events.{Event}
+use Rattle.seq_timer.specs.Effects.{effect}
 use Rattle.seq_timer.specs.declared.system.TimerEntry.{TimerEntry}
 use Rattle.seq_timer.specs.Steps.{Timer, after, greatest_limit, limited, opening}
 use Rattle.seq_timer.specs.Tables.{in_context, is_context, no_declared, runs_on, seen_in, timer_at}
 use Rattle.timer_queue.specs.Pairs.{expiry_of, IsByExpiry}
 use Rattle.seq_timer.specs.declared.context.Context.{Context}
 use Rattle.seq_timer.specs.declared.context.Context.TheVariants as contexts
-use Rattle.seq_timer.specs.Halves.{IsFreeFor, IsHalfOf, generation_in, no_half, queue_of, running_on, wanted}
+use Rattle.seq_timer.specs.Halves.{IsHalfOf, generation_in, no_half, queue_of, running_on, wanted}
 use Rattle.seq_timer.specs.Contents.{IsContentOf, content_after, half_of, no_content}
 use Rattle.seq_timer.specs.Histories as seq
-use Rattle.seq_timer.specs.Systems.{AreSystemSteps, BaseContent, FitsBase, IsFresh, IsSystemHistory, IsSystemStep, System, after_entries, after_entry, changed, entries_of, first_system, openings, system_after, system_of}
-use Rattle.seq_timer.proofs.Halves.{Changes, IsApart, apart-after}
+use Rattle.seq_timer.specs.Systems.{AreSystemSteps, BaseContent, BeginsInTurn, IsFresh, IsSystemHistory, IsSystemStep, System, after_entries, after_entry, changed, entries_of, first_system, openings, system_after, system_of}
+use Rattle.seq_timer.proofs.Effects.{IsApart, free_by}
+use Rattle.seq_timer.proofs.Halves.{Changes, apart-after}
 use Rattle.seq_timer.proofs.Contents.{IsContentOf-after, IsContentOf-elsewhere, seen_else, seen_here, seen_own}
 use Rattle.seq_timer.proofs.Limits.{soft-after_all, stamp-after_all}
 use Rattle.seq_timer.proofs.Systems.{after_entries-entries_of, base_else, base_here, timer_else, timer_here}
@@ -34,14 +35,6 @@ pub record Agrees (w : System) : Type 0 where
 pub content_of_changed : (id : ℕ) (t : Timer) (event : Event) (b : BaseContent) → (changed id t event b).content ≡ content_after id t event b.content
 unfolding changed
 content_of_changed id t event b = refl
-
-free_for : (bases : ℕ) (b : BaseContent) (id : ℕ) (t : Timer) (e : Event) → FitsBase bases b id t e → IsFreeFor (half_of t.declared.context b.content) e
-free_for bases b id t (events.Out base) fits = tt
-free_for bases b id t (events.Start asked) fits = tt
-free_for bases b id t events.Cancel fits = tt
-free_for bases b id t (events.Claim base reading) fits = fits.0
-free_for bases b id t (events.Forward reading interval) fits = tt
-free_for bases b id t (events.Finish restart) fits = tt
 
 once : (clock : ClockId) → IsDistinct nat_eq (map (λ p. p.1) (queue_of no_half clock))
 unfolding IsDistinct
@@ -62,7 +55,8 @@ module _ (bases count : ℕ) where
             (subst (λ c. IsContentOf w'.timers t.base c) (sym (ap (λ (x : BaseContent). x.content) (base_here w e)
             ∙ content_of_changed id t e.event (w.bases t.base)))
             (IsContentOf-after w.timers w'.timers id e.event changes (w.bases t.base).content ok.needs (agrees.apart id)
-            (free_for bases (w.bases t.base) id t e.event ok.base) (agrees.contents t.base))))
+            (free_by (BeginsInTurn (w.bases t.base) id t) bases (half_of t.declared.context (w.bases t.base).content) (λ reading begins. begins.0)
+            (effect t e.event).function (effect t e.event).sent ok.base) (agrees.contents t.base))))
             (λ n. subst (λ (x : BaseContent). IsContentOf w'.timers b x.content) (sym (base_else w e b n))
             (IsContentOf-elsewhere w.timers w'.timers id e.event changes b (w.bases b).content ok.needs n (agrees.contents b)))
             (cases_eq b t.base);
@@ -122,7 +116,8 @@ agrees_first opened fresh = record {
 
     still : (x : Context) (id : ℕ) → ((in_context x (timer_at opened) id).armed ≡ None) × ((in_context x (timer_at opened) id).running ≡ None)
     still x id = ⊎_elim
-        (λ own. subst (λ (t : Timer). (t.armed ≡ None) × (t.running ≡ None)) (sym (seen_here x (timer_at opened id) own)) ((fresh id).armed, (fresh id).running))
+        (λ own. subst (λ (t : Timer). (t.armed ≡ None) × (t.running ≡ None)) (sym (seen_here x (timer_at opened id) own))
+        ((fresh id).armed, (fresh id).running))
         (λ other. subst (λ (t : Timer). (t.armed ≡ None) × (t.running ≡ None)) (sym (seen_else x (timer_at opened id) other)) (refl, refl))
         (cases_Bool (is_context x (timer_at opened id).declared.context))
 

@@ -4,15 +4,16 @@ use Rattle.std.proofs.Math.Logic.{⊎_elim}
 use Rattle.std.proofs.lemmas.Bool.{cases_Bool, cases_eq, true≢false}
 use Rattle.seq_timer.specs.declared.context.Context.{Context}
 use Rattle.seq_timer.specs.declared.context.Context.TheVariants as contexts
-use Rattle.seq_timer.specs.declared.event.Event.{Event}
-use Rattle.seq_timer.specs.declared.event.Event.TheVariants as events
+use Rattle.seq_timer.specs.Events.{Event}
+use Rattle.seq_timer.specs.Effects.{effect}
 use Rattle.seq_timer.specs.Histories.{Entry, after_all}
 use Rattle.seq_timer.specs.Steps.{Timer, Needs, after}
 use Rattle.seq_timer.specs.Tables.{in_context, is_context, no_timer, seen_in}
 use Rattle.seq_timer.specs.Bases.{IsQueuedAs, IsQueuedIn}
 use Rattle.seq_timer.specs.Halves.{Half, IsFreeFor, IsHalfOf, half_after}
 use Rattle.seq_timer.specs.Contents.{Content, IsContentOf, content_after, half_of, with_half}
-use Rattle.seq_timer.proofs.Halves.{Changes, IsApart, IsHalfOf-after, IsHalfOf-elsewhere, IsQueuedIn-from}
+use Rattle.seq_timer.proofs.Effects.{IsApart, by_effect}
+use Rattle.seq_timer.proofs.Halves.{Changes, IsHalfOf-after, IsHalfOf-elsewhere, IsQueuedIn-from}
 
 -- ---- contexts
 
@@ -36,17 +37,9 @@ half_of-else contexts.Hard contexts.Soft h c apart = refl
 half_of-else contexts.Soft contexts.Hard h c apart = refl
 half_of-else contexts.Soft contexts.Soft h c apart = absurd (true≢false apart)
 
-pub declared-after : (t : Timer) (e : Event) → (after t e).declared ≡ t.declared
-declared-after t (events.Out base) = refl
-declared-after t (events.Start asked) = refl
-declared-after t events.Cancel = refl
-declared-after t (events.Claim base reading) = refl
-declared-after t (events.Forward reading interval) = refl
-declared-after t (events.Finish restart) = refl
-
 pub declared-after_all : (t : Timer) (es : List Entry) → (after_all t es).declared ≡ t.declared
 declared-after_all t [] = refl
-declared-after_all t (e ∷ es) = declared-after_all (after t e.event) es ∙ declared-after t e.event
+declared-after_all t (e ∷ es) = declared-after_all (after t e.event) es ∙ (by_effect t e.event).declared
 
 pub seen_here : (x : Context) (t : Timer) → is_context x t.declared.context ≡ true → seen_in x t ≡ t
 seen_here x t is = ap (λ b. if b then t else no_timer) is
@@ -61,7 +54,7 @@ seen_else x t apart = ap (λ b. if b then t else no_timer) apart
 
 module _ (f g : ℕ → Timer) (id : ℕ) (e : Event) (changes : Changes f g id (after (f id) e)) where
   its : (g id).declared ≡ (f id).declared
-  its = ap (λ (t : Timer). t.declared) changes.itself ∙ declared-after (f id) e
+  its = ap (λ (t : Timer). t.declared) changes.itself ∙ (by_effect (f id) e).declared
 
   -- as its own context sees it, it has changed so
   changes_own : Changes (in_context (f id).declared.context f) (in_context (f id).declared.context g) id (after (f id) e)
@@ -82,7 +75,7 @@ module _ (f g : ℕ → Timer) (id : ℕ) (e : Event) (changes : Changes f g id 
           (λ other. ap (seen_in x) (sym (changes.others k other)))
           (cases_eq k id)
 
-  pub IsContentOf-after : (c : Content) → Needs (f id) e → IsApart (f id) → IsFreeFor (half_of (f id).declared.context c) e
+  pub IsContentOf-after : (c : Content) → Needs (f id) e → IsApart (f id) → IsFreeFor (half_of (f id).declared.context c) (effect (f id) e).function
       → IsContentOf f (f id).base c → IsContentOf g (f id).base (content_after id (f id) e c)
   IsContentOf-after c needs apart free here = record { each = λ x. ⊎_elim (own x) (other x) (cases_Bool (is_context x (f id).declared.context)) }
     where
@@ -99,8 +92,9 @@ module _ (f g : ℕ → Timer) (id : ℕ) (e : Event) (changes : Changes f g id 
       G = in_context y g
 
       kept : IsHalfOf G (f id).base h
-      kept = subst (λ t. Needs t e → IsApart t → IsFreeFor (half_of y c) e → Changes F G id (after t e) → IsHalfOf F t.base (half_of y c)
-          → IsHalfOf G t.base (half_after id t e (half_of y c))) (seen_own (f id)) (IsHalfOf-after F G id e (half_of y c)) needs apart free changes_own (here.each y)
+      kept = subst (λ t. Needs t e → IsApart t → IsFreeFor (half_of y c) (effect t e).function → Changes F G id (after t e) → IsHalfOf F t.base (half_of y c)
+          → IsHalfOf G t.base (half_after id t e (half_of y c))) (seen_own (f id)) (IsHalfOf-after F G id e (half_of y c))
+          needs apart free changes_own (here.each y)
 
       own : (x : Context) → is_context x y ≡ true → IsHalfOf (in_context x g) (f id).base (half_of x (with_half y h c))
       own x same = subst (λ z. IsHalfOf (in_context z g) (f id).base (half_of z (with_half y h c))) (sym (same_context x y same))

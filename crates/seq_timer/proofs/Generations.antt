@@ -1,17 +1,20 @@
 -- A cancelled generation isn't claimed.
-use Rattle.std.proofs.Common.{unwrap_or, ◌≡◌, ◌+◌, ◌≤◌, ℕ, Bool, true, false, ◌||◌, Option, Some, None, List, [], ◌∷◌, IsSome, if◌then◌else◌, nat_eq, arith, refl, sym, ap, ◌∙◌}
+use Rattle.std.proofs.Common.{◌≡◌, ◌+◌, ◌≤◌, ℕ, true, false, ◌||◌, Option, Some, None, List, [], ◌∷◌, nat_eq, arith, refl, sym, ap, ◌∙◌}
 use Rattle.std.specs.List.{AllByRecursion}
 use Rattle.std.proofs.Math.Logic.{⊎_elim}
 use Rattle.std.proofs.lemmas.Option.{same_Some}
 use Rattle.std.proofs.lemmas.Bool.{eqb-true, eqb-false, ne_eqb, false≢true, or_from, or_parts, cases_Bool}
 use Rattle.seq_timer.specs.declared.context.Declared.{Declared}
 use Rattle.seq_timer.specs.declared.context.Terms.{Terms}
-use Rattle.seq_timer.specs.declared.event.Event.{Event}
-use Rattle.seq_timer.specs.declared.event.Event.TheVariants as events
-use Rattle.seq_timer.specs.Steps.{Timer, opening, Needs, after, reply_to, arms_again}
+use Rattle.seq_timer.specs.Events.{Event}
+use Rattle.seq_timer.specs.declared.effect.QueueEffect.{QueueEffect}
+use Rattle.seq_timer.specs.declared.effect.QueueEffect.TheVariants as queues
+use Rattle.seq_timer.specs.Effects.{effect}
+use Rattle.seq_timer.specs.Steps.{Timer, opening, Needs, after, reply_to}
 use Rattle.seq_timer.specs.Histories.{Entry, AreSteps, IsLegal, claim_in, cancel_in, next_finish, with_span, spans_from}
 use Rattle.seq_timer.specs.Laws.{is_told, is_cancelled, is_claimed}
-use Rattle.seq_timer.proofs.StepKinds.{some_of}
+use Rattle.seq_timer.proofs.Effects.{armed_afterwards, by_effect}
+use Rattle.seq_timer.proofs.StepKinds.{IsCancelling, IsClaiming, cancelling_of, claims_none, kind_of}
 
 -- the armed generation is a number of an entry
 abbrev pub IsOld : Timer → Type 0
@@ -22,34 +25,30 @@ pub record IsGone (t : Timer) (generation : ℕ) : Type 0 where
   pub old : generation ≤ t.stamp
   pub unarmed : t.armed ≡ Some generation → ⊥
 
+gone_by : (q : QueueEffect) (t now : Timer) (generation : ℕ) → now.stamp ≡ t.stamp + 1 → now.armed ≡ armed_afterwards q t
+    → IsGone t generation → IsGone now generation
+gone_by queues.Stays t now generation counted armed gone = let old = gone.old in record
+    { old = omega (arith, old, counted); unarmed = λ is. gone.unarmed (sym armed ∙ is) }
+gone_by queues.Leaves t now generation counted armed gone = let old = gone.old in record
+    { old = omega (arith, old, counted); unarmed = λ is. absurd (cc (armed, is)) }
+gone_by queues.Armed t now generation counted armed gone = let old = gone.old in record
+    { old = omega (arith, old, counted); unarmed = λ is. let same = same_Some (t.stamp + 1) generation (sym armed ∙ is) in omega (arith, old, same) }
+
 pub gone-after : (t : Timer) (e : Event) (generation : ℕ) → IsGone t generation → IsGone (after t e) generation
-gone-after t (events.Out base) generation gone = let old = gone.old in record { old = omega (arith, old); unarmed = λ is. cc }
-gone-after t (events.Start asked) generation gone = let old = gone.old in record
-    { old = omega (arith, old); unarmed = λ is. let same = same_Some (t.stamp + 1) generation is in omega (arith, old, same) }
-gone-after t events.Cancel generation gone = let old = gone.old in record { old = omega (arith, old); unarmed = λ is. cc }
-gone-after t (events.Claim base reading) generation gone = let old = gone.old in record { old = omega (arith, old); unarmed = λ is. cc }
-gone-after t (events.Forward reading interval) generation gone = let old = gone.old in record { old = omega (arith, old); unarmed = gone.unarmed }
-gone-after t (events.Finish restart) generation gone =
-    let old = gone.old in record {
-      old = omega (arith, old);
-      unarmed = elim (arms_again t restart) as (λ b. (if b then Some (t.stamp + 1) else t.armed) ≡ Some generation → ⊥) [
-        | true ↦ λ is. let same = same_Some (t.stamp + 1) generation is in omega (arith, old, same)
-        | false ↦ gone.unarmed
-      ];
-    }
+gone-after t e generation gone = gone_by (effect t e).queue t (after t e) generation (by_effect t e).stamp (by_effect t e).armed gone
 
 -- it is neither claimed nor cancelled
-untold : (t : Timer) (generation : ℕ) → IsSome t.armed → (t.armed ≡ Some generation → ⊥) → nat_eq (unwrap_or t.armed 0) generation ≡ false
-untold t generation armed gone = ne_eqb (unwrap_or t.armed 0) generation (λ e. gone (some_of t.armed armed ∙ ap (λ n. Some n) e))
+untold : (t : Timer) (generation told : ℕ) → t.armed ≡ Some told → (t.armed ≡ Some generation → ⊥) → nat_eq told generation ≡ false
+untold t generation told armed gone = ne_eqb told generation (λ e. gone (armed ∙ ap (λ n. Some n) e))
 
 pub gone-untold : (t : Timer) (e : Event) (generation : ℕ) → Needs t e → IsGone t generation
     → (is_told generation (claim_in (reply_to t e)) ≡ false) × (is_told generation (cancel_in (reply_to t e)) ≡ false)
-gone-untold t (events.Out base) generation needs gone = (refl, refl)
-gone-untold t (events.Start asked) generation needs gone = (refl, refl)
-gone-untold t events.Cancel generation needs gone = (refl, untold t generation needs.0 gone.unarmed)
-gone-untold t (events.Claim base reading) generation needs gone = (untold t generation needs.0 gone.unarmed, refl)
-gone-untold t (events.Forward reading interval) generation needs gone = (refl, refl)
-gone-untold t (events.Finish restart) generation needs gone = (refl, refl)
+gone-untold t e generation needs gone = (
+  ⊎_elim (λ (claiming : IsClaiming t e). ap (is_told generation) claiming.told ∙ untold t generation claiming.generation claiming.armed gone.unarmed)
+      (λ others. ap (is_told generation) (claims_none t e others)) (kind_of t e needs),
+  ⊎_elim (λ (cancelling : IsCancelling t e). ap (is_told generation) cancelling.told ∙ untold t generation cancelling.generation cancelling.armed gone.unarmed)
+      (λ none. ap (is_told generation) none) (cancelling_of t e needs),
+)
 
 pub gone-later : (t : Timer) (generation : ℕ) (history : List Entry) → AreSteps t history → IsGone t generation
     → (is_claimed generation history ≡ false) × (is_cancelled generation history ≡ false)
@@ -61,45 +60,40 @@ gone-later t generation (e ∷ es) steps gone =
       or_from (is_told generation (cancel_in e.reply)) (is_cancelled generation es) (ap (λ r. is_told generation (cancel_in r)) steps.1 ∙ now.1) later.1,
     )
 
+old_by : (q : QueueEffect) (t now : Timer) → now.stamp ≡ t.stamp + 1 → now.armed ≡ armed_afterwards q t → IsOld t → IsOld now
+old_by queues.Stays t now counted armed old generation is = let before = old generation (sym armed ∙ is) in omega (arith, before, counted)
+old_by queues.Leaves t now counted armed old generation is = absurd (cc (armed, is))
+old_by queues.Armed t now counted armed old generation is = let same = same_Some (t.stamp + 1) generation (sym armed ∙ is) in omega (arith, same, counted)
+
 pub old-after : (t : Timer) (e : Event) → IsOld t → IsOld (after t e)
-old-after t (events.Out base) old generation is = absurd (cc)
-old-after t (events.Start asked) old generation is = let same = same_Some (t.stamp + 1) generation is in omega (arith, same)
-old-after t events.Cancel old generation is = absurd (cc)
-old-after t (events.Claim base reading) old generation is = absurd (cc)
-old-after t (events.Forward reading interval) old generation is = let before = old generation is in omega (arith, before)
-old-after t (events.Finish restart) old generation is = again (arms_again t restart) is
-  where
-    again : (b : Bool) → (if b then Some (t.stamp + 1) else t.armed) ≡ Some generation → generation ≤ t.stamp + 1
-    again true is = let same = same_Some (t.stamp + 1) generation is in omega (arith, same)
-    again false is = let before = old generation is in omega (arith, before)
+old-after t e old = old_by (effect t e).queue t (after t e) (by_effect t e).stamp (by_effect t e).armed old
 
 -- what was told of the armed generation is gone after a step that disarms it
-told_is : (t : Timer) (generation : ℕ) → IsSome t.armed → nat_eq (unwrap_or t.armed 0) generation ≡ true → t.armed ≡ Some generation
-told_is t generation armed told = some_of t.armed armed ∙ ap (λ n. Some n) (eqb-true (unwrap_or t.armed 0) generation told)
-
-gone_now : (t : Timer) (e : Event) (generation : ℕ) → IsOld t → t.armed ≡ Some generation → (after t e).armed ≡ None
-    → (after t e).stamp ≡ t.stamp + 1 → IsGone (after t e) generation
-gone_now t e generation old is disarmed counted = let before = old generation is in record
-    { old = omega (arith, before, counted); unarmed = λ again. absurd (cc (disarmed, again)) }
+gone_now : (t : Timer) (e : Event) (generation told : ℕ) → IsOld t → t.armed ≡ Some told → nat_eq told generation ≡ true → (after t e).armed ≡ None
+    → IsGone (after t e) generation
+gone_now t e generation told old armed is disarmed =
+    let before = old generation (armed ∙ ap (λ n. Some n) (eqb-true told generation is)) in
+    record { old = omega (arith, before, (by_effect t e).stamp); unarmed = λ again. absurd (cc (disarmed, again)) }
 
 pub cancelled-gone : (t : Timer) (e : Event) (generation : ℕ) → Needs t e → IsOld t → is_told generation (cancel_in (reply_to t e)) ≡ true
     → IsGone (after t e) generation × (is_told generation (claim_in (reply_to t e)) ≡ false)
-cancelled-gone t (events.Out base) generation needs old told = absurd (false≢true told)
-cancelled-gone t (events.Start asked) generation needs old told = absurd (false≢true told)
-cancelled-gone t events.Cancel generation needs old told = (gone_now t events.Cancel generation old (told_is t generation needs.0 told) refl refl, refl)
-cancelled-gone t (events.Claim base reading) generation needs old told = absurd (false≢true told)
-cancelled-gone t (events.Forward reading interval) generation needs old told = absurd (false≢true told)
-cancelled-gone t (events.Finish restart) generation needs old told = absurd (false≢true told)
+cancelled-gone t e generation needs old told =
+    ⊎_elim
+    (λ (cancelling : IsCancelling t e). (
+      gone_now t e generation cancelling.generation old cancelling.armed (sym (ap (is_told generation) cancelling.told) ∙ told) cancelling.disarmed,
+      ap (is_told generation) cancelling.no_claim,
+    ))
+    (λ none. absurd (false≢true (sym (ap (is_told generation) none) ∙ told)))
+    (cancelling_of t e needs)
 
 pub claimed-gone : (t : Timer) (e : Event) (generation : ℕ) → Needs t e → IsOld t → is_told generation (claim_in (reply_to t e)) ≡ true
     → IsGone (after t e) generation
-claimed-gone t (events.Out base) generation needs old told = absurd (false≢true told)
-claimed-gone t (events.Start asked) generation needs old told = absurd (false≢true told)
-claimed-gone t events.Cancel generation needs old told = absurd (false≢true told)
-claimed-gone t (events.Claim base reading) generation needs old told = gone_now t (events.Claim base reading) generation old
-    (told_is t generation needs.0 told) refl refl
-claimed-gone t (events.Forward reading interval) generation needs old told = absurd (false≢true told)
-claimed-gone t (events.Finish restart) generation needs old told = absurd (false≢true told)
+claimed-gone t e generation needs old told =
+    ⊎_elim
+    (λ (claiming : IsClaiming t e).
+    gone_now t e generation claiming.generation old claiming.armed (sym (ap (is_told generation) claiming.told) ∙ told) claiming.disarmed)
+    (λ others. absurd (false≢true (sym (ap (is_told generation) (claims_none t e others)) ∙ told)))
+    (kind_of t e needs)
 
 pub never_claimed : (t : Timer) (generation : ℕ) (history : List Entry) → IsOld t → AreSteps t history
     → is_cancelled generation history ≡ true → is_claimed generation history ≡ false

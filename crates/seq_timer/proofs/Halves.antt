@@ -1,5 +1,5 @@
 -- A base agrees with the timers after each event of one of them, moving ones included.
-use Rattle.std.proofs.Common.{◌≡◌, ◌≢◌, ℕ, ◌+◌, Bool, true, false, List, Option, Some, None, IsSome, nat_eq, map, unwrap_or, if◌then◌else◌, arith, refl, sym, ap, ◌∙◌, subst, is_some}
+use Rattle.std.proofs.Common.{◌≡◌, ◌≢◌, ℕ, Bool, true, false, List, Option, Some, None, nat_eq, map, unwrap_or, if◌then◌else◌, arith, refl, sym, ap, ◌∙◌, subst, is_some}
 use Rattle.std.specs.List.{IsDistinct}
 use Rattle.std.proofs.Math.Logic.{⊎_elim}
 use Rattle.std.proofs.lemmas.Bool.{cases_Bool, cases_eq, ne_eqb, true≢false}
@@ -7,40 +7,29 @@ use Rattle.std.proofs.lemmas.Bool.Decides.{nat_tests}
 use Rattle.ktime.specs.declared.clock_id.ClockId.{ClockId}
 use Rattle.timer_queue.specs.Pairs.{has_id, without, put, expiry_of, IsByExpiry}
 use Rattle.timer_queue.proofs.Pairs.{has_id-expiry_of, expiry_of-without, expiry_of-put, IsDistinct-put, IsDistinct-without, IsByExpiry-put, IsByExpiry-without}
-use Rattle.seq_timer.specs.declared.event.Event.{Event}
-use Rattle.seq_timer.specs.declared.event.Event.TheVariants as events
-use Rattle.seq_timer.specs.Steps.{Timer, Needs, after, arms_again}
+use Rattle.seq_timer.specs.Events.{Event}
+use Rattle.seq_timer.specs.declared.effect.QueueEffect.{QueueEffect}
+use Rattle.seq_timer.specs.declared.effect.QueueEffect.TheVariants as queues
+use Rattle.seq_timer.specs.declared.effect.RunEffect.{RunEffect}
+use Rattle.seq_timer.specs.declared.effect.RunEffect.TheVariants as functions
+use Rattle.seq_timer.specs.Effects.{effect}
+use Rattle.seq_timer.specs.Steps.{Timer, Needs, after}
 use Rattle.seq_timer.specs.Tables.{rank}
 use Rattle.seq_timer.specs.Bases.{IsQueuedIn, is_queued}
-use Rattle.seq_timer.specs.Halves.{Half, IsHalfOf, IsFreeFor, IsQueueOf, half_after, dequeued, generation_in, queue_of, requeued, running_on, wanted, with_running}
-use Rattle.seq_timer.proofs.Queues.{has_id-without, queue_of-dequeued, queue_of-enqueued, queue_of-with_running, running-enqueued}
-use Rattle.seq_timer.proofs.StepKinds.{none_of, some_of}
+use Rattle.seq_timer.specs.Halves.{Half, IsHalfOf, IsFreeFor, IsQueueOf, half_after, dequeued, generation_in, queue_of, queued_by, requeued, run_by, running_on, wanted}
+use Rattle.seq_timer.proofs.Effects.{IsApart, IsSent, QueueNeeds, RunNeeds, SentNeeds, armed_afterwards, by_effect, running_afterwards, some_of, wanted-unarmed}
+use Rattle.seq_timer.proofs.Queues.{has_id-without, queue_of-dequeued, queue_of-enqueued, queue_of-run_by, running-enqueued}
 use Rattle.ktime.specs.declared.clock_id.ClockId.TheVariants as clocks
 
 -- ---- one timer by itself
 
--- a timer on the move is neither armed nor running
-abbrev pub IsApart : Timer → Type 0
-IsApart t = t.moving ≡ true → (t.armed ≡ None) × (t.running ≡ None)
-
-some_none : (o : Option ℕ) → IsSome o → o ≡ None → ⊥
-some_none None some none = true≢false (sym some)
-some_none (Some g) some none = cc
-
+-- a timer that is sent is neither armed nor running, and one that isn't is on the move no more
 pub apart-after : (t : Timer) (e : Event) → Needs t e → IsApart t → IsApart (after t e)
-apart-after t (events.Out base) needs apart moves = (refl, none_of t.running needs.0)
-apart-after t (events.Start asked) needs apart moves = absurd (true≢false (sym moves))
-apart-after t events.Cancel needs apart moves = absurd (true≢false (sym moves ∙ needs.2))
-apart-after t (events.Claim base reading) needs apart moves = absurd (true≢false (sym moves ∙ needs.3))
-apart-after t (events.Forward reading interval) needs apart moves = absurd (some_none t.running needs.0 (apart moves).1)
-apart-after t (events.Finish restart) needs apart moves = absurd (some_none t.running needs (apart moves).1)
-
--- a timer whose function runs isn't on the move
-still_running : (t : Timer) → IsSome t.running → IsApart t → t.moving ≡ false
-still_running t runs apart = ⊎_elim (λ moves. absurd (some_none t.running runs (apart moves).1)) (λ still. still) (cases_Bool t.moving)
-
-wanted-unarmed : (base : ℕ) (clock : ClockId) (t : Timer) → t.armed ≡ None → wanted base clock t ≡ None
-wanted-unarmed base clock t none = grind (arith, nat_tests)
+apart-after t e needs apart = by_sent (effect t e).sent ((by_effect t e).needs needs).sent
+  where
+    by_sent : (sent : Option ℕ) → SentNeeds sent t (after t e) → IsApart (after t e)
+    by_sent None still moves = absurd (true≢false (sym moves ∙ still apart))
+    by_sent (Some base) told moves = (told.2, told.3)
 
 wanted-armed : (clock : ClockId) (t : Timer) → is_some t.armed ≡ true → t.moving ≡ false
     → wanted t.base clock t ≡ (if nat_eq (rank t.clock) (rank clock) then Some t.expires else None)
@@ -55,8 +44,8 @@ running_on-elsewhere base t apart = let off : nat_eq t.base base ≡ false = ne_
 running_on-none : (base : ℕ) (t : Timer) → t.running ≡ None → running_on base t ≡ None
 running_on-none base t none = grind (arith, nat_tests)
 
-running_on-itself : (t : Timer) → running_on t.base t ≡ t.running
-running_on-itself t = grind (arith, nat_tests)
+running_on-there : (base : ℕ) (t : Timer) → t.base ≡ base → running_on base t ≡ t.running
+running_on-there base t there = grind (arith, nat_tests)
 
 -- what runs on a base is of one timer
 pub generation-apart : (id other generation : ℕ) (running : Option (ℕ × ℕ)) → generation_in id running ≡ Some generation
@@ -145,101 +134,72 @@ running-other f g id now base running changes itself none other = ⊎_elim
 
 -- ---- the base that the timer is on before an event
 
--- the timer is taken off, and runs as before
-taken_off : (f g : ℕ → Timer) (id : ℕ) (now : Timer) (base : ℕ) (c : Half) → Changes f g id now → now.armed ≡ None
-    → running_on base now ≡ running_on base (f id) → IsHalfOf f base c → IsHalfOf g base (dequeued id c)
-taken_off f g id now base c changes none same here = record {
-  queues = λ clock. subst (IsQueueOf g base clock) (sym (queue_of-dequeued id c clock))
-      (queue-without f g id now base clock (queue_of c clock) changes (here.queues clock) (wanted-unarmed base clock now none));
-  running = running-same f g id now base c.running changes here.running same;
-}
+queues-after : (f g : ℕ → Timer) (id : ℕ) (now : Timer) (c : Half) (q : QueueEffect) (sent : Option ℕ) → Changes f g id now → IsApart (f id)
+    → now.armed ≡ armed_afterwards q (f id) → QueueNeeds q sent (f id) now → IsHalfOf f (f id).base c
+    → (clock : ClockId) → IsQueueOf g (f id).base clock (queue_of (queued_by q id now c) clock)
+queues-after f g id now c queues.Stays sent changes apart armed needs here clock =
+    queue-same f g id now (f id).base clock (queue_of c clock) changes (here.queues clock) (needs (f id).base clock)
+queues-after f g id now c queues.Leaves sent changes apart armed needs here clock =
+    subst (IsQueueOf g (f id).base clock) (sym (queue_of-dequeued id c clock))
+    (queue-without f g id now (f id).base clock (queue_of c clock) changes (here.queues clock) (wanted-unarmed (f id).base clock now armed))
+queues-after f g id now c queues.Armed sent changes apart armed needs here clock =
+    subst (λ b. IsQueueOf f b clock (queue_of c clock) → IsQueueOf g b clock (queue_of (requeued id now c) clock)) needs.0
+    (λ was. queue-requeued f g id now clock c changes was (ap is_some armed) (needs.1 apart)) (here.queues clock)
 
--- the timer is put anew, and runs as before
-put_anew : (f g : ℕ → Timer) (id : ℕ) (now : Timer) (c : Half) → Changes f g id now → is_some now.armed ≡ true → now.moving ≡ false
-    → running_on now.base now ≡ running_on now.base (f id) → IsHalfOf f now.base c → IsHalfOf g now.base (requeued id now c)
-put_anew f g id now c changes armed still same here = record {
-  queues = λ clock. queue-requeued f g id now clock c changes (here.queues clock) armed still;
-  running = λ other. ap (generation_in other) (running-enqueued now.clock now.expires id (dequeued id c))
-      ∙ running-same f g id now now.base c.running changes here.running same other;
-}
+running-queued : (id : ℕ) (now : Timer) (c : Half) (q : QueueEffect) → (queued_by q id now c).running ≡ c.running
+running-queued id now c queues.Stays = refl
+running-queued id now c queues.Leaves = refl
+running-queued id now c queues.Armed = running-enqueued now.clock now.expires id (dequeued id c)
 
--- its function has begun where none ran
-begun : (f g : ℕ → Timer) (id generation : ℕ) (now : Timer) (c : Half) → Changes f g id now → now.armed ≡ None
-    → now.running ≡ Some generation → c.running ≡ None → IsHalfOf f now.base c
-    → IsHalfOf g now.base (with_running (Some (id, generation)) (dequeued id c))
-begun f g id generation now c changes none runs free here = record {
-  queues = λ clock. subst (IsQueueOf g now.base clock)
-      (sym (queue_of-with_running (Some (id, generation)) (dequeued id c) clock ∙ queue_of-dequeued id c clock))
-      (queue-without f g id now now.base clock (queue_of c clock) changes (here.queues clock) (wanted-unarmed now.base clock now none));
-  running = running-other f g id now now.base (Some (id, generation)) changes (grind (arith, nat_tests) ∙ sym (running_on-itself now ∙ runs))
-      (λ other apart. (grind (arith, nat_tests), sym (here.running other) ∙ ap (generation_in other) free));
-}
+-- a timer whose function runs as before does so on the base that it is on
+runs_on-same : (t now : Timer) (sent : Option ℕ) → IsSent sent t now → SentNeeds sent t now → now.running ≡ t.running
+    → running_on t.base now ≡ running_on t.base t
+runs_on-same t now None is needs same = λ i. if nat_eq (is.0 i) t.base then same i else None
+runs_on-same t now (Some base) is needs same = running_on-none t.base now needs.3 ∙ sym (running_on-none t.base t needs.0)
 
--- its function has ended
-ended : (f g : ℕ → Timer) (id generation : ℕ) (now : Timer) (c after : Half) → Changes f g id now → now.running ≡ None
-    → running_on now.base (f id) ≡ Some generation
-    → ((clock : ClockId) → IsQueueOf g now.base clock (queue_of after clock)) → IsHalfOf f now.base c → IsHalfOf g now.base (with_running None after)
-ended f g id generation now c after changes none ran queues here = record {
-  queues = λ clock. subst (IsQueueOf g now.base clock) (sym (queue_of-with_running None after clock)) (queues clock);
-  running = running-other f g id now now.base None changes (sym (running_on-none now.base now none))
-      (λ other apart. (refl, sym (here.running other) ∙ generation-apart id other generation c.running (here.running id ∙ ran) apart));
-}
+running-after : (f g : ℕ → Timer) (id : ℕ) (now : Timer) (c new : Half) (r : RunEffect) (by_claimer : Bool) → Changes f g id now → new.running ≡ c.running
+    → now.running ≡ running_afterwards r (f id) → RunNeeds r by_claimer (f id) now → IsFreeFor c r
+    → (now.running ≡ (f id).running → running_on (f id).base now ≡ running_on (f id).base (f id))
+    → IsHalfOf f (f id).base c → (other : ℕ) → generation_in other (run_by r id (f id) new).running ≡ running_on (f id).base (g other)
+running-after f g id now c new functions.Stays by_claimer changes kept running needs free same here other =
+    ap (generation_in other) kept ∙ running-same f g id now (f id).base c.running changes here.running (same running) other
+running-after f g id now c new (functions.Begins reading) by_claimer changes kept running needs free same here other =
+    let generation = unwrap_or (f id).armed 0 in
+    let runs = running_on-there (f id).base now needs.base ∙ (running ∙ some_of (f id).armed needs.armed) in
+    running-other f g id now (f id).base (Some (id, generation)) changes (grind (arith, nat_tests) ∙ sym runs)
+    (λ other apart. (grind (arith, nat_tests), sym (here.running other) ∙ ap (generation_in other) free)) other
+running-after f g id now c new functions.Ends by_claimer changes kept running needs free same here other =
+    let generation = unwrap_or (f id).running 0 in
+    let ran = running_on-there (f id).base (f id) refl ∙ some_of (f id).running needs.runs in
+    running-other f g id now (f id).base None changes (sym (running_on-none (f id).base now running))
+    (λ other apart. (refl, sym (here.running other) ∙ generation-apart id other generation c.running (here.running id ∙ ran) apart)) other
 
-finished_queues : (f g : ℕ → Timer) (id : ℕ) (restart : Bool) (c : Half) → Needs (f id) (events.Finish restart) → IsApart (f id)
-    → Changes f g id (after (f id) (events.Finish restart)) → IsHalfOf f (f id).base c
-    → (clock : ClockId) → IsQueueOf g (f id).base clock (queue_of (if arms_again (f id) restart then requeued id (f id) c else c) clock)
-finished_queues f g id restart c needs apart changes here clock =
-    let t = f id in
-    elim (arms_again t restart) as
-    (λ b. Changes f g id (record t { armed = if b then Some (t.stamp + 1) else t.armed; running = None; stamp = t.stamp + 1 })
-    → IsQueueOf g t.base clock (queue_of (if b then requeued id t c else c) clock)) [
-      | true ↦ λ changes. queue-requeued f g id (record t { armed = Some (t.stamp + 1); running = None; stamp = t.stamp + 1 }) clock c
-          changes (here.queues clock) refl (still_running t needs apart)
-      | false ↦ λ changes. queue-same f g id (record t { running = None; stamp = t.stamp + 1 }) t.base clock (queue_of c clock) changes
-          (here.queues clock) refl
-    ] changes
-
-pub IsHalfOf-after : (f g : ℕ → Timer) (id : ℕ) (e : Event) (c : Half) → Needs (f id) e → IsApart (f id) → IsFreeFor c e
+pub IsHalfOf-after : (f g : ℕ → Timer) (id : ℕ) (e : Event) (c : Half) → Needs (f id) e → IsApart (f id) → IsFreeFor c (effect (f id) e).function
     → Changes f g id (after (f id) e) → IsHalfOf f (f id).base c → IsHalfOf g (f id).base (half_after id (f id) e c)
-IsHalfOf-after f g id (events.Out base) c needs apart free changes here =
-    let none = none_of (f id).running needs.0 in
-    taken_off f g id (after (f id) (events.Out base)) (f id).base c changes refl
-    (running_on-none (f id).base (after (f id) (events.Out base)) none ∙ sym (running_on-none (f id).base (f id) none)) here
-IsHalfOf-after f g id (events.Start asked) c needs apart free changes here = put_anew f g id
-    (after (f id) (events.Start asked)) c changes refl refl refl here
-IsHalfOf-after f g id events.Cancel c needs apart free changes here = taken_off f g id (after (f id) events.Cancel) (f id).base c changes refl refl here
-IsHalfOf-after f g id (events.Claim base reading) c needs apart free changes here =
-    begun f g id (unwrap_or (f id).armed 0) (after (f id) (events.Claim base reading)) c changes refl (some_of (f id).armed needs.0) free here
-IsHalfOf-after f g id (events.Forward reading interval) c needs apart free changes here =
-    let now = after (f id) (events.Forward reading interval) in
-    let none = none_of (f id).armed needs.1 in record {
-      queues = λ clock. queue-same f g id now (f id).base clock (queue_of c clock) changes (here.queues clock)
-          (wanted-unarmed (f id).base clock now none ∙ sym (wanted-unarmed (f id).base clock (f id) none));
-      running = running-same f g id now (f id).base c.running changes here.running refl;
+IsHalfOf-after f g id e c needs apart free changes here =
+    let now = after (f id) e in
+    let d = effect (f id) e in
+    let goes = by_effect (f id) e in
+    let allowed = goes.needs needs in
+    record {
+      queues = λ clock. subst (IsQueueOf g (f id).base clock) (sym (queue_of-run_by d.function id (f id) (queued_by d.queue id now c) clock))
+          (queues-after f g id now c d.queue d.sent changes apart goes.armed allowed.queue here clock);
+      running = running-after f g id now c (queued_by d.queue id now c) d.function d.by_claimer changes (running-queued id now c d.queue)
+          goes.running allowed.function free (runs_on-same (f id) now d.sent goes.sent allowed.sent) here;
     }
-IsHalfOf-after f g id (events.Finish restart) c needs apart free changes here =
-    ended f g id (unwrap_or (f id).running 0) (after (f id) (events.Finish restart)) c
-    (if arms_again (f id) restart then requeued id (f id) c else c) changes refl (running_on-itself (f id) ∙ some_of (f id).running needs)
-    (finished_queues f g id restart c needs apart changes here) here
 
 -- ---- the other bases
 
 far-after : (t : Timer) (e : Event) (base : ℕ) → Needs t e → base ≢ t.base
     → ((clock : ClockId) → wanted base clock (after t e) ≡ None) × (running_on base (after t e) ≡ None)
-far-after t (events.Out to) base needs far =
-    ((λ clock. wanted-unarmed base clock (after t (events.Out to)) refl), running_on-none base (after t (events.Out to)) (none_of t.running needs.0))
-far-after t (events.Start asked) base needs far = let now = after t
-    (events.Start asked) in ((λ clock. wanted-elsewhere base clock now far), running_on-elsewhere base now far)
-far-after t events.Cancel base needs far = let now = after t events.Cancel in (
-  (λ clock. wanted-elsewhere base clock now far),
-  running_on-elsewhere base now far,
-)
-far-after t (events.Claim on reading) base needs far = let now = after t
-    (events.Claim on reading) in ((λ clock. wanted-elsewhere base clock now far), running_on-elsewhere base now far)
-far-after t (events.Forward reading interval) base needs far = let now = after t
-    (events.Forward reading interval) in ((λ clock. wanted-elsewhere base clock now far), running_on-elsewhere base now far)
-far-after t (events.Finish restart) base needs far = let now = after t
-    (events.Finish restart) in ((λ clock. wanted-elsewhere base clock now far), running_on-elsewhere base now far)
+far-after t e base needs far = by_sent (effect t e).sent (by_effect t e).sent ((by_effect t e).needs needs).sent
+  where
+    by_sent : (sent : Option ℕ) → IsSent sent t (after t e) → SentNeeds sent t (after t e)
+        → ((clock : ClockId) → wanted base clock (after t e) ≡ None) × (running_on base (after t e) ≡ None)
+    by_sent None is told =
+        let off = λ (same : base ≡ (after t e).base). far (same ∙ is.0) in
+        ((λ clock. wanted-elsewhere base clock (after t e) off), running_on-elsewhere base (after t e) off)
+    by_sent (Some to) is told = ((λ clock. wanted-unarmed base clock (after t e) told.2), running_on-none base (after t e) told.3)
 
 pub IsHalfOf-elsewhere : (f g : ℕ → Timer) (id : ℕ) (e : Event) (base : ℕ) (c : Half) → Needs (f id) e → base ≢ (f id).base
     → Changes f g id (after (f id) e) → IsHalfOf f base c → IsHalfOf g base c

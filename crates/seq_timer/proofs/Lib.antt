@@ -1,6 +1,7 @@
 pub mod Agreement
 pub mod Alike
 pub mod Contents
+pub mod Effects
 pub mod Halves
 pub mod Due
 pub mod Firsts

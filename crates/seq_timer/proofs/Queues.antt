@@ -1,15 +1,17 @@
 -- What taking a timer off a base's queues and putting it on one do to the queues.
-use Rattle.std.proofs.Common.{◌≡◌, ℕ, false, List, Option, [], ◌∷◌, nat_eq, if◌then◌else◌, arith, refl, sym, subst, ap, ◌∙◌, is_some}
+use Rattle.std.proofs.Common.{◌≡◌, ℕ, false, List, Option, Some, None, unwrap_or, [], ◌∷◌, nat_eq, if◌then◌else◌, arith, refl, sym, subst, ap, ◌∙◌, is_some}
 use Rattle.std.proofs.lemmas.Bool.{and_left, and_right}
 use Rattle.std.proofs.lemmas.Bool.Decides.{nat_tests}
 use Rattle.ktime.specs.declared.clock_id.ClockId.{ClockId}
 use Rattle.ktime.specs.declared.clock_id.ClockId.TheVariants as clocks
 use Rattle.timer_queue.specs.Pairs.{has_id, put, without}
 use Rattle.timer_queue.proofs.Pairs.{has_id-expiry_of, expiry_of-without}
+use Rattle.seq_timer.specs.declared.effect.RunEffect.{RunEffect}
+use Rattle.seq_timer.specs.declared.effect.RunEffect.TheVariants as functions
 use Rattle.seq_timer.specs.Bases.{IsInNone, IsQueuedIn, is_queued}
 use Rattle.seq_timer.specs.Steps.{Timer}
 use Rattle.seq_timer.specs.Tables.{rank}
-use Rattle.seq_timer.specs.Halves.{Half, queue_of, dequeued, enqueued, with_running}
+use Rattle.seq_timer.specs.Halves.{Half, queue_of, dequeued, enqueued, run_by, with_running}
 
 -- a timer that was taken out isn't in the queue
 pub has_id-without : (id : ℕ) (queue : List (ℕ × ℕ)) → has_id id (without id queue) ≡ false
@@ -45,6 +47,11 @@ pub queue_of-with_running : (running : Option (ℕ × ℕ)) (c : Half) (clock : 
 queue_of-with_running running c clocks.Monotonic = refl
 queue_of-with_running running c clocks.Realtime = refl
 queue_of-with_running running c clocks.Boottime = refl
+
+pub queue_of-run_by : (f : RunEffect) (id : ℕ) (t : Timer) (c : Half) (clock : ClockId) → queue_of (run_by f id t c) clock ≡ queue_of c clock
+queue_of-run_by functions.Stays id t c clock = refl
+queue_of-run_by (functions.Begins reading) id t c clock = queue_of-with_running (Some (id, unwrap_or t.armed 0)) c clock
+queue_of-run_by functions.Ends id t c clock = queue_of-with_running None c clock
 
 -- nor do the queues say what runs
 pub running-enqueued : (its : ClockId) (expires id : ℕ) (c : Half) → (enqueued its expires id c).running ≡ c.running

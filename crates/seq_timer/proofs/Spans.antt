@@ -36,10 +36,10 @@ pub spans-claiming : (number generation : ℕ) (e : Entry) (es : List Entry) →
     → spans_from number (e ∷ es) ≡ record { generation = generation; claim = number; finish = next_finish (number + 1) es } ∷ spans_from (number + 1) es
 spans-claiming number generation e es told = ap (λ told. with_span told number (next_finish (number + 1) es) (spans_from (number + 1) es)) told
 
-pub next_finish-passing : (number : ℕ) (e : Entry) (es : List Entry) → is_finish e.event ≡ false → next_finish number (e ∷ es) ≡ next_finish (number + 1) es
+pub next_finish-passing : (number : ℕ) (e : Entry) (es : List Entry) → is_finish e.reply ≡ false → next_finish number (e ∷ es) ≡ next_finish (number + 1) es
 next_finish-passing number e es other = ap (λ b. if b then number else next_finish (number + 1) es) other
 
-pub next_finish-here : (number : ℕ) (e : Entry) (es : List Entry) → is_finish e.event ≡ true → next_finish number (e ∷ es) ≡ number
+pub next_finish-here : (number : ℕ) (e : Entry) (es : List Entry) → is_finish e.reply ≡ true → next_finish number (e ∷ es) ≡ number
 next_finish-here number e es here = ap (λ b. if b then number else next_finish (number + 1) es) here
 
 -- what the entry tells of its claim
@@ -58,13 +58,13 @@ running_waits t number generation (e ∷ es) runs steps =
     (λ (finishing : IsFinishing t e.event). subst (AllByRecursion (λ s. next_finish number (e ∷ es) < s.claim))
     (sym (spans-passing number e es (told_by t e None steps.1 finishing.told)))
     (subst (λ n. AllByRecursion (λ s. n < s.claim) (spans_from (number + 1) es))
-    (sym (next_finish-here number e es finishing.finish))
+    (sym (next_finish-here number e es (ap is_finish steps.1 ∙ finishing.finish)))
     (all_follow (λ s. number + 1 ≤ s.claim) (λ s. number < s.claim) (λ s later. omega arith) (spans_from (number + 1) es)
     (spans_begin (number + 1) es))))
     (λ (passing : IsPassing t e.event). subst (AllByRecursion (λ s. next_finish number (e ∷ es) < s.claim))
     (sym (spans-passing number e es (told_by t e None steps.1 passing.told)))
     (subst (λ n. AllByRecursion (λ s. n < s.claim) (spans_from (number + 1) es))
-    (sym (next_finish-passing number e es passing.no_finish)) (rest (passing.runs ∙ runs))))
+    (sym (next_finish-passing number e es (ap is_finish steps.1 ∙ passing.no_finish))) (rest (passing.runs ∙ runs))))
     others)
     (kind_of t e.event steps.0)
 
@@ -87,7 +87,7 @@ pub next_finish-from : (number : ℕ) (history : List Entry) → number ≤ next
 next_finish-from number [] = omega arith
 next_finish-from number (e ∷ es) =
     let rest = next_finish-from (number + 1) es in
-    elim (is_finish e.event) as (λ b. number ≤ (if b then number else next_finish (number + 1) es)) [
+    elim (is_finish e.reply) as (λ b. number ≤ (if b then number else next_finish (number + 1) es)) [
       | true ↦ omega arith
       | false ↦ omega (arith, rest)
     ]
@@ -130,7 +130,7 @@ runs_inside t before (suc count) generation (e ∷ es) steps within runs =
     ⊎_elim
     (λ (still : ((after t e.event).running ≡ Some generation) × (before + 1 + count < next_finish (before + 1 + 1) es)). inl (
       sym passing.runs ∙ still.0,
-      subst (λ n. before + suc count < n) (sym (next_finish-passing (before + 1) e es passing.no_finish))
+      subst (λ n. before + suc count < n) (sym (next_finish-passing (before + 1) e es (ap is_finish steps.1 ∙ passing.no_finish)))
           (subst (λ n. n < next_finish (before + 1 + 1) es) same still.1),
     ))
     (λ (one : IsInOne generation (before + 1 + count) (spans_from (before + 1 + 1) es)). inr
@@ -161,9 +161,10 @@ runs_until t before (suc count) generation (e ∷ es) steps runs within unfinish
     ⊎_elim
     (λ (claiming : IsClaiming t e.event). absurd (cc (runs, claiming.idle)))
     (λ others. ⊎_elim
-    (λ (finishing : IsFinishing t e.event). let here = next_finish-here (before + 1) e es finishing.finish in absurd (omega (arith, here, unfinished)))
+    (λ (finishing : IsFinishing t e.event).
+    let here = next_finish-here (before + 1) e es (ap is_finish steps.1 ∙ finishing.finish) in absurd (omega (arith, here, unfinished)))
     (λ (passing : IsPassing t e.event).
-    let there = next_finish-passing (before + 1) e es passing.no_finish in
+    let there = next_finish-passing (before + 1) e es (ap is_finish steps.1 ∙ passing.no_finish) in
     runs_until (after t e.event) (before + 1) count generation es steps.2 (passing.runs ∙ runs) (omega arith) (omega (arith, there, unfinished)))
     others)
     (kind_of t e.event steps.0)
@@ -177,12 +178,12 @@ finishes_as t before generation (x ∷ xs) e steps runs found =
     (λ (claiming : IsClaiming t x.event). absurd (cc (runs, claiming.idle)))
     (λ others. ⊎_elim
     (λ (finishing : IsFinishing t x.event).
-    let here = next_finish-here (before + 1) x xs finishing.finish in
+    let here = next_finish-here (before + 1) x xs (ap is_finish steps.1 ∙ finishing.finish) in
     let first : next_finish (before + 1) (x ∷ xs) - (before + 1) ≡ 0 = omega (arith, here) in
     let is : Some x ≡ Some e = subst (λ n. slice_get (x ∷ xs) n ≡ Some e) first found in
     subst (λ (y : Entry). finish_in y.reply ≡ Some generation) (same_Some x e is) (ap finish_in steps.1 ∙ finishing.answers generation runs))
     (λ (passing : IsPassing t x.event).
-    let there = next_finish-passing (before + 1) x xs passing.no_finish in
+    let there = next_finish-passing (before + 1) x xs (ap is_finish steps.1 ∙ passing.no_finish) in
     let from = next_finish-from (before + 1 + 1) xs in
     let next : next_finish (before + 1) (x ∷ xs) - (before + 1) ≡ suc (next_finish (before + 1 + 1) xs - (before + 1 + 1)) = omega (arith, there, from) in
     finishes_as (after t x.event) (before + 1) generation xs e steps.2 (passing.runs ∙ runs) (subst (λ n. slice_get (x ∷ xs) n ≡ Some e) next found))

@@ -1,15 +1,16 @@
 -- A history of all timers: an entry leaves other timers and bases as they are, bases keep the timers that are on them, and a timer is what its own
 -- entries lead to.
-use Rattle.std.proofs.Common.{◌≡◌, ℕ, ◌<◌, ◌≤◌, ◌≢◌, eqb, Bool, true, false, List, [], ◌∷◌, ◌++◌, length, refl, ap, sym, ◌∙◌, subst, ◌⊎◌, inl, inr, ⊎_elim, arith, if◌then◌else◌}
+use Rattle.std.proofs.Common.{◌≡◌, ℕ, ◌<◌, ◌≤◌, ◌≢◌, eqb, Bool, true, false, List, [], ◌∷◌, ◌++◌, length, Option, Some, None, refl, ap, sym, ◌∙◌, subst, ◌⊎◌, inl, inr, ⊎_elim, arith, if◌then◌else◌}
 use Rattle.std.proofs.lemmas.Bool.{cases_eq, ne_eqb, eq-eqb, true≢false}
 use Rattle.std.proofs.lemmas.List.{get_or-set_same, get_or-set_other, length-set}
-use Rattle.seq_timer.specs.declared.event.Event.{Event}
-use Rattle.seq_timer.specs.declared.event.Event.TheVariants as events
+use Rattle.seq_timer.specs.Events.{Event}
+use Rattle.seq_timer.specs.Effects.{effect}
 use Rattle.seq_timer.specs.Steps.{Timer, after}
 use Rattle.seq_timer.specs.Tables.{timer_at, no_timer}
 use Rattle.seq_timer.specs.Histories as seq
 use Rattle.seq_timer.specs.declared.system.TimerEntry.{TimerEntry}
 use Rattle.seq_timer.specs.Systems.{BaseContent, System, updated, first_system, system_after, changed, after_entry, after_entries, IsSystemStep, AreSystemSteps, entries_of, IsOn, Shows}
+use Rattle.seq_timer.proofs.Effects.{IsSent, by_effect}
 
 pub updated_here : {A : Type 0} (f : ℕ → A) (i : ℕ) (x : A) → updated f i x i ≡ x
 updated_here f i x = ap (λ b. if b then x else f i) (eq-eqb i i refl)
@@ -52,12 +53,11 @@ states_len id t event b = length-set b.states id (after t event)
 
 -- a step leaves the timer on its base, or on the move
 pub stays_or_moves : (t : Timer) (e : Event) → ((after t e).moving ≡ true) ⊎ ((after t e).base ≡ t.base)
-stays_or_moves t (events.Out base) = inl refl
-stays_or_moves t (events.Start asked) = inr refl
-stays_or_moves t events.Cancel = inr refl
-stays_or_moves t (events.Claim base reading) = inr refl
-stays_or_moves t (events.Forward reading interval) = inr refl
-stays_or_moves t (events.Finish restart) = inr refl
+stays_or_moves t e = by_sent (effect t e).sent (by_effect t e).sent
+  where
+    by_sent : (sent : Option ℕ) → IsSent sent t (after t e) → ((after t e).moving ≡ true) ⊎ ((after t e).base ≡ t.base)
+    by_sent None is = inr is.0
+    by_sent (Some base) is = inl is.1
 
 -- ---- many entries
 

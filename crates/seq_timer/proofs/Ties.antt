@@ -1,5 +1,5 @@
 -- Of timers that expire at the same time on one queue, the one that was armed first stands first, and is claimed first.
-use Rattle.std.proofs.Common.{◌≡◌, ◌≢◌, ◌<◌, ◌≤◌, ◌⊎◌, ◌+◌, ℕ, Bool, true, false, not, ◌&&◌, List, [], ◌∷◌, ◌++◌, Option, Some, None, nat_eq, nat_lt, is_some, unwrap_or, if◌then◌else◌, arith, refl, sym, ap, ◌∙◌, subst, ⊎_elim, inl, inr, length}
+use Rattle.std.proofs.Common.{◌≡◌, ◌≢◌, ◌<◌, ◌≤◌, ◌⊎◌, ◌+◌, ℕ, Bool, true, false, not, ◌&&◌, List, [], ◌∷◌, ◌++◌, Option, Some, None, nat_eq, nat_lt, is_some, if◌then◌else◌, arith, refl, sym, ap, ◌∙◌, subst, ⊎_elim, inl, inr, length}
 use Rattle.std.specs.List.{AllByRecursion}
 use Rattle.std.proofs.lemmas.Bool.{cases_Bool, cases_eq, ne_eqb, eqb-true, true≢false}
 use Rattle.std.proofs.lemmas.Bool.Decides.{nat_tests}
@@ -11,14 +11,17 @@ use Rattle.ktime.specs.declared.clock_id.ClockId.TheVariants as clocks
 use Rattle.ktime.specs.Readings.{ClockReading}
 use Rattle.timer_queue.specs.Pairs.{IsByExpiry, expiry_of, first_of, has_id, put, without}
 use Rattle.timer_queue.proofs.Pairs.{IsByExpiry-without, expiry_of-first, has_id-expiry_of}
-use Rattle.seq_timer.specs.declared.event.Event.{Event}
-use Rattle.seq_timer.specs.declared.event.Event.TheVariants as events
+use Rattle.seq_timer.specs.Events.{Event}
+use Rattle.seq_timer.specs.declared.event.EventBy.TheVariants as events
 use Rattle.seq_timer.specs.declared.system.TimerEntry.{TimerEntry}
-use Rattle.seq_timer.specs.Steps.{Timer, Needs, after, arms_again, opening}
+use Rattle.seq_timer.specs.declared.effect.QueueEffect.{QueueEffect}
+use Rattle.seq_timer.specs.declared.effect.QueueEffect.TheVariants as queues
+use Rattle.seq_timer.specs.Effects.{effect, is_arming}
+use Rattle.seq_timer.specs.Steps.{Timer, Needs, after, opening}
 use Rattle.seq_timer.specs.Tables.{in_context, is_context, is_kept_on, rank, runs_on, seen_in}
 use Rattle.seq_timer.specs.declared.context.Context.{Context}
 use Rattle.seq_timer.specs.declared.context.Context.TheVariants as contexts
-use Rattle.seq_timer.specs.Halves.{Half, IsHalfOf, dequeued, generation_in, half_after, queue_of, reached, requeued, running_on, wanted, with_running}
+use Rattle.seq_timer.specs.Halves.{Half, IsHalfOf, dequeued, generation_in, half_after, queue_of, queued_by, reached, requeued, running_on, wanted}
 use Rattle.seq_timer.specs.Contents.{content_after, first_due, half_of, no_content, running_in}
 use Rattle.seq_timer.specs.Systems.{AreSystemSteps, BaseContent, FitsBase, IsSystemHistory, IsSystemStep, System, after_entries, after_entry, armed_after, armed_in, arms, first_system, next_on, openings, system_of, updated}
 use Rattle.seq_timer.specs.Turns.{IsTurn, MayFollow}
@@ -27,7 +30,7 @@ use Rattle.seq_timer.proofs.Halves.{wanted-elsewhere}
 use Rattle.seq_timer.proofs.Contents.{half_of-else, half_of-here, same_context, seen_else, seen_here, seen_own}
 use Rattle.seq_timer.proofs.Due.{expiry-kept, first_reached, or_some, rank-injective}
 use Rattle.seq_timer.proofs.Firsts.{first_due-next, next_on-seen}
-use Rattle.seq_timer.proofs.Queues.{has_id-without, queue_of-dequeued, queue_of-enqueued, queue_of-with_running}
+use Rattle.seq_timer.proofs.Queues.{has_id-without, queue_of-dequeued, queue_of-enqueued, queue_of-run_by}
 use Rattle.seq_timer.proofs.Systems.{base_else, base_here, steps_part, updated_else, updated_here}
 
 -- each of the pairs that expires when the first does was armed later
@@ -130,20 +133,18 @@ module _ (armed : ℕ → ℕ) (count id : ℕ) (below : (k : ℕ) → armed k �
         | false ↦ kept
       ])
 
+  order_queued : (q : QueueEffect) (now : Timer) (c : Half) (clock : ClockId) → IsByExpiry (queue_of c clock) → InOrder armed (queue_of c clock)
+      → InOrder (if is_arming q then later else armed) (queue_of (queued_by q id now c) clock)
+  order_queued queues.Stays now c clock sorted o = o
+  order_queued queues.Leaves now c clock sorted o = subst (InOrder armed) (sym (queue_of-dequeued id c clock)) (order_without armed id (queue_of c clock) o)
+  order_queued queues.Armed now c clock sorted o = order_requeued now c clock sorted o
+
   order_here : (t : Timer) (e : Event) (c : Half) (clock : ClockId) → IsByExpiry (queue_of c clock) → InOrder armed (queue_of c clock)
       → InOrder (if arms t e then later else armed) (queue_of (half_after id t e c) clock)
-  order_here t (events.Out base) c clock sorted o = subst (InOrder armed) (sym (queue_of-dequeued id c clock)) (order_without armed id (queue_of c clock) o)
-  order_here t (events.Start asked) c clock sorted o = order_requeued (after t (events.Start asked)) c clock sorted o
-  order_here t events.Cancel c clock sorted o = subst (InOrder armed) (sym (queue_of-dequeued id c clock)) (order_without armed id (queue_of c clock) o)
-  order_here t (events.Claim base reading) c clock sorted o =
-      subst (InOrder armed) (sym (queue_of-with_running (Some (id, unwrap_or t.armed 0)) (dequeued id c) clock
-      ∙ queue_of-dequeued id c clock)) (order_without armed id (queue_of c clock) o)
-  order_here t (events.Forward reading interval) c clock sorted o = o
-  order_here t (events.Finish restart) c clock sorted o =
-      elim (arms_again t restart) as (λ b. InOrder (if b then later else armed) (queue_of (with_running None (if b then requeued id t c else c)) clock)) [
-        | true ↦ subst (InOrder later) (sym (queue_of-with_running None (requeued id t c) clock)) (order_requeued t c clock sorted o)
-        | false ↦ subst (InOrder armed) (sym (queue_of-with_running None c clock)) o
-      ]
+  order_here t e c clock sorted o =
+      let d = effect t e in
+      subst (InOrder (if arms t e then later else armed)) (sym (queue_of-run_by d.function id t (queued_by d.queue id (after t e) c) clock))
+      (order_queued d.queue (after t e) c clock sorted o)
 
 -- a timer stands in no queue of another base or another context
 absent_there : (timers : ℕ → Timer) (x : Context) (b t : ℕ) (clock : ClockId) (h : Half) → IsHalfOf (in_context x timers) b h
@@ -180,7 +181,8 @@ module _ (bases timers : ℕ) where
             (⊎_elim
             (λ own. subst (λ z. InOrder new (queue_of (half_of z (content_after id t e.event (w.bases t.base).content)) clock))
             (sym (same_context x y own))
-            (subst (λ h. InOrder new (queue_of h clock)) (sym (half_of-here y (half_after id t e.event (half_of y (w.bases t.base).content)) (w.bases t.base).content))
+            (subst (λ h. InOrder new (queue_of h clock))
+            (sym (half_of-here y (half_after id t e.event (half_of y (w.bases t.base).content)) (w.bases t.base).content))
             (order_here armed count id o.below t e.event (half_of y (w.bases t.base).content) clock
             (((agrees.contents t.base).each y).queues clock).by_expiry (o.each t.base y clock))))
             (λ other. subst (λ h. InOrder new (queue_of h clock))

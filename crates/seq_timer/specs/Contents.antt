@@ -3,7 +3,7 @@ use Rattle.std.specs.Prelude.{ℕ, Option}
 use Rattle.ktime.specs.Readings.{ClockReading}
 use Rattle.seq_timer.specs.declared.context.Context.{Context}
 use Rattle.seq_timer.specs.declared.context.Context.TheVariants as contexts
-use Rattle.seq_timer.specs.declared.event.Event.{Event}
+use Rattle.seq_timer.specs.Events.{Event}
 use Rattle.seq_timer.specs.Steps.{Timer}
 use Rattle.seq_timer.specs.Tables.{in_context}
 use Rattle.seq_timer.specs.Halves.{Half, IsHalfOf, first_in, half_after, no_half}

@@ -7,9 +7,13 @@ use Rattle.ktime.specs.declared.clock_id.ClockId.{ClockId}
 use Rattle.ktime.specs.declared.clock_id.ClockId.TheVariants as clocks
 use Rattle.ktime.specs.Readings.{ClockReading}
 use Rattle.timer_queue.specs.Pairs.{expiry_of, put, without, IsByExpiry}
-use Rattle.seq_timer.specs.declared.event.Event.{Event}
-use Rattle.seq_timer.specs.declared.event.Event.TheVariants as events
-use Rattle.seq_timer.specs.Steps.{Timer, after, arms_again}
+use Rattle.seq_timer.specs.Events.{Event}
+use Rattle.seq_timer.specs.declared.effect.QueueEffect.{QueueEffect}
+use Rattle.seq_timer.specs.declared.effect.QueueEffect.TheVariants as queues
+use Rattle.seq_timer.specs.declared.effect.RunEffect.{RunEffect}
+use Rattle.seq_timer.specs.declared.effect.RunEffect.TheVariants as functions
+use Rattle.seq_timer.specs.Effects.{effect}
+use Rattle.seq_timer.specs.Steps.{Timer, after}
 use Rattle.seq_timer.specs.Tables.{is_kept_on}
 
 -- a base's queues of pairs (expiry, timer) for one context, and the timer whose function runs there, with its generation
@@ -59,24 +63,27 @@ requeued id t c = enqueued t.clock t.expires id (dequeued id c)
 abbrev pub with_running : Option (ℕ × ℕ) → Half → Half
 with_running running c = record c { running = running }
 
--- the content of the base that the timer is on before the event, after it: arming puts the timer anew, disarming takes it off,
--- a claim makes it the one that runs there, and a finish ends that
-abbrev pub half_after : ℕ → Timer → Event → Half → Half
-half_after id t (events.Out base) c = dequeued id c
-half_after id t (events.Start asked) c = requeued id (after t (events.Start asked)) c
-half_after id t events.Cancel c = dequeued id c
-half_after id t (events.Claim base reading) c = with_running (Some (id, unwrap_or t.armed 0)) (dequeued id c)
-half_after id t (events.Forward reading interval) c = c
-half_after id t (events.Finish restart) c = with_running None (if arms_again t restart then requeued id t c else c)
+-- the queues, by what becomes of a timer in its queue; the timer is then so
+abbrev pub queued_by : QueueEffect → ℕ → Timer → Half → Half
+queued_by queues.Stays id t c = c
+queued_by queues.Leaves id t c = dequeued id c
+queued_by queues.Armed id t c = requeued id t c
 
--- a claim finds no function running on the base
-abbrev pub IsFreeFor : Half → Event → Type 0
-IsFreeFor c (events.Claim base reading) = c.running ≡ None
-IsFreeFor c (events.Out base) = Unit {0}
-IsFreeFor c (events.Start asked) = Unit {0}
-IsFreeFor c events.Cancel = Unit {0}
-IsFreeFor c (events.Forward reading interval) = Unit {0}
-IsFreeFor c (events.Finish restart) = Unit {0}
+-- what runs, by what becomes of a timer's function; the timer was so before
+abbrev pub run_by : RunEffect → ℕ → Timer → Half → Half
+run_by functions.Stays id t c = c
+run_by (functions.Begins reading) id t c = with_running (Some (id, unwrap_or t.armed 0)) c
+run_by functions.Ends id t c = with_running None c
+
+-- what the base that the timer is on before the event has, after it
+abbrev pub half_after : ℕ → Timer → Event → Half → Half
+half_after id t e c = run_by (effect t e).function id t (queued_by (effect t e).queue id (after t e) c)
+
+-- a function begins where none runs
+abbrev pub IsFreeFor : Half → RunEffect → Type 0
+IsFreeFor c functions.Stays = Unit {0}
+IsFreeFor c (functions.Begins reading) = c.running ≡ None
+IsFreeFor c functions.Ends = Unit {0}
 
 -- ---- that a base agrees with the timers
 

@@ -1,9 +1,8 @@
 -- The history of one timer: its entries, the state after each, what an observation says of it, and the spans of its function.
-use Rattle.std.specs.Prelude.{ℕ, ◌≡◌, ◌+◌, ◌≤◌, ◌<◌, Bool, true, false, Option, Some, None, is_some, IsSome, List, [], ◌∷◌, take, if◌then◌else◌}
+use Rattle.std.specs.Prelude.{ℕ, ◌≡◌, ◌+◌, ◌≤◌, ◌<◌, Bool, false, Option, Some, None, is_some, IsSome, List, [], ◌∷◌, take, if◌then◌else◌}
 use Rattle.seq_timer.specs.declared.context.Declared.{Declared}
 use Rattle.seq_timer.specs.declared.context.Terms.{Terms}
-use Rattle.seq_timer.specs.declared.event.Event.{Event}
-use Rattle.seq_timer.specs.declared.event.Event.TheVariants as events
+use Rattle.seq_timer.specs.Events.{Event}
 use Rattle.seq_timer.specs.declared.event.Reply.{Reply}
 use Rattle.seq_timer.specs.declared.event.Reply.TheVariants as replies
 use Rattle.seq_timer.specs.declared.observation.Observation.{Observation}
@@ -60,7 +59,7 @@ HoldsAt declared terms history stamp observation = Holds (state_after declared t
 abbrev pub told_in : Reply → Option ℕ × Option ℕ × Option ℕ
 told_in (replies.Claim generation) = (Some generation, None, None)
 told_in (replies.Cancel generation) = (None, Some generation, None)
-told_in (replies.Finish generation rearmed) = (None, None, Some generation)
+told_in (replies.Finish generation restarted) = (None, None, Some generation)
 told_in (replies.Out was_armed) = (None, None, None)
 told_in (replies.Start placement was_armed) = (None, None, None)
 told_in (replies.Forward moved) = (None, None, None)
@@ -74,19 +73,14 @@ cancel_in reply = (told_in reply).1
 abbrev pub finish_in : Reply → Option ℕ
 finish_in reply = (told_in reply).2
 
--- whether an event is a finish
-abbrev pub is_finish : Event → Bool
-is_finish (events.Finish restart) = true
-is_finish (events.Out base) = false
-is_finish (events.Start asked) = false
-is_finish events.Cancel = false
-is_finish (events.Claim base reading) = false
-is_finish (events.Forward reading interval) = false
+-- whether a reply is that of a finish
+abbrev pub is_finish : Reply → Bool
+is_finish reply = is_some (finish_in reply)
 
 -- the number of the next finish among entries that are numbered from here; one past the last where there is none
 abbrev pub next_finish : ℕ → List Entry → ℕ
 next_finish number [] = number
-next_finish number (e ∷ es) = if is_finish e.event then number else next_finish (number + 1) es
+next_finish number (e ∷ es) = if is_finish e.reply then number else next_finish (number + 1) es
 
 -- while a claimed generation's function runs: from the number of its claim to that of the next finish
 pub record Span : Type 0 where

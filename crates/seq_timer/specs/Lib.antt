@@ -1,5 +1,8 @@
 pub mod Bases
+pub mod Calls
 pub mod Contents
+pub mod Effects
+pub mod Events
 pub mod Halves
 pub mod Histories
 pub mod Laws

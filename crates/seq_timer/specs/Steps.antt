@@ -8,14 +8,16 @@ use Rattle.ktime.specs.Times.{sat, last_time, effective_clock, passed, next_afte
 use Rattle.seq_timer.specs.declared.context.Declared.{Declared}
 use Rattle.seq_timer.specs.declared.context.Terms.{Terms}
 use Rattle.seq_timer.specs.declared.event.Placement.{Placement}
-use Rattle.seq_timer.specs.declared.event.Asked.{Asked}
+use Rattle.seq_timer.specs.Events.{Asked}
 use Rattle.seq_timer.specs.declared.event.Moved.{Moved}
-use Rattle.seq_timer.specs.declared.event.Event.{Event}
-use Rattle.seq_timer.specs.declared.event.Event.TheVariants as events
+use Rattle.seq_timer.specs.Events.{Event}
+use Rattle.seq_timer.specs.declared.event.EventBy.TheVariants as events
 use Rattle.seq_timer.specs.declared.event.Reply.{Reply}
 use Rattle.seq_timer.specs.declared.event.Reply.TheVariants as replies
-use Rattle.seq_timer.specs.declared.event.Rearmed.{Rearmed}
-use Rattle.seq_timer.specs.declared.event.Rearmed.TheVariants as rearmings
+use Rattle.seq_timer.specs.declared.event.Restarted.{Restarted}
+use Rattle.seq_timer.specs.declared.event.Restarted.TheVariants as restarts
+use Rattle.seq_timer.specs.declared.answer.Rearmed.{Rearmed}
+use Rattle.seq_timer.specs.declared.answer.Rearmed.TheVariants as rearmings
 
 -- a timer: the clock and context it was declared on, the clock, base, soft expiry and expiry that it is kept on, the generations that are armed and running,
 -- whether it is on the move between bases, how many entries its history has, and the terms on which it takes more
@@ -99,10 +101,20 @@ after t (events.Claim base reading) = record t { armed = None; running = t.armed
 after t (events.Forward reading interval) = forwarded t reading interval
 after t (events.Finish restart) = finished t restart
 
--- how a finish tells of the restart
+-- what becomes of the restart that a finish is asked for
+abbrev pub restarted_by : Timer → Bool → Restarted
+restarted_by t restart = if restart && not
+    (is_some t.armed) then (if nat_lt t.stamp t.terms.limit then restarts.Again (t.stamp + 1) else restarts.Spent) else restarts.No
+
+-- the same as it is answered, with the stamp at which it was refused
+abbrev pub rearmed_at : ℕ → Restarted → Rearmed
+rearmed_at stamp restarts.No = rearmings.No
+rearmed_at stamp (restarts.Again generation) = rearmings.Again generation
+rearmed_at stamp restarts.Spent = rearmings.Spent stamp
+
+-- how a finish answers for the restart
 abbrev pub rearmed_by : Timer → Bool → Rearmed
-rearmed_by t restart = if restart && not
-    (is_some t.armed) then (if nat_lt t.stamp t.terms.limit then rearmings.Again (t.stamp + 1) else rearmings.Spent t.stamp) else rearmings.No
+rearmed_by t restart = rearmed_at t.stamp (restarted_by t restart)
 
 -- how a timer is kept
 abbrev pub placement_of : Timer → Placement
@@ -123,7 +135,7 @@ forward_reply t reading interval = replies.Forward (moved_by t reading interval)
 
 -- what a finish answers
 abbrev pub finish_reply : Timer → Bool → Reply
-finish_reply t restart = replies.Finish (unwrap_or t.running 0) (rearmed_by t restart)
+finish_reply t restart = replies.Finish (unwrap_or t.running 0) (restarted_by t restart)
 
 -- what an event answers
 abbrev pub reply_to : Timer → Event → Reply

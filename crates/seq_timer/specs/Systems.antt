@@ -1,14 +1,14 @@
 -- The history of all timers: one list of entries. Each is a step of its timer, and of the base that the timer is on; the list alone says what each
 -- timer is and what each base has after it.
-use Rattle.std.specs.Prelude.{ℕ, ◌≡◌, ◌+◌, ◌<◌, Bool, true, false, ◌==◌, List, [], ◌∷◌, length, map, set, Option, Some, None, if◌then◌else◌}
+use Rattle.std.specs.Prelude.{ℕ, ◌≡◌, ◌+◌, ◌<◌, Bool, false, ◌==◌, List, [], ◌∷◌, length, map, set, Option, Some, None, if◌then◌else◌}
 use Rattle.ktime.specs.Readings.{ClockReading}
 use Rattle.seq_timer.specs.declared.context.Context.{Context}
 use Rattle.seq_timer.specs.declared.context.Declared.{Declared}
 use Rattle.seq_timer.specs.declared.context.Terms.{Terms}
-use Rattle.seq_timer.specs.declared.event.Event.{Event}
-use Rattle.seq_timer.specs.declared.event.Event.TheVariants as events
+use Rattle.seq_timer.specs.Events.{Event}
 use Rattle.seq_timer.specs.declared.system.TimerEntry.{TimerEntry}
-use Rattle.seq_timer.specs.Steps.{Timer, Needs, after, arms_again, opening, reply_to}
+use Rattle.seq_timer.specs.Effects.{NeedsOfBases, effect, is_arming}
+use Rattle.seq_timer.specs.Steps.{Timer, Needs, after, opening, reply_to}
 use Rattle.seq_timer.specs.Tables.{timer_at}
 use Rattle.seq_timer.specs.Contents.{Content, content_after, first_due, no_content, running_in}
 use Rattle.seq_timer.specs.Histories as seq
@@ -63,16 +63,15 @@ after_entries w (e ∷ es) = after_entries (after_entry w e) es
 abbrev pub system_after : List Timer → List TimerEntry → System
 system_after opened log = after_entries (first_system opened) log
 
--- what an event of a timer needs of the base that it is on: a timer is sent to one of the bases; where one is claimed no function runs, and of
--- all that is due there it comes first, of equal expiries the one that was armed first
-abbrev pub FitsBase : ℕ → BaseContent → ℕ → Timer → Event → Type 0
-FitsBase bases b id t (events.Out base) = base < bases
-FitsBase bases b id t (events.Start asked) = Unit {0}
-FitsBase bases b id t events.Cancel = Unit {0}
-FitsBase bases b id t (events.Claim base reading) =
+-- a timer's function may begin on the base that it is on: none of its context runs there, and the timer is the one that is to expire next there, of equal
+-- expiries the one that was armed first
+abbrev pub BeginsInTurn : BaseContent → ℕ → Timer → ClockReading → Type 0
+BeginsInTurn b id t reading =
     (running_in t.declared.context b.content ≡ None) × (next_on t.declared.context b reading ≡ Some (t.expires, id))
-FitsBase bases b id t (events.Forward reading interval) = Unit {0}
-FitsBase bases b id t (events.Finish restart) = Unit {0}
+
+-- what an event of a timer needs of the bases, of which there are so many, and of the one that it is on
+abbrev pub FitsBase : ℕ → BaseContent → ℕ → Timer → Event → Type 0
+FitsBase bases b id t e = NeedsOfBases (BeginsInTurn b id t) bases (effect t e).function (effect t e).sent
 
 -- an entry may come next
 pub record IsSystemStep (bases count : ℕ) (w : System) (e : TimerEntry) : Type 0 where
@@ -96,12 +95,7 @@ system_of declareds terms log = system_after (openings declareds terms) log
 
 -- whether an event arms its timer, which was so
 abbrev pub arms : Timer → Event → Bool
-arms t (events.Out base) = false
-arms t (events.Start asked) = true
-arms t events.Cancel = false
-arms t (events.Claim base reading) = false
-arms t (events.Forward reading interval) = false
-arms t (events.Finish restart) = arms_again t restart
+arms t e = is_arming (effect t e).queue
 
 -- of each timer the number, among all entries, of the one that armed it last; so many entries were before these
 abbrev pub armed_after : System → (ℕ → ℕ) → ℕ → List TimerEntry → ℕ → ℕ

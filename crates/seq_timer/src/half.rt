@@ -1,10 +1,11 @@
 //! What a base has for one context: the queues of the timers that are armed on it, and the timer whose function runs there.
 ghost use Rattle.std.specs.Prelude.{◌≡◌, ◌<◌, ◌≤◌, ℕ, IfOk, length};
 ghost use Rattle.seq_timer.specs.Bases.{HalfState, IsInNone, IsQueuedIn, half_state_after, empty_half};
-ghost use Rattle.seq_timer.specs.Halves.{dequeued, enqueued, first_in, reached, requeued};
-ghost use Rattle.seq_timer.specs.Steps.{after, arms_again};
+ghost use Rattle.seq_timer.specs.Halves.{dequeued, enqueued, first_in, queued_by, reached, requeued, run_by};
+ghost use Rattle.seq_timer.specs.Steps.{after};
 ghost use Rattle.seq_timer.specs.Tables.{timer_at};
 
+use crate::effect::{Effect, QueueEffect, RunEffect};
 use crate::event::Event;
 use crate::timer_state::TimerState;
 use ktime::{ClockId, Reading};
@@ -72,20 +73,34 @@ impl<Q: Queue> Half<Q> {
         requires after { now.now ≡ after old.now event.now }
         ensures { self.new ≡ half_state_after id old.now event.now self.old }
     {
-        match *event {
-            Event::Out { .. } | Event::Cancel => self.dequeue(id, old),
-            Event::Start(_) => self.requeue(id, old, now),
-            Event::Claim { .. } => {
-                self.dequeue(id, old);
-                self.running = Some((id, old.armed().unwrap_or(0)));
-            }
-            Event::Forward { .. } => {}
-            Event::Finish { restart } => {
-                if restart && old.armed().is_none() && old.stamp() < old.limit() {
-                    self.requeue(id, old, now);
-                }
-                self.running = None;
-            }
+        let effect = Effect::of(old, event);
+        self.queue_by(effect.queue, id, old, now);
+        self.run_by(effect.function, id, old);
+    }
+
+    /// Takes a timer off its queue, or puts it anew where its state now says, as an event has it.
+    fn queue_by(&mut self, effect: QueueEffect, id: u32, old: &TimerState, now: &TimerState)
+        requires queued { IsQueuedIn id old.now self.old.half }
+        requires below { id < self.old.room }
+        ensures half { self.new.half ≡ queued_by effect id now.now self.old.half }
+        ensures room { self.new.room ≡ self.old.room }
+    {
+        match effect {
+            QueueEffect::Stays => {}
+            QueueEffect::Leaves => self.dequeue(id, old),
+            QueueEffect::Armed => self.requeue(id, old, now),
+        }
+    }
+
+    /// Notes that a timer's function begins here or ends, as an event has it.
+    fn run_by(&mut self, effect: RunEffect, id: u32, old: &TimerState)
+        ensures half { self.new.half ≡ run_by effect id old.now self.old.half }
+        ensures room { self.new.room ≡ self.old.room }
+    {
+        match effect {
+            RunEffect::Stays => {}
+            RunEffect::Begins { .. } => self.running = Some((id, old.armed().unwrap_or(0))),
+            RunEffect::Ends => self.running = None,
         }
     }
 

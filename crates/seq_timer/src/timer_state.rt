@@ -6,7 +6,7 @@ ghost use Rattle.seq_timer.specs.Steps.{Timer, IsBounded, Needs, after, placemen
 ghost use Rattle.seq_timer.specs.Systems.{openings};
 
 use crate::context::{Declared, Terms};
-use crate::event::{Asked, Event, Moved, Placement, Rearmed, Reply};
+use crate::event::{Asked, Event, Moved, Placement, Reply, Restarted};
 use crate::observation::Peek;
 use ktime::{ClockId, Forwarded, LAST_TIME, Mode, Reading, effective, forward, sat_add};
 use std::alloc::{AllocError, Global};
@@ -243,21 +243,21 @@ impl TimerState {
     {
         let generation = self.running.unwrap_or(0);
         let number = self.stamp + 1;
-        let rearmed = if !restart || self.armed.is_some() {
-            Rearmed::No
+        let restarted = if !restart || self.armed.is_some() {
+            Restarted::No
         } else if self.stamp < self.terms.limit {
-            Rearmed::Again { generation: number }
+            Restarted::Again { generation: number }
         } else {
-            Rearmed::Spent { stamp: self.stamp }
+            Restarted::Spent
         };
-        if let Rearmed::Again { generation } = rearmed {
+        if let Restarted::Again { generation } = restarted {
             self.armed = Some(generation);
         }
         self.running = None;
         self.stamp = number;
         Reply::Finish {
             generation,
-            rearmed,
+            restarted,
         }
     }
 }

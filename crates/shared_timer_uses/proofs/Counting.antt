@@ -9,7 +9,7 @@ use Rattle.pass_names.specs.Counts.{count, one_if}
 use Rattle.pass_names.specs.Passes.{is_place, places}
 use Rattle.pass_names.proofs.Counts.{total-append}
 use Rattle.pass_names.proofs.Passes.{begins_refl, begins_trans, places_of_one}
-use Rattle.seq_timer.specs.declared.event.Event.TheVariants as events
+use Rattle.seq_timer.specs.declared.event.EventBy.TheVariants as events
 use Rattle.seq_timer.specs.declared.event.Placement.{Placement}
 use Rattle.seq_timer.specs.declared.observation.Peek.{Peek}
 use Rattle.seq_timer.specs.declared.system.TimerEntry.{TimerEntry}
@@ -18,12 +18,11 @@ use Rattle.seq_timer.specs.Steps.{Timer}
 use Rattle.seq_timer.specs.Systems.{entries_of}
 use Rattle.seq_timer.specs.Tables.{timer_at}
 use Rattle.seq_timer.proofs.Limits.{stamp-after_all}
-use Rattle.timer_core.specs.Answers.{asked_for, moves_first}
+use Rattle.seq_timer.specs.Calls.{asked_for, moves_first, entries_along}
 use Rattle.base_row.specs.declared.view.Opening.{Opening}
 use Rattle.hr_timers.specs.declared.answer.StartAnswer.TheVariants as starts
 use Rattle.hr_timers.specs.Known.{HasEachPlace, KnownOfTimers, MadeAt, timer_then}
 use Rattle.hr_timers.specs.Calls.{Peeks, StartsTimer}
-use Rattle.timer_core.specs.Runs.{entries_along}
 use Rattle.shared_timer_uses.specs.Callers.{MakesEntries, known_timer}
 use Rattle.hr_timers.proofs.Moments.{timer_after, timer_own}
 use Rattle.shared_timer_uses.proofs.Knowing.{no_places}

@@ -6,7 +6,7 @@ use Rattle.ktime.specs.declared.mode.Mode.TheVariants as modes
 use Rattle.ktime.specs.Readings.{ClockReading}
 use Rattle.ktime.specs.Times.{sat}
 use Rattle.pass_names.specs.Passes.{Begins, places}
-use Rattle.seq_timer.specs.declared.event.Event.TheVariants as events
+use Rattle.seq_timer.specs.declared.event.EventBy.TheVariants as events
 use Rattle.seq_timer.specs.declared.event.Placement.{Placement}
 use Rattle.seq_timer.specs.declared.system.TimerEntry.{TimerEntry}
 use Rattle.seq_timer.specs.Histories as seq
@@ -14,10 +14,9 @@ use Rattle.seq_timer.specs.Steps.{Timer, after, now_of, reply_to}
 use Rattle.seq_timer.specs.Systems.{AreSystemSteps, entries_of, first_system}
 use Rattle.seq_timer.specs.Tables.{timer_at}
 use Rattle.seq_timer.proofs.Agreement.{parts}
-use Rattle.timer_core.specs.declared.answer.CancelAnswer.{CancelAnswer}
-use Rattle.timer_core.specs.declared.answer.CancelAnswer.TheVariants as cancels
-use Rattle.timer_core.specs.Answers.{asked_for, moves_first, start_events}
-use Rattle.timer_core.specs.Kept.{step_all}
+use Rattle.seq_timer.specs.declared.answer.CancelAnswer.{CancelAnswer}
+use Rattle.seq_timer.specs.declared.answer.CancelAnswer.TheVariants as cancels
+use Rattle.seq_timer.specs.Calls.{asked_for, moves_first, start_events, step_all}
 use Rattle.base_row.specs.declared.view.Opening.{Opening}
 use Rattle.base_row.proofs.Begun.{entries_of-begins}
 use Rattle.hr_timers.specs.declared.answer.StartAnswer.TheVariants as starts

@@ -1,24 +1,22 @@
 -- What a run of one function comes to.
-use Rattle.std.proofs.Common.{◌≡◌, ℕ, zero, suc, List, [], ◌∷◌, ◌++◌, ◌<◌, length, refl, ap, sym, ◌∙◌, subst, arith}
+use Rattle.std.proofs.Common.{◌≡◌, ℕ, ◌+◌, zero, suc, List, [], ◌∷◌, ◌++◌, ◌<◌, length, refl, ap, sym, ◌∙◌, subst, arith}
 use Rattle.std.specs.Prelude.{Option, Some, None, IfSome}
 use Rattle.ktime.specs.Readings.{ClockReading}
 use Rattle.pass_names.proofs.Passes.{begins_trans}
 use Rattle.seq_timer.specs.declared.context.Context.TheVariants as contexts
-use Rattle.seq_timer.specs.declared.event.Event.TheVariants as events
+use Rattle.seq_timer.specs.declared.event.EventBy.TheVariants as events
 use Rattle.seq_timer.specs.declared.event.Moved.{Moved}
-use Rattle.seq_timer.specs.declared.event.Rearmed.TheVariants as rearmings
 use Rattle.seq_timer.specs.declared.event.Reply.TheVariants as replies
 use Rattle.seq_timer.specs.declared.system.TimerEntry.{TimerEntry}
-use Rattle.seq_timer.specs.Steps.{Timer, moved_by, rearmed_by}
+use Rattle.seq_timer.specs.Steps.{Timer, moved_by, restarted_by}
 use Rattle.seq_timer.specs.Systems.{AreSystemSteps, first_system}
 use Rattle.seq_timer.specs.Tables.{IsNextDue, in_context}
 use Rattle.base_row.specs.declared.view.Opening.{Opening}
 use Rattle.hr_timers.specs.Known.{KnownOfTimers, timer_then}
 use Rattle.expire_pass.specs.declared.expiry.ExpireAnswer.{ExpireAnswer}
 use Rattle.expire_pass.specs.declared.expiry.ExpireAnswer.TheVariants as expiries
-use Rattle.expire_pass.specs.declared.handler.Restart.{Restart}
-use Rattle.expire_pass.specs.declared.log.Noted.TheVariants as noteds
-use Rattle.expire_pass.specs.declared.log.Receipt.{Receipt}
+use Rattle.base_row.specs.declared.log.Noted.TheVariants as noteds
+use Rattle.base_row.specs.declared.log.Receipt.{Receipt}
 use Rattle.expire_pass.specs.Expiring.{Expires, Turn, Turns}
 use Rattle.expire_pass.specs.Handlers.{Meaning, asks}
 use Rattle.hr_timers.proofs.Standing.{forward_same}
@@ -61,8 +59,7 @@ module _ (o : Opening) (base : ℕ) (reading : ClockReading) (k k' : KnownOfTime
       let c = turn.claim in
       let f = turn.ran.finishes in
       let did = turn.ran.did in
-      let rearmed : turn.ran.finished.rearmed ≡ rearmings.No =
-      f.rearmed ∙ ap (λ (r : Restart). rearmed_by (timer_then o f.at c.timer) (asks r)) did.2 in
+      let t = timer_then o f.at c.timer in
       subst (λ r. IfSome r (λ t. RanOnce o base reading k k' t log log')) (sym did.0) (record {
         at = turn.claims.at;
         from = turn.claims.made.from;
@@ -73,14 +70,14 @@ module _ (o : Opening) (base : ℕ) (reading : ClockReading) (k k' : KnownOfTime
         generation = c.generation;
         armed = turn.claims.armed;
         claim = c.number;
-        finish = turn.ran.finished.number;
-        receipts = turn.ran.receipts ∙ (λ i. log
+        finish = t.stamp + 1;
+        receipts = turn.receipts ∙ (λ i. log
             ++ record { timer = c.timer; number = c.number; event = events.Claim (turn.claims.there i) reading; reply = noteds.Entry (replies.Claim c.generation) }
             ∷ record {
               timer = c.timer;
-              number = turn.ran.finished.number;
+              number = t.stamp + 1;
               event = events.Finish (asks (did.2 i));
-              reply = noteds.Entry (replies.Finish c.generation (rearmed i));
+              reply = noteds.Entry (replies.Finish c.generation (restarted_by t (asks (did.2 i))));
             } ∷ []);
       })
 

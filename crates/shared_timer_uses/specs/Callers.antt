@@ -4,9 +4,9 @@ use Rattle.ktime.specs.Readings.{ClockReading}
 use Rattle.ktime.specs.Times.{next_after, passed}
 use Rattle.pass_names.specs.Counts.{count}
 use Rattle.pass_names.specs.Passes.{Begins, is_place}
-use Rattle.seq_timer.specs.declared.event.Event.TheVariants as events
+use Rattle.seq_timer.specs.declared.event.EventBy.TheVariants as events
 use Rattle.seq_timer.specs.declared.event.Reply.TheVariants as replies
-use Rattle.seq_timer.specs.declared.event.Rearmed.TheVariants as rearmings
+use Rattle.seq_timer.specs.declared.event.Restarted.TheVariants as restarteds
 use Rattle.seq_timer.specs.declared.system.TimerEntry.{TimerEntry}
 use Rattle.seq_timer.specs.Histories.{IsIdle}
 use Rattle.seq_timer.specs.Steps.{Timer, moved_by, now_of}
@@ -17,10 +17,10 @@ use Rattle.base_row.specs.declared.view.Opening.{Opening}
 use Rattle.base_row.specs.Calls as rows
 use Rattle.hr_timers.specs.Known.{IsPassOf, KnownOfTimers, PassOf, timer_then}
 use Rattle.hr_timers.specs.Calls.{HasNoneDue}
-use Rattle.expire_pass.specs.declared.log.Noted.TheVariants as noteds
-use Rattle.expire_pass.specs.declared.log.Receipt.{Receipt}
+use Rattle.base_row.specs.declared.log.Noted.TheVariants as noteds
+use Rattle.base_row.specs.declared.log.Receipt.{Receipt}
 use Rattle.expire_pass.specs.Handlers.{KeepsPass}
-use Rattle.expire_pass.specs.Logs.{LogOf}
+use Rattle.base_row.specs.Logs.{LogOf}
 use Rattle.shared_timer_uses.specs.declared.cancelling.Stopped.{Stopped}
 use Rattle.shared_timer_uses.specs.declared.cancelling.Stopped.TheVariants as stops
 use Rattle.shared_timer_uses.specs.declared.periodic.Tick.{Tick}
@@ -61,7 +61,7 @@ pub record RanOnce (o : Opening) (base : ℕ) (reading : ClockReading) (k k' : K
   pub finish : ℕ
   pub receipts : log' ≡ log
       ++ record { timer = t; number = claim; event = events.Claim base reading; reply = noteds.Entry (replies.Claim generation) }
-      ∷ record { timer = t; number = finish; event = events.Finish false; reply = noteds.Entry (replies.Finish generation rearmings.No) } ∷ []
+      ∷ record { timer = t; number = finish; event = events.Finish false; reply = noteds.Entry (replies.Finish generation restarteds.No) } ∷ []
 
 -- The timer, of the hard context, was the next to expire on its base when it was claimed. Its function has moved the expiry on by so many intervals, to the first one
 -- past the reading.

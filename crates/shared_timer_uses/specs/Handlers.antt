@@ -1,7 +1,7 @@
 -- What the handlers' functions do.
 use Rattle.std.specs.Prelude.{ℕ, ◌≡◌, [], ◌∷◌, List, Option, Some, None}
 use Rattle.ktime.specs.Readings.{ClockReading}
-use Rattle.seq_timer.specs.declared.event.Event.TheVariants as events
+use Rattle.seq_timer.specs.declared.event.EventBy.TheVariants as events
 use Rattle.seq_timer.specs.declared.event.Reply.TheVariants as replies
 use Rattle.seq_timer.specs.declared.system.TimerEntry.{TimerEntry}
 use Rattle.hr_timers.specs.declared.numbers.ClaimNumbers.{ClaimNumbers}

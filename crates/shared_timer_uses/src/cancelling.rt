@@ -7,8 +7,8 @@ ghost use Rattle.shared_timer_uses.specs.Callers.{StoppedFits, known_timer};
 
 use expire_pass::cancel;
 use hr_timers::{NowAnswer, Pass, Timers};
+use seq_timer::CancelAnswer;
 use std::sync::Wait;
-use timer_core::CancelAnswer;
 
 /// Stops a timer, and waits for its function's end: by all that the pass has then seen the timer is neither armed nor does its function run.
 /// It answers whether the timer was armed.

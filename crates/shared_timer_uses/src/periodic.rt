@@ -5,9 +5,8 @@ ghost use Rattle.shared_timer_uses.specs.Callers.{KeepsRunner, MayRunOne, Ticked
 use expire_pass::{Handler, Log, Restart, expire};
 use hr_timers::{Claim, Pass, Timers};
 use ktime::Reading;
-use seq_timer::Moved;
+use seq_timer::{ForwardAnswer, Moved};
 use std::sync::Wait;
-use timer_core::ForwardAnswer;
 
 /// A tick of a periodic timer: how many intervals have passed since the last one, and the expiries of the next.
 #[derive(Clone, Copy, Debug, PartialEq, Eq)]

@@ -8,6 +8,7 @@ mod callers;
 mod claims;
 mod drawn;
 mod functions;
+mod greatest;
 mod of_base_row;
 mod of_clock_cell;
 mod slack;

@@ -1,18 +1,22 @@
 -- All that is kept agrees after each event of one timer.
-use Rattle.std.proofs.Common.{◌≡◌, ◌≢◌, ◌<◌, ◌≤◌, ℕ, zero, suc, true, false, List, [], ◌∷◌, set, length, None, refl, sym, ap, ◌∙◌, subst}
+use Rattle.std.proofs.Common.{◌≡◌, ◌≢◌, ◌<◌, ◌≤◌, ℕ, zero, suc, true, false, List, [], ◌∷◌, set, length, Option, Some, None, refl, sym, ap, ◌∙◌, subst}
 use Rattle.std.proofs.Math.Logic.{⊎_elim}
 use Rattle.std.proofs.lemmas.Bool.{cases_eq, true≢false}
 use Rattle.std.proofs.lemmas.List.{get_or-set_same, get_or-set_other, length-set}
-use Rattle.seq_timer.specs.declared.event.Event.{Event}
-use Rattle.seq_timer.specs.declared.event.Event.TheVariants as events
+use Rattle.seq_timer.specs.Events.{Event}
+use Rattle.seq_timer.specs.declared.event.EventBy.TheVariants as events
+use Rattle.seq_timer.specs.declared.effect.RunEffect.{RunEffect}
+use Rattle.seq_timer.specs.declared.effect.RunEffect.TheVariants as functions
+use Rattle.seq_timer.specs.Effects.{IsSentWithin, NeedsOfBases, effect}
 use Rattle.seq_timer.specs.Steps.{Timer, Needs, after}
 use Rattle.seq_timer.specs.Tables.{no_timer}
 use Rattle.seq_timer.specs.Bases.{BaseState, IsQueuedAs, base_after, empty_base}
-use Rattle.seq_timer.specs.Halves.{IsFreeFor}
 use Rattle.seq_timer.specs.Contents.{IsContentOf, half_of}
+use Rattle.seq_timer.proofs.Effects.{NeedsBy, RunNeeds, SentNeeds, by_effect, free_by, placed_by}
 use Rattle.seq_timer.proofs.Halves.{Changes, apart-after}
 use Rattle.seq_timer.proofs.Contents.{IsContentOf-after, IsContentOf-elsewhere, IsQueuedAs-from}
-use Rattle.timer_core.specs.Kept.{Agrees, AreAllowed, IsConsistent, IsSameSize, Kept, Makes, Permits, after_event, base_at, content_at, step_all, timer_in}
+use Rattle.seq_timer.specs.Calls.{step_all}
+use Rattle.timer_core.specs.Kept.{Agrees, AreAllowed, IsBaseFree, IsConsistent, IsSameSize, Kept, Makes, Permits, after_event, base_at, content_at, timer_in}
 
 -- ---- the timers and bases after an event
 
@@ -54,22 +58,6 @@ each_timer k id e P within this those other = ⊎_elim
 
 -- ---- it agrees
 
-free_for : (k : Kept) (id : ℕ) (e : Event) → Permits k id e → IsFreeFor (half_of (timer_in k id).declared.context (content_at k (timer_in k id).base)) e
-free_for k id (events.Out base) permits = tt
-free_for k id (events.Start asked) permits = tt
-free_for k id events.Cancel permits = tt
-free_for k id (events.Claim base reading) permits = permits
-free_for k id (events.Forward reading interval) permits = tt
-free_for k id (events.Finish restart) permits = tt
-
-placed-after : (k : Kept) (id : ℕ) (e : Event) → Permits k id e → (timer_in k id).base < length k.bases → (after (timer_in k id) e).base < length k.bases
-placed-after k id (events.Out base) permits placed = permits
-placed-after k id (events.Start asked) permits placed = placed
-placed-after k id events.Cancel permits placed = placed
-placed-after k id (events.Claim base reading) permits placed = placed
-placed-after k id (events.Forward reading interval) permits placed = placed
-placed-after k id (events.Finish restart) permits placed = placed
-
 pub queued : (k : Kept) (id : ℕ) → Agrees k → IsQueuedAs id (timer_in k id) (content_at k (timer_in k id).base)
 queued k id all = IsQueuedAs-from (timer_in k) id (content_at k (timer_in k id).base) (all.apart id) (all.contents (timer_in k id).base)
 
@@ -79,11 +67,13 @@ agrees-after k id e all within needs permits =
     let now = after t e in
     let new = after_event k id e in
     let sizes = size-after k id e in
+    let free = free_by (λ reading. IsBaseFree k id) (length k.bases) (half_of t.declared.context (content_at k t.base)) (λ reading is. is)
+    (effect t e).function (effect t e).sent permits in
     let one = changes k id e within in record {
       contents = λ base. ⊎_elim
           (λ (here : base ≡ t.base). subst (λ b. IsContentOf (timer_in new) b (content_at new b)) (sym here)
           (subst (λ (b : BaseState). IsContentOf (timer_in new) t.base b.content) (sym (base-here k id e (all.placed id)))
-          (IsContentOf-after (timer_in k) (timer_in new) id e one (content_at k t.base) needs (all.apart id) (free_for k id e permits)
+          (IsContentOf-after (timer_in k) (timer_in new) id e one (content_at k t.base) needs (all.apart id) free
           (all.contents t.base))))
           (λ apart. subst (λ (b : BaseState). IsContentOf (timer_in new) base b.content) (sym (base-else k id base e apart))
           (IsContentOf-elsewhere (timer_in k) (timer_in new) id e one base (content_at k base) needs apart (all.contents base)))
@@ -95,7 +85,7 @@ agrees-after k id e all within needs permits =
           ∙ sym sizes.timers)
           (cases_eq base t.base);
       placed = each_timer k id e (λ x. x.base < length new.bases) within
-          (subst (λ n. now.base < n) (sym sizes.bases) (placed-after k id e permits (all.placed id)))
+          (subst (λ n. now.base < n) (sym sizes.bases) (placed_by (λ reading. IsBaseFree k id) (length k.bases) t e needs permits (all.placed id)))
           (λ other. subst (λ n. (timer_in k other).base < n) (sym sizes.bases) (all.placed other));
       apart = each_timer k id e (λ x. x.moving ≡ true → (x.armed ≡ None) × (x.running ≡ None)) within (apart-after t e needs (all.apart id)) all.apart;
       few_bases = subst (λ n. n ≤ 8) (sym sizes.bases) all.few_bases;
@@ -143,12 +133,23 @@ still-after k new id es makes still now other = ⊎_elim
 
 -- what comes after an Out needs nothing of the bases
 permits-moving : (k : Kept) (id : ℕ) (e : Event) → Needs (timer_in k id) e → (timer_in k id).moving ≡ true → Permits k id e
-permits-moving k id (events.Out base) needs moves = absurd (true≢false (sym moves ∙ needs.1))
-permits-moving k id (events.Start asked) needs moves = tt
-permits-moving k id events.Cancel needs moves = tt
-permits-moving k id (events.Claim base reading) needs moves = absurd (true≢false (sym moves ∙ needs.3))
-permits-moving k id (events.Forward reading interval) needs moves = tt
-permits-moving k id (events.Finish restart) needs moves = tt
+permits-moving k id e needs moves = by (effect t e).function (effect t e).sent allowed.function allowed.sent
+  where
+    t : Timer
+    t = timer_in k id
+
+    allowed : NeedsBy (timer_in k id) (after (timer_in k id) e) (effect (timer_in k id) e)
+    allowed = (by_effect (timer_in k id) e).needs needs
+
+    sent_within : (sent : Option ℕ) → SentNeeds sent t (after t e) → IsSentWithin (length k.bases) sent
+    sent_within None told = tt
+    sent_within (Some base) told = absurd (true≢false (sym moves ∙ told.1))
+
+    by : (f : RunEffect) (sent : Option ℕ) → RunNeeds f (effect t e).by_claimer t (after t e) → SentNeeds sent t (after t e)
+        → NeedsOfBases (λ reading. IsBaseFree k id) (length k.bases) f sent
+    by functions.Stays sent runs told = sent_within sent told
+    by (functions.Begins reading) sent runs told = absurd (true≢false (sym moves ∙ runs.still))
+    by functions.Ends sent runs told = sent_within sent told
 
 pub consistent-one : (k : Kept) (id : ℕ) (e : Event) → IsConsistent k → id < length k.timers → Needs (timer_in k id) e → Permits k id e
     → (after (timer_in k id) e).moving ≡ false → IsConsistent (after_event k id e)

@@ -4,12 +4,13 @@ use Rattle.std.proofs.lemmas.Bool.{eqb-true, eqb-false}
 use Rattle.std.proofs.lemmas.List.{get_or-map}
 use Rattle.seq_timer.specs.declared.context.Declared.{Declared}
 use Rattle.seq_timer.specs.declared.context.Terms.{Terms}
-use Rattle.seq_timer.specs.declared.event.Event.{Event}
+use Rattle.seq_timer.specs.Events.{Event}
 use Rattle.seq_timer.specs.Steps.{Timer, after, opening}
 use Rattle.seq_timer.specs.Histories.{Entry, AreSteps, after_all}
 use Rattle.seq_timer.specs.Tables.{no_declared, no_timer, timer_at}
-use Rattle.timer_core.specs.Kept.{Kept, AreAllowed, Makes, opened, step_all}
-use Rattle.timer_core.specs.Runs.{AreCalls, Call, entries_along, history_along}
+use Rattle.seq_timer.specs.Calls.{step_all, entries_along}
+use Rattle.timer_core.specs.Kept.{Kept, AreAllowed, Makes, opened}
+use Rattle.timer_core.specs.Runs.{AreCalls, Call, history_along}
 
 -- entries are steps in turn from one state to the other
 abbrev pub LeadsTo : Timer → List Entry → Timer → Type 0

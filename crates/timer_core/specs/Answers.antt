@@ -1,43 +1,23 @@
 -- What each call answers, and which events it makes.
-use Rattle.std.specs.Prelude.{ℕ, ◌≡◌, ◌+◌, ◌<◌, Bool, false, not, ◌&&◌, Some, None, is_some, List, [], ◌∷◌, length, nat_eq, if◌then◌else◌}
+use Rattle.std.specs.Prelude.{ℕ, ◌≡◌, ◌+◌, ◌<◌, false, Some, None, is_some, [], ◌∷◌, length, if◌then◌else◌}
 use Rattle.ktime.specs.declared.clock_id.ClockId.{ClockId}
-use Rattle.ktime.specs.declared.mode.Mode.{Mode}
 use Rattle.ktime.specs.Readings.{ClockReading}
-use Rattle.seq_timer.specs.Steps.{Timer, placement_of, moved_by}
-use Rattle.seq_timer.specs.declared.event.Event.{Event}
-use Rattle.seq_timer.specs.declared.event.Event.TheVariants as events
+use Rattle.seq_timer.specs.Steps.{Timer, placement_of}
+use Rattle.seq_timer.specs.declared.event.EventBy.TheVariants as events
 use Rattle.seq_timer.specs.Tables.{IsNextDue, IsStopped, in_context, runs_on}
 use Rattle.seq_timer.specs.Contents.{first_due}
 use Rattle.seq_timer.specs.Halves.{running_on}
 use Rattle.seq_timer.specs.declared.context.Context.{Context}
-use Rattle.seq_timer.specs.declared.event.Asked.{Asked}
 use Rattle.timer_core.specs.declared.answer.StartAnswer.{StartAnswer}
 use Rattle.timer_core.specs.declared.answer.StartAnswer.TheVariants as starts
 use Rattle.timer_core.specs.declared.answer.ClaimAnswer.{ClaimAnswer}
 use Rattle.timer_core.specs.declared.answer.ClaimAnswer.TheVariants as claims
-use Rattle.timer_core.specs.declared.answer.ForwardAnswer.{ForwardAnswer}
-use Rattle.timer_core.specs.declared.answer.ForwardAnswer.TheVariants as forwards
 use Rattle.timer_core.specs.Kept.{Kept, Makes, content_at, timer_in}
-
--- whether a start first moves the timer to the base that it asks for: a timer whose function is running keeps its base
-abbrev pub moves_first : Timer → ℕ → Bool
-moves_first t asked = not (is_some t.running) && not (nat_eq t.base asked)
-
--- what a start asks for
-abbrev pub asked_for : Mode → ℕ → ℕ → ℕ → ClockReading → Asked
-asked_for mode ns slack base reading = record { mode = mode; ns = ns; slack = slack; reading = reading; base = base }
-
--- the events of a start
-abbrev pub start_events : Timer → Asked → List Event
-start_events t asked = if moves_first t asked.base then events.Out asked.base ∷ events.Start asked ∷ [] else events.Start asked ∷ []
+use Rattle.seq_timer.specs.Calls.{moves_first}
 
 -- what a start answers, of the timer before and after it
 abbrev pub started_as : Timer → Timer → ℕ → StartAnswer
 started_as t now asked = starts.Started (is_some t.armed) now.stamp (if moves_first t asked then Some asked else None) (placement_of now)
-
--- what a forward answers that isn't refused
-abbrev pub forwarded_as : Timer → ClockReading → ℕ → ForwardAnswer
-forwarded_as t reading interval = forwards.Forwarded (t.stamp + 1) (moved_by t reading interval)
 
 -- a claim of the timer of a context that is the next to expire on a base where no function of it runs: of equal expiries the one that was armed first
 pub record ClaimsNext (old : Kept) (context : Context) (base : ℕ) (reading : ClockReading) (id generation number : ℕ) (new : Kept) : Type 0 where

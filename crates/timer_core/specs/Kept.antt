@@ -3,12 +3,13 @@ use Rattle.std.specs.Prelude.{ℕ, ◌≡◌, ◌≤◌, ◌<◌, false, true, N
 use Rattle.seq_timer.specs.declared.context.Declared.{Declared}
 use Rattle.seq_timer.specs.declared.context.Terms.{Terms}
 use Rattle.seq_timer.specs.Steps.{Timer, Needs, after}
-use Rattle.seq_timer.specs.declared.event.Event.{Event}
-use Rattle.seq_timer.specs.declared.event.Event.TheVariants as events
+use Rattle.seq_timer.specs.Events.{Event}
+use Rattle.seq_timer.specs.Effects.{NeedsOfBases, effect}
 use Rattle.seq_timer.specs.Tables.{timer_at}
 use Rattle.seq_timer.specs.Bases.{BaseState, base_after, empty_base}
 use Rattle.seq_timer.specs.Contents.{Content, IsContentOf, running_in}
 use Rattle.seq_timer.specs.Systems.{openings}
+use Rattle.seq_timer.specs.Calls.{step_all}
 
 -- the timers and the bases, each by its number
 pub record Kept : Type 0 where
@@ -53,19 +54,13 @@ abbrev pub after_events : Kept → ℕ → List Event → Kept
 after_events k id [] = k
 after_events k id (e ∷ es) = after_events (after_event k id e) id es
 
+-- no function of a timer's context runs on the base that the timer is on
+abbrev pub IsBaseFree : Kept → ℕ → Type 0
+IsBaseFree k id = running_in (timer_in k id).declared.context (content_at k (timer_in k id).base) ≡ None
+
 -- what an event needs beyond what its timer needs: a timer is sent to one of the bases, and a claim finds no function of its context running on its own
 abbrev pub Permits : Kept → ℕ → Event → Type 0
-Permits k id (events.Out base) = base < length k.bases
-Permits k id (events.Start asked) = Unit {0}
-Permits k id events.Cancel = Unit {0}
-Permits k id (events.Claim base reading) = running_in (timer_in k id).declared.context (content_at k (timer_in k id).base) ≡ None
-Permits k id (events.Forward reading interval) = Unit {0}
-Permits k id (events.Finish restart) = Unit {0}
-
--- the timer after events in turn
-abbrev pub step_all : Timer → List Event → Timer
-step_all t [] = t
-step_all t (e ∷ es) = step_all (after t e) es
+Permits k id e = NeedsOfBases (λ reading. IsBaseFree k id) (length k.bases) (effect (timer_in k id) e).function (effect (timer_in k id) e).sent
 
 -- each event's needs hold, in turn
 abbrev pub AreAllowed : Timer → List Event → Type 0

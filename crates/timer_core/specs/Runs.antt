@@ -1,9 +1,10 @@
 -- Runs of calls, and the history that they give to one timer.
 use Rattle.std.specs.Prelude.{ℕ, ◌≡◌, List, [], ◌∷◌, ◌++◌, nat_eq, if◌then◌else◌}
-use Rattle.seq_timer.specs.declared.event.Event.{Event}
-use Rattle.seq_timer.specs.Steps.{Timer, after, reply_to}
+use Rattle.seq_timer.specs.Events.{Event}
+use Rattle.seq_timer.specs.Steps.{Timer}
 use Rattle.seq_timer.specs.Histories.{Entry}
-use Rattle.timer_core.specs.Kept.{Kept, Makes, step_all}
+use Rattle.seq_timer.specs.Calls.{entries_along, step_all}
+use Rattle.timer_core.specs.Kept.{Kept, Makes}
 
 -- a call by what it does: it makes these events of one timer
 pub record Call : Type 0 where
@@ -14,11 +15,6 @@ pub record Call : Type 0 where
 abbrev pub AreCalls : Kept → List Call → Kept → Type 0
 AreCalls old [] new = new ≡ old
 AreCalls old (c ∷ cs) new = (mid : Kept) × Makes old c.timer c.events mid × AreCalls mid cs new
-
--- events as entries, each with its reply
-abbrev pub entries_along : Timer → List Event → List Entry
-entries_along t [] = []
-entries_along t (e ∷ es) = record { event = e; reply = reply_to t e } ∷ entries_along (after t e) es
 
 -- the entries of one timer along calls
 abbrev pub history_along : ℕ → Timer → List Call → List Entry

@@ -1,20 +1,23 @@
 //! The calls that change timers.
 ghost use Rattle.std.specs.Prelude.{◌≡◌, ◌+◌, ◌<◌, ◌≤◌, ◌⊎◌, ◌^◌, ℕ, Some, None, IsSome, false, length, unwrap_or, [], ◌∷◌, if◌then◌else◌};
-ghost use Rattle.seq_timer.specs.declared.event.Event.TheVariants as events;
+ghost use Rattle.seq_timer.specs.declared.event.EventBy.TheVariants as events;
 ghost use Rattle.seq_timer.specs.Steps.{rearmed_by};
 ghost use Rattle.seq_timer.specs.declared.context.Context.TheVariants as contexts;
 ghost use Rattle.seq_timer.specs.Contents.{first_due, running_in};
 ghost use Rattle.timer_core.specs.declared.answer.StartAnswer.TheVariants as starts;
-ghost use Rattle.timer_core.specs.declared.answer.CancelAnswer.TheVariants as cancels;
+ghost use Rattle.seq_timer.specs.declared.answer.CancelAnswer.TheVariants as cancels;
 ghost use Rattle.timer_core.specs.declared.answer.ClaimAnswer.TheVariants as claims;
-ghost use Rattle.timer_core.specs.declared.answer.ForwardAnswer.TheVariants as forwards;
-ghost use Rattle.timer_core.specs.Answers.{IsClaim, asked_for, forwarded_as, moves_first, start_events, started_as};
-ghost use Rattle.timer_core.specs.Kept.{AreAllowed, HasRoom, IsSameSize, IsSpent, Makes, content_at, step_all, timer_in};
+ghost use Rattle.seq_timer.specs.declared.answer.ForwardAnswer.TheVariants as forwards;
+ghost use Rattle.seq_timer.specs.Calls.{asked_for, forwarded_as, moves_first, start_events, step_all};
+ghost use Rattle.timer_core.specs.Answers.{IsClaim, started_as};
+ghost use Rattle.timer_core.specs.Kept.{AreAllowed, HasRoom, IsSameSize, IsSpent, Makes, content_at, timer_in};
 
-use crate::answer::{CancelAnswer, ClaimAnswer, Finished, ForwardAnswer, StartAnswer};
+use crate::answer::{ClaimAnswer, StartAnswer};
 use crate::timers::Core;
 use ktime::{Mode, Reading};
-use seq_timer::{Asked, Context, Event, Reply, TimerState};
+use seq_timer::{
+    Asked, CancelAnswer, Context, Event, Finished, ForwardAnswer, Rearmed, Reply, TimerState,
+};
 use timer_queue::Queue;
 
 impl<Q: Queue> Core<Q> {
@@ -209,9 +212,12 @@ impl<Q: Queue> Core<Q> {
         ensures entry { Makes self.old timer (events.Finish restart ∷ []) self.new }
         ensures sizes { IsSameSize self.old self.new }
     {
-        let number = self.state(timer).stamp() + 1;
+        let stamp = self.state(timer).stamp();
         match self.step(timer, Event::Finish { restart }) {
-            Reply::Finish { rearmed, .. } => Finished { number, rearmed },
+            Reply::Finish { restarted, .. } => Finished {
+                number: stamp + 1,
+                rearmed: Rearmed::at(stamp, restarted),
+            },
             _ => unreachable!(),
         }
     }

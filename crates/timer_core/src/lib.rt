@@ -1,7 +1,7 @@
 //! All timers of several bases on one thread: each call steps the timers that it speaks of, and keeps the queues of the bases.
 #![tactic(auto)]
 
-pub use answer::{CancelAnswer, ClaimAnswer, Finished, ForwardAnswer, StartAnswer};
+pub use answer::{ClaimAnswer, StartAnswer};
 pub use laws::calls_keep_histories_legal;
 pub use timers::Core;
 

@@ -7,8 +7,9 @@ ghost use Rattle.ktime.specs.declared.clock_id.ClockId.{ClockId};
 ghost use Rattle.seq_timer.specs.Histories.{peek_of};
 ghost use Rattle.seq_timer.specs.Steps.{Needs, after, greatest_limit, limited, reply_to};
 ghost use Rattle.seq_timer.specs.Tables.{IsNextDue, IsStopped, hard_on, in_context, runs_on, timer_at};
-ghost use Rattle.seq_timer.specs.declared.event.Event.TheVariants as events;
-ghost use Rattle.timer_core.specs.Kept.{Agrees, AreAllowed, IsConsistent, IsSameSize, Kept, Makes, Permits, after_event, content_at, opened, step_all, timer_in};
+ghost use Rattle.seq_timer.specs.declared.event.EventBy.TheVariants as events;
+ghost use Rattle.seq_timer.specs.Calls.{step_all};
+ghost use Rattle.timer_core.specs.Kept.{Agrees, AreAllowed, IsConsistent, IsSameSize, Kept, Makes, Permits, after_event, content_at, opened, timer_in};
 
 use ktime::{ClockId, Reading};
 use seq_timer::{

@@ -2,7 +2,7 @@
 use Rattle.std.proofs.Common.{refl, sym, subst, ◌≡◌, ◌∙◌, ℕ, ◌≤◌, ◌<◌, List, [], ◌∷◌, ◌++◌, length}
 use Rattle.base_row.specs.declared.view.Opening.{Opening}
 use Rattle.hr_timers.specs.Known.{KnownOfTimers}
-use Rattle.expire_pass.specs.declared.log.Receipt.{Receipt}
+use Rattle.base_row.specs.declared.log.Receipt.{Receipt}
 use Rattle.timer_setting.specs.declared.arming.Arm.{Arm}
 use Rattle.timer_setting.specs.Arguments.{start_by}
 use Rattle.timer_setting.specs.Phases.{IsOutcomeOf}

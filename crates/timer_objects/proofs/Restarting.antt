@@ -1,5 +1,5 @@
 -- A start behind a look, and the expiry that a start leaves which keeps its timer's clock.
-use Rattle.std.proofs.Common.{arith, refl, sym, ap, subst, ◌≡◌, ◌∙◌, ℕ, ◌≤◌, Bool, true, false, List}
+use Rattle.std.proofs.Common.{arith, sym, ap, subst, ◌≡◌, ◌∙◌, ℕ, ◌≤◌, Bool, true, false, List}
 use Rattle.std.specs.Prelude.{Option, Some, None}
 use Rattle.ktime.specs.declared.mode.Mode.TheVariants as modes
 use Rattle.ktime.specs.Readings.{ClockReading}
@@ -7,14 +7,13 @@ use Rattle.ktime.specs.Times.{sat}
 use Rattle.pass_names.proofs.Passes.{begins_trans}
 use Rattle.base_row.specs.declared.view.Opening.{Opening}
 use Rattle.seq_timer.specs.Steps.{Timer}
-use Rattle.timer_core.specs.Answers.{asked_for, moves_first, start_events}
-use Rattle.timer_core.specs.Kept.{step_all}
+use Rattle.seq_timer.specs.Calls.{asked_for, moves_first, start_events, step_all}
 use Rattle.hr_timers.specs.declared.answer.StartAnswer.{StartAnswer}
 use Rattle.hr_timers.specs.declared.answer.StartAnswer.TheVariants as starts
 use Rattle.hr_timers.specs.Known.{KnownOfTimers, timer_then}
 use Rattle.hr_timers.specs.Calls.{StartsTimer}
 use Rattle.hr_timers.proofs.Moments.{along, stamp_rises, timer_after}
-use Rattle.expire_pass.specs.declared.log.Receipt.{Receipt}
+use Rattle.base_row.specs.declared.log.Receipt.{Receipt}
 use Rattle.timer_setting.specs.declared.arming.Arm.{Arm}
 use Rattle.timer_setting.specs.declared.arming.Arm.TheVariants as arms
 use Rattle.timer_setting.specs.declared.arming.Wanted.{Wanted}

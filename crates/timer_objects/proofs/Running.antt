@@ -1,20 +1,27 @@
 -- A timer whose function runs, at a call that its function makes.
-use Rattle.std.proofs.Common.{◌≡◌, ℕ, ◌<◌, List, [], ◌∷◌, refl, ap, sym, ◌∙◌, subst, true, false}
+use Rattle.std.proofs.Common.{◌≡◌, ℕ, ◌+◌, ◌<◌, ◌≤◌, List, [], ◌∷◌, ◌++◌, arith, refl, ap, sym, ◌∙◌, subst, true, false}
 use Rattle.std.specs.Prelude.{Bool, Some, unwrap_or, if◌then◌else◌}
 use Rattle.std.proofs.lemmas.Option.{none-some}
-use Rattle.seq_timer.specs.declared.event.Asked.{Asked}
+use Rattle.seq_timer.specs.Events.{Asked}
 use Rattle.ktime.specs.Readings.{ClockReading}
-use Rattle.seq_timer.specs.declared.event.Event.TheVariants as events
+use Rattle.seq_timer.specs.declared.event.EventBy.TheVariants as events
 use Rattle.seq_timer.specs.declared.system.TimerEntry.{TimerEntry}
 use Rattle.seq_timer.specs.Histories as seq
 use Rattle.seq_timer.specs.Steps.{Timer}
-use Rattle.timer_core.specs.declared.answer.CancelAnswer.{CancelAnswer}
-use Rattle.timer_core.specs.declared.answer.CancelAnswer.TheVariants as cancels
-use Rattle.timer_core.specs.Answers.{moves_first}
-use Rattle.timer_core.specs.Runs.{entries_along}
+use Rattle.seq_timer.specs.declared.answer.CancelAnswer.{CancelAnswer}
+use Rattle.seq_timer.specs.declared.answer.CancelAnswer.TheVariants as cancels
+use Rattle.seq_timer.specs.Calls.{asked_for, entries_along, moves_first}
+use Rattle.seq_timer.specs.declared.event.Placement.{Placement}
+use Rattle.seq_timer.specs.declared.observation.Observation.TheVariants as observations
+use Rattle.ktime.specs.declared.mode.Mode.TheVariants as modes
+use Rattle.base_row.specs.declared.log.Receipt.{Receipt}
+use Rattle.base_row.specs.Logs.{LogOf, all_pushed, kept, receipts_of}
+use Rattle.hr_timers.specs.Logged.{StartsLogged}
+use Rattle.hr_timers.proofs.Logging.{keeps_base}
+use Rattle.timer_objects.specs.Callbacks.{RunsStart, look_receipt, start_noted}
 use Rattle.hr_timers.specs.declared.answer.StartAnswer.{StartAnswer}
 use Rattle.hr_timers.specs.declared.answer.StartAnswer.TheVariants as starts
-use Rattle.hr_timers.specs.Calls.{Cancels, cancel_entries, start_entries}
+use Rattle.hr_timers.specs.Calls.{Cancels, StartsTimer, cancel_entries, start_entries}
 use Rattle.hr_timers.specs.Known.{KnownOfTimers, KnowsTimers, MadeAt, OwnsClaim, count_of, timer_then}
 use Rattle.hr_timers.specs.declared.numbers.ClaimNumbers.{ClaimNumbers}
 use Rattle.hr_timers.proofs.Moments.{timer_after}
@@ -55,3 +62,39 @@ module _ (o : Opening) (v w : KnownOfTimers) (c : ClaimNumbers) (knows : KnowsTi
 
   pub its_own : (g n : ℕ) → Cancels o v w c.timer (cancels.Running g n) → g ≡ c.generation
   its_own g n k = ap (λ x. unwrap_or x 0) (sym k.fits.0 ∙ runs_yet (cancels.Running g n) k)
+
+  -- its start: what is noted of it
+  module _ (ns base : ℕ) (reading : ClockReading) (log mid : LogOf Receipt) where
+    abbrev request : Asked
+    request = asked_for modes.Rel ns 0 base reading
+
+    ran_yet : (a : StartAnswer) (s : StartsTimer o v w c.timer request a) → (timer_then o s.at c.timer).running ≡ Some c.generation
+    ran_yet a s = ran_before o v w c s.at _ knows owns s.claims s.made (start-running (timer_then o s.at c.timer) request a)
+
+    pub start_refused : (n : ℕ) (log' : List Receipt) → StartsLogged kept o v w c.timer request (starts.Spent n) log mid
+        → log' ≡ mid.receipts ++ look_receipt c n (events.Start request) observations.Spent ∷ [] → RunsStart o v w c reading log.receipts log' ns base
+    start_refused n log' s noted = record {
+      answer = starts.Spent n;
+      starts = s.starts;
+      runs = ran_yet (starts.Spent n) s.starts;
+      receipts = noted ∙ ap (λ (l : LogOf Receipt). l.receipts ++ look_receipt c n (events.Start request) observations.Spent ∷ []) s.logged;
+    }
+
+    module _ (was : Bool) (g outs : ℕ) (placed : Placement) (s : StartsLogged kept o v w c.timer request (starts.Started was g outs placed) log mid) where
+      entered : mid ≡ all_pushed kept log (start_noted c (timer_then o s.starts.at c.timer) request (starts.Started was g outs placed))
+      entered =
+          let t = timer_then o s.starts.at c.timer in
+          s.logged ∙ ap (λ (b : Bool). all_pushed kept log
+          (receipts_of c.timer t.stamp (entries_along t (if b then events.Out base ∷ events.Start request ∷ [] else events.Start request ∷ []))))
+          (keeps_base c.generation t.base base t.running (ran_yet _ s.starts))
+
+      pub start_entered : RunsStart o v w c reading log.receipts mid.receipts ns base
+      start_entered = record {
+        answer = starts.Started was g outs placed;
+        starts = s.starts;
+        runs = ran_yet _ s.starts;
+        receipts = ap (λ (l : LogOf Receipt). l.receipts) entered;
+      }
+
+      pub start_room : log.spare ≤ mid.spare + 1
+      start_room = omega (arith, ap (λ (l : LogOf Receipt). l.spare) entered)

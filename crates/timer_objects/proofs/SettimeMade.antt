@@ -7,14 +7,15 @@ use Rattle.base_row.specs.declared.view.Opening.{Opening}
 use Rattle.hr_timers.specs.Known.{KnownOfTimers}
 use Rattle.hr_timers.specs.Calls.{cancel_entries}
 use Rattle.hr_timers.proofs.Moments.{stamp_rises}
-use Rattle.expire_pass.specs.declared.log.Receipt.{Receipt}
+use Rattle.base_row.specs.declared.log.Receipt.{Receipt}
 use Rattle.timer_setting.specs.declared.arming.Arm.{Arm}
 use Rattle.timer_setting.specs.declared.arming.Wanted.{Wanted}
 use Rattle.timer_fd.specs.declared.answers.SettimeAnswer.{SettimeAnswer}
 use Rattle.timer_fd.specs.declared.answers.SettimeAnswer.TheVariants as settings
 use Rattle.timer_objects.specs.declared.cell.Span.{Span}
 use Rattle.timer_objects.specs.Known.{ObjectsOf}
-use Rattle.timer_objects.specs.Arming.{ArmsFor, receipts_of, stamp_seen}
+use Rattle.base_row.specs.Logs.{receipts_of}
+use Rattle.timer_objects.specs.Arming.{ArmsFor, stamp_seen}
 use Rattle.timer_objects.specs.Calls.{Caller, HasWaited, SetsTimer, SettimeMade}
 use Rattle.timer_objects.specs.Rearming.{KeepsNames, SetsAnew}
 use Rattle.timer_objects.proofs.Retrying.{enters_after, full_after}

@@ -13,15 +13,14 @@ use Rattle.seq_timer.specs.declared.context.Declared.{Declared}
 use Rattle.seq_timer.specs.declared.event.Placement.{Placement}
 use Rattle.seq_timer.specs.Steps.{Timer, expiry_from}
 use Rattle.seq_timer.specs.Tables.{timer_at}
-use Rattle.timer_core.specs.Answers.{asked_for, moves_first, start_events}
-use Rattle.timer_core.specs.Kept.{step_all}
+use Rattle.seq_timer.specs.Calls.{asked_for, moves_first, start_events, step_all}
 use Rattle.base_row.specs.declared.view.Opening.{Opening}
 use Rattle.hr_timers.specs.declared.answer.StartAnswer.{StartAnswer}
 use Rattle.hr_timers.specs.declared.answer.StartAnswer.TheVariants as starts
 use Rattle.hr_timers.specs.Known.{KnownOfTimers, timer_then}
 use Rattle.hr_timers.specs.Calls.{StartsTimer, cancel_entries, start_answer}
 use Rattle.hr_timers.proofs.Moments.{along, declared_kept, stamp_made, timer_after}
-use Rattle.expire_pass.specs.declared.log.Receipt.{Receipt}
+use Rattle.base_row.specs.declared.log.Receipt.{Receipt}
 use Rattle.timer_setting.specs.declared.arming.Arm.{Arm}
 use Rattle.timer_setting.specs.declared.arming.Arm.TheVariants as arms
 use Rattle.timer_setting.specs.declared.arming.Wanted.{Wanted}

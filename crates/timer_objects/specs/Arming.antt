@@ -1,28 +1,22 @@
 -- What a call on an object does to its timer: it disarms it or looks at it, starts it where it wants that, and notes a receipt of each entry.
-use Rattle.std.specs.Prelude.{ℕ, ◌≡◌, ◌+◌, ◌≤◌, max, List, [], ◌∷◌, ◌++◌, length, Option, Some, None}
+use Rattle.std.specs.Prelude.{ℕ, ◌≡◌, ◌+◌, ◌≤◌, max, List, ◌++◌, length, Option, Some, None}
 use Rattle.ktime.specs.Readings.{ClockReading}
 use Rattle.pass_names.specs.SharedHistory.{LooksOn}
-use Rattle.seq_timer.specs.Histories as seq
-use Rattle.seq_timer.specs.declared.event.Asked.{Asked}
-use Rattle.timer_core.specs.Answers.{asked_for}
-use Rattle.timer_core.specs.declared.answer.CancelAnswer.{CancelAnswer}
-use Rattle.timer_core.specs.declared.answer.CancelAnswer.TheVariants as cancels
+use Rattle.seq_timer.specs.Events.{Asked}
+use Rattle.seq_timer.specs.Calls.{asked_for}
+use Rattle.seq_timer.specs.declared.answer.CancelAnswer.{CancelAnswer}
+use Rattle.seq_timer.specs.declared.answer.CancelAnswer.TheVariants as cancels
 use Rattle.base_row.specs.declared.view.Opening.{Opening}
 use Rattle.hr_timers.specs.declared.answer.StartAnswer.{StartAnswer}
 use Rattle.hr_timers.specs.declared.answer.StartAnswer.TheVariants as starts
 use Rattle.hr_timers.specs.Known.{KnownOfTimers, timer_then}
 use Rattle.hr_timers.specs.Calls.{Cancels, StartsTimer, cancel_entries, start_entries}
-use Rattle.expire_pass.specs.declared.log.Noted.TheVariants as noteds
-use Rattle.expire_pass.specs.declared.log.Receipt.{Receipt}
+use Rattle.base_row.specs.declared.log.Receipt.{Receipt}
+use Rattle.base_row.specs.Logs.{receipts_of}
 use Rattle.timer_setting.specs.declared.arming.Arm.{Arm}
 use Rattle.timer_setting.specs.declared.arming.Arm.TheVariants as arms
 use Rattle.timer_setting.specs.declared.arming.Wanted.{Wanted}
 use Rattle.timer_objects.specs.declared.cell.Span.{Span}
-
--- the receipts of entries that stand behind so many of a timer
-abbrev pub receipts_of : ℕ → ℕ → List seq.Entry → List Receipt
-receipts_of t n [] = []
-receipts_of t n (e ∷ es) = record { timer = t; number = n + 1; event = e.event; reply = noteds.Entry e.reply } ∷ receipts_of t (n + 1) es
 
 -- how many entries of a timer a pass has seen
 abbrev pub stamp_seen : Opening → KnownOfTimers → ℕ → ℕ

@@ -2,15 +2,15 @@
 use Rattle.std.specs.Prelude.{ℕ, ◌≡◌, ◌+◌, max, List, [], ◌∷◌, ◌++◌, Some}
 use Rattle.ktime.specs.declared.mode.Mode.TheVariants as modes
 use Rattle.ktime.specs.Readings.{ClockReading}
-use Rattle.seq_timer.specs.declared.event.Event.{Event}
-use Rattle.seq_timer.specs.declared.event.Event.TheVariants as events
-use Rattle.seq_timer.specs.declared.event.Reply.TheVariants as replies
+use Rattle.seq_timer.specs.Events.{Asked, Event}
+use Rattle.seq_timer.specs.declared.event.EventBy.TheVariants as events
 use Rattle.seq_timer.specs.declared.observation.Observation.{Observation}
 use Rattle.seq_timer.specs.declared.observation.Observation.TheVariants as observations
-use Rattle.timer_core.specs.Answers.{asked_for}
-use Rattle.timer_core.specs.declared.answer.CancelAnswer.TheVariants as cancels
-use Rattle.timer_core.specs.declared.answer.ForwardAnswer.{ForwardAnswer}
-use Rattle.timer_core.specs.declared.answer.ForwardAnswer.TheVariants as forwards
+use Rattle.seq_timer.specs.Calls.{asked_for, entries_along}
+use Rattle.seq_timer.specs.Steps.{Timer}
+use Rattle.seq_timer.specs.declared.answer.CancelAnswer.TheVariants as cancels
+use Rattle.seq_timer.specs.declared.answer.ForwardAnswer.{ForwardAnswer}
+use Rattle.seq_timer.specs.declared.answer.ForwardAnswer.TheVariants as forwards
 use Rattle.base_row.specs.declared.view.Opening.{Opening}
 use Rattle.hr_timers.specs.declared.answer.StartAnswer.{StartAnswer}
 use Rattle.hr_timers.specs.declared.answer.StartAnswer.TheVariants as starts
@@ -19,8 +19,9 @@ use Rattle.hr_timers.specs.Known.{KnownOfTimers, timer_then}
 use Rattle.hr_timers.specs.Calls.{Cancels, Forwards, StartsTimer}
 use Rattle.expire_pass.specs.declared.handler.Restart.{Restart}
 use Rattle.expire_pass.specs.declared.handler.Restart.TheVariants as restarts
-use Rattle.expire_pass.specs.declared.log.Noted.TheVariants as noteds
-use Rattle.expire_pass.specs.declared.log.Receipt.{Receipt}
+use Rattle.base_row.specs.declared.log.Noted.TheVariants as noteds
+use Rattle.base_row.specs.declared.log.Receipt.{Receipt}
+use Rattle.base_row.specs.Logs.{receipts_of}
 use Rattle.timer_objects.specs.declared.callback.Callback.{Callback}
 use Rattle.timer_objects.specs.declared.callback.Callback.TheVariants as callbacks
 
@@ -42,22 +43,16 @@ bases_of (x ∷ xs) = max (bases_for x) (bases_of xs)
 abbrev pub look_receipt : ClaimNumbers → ℕ → Event → Observation → Receipt
 look_receipt c stamp event seen = record { timer = c.timer; number = stamp; event = event; reply = noteds.Look seen }
 
--- the receipt of a forward
-abbrev pub forward_receipt : ClaimNumbers → ClockReading → ℕ → ForwardAnswer → Receipt
-forward_receipt c reading interval (forwards.Forwarded number moved) =
-    record { timer = c.timer; number = number; event = events.Forward reading interval; reply = noteds.Entry (replies.Forward moved) }
-forward_receipt c reading interval (forwards.Spent n) = look_receipt c n (events.Forward reading interval) observations.Spent
-forward_receipt c reading interval (forwards.Armed g n) = look_receipt c n (events.Forward reading interval) (observations.Armed g)
+-- what is noted of a forward of a claim's timer, which was so before: its entry, or the look in place of one
+abbrev pub forward_noted : ClaimNumbers → Timer → ClockReading → ℕ → ForwardAnswer → List Receipt
+forward_noted c t reading interval (forwards.Forwarded number moved) = receipts_of c.timer t.stamp (entries_along t (events.Forward reading interval ∷ []))
+forward_noted c t reading interval (forwards.Spent n) = look_receipt c n (events.Forward reading interval) observations.Spent ∷ []
+forward_noted c t reading interval (forwards.Armed g n) = look_receipt c n (events.Forward reading interval) (observations.Armed g) ∷ []
 
--- the receipt of a start
-abbrev pub start_receipt : ClaimNumbers → ClockReading → ℕ → ℕ → StartAnswer → Receipt
-start_receipt c reading ns asked (starts.Started was_armed generation outs placement) = record {
-  timer = c.timer;
-  number = generation;
-  event = events.Start (asked_for modes.Rel ns 0 asked reading);
-  reply = noteds.Entry (replies.Start placement was_armed);
-}
-start_receipt c reading ns asked (starts.Spent n) = look_receipt c n (events.Start (asked_for modes.Rel ns 0 asked reading)) observations.Spent
+-- and of a start
+abbrev pub start_noted : ClaimNumbers → Timer → Asked → StartAnswer → List Receipt
+start_noted c t asked (starts.Started was_armed generation outs placement) = receipts_of c.timer t.stamp (entries_along t (events.Start asked ∷ []))
+start_noted c t asked (starts.Spent n) = look_receipt c n (events.Start asked) observations.Spent ∷ []
 
 -- ---- callbacks
 
@@ -66,7 +61,7 @@ module _ (o : Opening) (v w : KnownOfTimers) (c : ClaimNumbers) where
   pub record RunsForward (reading : ClockReading) (log log' : List Receipt) (interval : ℕ) : Type 0 where
     pub answer : ForwardAnswer
     pub forwards : Forwards o v w c reading interval answer
-    pub receipt : log' ≡ log ++ forward_receipt c reading interval answer ∷ []
+    pub receipts : log' ≡ log ++ forward_noted c (timer_then o forwards.at c.timer) reading interval answer
 
   -- the claim's timer was seen to run, by a try to cancel it
   pub record RunsCancel (log log' : List Receipt) : Type 0 where
@@ -79,7 +74,7 @@ module _ (o : Opening) (v w : KnownOfTimers) (c : ClaimNumbers) where
     pub answer : StartAnswer
     pub starts : StartsTimer o v w c.timer (asked_for modes.Rel ns 0 asked reading) answer
     pub runs : (timer_then o starts.at c.timer).running ≡ Some c.generation
-    pub receipt : log' ≡ log ++ start_receipt c reading ns asked answer ∷ []
+    pub receipts : log' ≡ log ++ start_noted c (timer_then o starts.at c.timer) (asked_for modes.Rel ns 0 asked reading) answer
 
   -- what a callback does, the receipts that it notes, and whether it asks for a restart
   abbrev pub RunsCallback : ClockReading → List Receipt → List Receipt → Callback → Restart → Type 0

@@ -7,8 +7,8 @@ use Rattle.hr_timers.specs.Known.{KnownOfTimers}
 use Rattle.expire_pass.specs.Handlers.{Meaning}
 use Rattle.expire_pass.specs.declared.handler.Restart.{Restart}
 use Rattle.expire_pass.specs.declared.handler.Restart.TheVariants as restarts
-use Rattle.expire_pass.specs.declared.log.Receipt.{Receipt}
-use Rattle.expire_pass.specs.Logs.{LogOf}
+use Rattle.base_row.specs.declared.log.Receipt.{Receipt}
+use Rattle.base_row.specs.Logs.{LogOf}
 use Rattle.timer_objects.specs.declared.callback.Callback.{Callback}
 use Rattle.timer_objects.specs.declared.callback.Callback.TheVariants as callbacks
 use Rattle.timer_objects.specs.declared.firing.FiringWith.{FiringWith}

@@ -1,7 +1,7 @@
 -- The calls that make an entry and may start their object's timer before it: what each wants of an object, and how a turn of it ends.
 use Rattle.std.specs.Prelude.{ℕ, ◌≡◌, ◌≢◌, ◌<◌, length, List, Option, IsSome}
 use Rattle.ktime.specs.Readings.{ClockReading}
-use Rattle.expire_pass.specs.Logs.{LogOf}
+use Rattle.base_row.specs.Logs.{LogOf}
 use Rattle.hr_timers.specs.Known.{IsPassOf, KnownOfTimers, PassOf}
 use Rattle.base_row.specs.declared.view.Opening.{Opening}
 use Rattle.posix_timer.specs.declared.answers.AcceptAnswer.{AcceptAnswer}
@@ -50,7 +50,7 @@ use Rattle.timer_setting.specs.declared.arming.Wanted.{Wanted}
 use Rattle.timer_setting.specs.Arguments.{start_by}
 use Rattle.timer_setting.specs.declared.settime_call.SettimeCall.{SettimeCall}
 use Rattle.timer_objects.specs.declared.settime.ValidSettime.{ValidSettime}
-use Rattle.expire_pass.specs.declared.log.Receipt.{Receipt}
+use Rattle.base_row.specs.declared.log.Receipt.{Receipt}
 use Rattle.base_row.specs.Calls.{BaseRowOf}
 
 -- what a caller's passes know, and what its logs have

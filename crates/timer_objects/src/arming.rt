@@ -1,10 +1,8 @@
 //! What calls on objects do to the timers below.
-ghost use Rattle.std.specs.Prelude.{◌≡◌, ◌≤◌, ◌<◌, ◌+◌, [], ◌∷◌, ◌++◌, length, IfNone, MatchOption};
+ghost use Rattle.std.specs.Prelude.{◌≡◌, ◌≤◌, ◌<◌, ◌+◌, length, IfNone, MatchOption};
 ghost use Rattle.pass_names.specs.SharedHistory.{LooksOn};
 ghost use Rattle.hr_timers.specs.Known.{IsPassOf};
 ghost use Rattle.timer_setting.specs.Phases.{IsOutcomeOf};
-ghost use Rattle.seq_timer.specs.declared.event.Reply.TheVariants as replies;
-ghost use Rattle.expire_pass.specs.declared.log.Noted.TheVariants as noteds;
 ghost use Rattle.timer_objects.specs.Arming.{ArmsFor, Disarms, SeesQuietly, SeesTimer, Starts, stamp_seen};
 ghost use Rattle.timer_objects.specs.Waiting.{IsHindered};
 
@@ -12,9 +10,8 @@ use crate::cell::Span;
 use expire_pass::Log;
 use hr_timers::{Pass, StartAnswer, Timers};
 use ktime::Reading;
-use seq_timer::{Asked, Event, Placement, Reply};
+use seq_timer::{Asked, CancelAnswer};
 use std::sync::Wait;
-use timer_core::CancelAnswer;
 use timer_setting::{Arm, Wanted};
 
 /// Looks at a timer. It answers after how many entries, or nothing where that is below `last`.
@@ -70,19 +67,16 @@ pub(crate) fn disarm<R: Wait>(
     ensures room { log.old.spare ≤ log.new.spare + 1 }
 {
     look(timers, pass, timer, last)?;
-    match timers.try_to_cancel(rt, pass, timer) {
+    match timers.try_to_cancel_logged(rt, pass, log, timer) {
         CancelAnswer::Running { .. } => None,
         CancelAnswer::Idle { stamp } => Some(Span {
             from: stamp,
             to: stamp,
         }),
-        CancelAnswer::Cancelled { generation, number } => {
-            log.note(timer, number, Event::Cancel, Reply::Cancel { generation });
-            Some(Span {
-                from: number - 1,
-                to: number,
-            })
-        }
+        CancelAnswer::Cancelled { number, .. } => Some(Span {
+            from: number - 1,
+            to: number,
+        }),
     }
 }
 
@@ -109,57 +103,15 @@ pub(crate) fn arm<R: Wait>(
     let Some(Wanted { mode, ns }) = wanted else {
         return Arm::NotAsked;
     };
-    match timers.start(rt, pass, timer, mode, ns, base, reading) {
+    let asked = Asked {
+        mode,
+        ns,
+        slack: 0,
+        reading,
+        base,
+    };
+    match timers.start_logged(rt, pass, log, timer, &asked) {
         StartAnswer::Spent { stamp } => Arm::Unarmed(stamp),
-        StartAnswer::Started {
-            was_armed,
-            generation,
-            outs,
-            placement,
-        } => {
-            let event = Event::Start(Asked {
-                mode,
-                ns,
-                slack: 0,
-                reading,
-                base,
-            });
-            if outs == 0 {
-                note_start(log, timer, generation, event, placement, was_armed);
-            } else {
-                log.note(
-                    timer,
-                    generation - 1,
-                    Event::Out { base },
-                    Reply::Out { was_armed },
-                );
-                note_start(log, timer, generation, event, placement, false);
-            }
-            Arm::Armed(generation)
-        }
+        StartAnswer::Started { generation, .. } => Arm::Armed(generation),
     }
-}
-
-/// Notes the receipt of a start's own entry.
-fn note_start(
-    log: &mut Log,
-    timer: u32,
-    generation: u64,
-    event: Event,
-    placement: Placement,
-    was_armed: bool,
-)
-    requires room { 0 < log.old.spare }
-    ensures receipt { log.new.receipts ≡ log.old.receipts ++ record { timer = timer; number = generation; event = event; reply = noteds.Entry (replies.Start placement was_armed) } ∷ [] }
-    ensures spare { log.new.spare + 1 ≡ log.old.spare }
-{
-    log.note(
-        timer,
-        generation,
-        event,
-        Reply::Start {
-            placement,
-            was_armed,
-        },
-    );
 }

@@ -1,15 +1,14 @@
 //! The callbacks of timers by themselves.
-ghost use Rattle.std.specs.Prelude.{◌≡◌, ◌≤◌, ◌<◌, ◌+◌, [], ◌∷◌, ◌++◌};
+ghost use Rattle.std.specs.Prelude.{◌≤◌, ◌<◌, ◌+◌};
 ghost use Rattle.hr_timers.specs.Known.{IsPassOf, OwnsClaim};
 ghost use Rattle.expire_pass.specs.Handlers.{KeepsPass};
-ghost use Rattle.timer_objects.specs.Callbacks.{RunsCallback, RunsCancel, RunsForward, RunsStart, bases_for, forward_receipt, start_receipt};
+ghost use Rattle.timer_objects.specs.Callbacks.{RunsCallback, RunsCancel, RunsForward, RunsStart, bases_for};
 
 use expire_pass::{Log, Restart};
 use hr_timers::{Claim, Pass, StartAnswer, Timers};
 use ktime::{Mode, Reading};
-use seq_timer::{Asked, Event, Observation, Reply};
+use seq_timer::{Asked, CancelAnswer, Event, ForwardAnswer, Observation};
 use std::sync::Wait;
-use timer_core::{CancelAnswer, ForwardAnswer};
 
 /// What the function of a timer by itself does.
 #[derive(Clone, Copy, Debug, PartialEq, Eq)]
@@ -60,7 +59,7 @@ pub(crate) fn run<R: Wait>(
     }
 }
 
-/// Forwards the timer of a claim.
+/// Forwards the timer of a claim, or notes the look in place of an entry.
 fn forward<R: Wait>(
     rt: &R,
     timers: &Timers,
@@ -76,30 +75,12 @@ fn forward<R: Wait>(
     ensures pass { IsPassOf timers.now pass.new }
     ensures keeps { KeepsPass pass.old.known pass.new.known }
     ensures runs { RunsForward timers.now.about pass.old.known pass.new.known claim.now reading log.old.receipts log.new.receipts interval }
-    ensures spare { log.new.spare + 1 ≡ log.old.spare }
-{
-    let answer = timers.forward(rt, pass, claim, reading, interval);
-    note_forward(log, claim, reading, interval, answer);
-}
-
-/// Notes a forward: its entry, or the look in place of one.
-fn note_forward(
-    log: &mut Log,
-    claim: &Claim,
-    reading: Reading,
-    interval: u64,
-    answer: ForwardAnswer,
-)
-    requires room { 0 < log.old.spare }
-    ensures receipt { log.new.receipts ≡ log.old.receipts ++ forward_receipt claim.now reading interval answer ∷ [] }
-    ensures spare { log.new.spare + 1 ≡ log.old.spare }
+    ensures spare { log.old.spare ≤ log.new.spare + 1 }
 {
     let timer = claim.timer();
     let event = Event::Forward { reading, interval };
-    match answer {
-        ForwardAnswer::Forwarded { number, moved } => {
-            log.note(timer, number, event, Reply::Forward { moved });
-        }
+    match timers.forward_logged(rt, pass, log, claim, reading, interval) {
+        ForwardAnswer::Forwarded { .. } => {}
         ForwardAnswer::Spent { stamp } => log.note_look(timer, stamp, event, Observation::Spent),
         ForwardAnswer::Armed { generation, stamp } => {
             log.note_look(timer, stamp, event, Observation::Armed { generation });
@@ -115,7 +96,7 @@ fn cancel<R: Wait>(rt: &R, timers: &Timers, pass: &mut Pass, log: &mut Log, clai
     ensures pass { IsPassOf timers.now pass.new }
     ensures keeps { KeepsPass pass.old.known pass.new.known }
     ensures runs { RunsCancel timers.now.about pass.old.known pass.new.known claim.now log.old.receipts log.new.receipts }
-    ensures spare { log.new.spare + 1 ≡ log.old.spare }
+    ensures spare { log.old.spare ≤ log.new.spare + 1 }
 {
     let timer = claim.timer();
     let CancelAnswer::Running { generation, stamp } = timers.try_to_cancel(rt, pass, timer) else {
@@ -125,7 +106,7 @@ fn cancel<R: Wait>(rt: &R, timers: &Timers, pass: &mut Pass, log: &mut Log, clai
     log.note_look(timer, stamp, Event::Cancel, seen);
 }
 
-/// Starts the timer of a claim. Its function is running, so it keeps its base.
+/// Starts the timer of a claim, or notes the look in place of an entry. Its function is running, so it keeps its base.
 fn start<R: Wait>(
     rt: &R,
     timers: &Timers,
@@ -143,47 +124,17 @@ fn start<R: Wait>(
     ensures pass { IsPassOf timers.now pass.new }
     ensures keeps { KeepsPass pass.old.known pass.new.known }
     ensures runs { RunsStart timers.now.about pass.old.known pass.new.known claim.now reading log.old.receipts log.new.receipts ns base }
-    ensures spare { log.new.spare + 1 ≡ log.old.spare }
+    ensures spare { log.old.spare ≤ log.new.spare + 1 }
 {
     let timer = claim.timer();
-    let answer = timers.start(rt, pass, timer, Mode::Rel, ns, base, reading);
-    note_start(log, claim, reading, ns, base, answer);
-}
-
-/// Notes a start: its entry, or the look in place of one.
-fn note_start(
-    log: &mut Log,
-    claim: &Claim,
-    reading: Reading,
-    ns: u64,
-    asked: u32,
-    answer: StartAnswer,
-)
-    requires room { 0 < log.old.spare }
-    ensures receipt { log.new.receipts ≡ log.old.receipts ++ start_receipt claim.now reading ns asked answer ∷ [] }
-    ensures spare { log.new.spare + 1 ≡ log.old.spare }
-{
-    let timer = claim.timer();
-    let event = Event::Start(Asked {
+    let asked = Asked {
         mode: Mode::Rel,
         ns,
         slack: 0,
         reading,
-        base: asked,
-    });
-    match answer {
-        StartAnswer::Started {
-            was_armed,
-            generation,
-            outs: _,
-            placement,
-        } => {
-            let reply = Reply::Start {
-                placement,
-                was_armed,
-            };
-            log.note(timer, generation, event, reply);
-        }
-        StartAnswer::Spent { stamp } => log.note_look(timer, stamp, event, Observation::Spent),
+        base,
+    };
+    if let StartAnswer::Spent { stamp } = timers.start_logged(rt, pass, log, timer, &asked) {
+        log.note_look(timer, stamp, Event::Start(asked), Observation::Spent);
     }
 }

@@ -18,10 +18,10 @@ use crate::objects::Objects;
 use crate::settime::{end_of, wanted_by};
 use crate::wanting::{Asked, COUNT_LENGTH, Ended, Rearming, wanted};
 use counted_row::RowPass;
-use crossbeam_utils::Backoff;
 use expire_pass::Log;
 use hr_timers::{Pass, Timers};
 use ktime::Reading;
+use pass_names::Retries;
 use posix_timer::AcceptAnswer;
 use std::sync::Wait;
 use timer_fd::ReadAnswer;
@@ -121,13 +121,11 @@ impl Objects {
         ensures names { KeepsNames (caller_of pass.old objects_pass.old log.old object_log.old) (caller_of pass.new objects_pass.new log.new object_log.new) }
         ensures room { (log.old.spare ≤ log.new.spare + 4) × (object_log.old.spare ≤ object_log.new.spare + 1) }
     {
-        let backoff = Backoff::new();
-        for _ in rt.forever() {
+        for _ in Retries::new(rt) {
             let tried = self.try_once(rt, timers, pass, objects_pass, log, object_log, id, asked);
             if let Some(ended) = tried {
                 return ended;
             }
-            backoff.snooze();
         }
         unreachable!()
     }

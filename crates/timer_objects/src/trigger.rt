@@ -10,9 +10,9 @@ use crate::log::{ObjectLog, note};
 use crate::object::{Kind, ObjectCall, ObjectReply};
 use crate::objects::Objects;
 use counted_row::{Held, RowPass};
-use crossbeam_utils::Backoff;
 use hr_timers::Claim;
 use ktime::Reading;
+use pass_names::Retries;
 use std::sync::Wait;
 use timer_setting::TriggerAnswer;
 
@@ -102,14 +102,12 @@ fn hold<R: Wait>(
     ensures holds { HoldsObject objects.now result }
     ensures behind { result.stamp < objects.now.limit → result.state.last ≤ from }
 {
-    let backoff = Backoff::new();
-    for _ in rt.forever() {
+    for _ in Retries::new(rt) {
         let held = objects.lock(rt, pass, id);
         if is_ready(objects, &held, from) {
             return held;
         }
         objects.release(pass, held);
-        backoff.snooze();
     }
     unreachable!()
 }

@@ -82,6 +82,19 @@ impl TimerTree {
         Some((node.expires, self.first))
     }
 
+    /// As `has`, counting the links that are read or written.
+    pub fn has_counted<L: Ledger>(&self, id: u32, steps: &mut Steps<L>) -> bool
+        ensures has { result ≡ has_id id self.now.0 }
+        ensures kept { IsQueue self.now.1 self.now.0 }
+        ensures steps { steps.new ≤ steps.old + 1 }
+    {
+        if !self.block.holds(id) {
+            return false;
+        }
+        let node = self.block.read(id, steps);
+        node.rank != 0
+    }
+
     /// Adds under a ledger of its own, whose count is let go.
     fn add_uncounted<L: Ledger>(&mut self, expires: u64, id: u32, blank: Blank)
         requires name { blank.name ≡ L.name }
@@ -132,11 +145,7 @@ impl TimerTree {
         ensures kept { IsQueue self.now.1 self.now.0 }
     {
         let mut steps = Steps::<L>::new(blank);
-        if !self.block.holds(id) {
-            return false;
-        }
-        let node = self.block.read(id, &mut steps);
-        node.rank != 0
+        self.has_counted(id, &mut steps)
     }
 }
 

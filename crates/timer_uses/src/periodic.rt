@@ -7,7 +7,8 @@ ghost use Rattle.seq_timer.specs.Contents.{first_due, running_in};
 ghost use Rattle.timer_core.specs.Kept.{IsSameSize, IsSpent, content_at, timer_in};
 
 use ktime::Reading;
-use timer_core::{ClaimAnswer, Core, ForwardAnswer};
+use seq_timer::ForwardAnswer;
+use timer_core::{ClaimAnswer, Core};
 use timer_queue::Queue;
 
 /// A tick of a periodic timer: how many intervals have passed since the last one.

@@ -2,8 +2,7 @@
 use super::callers::Found;
 use crate::StartAnswer;
 use ktime::ClockId;
-use seq_timer::{Peek, Placement, Rearmed};
-use timer_core::{CancelAnswer, Finished};
+use seq_timer::{CancelAnswer, Finished, Peek, Placement, Rearmed};
 
 /// A start that moved timer 0 to base 1 at once, and armed it there.
 pub fn moved(expires: u64) -> StartAnswer {

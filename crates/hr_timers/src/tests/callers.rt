@@ -6,10 +6,10 @@ ghost use Rattle.hr_timers.specs.Known.{IsPassOf, claimed_as};
 use super::two_timers;
 use crate::{Claim, ClaimAnswer, Pass, Timers};
 use ktime::{Mode, Reading};
+use seq_timer::{Finished, ForwardAnswer};
 use std::alloc::Global;
 use std::sync::Wait;
 use std::test::Fail;
-use timer_core::{Finished, ForwardAnswer};
 
 /// Claims the next timer of a base.
 pub fn claim<R: Wait>(

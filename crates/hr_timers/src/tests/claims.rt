@@ -4,9 +4,8 @@ use super::callers::{Found, claim, claimed_timer, finish, forward, run};
 use super::{two_started, two_timers};
 use crate::{ClaimNumbers, NowAnswer};
 use ktime::{Mode, Reading};
-use seq_timer::{Moved, Rearmed};
+use seq_timer::{ForwardAnswer, Moved, Rearmed};
 use std::test::Fail;
-use timer_core::ForwardAnswer;
 
 #[test]
 fn a_timer_runs_at_its_expiry_and_once(rt: HostRuntime) -> Result<(), Fail> {

@@ -8,11 +8,10 @@ use super::answers::{cancelled, finished, kept, moved, running, word};
 use super::callers::{claim, finish, forward};
 use crate::{Claim, Pass, StartAnswer, Timers};
 use ktime::{ClockId, Mode, Reading};
-use seq_timer::Rearmed;
+use seq_timer::{ForwardAnswer, Rearmed};
 use std::alloc::Global;
 use std::sync::Wait;
 use std::test::Fail;
-use timer_core::ForwardAnswer;
 
 /// One timer on two bases, started to expire at once on one of them, what the start answered, and the timer's claim.
 fn claimed_on<R: Wait>(

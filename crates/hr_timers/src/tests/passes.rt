@@ -4,9 +4,8 @@ use super::callers::{Found, claim, finish, retire, run};
 use super::{two_started, two_timers};
 use crate::{NowAnswer, Pass};
 use ktime::{Mode, Reading};
-use seq_timer::Rearmed;
+use seq_timer::{CancelAnswer, Rearmed};
 use std::test::Fail;
-use timer_core::CancelAnswer;
 
 #[test]
 fn a_base_where_a_function_runs_is_busy(rt: HostRuntime) -> Result<(), Fail> {

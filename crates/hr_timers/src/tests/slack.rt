@@ -4,9 +4,8 @@ use super::callers::{Found, claim, finish, forward, retire, run, run_soft};
 use super::two_timers;
 use crate::Timers;
 use ktime::{ClockId, Mode, Reading};
-use seq_timer::{Context, Declared, Moved, Rearmed};
+use seq_timer::{Context, Declared, ForwardAnswer, Moved, Rearmed};
 use std::test::Fail;
-use timer_core::ForwardAnswer;
 
 #[test]
 fn slack_lets_a_timer_wait_for_another(rt: HostRuntime) -> Result<(), Fail> {

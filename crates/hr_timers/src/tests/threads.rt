@@ -7,10 +7,10 @@ use super::callers::{Found, retire, run};
 use super::two_timers;
 use crate::{Pass, StartAnswer, Timers};
 use ktime::{Mode, Reading};
+use seq_timer::CancelAnswer;
 use std::sync::Wait;
 use std::test::Fail;
 use std::thread::{Threads, join_mut};
-use timer_core::CancelAnswer;
 
 /// Starts a timer that is due at once, and answers how many entries that made.
 fn start<R: Wait>(rt: &R, timers: &Timers, pass: &mut Pass, timer: u32, base: u32) -> u64

@@ -1,4 +1,4 @@
-//! Runs of two lanes, whose order a gate forces: what calls that meet answer, and that lanes run beside each other.
+//! Runs of two or three lanes, whose order a gate forces: what calls that meet answer, and that lanes run beside each other.
 use super::run_words;
 use crate::status::Status;
 use crate::top::on_bytes;
@@ -10,6 +10,9 @@ use std::thread::Threads;
 
 /// How often a lane looks whether it may go on.
 const TURNS: u32 = 50_000_000;
+
+/// How often a lane that may go on looks once more. Meanwhile the calls that the lanes before it were let into go on.
+const WAITS: u32 = 100_000;
 
 /// A lane at a point of one of its calls.
 type Place = (u32, u32, Point);
@@ -33,16 +36,23 @@ impl<'a> Ordered<'a> {
         }
     }
 
-    /// Waits until so many places were passed.
+    /// Waits until so many places were passed, and then for a while.
     fn wait(&self, places: usize) {
         for _ in 0..TURNS {
             if self.passed.load(Ordering::SeqCst) >= places
                 || self.given_up.load(Ordering::SeqCst)
             {
-                return;
+                return self.look_on();
             }
         }
         self.given_up.store(true, Ordering::SeqCst);
+    }
+
+    /// Lets a while pass.
+    fn look_on(&self) {
+        for _ in 0..WAITS {
+            let _ = self.passed.load(Ordering::SeqCst);
+        }
     }
 
     /// Whether all places were passed, in their order.
@@ -217,5 +227,89 @@ fn a_settime_waits_for_the_function_of_its_timer(rt: HostRuntime) -> Result<(), 
     ];
     assert!(rt; gives(&rt, SET_AND_EXPIRE, &order[..2], &[SET_AND_EXPIRE_RECORD])?);
     assert!(rt; gives(&rt, SET_AND_EXPIRE, &order, &[SET_AND_EXPIRE_RECORD])?);
+    Ok(())
+}
+
+/// The same, and lane 2 accepts the timer's signal.
+const SET_AND_ACCEPT: &[u8] = b"hrt 1\n\
+    bases 1\n\
+    lanes 3\n\
+    limit 100\n\
+    posix 0 monotonic 0\n\
+    round\n\
+    0 settime 0 1 0 1 0 0\n\
+    0 advance 1\n\
+    round\n\
+    0 settime 0 1 0 50 0 0\n\
+    1 expire 0 1\n\
+    2 accept 0\n";
+
+const SET_AND_ACCEPT_RECORD: &[u8] = b"record 1\n\
+    clock 1 0 1 advance 1 1 1 1 0\n\
+    timer 0 1 0 0 start abs 1 0 0 0 monotonic 1 0\n\
+    timer 0 2 1 0 claim 0 1 1\n\
+    timer 0 3 1 0 finish stop 1 none\n\
+    timer 0 4 0 2 start abs 50 1 0 0 monotonic 50 0\n\
+    object 0 1 0 0 settime 1 1 0 0 1 old 0 0\n\
+    object 0 2 2 0 accept 1 none nosignal\n\
+    object 0 3 1 0 trigger 1 1 counted\n\
+    object 0 4 0 2 settime 1 50 0 1 4 old 0 0\n\
+    call 0 0 old 0 0\n\
+    call 0 1 clock 1\n\
+    call 0 2 old 0 0\n\
+    call 1 0 more 1 1 0\n\
+    call 2 0 nosignal\n\
+    end\n";
+
+#[test]
+fn a_settime_that_waits_has_let_its_object_go(rt: HostRuntime) -> Result<(), Fail> {
+    // The function is held until the accept was answered, and that is called while the settime waits for the function.
+    let order = [
+        (1, 0, Point::Callback),
+        (0, 2, Point::Call),
+        (2, 0, Point::Call),
+        (2, 0, Point::After),
+        (1, 0, Point::Callback),
+    ];
+    assert!(rt; gives(&rt, SET_AND_ACCEPT, &order, &[SET_AND_ACCEPT_RECORD])?);
+    Ok(())
+}
+
+/// Lane 0 starts a timer that repeats. Then it looks at it twice, while lane 1 runs what is due.
+const LOOK_AND_EXPIRE: &[u8] = b"hrt 1\n\
+    bases 1\n\
+    lanes 2\n\
+    limit 100\n\
+    raw 0 monotonic every 100\n\
+    round\n\
+    0 start 0 rel 0 0\n\
+    round\n\
+    0 peek 0\n\
+    0 peek 0\n\
+    1 expire 0 1\n";
+
+const LOOK_AND_EXPIRE_RECORD: &[u8] = b"record 1\n\
+    timer 0 1 0 0 start rel 0 0 0 0 monotonic 0 0\n\
+    timer 0 2 1 0 claim 0 0 1\n\
+    timer 0 3 1 0 forward 0 100 1 100\n\
+    timer 0 4 1 0 finish again 1 4\n\
+    call 0 0 started 1 0 0\n\
+    call 0 1 peek 2 0 0 1 0\n\
+    call 0 2 peek 4 0 1 0 0\n\
+    call 1 0 more 1 0 0\n\
+    end\n";
+
+#[test]
+fn a_callback_is_held_before_its_work(rt: HostRuntime) -> Result<(), Fail> {
+    // The first look comes while the callback is held: the timer runs, and has no entry of the callback yet.
+    let order = [
+        (1, 0, Point::Callback),
+        (0, 1, Point::Call),
+        (0, 1, Point::After),
+        (1, 0, Point::Callback),
+        (1, 0, Point::After),
+        (0, 2, Point::Call),
+    ];
+    assert!(rt; gives(&rt, LOOK_AND_EXPIRE, &order, &[LOOK_AND_EXPIRE_RECORD])?);
     Ok(())
 }

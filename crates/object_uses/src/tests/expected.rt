@@ -2,7 +2,7 @@
 use super::stand::{FD, POSIX, Told};
 use expire_pass::{ExpireAnswer, Noted, Receipt};
 use ktime::{ClockId, Mode, Reading};
-use seq_timer::{Asked, Event, Placement, Rearmed, Reply};
+use seq_timer::{Asked, Event, Placement, Reply, Restarted};
 use timer_fd::{ReadAnswer, SettimeAnswer};
 use timer_objects::{ObjectCall, ObjectReceipt, ObjectReply, SpannedCall};
 use timer_setting::{Arm, SettimeCall, TriggerAnswer};
@@ -61,7 +61,7 @@ pub(super) fn ran(timer: u32, at: Reading) -> [Receipt; 2] {
     };
     let finish = Reply::Finish {
         generation: 1,
-        rearmed: Rearmed::No,
+        restarted: Restarted::No,
     };
     [
         entry(timer, 2, claim, Reply::Claim { generation: 1 }),

@@ -2,7 +2,8 @@
 use super::assert_equal;
 use super::expected::{cancel, entry};
 use expire_pass::{Log, Noted, Receipt};
-use seq_timer::{Event, Observation, Rearmed, Reply};
+use hr_timers::Sink;
+use seq_timer::{Event, Observation, Reply, Restarted};
 use std::test::Fail;
 
 #[test]
@@ -13,7 +14,7 @@ fn receipts_stand_in_the_order_of_their_notes(rt: HostRuntime) -> Result<(), Fai
     let finish = Event::Finish { restart: true };
     let finished = Reply::Finish {
         generation: 1,
-        rearmed: Rearmed::No,
+        restarted: Restarted::No,
     };
     let first = cancel(3, 7, 6);
     let second = entry(4, 2, finish, finished);
@@ -30,7 +31,7 @@ fn receipts_stand_in_the_order_of_their_notes(rt: HostRuntime) -> Result<(), Fai
         Event::Finish { restart: true },
         Reply::Finish {
             generation: 1,
-            rearmed: Rearmed::No,
+            restarted: Restarted::No,
         },
     );
     log.note_look(3, 7, Event::Cancel, Observation::Idle);

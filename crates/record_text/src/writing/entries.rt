@@ -1,14 +1,16 @@
 //! The words of a timer's entries, and of what callbacks were told in place of one.
-ghost use Rattle.std.specs.Prelude.{◌≡◌, ◌++◌, ◌∷◌, [], OnOk, codes, string_bytes};
+ghost use Rattle.std.specs.Prelude.{◌≡◌, ◌++◌, ◌∷◌, [], OnOk, string_bytes};
 ghost use Rattle.std.specs.Fmt.{decimal};
-ghost use Rattle.record_text.specs.declared.record.Entry.TheVariants as entries;
-ghost use Rattle.record_text.specs.Numbers.{entry_numbers, rearmed_numbers, reply_numbers, AreMachineNumbers};
-ghost use Rattle.record_text.specs.Text.{entry_words, forward_words, rearmed_word, reply_words, restart_word, spaced, start_words};
+ghost use Rattle.seq_timer.specs.declared.event.EventBy.TheVariants as events;
+ghost use Rattle.seq_timer.specs.declared.event.Reply.TheVariants as replies;
+ghost use Rattle.record_text.specs.Numbers.{entry_numbers, event_numbers, reply_numbers, told_numbers, AreMachineNumbers};
+ghost use Rattle.record_text.specs.Text.{asked_words, entry_words, event_words, reply_words, restarted_word, spaced, told_words};
 
-use crate::record::{CallbackReply, Entry, ForwardLine, Restart, StartLine};
+use crate::record::{CallbackReply, Entry};
 use crate::version::Version;
 use crate::writing::sections::HasWords;
 use crate::writing::words::{clock_word, mode_word, restart_word};
+use seq_timer::{AskedBy, EventBy, Moved, Placement, Reply, Restarted};
 use std::alloc::AllocError;
 
 /// An entry as a record of this version shows it.
@@ -23,120 +25,138 @@ impl HasWords for EntryIn {
 
     ghost numbers = { λ e. entry_numbers e.entry };
 
+    #[tactic(auto, using(crate::proofs::RecordTexts::spaced_both, crate::proofs::RecordTexts::machine_numbers_both))]
     fn write_words(&self, out: &mut String) -> Result<(), AllocError> {
-        match self.entry {
-            Entry::Out { base, was_armed } => {
-                let was = u8::from(was_armed);
-                write!(out, " out {base} {was}")?;
-            }
-            Entry::Start(line) => write_start(out, self.version, line)?,
-            Entry::Cancel { generation } => write!(out, " cancel {generation}")?,
-            Entry::Claim {
-                base,
-                reading,
-                generation,
-            } => write!(out, " claim {base} {reading} {generation}")?,
-            Entry::Forward(line) => write_forward(out, self.version, line)?,
-            Entry::Finish {
-                restart,
-                generation,
-                rearmed,
-            } => write_finish(out, restart, generation, rearmed)?,
-        }
+        write_event(out, self.version, self.entry.event)?;
+        write_reply(out, self.version, self.entry.reply)?;
         Ok(())
     }
 }
 
-/// Writes what a start was asked for, and what it came to.
-fn write_start(out: &mut String, version: Version, line: StartLine) -> Result<(), AllocError>
-    ensures text { OnOk result (string_bytes out.new ≡ string_bytes out.old ++ spaced (start_words version line)) }
-    ensures numbers { OnOk result (AreMachineNumbers (entry_numbers (entries.Start line))) }
+/// Writes what happened.
+fn write_event(out: &mut String, version: Version, event: EventBy<u64>) -> Result<(), AllocError>
+    ensures text { OnOk result (string_bytes out.new ≡ string_bytes out.old ++ spaced (event_words version event)) }
+    ensures numbers { OnOk result (AreMachineNumbers (event_numbers event)) }
 {
-    let StartLine {
+    match event {
+        EventBy::Out { base } => write!(out, " out {base}")?,
+        EventBy::Start(asked) => write_asked(out, version, asked)?,
+        EventBy::Cancel => out.push_str(" cancel")?,
+        EventBy::Claim { base, reading } => write!(out, " claim {base} {reading}")?,
+        EventBy::Forward { reading, interval } => write!(out, " forward {reading} {interval}")?,
+        EventBy::Finish { restart } => {
+            let restart = restart_word(restart);
+            write!(out, " finish {restart}")?;
+        }
+    }
+    Ok(())
+}
+
+/// Writes what a start was asked for.
+fn write_asked(out: &mut String, version: Version, asked: AskedBy<u64>) -> Result<(), AllocError>
+    ensures text { OnOk result (string_bytes out.new ≡ string_bytes out.old ++ spaced (asked_words version asked)) }
+    ensures numbers { OnOk result (AreMachineNumbers (event_numbers (events.Start asked))) }
+{
+    let AskedBy {
         mode,
         ns,
         slack,
         reading,
-        asked,
+        base,
+    } = asked;
+    let mode = mode_word(mode);
+    match version {
+        Version::One => write!(out, " start {mode} {ns} {reading} {base}")?,
+        Version::Two => write!(out, " start {mode} {ns} {slack} {reading} {base}")?,
+    }
+    Ok(())
+}
+
+/// Writes what an event came to.
+fn write_reply(out: &mut String, version: Version, reply: Reply) -> Result<(), AllocError>
+    ensures text { OnOk result (string_bytes out.new ≡ string_bytes out.old ++ spaced (reply_words version reply)) }
+    ensures numbers { OnOk result (AreMachineNumbers (reply_numbers reply)) }
+{
+    match reply {
+        Reply::Out { was_armed } => {
+            let was = u8::from(was_armed);
+            write!(out, " {was}")?;
+        }
+        Reply::Start {
+            placement,
+            was_armed,
+        } => write_placement(out, version, placement, was_armed)?,
+        Reply::Cancel { generation } | Reply::Claim { generation } => {
+            write!(out, " {generation}")?;
+        }
+        Reply::Forward { moved } => write_moved(out, version, moved)?,
+        Reply::Finish {
+            generation,
+            restarted,
+        } => write_finished(out, generation, restarted)?,
+    }
+    Ok(())
+}
+
+/// Writes what a start came to.
+fn write_placement(
+    out: &mut String,
+    version: Version,
+    placement: Placement,
+    was_armed: bool,
+) -> Result<(), AllocError>
+    ensures text { OnOk result (string_bytes out.new ≡ string_bytes out.old ++ spaced (reply_words version (replies.Start placement was_armed))) }
+    ensures numbers { OnOk result (AreMachineNumbers (reply_numbers (replies.Start placement was_armed))) }
+{
+    let Placement {
         base,
         clock,
         soft,
         expires,
-        was_armed,
-    } = line;
-    let mode = mode_word(mode);
+    } = placement;
     let clock = clock_word(clock);
     let was = u8::from(was_armed);
     match version {
-        Version::One => {
-            write!(
-                out,
-                " start {mode} {ns} {reading} {asked} {base} {clock} {expires} {was}"
-            )?;
-        }
-        Version::Two => {
-            write!(
-                out,
-                " start {mode} {ns} {slack} {reading} {asked} {base} {clock} {soft} {expires} {was}"
-            )?;
-        }
+        Version::One => write!(out, " {base} {clock} {expires} {was}")?,
+        Version::Two => write!(out, " {base} {clock} {soft} {expires} {was}")?,
     }
     Ok(())
 }
 
-/// Writes what a forward was made by, and what it came to.
-fn write_forward(out: &mut String, version: Version, line: ForwardLine) -> Result<(), AllocError>
-    ensures text { OnOk result (string_bytes out.new ≡ string_bytes out.old ++ spaced (forward_words version line)) }
-    ensures numbers { OnOk result (AreMachineNumbers (entry_numbers (entries.Forward line))) }
+/// Writes what a forward came to.
+fn write_moved(out: &mut String, version: Version, moved: Moved) -> Result<(), AllocError>
+    ensures text { OnOk result (string_bytes out.new ≡ string_bytes out.old ++ spaced (reply_words version (replies.Forward moved))) }
+    ensures numbers { OnOk result (AreMachineNumbers (reply_numbers (replies.Forward moved))) }
 {
-    let ForwardLine {
-        reading,
-        interval,
+    let Moved {
         count,
         soft,
         expires,
-    } = line;
+    } = moved;
     match version {
-        Version::One => write!(out, " forward {reading} {interval} {count} {expires}")?,
-        Version::Two => write!(
-            out,
-            " forward {reading} {interval} {count} {soft} {expires}"
-        )?,
+        Version::One => write!(out, " {count} {expires}")?,
+        Version::Two => write!(out, " {count} {soft} {expires}")?,
     }
     Ok(())
 }
 
-fn write_finish(
-    out: &mut String,
-    restart: bool,
-    generation: u64,
-    rearmed: Restart,
-) -> Result<(), AllocError>
-    ensures text { OnOk result (string_bytes out.new ≡ string_bytes out.old ++ spaced (codes "finish" ∷ restart_word restart ∷ decimal generation ∷ rearmed_word rearmed ∷ [])) }
-    ensures numbers { OnOk result (AreMachineNumbers (rearmed_numbers rearmed)) }
+/// Writes what a finish came to.
+fn write_finished(out: &mut String, generation: u64, restarted: Restarted) -> Result<(), AllocError>
+    ensures text { OnOk result (string_bytes out.new ≡ string_bytes out.old ++ spaced (decimal generation ∷ restarted_word restarted ∷ [])) }
+    ensures numbers { OnOk result (AreMachineNumbers (reply_numbers (replies.Finish generation restarted))) }
 {
-    let restart = restart_word(restart);
-    write!(out, " finish {restart} {generation}")?;
-    write_rearmed(out, rearmed)?;
-    Ok(())
-}
-
-fn write_rearmed(out: &mut String, rearmed: Restart) -> Result<(), AllocError>
-    ensures text { OnOk result (string_bytes out.new ≡ string_bytes out.old ++ spaced (rearmed_word rearmed ∷ [])) }
-    ensures numbers { OnOk result (AreMachineNumbers (rearmed_numbers rearmed)) }
-{
-    match rearmed {
-        Restart::None => out.push_str(" none")?,
-        Restart::Again { generation } => write!(out, " {generation}")?,
-        Restart::Spent => out.push_str(" spent")?,
+    match restarted {
+        Restarted::No => write!(out, " {generation} none")?,
+        Restarted::Again { generation: again } => write!(out, " {generation} {again}")?,
+        Restarted::Spent => write!(out, " {generation} spent")?,
     }
     Ok(())
 }
 
 impl HasWords for CallbackReply {
-    ghost words = { reply_words };
+    ghost words = { told_words };
 
-    ghost numbers = { reply_numbers };
+    ghost numbers = { told_numbers };
 
     fn write_words(&self, out: &mut String) -> Result<(), AllocError> {
         match *self {

@@ -7,8 +7,8 @@ use crate::OneShot;
 use expire_pass::{ExpireAnswer, Handler, Log, Restart, expire, expire_soft};
 use hr_timers::{Claim, Pass, StartAnswer, Timers};
 use ktime::{Mode, Reading};
+use seq_timer::{CancelAnswer, ForwardAnswer};
 use std::sync::Wait;
-use timer_core::{CancelAnswer, ForwardAnswer};
 
 /// How often a thread looks for what the other one does.
 pub const TURNS: u32 = 50_000_000;

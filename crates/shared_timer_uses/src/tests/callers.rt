@@ -3,7 +3,7 @@ use super::{assert_equal, moved, some_timers};
 use crate::{Stopped, Tick, expire_once, expire_periodic, start_once, stop_and_wait, stop_now};
 use expire_pass::{Noted, Receipt};
 use ktime::Reading;
-use seq_timer::{Event, Rearmed, Reply};
+use seq_timer::{Event, Reply, Restarted};
 use std::test::Fail;
 
 #[test]
@@ -32,7 +32,7 @@ fn a_timer_expires_once(rt: HostRuntime) -> Result<(), Fail> {
         event: Event::Finish { restart: false },
         reply: Noted::Entry(Reply::Finish {
             generation: 1,
-            rearmed: Rearmed::No,
+            restarted: Restarted::No,
         }),
     };
     assert_equal(&rt, log.receipts(), [claim, finish].as_slice());

@@ -5,10 +5,9 @@ ghost use Rattle.hr_timers.specs.Known.{IsPassOf};
 use super::{assert_equal, kept, some_timers};
 use hr_timers::{ClaimAnswer, Pass, StartAnswer, Timers};
 use ktime::{Mode, Reading};
-use seq_timer::Peek;
+use seq_timer::{CancelAnswer, Peek};
 use std::sync::Wait;
 use std::test::Fail;
-use timer_core::CancelAnswer;
 
 /// What the ninth pass was told on a base; the base is busy with the function of this timer, at this generation.
 #[derive(Clone, Copy, Debug, PartialEq, Eq)]

@@ -7,13 +7,13 @@ ghost use Rattle.expire_pass.specs.Handlers.{KeepsPass};
 use super::acting::{Act, Acting, Told as ToldInside, is_periodic};
 use super::{assert_equal, some_timers};
 use expire_pass::{ExpireAnswer, Log, Restart, expire};
-use hr_timers::{Pass, StartAnswer, Timers};
+use hr_timers::{Pass, Sink, StartAnswer, Timers};
 use ktime::{ClockId, Mode, Reading};
-use seq_timer::{Declared, Event, Placement, Reply};
+use seq_timer::{CancelAnswer, Declared, Event, Placement, Rearmed, Reply, Restarted};
 use std::alloc::{AllocError, Global};
 use std::sync::Wait;
 use std::test::Fail;
-use timer_core::{CancelAnswer, ClaimAnswer, Core};
+use timer_core::{ClaimAnswer, Core};
 use timer_queue::ListQueue;
 
 /// The number after this one: all that is drawn is taken from it.
@@ -89,7 +89,11 @@ fn run_on_core(core: &mut Core<ListQueue>, base: u32, now: Reading, made: &mut M
         made.told = ToldInside::Forward(core.forward(timer, now, 100));
     }
     let finished = core.finish(timer, restart);
-    let rearmed = finished.rearmed;
+    let restarted = match finished.rearmed {
+        Rearmed::No => Restarted::No,
+        Rearmed::Again { generation } => Restarted::Again { generation },
+        Rearmed::Spent { .. } => Restarted::Spent,
+    };
     made.log.note(
         timer,
         number,
@@ -102,7 +106,7 @@ fn run_on_core(core: &mut Core<ListQueue>, base: u32, now: Reading, made: &mut M
         Event::Finish { restart },
         Reply::Finish {
             generation,
-            rearmed,
+            restarted,
         },
     );
     told

@@ -5,12 +5,11 @@ use crate::{OneShot, Periodic, Tick};
 use expire_pass::{ExpireAnswer, Log, Noted, Restart, expire};
 use hr_timers::StartAnswer;
 use ktime::{Mode, Reading};
-use seq_timer::{Peek, Rearmed, Reply};
+use seq_timer::{CancelAnswer, Peek, Reply, Restarted};
 use std::alloc::{AllocError, Global};
 use std::process::Abort;
 use std::sync::Wait;
 use std::test::Fail;
-use timer_core::CancelAnswer;
 
 /// What a run and the function that it ran were told, the timer after that, and the receipts.
 #[derive(Drop)]
@@ -137,7 +136,7 @@ fn a_function_starts_its_own_timer_again(rt: HostRuntime) -> Result<(), Fail> {
     assert_equal(&rt, ran.told, Told::Start(started));
     let finished = Reply::Finish {
         generation: 1,
-        rearmed: Rearmed::No,
+        restarted: Restarted::No,
     };
     assert!(rt; ran.log.receipts().len() == 2);
     assert_equal(&rt, ran.log.receipts()[1].reply, Noted::Entry(finished));

@@ -3,7 +3,7 @@ ghost use Rattle.std.specs.Prelude.{◌≡◌, ◌+◌, ◌^◌, ◌<◌, ◌≤
 ghost use Rattle.clock_cell.specs.Views.{IsPassOfClock};
 
 use super::assert_equal;
-use clock_cell::{ClockPass, SharedClock};
+use clock_cell::{ClockPass, SharedClock, WriteAnswer};
 use clock_model::ClockFault;
 use ktime::Reading;
 use std::alloc::{AllocError, Global};
@@ -85,6 +85,29 @@ fn advance_and_tell<R: Wait>(
     (answer, clock.read(rt, b))
 }
 
+/// Two threads advance the clock, each with a pass of its own, and the passes then meet. It answers
+/// what each write came to, and what each pass then read.
+fn advance_both_and_meet<R: Threads + Wait + Sync>(
+    rt: &R,
+    clock: &SharedClock,
+    a: &mut ClockPass,
+    b: &mut ClockPass,
+    by: u64,
+) -> ((WriteAnswer, WriteAnswer), (Reading, Reading))
+    requires pass { IsPassOfClock clock.now a.old × IsPassOfClock clock.now b.old }
+    ensures pass { IsPassOfClock clock.now a.new × IsPassOfClock clock.now b.new }
+    ensures id { (a.new.knows.pass.id ≡ a.old.knows.pass.id) × (b.new.knows.pass.id ≡ b.old.knows.pass.id) }
+    ensures later { IfOk result.0.0 (λ r. r.stamp ≤ result.1.1.stamp) × IfOk result.0.1 (λ r. r.stamp ≤ result.1.1.stamp) }
+    ensures first { result.1.1.stamp ≤ result.1.0.stamp }
+{
+    let answers = join_mut(
+        rt,
+        &mut || clock.advance(rt, a, by),
+        &mut || clock.advance(rt, b, by),
+    );
+    (answers, clock.meet_and_read(rt, a, b))
+}
+
 #[test]
 fn after_a_meet_a_read_has_what_the_other_wrote(rt: HostRuntime) -> Result<(), Fail> {
     let (clock, mut a) = SharedClock::make(rt.alloc())?;
@@ -94,6 +117,19 @@ fn after_a_meet_a_read_has_what_the_other_wrote(rt: HostRuntime) -> Result<(), F
     clock.close(a);
     assert_equal(&rt, answer.map(|r| (r.stamp, r.mono)), Ok((1, 5)));
     assert!(rt; reading.stamp >= 1);
+    Ok(())
+}
+
+#[test]
+fn after_a_meet_with_a_look_both_have_read_what_both_wrote(rt: HostRuntime) -> Result<(), Fail> {
+    let (clock, mut a) = SharedClock::make(rt.alloc())?;
+    let mut b = clock.split(&mut a);
+    let (answers, readings) = advance_both_and_meet(&rt, &clock, &mut a, &mut b, 5);
+    clock.join(&mut a, b);
+    clock.close(a);
+    assert!(rt; answers.0.is_ok() && answers.1.is_ok());
+    assert_equal(&rt, (readings.0.stamp, readings.0.mono), (2, 10));
+    assert_equal(&rt, (readings.1.stamp, readings.1.mono), (2, 10));
     Ok(())
 }
 

@@ -10,10 +10,10 @@ use crate::{OneShot, expire_and_stop, start_anew, start_counted, start_once, sto
 use expire_pass::{ExpireAnswer, Log, Restart, expire};
 use hr_timers::{Pass, Timers};
 use ktime::Reading;
+use seq_timer::CancelAnswer;
 use std::sync::Wait;
 use std::test::Fail;
 use std::thread::{Threads, join_mut};
-use timer_core::CancelAnswer;
 
 #[test]
 fn two_threads_lose_no_entry_of_a_timer(rt: HostRuntime) -> Result<(), Fail> {

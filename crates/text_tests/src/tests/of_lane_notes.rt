@@ -6,7 +6,7 @@ use ktime::{ClockId, Mode, Reading};
 use lane_notes::{Notes, note_object_receipts, note_receipts, record_of};
 use posix_timer::{AcceptAnswer, Arm, SettimeAnswer, SettimeCall, TriggerAnswer};
 use record_text::{ClockLine, Label, Version};
-use seq_timer::{Asked, Event, Moved, Observation, Placement, Rearmed, Reply};
+use seq_timer::{Asked, Event, Moved, Observation, Placement, Reply, Restarted};
 use std::alloc::{AllocError, Global};
 use std::process::Abort;
 use timer_fd::{GettimeAnswer, ReadAnswer};
@@ -37,11 +37,11 @@ fn start(timer: u32, number: u64, slack: u64, was_armed: bool) -> Receipt {
     entry(timer, number, Event::Start(asked), reply)
 }
 
-fn finish(number: u64, generation: u64, rearmed: Rearmed) -> Receipt {
+fn finish(number: u64, generation: u64, restarted: Restarted) -> Receipt {
     let event = Event::Finish { restart: true };
     let reply = Reply::Finish {
         generation,
-        rearmed,
+        restarted,
     };
     entry(0, number, event, reply)
 }
@@ -222,7 +222,7 @@ fn first_lane(alloc: Global) -> Result<Notes, AllocError> {
     let mut notes = Notes::new(alloc);
     notes.note_write(2, write(10, 0))?;
     let receipts = [
-        finish(4, 1, Rearmed::Again { generation: 4 }),
+        finish(4, 1, Restarted::Again { generation: 4 }),
         look(0, 2, Observation::Running { generation: 1 }),
         look(0, 2, Observation::Idle),
         claim(2),
@@ -299,12 +299,4 @@ skip 1 3 1 4 5
 end
 ";
     shows(&rt, rt.alloc(), Version::One, notes, 2, want)
-}
-
-#[test]
-fn what_does_not_belong_together_is_not_noted(rt: HostRuntime) -> Result<(), AllocError> {
-    let mut notes = Notes::new(rt.alloc());
-    let receipts = [entry(0, 1, Event::Cancel, Reply::Out { was_armed: true })];
-    note_receipts(&mut notes, label(0, 0), &receipts)?;
-    shows(&rt, rt.alloc(), Version::One, notes, 1, "record 1\nend\n")
 }

@@ -2,9 +2,10 @@
 use clock_model::Write;
 use ktime::{ClockId, Mode};
 use record_text::{
-    Answer, CallbackReply, ClockLine, Entry, ForwardLine, ItemList, Label, Look, ObjectLine,
-    Restart, RunRecord, StartLine, TimerLine, Version, text, text_determines_the_record,
+    Answer, CallbackReply, ClockLine, Entry, ItemList, Label, Look, ObjectLine, RunRecord,
+    TimerLine, Version, text, text_determines_the_record,
 };
+use seq_timer::{AskedBy, EventBy, Moved, Placement, Reply, Restarted};
 use std::alloc::{AllocError, Global};
 use std::process::Abort;
 
@@ -71,33 +72,43 @@ pub(crate) fn timer_lines(
 const ONE_SHOT: [(Label, Entry); 3] = [
     (
         FIRST,
-        Entry::Start(StartLine {
-            mode: Mode::Rel,
-            ns: 100,
-            slack: 0,
-            reading: 0,
-            asked: 0,
-            base: 0,
-            clock: ClockId::Monotonic,
-            soft: 100,
-            expires: 100,
-            was_armed: false,
-        }),
-    ),
-    (
-        Label { lane: 0, call: 2 },
-        Entry::Claim {
-            base: 0,
-            reading: 1,
-            generation: 1,
+        Entry {
+            event: EventBy::Start(AskedBy {
+                mode: Mode::Rel,
+                ns: 100,
+                slack: 0,
+                reading: 0,
+                base: 0,
+            }),
+            reply: Reply::Start {
+                placement: Placement {
+                    base: 0,
+                    clock: ClockId::Monotonic,
+                    soft: 100,
+                    expires: 100,
+                },
+                was_armed: false,
+            },
         },
     ),
     (
         Label { lane: 0, call: 2 },
-        Entry::Finish {
-            restart: false,
-            generation: 1,
-            rearmed: Restart::None,
+        Entry {
+            event: EventBy::Claim {
+                base: 0,
+                reading: 1,
+            },
+            reply: Reply::Claim { generation: 1 },
+        },
+    ),
+    (
+        Label { lane: 0, call: 2 },
+        Entry {
+            event: EventBy::Finish { restart: false },
+            reply: Reply::Finish {
+                generation: 1,
+                restarted: Restarted::No,
+            },
         },
     ),
 ];
@@ -179,42 +190,61 @@ const LOOKS: [Look; 3] = [
     },
 ];
 
-const MOVED: Entry = Entry::Out {
-    base: 1,
-    was_armed: true,
+const MOVED: Entry = Entry {
+    event: EventBy::Out { base: 1 },
+    reply: Reply::Out { was_armed: true },
 };
 
-const LOOKED_AT: Entry = Entry::Start(StartLine {
-    mode: Mode::Keep,
-    ns: 9,
-    slack: 0,
-    reading: 8,
-    asked: 2,
-    base: 1,
-    clock: ClockId::Boottime,
-    soft: 70,
-    expires: 70,
-    was_armed: true,
-});
+const LOOKED_AT: Entry = Entry {
+    event: EventBy::Start(AskedBy {
+        mode: Mode::Keep,
+        ns: 9,
+        slack: 0,
+        reading: 8,
+        base: 2,
+    }),
+    reply: Reply::Start {
+        placement: Placement {
+            base: 1,
+            clock: ClockId::Boottime,
+            soft: 70,
+            expires: 70,
+        },
+        was_armed: true,
+    },
+};
 
 const LATER: [Entry; 4] = [
-    Entry::Cancel { generation: 2 },
-    Entry::Forward(ForwardLine {
-        reading: 6,
-        interval: 10,
-        count: 3,
-        soft: 100,
-        expires: 100,
-    }),
-    Entry::Finish {
-        restart: true,
-        generation: 2,
-        rearmed: Restart::Again { generation: 5 },
+    Entry {
+        event: EventBy::Cancel,
+        reply: Reply::Cancel { generation: 2 },
     },
-    Entry::Finish {
-        restart: true,
-        generation: 5,
-        rearmed: Restart::Spent,
+    Entry {
+        event: EventBy::Forward {
+            reading: 6,
+            interval: 10,
+        },
+        reply: Reply::Forward {
+            moved: Moved {
+                count: 3,
+                soft: 100,
+                expires: 100,
+            },
+        },
+    },
+    Entry {
+        event: EventBy::Finish { restart: true },
+        reply: Reply::Finish {
+            generation: 2,
+            restarted: Restarted::Again { generation: 5 },
+        },
+    },
+    Entry {
+        event: EventBy::Finish { restart: true },
+        reply: Reply::Finish {
+            generation: 5,
+            restarted: Restarted::Spent,
+        },
     },
 ];
 

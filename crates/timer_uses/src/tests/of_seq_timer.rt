@@ -2,13 +2,13 @@
 ghost use Rattle.std.specs.Prelude.{◌≡◌, ◌≤◌};
 ghost use Rattle.ktime.specs.Readings.{latest};
 ghost use Rattle.ktime.specs.declared.mode.Mode.TheVariants as modes;
-ghost use Rattle.seq_timer.specs.declared.event.Event.TheVariants as events;
-ghost use Rattle.timer_core.specs.Answers.{asked_for};
+ghost use Rattle.seq_timer.specs.declared.event.EventBy.TheVariants as events;
+ghost use Rattle.seq_timer.specs.Calls.{asked_for};
 
 use super::{MONOTONIC, SOFT, assert_equal, kept};
 use ktime::{ClockId, Mode, Reading};
 use seq_timer::{
-    Asked, Base, Context, Declared, Event, Moved, Observation, Peek, Rearmed, Reply, Terms,
+    Asked, Base, Context, Declared, Event, Moved, Observation, Peek, Reply, Restarted, Terms,
     TimerState, a_cancelled_generation_never_runs, a_span_has_one_generation,
     a_stamp_counts_entries, histories_end, running_is_told_inside_the_span, spans_do_not_overlap,
 };
@@ -40,10 +40,10 @@ fn claim(now: u64) -> Event
     }
 }
 
-fn finished(generation: u64, rearmed: Rearmed) -> Reply {
+fn finished(generation: u64, restarted: Restarted) -> Reply {
     Reply::Finish {
         generation,
-        rearmed,
+        restarted,
     }
 }
 
@@ -89,7 +89,7 @@ fn a_timer_runs_once(rt: HostRuntime) {
         Some(seen),
     );
     let reply = timer.apply(Event::Finish { restart: false });
-    assert_equal(&rt, reply, finished(1, Rearmed::No));
+    assert_equal(&rt, reply, finished(1, Restarted::No));
     let idle = Peek {
         stamp: 3,
         base: 0,
@@ -121,7 +121,7 @@ fn a_periodic_timer_is_forwarded_and_armed_again(rt: HostRuntime) {
         },
     );
     let reply = timer.apply(Event::Finish { restart: true });
-    assert_equal(&rt, reply, finished(1, Rearmed::Again { generation: 4 }));
+    assert_equal(&rt, reply, finished(1, Restarted::Again { generation: 4 }));
     assert_equal(&rt, timer.armed(), Some(4));
     let reply = timer.apply(Event::Cancel);
     assert_equal(&rt, reply, Reply::Cancel { generation: 4 });
@@ -195,7 +195,7 @@ fn a_start_in_the_callback_stands(rt: HostRuntime) {
     timer.apply(claim(0));
     timer.apply(start(Mode::Rel, 50, Reading::at(0)));
     let reply = timer.apply(Event::Finish { restart: true });
-    assert_equal(&rt, reply, finished(1, Rearmed::No));
+    assert_equal(&rt, reply, finished(1, Restarted::No));
     assert_equal(&rt, timer.armed(), Some(3));
     let reply = timer.apply(Event::Out { base: 1 });
     assert_equal(&rt, reply, Reply::Out { was_armed: true });
@@ -238,7 +238,7 @@ fn the_limit_refuses_a_restart(rt: HostRuntime) {
     timer.apply(start(Mode::Rel, 0, Reading::at(0)));
     timer.apply(claim(0));
     let reply = timer.apply(Event::Finish { restart: true });
-    assert_equal(&rt, reply, finished(1, Rearmed::Spent { stamp: 2 }));
+    assert_equal(&rt, reply, finished(1, Restarted::Spent));
     assert_equal(&rt, timer.armed(), None);
 }
 

@@ -4,13 +4,12 @@ ghost use Rattle.timer_core.specs.Kept.{IsSameSize, timer_in};
 
 use super::{MONOTONIC, SOFT, assert_equal, kept};
 use ktime::{ClockId, Mode, Reading};
-use seq_timer::{Context, Declared, Moved, Peek, Placement, Rearmed};
+use seq_timer::{
+    CancelAnswer, Context, Declared, Finished, ForwardAnswer, Moved, Peek, Placement, Rearmed,
+};
 use std::alloc::AllocError;
 use std::process::Abort;
-use timer_core::{
-    CancelAnswer, ClaimAnswer, Core, Finished, ForwardAnswer, StartAnswer,
-    calls_keep_histories_legal,
-};
+use timer_core::{ClaimAnswer, Core, StartAnswer, calls_keep_histories_legal};
 use timer_queue::ListQueue;
 
 /// Claims the next timer of a base, and fails where none is claimed.

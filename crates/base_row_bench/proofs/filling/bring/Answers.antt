@@ -1,5 +1,5 @@
 use Rattle.std.proofs.Common.{ap, sym, subst, ◌∙◌}
-use Rattle.seq_timer.specs.declared.event.Event.{Event}
+use Rattle.seq_timer.specs.Events.{Event}
 use Rattle.seq_timer.specs.Steps.{Timer}
 use Rattle.seq_timer.specs.Systems.{BaseContent}
 use Rattle.base_row.specs.declared.view.BaseView.{BaseView}

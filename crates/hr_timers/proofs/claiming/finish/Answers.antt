@@ -3,7 +3,7 @@ use Rattle.std.specs.Prelude.{unwrap_or}
 use Rattle.pass_names.specs.Counts.{without_first}
 use Rattle.base_row.specs.Calls.{timer_seen}
 use Rattle.base_row.specs.Rules.{is_base_claim}
-use Rattle.seq_timer.specs.Steps.{Timer}
+use Rattle.seq_timer.specs.Steps.{Timer, rearmed_at}
 use Rattle.hr_timers.proofs.Making.{made_then}
 use Rattle.hr_timers.proofs.Standing.{finish_same}
 use Rattle.hr_timers.proofs.claiming.finish.Goals as goal
@@ -17,15 +17,19 @@ returns-clause-finishes g c =
     let h = c.hold_claimed-held.ensures in
     let runs = ap (λ (t : Timer). t.running) (sym h.state) ∙ h.runs in
     let base = h.holds.on.at ∙ h.base in
+    let stamp = c.stamp-stamp.ensures ∙ ap (λ (t : Timer). t.stamp) h.state in
     record {
-      at = v.seen;
-      made = made_then u v w c.args.claim.timer _ h.looks c.enter_once-reply.ensures.adds;
-      runs = runs;
-      base = base;
-      number = ap (λ n. n + 1) c.stamp-number.ensures ∙ ap (λ (t : Timer). t.stamp + 1) h.state;
-      rearmed = finish_same _ _ _ _ c.in-Finish.ensures.reply;
-      claims = c.enter_once-reply.ensures.claims
-          ∙ (ap (λ r. without_first (is_base_claim c.args.claim.timer (unwrap_or r 0) (timer_seen o v c.args.claim.timer).base) v.claims) runs
-          ∙ (ap (λ b. without_first (is_base_claim c.args.claim.timer c.args.claim.generation b) v.claims) base
-          ∙ ap (without_first (is_base_claim c.args.claim.timer c.args.claim.generation c.args.claim.base)) h.looks.claims));
+      finishes = record {
+        at = v.seen;
+        made = made_then u v w c.args.claim.timer _ h.looks c.enter_once-reply.ensures.adds;
+        runs = runs;
+        base = base;
+        number = ap (λ n. n + 1) stamp;
+        rearmed = c.at.ensures ∙ (λ i. rearmed_at (stamp i) (finish_same _ _ _ _ c.in-Finish.ensures.reply i));
+        claims = c.enter_once-reply.ensures.claims
+            ∙ (ap (λ r. without_first (is_base_claim c.args.claim.timer (unwrap_or r 0) (timer_seen o v c.args.claim.timer).base) v.claims) runs
+            ∙ (ap (λ b. without_first (is_base_claim c.args.claim.timer c.args.claim.generation b) v.claims) base
+            ∙ ap (without_first (is_base_claim c.args.claim.timer c.args.claim.generation c.args.claim.base)) h.looks.claims));
+      };
+      logged = c.enter_once-reply.ensures.logged;
     }

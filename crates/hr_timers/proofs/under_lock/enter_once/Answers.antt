@@ -6,21 +6,21 @@ use Rattle.hr_timers.proofs.Making.{carry_stays, extends_freed}
 use Rattle.hr_timers.proofs.under_lock.enter_once.Goals as goal
 
 pub returns-clause-rest : goal.returns-clause-rest
-returns-clause-rest c =
+returns-clause-rest g c =
     let v = c.args.pass.now.knows in
     record {
       row = c.unlock_base.ensures.row;
       rests = record {
         held = ap (λ (y : BaseView BaseContent). y.held) c.unlock_base.ensures.free.rest;
         carry = ap (λ (y : BaseView BaseContent). y.carry) c.unlock_base.ensures.free.rest
-            ∙ (ap (λ (y : BaseView BaseContent). y.carry) c.append-reply.ensures.adds.rest
+            ∙ (ap (λ (y : BaseView BaseContent). y.carry) c.append_logged-reply.ensures.adds.rest
             ∙ carry_stays c.args.timer c.args.held.base (timer_seen c.args.row.now.about v c.args.timer) c.args.event v.carry c.requires.stays
             c.requires.holds.holds.free);
       };
     }
 
 pub returns-clause-adds : goal.returns-clause-adds
-returns-clause-adds c =
-    extends_freed c.args.row.now.about c.fresh.ensures.fresh c.args.held c.append-reply.new.held c.args.timer c.args.event c.args.pass.now.knows
-    c.append-reply.new.pass.knows c.unlock_base.new.pass.knows c.requires.holds.within
-    c.append-reply.ensures.adds c.append-reply.ensures.held c.requires.stays c.unlock_base.ensures.free
+returns-clause-adds g c =
+    extends_freed c.args.row.now.about c.fresh.ensures.fresh c.args.held c.append_logged-reply.new.held c.args.timer c.args.event c.args.pass.now.knows
+    c.append_logged-reply.new.pass.knows c.unlock_base.new.pass.knows c.requires.holds.within
+    c.append_logged-reply.ensures.adds c.append_logged-reply.ensures.held c.requires.stays c.unlock_base.ensures.free

@@ -2,9 +2,9 @@ use Rattle.std.proofs.Common.{◌≡◌, ◌∙◌, List, [], refl, rules, sym, 
 use Rattle.counted_row.specs.Views.{Knows}
 use Rattle.timer_objects.specs.Cells.{cell_meaning}
 use Rattle.timer_objects.specs.Known.{IsObjectsPass, ObjectsPass}
-use Rattle.expire_pass.specs.declared.log.Receipt.{Receipt}
+use Rattle.base_row.specs.declared.log.Receipt.{Receipt}
 use Rattle.expire_pass.specs.Expiring.{Expires}
-use Rattle.expire_pass.specs.Logs.{LogOf}
+use Rattle.base_row.specs.Logs.{LogOf}
 use Rattle.timer_objects.specs.Firings.{firing}
 use Rattle.timer_objects.specs.declared.log.ObjectReceipt.{ObjectReceipt}
 use Rattle.lane_run.specs.Expiries.{KeepsName, RunsGated}

@@ -1,10 +1,10 @@
 //! Callers of a row. Each takes one base or two, adds its entries there, and lets them go.
 ghost use Rattle.std.specs.Prelude.{◌≡◌, ◌<◌, length, [], MatchBool, Some, None, true};
 ghost use Rattle.ktime.specs.declared.mode.Mode.TheVariants as modes;
-ghost use Rattle.seq_timer.specs.declared.event.Event.TheVariants.{Cancel, Start};
+ghost use Rattle.seq_timer.specs.declared.event.EventBy.TheVariants.{Cancel, Start};
 ghost use Rattle.seq_timer.specs.Steps.{Needs};
 ghost use Rattle.seq_timer.specs.Systems.{IsOn};
-ghost use Rattle.timer_core.specs.Answers.{asked_for};
+ghost use Rattle.seq_timer.specs.Calls.{asked_for};
 ghost use Rattle.base_row.specs.Calls.{IsBasePassOf, timer_seen};
 ghost use Rattle.base_row.specs.Rests.{Rests};
 

@@ -4,8 +4,9 @@ use clock_model::Write;
 use ktime::{ClockId, Mode};
 use record_text::{
     Answer, Armed, ClockLine, Entry, ItemList, Label, ObjectEntry, ObjectLine, ReadReply,
-    RunRecord, SettimeReply, Skip, StartLine, Version,
+    RunRecord, SettimeReply, Skip, Version,
 };
+use seq_timer::{AskedBy, EventBy, Placement, Reply};
 use std::alloc::{AllocError, Global};
 
 mod periodic;
@@ -15,18 +16,24 @@ fn on(call: u32) -> Label {
 }
 
 fn start(mode: Mode, ns: u64, reading: u64, clock: ClockId) -> Entry {
-    Entry::Start(StartLine {
-        mode,
-        ns,
-        slack: 0,
-        reading,
-        asked: 0,
-        base: 0,
-        clock,
-        soft: ns,
-        expires: ns,
-        was_armed: false,
-    })
+    Entry {
+        event: EventBy::Start(AskedBy {
+            mode,
+            ns,
+            slack: 0,
+            reading,
+            base: 0,
+        }),
+        reply: Reply::Start {
+            placement: Placement {
+                base: 0,
+                clock,
+                soft: ns,
+                expires: ns,
+            },
+            was_armed: false,
+        },
+    }
 }
 
 fn armed(generation: u64) -> Armed {
@@ -165,9 +172,21 @@ fn a_set_clock_cancels(rt: HostRuntime) -> Result<(), AllocError> {
     ]?;
     let entries = [
         (on(0), start(Mode::Abs, 100, 0, ClockId::Realtime)),
-        (on(5), Entry::Cancel { generation: 1 }),
+        (
+            on(5),
+            Entry {
+                event: EventBy::Cancel,
+                reply: Reply::Cancel { generation: 1 },
+            },
+        ),
         (on(5), start(Mode::Abs, 200, 2, ClockId::Realtime)),
-        (on(6), Entry::Cancel { generation: 3 }),
+        (
+            on(6),
+            Entry {
+                event: EventBy::Cancel,
+                reply: Reply::Cancel { generation: 3 },
+            },
+        ),
         (on(6), start(Mode::Rel, 10, 2, ClockId::Monotonic)),
     ];
     let object_entries = [
@@ -205,9 +224,21 @@ fn a_full_history_disarms_its_object(rt: HostRuntime) -> Result<(), AllocError> 
     let start = start(Mode::Abs, 100, 0, ClockId::Monotonic);
     let entries = [
         (on(0), start),
-        (on(1), Entry::Cancel { generation: 1 }),
+        (
+            on(1),
+            Entry {
+                event: EventBy::Cancel,
+                reply: Reply::Cancel { generation: 1 },
+            },
+        ),
         (on(1), start),
-        (on(2), Entry::Cancel { generation: 3 }),
+        (
+            on(2),
+            Entry {
+                event: EventBy::Cancel,
+                reply: Reply::Cancel { generation: 3 },
+            },
+        ),
     ];
     let unarmed = SettimeReply::Unarmed { stamp: 4 };
     let object_entries = [

@@ -1,9 +1,8 @@
 //! Records of both versions, and their texts.
 use super::{one, shows, timer_lines};
 use ktime::{ClockId, Mode};
-use record_text::{
-    Answer, Entry, ForwardLine, ItemList, Label, Restart, RunRecord, StartLine, Version,
-};
+use record_text::{Answer, Entry, ItemList, Label, RunRecord, Version};
+use seq_timer::{AskedBy, EventBy, Moved, Placement, Reply, Restarted};
 use std::alloc::{AllocError, Global};
 
 /// The text of version 1, of which a record without slack alone is told apart from all others.
@@ -35,40 +34,50 @@ const EXPIRER: Label = Label { lane: 5, call: 0 };
 const FAR: [(Label, Entry); 4] = [
     (
         STARTER,
-        Entry::Out {
-            base: 63,
-            was_armed: false,
+        Entry {
+            event: EventBy::Out { base: 63 },
+            reply: Reply::Out { was_armed: false },
         },
     ),
     (
         STARTER,
-        Entry::Start(StartLine {
-            mode: Mode::Rel,
-            ns: 0,
-            slack: 0,
-            reading: 0,
-            asked: 63,
-            base: 63,
-            clock: ClockId::Monotonic,
-            soft: 0,
-            expires: 0,
-            was_armed: false,
-        }),
-    ),
-    (
-        EXPIRER,
-        Entry::Claim {
-            base: 63,
-            reading: 0,
-            generation: 2,
+        Entry {
+            event: EventBy::Start(AskedBy {
+                mode: Mode::Rel,
+                ns: 0,
+                slack: 0,
+                reading: 0,
+                base: 63,
+            }),
+            reply: Reply::Start {
+                placement: Placement {
+                    base: 63,
+                    clock: ClockId::Monotonic,
+                    soft: 0,
+                    expires: 0,
+                },
+                was_armed: false,
+            },
         },
     ),
     (
         EXPIRER,
-        Entry::Finish {
-            restart: false,
-            generation: 2,
-            rearmed: Restart::None,
+        Entry {
+            event: EventBy::Claim {
+                base: 63,
+                reading: 0,
+            },
+            reply: Reply::Claim { generation: 2 },
+        },
+    ),
+    (
+        EXPIRER,
+        Entry {
+            event: EventBy::Finish { restart: false },
+            reply: Reply::Finish {
+                generation: 2,
+                restarted: Restarted::No,
+            },
         },
     ),
 ];
@@ -127,28 +136,40 @@ fn both_versions_show_a_record_without_slack(rt: HostRuntime) -> Result<(), Allo
 const SLACK: [(Label, Entry); 2] = [
     (
         EXPIRER,
-        Entry::Start(StartLine {
-            mode: Mode::Abs,
-            ns: 100,
-            slack: 50,
-            reading: 1,
-            asked: 2,
-            base: 3,
-            clock: ClockId::Realtime,
-            soft: 100,
-            expires: 150,
-            was_armed: true,
-        }),
+        Entry {
+            event: EventBy::Start(AskedBy {
+                mode: Mode::Abs,
+                ns: 100,
+                slack: 50,
+                reading: 1,
+                base: 2,
+            }),
+            reply: Reply::Start {
+                placement: Placement {
+                    base: 3,
+                    clock: ClockId::Realtime,
+                    soft: 100,
+                    expires: 150,
+                },
+                was_armed: true,
+            },
+        },
     ),
     (
         EXPIRER,
-        Entry::Forward(ForwardLine {
-            reading: 4,
-            interval: 10,
-            count: 1,
-            soft: 110,
-            expires: 160,
-        }),
+        Entry {
+            event: EventBy::Forward {
+                reading: 4,
+                interval: 10,
+            },
+            reply: Reply::Forward {
+                moved: Moved {
+                    count: 1,
+                    soft: 110,
+                    expires: 160,
+                },
+            },
+        },
     ),
 ];
 

@@ -3,10 +3,10 @@ use crate::tests::of_record_text::{one, without_timers};
 use clock_model::Write;
 use ktime::{ClockId, Mode};
 use record_text::{
-    Answer, CallbackReply, ClockLine, Entry, ForwardLine, ItemList, Label, Look, Restart,
-    RunRecord, StartLine, TimerLine, Version,
+    Answer, CallbackReply, ClockLine, Entry, ItemList, Label, Look, RunRecord, TimerLine, Version,
 };
 use script_text::summary;
+use seq_timer::{AskedBy, EventBy, Moved, Placement, Reply, Restarted};
 use std::alloc::{AllocError, Global};
 use std::process::Abort;
 
@@ -15,63 +15,91 @@ const FIRST: Label = Label { lane: 0, call: 0 };
 /// The entries of a timer that is claimed, forwarded twice and finished, each with the number of looks under it.
 const PERIODIC: [(Entry, u64); 4] = [
     (
-        Entry::Claim {
-            base: 0,
-            reading: 1,
-            generation: 1,
+        Entry {
+            event: EventBy::Claim {
+                base: 0,
+                reading: 1,
+            },
+            reply: Reply::Claim { generation: 1 },
         },
         2,
     ),
     (FORWARDED_FAR, 0),
     (FORWARDED, 0),
     (
-        Entry::Finish {
-            restart: true,
-            generation: 2,
-            rearmed: Restart::Again { generation: 2 },
+        Entry {
+            event: EventBy::Finish { restart: true },
+            reply: Reply::Finish {
+                generation: 2,
+                restarted: Restarted::Again { generation: 2 },
+            },
         },
         0,
     ),
 ];
 
-const FORWARDED_FAR: Entry = Entry::Forward(ForwardLine {
-    reading: 1,
-    interval: 100,
-    count: 18446744073709551615,
-    soft: 190,
-    expires: 200,
-});
+const FORWARDED_FAR: Entry = Entry {
+    event: EventBy::Forward {
+        reading: 1,
+        interval: 100,
+    },
+    reply: Reply::Forward {
+        moved: Moved {
+            count: 18446744073709551615,
+            soft: 190,
+            expires: 200,
+        },
+    },
+};
 
-const FORWARDED: Entry = Entry::Forward(ForwardLine {
-    reading: 1,
-    interval: 100,
-    count: 3,
-    soft: 190,
-    expires: 200,
-});
+const FORWARDED: Entry = Entry {
+    event: EventBy::Forward {
+        reading: 1,
+        interval: 100,
+    },
+    reply: Reply::Forward {
+        moved: Moved {
+            count: 3,
+            soft: 190,
+            expires: 200,
+        },
+    },
+};
 
 /// Those of a timer that is started, canceled and found out of its queue.
 const CANCELED: [(Entry, u64); 3] = [
     (
-        Entry::Start(StartLine {
-            mode: Mode::Rel,
-            ns: 5,
-            slack: 0,
-            reading: 1,
-            asked: 0,
-            base: 0,
-            clock: ClockId::Monotonic,
-            soft: 55,
-            expires: 55,
-            was_armed: false,
-        }),
+        Entry {
+            event: EventBy::Start(AskedBy {
+                mode: Mode::Rel,
+                ns: 5,
+                slack: 0,
+                reading: 1,
+                base: 0,
+            }),
+            reply: Reply::Start {
+                placement: Placement {
+                    base: 0,
+                    clock: ClockId::Monotonic,
+                    soft: 55,
+                    expires: 55,
+                },
+                was_armed: false,
+            },
+        },
         1,
     ),
-    (Entry::Cancel { generation: 1 }, 0),
     (
-        Entry::Out {
-            base: 0,
-            was_armed: true,
+        Entry {
+            event: EventBy::Cancel,
+            reply: Reply::Cancel { generation: 1 },
+        },
+        0,
+    ),
+    (
+        Entry {
+            event: EventBy::Out { base: 0 },
+            reply: Reply::Out { was_armed: true },
         },
         0,
     ),

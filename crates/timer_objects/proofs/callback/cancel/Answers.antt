@@ -1,7 +1,7 @@
 use Rattle.std.proofs.Common.{subst, ◌∙◌, ◌++◌, [], ◌∷◌}
 use Rattle.hr_timers.specs.Calls.{Cancels}
-use Rattle.timer_core.specs.declared.answer.CancelAnswer.TheVariants as cancels
-use Rattle.seq_timer.specs.declared.event.Event.TheVariants as events
+use Rattle.seq_timer.specs.declared.answer.CancelAnswer.TheVariants as cancels
+use Rattle.seq_timer.specs.declared.event.EventBy.TheVariants as events
 use Rattle.seq_timer.specs.declared.observation.Observation.TheVariants as observations
 use Rattle.timer_objects.specs.Callbacks.{look_receipt}
 use Rattle.timer_objects.proofs.Running.{its_own, seen_running}

@@ -4,9 +4,9 @@ use crate::tests::of_record_text::{one, shows};
 use clock_model::Write;
 use ktime::{ClockId, Mode};
 use record_text::{
-    AcceptReply, Answer, Armed, Entry, ItemList, ObjectEntry, ReadReply, Restart, RunRecord,
-    SettimeReply,
+    AcceptReply, Answer, Armed, Entry, ItemList, ObjectEntry, ReadReply, RunRecord, SettimeReply,
 };
+use seq_timer::{EventBy, Reply, Restarted};
 use std::alloc::{AllocError, Global};
 use std::process::Abort;
 
@@ -43,16 +43,20 @@ fn periodic(
     record(alloc, clock, &entries, &object_entries, answers)
 }
 
-const CLAIM: Entry = Entry::Claim {
-    base: 0,
-    reading: 1,
-    generation: 1,
+const CLAIM: Entry = Entry {
+    event: EventBy::Claim {
+        base: 0,
+        reading: 1,
+    },
+    reply: Reply::Claim { generation: 1 },
 };
 
-const FINISH: Entry = Entry::Finish {
-    restart: false,
-    generation: 1,
-    rearmed: Restart::None,
+const FINISH: Entry = Entry {
+    event: EventBy::Finish { restart: false },
+    reply: Reply::Finish {
+        generation: 1,
+        restarted: Restarted::No,
+    },
 };
 
 const SETTING: ObjectEntry = ObjectEntry::Settime {

@@ -1,5 +1,5 @@
 use Rattle.std.proofs.Common.{[], ◌∷◌, sym, subst}
-use Rattle.seq_timer.specs.declared.event.Event.TheVariants as events
+use Rattle.seq_timer.specs.declared.event.EventBy.TheVariants as events
 use Rattle.timer_core.specs.Kept.{Agrees, IsConsistent, Makes}
 use Rattle.timer_core.proofs.Consistent.{after_event-seen, agrees-after, consistent-two, makes-two}
 use Rattle.timer_core.proofs.timers.Core.move_and_step.Goals as goal

@@ -1,9 +1,9 @@
 use Rattle.std.proofs.Common.{ap, subst, sym, ◌∙◌}
-use Rattle.seq_timer.specs.declared.event.Event.{Event}
+use Rattle.seq_timer.specs.Events.{Event}
 use Rattle.base_row.specs.Calls.{MayAppend}
 use Rattle.ktime.specs.declared.mode.Mode.TheVariants as modes
 use Rattle.seq_timer.specs.Steps.{Timer}
-use Rattle.timer_core.specs.Answers.{asked_for}
+use Rattle.seq_timer.specs.Calls.{asked_for}
 use Rattle.base_row.specs.declared.view.BaseView.{BaseView}
 use Rattle.seq_timer.specs.Systems.{BaseContent}
 use Rattle.base_row.proofs.Calling.{may_start, seen_same}

@@ -5,7 +5,7 @@ use Rattle.hr_timers.proofs.Standing.{knows_in}
 use Rattle.std.proofs.lemmas.Bool.{and_from, and_parts, eq-eqb, eqb-true, true≢false}
 use Rattle.ktime.specs.Readings.{ClockReading}
 use Rattle.pass_names.specs.Counts.{count, drop_if, one_if, without_first}
-use Rattle.seq_timer.specs.declared.event.Event.TheVariants.{Claim, Finish}
+use Rattle.seq_timer.specs.declared.event.EventBy.TheVariants.{Claim, Finish}
 use Rattle.seq_timer.specs.Steps.{Timer, after}
 use Rattle.seq_timer.specs.Systems.{BaseContent, IsOn}
 use Rattle.seq_timer.specs.declared.context.Context.{Context}

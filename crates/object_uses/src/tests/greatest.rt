@@ -1,0 +1,78 @@
+//! As many objects as there may be timers.
+ghost use Rattle.std.specs.Prelude.{◌≡◌, ℕ, ◌<◌, ◌≤◌, [], length, IfOk};
+ghost use Rattle.pass_names.specs.Names.{IsLast};
+ghost use Rattle.timer_objects.specs.declared.object.Kind.TheVariants as kinds;
+ghost use Rattle.timer_objects.specs.Known.{decl_at};
+ghost use Rattle.object_uses.specs.Callers.{HasPasses};
+
+use super::assert_equal;
+use super::expected::NONE;
+use crate::set_timer;
+use counted_row::RowPass;
+use expire_pass::Log;
+use hr_timers::{Pass, Timers};
+use ktime::{ClockId, Reading};
+use std::alloc::{AllocError, Global};
+use std::test::Fail;
+use timer_objects::{Decl, Kind, ObjectCell, ObjectLog, Objects};
+
+/// The most timers that there may be.
+const TIMERS: u32 = 65_536;
+
+/// The greatest limit on the entries of a timer, and of an object.
+const LIMIT: u64 = (1 << 48) - 16;
+
+/// So many POSIX timers on one base, each over its timer, and the first passes.
+fn posix_timers(
+    alloc: Global,
+    count: usize,
+) -> Result<(Timers, Pass, Objects, RowPass<ObjectCell>), AllocError>
+    requires few { count ≤ 65536 }
+    ensures passes { IfOk result (λ r. HasPasses r.0 r.2 r.1 r.3) }
+    ensures last { IfOk result (λ r. IsLast r.1.known.id × (r.1.known.claims ≡ []) × IsLast r.3.knows.pass.id) }
+    ensures many { IfOk result (λ r. (length r.0.about.timers ≡ count) × (length r.2.decls ≡ count)) }
+    ensures kinds { IfOk result (λ r. (i : ℕ) → i < count → (decl_at r.2 i).kind ≡ kinds.Posix) }
+{
+    let clock = ClockId::Monotonic;
+    let decl = Decl {
+        kind: Kind::Posix,
+        clock,
+        base: 0,
+    };
+    let clocks = vec![in alloc; clock; count]?;
+    let decls = vec![in alloc; decl; count]?;
+    let (timers, pass) = Timers::make(alloc, 1, &clocks, LIMIT)?;
+    let Ok((objects, objects_pass)) = Objects::make(alloc, &decls, LIMIT) else {
+        timers.close(pass);
+        return Err(AllocError);
+    };
+    Ok((timers, pass, objects, objects_pass))
+}
+
+#[test]
+fn the_last_object_is_set(rt: HostRuntime) -> Result<(), Fail> {
+    let (mut log, mut calls) = (Log::make(rt.alloc()), ObjectLog::make(rt.alloc()));
+    log.reserve(4)?;
+    calls.reserve(1)?;
+    let (timers, mut pass, objects, mut objects_pass) = posix_timers(rt.alloc(), TIMERS as usize)?;
+    let now = Reading::at(0);
+    let told = set_timer(
+        &rt,
+        &timers,
+        &mut pass,
+        &objects,
+        &mut objects_pass,
+        &mut log,
+        &mut calls,
+        TIMERS - 1,
+        1,
+        500,
+        0,
+        now,
+    );
+    assert_equal(&rt, told, NONE);
+    assert!(rt; timers.peek(&mut pass, TIMERS - 1).enqueued);
+    objects.close(objects_pass);
+    timers.close(pass);
+    Ok(())
+}

@@ -1,0 +1,105 @@
+-- What one call did, in its order: the entries that it made of timers and objects, and what its callbacks were told in place of entries.
+use Rattle.std.specs.Prelude.{ℕ, ◌+◌, Bool, true, false, nat_eq, List, [], ◌∷◌, ◌++◌}
+use Rattle.clock_model.specs.declared.write.Write.{Write}
+use Rattle.record_text.specs.declared.record.Label.{Label}
+use Rattle.record_text.specs.declared.record.Entry.{Entry}
+use Rattle.record_text.specs.declared.record.CallbackReply.{CallbackReply}
+use Rattle.record_text.specs.declared.record.Look.{Look}
+use Rattle.record_text.specs.declared.record.TimerLine.{TimerLine}
+use Rattle.record_text.specs.declared.record.ObjectEntry.{ObjectEntry}
+use Rattle.record_text.specs.declared.record.ObjectLine.{ObjectLine}
+use Rattle.record_text.specs.declared.record.Skip.{Skip}
+use Rattle.run_history.specs.Order.{is_label}
+
+-- one thing that a call did, with its number in its list: a write of the clock; an entry of a timer, or a look that holds after that
+-- entry; an entry of an object, or an expiry of a generation that the object refused after that entry, its history being full
+pub data Action : Type 0 where
+  Wrote : ℕ → Write → Action
+  Entered : ℕ → ℕ → Entry → Action
+  Looked : ℕ → ℕ → CallbackReply → Action
+  Made : ℕ → ℕ → ObjectEntry → Action
+  Skipped : ℕ → ℕ → ℕ → Action
+
+-- one more item where a test holds
+abbrev pub also : {A : Type 0} → Bool → A → List A → List A
+also true x xs = x ∷ xs
+also false x xs = xs
+
+-- the writes among these, each with its number
+abbrev pub wrote : List Action → List (ℕ × Write)
+wrote [] = []
+wrote (Wrote number write ∷ ds) = (number, write) ∷ wrote ds
+wrote (Entered timer number entry ∷ ds) = wrote ds
+wrote (Looked timer number reply ∷ ds) = wrote ds
+wrote (Made i number entry ∷ ds) = wrote ds
+wrote (Skipped i number generation ∷ ds) = wrote ds
+
+-- the entries of a timer among these, each with its number
+abbrev pub entered : ℕ → List Action → List (ℕ × Entry)
+entered t [] = []
+entered t (Wrote number write ∷ ds) = entered t ds
+entered t (Entered timer number entry ∷ ds) = also (nat_eq timer t) (number, entry) (entered t ds)
+entered t (Looked timer number reply ∷ ds) = entered t ds
+entered t (Made i number entry ∷ ds) = entered t ds
+entered t (Skipped i number generation ∷ ds) = entered t ds
+
+-- the entries of an object among these, each with its number
+abbrev pub made : ℕ → List Action → List (ℕ × ObjectEntry)
+made t [] = []
+made t (Wrote number write ∷ ds) = made t ds
+made t (Entered timer number entry ∷ ds) = made t ds
+made t (Looked timer number reply ∷ ds) = made t ds
+made t (Made i number entry ∷ ds) = also (nat_eq i t) (number, entry) (made t ds)
+made t (Skipped i number generation ∷ ds) = made t ds
+
+-- the looks at a timer among these, each with the number of the entry after which it holds
+abbrev pub looked : ℕ → List Action → List (ℕ × CallbackReply)
+looked t [] = []
+looked t (Wrote number write ∷ ds) = looked t ds
+looked t (Entered timer number entry ∷ ds) = looked t ds
+looked t (Looked timer number reply ∷ ds) = also (nat_eq timer t) (number, reply) (looked t ds)
+looked t (Made i number entry ∷ ds) = looked t ds
+looked t (Skipped i number generation ∷ ds) = looked t ds
+
+-- the refused expiries of an object among these, each with the number of the entry after which it came
+abbrev pub skipped : ℕ → List Action → List (ℕ × ℕ)
+skipped t [] = []
+skipped t (Wrote number write ∷ ds) = skipped t ds
+skipped t (Entered timer number entry ∷ ds) = skipped t ds
+skipped t (Looked timer number reply ∷ ds) = skipped t ds
+skipped t (Made i number entry ∷ ds) = skipped t ds
+skipped t (Skipped i number generation ∷ ds) = also (nat_eq i t) (number, generation) (skipped t ds)
+
+-- the numbers of an object's entries and refused expiries among these, in their order
+abbrev pub numbers_of_object : ℕ → List Action → List ℕ
+numbers_of_object t [] = []
+numbers_of_object t (Wrote number write ∷ ds) = numbers_of_object t ds
+numbers_of_object t (Entered timer number entry ∷ ds) = numbers_of_object t ds
+numbers_of_object t (Looked timer number reply ∷ ds) = numbers_of_object t ds
+numbers_of_object t (Made i number entry ∷ ds) = also (nat_eq i t) number (numbers_of_object t ds)
+numbers_of_object t (Skipped i number generation ∷ ds) = also (nat_eq i t) number (numbers_of_object t ds)
+
+-- the lines of a list that bear a label, each with its number, where the first is numbered so
+abbrev pub own : {X A : Type 0} → (X → Label) → (X → A) → Label → ℕ → List X → List (ℕ × A)
+own label thing c number [] = []
+own label thing c number (x ∷ xs) = also (is_label c (label x)) (number, thing x) (own label thing c (number + 1) xs)
+
+-- the looks of a label under one entry
+abbrev pub looks_under : Label → ℕ → List Look → List (ℕ × CallbackReply)
+looks_under c number [] = []
+looks_under c number (look ∷ looks) = also (is_label c look.label) (number, look.reply) (looks_under c number looks)
+
+-- the looks of a label under entries that are numbered from here
+abbrev pub own_looks : Label → ℕ → List TimerLine → List (ℕ × CallbackReply)
+own_looks c number [] = []
+own_looks c number (line ∷ lines) = looks_under c number line.looks ++ own_looks c (number + 1) lines
+
+-- the refused expiries of a label under one entry
+abbrev pub skips_under : Label → ℕ → List Skip → List (ℕ × ℕ)
+skips_under c number [] = []
+skips_under c number (skip ∷ skips) = also (is_label c skip.label) (number, skip.generation) (skips_under c number skips)
+
+-- the refused expiries of a label under entries that are numbered from here
+abbrev pub own_skips : Label → ℕ → List ObjectLine → List (ℕ × ℕ)
+own_skips c number [] = []
+own_skips c number (line ∷ lines) = skips_under c number line.skips ++ own_skips c (number + 1) lines

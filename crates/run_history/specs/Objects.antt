@@ -1,0 +1,88 @@
+-- The histories of a record's objects, which are POSIX timers and timer descriptors: each one's entries, and its state after each
+-- number of them.
+use Rattle.std.specs.Prelude.{ℕ, ◌≡◌, true, is_some, Option, Some, None, List, [], ◌∷◌, map, take, get_or}
+use Rattle.std.specs.List.{AllByRecursion}
+use Rattle.ktime.specs.declared.clock_id.ClockId.{ClockId}
+use Rattle.record_text.specs.declared.record.Label.{Label}
+use Rattle.record_text.specs.declared.record.ObjectEntry.{ObjectEntry}
+use Rattle.record_text.specs.declared.record.ObjectLine.{ObjectLine}
+use Rattle.record_text.specs.declared.record.RunRecord.{RunRecord}
+use Rattle.timer_setting.specs.declared.phase.Phase.{Phase}
+use Rattle.timer_setting.specs.declared.phase.Phase.TheVariants as phases
+use Rattle.timer_setting.specs.StepTables.{AnsweredCall}
+use Rattle.posix_timer.specs.declared.calls.Call as posix_call
+use Rattle.posix_timer.specs.declared.calls.Reply as posix_reply
+use Rattle.posix_timer.specs.States.{PosixTimer}
+use Rattle.posix_timer.specs.Histories as posix
+use Rattle.timer_fd.specs.declared.calls.Call as fd_call
+use Rattle.timer_fd.specs.declared.calls.Reply as fd_reply
+use Rattle.timer_fd.specs.States.{Descriptor}
+use Rattle.timer_fd.specs.Histories as fd
+use Rattle.script_text.specs.declared.script.Kind.{Kind}
+use Rattle.script_text.specs.declared.script.Kind.TheVariants as kinds
+use Rattle.script_text.specs.declared.script.Script.{Script}
+use Rattle.script_text.specs.Declarations.{clock_of}
+use Rattle.run_history.specs.PosixHistories as posix_lines
+use Rattle.run_history.specs.FdHistories as fd_lines
+
+-- an object's lines; none for a timer by itself, and for one that isn't there
+abbrev pub lines_of_object : RunRecord → ℕ → List ObjectLine
+lines_of_object r i = get_or r.objects i []
+
+-- the labels along an object's entries
+abbrev pub object_labels : RunRecord → ℕ → List Label
+object_labels r i = map (λ line. line.label) (lines_of_object r i)
+
+-- an object's entries
+abbrev pub object_entries : RunRecord → ℕ → List ObjectEntry
+object_entries r i = map (λ line. line.entry) (lines_of_object r i)
+
+-- the items that are there
+abbrev pub present : {A : Type 0} → List (Option A) → List A
+present [] = []
+present (None ∷ xs) = present xs
+present (Some x ∷ xs) = x ∷ present xs
+
+-- an object's history, as a POSIX timer's
+abbrev pub posix_history : RunRecord → ℕ → List (AnsweredCall posix_call.Call posix_reply.Reply)
+posix_history r i = present (map (posix_lines.posix_entry r.clock) (object_entries r i))
+
+-- an object's history, as a descriptor's
+abbrev pub fd_history : RunRecord → ℕ → List (AnsweredCall fd_call.Call fd_reply.Reply)
+fd_history r i = present (map (fd_lines.fd_entry r.clock) (object_entries r i))
+
+-- a timer by itself has no object's entries; those of an object are all of its kind, and make a history that one such object gives
+abbrev pub IsLegalObject : Script → RunRecord → ℕ → Kind → Type 0
+IsLegalObject s r i (kinds.Raw context callback) = lines_of_object r i ≡ []
+IsLegalObject s r i (kinds.Posix base) =
+    AllByRecursion (λ e. is_some (posix_lines.posix_entry r.clock e) ≡ true) (object_entries r i)
+    × posix.IsPosixHistory (clock_of s i) base s.limit (posix_history r i)
+IsLegalObject s r i (kinds.Fd base) =
+    AllByRecursion (λ e. is_some (fd_lines.fd_entry r.clock e) ≡ true) (object_entries r i)
+    × fd.IsFdHistory (clock_of s i) base s.limit (fd_history r i)
+
+-- a POSIX timer after its first so many entries
+abbrev pub posix_after : Script → RunRecord → ℕ → ℕ → ℕ → PosixTimer
+posix_after s r i base stamp = posix.posix_state_after (clock_of s i) base s.limit (take stamp (posix_history r i))
+
+-- a descriptor after its first so many entries
+abbrev pub fd_after : Script → RunRecord → ℕ → ℕ → ℕ → Descriptor
+fd_after s r i base stamp = fd.fd_state_after (clock_of s i) base s.limit (take stamp (fd_history r i))
+
+-- how an object has armed its timer: the generation, the clock and the expiry
+pub record ArmedAs : Type 0 where
+  pub generation : ℕ
+  pub clock : ClockId
+  pub expires : ℕ
+
+-- the same, where the phase of an object's timer is that it is armed
+abbrev pub armed_in_phase : Phase → Option ArmedAs
+armed_in_phase phases.Idle = None
+armed_in_phase (phases.Armed generation clock expires) = Some (record { generation = generation; clock = clock; expires = expires })
+armed_in_phase (phases.Expired clock expires) = None
+
+-- how an object of this kind has armed its timer after its first so many entries
+abbrev pub object_armed_after : Script → RunRecord → ℕ → ℕ → Kind → Option ArmedAs
+object_armed_after s r i stamp (kinds.Raw context callback) = None
+object_armed_after s r i stamp (kinds.Posix base) = armed_in_phase (posix_after s r i base stamp).phase
+object_armed_after s r i stamp (kinds.Fd base) = armed_in_phase (fd_after s r i base stamp).phase

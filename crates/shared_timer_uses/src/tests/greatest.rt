@@ -1,0 +1,72 @@
+//! As many bases and as many timers as there may be, with as great a limit.
+ghost use Rattle.std.specs.Prelude.{◌<◌, ◌≤◌};
+
+use super::{assert_equal, kept};
+use hr_timers::{StartAnswer, Timers};
+use ktime::{ClockId, Mode, Reading};
+use std::alloc::{AllocError, Global};
+use std::sync::Wait;
+use std::test::Fail;
+use timer_core::CancelAnswer;
+
+/// The greatest limit on the entries of a timer.
+const LIMIT: u64 = (1 << 48) - 16;
+
+/// Of so many timers starts the last one on the last of so many bases, and cancels it.
+fn start_last<R: Wait>(
+    rt: &R,
+    alloc: Global,
+    bases: u32,
+    count: u32,
+) -> Result<(StartAnswer, CancelAnswer), AllocError>
+    requires bases { (0 < bases) × (bases ≤ 64) }
+    requires timers { (0 < count) × (count ≤ 65536) }
+{
+    let clocks = vec![in alloc; ClockId::Monotonic; count as usize]?;
+    let (timers, mut pass) = Timers::make(alloc, bases, &clocks, LIMIT)?;
+    let (timer, base, now) = (count - 1, bases - 1, Reading::at(0));
+    let started = timers.start(rt, &mut pass, timer, Mode::Abs, 7, base, now);
+    let cancelled = timers.try_to_cancel(rt, &mut pass, timer);
+    timers.close(pass);
+    Ok((started, cancelled))
+}
+
+#[test]
+fn the_last_base_takes_a_timer(rt: HostRuntime) -> Result<(), Fail> {
+    let started = StartAnswer::Started {
+        was_armed: false,
+        generation: 2,
+        outs: 1 << 63,
+        placement: kept(63, 7),
+    };
+    let cancelled = CancelAnswer::Cancelled {
+        generation: 2,
+        number: 3,
+    };
+    assert_equal(
+        &rt,
+        start_last(&rt, rt.alloc(), 64, 1)?,
+        (started, cancelled),
+    );
+    Ok(())
+}
+
+#[test]
+fn the_last_timer_is_started(rt: HostRuntime) -> Result<(), Fail> {
+    let started = StartAnswer::Started {
+        was_armed: false,
+        generation: 1,
+        outs: 0,
+        placement: kept(0, 7),
+    };
+    let cancelled = CancelAnswer::Cancelled {
+        generation: 1,
+        number: 2,
+    };
+    assert_equal(
+        &rt,
+        start_last(&rt, rt.alloc(), 1, 65_536)?,
+        (started, cancelled),
+    );
+    Ok(())
+}
