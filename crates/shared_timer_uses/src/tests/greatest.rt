@@ -4,10 +4,10 @@ ghost use Rattle.std.specs.Prelude.{◌<◌, ◌≤◌};
 use super::{assert_equal, kept};
 use hr_timers::{StartAnswer, Timers};
 use ktime::{ClockId, Mode, Reading};
+use seq_timer::CancelAnswer;
 use std::alloc::{AllocError, Global};
 use std::sync::Wait;
 use std::test::Fail;
-use timer_core::CancelAnswer;
 
 /// The greatest limit on the entries of a timer.
 const LIMIT: u64 = (1 << 48) - 16;
