@@ -1,12 +1,13 @@
 -- What a pass knows of the base that it holds, for the next entry.
 use Rattle.std.proofs.Common.{◌≡◌, ℕ, ◌<◌, ◌+◌, List, [], ◌∷◌, length, ap, sym, ◌∙◌, subst, arith}
 use Rattle.std.specs.Prelude.{slice_index, Some}
+use Rattle.std.proofs.lemmas.List.{get_or-set_same, length-set}
 use Rattle.pass_names.specs.Passes.{Begins}
 use Rattle.atomic_table.specs.Table.{rest}
 use Rattle.seq_timer.specs.Events.{Event}
 use Rattle.base_row.specs.declared.view.Opening.{Opening}
-use Rattle.seq_timer.specs.Steps.{Timer}
-use Rattle.seq_timer.specs.Tables.{timer_at}
+use Rattle.seq_timer.specs.Steps.{Timer, Needs, after, reply_to}
+use Rattle.seq_timer.specs.Tables.{no_timer, timer_at}
 use Rattle.seq_timer.specs.Bases.{IsQueuedAs}
 use Rattle.seq_timer.specs.Contents.{IsContentOf}
 use Rattle.base_row.specs.declared.view.HeldContent.{HeldContent}
@@ -14,7 +15,7 @@ use Rattle.base_row.specs.declared.view.BaseView.{BaseView}
 use Rattle.seq_timer.specs.Systems.{BaseContent, System, IsFresh, IsOn, changed, entries_of}
 use Rattle.base_row.specs.Rules.{now, number_of}
 use Rattle.base_row.specs.Plays.{SeatState, KnowsBases, KnowsOwn, IsResting, EntersAs, carried_slots, FreedBase, Steady, having_freed}
-use Rattle.base_row.specs.Calls.{Appended, timer_seen, LetsGo}
+use Rattle.base_row.specs.Calls.{Appended, AreFresh, LetsGo, MayAppend, stepped, timer_seen}
 use Rattle.seq_timer.proofs.Systems.{shows}
 use Rattle.seq_timer.proofs.Agreement.{agrees}
 use Rattle.seq_timer.proofs.Contents.{IsQueuedAs-from}
@@ -55,6 +56,46 @@ pub room_held : (o : Opening) (v : BaseView BaseContent) (h g : HeldContent Base
     → (t : ℕ) → t < length o.timers → t < length g.content.states
 room_held o v h g about knows held is t within = subst (λ (x : HeldContent BaseContent). t < length x.content.states) (sym is)
     (room o.bases o.timers number_of v h (knows_about o v about knows) held t within)
+
+-- what a held base and one of its timers, which is so, are for the timer's next entry
+pub record IsReady (o : Opening) (v : BaseView BaseContent) (h : HeldContent BaseContent) (t : ℕ) (event : Event) (x : Timer) : Type 0 where
+  pub below : t < length h.content.states
+  pub needs : Needs x event
+  pub queued : IsQueuedAs t x h.content.content
+  pub steps : record h { content = changed t x event h.content } ≡ stepped o v h t event
+  pub replies : reply_to x event ≡ reply_to (timer_seen o v t) event
+
+pub ready : (o : Opening) (v : BaseView BaseContent) (h : HeldContent BaseContent) (t : ℕ) (event : Event) (x : Timer) → v.opening ≡ o → KnowsOwn v
+    → AreFresh o.timers → MayAppend o v h t event → x ≡ timer_seen o v t → IsReady o v h t event x
+ready o v h t event x about knows fresh may is =
+    let known = knows_about o v about knows in
+    let allowed = may.may.allowed in record {
+      below = room o.bases o.timers number_of v h known may.may.held t allowed.within;
+      needs = subst (λ y. Needs y event) (sym is) allowed.needs;
+      queued = subst (λ y. IsQueuedAs t y h.content.content) (sym is)
+          (queued o.bases o.timers number_of v h known may.may.held t allowed.within fresh.each may.may.base);
+      steps = ap (λ y. record h { content = changed t y event h.content }) is;
+      replies = ap (λ y. reply_to y event) is;
+    }
+
+-- a timer that is on the base is ready as the base keeps it
+pub ready_there : (o : Opening) (v : BaseView BaseContent) (h : HeldContent BaseContent) (t : ℕ) (event : Event) → v.opening ≡ o → KnowsOwn v
+    → AreFresh o.timers → MayAppend o v h t event → IsOn h.base (timer_seen o v t) → IsReady o v h t event (timer_at h.content.states t)
+ready_there o v h t event about knows fresh may on = ready o v h t event (timer_at h.content.states t) about knows fresh may
+    (kept_state o.bases o.timers number_of v h (knows_about o v about knows) may.may.held t may.may.allowed.within on)
+
+-- a held base after an entry has a state of each timer, and of the entry's what the entry left
+pub room_stepped : (o : Opening) (v : BaseView BaseContent) (h g : HeldContent BaseContent) (t : ℕ) (event : Event) → g ≡ stepped o v h t event
+    → t < length h.content.states → t < length g.content.states
+unfolding changed
+room_stepped o v h g t event is within = subst (λ (x : HeldContent BaseContent). t < length x.content.states) (sym is)
+    (omega (arith, length-set h.content.states t (after (timer_seen o v t) event), within))
+
+pub state_stepped : (o : Opening) (v : BaseView BaseContent) (h g : HeldContent BaseContent) (t : ℕ) (event : Event) → g ≡ stepped o v h t event
+    → t < length h.content.states → timer_at g.content.states t ≡ after (timer_seen o v t) event
+unfolding changed
+state_stepped o v h g t event is within = ap (λ (x : HeldContent BaseContent). timer_at x.content.states t) is
+    ∙ get_or-set_same h.content.states t (after (timer_seen o v t) event) no_timer within
 
 -- what a seat is like after an entry
 pub record Rested (o : Opening) (h : HeldContent BaseContent) (t : ℕ) (event : Event) (me new : SeatState) : Type 0 where

@@ -10,7 +10,7 @@ use Rattle.seq_timer.specs.declared.system.TimerEntry.{TimerEntry}
 use Rattle.seq_timer.specs.Steps.{Timer, greatest_limit, reply_to}
 use Rattle.seq_timer.specs.Tables.{timer_at}
 use Rattle.seq_timer.specs.Histories as seq
-use Rattle.seq_timer.specs.Systems.{BaseContent, IsFresh, IsOn, entries_of, openings}
+use Rattle.seq_timer.specs.Systems.{BaseContent, IsFresh, IsOn, changed, entries_of, openings}
 use Rattle.base_row.specs.declared.log.Noted.TheVariants as noteds
 use Rattle.base_row.specs.declared.log.Receipt.{Receipt}
 use Rattle.base_row.specs.declared.view.Claimed.{Claimed}
@@ -65,6 +65,10 @@ pub record Appended (o : Opening) (h : HeldContent BaseContent) (t : ℕ) (event
   pub own : entries_of t before ≡ entries_of t v.seen
   pub rest : w ≡ having_entered before (entry_in o v t event) (timer_seen o v t) h (claims_with_event t (timer_seen o v t) event v.claims)
       (carry_after t (timer_seen o v t) event v.carry) v
+
+-- a held base after this entry
+abbrev pub stepped : Opening → BaseView BaseContent → HeldContent BaseContent → ℕ → Event → HeldContent BaseContent
+stepped o v h t event = record h { content = changed t (timer_seen o v t) event h.content }
 
 -- what callers see of what a pass knows
 abbrev pub known_of : BaseView BaseContent → Known TimerEntry Claimed

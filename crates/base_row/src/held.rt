@@ -1,14 +1,16 @@
 //! What a caller holds: a pass, and a base whose lock it has.
 ghost use Rattle.std.specs.Prelude.{◌≡◌, ◌<◌, length};
+ghost use Rattle.seq_timer.specs.Bases.{IsQueuedAs};
 ghost use Rattle.seq_timer.specs.Contents.{running_in};
-ghost use Rattle.seq_timer.specs.Systems.{next_on};
+ghost use Rattle.seq_timer.specs.Steps.{Needs, reply_to};
+ghost use Rattle.seq_timer.specs.Systems.{changed, next_on};
 ghost use Rattle.seq_timer.specs.Tables.{timer_at};
 ghost use Rattle.base_row.specs.Plays.{IsResting, KnowsOwn, carried_slots};
 
 use crate::slot::BaseSlot;
 use crate::steps::BaseSeat;
 use ktime::Reading;
-use seq_timer::{Context, TimerState};
+use seq_timer::{Context, Event, Reply, TimerState};
 use std::marker::Model;
 
 /// The right to call a row, with what its holder knows. It has no bytes and can't be dropped.
@@ -87,10 +89,32 @@ impl HeldBase {
     }
 
     /// A timer as it was when it was last on the base.
-    pub fn state(&self, timer: u32) -> TimerState
+    pub fn state(&self, timer: u32) -> &TimerState
         requires { timer < length self.now.content.states }
-        ensures { result ≡ timer_at self.now.content.states timer }
+        ensures { result.now ≡ timer_at self.now.content.states timer }
     {
         self.slot.state(timer)
+    }
+
+    /// Makes one entry of a timer that is on the base.
+    pub(crate) fn apply(&mut self, timer: u32, event: &Event) -> Reply
+        requires below { timer < length self.old.content.states }
+        requires needs { Needs (timer_at self.old.content.states timer) event.now }
+        requires queued { IsQueuedAs timer (timer_at self.old.content.states timer) self.old.content.content }
+        ensures held { self.new ≡ record self.old { content = changed timer (timer_at self.old.content.states timer) event.now self.old.content } }
+        ensures reply { result ≡ reply_to (timer_at self.old.content.states timer) event.now }
+    {
+        self.slot.apply(timer, event)
+    }
+
+    /// Makes one entry of a timer that comes to the base in this state.
+    pub(crate) fn arrive(&mut self, timer: u32, state: &TimerState, event: &Event) -> Reply
+        requires below { timer < length self.old.content.states }
+        requires needs { Needs state.now event.now }
+        requires queued { IsQueuedAs timer state.now self.old.content.content }
+        ensures held { self.new ≡ record self.old { content = changed timer state.now event.now self.old.content } }
+        ensures reply { result ≡ reply_to state.now event.now }
+    {
+        self.slot.arrive(timer, state, event)
     }
 }

@@ -35,7 +35,7 @@ use timer_word::unpack;
 /// Bases and timers that many threads share.
 #[derive(Drop)]
 pub struct BaseRow {
-    table: Table<BaseCell, SlotView, About, BaseRule, Global>,
+    pub(crate) table: Table<BaseCell, SlotView, About, BaseRule, Global>,
     bases: usize,
 }
 
@@ -96,98 +96,6 @@ impl BaseRow {
             )),
             Err(Refused { slots: _ }) => Err(AllocError),
         }
-    }
-
-    /// Adds an entry of a timer that is on the held base.
-    pub fn append(&self, pass: &mut Pass, held: &mut HeldBase, timer: u32, event: Event) -> Reply
-        requires row { IsBasePassOf self.now pass.old }
-        requires may { MayAppend self.now.about pass.old.knows held.old timer event }
-        requires on { IsOn held.old.base (timer_seen self.now.about pass.old.knows timer) }
-        ensures row { IsBasePassOf self.now pass.new }
-        ensures reply { result ≡ reply_to (timer_seen self.now.about pass.old.knows timer) event }
-        ensures held { pass.new.knows.held ≡ Some held.new }
-        ensures adds { Appended self.now.about held.old timer event pass.old.knows pass.new.knows }
-    {
-        let mut state = self.state(pass, held, timer);
-        self.append_logged(pass, &mut Unlogged, held, timer, &mut state, event)
-    }
-
-    /// Takes a timer off the held base, for another base (`switch_hrtimer_base`). The pass carries it until it arrives there.
-    pub fn out(&self, pass: &mut Pass, held: &mut HeldBase, timer: u32, to: u32) -> TimerState
-        requires row { IsBasePassOf self.now pass.old }
-        requires may { MayAppend self.now.about pass.old.knows held.old timer (events.Out to) }
-        requires on { IsOn held.old.base (timer_seen self.now.about pass.old.knows timer) }
-        ensures row { IsBasePassOf self.now pass.new }
-        ensures held { pass.new.knows.held ≡ Some held.new }
-        ensures adds { Appended self.now.about held.old timer (events.Out to) pass.old.knows pass.new.knows }
-        ensures state { result ≡ timer_seen self.now.about pass.new.knows timer }
-        ensures after { result ≡ after (timer_seen self.now.about pass.old.knows timer) (events.Out to) }
-    {
-        let mut state = self.state(pass, held, timer);
-        let event = Event::Out { base: to };
-        self.append_logged(pass, &mut Unlogged, held, timer, &mut state, event);
-        state
-    }
-
-    /// Starts a timer that the pass carries, on the held base, to which it was sent. `state` is its state as `out` gave it.
-    pub fn arrive(
-        &self,
-        pass: &mut Pass,
-        held: &mut HeldBase,
-        timer: u32,
-        state: TimerState,
-        event: Event,
-    ) -> Reply
-        requires row { IsBasePassOf self.now pass.old }
-        requires may { MayAppend self.now.about pass.old.knows held.old timer event }
-        requires carried { pass.old.knows.carry ≡ Some timer }
-        requires state { state ≡ timer_seen self.now.about pass.old.knows timer }
-        ensures row { IsBasePassOf self.now pass.new }
-        ensures reply { result ≡ reply_to (timer_seen self.now.about pass.old.knows timer) event }
-        ensures held { pass.new.knows.held ≡ Some held.new }
-        ensures adds { Appended self.now.about held.old timer event pass.old.knows pass.new.knows }
-        ensures arrived { pass.new.knows.carry ≡ None }
-    {
-        pass.known();
-        let mut state = state;
-        self.append_logged(pass, &mut Unlogged, held, timer, &mut state, event)
-    }
-
-    /// Adds an entry of a timer whose state the caller knows, and puts its receipt into a sink. The timer is on the held base, or is carried to it.
-    /// The state is stepped as the timer is.
-    pub fn append_logged<S: Sink>(
-        &self,
-        pass: &mut Pass,
-        sink: &mut S,
-        held: &mut HeldBase,
-        timer: u32,
-        state: &mut TimerState,
-        event: Event,
-    ) -> Reply
-        requires row { IsBasePassOf self.now pass.old }
-        requires may { MayAppend self.now.about pass.old.knows held.old timer event }
-        requires state { state.old ≡ timer_seen self.now.about pass.old.knows timer }
-        requires room { 0 < S.room sink.old }
-        ensures row { IsBasePassOf self.now pass.new }
-        ensures reply { result ≡ reply_to (timer_seen self.now.about pass.old.knows timer) event }
-        ensures held { pass.new.knows.held ≡ Some held.new }
-        ensures adds { Appended self.now.about held.old timer event pass.old.knows pass.new.knows }
-        ensures after { state.new ≡ after (timer_seen self.now.about pass.old.knows timer) event }
-        ensures state { state.new ≡ timer_seen self.now.about pass.new.knows timer }
-        ensures logged { sink.new ≡ S.pushed sink.old (own_receipt self.now.about pass.old.knows timer event) }
-        ensures room { S.room sink.old ≤ S.room sink.new + 1 }
-    {
-        pass.known();
-        self.fresh();
-        let old = *state;
-        let reply = state.apply(event);
-        held.slot.step(timer, &old, &event, state);
-        let number = number_of(state);
-        let word = self.word_index(timer);
-        let cells = &self.table.shared;
-        enter::<Brand>(cells, &mut pass.seat, word, timer, number, &event);
-        sink.note(timer, state.stamp(), event, reply);
-        reply
     }
 
     /// Takes a base's lock if it is free: a load of the lock word and at most one exchange of it. It waits for nobody. It answers `None`
@@ -355,12 +263,12 @@ impl BaseRow {
     }
 
     /// The state that a held base keeps of a timer: the timer's, where it says that the timer is on the base.
-    pub fn state(&self, pass: &Pass, held: &HeldBase, timer: u32) -> TimerState
+    pub fn state<'a>(&self, pass: &Pass, held: &'a HeldBase, timer: u32) -> &'a TimerState
         requires row { IsBasePassOf self.now pass.now }
         requires held { pass.now.knows.held ≡ Some held.now }
         requires within { timer < length self.now.about.timers }
-        ensures shown { IsOn held.now.base result → timer_seen self.now.about pass.now.knows timer ≡ result }
-        ensures kept { IsOn held.now.base (timer_seen self.now.about pass.now.knows timer) → result ≡ timer_seen self.now.about pass.now.knows timer }
+        ensures shown { IsOn held.now.base result.now → timer_seen self.now.about pass.now.knows timer ≡ result.now }
+        ensures kept { IsOn held.now.base (timer_seen self.now.about pass.now.knows timer) → result.now ≡ timer_seen self.now.about pass.now.knows timer }
     {
         pass.known();
         held.slot.state(timer)
@@ -385,7 +293,7 @@ impl BaseRow {
     }
 
     /// Which word a timer has.
-    fn word_index(&self, timer: u32) -> usize
+    pub(crate) fn word_index(&self, timer: u32) -> usize
         requires { timer < length self.now.about.timers }
         ensures { result ≡ word_at self.now.about.bases timer }
     {

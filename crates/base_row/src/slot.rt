@@ -1,13 +1,13 @@
 //! What a base's slot has.
 ghost use Rattle.std.specs.Prelude.{◌≡◌, ◌<◌, ◌^◌, length, IfOk};
-ghost use Rattle.seq_timer.specs.Steps.{after};
+ghost use Rattle.seq_timer.specs.Steps.{Needs, reply_to};
 ghost use Rattle.seq_timer.specs.Tables.{timer_at};
 ghost use Rattle.seq_timer.specs.Contents.{running_in};
 ghost use Rattle.seq_timer.specs.Bases.{IsQueuedAs};
 ghost use Rattle.seq_timer.specs.Systems.{changed, next_on, no_base};
 
 use ktime::Reading;
-use seq_timer::{Base, Context, Event, TimerState};
+use seq_timer::{Base, Context, Event, Reply, TimerState};
 use std::alloc::{AllocError, Global};
 use std::marker::Model;
 use timer_tree::TimerTree;
@@ -56,11 +56,11 @@ impl BaseSlot {
     }
 
     /// A timer as it was when it was last there.
-    pub fn state(&self, timer: u32) -> TimerState
+    pub fn state(&self, timer: u32) -> &TimerState
         requires { timer < length self.now.states }
-        ensures { result ≡ timer_at self.now.states timer }
+        ensures { result.now ≡ timer_at self.now.states timer }
     {
-        self.parts.states[timer as usize]
+        &self.parts.states[timer as usize]
     }
 
     /// The timer whose function runs here in this context, with its generation.
@@ -78,15 +78,31 @@ impl BaseSlot {
         parts.base.first(context, &parts.states, reading)
     }
 
-    /// Goes along with an event that has brought a timer of this base from one state to another.
-    pub fn step(&mut self, timer: u32, old: &TimerState, event: &Event, now: &TimerState)
+    /// Makes one entry of a timer that is on this base.
+    pub fn apply(&mut self, timer: u32, event: &Event) -> Reply
         requires below { timer < length self.old.states }
-        requires queued { IsQueuedAs timer old.now self.old.content }
-        requires after { now.now ≡ after old.now event.now }
-        ensures { self.new ≡ changed timer old.now event.now self.old }
+        requires needs { Needs (timer_at self.old.states timer) event.now }
+        requires queued { IsQueuedAs timer (timer_at self.old.states timer) self.old.content }
+        ensures slot { self.new ≡ changed timer (timer_at self.old.states timer) event.now self.old }
+        ensures reply { result ≡ reply_to (timer_at self.old.states timer) event.now }
     {
         let parts = &mut *self.parts;
-        parts.base.step(timer, old, event, now);
-        parts.states[timer as usize] = *now;
+        let state = &mut parts.states[timer as usize];
+        parts.base.apply(timer, state, event)
+    }
+
+    /// Makes one entry of a timer that comes to this base in this state.
+    pub fn arrive(&mut self, timer: u32, state: &TimerState, event: &Event) -> Reply
+        requires below { timer < length self.old.states }
+        requires needs { Needs state.now event.now }
+        requires queued { IsQueuedAs timer state.now self.old.content }
+        ensures slot { self.new ≡ changed timer state.now event.now self.old }
+        ensures reply { result ≡ reply_to state.now event.now }
+    {
+        let parts = &mut *self.parts;
+        let mut state = *state;
+        let reply = parts.base.apply(timer, &mut state, event);
+        parts.states[timer as usize] = state;
+        reply
     }
 }

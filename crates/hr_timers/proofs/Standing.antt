@@ -4,6 +4,7 @@ use Rattle.std.specs.Prelude.{Option, Some, None, Bool}
 use Rattle.std.proofs.lemmas.Bool.{eqb-true, and_parts, true≢false}
 use Rattle.pass_names.specs.Counts.{count}
 use Rattle.seq_timer.specs.declared.event.Moved.{Moved}
+use Rattle.seq_timer.specs.declared.event.Placement.{Placement}
 use Rattle.seq_timer.specs.declared.event.Restarted.{Restarted}
 use Rattle.seq_timer.specs.declared.event.Reply.TheVariants as replies
 use Rattle.base_row.specs.declared.view.Claimed.{Claimed}
@@ -59,6 +60,9 @@ still_runs o u v c fresh is own some looks owns =
       claim_on o v fresh knows c.timer c.generation c.base owns.within stands,
       claim_inside o v fresh knows c.timer c.generation c.base owns.within stands some,
     )
+
+pub start_same : (p q : Placement) (a b : Bool) → replies.Start p a ≡ replies.Start q b → p ≡ q
+start_same p q a b e = cc
 
 pub finish_same : (g h : ℕ) (a b : Restarted) → replies.Finish g a ≡ replies.Finish h b → a ≡ b
 finish_same g h a b e = cc

@@ -7,9 +7,9 @@ ghost use Rattle.seq_timer.specs.declared.answer.CancelAnswer.TheVariants as can
 ghost use Rattle.hr_timers.specs.Calls.{Cancels};
 ghost use Rattle.hr_timers.specs.Logged.{CancelsLogged};
 
-use crate::under_lock::{enter_once, leave, lock_timer};
+use crate::under_lock::{enter_once, leave, lock_timer, state_of};
 use base_row::{BaseRow, HeldBase, Pass, Sink};
-use seq_timer::{CancelAnswer, Event, TimerState};
+use seq_timer::{CancelAnswer, Event};
 use std::sync::Wait;
 
 /// Takes the lock of the timer's base, but where a load shows the timer idle.
@@ -30,8 +30,8 @@ pub fn try_to_cancel<R: Wait, S: Sink>(
     if let Some(stamp) = look_idle(row, pass, timer) {
         return CancelAnswer::Idle { stamp };
     }
-    let (held, state) = lock_timer(rt, row, pass, timer);
-    cancel_held(row, pass, sink, held, timer, state)
+    let held = lock_timer(rt, row, pass, timer);
+    cancel_held(row, pass, sink, held, timer)
 }
 
 /// Answers the stamp of a timer, if one load tells that it is idle.
@@ -56,15 +56,14 @@ pub fn cancel_held<S: Sink>(
     sink: &mut S,
     held: HeldBase,
     timer: u32,
-    state: TimerState,
 ) -> CancelAnswer
     requires holds { HoldsTimer row.now pass.old held timer }
-    requires state { state ≡ timer_seen row.now.about pass.old.knows timer }
     requires room { 0 < S.room sink.old }
     ensures rest { IsAtRest row.now pass.new }
     ensures cancels { CancelsLogged S.pushed row.now.about (known_of pass.old.knows) (known_of pass.new.knows) timer result sink.old sink.new }
     ensures room { S.room sink.old ≤ S.room sink.new + 1 }
 {
+    let state = state_of(row, pass, &held, timer);
     let stamp = state.stamp();
     if let Some(generation) = state.running() {
         leave(row, pass, held, timer);
@@ -75,8 +74,7 @@ pub fn cancel_held<S: Sink>(
         return CancelAnswer::Idle { stamp };
     };
     state.bounded();
-    let mut state = state;
-    enter_once(row, pass, sink, held, timer, &mut state, Event::Cancel);
+    enter_once(row, pass, sink, held, timer, Event::Cancel);
     CancelAnswer::Cancelled {
         generation,
         number: stamp + 1,

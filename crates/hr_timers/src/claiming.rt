@@ -11,7 +11,7 @@ ghost use Rattle.hr_timers.specs.Logged.{ClaimsLogged, FinishesLogged, ForwardsL
 use crate::answer::ClaimAnswer;
 use crate::numbers::ClaimNumbers;
 use crate::tokens::Claim;
-use crate::under_lock::{enter_once, leave, leave_base, lock};
+use crate::under_lock::{enter_once, leave, leave_base, lock, state_of};
 use base_row::{BaseRow, HeldBase, Pass, Sink};
 use ktime::Reading;
 use seq_timer::{Context, Event, Finished, ForwardAnswer, Rearmed, Reply, TimerState};
@@ -74,10 +74,9 @@ fn claim_held<S: Sink>(
 {
     row.fresh();
     pass.known();
-    let mut state = row.state(pass, &held, timer);
-    let (generation, number) = numbers(&state);
+    let (generation, number) = numbers(row.state(pass, &held, timer));
     let event = Event::Claim { base, reading };
-    enter_once(row, pass, sink, held, timer, &mut state, event);
+    enter_once(row, pass, sink, held, timer, event);
     ClaimNumbers {
         timer,
         generation,
@@ -105,21 +104,19 @@ fn hold_claimed<R: Wait>(
     row: &BaseRow,
     pass: &mut Pass,
     claim: ClaimNumbers,
-) -> (HeldBase, TimerState)
+) -> HeldBase
     requires rest { IsAtRest row.now pass.old }
     requires claim { OwnsClaim row.now.about (known_of pass.old.knows) claim }
-    ensures holds { HoldsTimer row.now pass.new result.0 claim.timer }
-    ensures base { result.0.base ≡ claim.base }
-    ensures state { result.1 ≡ timer_seen row.now.about pass.new.knows claim.timer }
-    ensures runs { result.1.running ≡ Some claim.generation }
+    ensures holds { HoldsTimer row.now pass.new result claim.timer }
+    ensures base { result.base ≡ claim.base }
+    ensures runs { (timer_seen row.now.about pass.new.knows claim.timer).running ≡ Some claim.generation }
     ensures looks { Looks pass.old.knows pass.new.knows }
 {
     row.fresh();
     pass.known();
     let held = lock(rt, row, pass, claim.base);
     pass.known();
-    let state = row.state(pass, &held, claim.timer);
-    (held, state)
+    held
 }
 
 /// Ends the run of a claim's function. `restart` is what the function answered.
@@ -138,12 +135,12 @@ pub fn finish<R: Wait, S: Sink>(
     ensures finishes { FinishesLogged S.pushed row.now.about (known_of pass.old.knows) (known_of pass.new.knows) claim restart result sink.old sink.new }
     ensures room { S.room sink.old ≤ S.room sink.new + 1 }
 {
-    let (held, mut state) = hold_claimed(rt, row, pass, claim);
+    let held = hold_claimed(rt, row, pass, claim);
+    let state = state_of(row, pass, &held, claim.timer);
     state.bounded();
     let stamp = state.stamp();
     let event = Event::Finish { restart };
-    let reply = enter_once(row, pass, sink, held, claim.timer, &mut state, event);
-    match reply {
+    match enter_once(row, pass, sink, held, claim.timer, event) {
         Reply::Finish { restarted, .. } => Finished {
             number: stamp + 1,
             rearmed: Rearmed::at(stamp, restarted),
@@ -169,8 +166,8 @@ pub fn forward<R: Wait, S: Sink>(
     ensures forwards { ForwardsLogged S.pushed row.now.about (known_of pass.old.knows) (known_of pass.new.knows) claim reading interval result sink.old sink.new }
     ensures room { S.room sink.old ≤ S.room sink.new + 1 }
 {
-    let (held, state) = hold_claimed(rt, row, pass, claim);
-    forward_held(row, pass, sink, held, claim, state, reading, interval)
+    let held = hold_claimed(rt, row, pass, claim);
+    forward_held(row, pass, sink, held, claim, reading, interval)
 }
 
 /// The same on the held base, which is let go.
@@ -180,20 +177,19 @@ fn forward_held<S: Sink>(
     sink: &mut S,
     held: HeldBase,
     claim: ClaimNumbers,
-    state: TimerState,
     reading: Reading,
     interval: u64,
 ) -> ForwardAnswer
     requires claim { OwnsClaim row.now.about (known_of pass.old.knows) claim }
     requires holds { HoldsTimer row.now pass.old held claim.timer }
     requires base { held.base ≡ claim.base }
-    requires state { state ≡ timer_seen row.now.about pass.old.knows claim.timer }
-    requires runs { state.running ≡ Some claim.generation }
+    requires runs { (timer_seen row.now.about pass.old.knows claim.timer).running ≡ Some claim.generation }
     requires room { 0 < S.room sink.old }
     ensures rest { IsAtRest row.now pass.new }
     ensures forwards { ForwardsLogged S.pushed row.now.about (known_of pass.old.knows) (known_of pass.new.knows) claim reading interval result sink.old sink.new }
     ensures room { S.room sink.old ≤ S.room sink.new + 1 }
 {
+    let state = state_of(row, pass, &held, claim.timer);
     let stamp = state.stamp();
     if stamp >= state.limit() {
         leave(row, pass, held, claim.timer);
@@ -205,10 +201,8 @@ fn forward_held<S: Sink>(
     }
     state.bounded();
     let number = stamp + 1;
-    let mut state = state;
     let event = Event::Forward { reading, interval };
-    let reply = enter_once(row, pass, sink, held, claim.timer, &mut state, event);
-    match reply {
+    match enter_once(row, pass, sink, held, claim.timer, event) {
         Reply::Forward { moved } => ForwardAnswer::Forwarded { number, moved },
         _ => unreachable!(),
     }

@@ -1,6 +1,6 @@
 //! Moving a timer from one base to another: never both locks at once.
 ghost use Rattle.std.specs.Prelude.{◌≡◌, ◌<◌, ◌≤◌, ◌+◌, length, Some, None, [], ◌∷◌, true};
-ghost use Rattle.seq_timer.specs.Steps.{Needs, after};
+ghost use Rattle.seq_timer.specs.Steps.{Needs, after, placement_of};
 ghost use Rattle.seq_timer.specs.declared.event.EventBy.TheVariants.{Out, Start};
 ghost use Rattle.base_row.specs.Calls.{IsBasePassOf, timer_seen};
 ghost use Rattle.hr_timers.specs.Known.{AddsBehind, HoldsTimer, IsAtRest};
@@ -10,10 +10,11 @@ ghost use Rattle.hr_timers.specs.Logged.{IsLogged};
 
 use crate::under_lock::lock;
 use base_row::{BaseRow, HeldBase, Pass, Sink};
-use seq_timer::{Asked, Event, TimerState};
+use seq_timer::{Asked, Event, Placement, Reply, TimerState};
 use std::sync::Wait;
 
-/// Sends a timer from a held base to the one that is asked for, lets the base go, and starts the timer under the other's lock.
+/// Sends a timer from a held base to the one that is asked for, lets the base go, and starts the timer under the other's lock. It tells how the timer
+/// is kept then.
 pub fn move_and_start<R: Wait, S: Sink>(
     rt: &R,
     row: &BaseRow,
@@ -21,80 +22,81 @@ pub fn move_and_start<R: Wait, S: Sink>(
     sink: &mut S,
     held: HeldBase,
     timer: u32,
-    state: &mut TimerState,
     asked: &Asked,
-)
+) -> Placement
     requires holds { HoldsTimer row.now pass.old held timer }
-    requires state { state.old ≡ timer_seen row.now.about pass.old.knows timer }
     requires room { 2 ≤ S.room sink.old }
     requires to { asked.now.base < row.now.about.bases }
     requires needs { Needs (timer_seen row.now.about pass.old.knows timer) (Out asked.now.base) }
     ensures rest { IsAtRest row.now pass.new }
     ensures claims { pass.new.knows.claims ≡ pass.old.knows.claims }
     ensures adds { AddsBehind pass.old.knows pass.new.knows timer (entries_along (timer_seen row.now.about pass.old.knows timer) (Out asked.now.base ∷ Start asked.now ∷ [])) }
-    ensures after { state.new ≡ step_all (timer_seen row.now.about pass.old.knows timer) (Out asked.now.base ∷ Start asked.now ∷ []) }
+    ensures placement { result ≡ placement_of (step_all (timer_seen row.now.about pass.old.knows timer) (Out asked.now.base ∷ Start asked.now ∷ [])) }
     ensures logged { IsLogged S.pushed row.now.about timer pass.old.knows.seen (entries_along (timer_seen row.now.about pass.old.knows timer) (Out asked.now.base ∷ Start asked.now ∷ [])) sink.old sink.new }
     ensures room { S.room sink.old ≤ S.room sink.new + 2 }
 {
-    send(row, pass, sink, held, timer, state, asked.base);
-    bring(rt, row, pass, sink, timer, state, asked);
+    let state = send(row, pass, sink, held, timer, asked.base);
+    bring(rt, row, pass, sink, timer, state, asked)
 }
 
-/// Sends a timer off a held base to another, and lets the base go. The pass carries the timer then.
+/// Sends a timer off a held base to another, and lets the base go. The pass carries the timer then, in the state that it gives.
 fn send<S: Sink>(
     row: &BaseRow,
     pass: &mut Pass,
     sink: &mut S,
     held: HeldBase,
     timer: u32,
-    state: &mut TimerState,
     to: u32,
-)
+) -> TimerState
     requires holds { HoldsTimer row.now pass.old held timer }
-    requires state { state.old ≡ timer_seen row.now.about pass.old.knows timer }
     requires room { 0 < S.room sink.old }
     requires to { to < row.now.about.bases }
     requires needs { Needs (timer_seen row.now.about pass.old.knows timer) (Out to) }
     ensures row { IsBasePassOf row.now pass.new }
     ensures carries { (pass.new.knows.held ≡ None) × (pass.new.knows.carry ≡ Some timer) }
     ensures claims { pass.new.knows.claims ≡ pass.old.knows.claims }
-    ensures after { state.new ≡ after (timer_seen row.now.about pass.old.knows timer) (Out to) }
-    ensures state { state.new ≡ timer_seen row.now.about pass.new.knows timer }
+    ensures after { result ≡ after (timer_seen row.now.about pass.old.knows timer) (Out to) }
+    ensures state { result ≡ timer_seen row.now.about pass.new.knows timer }
     ensures adds { AddsBehind pass.old.knows pass.new.knows timer (entry_by (timer_seen row.now.about pass.old.knows timer) (Out to) ∷ []) }
     ensures logged { IsLogged S.pushed row.now.about timer pass.old.knows.seen (entry_by (timer_seen row.now.about pass.old.knows timer) (Out to) ∷ []) sink.old sink.new }
     ensures room { S.room sink.old ≤ S.room sink.new + 1 }
 {
     row.fresh();
     let mut held = held;
-    row.append_logged(pass, sink, &mut held, timer, state, Event::Out { base: to });
+    let state = row.out_logged(pass, sink, &mut held, timer, to);
     row.unlock_base(pass, held);
+    state
 }
 
-/// Starts a timer that the pass carries on the base that it goes to, under that base's lock.
+/// Starts a timer that the pass carries on the base that it goes to, under that base's lock. It tells how the timer is kept then.
 fn bring<R: Wait, S: Sink>(
     rt: &R,
     row: &BaseRow,
     pass: &mut Pass,
     sink: &mut S,
     timer: u32,
-    state: &mut TimerState,
+    state: TimerState,
     asked: &Asked,
-)
+) -> Placement
     requires row { IsBasePassOf row.now pass.old }
     requires within { (timer < length row.now.about.timers) × (asked.now.base < row.now.about.bases) }
     requires carries { (pass.old.knows.held ≡ None) × (pass.old.knows.carry ≡ Some timer) }
-    requires state { state.old ≡ timer_seen row.now.about pass.old.knows timer }
-    requires moving { (state.old.moving ≡ true) × (state.old.base ≡ asked.now.base) }
+    requires state { state ≡ timer_seen row.now.about pass.old.knows timer }
+    requires moving { (state.moving ≡ true) × (state.base ≡ asked.now.base) }
     requires room { 0 < S.room sink.old }
     ensures rest { IsAtRest row.now pass.new }
     ensures claims { pass.new.knows.claims ≡ pass.old.knows.claims }
-    ensures adds { AddsBehind pass.old.knows pass.new.knows timer (entry_by state.old (Start asked.now) ∷ []) }
-    ensures after { state.new ≡ after state.old (Start asked.now) }
-    ensures logged { IsLogged S.pushed row.now.about timer pass.old.knows.seen (entry_by state.old (Start asked.now) ∷ []) sink.old sink.new }
+    ensures adds { AddsBehind pass.old.knows pass.new.knows timer (entry_by state (Start asked.now) ∷ []) }
+    ensures placement { result ≡ placement_of (after state (Start asked.now)) }
+    ensures logged { IsLogged S.pushed row.now.about timer pass.old.knows.seen (entry_by state (Start asked.now) ∷ []) sink.old sink.new }
     ensures room { S.room sink.old ≤ S.room sink.new + 1 }
 {
     row.fresh();
     let mut held = lock(rt, row, pass, asked.base);
-    row.append_logged(pass, sink, &mut held, timer, state, Event::Start(*asked));
+    let reply = row.arrive_logged(pass, sink, &mut held, timer, state, Event::Start(*asked));
     row.unlock_base(pass, held);
+    match reply {
+        Reply::Start { placement, .. } => placement,
+        _ => unreachable!(),
+    }
 }

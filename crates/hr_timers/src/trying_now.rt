@@ -58,6 +58,5 @@ fn cancel_held_now(
         leave(row, pass, held, timer);
         return NowAnswer::Moving { base };
     }
-    let state = row.state(pass, &held, timer);
-    NowAnswer::Tried(cancel_held(row, pass, &mut Unlogged, held, timer, state))
+    NowAnswer::Tried(cancel_held(row, pass, &mut Unlogged, held, timer))
 }

@@ -34,22 +34,24 @@ pub fn lock<R: Wait>(rt: &R, row: &BaseRow, pass: &mut Pass, base: u32) -> HeldB
     row.lock_base(rt, pass, base)
 }
 
-/// Takes the lock of the base where a timer is, once the timer isn't on the move. It gives the timer's state too.
-pub fn lock_timer<R: Wait>(
-    rt: &R,
-    row: &BaseRow,
-    pass: &mut Pass,
-    timer: u32,
-) -> (HeldBase, TimerState)
+/// The state of a timer that is on a held base.
+pub fn state_of<'a>(row: &BaseRow, pass: &Pass, held: &'a HeldBase, timer: u32) -> &'a TimerState
+    requires holds { HoldsTimer row.now pass.now held.now timer }
+    ensures { result.now ≡ timer_seen row.now.about pass.now.knows timer }
+{
+    row.state(pass, held, timer)
+}
+
+/// Takes the lock of the base where a timer is, once the timer isn't on the move.
+pub fn lock_timer<R: Wait>(rt: &R, row: &BaseRow, pass: &mut Pass, timer: u32) -> HeldBase
     requires rest { IsAtRest row.now pass.old }
     requires timer { timer < length row.now.about.timers }
-    ensures holds { HoldsTimer row.now pass.new result.0 timer }
-    ensures state { result.1 ≡ timer_seen row.now.about pass.new.knows timer }
+    ensures holds { HoldsTimer row.now pass.new result timer }
     ensures looks { Looks pass.old.knows pass.new.knows }
 {
     for _ in Retries::new(rt) {
-        if let Some(locked) = lock_named(rt, row, pass, timer) {
-            return locked;
+        if let Some(held) = lock_named(rt, row, pass, timer) {
+            return held;
         }
     }
     unreachable!()
@@ -61,11 +63,10 @@ fn lock_named<R: Wait>(
     row: &BaseRow,
     pass: &mut Pass,
     timer: u32,
-) -> Option<(HeldBase, TimerState)>
+) -> Option<HeldBase>
     requires rest { IsAtRest row.now pass.old }
     requires timer { timer < length row.now.about.timers }
-    ensures holds { MatchOption result (IsAtRest row.now pass.new) (λ l. HoldsTimer row.now pass.new l.0 timer) }
-    ensures state { MatchOption result Unit (λ l. l.1 ≡ timer_seen row.now.about pass.new.knows timer) }
+    ensures holds { MatchOption result (IsAtRest row.now pass.new) (λ h. HoldsTimer row.now pass.new h timer) }
     ensures looks { Looks pass.old.knows pass.new.knows }
     ensures why { IfNone result (IsHindered row.now.about (known_of pass.old.knows) (known_of pass.new.knows) timer) }
 {
@@ -74,12 +75,11 @@ fn lock_named<R: Wait>(
         return None;
     }
     let held = lock(rt, row, pass, word.base);
-    let state = row.state(pass, &held, timer);
-    if !is_on(&state, word.base) {
+    if !is_on(row.state(pass, &held, timer), word.base) {
         leave(row, pass, held, timer);
         return None;
     }
-    Some((held, state))
+    Some(held)
 }
 
 /// Whether a timer is on a base, and not on the move.
@@ -92,18 +92,16 @@ fn is_on(state: &TimerState, base: u32) -> bool
     !state.is_moving()
 }
 
-/// Adds an entry of a timer that stays on a held base, with its receipt, and lets the base go. The state is stepped as the timer is.
+/// Adds an entry of a timer that stays on a held base, with its receipt, and lets the base go.
 pub fn enter_once<S: Sink>(
     row: &BaseRow,
     pass: &mut Pass,
     sink: &mut S,
     held: HeldBase,
     timer: u32,
-    state: &mut TimerState,
     event: Event,
 ) -> Reply
     requires holds { HoldsTimer row.now pass.old held timer }
-    requires state { state.old ≡ timer_seen row.now.about pass.old.knows timer }
     requires room { 0 < S.room sink.old }
     requires may { MayAppend row.now.about pass.old.knows held timer event }
     requires stays { IsOn held.base (after (timer_seen row.now.about pass.old.knows timer) event) }
@@ -111,13 +109,12 @@ pub fn enter_once<S: Sink>(
     ensures claims { pass.new.knows.claims ≡ claims_with_event timer (timer_seen row.now.about pass.old.knows timer) event pass.old.knows.claims }
     ensures reply { result ≡ reply_to (timer_seen row.now.about pass.old.knows timer) event }
     ensures adds { AddsBehind pass.old.knows pass.new.knows timer (entry_by (timer_seen row.now.about pass.old.knows timer) event ∷ []) }
-    ensures after { state.new ≡ after (timer_seen row.now.about pass.old.knows timer) event }
     ensures logged { IsLogged S.pushed row.now.about timer pass.old.knows.seen (entry_by (timer_seen row.now.about pass.old.knows timer) event ∷ []) sink.old sink.new }
     ensures room { S.room sink.old ≤ S.room sink.new + 1 }
 {
     row.fresh();
     let mut held = held;
-    let reply = row.append_logged(pass, sink, &mut held, timer, state, event);
+    let reply = row.append_logged(pass, sink, &mut held, timer, event);
     row.unlock_base(pass, held);
     reply
 }

@@ -123,5 +123,5 @@ module _ (f g : ℕ → Timer) (id : ℕ) (e : Event) (changes : Changes f g id 
 pub IsQueuedAs-from : (f : ℕ → Timer) (id : ℕ) (c : Content) → IsApart (f id) → IsContentOf f (f id).base c → IsQueuedAs id (f id) c
 IsQueuedAs-from f id c apart here =
     let y = (f id).declared.context in
-    subst (λ t. IsApart t → IsHalfOf (in_context y f) t.base (half_of y c) → IsQueuedIn id t (half_of y c)) (seen_own (f id))
+    subst (λ t. IsApart t → IsHalfOf (in_context y f) t.base (half_of y c) → IsQueuedIn id t.armed t.clock (half_of y c)) (seen_own (f id))
     (IsQueuedIn-from (in_context y f) id (half_of y c)) apart (here.each y)

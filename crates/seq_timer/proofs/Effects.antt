@@ -257,23 +257,23 @@ by_effect t (events.Finish restart) = record {
 
 -- ---- what an effect needs of the bases
 
-module _ (Begins : ClockReading → Type 0) (bases : ℕ) where
+module _ (Suits : ClockReading → Type 0) (bases : ℕ) where
   -- a function begins where none runs
-  pub free_by : (c : Half) → ((reading : ClockReading) → Begins reading → c.running ≡ None) → (f : RunEffect) (sent : Option ℕ)
-      → NeedsOfBases Begins bases f sent → IsFreeFor c f
+  pub free_by : (c : Half) → ((reading : ClockReading) → Suits reading → c.running ≡ None) → (f : RunEffect) (sent : Option ℕ)
+      → NeedsOfBases Suits bases f sent → IsFreeFor c f
   free_by c free functions.Stays sent needs = tt
   free_by c free (functions.Begins reading) sent needs = free reading needs
   free_by c free functions.Ends sent needs = tt
 
   -- an event leaves its timer on one of the bases
-  pub placed_by : (t : Timer) (e : Event) → Needs t e → NeedsOfBases Begins bases (effect t e).function (effect t e).sent → t.base < bases
+  pub placed_by : (t : Timer) (e : Event) → Needs t e → NeedsOfBases Suits bases (effect t e).function (effect t e).sent → t.base < bases
       → (after t e).base < bases
   placed_by t e needs within here = by (effect t e).function (effect t e).sent within ((by_effect t e).needs needs).function (by_effect t e).sent
     where
       same : (base : ℕ) → base < bases → (after t e).base ≡ base → (after t e).base < bases
       same base less is = omega (arith, less, is)
 
-      by : (f : RunEffect) (sent : Option ℕ) → NeedsOfBases Begins bases f sent → RunNeeds f (effect t e).by_claimer t (after t e) → IsSent sent t (after t e)
+      by : (f : RunEffect) (sent : Option ℕ) → NeedsOfBases Suits bases f sent → RunNeeds f (effect t e).by_claimer t (after t e) → IsSent sent t (after t e)
           → (after t e).base < bases
       by functions.Stays None within runs is = same t.base here is.0
       by functions.Stays (Some base) within runs is = same base within is.0

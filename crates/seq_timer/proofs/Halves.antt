@@ -160,7 +160,7 @@ runs_on-same t now (Some base) is needs same = running_on-none t.base now needs.
 running-after : (f g : ℕ → Timer) (id : ℕ) (now : Timer) (c new : Half) (r : RunEffect) (by_claimer : Bool) → Changes f g id now → new.running ≡ c.running
     → now.running ≡ running_afterwards r (f id) → RunNeeds r by_claimer (f id) now → IsFreeFor c r
     → (now.running ≡ (f id).running → running_on (f id).base now ≡ running_on (f id).base (f id))
-    → IsHalfOf f (f id).base c → (other : ℕ) → generation_in other (run_by r id (f id) new).running ≡ running_on (f id).base (g other)
+    → IsHalfOf f (f id).base c → (other : ℕ) → generation_in other (run_by r id (f id).armed new).running ≡ running_on (f id).base (g other)
 running-after f g id now c new functions.Stays by_claimer changes kept running needs free same here other =
     ap (generation_in other) kept ∙ running-same f g id now (f id).base c.running changes here.running (same running) other
 running-after f g id now c new (functions.Begins reading) by_claimer changes kept running needs free same here other =
@@ -182,7 +182,7 @@ IsHalfOf-after f g id e c needs apart free changes here =
     let goes = by_effect (f id) e in
     let allowed = goes.needs needs in
     record {
-      queues = λ clock. subst (IsQueueOf g (f id).base clock) (sym (queue_of-run_by d.function id (f id) (queued_by d.queue id now c) clock))
+      queues = λ clock. subst (IsQueueOf g (f id).base clock) (sym (queue_of-run_by d.function id (f id).armed (queued_by d.queue id now c) clock))
           (queues-after f g id now c d.queue d.sent changes apart goes.armed allowed.queue here clock);
       running = running-after f g id now c (queued_by d.queue id now c) d.function d.by_claimer changes (running-queued id now c d.queue)
           goes.running allowed.function free (runs_on-same (f id) now d.sent goes.sent allowed.sent) here;
@@ -213,18 +213,18 @@ IsHalfOf-elsewhere f g id e base c needs far changes here =
 
 -- ---- what a base that agrees with the timers gives to the next step
 
-queued_wanted : (t : Timer) (clock : ClockId) → IsApart t → is_some (wanted t.base clock t) ≡ is_queued clock t
+queued_wanted : (t : Timer) (clock : ClockId) → IsApart t → is_some (wanted t.base clock t) ≡ is_queued t.armed t.clock clock
 queued_wanted t clock apart = ⊎_elim
     (λ (moves : t.moving ≡ true). let none = (apart moves).0 in grind (arith, nat_tests))
     (λ still. grind (arith, nat_tests))
     (cases_Bool t.moving)
 
-pub IsQueuedIn-from : (f : ℕ → Timer) (id : ℕ) (c : Half) → IsApart (f id) → IsHalfOf f (f id).base c → IsQueuedIn id (f id) c
+pub IsQueuedIn-from : (f : ℕ → Timer) (id : ℕ) (c : Half) → IsApart (f id) → IsHalfOf f (f id).base c → IsQueuedIn id (f id).armed (f id).clock c
 IsQueuedIn-from f id c apart here = record {
   monotonic = has clocks.Monotonic;
   realtime = has clocks.Realtime;
   boottime = has clocks.Boottime;
 }
   where
-    has : (clock : ClockId) → has_id id (queue_of c clock) ≡ is_queued clock (f id)
+    has : (clock : ClockId) → has_id id (queue_of c clock) ≡ is_queued (f id).armed (f id).clock clock
     has clock = has_id-expiry_of id (queue_of c clock) ∙ ap is_some ((here.queues clock).exact id) ∙ queued_wanted (f id) clock apart

@@ -48,10 +48,10 @@ queue_of-with_running running c clocks.Monotonic = refl
 queue_of-with_running running c clocks.Realtime = refl
 queue_of-with_running running c clocks.Boottime = refl
 
-pub queue_of-run_by : (f : RunEffect) (id : ℕ) (t : Timer) (c : Half) (clock : ClockId) → queue_of (run_by f id t c) clock ≡ queue_of c clock
-queue_of-run_by functions.Stays id t c clock = refl
-queue_of-run_by (functions.Begins reading) id t c clock = queue_of-with_running (Some (id, unwrap_or t.armed 0)) c clock
-queue_of-run_by functions.Ends id t c clock = queue_of-with_running None c clock
+pub queue_of-run_by : (f : RunEffect) (id : ℕ) (armed : Option ℕ) (c : Half) (clock : ClockId) → queue_of (run_by f id armed c) clock ≡ queue_of c clock
+queue_of-run_by functions.Stays id armed c clock = refl
+queue_of-run_by (functions.Begins reading) id armed c clock = queue_of-with_running (Some (id, unwrap_or armed 0)) c clock
+queue_of-run_by functions.Ends id armed c clock = queue_of-with_running None c clock
 
 -- nor do the queues say what runs
 pub running-enqueued : (its : ClockId) (expires id : ℕ) (c : Half) → (enqueued its expires id c).running ≡ c.running
@@ -72,15 +72,15 @@ same_queues m m' r r' b b' running em er eb = ap (λ q. content_of q r b running
     ∙ ap (λ q. content_of m' r' q running) eb
 
 -- a timer isn't in the queue of another clock than its own
-away : (id : ℕ) (t : Timer) (its clock : ClockId) (queue : List (ℕ × ℕ)) → t.clock ≡ its → nat_eq (rank its) (rank clock) ≡ false
-    → has_id id queue ≡ is_queued clock t → queue ≡ without id queue
-away id t its clock queue is apart here = sym (without_absent id queue (here ∙ and_right (is_some t.armed) (nat_eq (rank t.clock) (rank clock))
+away : (id : ℕ) (armed : Option ℕ) (kept its clock : ClockId) (queue : List (ℕ × ℕ)) → kept ≡ its → nat_eq (rank its) (rank clock) ≡ false
+    → has_id id queue ≡ is_queued armed kept clock → queue ≡ without id queue
+away id armed kept its clock queue is apart here = sym (without_absent id queue (here ∙ and_right (is_some armed) (nat_eq (rank kept) (rank clock))
     (subst (λ k. nat_eq (rank k) (rank clock) ≡ false) (sym is) apart)))
 
 -- a timer that isn't armed is in none of them
-pub dequeued-unarmed : (id : ℕ) (t : Timer) (c : Half) → IsQueuedIn id t c → is_some t.armed ≡ false → c ≡ dequeued id c
-dequeued-unarmed id t c here none =
-    let off : (clock : ClockId) → is_queued clock t ≡ false = λ clock. and_left (is_some t.armed) (nat_eq (rank t.clock) (rank clock)) none in
+pub dequeued-unarmed : (id : ℕ) (armed : Option ℕ) (kept : ClockId) (c : Half) → IsQueuedIn id armed kept c → is_some armed ≡ false → c ≡ dequeued id c
+dequeued-unarmed id armed kept c here none =
+    let off : (clock : ClockId) → is_queued armed kept clock ≡ false = λ clock. and_left (is_some armed) (nat_eq (rank kept) (rank clock)) none in
     same_queues c.monotonic (without id c.monotonic) c.realtime (without id c.realtime) c.boottime (without id c.boottime) c.running
     (sym (without_absent id c.monotonic (here.monotonic ∙ off clocks.Monotonic)))
     (sym (without_absent id c.realtime (here.realtime ∙ off clocks.Realtime))) (sym (without_absent id c.boottime (here.boottime ∙ off clocks.Boottime)))
@@ -92,21 +92,22 @@ with_queue clocks.Realtime queue c = record c { realtime = queue }
 with_queue clocks.Boottime queue c = record c { boottime = queue }
 
 -- one that is, is in its clock's
-dequeued_there : (id : ℕ) (t : Timer) (its : ClockId) (queue : List (ℕ × ℕ)) (c : Half) → IsQueuedIn id t c → t.clock ≡ its
+dequeued_there : (id : ℕ) (armed : Option ℕ) (kept its : ClockId) (queue : List (ℕ × ℕ)) (c : Half) → IsQueuedIn id armed kept c → kept ≡ its
     → queue ≡ without id (queue_of c its) → with_queue its queue c ≡ dequeued id c
-dequeued_there id t clocks.Monotonic queue c here on off =
+dequeued_there id armed kept clocks.Monotonic queue c here on off =
     same_queues queue (without id c.monotonic) c.realtime (without id c.realtime) c.boottime (without id c.boottime) c.running off
-    (away id t clocks.Monotonic clocks.Realtime c.realtime on refl here.realtime)
-    (away id t clocks.Monotonic clocks.Boottime c.boottime on refl here.boottime)
-dequeued_there id t clocks.Realtime queue c here on off =
+    (away id armed kept clocks.Monotonic clocks.Realtime c.realtime on refl here.realtime)
+    (away id armed kept clocks.Monotonic clocks.Boottime c.boottime on refl here.boottime)
+dequeued_there id armed kept clocks.Realtime queue c here on off =
     same_queues c.monotonic (without id c.monotonic) queue (without id c.realtime) c.boottime (without id c.boottime) c.running
-    (away id t clocks.Realtime clocks.Monotonic c.monotonic on refl here.monotonic) off
-    (away id t clocks.Realtime clocks.Boottime c.boottime on refl here.boottime)
-dequeued_there id t clocks.Boottime queue c here on off =
+    (away id armed kept clocks.Realtime clocks.Monotonic c.monotonic on refl here.monotonic) off
+    (away id armed kept clocks.Realtime clocks.Boottime c.boottime on refl here.boottime)
+dequeued_there id armed kept clocks.Boottime queue c here on off =
     same_queues c.monotonic (without id c.monotonic) c.realtime (without id c.realtime) queue (without id c.boottime) c.running
-    (away id t clocks.Boottime clocks.Monotonic c.monotonic on refl here.monotonic)
-    (away id t clocks.Boottime clocks.Realtime c.realtime on refl here.realtime) off
+    (away id armed kept clocks.Boottime clocks.Monotonic c.monotonic on refl here.monotonic)
+    (away id armed kept clocks.Boottime clocks.Realtime c.realtime on refl here.realtime) off
 
-pub dequeued-armed : (id : ℕ) (t : Timer) (its : ClockId) (queue : List (ℕ × ℕ)) (old c : Half) → old ≡ c → IsQueuedIn id t c → t.clock ≡ its
+pub dequeued-armed : (id : ℕ) (armed : Option ℕ) (kept its : ClockId) (queue : List (ℕ × ℕ)) (old c : Half) → old ≡ c → IsQueuedIn id armed kept c → kept ≡ its
     → queue ≡ without id (queue_of old its) → with_queue its queue old ≡ dequeued id c
-dequeued-armed id t its queue old c is here on off = dequeued_there id t its queue old (subst (IsQueuedIn id t) (sym is) here) on off ∙ ap (dequeued id) is
+dequeued-armed id armed kept its queue old c is here on off =
+    dequeued_there id armed kept its queue old (subst (IsQueuedIn id armed kept) (sym is) here) on off ∙ ap (dequeued id) is

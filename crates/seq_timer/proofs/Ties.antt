@@ -143,7 +143,7 @@ module _ (armed : ℕ → ℕ) (count id : ℕ) (below : (k : ℕ) → armed k �
       → InOrder (if arms t e then later else armed) (queue_of (half_after id t e c) clock)
   order_here t e c clock sorted o =
       let d = effect t e in
-      subst (InOrder (if arms t e then later else armed)) (sym (queue_of-run_by d.function id t (queued_by d.queue id (after t e) c) clock))
+      subst (InOrder (if arms t e then later else armed)) (sym (queue_of-run_by d.function id t.armed (queued_by d.queue id (after t e) c) clock))
       (order_queued d.queue (after t e) c clock sorted o)
 
 -- a timer stands in no queue of another base or another context

@@ -1,5 +1,5 @@
 -- A base: its content and the room of its queues, and how they stand with a timer that is on it.
-use Rattle.std.specs.Prelude.{ℕ, ◌≡◌, Bool, false, ◌&&◌, is_some, nat_eq}
+use Rattle.std.specs.Prelude.{ℕ, ◌≡◌, Bool, false, ◌&&◌, Option, is_some, nat_eq}
 use Rattle.ktime.specs.declared.clock_id.ClockId.{ClockId}
 use Rattle.ktime.specs.declared.clock_id.ClockId.TheVariants as clocks
 use Rattle.timer_queue.specs.Pairs.{has_id}
@@ -34,18 +34,18 @@ empty_half room = record { half = no_half; room = room }
 abbrev pub half_state_after : ℕ → Timer → Event → HalfState → HalfState
 half_state_after id t e h = record h { half = half_after id t e h.half }
 
--- whether a timer stands in a clock's queue of the base that it is on
-abbrev pub is_queued : ClockId → Timer → Bool
-is_queued clock t = is_some t.armed && nat_eq (rank t.clock) (rank clock)
+-- whether a timer that is armed so, and kept on the one clock, stands in the other's queue on its base
+abbrev pub is_queued : Option ℕ → ClockId → ClockId → Bool
+is_queued armed kept clock = is_some armed && nat_eq (rank kept) (rank clock)
 
--- the timer stands in the queues of the base that it is on as it is armed
-pub record IsQueuedIn (id : ℕ) (t : Timer) (c : Half) : Type 0 where
-  pub monotonic : has_id id c.monotonic ≡ is_queued clocks.Monotonic t
-  pub realtime : has_id id c.realtime ≡ is_queued clocks.Realtime t
-  pub boottime : has_id id c.boottime ≡ is_queued clocks.Boottime t
+-- a timer stands in the queues of its base as one that is armed so, and kept on this clock
+pub record IsQueuedIn (id : ℕ) (armed : Option ℕ) (kept : ClockId) (c : Half) : Type 0 where
+  pub monotonic : has_id id c.monotonic ≡ is_queued armed kept clocks.Monotonic
+  pub realtime : has_id id c.realtime ≡ is_queued armed kept clocks.Realtime
+  pub boottime : has_id id c.boottime ≡ is_queued armed kept clocks.Boottime
 
 abbrev pub IsQueuedAs : ℕ → Timer → Content → Type 0
-IsQueuedAs id t c = IsQueuedIn id t (half_of t.declared.context c)
+IsQueuedAs id t c = IsQueuedIn id t.armed t.clock (half_of t.declared.context c)
 
 -- the timer stands in none of the queues
 pub record IsInNone (id : ℕ) (c : Half) : Type 0 where

@@ -27,7 +27,7 @@ effect t (events.Claim base reading) = record no_effect { queue = queues.Leaves;
 effect t (events.Forward reading interval) = record no_effect { by_claimer = true }
 effect t (events.Finish restart) = record no_effect { queue = restart_effect t restart; function = functions.Ends; by_claimer = true }
 
--- whether a timer is armed
+-- whether an event arms its timer
 abbrev pub is_arming : QueueEffect → Bool
 is_arming queues.Stays = false
 is_arming queues.Leaves = false
@@ -38,9 +38,8 @@ abbrev pub IsSentWithin : ℕ → Option ℕ → Type 0
 IsSentWithin bases None = Unit {0}
 IsSentWithin bases (Some base) = base < bases
 
--- what an effect needs of the bases, of which there are so many: where a function begins, this holds of the reading; else a timer that is sent is sent to
--- one of them
+-- what an effect needs of the bases, of which there are so many: a function begins at a reading that suits; a timer is sent to one of the bases
 abbrev pub NeedsOfBases : (ClockReading → Type 0) → ℕ → RunEffect → Option ℕ → Type 0
-NeedsOfBases Begins bases functions.Stays sent = IsSentWithin bases sent
-NeedsOfBases Begins bases (functions.Begins reading) sent = Begins reading
-NeedsOfBases Begins bases functions.Ends sent = IsSentWithin bases sent
+NeedsOfBases Suits bases functions.Stays sent = IsSentWithin bases sent
+NeedsOfBases Suits bases (functions.Begins reading) sent = Suits reading
+NeedsOfBases Suits bases functions.Ends sent = IsSentWithin bases sent

@@ -69,15 +69,15 @@ queued_by queues.Stays id t c = c
 queued_by queues.Leaves id t c = dequeued id c
 queued_by queues.Armed id t c = requeued id t c
 
--- what runs, by what becomes of a timer's function; the timer was so before
-abbrev pub run_by : RunEffect → ℕ → Timer → Half → Half
-run_by functions.Stays id t c = c
-run_by (functions.Begins reading) id t c = with_running (Some (id, unwrap_or t.armed 0)) c
-run_by functions.Ends id t c = with_running None c
+-- what runs, by what becomes of a timer's function; this generation was armed before
+abbrev pub run_by : RunEffect → ℕ → Option ℕ → Half → Half
+run_by functions.Stays id armed c = c
+run_by (functions.Begins reading) id armed c = with_running (Some (id, unwrap_or armed 0)) c
+run_by functions.Ends id armed c = with_running None c
 
 -- what the base that the timer is on before the event has, after it
 abbrev pub half_after : ℕ → Timer → Event → Half → Half
-half_after id t e c = run_by (effect t e).function id t (queued_by (effect t e).queue id (after t e) c)
+half_after id t e c = run_by (effect t e).function id t.armed (queued_by (effect t e).queue id (after t e) c)
 
 -- a function begins where none runs
 abbrev pub IsFreeFor : Half → RunEffect → Type 0

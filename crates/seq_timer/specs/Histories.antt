@@ -55,14 +55,12 @@ Holds t seen.Spent = t.terms.limit ≤ t.stamp
 abbrev pub HoldsAt : Declared → Terms → List Entry → ℕ → Observation → Type 0
 HoldsAt declared terms history stamp observation = Holds (state_after declared terms (take stamp history)) observation
 
--- the generation that a claim answers, that a cancel does, and that a finish does
+-- the generation that a claim answers, that a cancel does, and that a finish does; the other events answer none
 abbrev pub told_in : Reply → Option ℕ × Option ℕ × Option ℕ
 told_in (replies.Claim generation) = (Some generation, None, None)
 told_in (replies.Cancel generation) = (None, Some generation, None)
 told_in (replies.Finish generation restarted) = (None, None, Some generation)
-told_in (replies.Out was_armed) = (None, None, None)
-told_in (replies.Start placement was_armed) = (None, None, None)
-told_in (replies.Forward moved) = (None, None, None)
+told_in other = (None, None, None)
 
 abbrev pub claim_in : Reply → Option ℕ
 claim_in reply = (told_in reply).0

@@ -45,7 +45,7 @@ pub enum Rearmed {
 }
 
 impl Rearmed {
-    /// How a finish answers, whose entry stands behind so many.
+    /// How a finish answers whose entry is the one after so many.
     pub fn at(stamp: u64, restarted: Restarted) -> Rearmed
         ensures { result ≡ rearmed_at stamp restarted }
     {

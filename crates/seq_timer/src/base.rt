@@ -2,11 +2,11 @@
 ghost use Rattle.std.specs.Prelude.{◌≡◌, ◌<◌, ◌≤◌, IfOk, length};
 ghost use Rattle.seq_timer.specs.Bases.{BaseState, IsQueuedAs, base_after, empty_base};
 ghost use Rattle.seq_timer.specs.Contents.{first_due, running_in};
-ghost use Rattle.seq_timer.specs.Steps.{after};
+ghost use Rattle.seq_timer.specs.Steps.{Needs, after, reply_to};
 ghost use Rattle.seq_timer.specs.Tables.{timer_at};
 
 use crate::context::Context;
-use crate::event::Event;
+use crate::event::{Event, Reply};
 use crate::half::Half;
 use crate::timer_state::TimerState;
 use ktime::Reading;
@@ -67,16 +67,19 @@ impl<Q: Queue> Base<Q> {
         }
     }
 
-    /// Goes along with an event that has brought a timer of this base from one state to another.
-    pub fn step(&mut self, id: u32, old: &TimerState, event: &Event, now: &TimerState)
-        requires queued { IsQueuedAs id old.now self.old.content }
+    /// Makes one entry of a timer that is on this base: steps the timer, and the base with it.
+    #[inline]
+    pub fn apply(&mut self, id: u32, timer: &mut TimerState, event: &Event) -> Reply
+        requires needs { Needs timer.old event.now }
+        requires queued { IsQueuedAs id timer.old self.old.content }
         requires below { id < self.old.room }
-        requires after { now.now ≡ after old.now event.now }
-        ensures { self.new ≡ base_after id old.now event.now self.old }
+        ensures base { self.new ≡ base_after id timer.old event.now self.old }
+        ensures timer { timer.new ≡ after timer.old event.now }
+        ensures reply { result ≡ reply_to timer.old event.now }
     {
-        match old.declared().context {
-            Context::Hard => self.hard.step(id, old, event, now),
-            Context::Soft => self.soft.step(id, old, event, now),
+        match timer.declared().context {
+            Context::Hard => self.hard.apply(id, timer, event),
+            Context::Soft => self.soft.apply(id, timer, event),
         }
     }
 }

@@ -1,9 +1,9 @@
-//! What an event does, as data: by it go the base that the timer is on, and who makes the event.
-ghost use Rattle.std.specs.Prelude.{◌≡◌};
-ghost use Rattle.seq_timer.specs.Effects.{effect, restart_effect};
+//! What an event does, as data: to its timer's queue, to its timer's function, where it sends the timer, and who makes it.
+ghost use Rattle.std.specs.Prelude.{◌≡◌, Some, true};
+ghost use Rattle.seq_timer.specs.declared.effect.QueueEffect.TheVariants as queues;
+ghost use Rattle.seq_timer.specs.declared.effect.RunEffect.TheVariants as functions;
+ghost use Rattle.seq_timer.specs.Effects.{no_effect};
 
-use crate::event::Event;
-use crate::timer_state::TimerState;
 use ktime::Reading;
 
 /// What becomes of a timer in its queue.
@@ -35,63 +35,55 @@ pub struct Effect {
     pub function: RunEffect,
     /// The base that the timer is sent to.
     pub sent: Option<u32>,
-    /// Whether it is made by who has claimed the timer.
+    /// Whether only who has claimed the timer makes it.
     pub by_claimer: bool,
 }
 
 impl Effect {
-    /// What an event does to a timer, which was so.
+    /// Of the queue alone.
     #[inline]
-    pub fn of(timer: &TimerState, event: &Event) -> Effect
-        ensures { result ≡ effect timer.now event.now }
+    pub(crate) fn queue(queue: QueueEffect) -> Effect
+        ensures { result ≡ record no_effect { queue = queue } }
     {
-        let stays = Effect {
-            queue: QueueEffect::Stays,
+        Effect {
+            queue,
             function: RunEffect::Stays,
             sent: None,
             by_claimer: false,
-        };
-        match *event {
-            Event::Out { base } => Effect {
-                queue: QueueEffect::Leaves,
-                sent: Some(base),
-                ..stays
-            },
-            Event::Start(_) => Effect {
-                queue: QueueEffect::Armed,
-                ..stays
-            },
-            Event::Cancel => Effect {
-                queue: QueueEffect::Leaves,
-                ..stays
-            },
-            Event::Claim { reading, .. } => Effect {
-                queue: QueueEffect::Leaves,
-                function: RunEffect::Begins { reading },
-                ..stays
-            },
-            Event::Forward { .. } => Effect {
-                by_claimer: true,
-                ..stays
-            },
-            Event::Finish { restart } => Effect {
-                queue: restart_effect(timer, restart),
-                function: RunEffect::Ends,
-                by_claimer: true,
-                ..stays
-            },
         }
     }
-}
 
-/// What a finish does to its timer in the queue.
-#[inline]
-fn restart_effect(timer: &TimerState, restart: bool) -> QueueEffect
-    ensures { result ≡ restart_effect timer.now restart }
-{
-    if restart && timer.armed().is_none() && timer.stamp() < timer.limit() {
-        QueueEffect::Armed
-    } else {
-        QueueEffect::Stays
+    /// The timer leaves its queue, and is sent to a base.
+    #[inline]
+    pub(crate) fn sends(base: u32) -> Effect
+        ensures { result ≡ record no_effect { queue = queues.Leaves; sent = Some base } }
+    {
+        Effect {
+            sent: Some(base),
+            ..Effect::queue(QueueEffect::Leaves)
+        }
+    }
+
+    /// The timer leaves its queue, and its function begins.
+    #[inline]
+    pub(crate) fn begins(reading: Reading) -> Effect
+        ensures { result ≡ record no_effect { queue = queues.Leaves; function = functions.Begins reading } }
+    {
+        Effect {
+            function: RunEffect::Begins { reading },
+            ..Effect::queue(QueueEffect::Leaves)
+        }
+    }
+
+    /// By who has claimed the timer.
+    #[inline]
+    pub(crate) fn by_claimer(queue: QueueEffect, function: RunEffect) -> Effect
+        ensures { result ≡ record no_effect { queue = queue; function = function; by_claimer = true } }
+    {
+        Effect {
+            function,
+            by_claimer: true,
+            ..Effect::queue(queue)
+        }
     }
 }

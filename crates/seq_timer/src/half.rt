@@ -2,11 +2,11 @@
 ghost use Rattle.std.specs.Prelude.{◌≡◌, ◌<◌, ◌≤◌, ℕ, IfOk, length};
 ghost use Rattle.seq_timer.specs.Bases.{HalfState, IsInNone, IsQueuedIn, half_state_after, empty_half};
 ghost use Rattle.seq_timer.specs.Halves.{dequeued, enqueued, first_in, queued_by, reached, requeued, run_by};
-ghost use Rattle.seq_timer.specs.Steps.{after};
+ghost use Rattle.seq_timer.specs.Steps.{Needs, after, reply_to};
 ghost use Rattle.seq_timer.specs.Tables.{timer_at};
 
-use crate::effect::{Effect, QueueEffect, RunEffect};
-use crate::event::Event;
+use crate::effect::{QueueEffect, RunEffect};
+use crate::event::{Event, Reply};
 use crate::timer_state::TimerState;
 use ktime::{ClockId, Reading};
 use std::alloc::{AllocError, Global};
@@ -66,65 +66,79 @@ impl<Q: Queue> Half<Q> {
         first.or(second.or(third))
     }
 
-    /// Goes along with an event that has brought a timer of this base from one state to another.
-    pub fn step(&mut self, id: u32, old: &TimerState, event: &Event, now: &TimerState)
-        requires queued { IsQueuedIn id old.now self.old.half }
+    /// Makes one entry of a timer of this base: steps the timer, and its queue and what runs here with it.
+    #[inline]
+    pub fn apply(&mut self, id: u32, timer: &mut TimerState, event: &Event) -> Reply
+        requires needs { Needs timer.old event.now }
+        requires queued { IsQueuedIn id timer.old.armed timer.old.clock self.old.half }
         requires below { id < self.old.room }
-        requires after { now.now ≡ after old.now event.now }
-        ensures { self.new ≡ half_state_after id old.now event.now self.old }
+        ensures half { self.new ≡ half_state_after id timer.old event.now self.old }
+        ensures timer { timer.new ≡ after timer.old event.now }
+        ensures reply { result ≡ reply_to timer.old event.now }
     {
-        let effect = Effect::of(old, event);
-        self.queue_by(effect.queue, id, old, now);
-        self.run_by(effect.function, id, old);
+        let (armed, clock) = (timer.armed(), timer.clock());
+        let (reply, effect) = timer.step(event);
+        self.queue_by(effect.queue, id, armed, clock, timer);
+        self.run_by(effect.function, id, armed);
+        reply
     }
 
     /// Takes a timer off its queue, or puts it anew where its state now says, as an event has it.
-    fn queue_by(&mut self, effect: QueueEffect, id: u32, old: &TimerState, now: &TimerState)
-        requires queued { IsQueuedIn id old.now self.old.half }
+    #[inline]
+    fn queue_by(
+        &mut self,
+        effect: QueueEffect,
+        id: u32,
+        armed: Option<u64>,
+        clock: ClockId,
+        now: &TimerState,
+    )
+        requires queued { IsQueuedIn id armed clock self.old.half }
         requires below { id < self.old.room }
         ensures half { self.new.half ≡ queued_by effect id now.now self.old.half }
         ensures room { self.new.room ≡ self.old.room }
     {
         match effect {
             QueueEffect::Stays => {}
-            QueueEffect::Leaves => self.dequeue(id, old),
-            QueueEffect::Armed => self.requeue(id, old, now),
+            QueueEffect::Leaves => self.dequeue(id, armed, clock),
+            QueueEffect::Armed => self.requeue(id, armed, clock, now),
         }
     }
 
     /// Notes that a timer's function begins here or ends, as an event has it.
-    fn run_by(&mut self, effect: RunEffect, id: u32, old: &TimerState)
-        ensures half { self.new.half ≡ run_by effect id old.now self.old.half }
+    #[inline]
+    fn run_by(&mut self, effect: RunEffect, id: u32, armed: Option<u64>)
+        ensures half { self.new.half ≡ run_by effect id armed self.old.half }
         ensures room { self.new.room ≡ self.old.room }
     {
         match effect {
             RunEffect::Stays => {}
-            RunEffect::Begins { .. } => self.running = Some((id, old.armed().unwrap_or(0))),
+            RunEffect::Begins { .. } => self.running = Some((id, armed.unwrap_or(0))),
             RunEffect::Ends => self.running = None,
         }
     }
 
     /// Takes a timer off its queue, if it is in one, and puts it where its state now says.
-    fn requeue(&mut self, id: u32, old: &TimerState, now: &TimerState)
-        requires queued { IsQueuedIn id old.now self.old.half }
+    fn requeue(&mut self, id: u32, armed: Option<u64>, clock: ClockId, now: &TimerState)
+        requires queued { IsQueuedIn id armed clock self.old.half }
         requires below { id < self.old.room }
         ensures half { self.new.half ≡ requeued id now.now self.old.half }
         ensures room { self.new.room ≡ self.old.room }
     {
-        self.dequeue(id, old);
+        self.dequeue(id, armed, clock);
         self.enqueue(id, now.clock(), now.expires());
     }
 
     /// Takes a timer off its queue, if it is in one.
-    fn dequeue(&mut self, id: u32, timer: &TimerState)
-        requires queued { IsQueuedIn id timer.now self.old.half }
+    fn dequeue(&mut self, id: u32, armed: Option<u64>, clock: ClockId)
+        requires queued { IsQueuedIn id armed clock self.old.half }
         ensures half { self.new.half ≡ dequeued id self.old.half }
         ensures room { self.new.room ≡ self.old.room }
     {
-        if timer.armed().is_none() {
+        if armed.is_none() {
             return;
         }
-        match timer.clock() {
+        match clock {
             ClockId::Monotonic => self.monotonic.erase(id),
             ClockId::Realtime => self.realtime.erase(id),
             ClockId::Boottime => self.boottime.erase(id),

@@ -1,11 +1,15 @@
 //! One timer as a state that events step.
-ghost use Rattle.std.specs.Prelude.{◌≡◌, ◌≤◌, ◌<◌, ◌⊎◌, ◌+◌, ◌*◌, IfOk, IsSome, length, true};
+ghost use Rattle.std.specs.Prelude.{◌≡◌, ◌≤◌, ◌<◌, ◌⊎◌, ◌+◌, ◌*◌, IfOk, IsSome, IsNone, None, unwrap_or, length, true};
 ghost use Rattle.ktime.specs.Times.{sat, step_of};
+ghost use Rattle.seq_timer.specs.declared.event.EventBy.TheVariants as events;
+ghost use Rattle.seq_timer.specs.declared.event.Reply.TheVariants as replies;
+ghost use Rattle.seq_timer.specs.Effects.{effect, restart_effect};
 ghost use Rattle.seq_timer.specs.Histories.{peek_of};
 ghost use Rattle.seq_timer.specs.Steps.{Timer, IsBounded, Needs, after, placement_of, finish_reply, finished, forward_reply, forwarded, greatest_limit, opening, reply_to, start_reply, started};
 ghost use Rattle.seq_timer.specs.Systems.{openings};
 
 use crate::context::{Declared, Terms};
+use crate::effect::{Effect, QueueEffect, RunEffect};
 use crate::event::{Asked, Event, Moved, Placement, Reply, Restarted};
 use crate::observation::Peek;
 use ktime::{ClockId, Forwarded, LAST_TIME, Mode, Reading, effective, forward, sat_add};
@@ -160,32 +164,72 @@ impl TimerState {
         ensures state { self.new ≡ after self.old event }
         ensures reply { result ≡ reply_to self.old event }
     {
-        let number = self.stamp + 1;
-        let was_armed = self.armed.is_some();
-        let generation = self.armed.unwrap_or(0);
-        match event {
-            Event::Out { base } => {
-                self.placement.base = base;
-                self.armed = None;
-                self.moving = true;
-                self.stamp = number;
-                Reply::Out { was_armed }
+        let (reply, _) = self.step(&event);
+        reply
+    }
+
+    /// The same, and tells what the event does.
+    #[inline]
+    pub(crate) fn step(&mut self, event: &Event) -> (Reply, Effect)
+        requires allowed { Needs self.old event.now }
+        ensures state { self.new ≡ after self.old event.now }
+        ensures reply { result.0 ≡ reply_to self.old event.now }
+        ensures effect { result.1 ≡ effect self.old event.now }
+    {
+        match *event {
+            Event::Out { base } => (self.out(base), Effect::sends(base)),
+            Event::Start(asked) => (self.start(&asked), Effect::queue(QueueEffect::Armed)),
+            Event::Cancel => (self.cancel(), Effect::queue(QueueEffect::Leaves)),
+            Event::Claim { reading, .. } => (self.claim(), Effect::begins(reading)),
+            Event::Forward { reading, interval } => {
+                let by = Effect::by_claimer(QueueEffect::Stays, RunEffect::Stays);
+                (self.forward(reading, interval), by)
             }
-            Event::Start(asked) => self.start(&asked),
-            Event::Cancel => {
-                self.armed = None;
-                self.stamp = number;
-                Reply::Cancel { generation }
+            Event::Finish { restart } => {
+                let (reply, queue) = self.finish(restart);
+                (reply, Effect::by_claimer(queue, RunEffect::Ends))
             }
-            Event::Claim { .. } => {
-                self.running = self.armed;
-                self.armed = None;
-                self.stamp = number;
-                Reply::Claim { generation }
-            }
-            Event::Forward { reading, interval } => self.forward(reading, interval),
-            Event::Finish { restart } => self.finish(restart),
         }
+    }
+
+    /// Sends the timer to a base, and answers for the move.
+    fn out(&mut self, base: u32) -> Reply
+        requires allowed { Needs self.old (events.Out base) }
+        ensures state { self.new ≡ after self.old (events.Out base) }
+        ensures reply { result ≡ reply_to self.old (events.Out base) }
+    {
+        let was_armed = self.armed.is_some();
+        self.placement.base = base;
+        self.armed = None;
+        self.moving = true;
+        self.stamp += 1;
+        Reply::Out { was_armed }
+    }
+
+    /// Disarms the timer, and answers for the cancel.
+    fn cancel(&mut self) -> Reply
+        requires allowed { Needs self.old events.Cancel }
+        ensures state { self.new ≡ after self.old events.Cancel }
+        ensures reply { result ≡ reply_to self.old events.Cancel }
+    {
+        let generation = self.armed.unwrap_or(0);
+        self.armed = None;
+        self.stamp += 1;
+        Reply::Cancel { generation }
+    }
+
+    /// Begins the run of the armed generation's function, and answers for the claim.
+    fn claim(&mut self) -> Reply
+        requires armed { IsSome self.old.armed }
+        requires idle { IsNone self.old.running }
+        ensures state { self.new ≡ record self.old { armed = None; running = self.old.armed; stamp = self.old.stamp + 1 } }
+        ensures reply { result ≡ replies.Claim (unwrap_or self.old.armed 0) }
+    {
+        let generation = self.armed.unwrap_or(0);
+        self.running = self.armed;
+        self.armed = None;
+        self.stamp += 1;
+        Reply::Claim { generation }
     }
 
     /// Arms the timer, and answers for the start.
@@ -235,11 +279,12 @@ impl TimerState {
         Reply::Forward { moved }
     }
 
-    /// Ends the run of the timer's function, and answers for the finish.
-    fn finish(&mut self, restart: bool) -> Reply
+    /// Ends the run of the timer's function, and answers for the finish and what it does in the queue.
+    fn finish(&mut self, restart: bool) -> (Reply, QueueEffect)
         requires running { IsSome self.old.running }
         ensures state { self.new ≡ finished self.old restart }
-        ensures reply { result ≡ finish_reply self.old restart }
+        ensures reply { result.0 ≡ finish_reply self.old restart }
+        ensures queue { result.1 ≡ restart_effect self.old restart }
     {
         let generation = self.running.unwrap_or(0);
         let number = self.stamp + 1;
@@ -250,15 +295,19 @@ impl TimerState {
         } else {
             Restarted::Spent
         };
-        if let Restarted::Again { generation } = restarted {
+        let queue = if let Restarted::Again { generation } = restarted {
             self.armed = Some(generation);
-        }
+            QueueEffect::Armed
+        } else {
+            QueueEffect::Stays
+        };
         self.running = None;
         self.stamp = number;
-        Reply::Finish {
+        let reply = Reply::Finish {
             generation,
             restarted,
-        }
+        };
+        (reply, queue)
     }
 }
 

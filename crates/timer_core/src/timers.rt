@@ -165,7 +165,7 @@ impl<Q: Queue> Core<Q> {
     }
 }
 
-/// Makes one entry of a timer: the timer steps, and the base that it is on before goes along.
+/// Makes one entry of a timer: steps it, and the base that it is on before.
 fn enter<Q: Queue>(
     timers: &mut Vec<TimerState>,
     bases: &mut Vec<Base<Q>>,
@@ -179,20 +179,7 @@ fn enter<Q: Queue>(
     ensures kept { record { timers = timers.new.items; bases = bases.new.items } ≡ after_event (record { timers = timers.old.items; bases = bases.old.items }) id event }
     ensures reply { result ≡ reply_to (timer_at timers.old.items id) event }
 {
-    let old = timers[id as usize];
-    let (now, reply) = stepped(&old, event);
-    timers[id as usize] = now;
-    let base = &mut bases[old.base() as usize];
-    base.step(id, &old, &event, &now);
-    reply
-}
-
-/// A timer after an event, and the reply.
-fn stepped(timer: &TimerState, event: Event) -> (TimerState, Reply)
-    requires { Needs timer.now event }
-    ensures { result ≡ (after timer.now event, reply_to timer.now event) }
-{
-    let mut now = *timer;
-    let reply = now.apply(event);
-    (now, reply)
+    let timer = &mut timers[id as usize];
+    let base = &mut bases[timer.base() as usize];
+    base.apply(id, timer, &event)
 }

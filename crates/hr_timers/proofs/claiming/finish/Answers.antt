@@ -13,23 +13,23 @@ returns-clause-finishes g c =
     let o = c.args.row.now.about in
     let u = c.args.pass.now.knows in
     let v = c.hold_claimed-held.new.pass.knows in
-    let w = c.enter_once-reply.new.pass.knows in
+    let w = c.enter_once.new.pass.knows in
     let h = c.hold_claimed-held.ensures in
-    let runs = ap (λ (t : Timer). t.running) (sym h.state) ∙ h.runs in
+    let runs = h.runs in
     let base = h.holds.on.at ∙ h.base in
-    let stamp = c.stamp-stamp.ensures ∙ ap (λ (t : Timer). t.stamp) h.state in
+    let stamp = c.stamp-stamp.ensures ∙ ap (λ (t : Timer). t.stamp) c.state_of-state.ensures in
     record {
       finishes = record {
         at = v.seen;
-        made = made_then u v w c.args.claim.timer _ h.looks c.enter_once-reply.ensures.adds;
+        made = made_then u v w c.args.claim.timer _ h.looks c.enter_once.ensures.adds;
         runs = runs;
         base = base;
         number = ap (λ n. n + 1) stamp;
         rearmed = c.at.ensures ∙ (λ i. rearmed_at (stamp i) (finish_same _ _ _ _ c.in-Finish.ensures.reply i));
-        claims = c.enter_once-reply.ensures.claims
+        claims = c.enter_once.ensures.claims
             ∙ (ap (λ r. without_first (is_base_claim c.args.claim.timer (unwrap_or r 0) (timer_seen o v c.args.claim.timer).base) v.claims) runs
             ∙ (ap (λ b. without_first (is_base_claim c.args.claim.timer c.args.claim.generation b) v.claims) base
             ∙ ap (without_first (is_base_claim c.args.claim.timer c.args.claim.generation c.args.claim.base)) h.looks.claims));
       };
-      logged = c.enter_once-reply.ensures.logged;
+      logged = c.enter_once.ensures.logged;
     }

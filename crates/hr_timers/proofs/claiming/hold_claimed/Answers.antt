@@ -30,10 +30,6 @@ returns-clause-holds g c =
       on = subst (λ b. IsOn b (timer_seen o v c.args.claim.timer)) (sym c.lock-held.ensures.at) told.1;
     }
 
-pub returns-clause-state : goal.returns-clause-state
-returns-clause-state g c = c.state-state.ensures.kept (returns-clause-holds g c).on
-
 pub returns-clause-runs : goal.returns-clause-runs
-returns-clause-runs g c = ap (λ (t : Timer). t.running) (returns-clause-state g c)
-    ∙ (still_runs c.args.row.now.about c.args.pass.now.knows c.lock-held.new.pass.knows c.args.claim c.fresh.ensures.fresh
+returns-clause-runs g c = (still_runs c.args.row.now.about c.args.pass.now.knows c.lock-held.new.pass.knows c.args.claim c.fresh.ensures.fresh
     c.lock-held.ensures.row.about c.known-2.ensures c.fresh.ensures.some c.lock-held.ensures.looks c.requires.claim).0

@@ -11,9 +11,9 @@ returns-clause-logged g c =
     let put = g.S.Sink.pushed in
     let o = c.args.row.now.about in
     let v = c.args.pass.now.knows in
-    let w = c.send.new.pass.knows in
-    let told = c.send.ensures in
+    let w = c.send-state.new.pass.knows in
+    let told = c.send-state.ensures in
     let event = Start c.args.asked.now in
-    logged_both put o c.args.timer c.args.asked.now.base v.seen w.seen event c.args.sink.now c.send.new.sink c.bring.new.sink
+    logged_both put o c.args.timer c.args.asked.now.base v.seen w.seen event c.args.sink.now c.send-state.new.sink c.bring.new.sink
     (sym told.state ∙ told.after) told.logged
-    (subst (λ (t : Timer). IsLogged put o c.args.timer w.seen (entry_by t event ∷ []) c.send.new.sink c.bring.new.sink) told.state c.bring.ensures.logged)
+    (subst (λ (t : Timer). IsLogged put o c.args.timer w.seen (entry_by t event ∷ []) c.send-state.new.sink c.bring.new.sink) told.state c.bring.ensures.logged)

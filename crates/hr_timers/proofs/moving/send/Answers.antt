@@ -10,17 +10,17 @@ use Rattle.hr_timers.proofs.moving.send.Goals as goal
 pub returns-clause-state : goal.returns-clause-state
 returns-clause-state g c =
     let o = c.args.row.now.about in
-    let carry = ap (λ (v : BaseView BaseContent). v.carry) c.append_logged.ensures.adds.rest in
-    c.append_logged.ensures.state
-    ∙ sym (seen_same o c.append_logged.new.pass.knows c.unlock_base.new.pass.knows c.args.timer (c.unlock_base.ensures.free.steady c.args.timer carry))
+    let carry = ap (λ (v : BaseView BaseContent). v.carry) c.out_logged-state.ensures.adds.rest in
+    c.out_logged-state.ensures.state
+    ∙ sym (seen_same o c.out_logged-state.new.pass.knows c.unlock_base.new.pass.knows c.args.timer (c.unlock_base.ensures.free.steady c.args.timer carry))
 
 pub returns-clause-adds : goal.returns-clause-adds
 returns-clause-adds g c =
     let o = c.args.row.now.about in
     let v = c.args.pass.now.knows in
-    let w = c.append_logged.new.pass.knows in
+    let w = c.out_logged-state.new.pass.knows in
     let x = c.unlock_base.new.pass.knows in
-    let carry = ap (λ (y : BaseView BaseContent). y.carry) c.append_logged.ensures.adds.rest in
+    let carry = ap (λ (y : BaseView BaseContent). y.carry) c.out_logged-state.ensures.adds.rest in
     extends_looks entries_of (known_of v) (known_of w) (known_of x) c.args.timer _
-    (extends_appended o c.fresh.ensures.fresh c.args.held c.args.timer (Out c.args.to) v w c.append_logged.ensures.adds)
-    (looks_freed o c.append_logged.new.held w x c.unlock_base.ensures.free) (c.unlock_base.ensures.free.steady c.args.timer carry)
+    (extends_appended o c.fresh.ensures.fresh c.args.held c.args.timer (Out c.args.to) v w c.out_logged-state.ensures.adds)
+    (looks_freed o c.out_logged-state.new.held w x c.unlock_base.ensures.free) (c.unlock_base.ensures.free.steady c.args.timer carry)

@@ -1,7 +1,3 @@
-use Rattle.std.proofs.Common.{◌≤◌, sym, subst}
-use Rattle.std.specs.Prelude.{length}
-use Rattle.seq_timer.specs.Calls.{start_events}
-use Rattle.seq_timer.specs.Steps.{Timer}
 use Rattle.hr_timers.proofs.Logging.{room_to_start, starts_before}
 use Rattle.hr_timers.proofs.Standing.{knows_in}
 use Rattle.hr_timers.proofs.starting.start.Goals as goal
@@ -11,9 +7,8 @@ start_held-requires-clause-room g c =
     let o = c.args.row.now.about in
     let v = c.lock_timer-held.new.pass.knows in
     let told = c.lock_timer-held.ensures in
-    subst (λ (t : Timer). length (start_events t c.args.asked.now) ≤ g.S.Sink.room c.args.sink.now) (sym told.state)
-    (room_to_start o c.args.pass.now.knows v c.args.timer _ c.args.asked.now c.fresh.ensures.fresh
-    (knows_in o v told.holds.holds.row.about c.known.ensures) c.requires.timer told.looks c.requires.room)
+    room_to_start o c.args.pass.now.knows v c.args.timer _ c.args.asked.now c.fresh.ensures.fresh
+    (knows_in o v told.holds.holds.row.about c.known.ensures) c.requires.timer told.looks c.requires.room
 
 pub returns-clause-starts : goal.returns-clause-starts
 returns-clause-starts g c = starts_before g.S.Sink.pushed c.args.row.now.about c.args.pass.now.knows c.lock_timer-held.new.pass.knows

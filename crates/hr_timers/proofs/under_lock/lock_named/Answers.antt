@@ -25,4 +25,4 @@ returns-then-not-is_on-clause-why g c =
     hindered_apart o c.args.pass.now.knows l m c.leave.new.pass.knows t base
     (looks_seen c.args.pass.now.knows l c.load_word-word.ensures.sees) c.lock-held.ensures.looks c.leave.ensures.looks named
     (λ on. c.if-not-is_on.ensures (subst (λ (s : Timer). IsOn base s)
-    (sym (c.state-state.ensures.kept (subst (λ b. IsOn b (timer_seen o m t)) (sym c.lock-held.ensures.at) on))) on))
+    (sym (c.state.ensures.kept (subst (λ b. IsOn b (timer_seen o m t)) (sym c.lock-held.ensures.at) on))) on))

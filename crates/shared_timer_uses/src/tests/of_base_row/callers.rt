@@ -43,7 +43,7 @@ pub fn start<R: Wait>(
 {
     let mut held = row.lock_base(rt, pass, base);
     let state = row.state(pass, &held, timer);
-    let may = is_on(&state, base) && state.stamp() < state.limit();
+    let may = is_on(state, base) && state.stamp() < state.limit();
     if may {
         let event = start_event(ns, base, reading);
         row.append(pass, &mut held, timer, event);
@@ -60,10 +60,10 @@ fn is_on(state: &TimerState, base: u32) -> bool
 }
 
 /// Whether a timer is armed on this base, and its function doesn't run.
-fn may_cancel(state: TimerState, base: u32) -> bool
-    ensures { MatchBool result (IsOn base state × Needs state Cancel) (Unit) }
+fn may_cancel(state: &TimerState, base: u32) -> bool
+    ensures { MatchBool result (IsOn base state.now × Needs state.now Cancel) (Unit) }
 {
-    is_on(&state, base) && state.armed().is_some() && state.running().is_none()
+    is_on(state, base) && state.armed().is_some() && state.running().is_none()
 }
 
 /// Cancels a timer that is armed on this base.
@@ -100,7 +100,7 @@ pub fn move_to<R: Wait>(
 {
     let mut held = row.lock_base(rt, pass, base);
     let state = row.state(pass, &held, timer);
-    let may = is_on(&state, base)
+    let may = is_on(state, base)
         && state.running().is_none()
         && state.stamp() < state.limit()
         && to != base;

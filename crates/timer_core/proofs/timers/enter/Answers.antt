@@ -7,10 +7,10 @@ use Rattle.timer_core.specs.Kept.{Kept, base_at, timer_in}
 use Rattle.timer_core.proofs.Consistent.{queued}
 use Rattle.timer_core.proofs.timers.enter.Goals as goal
 
-pub step-requires-clause-queued : goal.step-requires-clause-queued
-step-requires-clause-queued g c =
+pub apply-requires-clause-queued : goal.apply-requires-clause-queued
+apply-requires-clause-queued g c =
     let k : Kept = record { timers = c.args.timers.now.items; bases = c.args.bases.now.items } in
-    let was = get_or_read k.timers c.args.id c.index.result.now c.requires.timer c.index.ensures no_timer in
+    let was = get_or_read k.timers c.args.id c.index_mut-timer.result.now c.requires.timer c.index_mut-timer.ensures.value no_timer in
     let on : c.base.result ≡ (timer_in k c.args.id).base = c.base.ensures ∙ ap (λ (t : Timer). t.base) was in
     let inside = subst (λ n. n < length k.bases) (sym on) (c.requires.agree.placed c.args.id) in
     let here : c.index_mut-base.result.now ≡ base_at k
