@@ -87,9 +87,6 @@ module _ (o : Opening) (v : BaseView BaseContent) (fresh : AreFresh o.timers) (k
   pub placed_seen : 0 < o.bases → (t : ℕ) → (timer_seen o v t).base < o.bases
   placed_seen some t = placed o.bases (length o.timers) (first_system o.timers) v.seen (λ k. omega (arith, (fresh.each k).first)) knows.allowed t
 
-  pub none_past : (t : ℕ) → length o.timers ≤ t → timer_seen o v t ≡ no_timer
-  none_past t past = untouched o.bases (length o.timers) (first_system o.timers) v.seen t past knows.allowed ∙ get_or_past o.timers t no_timer past
-
   left_seen : (t : ℕ) → IsWithin (timer_seen o v t)
   left_seen = within_all o.bases (length o.timers) (first_system o.timers) v.seen
       (λ k. record { left = fresh_left (timer_at o.timers k) (fresh.each k); limit = fresh.limit k }) knows.allowed

@@ -260,7 +260,7 @@ OwnNeedsBy false (Some base) v id t = v.carry ≡ None
 OwnNeedsBy true None v id t = 0 < base_claims_at id (unwrap_or t.running 0) t.base v
 OwnNeedsBy true (Some base) v id t = (0 < base_claims_at id (unwrap_or t.running 0) t.base v) × (v.carry ≡ None)
 
--- and what an event does
+-- what an event needs of the pass that makes it; that a pass carries the timer which it starts on the move stands in `MayEnter`
 abbrev pub OwnNeeds : BaseView BaseContent → ℕ → Timer → Event → Type 0
 OwnNeeds v id t event = OwnNeedsBy (effect t event).by_claimer (effect t event).sent v id t
 

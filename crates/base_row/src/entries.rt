@@ -27,7 +27,7 @@ impl BaseRow {
         ensures held { pass.new.knows.held ≡ Some held.new }
         ensures adds { Appended self.now.about held.old timer event pass.old.knows pass.new.knows }
     {
-        self.append_logged(pass, &mut Unlogged, held, timer, event)
+        self.append_logged(pass, &mut Unlogged, held, timer, &event)
     }
 
     /// The same, with a receipt into a sink.
@@ -37,21 +37,21 @@ impl BaseRow {
         sink: &mut S,
         held: &mut HeldBase,
         timer: u32,
-        event: Event,
+        event: &Event,
     ) -> Reply
         requires row { IsBasePassOf self.now pass.old }
-        requires may { MayAppend self.now.about pass.old.knows held.old timer event }
+        requires may { MayAppend self.now.about pass.old.knows held.old timer event.now }
         requires on { IsOn held.old.base (timer_seen self.now.about pass.old.knows timer) }
         requires room { 0 < S.room sink.old }
         ensures row { IsBasePassOf self.now pass.new }
-        ensures reply { result ≡ reply_to (timer_seen self.now.about pass.old.knows timer) event }
+        ensures reply { result ≡ reply_to (timer_seen self.now.about pass.old.knows timer) event.now }
         ensures held { pass.new.knows.held ≡ Some held.new }
-        ensures content { held.new ≡ stepped self.now.about pass.old.knows held.old timer event }
-        ensures adds { Appended self.now.about held.old timer event pass.old.knows pass.new.knows }
-        ensures logged { sink.new ≡ S.pushed sink.old (own_receipt self.now.about pass.old.knows timer event) }
+        ensures content { held.new ≡ stepped self.now.about pass.old.knows held.old timer event.now }
+        ensures adds { Appended self.now.about held.old timer event.now pass.old.knows pass.new.knows }
+        ensures logged { sink.new ≡ S.pushed sink.old (own_receipt self.now.about pass.old.knows timer event.now) }
         ensures room { S.room sink.old ≤ S.room sink.new + 1 }
     {
-        let reply = self.step(pass, held, timer, &event);
+        let reply = self.step(pass, held, timer, event);
         self.note_entry(pass, sink, held, timer, event, reply);
         reply
     }
@@ -94,7 +94,7 @@ impl BaseRow {
         self.fresh();
         let event = Event::Out { base: to };
         let reply = self.step(pass, held, timer, &event);
-        self.note_entry(pass, sink, held, timer, event, reply);
+        self.note_entry(pass, sink, held, timer, &event, reply);
         *held.state(timer)
     }
 
@@ -117,7 +117,7 @@ impl BaseRow {
         ensures adds { Appended self.now.about held.old timer event pass.old.knows pass.new.knows }
         ensures arrived { pass.new.knows.carry ≡ None }
     {
-        self.arrive_logged(pass, &mut Unlogged, held, timer, state, event)
+        self.arrive_logged(pass, &mut Unlogged, held, timer, &state, &event)
     }
 
     /// The same, with a receipt into a sink.
@@ -127,24 +127,25 @@ impl BaseRow {
         sink: &mut S,
         held: &mut HeldBase,
         timer: u32,
-        state: TimerState,
-        event: Event,
+        state: &TimerState,
+        event: &Event,
     ) -> Reply
         requires row { IsBasePassOf self.now pass.old }
-        requires may { MayAppend self.now.about pass.old.knows held.old timer event }
+        requires may { MayAppend self.now.about pass.old.knows held.old timer event.now }
         requires carried { pass.old.knows.carry ≡ Some timer }
-        requires state { state ≡ timer_seen self.now.about pass.old.knows timer }
+        requires state { state.now ≡ timer_seen self.now.about pass.old.knows timer }
         requires room { 0 < S.room sink.old }
         ensures row { IsBasePassOf self.now pass.new }
-        ensures reply { result ≡ reply_to (timer_seen self.now.about pass.old.knows timer) event }
+        ensures reply { result ≡ reply_to (timer_seen self.now.about pass.old.knows timer) event.now }
         ensures held { pass.new.knows.held ≡ Some held.new }
-        ensures adds { Appended self.now.about held.old timer event pass.old.knows pass.new.knows }
+        ensures adds { Appended self.now.about held.old timer event.now pass.old.knows pass.new.knows }
         ensures arrived { pass.new.knows.carry ≡ None }
-        ensures logged { sink.new ≡ S.pushed sink.old (own_receipt self.now.about pass.old.knows timer event) }
+        ensures logged { sink.new ≡ S.pushed sink.old (own_receipt self.now.about pass.old.knows timer event.now) }
         ensures room { S.room sink.old ≤ S.room sink.new + 1 }
     {
         pass.known();
-        let reply = self.step_in(pass, held, timer, &state, &event);
+        state.bounded();
+        let reply = self.step_in(pass, held, timer, state, event);
         self.note_entry(pass, sink, held, timer, event, reply);
         reply
     }
@@ -193,20 +194,20 @@ impl BaseRow {
         sink: &mut S,
         held: &HeldBase,
         timer: u32,
-        event: Event,
+        event: &Event,
         reply: Reply,
     )
         requires row { IsBasePassOf self.now pass.old }
-        requires may { (h : HeldContent BaseContent) × MayAppend self.now.about pass.old.knows h timer event × (held.now ≡ stepped self.now.about pass.old.knows h timer event) }
+        requires may { (h : HeldContent BaseContent) × MayAppend self.now.about pass.old.knows h timer event.now × (held.now ≡ stepped self.now.about pass.old.knows h timer event.now) }
         requires below { timer < length held.now.content.states }
-        requires left { timer_at held.now.content.states timer ≡ after (timer_seen self.now.about pass.old.knows timer) event }
-        requires reply { reply ≡ reply_to (timer_seen self.now.about pass.old.knows timer) event }
+        requires left { timer_at held.now.content.states timer ≡ after (timer_seen self.now.about pass.old.knows timer) event.now }
+        requires reply { reply ≡ reply_to (timer_seen self.now.about pass.old.knows timer) event.now }
         requires room { 0 < S.room sink.old }
         ensures row { IsBasePassOf self.now pass.new }
         ensures held { pass.new.knows.held ≡ Some held.now }
-        ensures carry { pass.new.knows.carry ≡ carry_after timer (timer_seen self.now.about pass.old.knows timer) event pass.old.knows.carry }
-        ensures adds { (h : HeldContent BaseContent) → pass.old.knows.held ≡ Some h → Appended self.now.about h timer event pass.old.knows pass.new.knows }
-        ensures logged { sink.new ≡ S.pushed sink.old (own_receipt self.now.about pass.old.knows timer event) }
+        ensures carry { pass.new.knows.carry ≡ carry_after timer (timer_seen self.now.about pass.old.knows timer) event.now pass.old.knows.carry }
+        ensures adds { (h : HeldContent BaseContent) → pass.old.knows.held ≡ Some h → Appended self.now.about h timer event.now pass.old.knows pass.new.knows }
+        ensures logged { sink.new ≡ S.pushed sink.old (own_receipt self.now.about pass.old.knows timer event.now) }
         ensures room { S.room sink.old ≤ S.room sink.new + 1 }
     {
         pass.known();
@@ -215,7 +216,7 @@ impl BaseRow {
         let number = number_of(state);
         let word = self.word_index(timer);
         let cells = &self.table.shared;
-        enter::<Brand>(cells, &mut pass.seat, word, timer, number, &event);
-        sink.note(timer, state.stamp(), event, reply);
+        enter::<Brand>(cells, &mut pass.seat, word, timer, number, event);
+        sink.note(timer, state.stamp(), *event, reply);
     }
 }

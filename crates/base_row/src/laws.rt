@@ -1,4 +1,4 @@
-//! What calls on a row say, in the words of their callers: laws over what the calls' clauses name.
+//! What calls on a row say, in the words of their callers: laws over what the calls' clauses name, and one over the rule of the row's table.
 ghost use Rattle.std.specs.Prelude.{◌≡◌, ◌<◌, ◌⊎◌, ℕ, [], ◌∷◌, List, length, Option, Some};
 ghost use mathlib.Core.Option.{some};
 ghost use lib.ListN.{get_elem?};
@@ -37,7 +37,7 @@ pub fn passes_tell_what_they_saw()
         → MeetWith (known_of a) (known_of b) (known_of new_a) (known_of new_b) }
 {}
 
-/// What a pass that holds a base has seen of the timers on it, and of the one that it carries there, is all that has happened to them.
+/// What a pass that holds a base has seen of the timers on it, and of the one that it carries, is all that has happened to them.
 pub fn a_holder_has_seen_all_of_its_timers()
     ensures { (bases : ℕ) (opened : List Timer) (log : List entry.TimerEntry) (s : State (Option BaseContent) (view.BaseView BaseContent))
         → RowHolds bases opened number_of log s → (j : ℕ) (v : view.BaseView BaseContent) → get_elem? s.views j ≡ some v

@@ -54,9 +54,9 @@ impl<T: Drop> ReceiptLog<T> {
         }
     }
 
-    /// Makes room for so many receipts behind those that are there.
+    /// Sets the room to so many receipts behind those that are there.
     pub fn reserve(&mut self, count: usize) -> Result<(), AllocError>
-        ensures ok { OnOk result ((self.new.receipts ≡ self.old.receipts) × (count ≤ self.new.spare)) }
+        ensures ok { OnOk result ((self.new.receipts ≡ self.old.receipts) × (self.new.spare ≡ count)) }
         ensures err { OnErr result (self.new ≡ self.old) }
     {
         self.receipts.reserve(count)?;
@@ -129,7 +129,7 @@ pub trait Sink {
         ensures leaves { room self.old ≤ room self.new + 1 };
 }
 
-/// Keeps no receipts.
+/// Keeps no receipts. It has always room for two, as many as a call on a timer makes.
 #[derive(Clone, Copy, Drop)]
 pub struct Unlogged;
 

@@ -19,9 +19,6 @@ longer_is P xs ys a b = elim (nat_lt (length xs) (length ys)) as (λ t. P (if t 
 pub longer_begins : (xs ys log : List Write) → Begins xs log → Begins ys log → Begins (longer xs ys) log
 longer_begins xs ys log a b = longer_is (λ ws. Begins ws log) xs ys a b
 
-pub longer_legal : (xs ys : List Write) → AreAccepted (at_stamp 0) xs → AreAccepted (at_stamp 0) ys → AreAccepted (at_stamp 0) (longer xs ys)
-longer_legal xs ys a b = longer_is (AreAccepted (at_stamp 0)) xs ys a b
-
 -- of two lists that begin one list, the shorter begins the other
 shorter : (xs ys r s : List Write) → xs ++ r ≡ ys ++ s → length xs ≤ length ys → Begins xs ys
 shorter [] ys r s e h = begins_nil ys
@@ -114,13 +111,6 @@ module _ (v w before other told new : ClockView) (e : before ≡ v) (f : other �
     (tells : told ≡ told_clock_view before other) (looks : Looks told.pass new.pass) (hears : Hears told new) (known : KnowsClock new) where
   heard_both : told.heard ≡ all_heard v w
   heard_both = ap (λ u. u.heard) tells ∙ (ap (λ u. all_heard u other) e ∙ ap (all_heard v) f)
-
-  pub looks_told : Looks v.pass new.pass
-  looks_told = record {
-    seen = goes_between v new (subst IsRestingView e is).one known.one (of_one v w told new heard_both hears).0;
-    mine = looks.mine ∙ (ap (λ u. u.pass.mine) tells ∙ ap (λ u. u.pass.mine) e);
-    id = looks.id ∙ (ap (λ u. u.pass.id) tells ∙ ap (λ u. u.pass.id) e);
-  }
 
   pub goes_on_told : GoesOn w.pass.seen new.pass.seen
   goes_on_told = goes_between w new (subst IsRestingView f is_w).one known.one (of_one v w told new heard_both hears).1

@@ -41,19 +41,6 @@ pub few_writes : (v : ClockView) → KnowsClock v → length (writes v) ≤ last
 few_writes v knows = omega (arith, stamp_after (writes v), (shown_by (seen_reading v) (writes v) refl knows.legal).counted)
 
 module _ (old mid new : ClockView) where
-  -- where the clock was read and then found to be another, writes were made between
-  pub sees_more : (seen : ClockReading) → seen ≡ seen_reading mid → Looks old.pass mid.pass → Misses seen mid new → SeesMore old new
-  sees_more seen shows read missed =
-      let later = missed.looks.seen.each 0 in
-      record {
-        looks = looks_trans read missed.looks;
-        grown =
-            ⊎_elim
-            (λ more. omega (arith, begins_length (read.seen.each 0)))
-            (λ same. absurd (missed.other (shows ∙ ap reading_after (begins_whole later same))))
-            (cases_lt (length (writes mid)) (length (writes new)));
-      }
-
   -- what was heard before the last turn begins what is seen after it
   pub hears_again : (old.heard ≡ mid.heard) ⊎ Hears old mid → Begins (writes mid) (writes new) → Hears mid new → Hears old new
   hears_again (inl same) b last = record { begins = subst (λ h. All (λ ws. Begins ws (writes new)) h) (sym same) last.begins; none = last.none }

@@ -60,7 +60,3 @@ clock_after r (w ∷ ws) = clock_after (after_write r w) ws
 abbrev pub AreAccepted : ClockReading → List Write → Type 0
 AreAccepted r [] = r ≡ r
 AreAccepted r (w ∷ ws) = IsAccepted r w × AreAccepted (after_write r w) ws
-
--- a reading that the clock showed along a list of writes: the one after as many as its stamp counts
-abbrev pub IsReadingOf : List Write → ClockReading → Type 0
-IsReadingOf ws r = clock_after (at_stamp 0) (take r.stamp ws) ≡ r

@@ -16,16 +16,6 @@ pub in_list : {A : Type 0} (xs : List A) (i : ℕ) (x : A) → get_elem? xs i �
 in_list xs i x e = omega (arith, ap length (drop_at xs i x e), length-drop i xs)
 
 module _ {S C R : Type 0} where
-  -- looks one after another
-  pub sees_after : {p q r : PassOfRow S C R} → Sees p q → Sees q r → Sees p r
-  sees_after a b = record {
-    row = b.row ∙ a.row;
-    pass = looks_trans a.pass b.pass;
-    opening = b.opening ∙ a.opening;
-    claims = b.claims ∙ a.claims;
-    held = b.held ∙ a.held;
-  }
-
 module _ {S C R : Type 0} {m : CallMeaning S C R} where
   -- a lock, and the commit that ended it
   abbrev pub commits_of : {r : RowOf S} {old mid new : PassOfRow S C R} {i : ℕ} {h : Locked S} {call : C} → Locks m old mid i h
@@ -70,24 +60,6 @@ module _ {S C R : Type 0} {m : CallMeaning S C R} where
     held = ap (λ v. v.held) is ∙ sym idle;
     knows = knows;
   }
-
-  -- a look alone
-  abbrev pub reads_seen : {old new : PassOfRow S C R} {i : ℕ} → Sees old new → Knows m new.knows → i < length old.knows.opening → ReadsValue m old new i
-  reads_seen {old} {new} {i} sees knows within =
-      let now = knows.legal i (omega (arith, ap length sees.opening)) in
-      record {
-        row = sees.row;
-        opening = sees.opening;
-        pass = sees.pass;
-        state = now.0;
-        at = subst (λ o. StateAfter m o i (entries i new.knows.pass.seen) now.0) sees.opening now.1;
-        claims = sees.claims;
-        held = sees.held;
-        knows = knows;
-      }
-
-  pub reads_sees : {old new : PassOfRow S C R} {i : ℕ} → ReadsValue m old new i → Sees old new
-  reads_sees reads = record { row = reads.row; pass = reads.pass; opening = reads.opening; claims = reads.claims; held = reads.held }
 
   -- what is done after a look
   pub locks_after : {p q r : PassOfRow S C R} {i : ℕ} {h : Locked S} → Sees p q → Locks m q r i h → Locks m p r i h

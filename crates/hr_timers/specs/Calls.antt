@@ -120,12 +120,12 @@ pub record WasMoved (o : Opening) (v w : KnownOfTimers) (t from to : ℕ) : Type
   pub base_later : (timer_then o later t).base ≡ to
   pub apart : from ≢ to
 
--- at moments of a call that made no entry the timer was on the move, or on two bases
-abbrev pub IsHindered : Opening → KnownOfTimers → KnownOfTimers → ℕ → Type 0
-IsHindered o v w t = ((b : ℕ) × WasMoving o v w t b) ⊎ ((a : ℕ) × (b : ℕ) × WasMoved o v w t a b)
+-- at a moment of a call that made no entry the timer was on the move, or it was on one base and then on another
+abbrev pub SawMove : Opening → KnownOfTimers → KnownOfTimers → ℕ → Type 0
+SawMove o v w t = ((b : ℕ) × WasMoving o v w t b) ⊎ ((a : ℕ) × (b : ℕ) × WasMoved o v w t a b)
 
--- what a cancel answers that waits for nobody. Where another pass has the lock the call took none, so the take that it missed is none of its pass's
--- afterwards either.
+-- what a cancel answers that waits for nobody. Where it is contended it took no lock, so where another pass has taken the base in between, that take is
+-- not among its pass's afterwards either.
 abbrev pub NowFits : Opening → PassOf → PassOf → ℕ → NowAnswer → Type 0
 NowFits o p q t (nows.Tried a) = Cancels o p.known q.known t a
 NowFits o p q t (nows.Contended b) = HasMissed p q b × WasOn o p.known q.known t b × (q.takes ≡ p.takes)

@@ -41,22 +41,27 @@ module _ {A : Type 0} (put : A → Receipt → A) (o : Opening) where
   ClaimIsLogged v w x base reading (claimings.BaseBusy t g) c s s' = s' ≡ s
 
   module _ (v w : KnownOfTimers) where
+    -- a start, and the receipts of its entries
     pub record StartsLogged (t : ℕ) (asked : Asked) (a : StartAnswer) (s s' : A) : Type 0 where
       pub starts : StartsTimer o v w t asked a
       pub logged : IsLogged t starts.at (start_entries (timer_then o starts.at t) asked a) s s'
 
+    -- a cancel, and the receipt of its entry, where it made one
     pub record CancelsLogged (t : ℕ) (a : CancelAnswer) (s s' : A) : Type 0 where
       pub cancels : Cancels o v w t a
       pub logged : IsLogged t cancels.at (cancel_entries a) s s'
 
+    -- a claim of the next timer, and the receipt of its entry, where it made one
     pub record ClaimsLogged (x : Context) (base : ℕ) (reading : ClockReading) (a : ClaimAnswer) (s s' : A) : Type 0 where
       pub claims : ClaimFits o v w x base reading a
       pub logged : ClaimIsLogged v w x base reading a claims s s'
 
+    -- a forward, and the receipt of its entry, where it made one
     pub record ForwardsLogged (n : ClaimNumbers) (reading : ClockReading) (interval : ℕ) (a : ForwardAnswer) (s s' : A) : Type 0 where
       pub forwards : Forwards o v w n reading interval a
       pub logged : IsLogged n.timer forwards.at (forward_entries (timer_then o forwards.at n.timer) reading interval a) s s'
 
+    -- a finish, and the receipt of its entry
     pub record FinishesLogged (n : ClaimNumbers) (restart : Bool) (a : Finished) (s s' : A) : Type 0 where
       pub finishes : Finishes o v w n restart a
       pub logged : IsLogged n.timer finishes.at (entry_by (timer_then o finishes.at n.timer) (events.Finish restart) ∷ []) s s'

@@ -74,7 +74,7 @@ pub fn cancel_held<S: Sink>(
         return CancelAnswer::Idle { stamp };
     };
     state.bounded();
-    enter_once(row, pass, sink, held, timer, Event::Cancel);
+    enter_once(row, pass, sink, held, timer, &Event::Cancel);
     CancelAnswer::Cancelled {
         generation,
         number: stamp + 1,

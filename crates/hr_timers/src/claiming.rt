@@ -76,7 +76,7 @@ fn claim_held<S: Sink>(
     pass.known();
     let (generation, number) = numbers(row.state(pass, &held, timer));
     let event = Event::Claim { base, reading };
-    enter_once(row, pass, sink, held, timer, event);
+    enter_once(row, pass, sink, held, timer, &event);
     ClaimNumbers {
         timer,
         generation,
@@ -140,7 +140,7 @@ pub fn finish<R: Wait, S: Sink>(
     state.bounded();
     let stamp = state.stamp();
     let event = Event::Finish { restart };
-    match enter_once(row, pass, sink, held, claim.timer, event) {
+    match enter_once(row, pass, sink, held, claim.timer, &event) {
         Reply::Finish { restarted, .. } => Finished {
             number: stamp + 1,
             rearmed: Rearmed::at(stamp, restarted),
@@ -202,7 +202,7 @@ fn forward_held<S: Sink>(
     state.bounded();
     let number = stamp + 1;
     let event = Event::Forward { reading, interval };
-    match enter_once(row, pass, sink, held, claim.timer, event) {
+    match enter_once(row, pass, sink, held, claim.timer, &event) {
         Reply::Forward { moved } => ForwardAnswer::Forwarded { number, moved },
         _ => unreachable!(),
     }

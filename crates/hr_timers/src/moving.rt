@@ -36,7 +36,7 @@ pub fn move_and_start<R: Wait, S: Sink>(
     ensures room { S.room sink.old ≤ S.room sink.new + 2 }
 {
     let state = send(row, pass, sink, held, timer, asked.base);
-    bring(rt, row, pass, sink, timer, state, asked)
+    bring(rt, row, pass, sink, timer, &state, asked)
 }
 
 /// Sends a timer off a held base to another, and lets the base go. The pass carries the timer then, in the state that it gives.
@@ -75,25 +75,26 @@ fn bring<R: Wait, S: Sink>(
     pass: &mut Pass,
     sink: &mut S,
     timer: u32,
-    state: TimerState,
+    state: &TimerState,
     asked: &Asked,
 ) -> Placement
     requires row { IsBasePassOf row.now pass.old }
     requires within { (timer < length row.now.about.timers) × (asked.now.base < row.now.about.bases) }
     requires carries { (pass.old.knows.held ≡ None) × (pass.old.knows.carry ≡ Some timer) }
-    requires state { state ≡ timer_seen row.now.about pass.old.knows timer }
-    requires moving { (state.moving ≡ true) × (state.base ≡ asked.now.base) }
+    requires state { state.now ≡ timer_seen row.now.about pass.old.knows timer }
+    requires moving { (state.now.moving ≡ true) × (state.now.base ≡ asked.now.base) }
     requires room { 0 < S.room sink.old }
     ensures rest { IsAtRest row.now pass.new }
     ensures claims { pass.new.knows.claims ≡ pass.old.knows.claims }
-    ensures adds { AddsBehind pass.old.knows pass.new.knows timer (entry_by state (Start asked.now) ∷ []) }
-    ensures placement { result ≡ placement_of (after state (Start asked.now)) }
-    ensures logged { IsLogged S.pushed row.now.about timer pass.old.knows.seen (entry_by state (Start asked.now) ∷ []) sink.old sink.new }
+    ensures adds { AddsBehind pass.old.knows pass.new.knows timer (entry_by state.now (Start asked.now) ∷ []) }
+    ensures placement { result ≡ placement_of (after state.now (Start asked.now)) }
+    ensures logged { IsLogged S.pushed row.now.about timer pass.old.knows.seen (entry_by state.now (Start asked.now) ∷ []) sink.old sink.new }
     ensures room { S.room sink.old ≤ S.room sink.new + 1 }
 {
     row.fresh();
     let mut held = lock(rt, row, pass, asked.base);
-    let reply = row.arrive_logged(pass, sink, &mut held, timer, state, Event::Start(*asked));
+    let event = Event::Start(*asked);
+    let reply = row.arrive_logged(pass, sink, &mut held, timer, state, &event);
     row.unlock_base(pass, held);
     match reply {
         Reply::Start { placement, .. } => placement,

@@ -122,7 +122,7 @@ fn start_here<S: Sink>(
     ensures logged { IsLogged S.pushed row.now.about timer pass.old.knows.seen (entry_by (timer_seen row.now.about pass.old.knows timer) (Start asked.now) ∷ []) sink.old sink.new }
     ensures room { S.room sink.old ≤ S.room sink.new + 1 }
 {
-    match enter_once(row, pass, sink, held, timer, Event::Start(*asked)) {
+    match enter_once(row, pass, sink, held, timer, &Event::Start(*asked)) {
         Reply::Start { placement, .. } => placement,
         _ => unreachable!(),
     }

@@ -11,7 +11,7 @@ ghost use Rattle.seq_timer.specs.Systems.{IsOn, entries_of, next_on};
 ghost use Rattle.base_row.specs.Plays.{Steady, claims_with_event};
 ghost use Rattle.base_row.specs.Calls.{base_seen, IsBasePassOf, MayAppend, known_of, timer_seen};
 ghost use Rattle.hr_timers.specs.Known.{AddsBehind, HoldsBase, HoldsTimer, IsAtRest, Looks};
-ghost use Rattle.hr_timers.specs.Calls.{IsHindered, entry_by};
+ghost use Rattle.hr_timers.specs.Calls.{SawMove, entry_by};
 ghost use Rattle.hr_timers.specs.Logged.{IsLogged};
 
 use base_row::{BaseRow, HeldBase, Pass, Sink};
@@ -57,7 +57,7 @@ pub fn lock_timer<R: Wait>(rt: &R, row: &BaseRow, pass: &mut Pass, timer: u32) -
     unreachable!()
 }
 
-/// One try, on the base that the timer's word names. It answers `None` only where the timer was seen on the move, or on two bases.
+/// One try, on the base that the timer's word names. It answers `None` only where the timer was seen on the move, or on one base and then on another.
 fn lock_named<R: Wait>(
     rt: &R,
     row: &BaseRow,
@@ -68,7 +68,7 @@ fn lock_named<R: Wait>(
     requires timer { timer < length row.now.about.timers }
     ensures holds { MatchOption result (IsAtRest row.now pass.new) (λ h. HoldsTimer row.now pass.new h timer) }
     ensures looks { Looks pass.old.knows pass.new.knows }
-    ensures why { IfNone result (IsHindered row.now.about (known_of pass.old.knows) (known_of pass.new.knows) timer) }
+    ensures why { IfNone result (SawMove row.now.about (known_of pass.old.knows) (known_of pass.new.knows) timer) }
 {
     let word = row.load_word(pass, timer);
     if word.moving {
@@ -99,17 +99,17 @@ pub fn enter_once<S: Sink>(
     sink: &mut S,
     held: HeldBase,
     timer: u32,
-    event: Event,
+    event: &Event,
 ) -> Reply
     requires holds { HoldsTimer row.now pass.old held timer }
     requires room { 0 < S.room sink.old }
-    requires may { MayAppend row.now.about pass.old.knows held timer event }
-    requires stays { IsOn held.base (after (timer_seen row.now.about pass.old.knows timer) event) }
+    requires may { MayAppend row.now.about pass.old.knows held timer event.now }
+    requires stays { IsOn held.base (after (timer_seen row.now.about pass.old.knows timer) event.now) }
     ensures rest { IsAtRest row.now pass.new }
-    ensures claims { pass.new.knows.claims ≡ claims_with_event timer (timer_seen row.now.about pass.old.knows timer) event pass.old.knows.claims }
-    ensures reply { result ≡ reply_to (timer_seen row.now.about pass.old.knows timer) event }
-    ensures adds { AddsBehind pass.old.knows pass.new.knows timer (entry_by (timer_seen row.now.about pass.old.knows timer) event ∷ []) }
-    ensures logged { IsLogged S.pushed row.now.about timer pass.old.knows.seen (entry_by (timer_seen row.now.about pass.old.knows timer) event ∷ []) sink.old sink.new }
+    ensures claims { pass.new.knows.claims ≡ claims_with_event timer (timer_seen row.now.about pass.old.knows timer) event.now pass.old.knows.claims }
+    ensures reply { result ≡ reply_to (timer_seen row.now.about pass.old.knows timer) event.now }
+    ensures adds { AddsBehind pass.old.knows pass.new.knows timer (entry_by (timer_seen row.now.about pass.old.knows timer) event.now ∷ []) }
+    ensures logged { IsLogged S.pushed row.now.about timer pass.old.knows.seen (entry_by (timer_seen row.now.about pass.old.knows timer) event.now ∷ []) sink.old sink.new }
     ensures room { S.room sink.old ≤ S.room sink.new + 1 }
 {
     row.fresh();

@@ -50,9 +50,6 @@ line_at line k (n ∷ ns) (suc i) l at =
 
 -- ---- what the lines show
 
-abbrev pub timer_line_shape : TimerLine → Label × Entry
-timer_line_shape line = (line.label, line.entry)
-
 abbrev pub entry_note_shape : EntryNote → Label × Entry
 entry_note_shape note = (note.label, note.entry)
 

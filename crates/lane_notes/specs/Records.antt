@@ -64,10 +64,6 @@ timer_line note looks = record { label = note.label; entry = note.entry; looks =
 abbrev pub object_line : ObjectNote → List SkipNote → ObjectLine
 object_line note skips = record { label = note.label; entry = note.entry; skips = map skip_of skips }
 
--- the line of an entry that is the object's entry of this number, with the skips at that number
-abbrev pub line_of_object_note : List SkipNote → ℕ → ObjectNote → ObjectLine
-line_of_object_note skips number note = line_at_number place_of_skip object_line skips number note
-
 -- the lines of a timer
 abbrev pub noted_timer_lines : ℕ → List EntryNote → List LookNote → List TimerLine
 noted_timer_lines timer entries looks = noted_lines place_of_look timer_line place_of_entry timer entries looks

@@ -32,7 +32,7 @@ use Rattle.lane_notes.specs.Objects.{object_entry_noted, object_notes, skip_gene
 use Rattle.lane_notes.specs.declared.notes.EntryNote.{EntryNote}
 use Rattle.run_history.specs.Courses.{Trace}
 use Rattle.run_history.specs.Fits.{FitsCall}
-use Rattle.run_history.specs.Promises.{GoesOnClock, HasLog, IsLogged, IsPromised}
+use Rattle.run_history.specs.Promises.{GoesOnClock, HasLog, IsRightLog, IsPromised}
 use Rattle.run_history.specs.Receipts.{Noted, receipt, Rises}
 use Rattle.run_history.specs.Runs.{CallLog, course_of, Ending, IsJoined, moves_spans}
 use Rattle.run_history.specs.Traces.{all_entered}
@@ -203,7 +203,7 @@ pub logged_from : (p q : WorldPass) (notes : List Noted) (t : Trace) (call : Cal
     → AreMade q.timers.known.seen (length p.timers.known.seen) (length q.timers.known.seen) notes → map receipt notes ≡ all_entered t.actions
     → t.at ≡ length (writes q.clock.knows) → wrote t.actions ≡ []
     → ((i : ℕ) → NeverFall (length (seen_of p.objects i)) (object_steps_on i call a t.actions) (length (seen_of q.objects i)))
-    → IsLogged (log_of p q notes t) call a (seen_by p) (seen_by q)
+    → IsRightLog (log_of p q notes t) call a (seen_by p) (seen_by q)
 logged_from p q notes t call a sees last made are at none objects =
     let forward = begins_length sees.timers in
     let clock = begins_length sees.clock in
@@ -230,7 +230,7 @@ FitsOn s l m call a notes t =
 
 -- law: it keeps its promise then
 pub promised_from : {s : Script} {x : WorldOf} {l : LaneOf} {call : Call} (next : IsNextCall s x l call) (m : LaneOf) (notes : List Noted) (t : Trace)
-    (a : Answer) → IsLogged (log_of l.pass m.pass notes t) call a (seen_by l.pass) (seen_by m.pass) → FitsOn s l m call a notes t
+    (a : Answer) → IsRightLog (log_of l.pass m.pass notes t) call a (seen_by l.pass) (seen_by m.pass) → FitsOn s l m call a notes t
     → IsPromised s l.label.lane l.label.call (log_of l.pass m.pass notes t) (Follows m.pass) call a (seen_by l.pass) (seen_by m.pass)
 promised_from {s = s} {l = l} next m notes t a logged fits e follows has joined =
     let is : IsLabel s l.label = slice_get_within (calls_of s l.label.lane) l.label.call next.at next.there in

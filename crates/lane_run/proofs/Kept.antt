@@ -287,10 +287,6 @@ more_equal timers objects clock = record {
   objects = λ i. begins_same (ap (λ seen. entries i seen) objects);
 }
 
--- the same passes
-pub more_same : {p : WorldPass} → SeesMore p p
-more_same = more_equal refl refl refl
-
 -- twice more
 pub more_trans : {p q r : WorldPass} → SeesMore p q → SeesMore q r → SeesMore p r
 more_trans one two = record {

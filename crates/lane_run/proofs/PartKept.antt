@@ -18,7 +18,7 @@ use Rattle.lane_notes.specs.Entries.{entry_notes, look_notes}
 use Rattle.lane_notes.specs.Objects.{object_notes, skip_notes}
 use Rattle.run_history.specs.Courses.{Trace}
 use Rattle.run_history.specs.Promises as promises
-use Rattle.run_history.specs.Promises.{HasLog, IsLogged}
+use Rattle.run_history.specs.Promises.{HasLog, IsRightLog}
 use Rattle.run_history.specs.Receipts as receipts
 use Rattle.run_history.specs.Receipts.{Noted, Rises}
 use Rattle.run_history.specs.Runs.{Ending}

@@ -20,7 +20,7 @@ use Rattle.lane_notes.specs.Notes.{both_noted, NotesOf, with_write_note}
 use Rattle.pass_names.specs.Counts.{count, one_if}
 use Rattle.pass_names.specs.Passes.{is_place, Looks}
 use Rattle.pass_names.proofs.Counts.{total-append}
-use Rattle.run_history.specs.Promises.{GoesOnClock, IsLogged}
+use Rattle.run_history.specs.Promises.{GoesOnClock, IsRightLog}
 use Rattle.run_history.specs.Runs.{Ending}
 use Rattle.run_history.proofs.Lists.{at_seam}
 use Rattle.run_history.proofs.OthersMade.{plain, wrote_made}
@@ -98,7 +98,7 @@ write_kept {s = s} {l = l} {m = m} {write = write} next (Ok r) w timers objects 
       opening = ap (λ o. o.knows.opening) objects;
     } in
     let t = plain many last last (Wrote r.stamp write ∷ []) in
-    let logged : IsLogged (log_of p q [] t) (calls.Clock write) (answers.Clock r.stamp) (seen_by p) (seen_by q) = record {
+    let logged : IsRightLog (log_of p q [] t) (calls.Clock write) (answers.Clock r.stamp) (seen_by p) (seen_by q) = record {
       forward = omega (arith, ap length same_seen);
       last = omega arith;
       inside = tt;

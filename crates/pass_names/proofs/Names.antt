@@ -57,14 +57,6 @@ one_name ids tree i j l m apart at_l at_m live_l live_m same_name =
     let two : one_if (m.live && same l.name m.name) ≡ 1 = rw (live_m, same_name, same-refl l.name) refl in
     omega (arith, one, two, tree.once l.name, total_two (λ (x : PassId). one_if (x.live && same l.name x.name)) ids i j l m apart at_l at_m)
 
--- a name that is borne is that of a live pass
-pub bearer_of : (ids : List PassId) (n : List ℕ) → 0 < bearers n ids
-    → (j : ℕ) × (l : PassId) × (get_elem? ids j ≡ some l) × (l.live ≡ true) × (n ≡ l.name)
-bearer_of ids n some_one =
-    let f = total_found (λ (l : PassId). one_if (l.live && same n l.name)) ids some_one in
-    let t : (f.1.live && same n f.1.name) ≡ true = met (f.1.live && same n f.1.name) f.3 in
-    let p = and_parts f.1.live (same n f.1.name) t in (f.0, f.1, f.2, p.0, same_eq n f.1.name p.1)
-
 -- a pass that lists a name is live
 lists_live : (ids : List PassId) → IsPassTree ids → (j : ℕ) (l : PassId) (n : List ℕ) → get_elem? ids j ≡ some l → 0 < occurrences n l.split
     → l.live ≡ true

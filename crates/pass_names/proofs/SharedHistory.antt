@@ -23,18 +23,6 @@ places-append t n (x ∷ xs) ys = (λ i. (t, n + 1) ∷ places-append t (n + 1) 
     ∙ ap (λ k. (t, n + 1) ∷ (places t (n + 1) xs ++ places t k ys)) (omega arith)
 
 module _ {E C X : Type 0} (part : ℕ → List E → List X) where
-  -- entries behind entries
-  pub extends_both : (u v w : Known E C) (t : ℕ) (xs ys : List X) → ExtendsBy part u v t xs → ExtendsBy part v w t ys → ExtendsBy part u w t (xs ++ ys)
-  extends_both u v w t xs ys a b = record {
-    seen = begins_trans a.seen b.seen;
-    own = b.own ∙ (ap (λ l. l ++ ys) a.own ∙ append_assoc (part t u.seen) xs ys);
-    mine = b.mine ∙ (ap (λ l. l ++ places t (length (part t v.seen)) ys) a.mine
-        ∙ (append_assoc u.mine (places t (length (part t u.seen)) xs) (places t (length (part t v.seen)) ys)
-        ∙ ap (λ l. u.mine ++ l) (ap (λ k. places t (length (part t u.seen)) xs ++ places t k ys)
-        (omega (arith, ap length a.own, length-append (part t u.seen) xs)) ∙ sym (places-append t (length (part t u.seen)) xs ys))));
-    id = b.id ∙ a.id;
-  }
-
   -- a look before or behind that sees nothing more of the timer adds nothing to it
   pub looks_extends : (v w x : Known E C) (t : ℕ) (es : List X) → LooksOn v w → part t w.seen ≡ part t v.seen → ExtendsBy part w x t es
       → ExtendsBy part v x t es
@@ -48,18 +36,3 @@ module _ {E C X : Type 0} (part : ℕ → List E → List X) where
   pub extends_looks : (v w x : Known E C) (t : ℕ) (es : List X) → ExtendsBy part v w t es → LooksOn w x → part t x.seen ≡ part t w.seen
       → ExtendsBy part v x t es
   extends_looks v w x t es a l own = record { seen = begins_trans a.seen l.seen; own = own ∙ a.own; mine = l.mine ∙ a.mine; id = l.id ∙ a.id }
-
-  pub extends_adds : (v w : Known E C) (t : ℕ) (es : List X) → ExtendsBy part v w t es → AddsTo part v w t es
-  extends_adds v w t es a = record { seen = a.seen; before = part t v.seen; begins = begins_refl (part t v.seen); last = a.own; mine = a.mine; id = a.id }
-
-  -- a look before entries may see entries of others
-  pub looks_adds : (t : ℕ) → ((a b : List E) → Begins a b → Begins (part t a) (part t b)) → (u v w : Known E C) (es : List X) → LooksOn u v
-      → AddsTo part v w t es → AddsTo part u w t es
-  looks_adds t grows u v w es l adds = record {
-    seen = begins_trans l.seen adds.seen;
-    before = adds.before;
-    begins = begins_trans (grows u.seen v.seen l.seen) adds.begins;
-    last = adds.last;
-    mine = adds.mine ∙ ap (λ q. q ++ places t (length adds.before) es) l.mine;
-    id = adds.id ∙ l.id;
-  }

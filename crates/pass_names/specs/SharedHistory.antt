@@ -51,17 +51,8 @@ module _ {E C : Type 0} where
 
   -- of entries, of which a history has each timer's part
   module _ {X : Type 0} (part : ℕ → List E → List X) where
-    -- These entries stand last in the part of timer t, and their places last in mine. All else that was seen goes on. What becomes of the claims is
-    -- said by the entries.
-    pub record AddsTo (old new : Known E C) (t : ℕ) (es : List X) : Type 0 where
-      pub seen : Begins old.seen new.seen
-      pub before : List X
-      pub begins : Begins (part t old.seen) before
-      pub last : part t new.seen ≡ before ++ es
-      pub mine : new.mine ≡ old.mine ++ places t (length before) es
-      pub id : new.id ≡ old.id
-
-    -- the same, right behind what the pass had seen of the timer
+    -- These entries stand right behind what the pass had seen of timer t, and their places last in mine. All else that was seen goes on. What becomes of
+    -- the claims is said by the entries.
     pub record ExtendsBy (old new : Known E C) (t : ℕ) (es : List X) : Type 0 where
       pub seen : Begins old.seen new.seen
       pub own : part t new.seen ≡ part t old.seen ++ es

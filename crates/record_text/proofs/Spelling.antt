@@ -1,5 +1,5 @@
 -- The words of a line are read back, each kind of word by itself.
-use Rattle.std.proofs.Common.{◌≡◌, ◌∷◌, [], ℕ, List, ◌<◌, ◌≤◌, ◌^◌, zero, suc, Bool, true, false, nat_lt, nat_eq, if◌then◌else◌, map, codes, refl, arith}
+use Rattle.std.proofs.Common.{◌≡◌, ◌∷◌, ◌++◌, [], ℕ, List, ◌<◌, ◌≤◌, ◌^◌, zero, suc, Bool, true, false, nat_lt, nat_eq, if◌then◌else◌, map, codes, refl, arith}
 use Rattle.std.specs.Fmt.{decimal}
 use Rattle.std.specs.List.{list_all}
 use Rattle.std.specs.Str.{bytes_eq}
@@ -20,8 +20,8 @@ use Rattle.record_text.specs.declared.record.Armed.TheVariants as arms
 use Rattle.record_text.specs.declared.version.Version.{Version}
 use Rattle.record_text.specs.declared.version.Version.TheVariants as versions
 use Rattle.record_text.specs.Words.{clock_word, mode_word, version_word}
-use Rattle.record_text.specs.Text.{flag, write_name, write_ns, restart_word, restarted_word, armed_word, counted_word}
-use Rattle.record_text.specs.Numbers.{AreMachineNumbers, restarted_numbers, armed_number}
+use Rattle.record_text.specs.Text.{flag, write_name, write_ns, restart_word, restarted_numbers, restarted_word, armed_word, counted_word}
+use Rattle.record_text.specs.Numbers.{AreMachineNumbers, armed_number}
 use Rattle.record_text.proofs.Words.{is_word, are_words}
 
 -- the number that a word writes
@@ -152,7 +152,7 @@ unfolding counted_of
 counted_read true = (refl, refl)
 counted_read false = (refl, refl)
 
-pub restarted_read : (r : Restarted) → AreMachineNumbers (restarted_numbers r) → IsOfWord restarted_of r (restarted_word r)
+pub restarted_read : (r : Restarted) → AreMachineNumbers (restarted_numbers r ++ []) → IsOfWord restarted_of r (restarted_word r)
 unfolding restarted_of
 restarted_read restarts.No h = (refl, refl)
 restarted_read (restarts.Again generation) h = rw (is_number_decimal generation h.0, value_again generation h.0) (refl, word_decimal generation h.0)

@@ -5,8 +5,6 @@ use Rattle.seq_timer.specs.declared.event.EventBy.{EventBy}
 use Rattle.seq_timer.specs.declared.event.EventBy.TheVariants as events
 use Rattle.seq_timer.specs.declared.event.Reply.{Reply}
 use Rattle.seq_timer.specs.declared.event.Reply.TheVariants as replies
-use Rattle.seq_timer.specs.declared.event.Restarted.{Restarted}
-use Rattle.seq_timer.specs.declared.event.Restarted.TheVariants as restarts
 use Rattle.record_text.specs.declared.record.Entry.{Entry}
 use Rattle.record_text.specs.declared.record.CallbackReply.{CallbackReply}
 use Rattle.record_text.specs.declared.record.CallbackReply.TheVariants as told
@@ -19,35 +17,7 @@ use Rattle.record_text.specs.declared.record.Answer.TheVariants as answers
 use Rattle.record_text.specs.declared.record.TimerLine.{TimerLine}
 use Rattle.record_text.specs.declared.record.RunRecord.{RunRecord}
 use Rattle.record_text.specs.Replies.{answer_of_accept, answer_of_read, answer_of_settime}
-use Rattle.record_text.specs.Text.{RecordLine, Heading, OfClock, OfTimer, OfLook, OfObject, OfSkip, OfCall, End, write_ns, record_lines}
-
--- the numbers of an event
-abbrev pub event_numbers : EventBy ℕ → List ℕ
-event_numbers (events.Out base) = base ∷ []
-event_numbers (events.Start asked) = asked.ns ∷ asked.slack ∷ asked.reading ∷ asked.base ∷ []
-event_numbers events.Cancel = []
-event_numbers (events.Claim base reading) = base ∷ reading ∷ []
-event_numbers (events.Forward reading interval) = reading ∷ interval ∷ []
-event_numbers (events.Finish restart) = []
-
--- the numbers that tell what came of a restart
-abbrev pub restarted_numbers : Restarted → List ℕ
-restarted_numbers restarts.No = []
-restarted_numbers (restarts.Again generation) = generation ∷ []
-restarted_numbers restarts.Spent = []
-
--- the numbers of a reply
-abbrev pub reply_numbers : Reply → List ℕ
-reply_numbers (replies.Out was_armed) = []
-reply_numbers (replies.Start p was_armed) = p.base ∷ p.soft ∷ p.expires ∷ []
-reply_numbers (replies.Cancel generation) = generation ∷ []
-reply_numbers (replies.Claim generation) = generation ∷ []
-reply_numbers (replies.Forward moved) = moved.count ∷ moved.soft ∷ moved.expires ∷ []
-reply_numbers (replies.Finish generation restarted) = generation ∷ restarted_numbers restarted
-
--- the numbers of an entry
-abbrev pub entry_numbers : Entry → List ℕ
-entry_numbers e = event_numbers e.event ++ reply_numbers e.reply
+use Rattle.record_text.specs.Text.{RecordLine, Heading, OfClock, OfTimer, OfLook, OfObject, OfSkip, OfCall, End, entry_numbers, write_ns, record_lines}
 
 -- the numbers of what a callback was told
 abbrev pub told_numbers : CallbackReply → List ℕ

@@ -105,6 +105,12 @@ restarted_word restarts.No = codes "none"
 restarted_word (restarts.Again generation) = decimal generation
 restarted_word restarts.Spent = codes "spent"
 
+-- the numbers of that word
+abbrev pub restarted_numbers : Restarted → List ℕ
+restarted_numbers restarts.No = []
+restarted_numbers (restarts.Again generation) = generation ∷ []
+restarted_numbers restarts.Spent = []
+
 -- what a call made of its object's timer: the new generation, none where it wanted no start, or unarmed where its history was full
 abbrev pub armed_word : Armed → List ℕ
 armed_word arms.None = codes "none"
@@ -115,38 +121,61 @@ armed_word arms.Unarmed = codes "unarmed"
 abbrev pub counted_word : Bool → List ℕ
 counted_word counted = if counted then codes "counted" else codes "stale"
 
--- the words of what a start asks for; those of version 1 have no slack
-abbrev pub asked_words : Version → AskedBy ℕ → List (List ℕ)
-asked_words versions.One a = codes "start" ∷ mode_word a.mode ∷ decimal a.ns ∷ decimal a.reading ∷ decimal a.base ∷ []
-asked_words versions.Two a = codes "start" ∷ mode_word a.mode ∷ decimal a.ns ∷ decimal a.slack ∷ decimal a.reading ∷ decimal a.base ∷ []
+-- a part of an entry's line: a word with the numbers that it tells, or a number that tells of slack
+pub data Part : Type 0 where
+  Word : (word numbers : List ℕ) → Part
+  Slack : (number : ℕ) → Part
 
--- the words of an event
-abbrev pub event_words : Version → EventBy ℕ → List (List ℕ)
-event_words version (events.Out base) = codes "out" ∷ decimal base ∷ []
-event_words version (events.Start asked) = asked_words version asked
-event_words version events.Cancel = codes "cancel" ∷ []
-event_words version (events.Claim base reading) = codes "claim" ∷ decimal base ∷ decimal reading ∷ []
-event_words version (events.Forward reading interval) = codes "forward" ∷ decimal reading ∷ decimal interval ∷ []
-event_words version (events.Finish restart) = codes "finish" ∷ restart_word restart ∷ []
+-- a word that tells no number, and a number
+abbrev pub plain : List ℕ → Part
+plain word = Word word []
 
--- the words of a soft expiry; there are none in version 1
-abbrev pub soft_words : Version → ℕ → List (List ℕ)
-soft_words versions.One soft = []
-soft_words versions.Two soft = decimal soft ∷ []
+abbrev pub number : ℕ → Part
+number n = Word (decimal n) (n ∷ [])
 
--- the words of a reply
-abbrev pub reply_words : Version → Reply → List (List ℕ)
-reply_words version (replies.Out was_armed) = flag was_armed ∷ []
-reply_words version (replies.Start p was_armed) =
-    decimal p.base ∷ clock_word p.clock ∷ soft_words version p.soft ++ decimal p.expires ∷ flag was_armed ∷ []
-reply_words version (replies.Cancel generation) = decimal generation ∷ []
-reply_words version (replies.Claim generation) = decimal generation ∷ []
-reply_words version (replies.Forward moved) = decimal moved.count ∷ soft_words version moved.soft ++ decimal moved.expires ∷ []
-reply_words version (replies.Finish generation restarted) = decimal generation ∷ restarted_word restarted ∷ []
+-- the words of a number that tells of slack; a text of version 1 does not show it
+abbrev pub slack_words : Version → ℕ → List (List ℕ)
+slack_words versions.One n = []
+slack_words versions.Two n = decimal n ∷ []
+
+-- parts in their words
+abbrev pub words_of : Version → List Part → List (List ℕ)
+words_of version [] = []
+words_of version (Word word numbers ∷ parts) = word ∷ words_of version parts
+words_of version (Slack n ∷ parts) = slack_words version n ++ words_of version parts
+
+-- the numbers of parts, also those that are not shown
+abbrev pub numbers_in : List Part → List ℕ
+numbers_in [] = []
+numbers_in (Word word numbers ∷ parts) = numbers ++ numbers_in parts
+numbers_in (Slack n ∷ parts) = n ∷ numbers_in parts
+
+-- the parts of an event
+abbrev pub event_parts : EventBy ℕ → List Part
+event_parts (events.Out base) = plain (codes "out") ∷ number base ∷ []
+event_parts (events.Start a) = plain (codes "start") ∷ plain (mode_word a.mode) ∷ number a.ns ∷ Slack a.slack ∷ number a.reading ∷ number a.base ∷ []
+event_parts events.Cancel = plain (codes "cancel") ∷ []
+event_parts (events.Claim base reading) = plain (codes "claim") ∷ number base ∷ number reading ∷ []
+event_parts (events.Forward reading interval) = plain (codes "forward") ∷ number reading ∷ number interval ∷ []
+event_parts (events.Finish restart) = plain (codes "finish") ∷ plain (restart_word restart) ∷ []
+
+-- the parts of a reply
+abbrev pub reply_parts : Reply → List Part
+reply_parts (replies.Out was_armed) = plain (flag was_armed) ∷ []
+reply_parts (replies.Start p was_armed) =
+    number p.base ∷ plain (clock_word p.clock) ∷ Slack p.soft ∷ number p.expires ∷ plain (flag was_armed) ∷ []
+reply_parts (replies.Cancel generation) = number generation ∷ []
+reply_parts (replies.Claim generation) = number generation ∷ []
+reply_parts (replies.Forward moved) = number moved.count ∷ Slack moved.soft ∷ number moved.expires ∷ []
+reply_parts (replies.Finish generation restarted) = number generation ∷ Word (restarted_word restarted) (restarted_numbers restarted) ∷ []
 
 -- the words of an entry: what happened, and what it came to
 abbrev pub entry_words : Version → Entry → List (List ℕ)
-entry_words version e = event_words version e.event ++ reply_words version e.reply
+entry_words version e = words_of version (event_parts e.event) ++ words_of version (reply_parts e.reply)
+
+-- the numbers of an entry
+abbrev pub entry_numbers : Entry → List ℕ
+entry_numbers e = numbers_in (event_parts e.event) ++ numbers_in (reply_parts e.reply)
 
 -- the words of what a callback was told in place of an entry
 abbrev pub told_words : CallbackReply → List (List ℕ)

@@ -15,7 +15,7 @@ use Rattle.script_text.specs.declared.script.Call.{Call}
 use Rattle.script_text.specs.declared.script.Script.{Script}
 use Rattle.run_history.specs.Courses.{Course, entries_in}
 use Rattle.run_history.specs.Fits.{FitsCall, FitsLane, Seen, unseen}
-use Rattle.run_history.specs.Promises.{GoesOn, GoesOnClock, HasLog, HasLogs, IsLogged, IsPromised, IsPromisedSoFar, IsSoFar}
+use Rattle.run_history.specs.Promises.{GoesOn, GoesOnClock, HasLog, HasLogs, IsRightLog, IsPromised, IsPromisedSoFar, IsSoFar}
 use Rattle.run_history.specs.Receipts.{AreAll}
 use Rattle.run_history.specs.Rounds.{label_at}
 use Rattle.run_history.specs.Runs.{CallLog, clock_spans, course_of, Ending, IsJoined, moves_spans, object_spans}
@@ -27,7 +27,7 @@ use Rattle.run_history.proofs.Points.{object_point, reading_from}
 
 module _ {s : Script} {e : Ending} {c : Label} {log : CallLog} (joined : IsJoined s e) (is : IsLabel s c) (has : HasLog e c log) where
   -- law: then the call is as the lemmas of calls ask
-  pub kept_from : {call : Call} {answer : Answer} {before after : Seen} → IsLogged log call answer before after
+  pub kept_from : {call : Call} {answer : Answer} {before after : Seen} → IsRightLog log call answer before after
       → IsKept (course_of s e) (moves_spans e) c log.trace log.notes call answer before after
   kept_from {before = before} {after = after} logged =
       let of : (P : CallLog → Type 0) → P log → P (e.logs c) = λ P. subst P (sym has.kept) in record {
@@ -70,13 +70,6 @@ pub reading_seen : (e : Ending) (writes : List Write) (n : ℕ) → GoesOnClock 
 reading_seen e writes n on le =
     ap (clock_after (at_stamp 0)) (sym (take-map (λ (line : ClockLine). line.write) n e.run.clock) ∙ ap (take n) on.1 ∙ take-append-le n writes on.0 le)
 
--- a run that goes on from what a pass has seen goes on from what it had seen before
-pub goes_on_less : (seen more : List TimerEntry) (e : Ending) → GoesOn (seen ++ more) e → GoesOn seen e
-goes_on_less seen more e on = (more ++ on.0, on.1 ∙ append_assoc seen more on.0)
-
-pub goes_on_clock_less : (writes more : List Write) (e : Ending) → GoesOnClock (writes ++ more) e → GoesOnClock writes e
-goes_on_clock_less writes more e on = (more ++ on.0, on.1 ∙ append_assoc writes more on.0)
-
 -- ---- a lane's calls in turn
 
 so_far_push : (w : Course) (lane index : ℕ) (now after : Seen) (all rest : List CallInRound) (p : CallInRound) (given : List Answer) (answer : Answer)
@@ -100,10 +93,6 @@ last_log e lane index (x ∷ logs) log has =
   where
     further : (a b : ℕ) → a + 1 + b ≡ a + suc b
     further a b = omega arith
-
--- before its first call a lane has promised nothing
-pub promised_none : (s : Script) (lane : ℕ) (Follows : Ending → Type 0) → IsPromisedSoFar s lane 0 [] Follows unseen (calls_of s lane) []
-promised_none s lane Follows e follows has joined more fits = fits
 
 -- law: a call that keeps its promise, where the lane has seen no less than before
 pub promised_push : (s : Script) (lane index : ℕ) (logs : List CallLog) (log : CallLog) (Before After : Ending → Type 0) (now after : Seen)

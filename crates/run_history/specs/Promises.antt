@@ -22,7 +22,7 @@ use Rattle.run_history.specs.Traces.{all_entered}
 
 -- What a lane kept of a call is right in itself: the call made its entries in its span, up to its last moment; the receipts are of them; its reading is
 -- one of those that it had seen, before its own writes; and the numbers that it saw never fall.
-pub record IsLogged (log : CallLog) (call : Call) (answer : Answer) (before after : Seen) : Type 0 where
+pub record IsRightLog (log : CallLog) (call : Call) (answer : Answer) (before after : Seen) : Type 0 where
   pub forward : log.moves.0 ≤ log.trace.last
   pub last : log.trace.last ≤ log.moves.1
   pub inside : AllByRecursion (λ x. (log.moves.0 ≤ x.place) × (x.place < log.trace.last)) log.notes

@@ -61,13 +61,6 @@ makes_made v w t x es made claims =
       );
     }
 
-pub makes_none : (t : ℕ) (v : KnownOfTimers) → MakesEntries t 0 v v
-makes_none t v = record {
-  keeps = record { id = refl; claims = refl; seen = begins_refl v.seen; mine = begins_refl v.mine };
-  mine = omega arith;
-  elsewhere = λ i m apart. refl;
-}
-
 -- ---- starts
 
 abbrev along : Timer → ℕ → ℕ → ClockReading → Bool → List seq.Entry

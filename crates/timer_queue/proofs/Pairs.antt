@@ -181,11 +181,6 @@ pub expiry_of-first : (ps : List (ℕ × ℕ)) (p : ℕ × ℕ) → first_of ps 
 expiry_of-first [] p first = grind arith
 expiry_of-first (q ∷ ps) p first = let same = same_Some q p first in subst (λ r. expiry_of r.1 (q ∷ ps) ≡ Some r.0) same (grind (arith, nat_tests))
 
--- where there is no first pair, no timer has an expiry
-pub expiry_of-none : (id : ℕ) (ps : List (ℕ × ℕ)) → first_of ps ≡ None → expiry_of id ps ≡ None
-expiry_of-none id [] first = refl
-expiry_of-none id (q ∷ ps) first = grind arith
-
 below_each : (least : ℕ) (ps : List (ℕ × ℕ)) → AllByRecursion (λ q. least ≤ q.0) ps → (id expires : ℕ) → expiry_of id ps ≡ Some expires → least ≤ expires
 below_each least [] all id expires found = grind arith
 below_each least (q ∷ ps) all id expires found = grind (arith, nat_tests, all.0, below_each least ps all.1 id expires)

@@ -1,10 +1,9 @@
 //! The words of a timer's entries, and of what callbacks were told in place of one.
 ghost use Rattle.std.specs.Prelude.{◌≡◌, ◌++◌, ◌∷◌, [], OnOk, string_bytes};
-ghost use Rattle.std.specs.Fmt.{decimal};
 ghost use Rattle.seq_timer.specs.declared.event.EventBy.TheVariants as events;
 ghost use Rattle.seq_timer.specs.declared.event.Reply.TheVariants as replies;
-ghost use Rattle.record_text.specs.Numbers.{entry_numbers, event_numbers, reply_numbers, told_numbers, AreMachineNumbers};
-ghost use Rattle.record_text.specs.Text.{asked_words, entry_words, event_words, reply_words, restarted_word, spaced, told_words};
+ghost use Rattle.record_text.specs.Numbers.{AreMachineNumbers, told_numbers};
+ghost use Rattle.record_text.specs.Text.{entry_numbers, entry_words, event_parts, numbers_in, reply_parts, spaced, told_words, words_of};
 
 use crate::record::{CallbackReply, Entry};
 use crate::version::Version;
@@ -35,8 +34,8 @@ impl HasWords for EntryIn {
 
 /// Writes what happened.
 fn write_event(out: &mut String, version: Version, event: EventBy<u64>) -> Result<(), AllocError>
-    ensures text { OnOk result (string_bytes out.new ≡ string_bytes out.old ++ spaced (event_words version event)) }
-    ensures numbers { OnOk result (AreMachineNumbers (event_numbers event)) }
+    ensures text { OnOk result (string_bytes out.new ≡ string_bytes out.old ++ spaced (words_of version (event_parts event))) }
+    ensures numbers { OnOk result (AreMachineNumbers (numbers_in (event_parts event))) }
 {
     match event {
         EventBy::Out { base } => write!(out, " out {base}")?,
@@ -54,8 +53,8 @@ fn write_event(out: &mut String, version: Version, event: EventBy<u64>) -> Resul
 
 /// Writes what a start was asked for.
 fn write_asked(out: &mut String, version: Version, asked: AskedBy<u64>) -> Result<(), AllocError>
-    ensures text { OnOk result (string_bytes out.new ≡ string_bytes out.old ++ spaced (asked_words version asked)) }
-    ensures numbers { OnOk result (AreMachineNumbers (event_numbers (events.Start asked))) }
+    ensures text { OnOk result (string_bytes out.new ≡ string_bytes out.old ++ spaced (words_of version (event_parts (events.Start asked)))) }
+    ensures numbers { OnOk result (AreMachineNumbers (numbers_in (event_parts (events.Start asked)))) }
 {
     let AskedBy {
         mode,
@@ -74,8 +73,8 @@ fn write_asked(out: &mut String, version: Version, asked: AskedBy<u64>) -> Resul
 
 /// Writes what an event came to.
 fn write_reply(out: &mut String, version: Version, reply: Reply) -> Result<(), AllocError>
-    ensures text { OnOk result (string_bytes out.new ≡ string_bytes out.old ++ spaced (reply_words version reply)) }
-    ensures numbers { OnOk result (AreMachineNumbers (reply_numbers reply)) }
+    ensures text { OnOk result (string_bytes out.new ≡ string_bytes out.old ++ spaced (words_of version (reply_parts reply))) }
+    ensures numbers { OnOk result (AreMachineNumbers (numbers_in (reply_parts reply))) }
 {
     match reply {
         Reply::Out { was_armed } => {
@@ -93,7 +92,7 @@ fn write_reply(out: &mut String, version: Version, reply: Reply) -> Result<(), A
         Reply::Finish {
             generation,
             restarted,
-        } => write_finished(out, generation, restarted)?,
+        } => write_finished(out, version, generation, restarted)?,
     }
     Ok(())
 }
@@ -105,8 +104,8 @@ fn write_placement(
     placement: Placement,
     was_armed: bool,
 ) -> Result<(), AllocError>
-    ensures text { OnOk result (string_bytes out.new ≡ string_bytes out.old ++ spaced (reply_words version (replies.Start placement was_armed))) }
-    ensures numbers { OnOk result (AreMachineNumbers (reply_numbers (replies.Start placement was_armed))) }
+    ensures text { OnOk result (string_bytes out.new ≡ string_bytes out.old ++ spaced (words_of version (reply_parts (replies.Start placement was_armed)))) }
+    ensures numbers { OnOk result (AreMachineNumbers (numbers_in (reply_parts (replies.Start placement was_armed)))) }
 {
     let Placement {
         base,
@@ -125,8 +124,8 @@ fn write_placement(
 
 /// Writes what a forward came to.
 fn write_moved(out: &mut String, version: Version, moved: Moved) -> Result<(), AllocError>
-    ensures text { OnOk result (string_bytes out.new ≡ string_bytes out.old ++ spaced (reply_words version (replies.Forward moved))) }
-    ensures numbers { OnOk result (AreMachineNumbers (reply_numbers (replies.Forward moved))) }
+    ensures text { OnOk result (string_bytes out.new ≡ string_bytes out.old ++ spaced (words_of version (reply_parts (replies.Forward moved)))) }
+    ensures numbers { OnOk result (AreMachineNumbers (numbers_in (reply_parts (replies.Forward moved)))) }
 {
     let Moved {
         count,
@@ -141,9 +140,14 @@ fn write_moved(out: &mut String, version: Version, moved: Moved) -> Result<(), A
 }
 
 /// Writes what a finish came to.
-fn write_finished(out: &mut String, generation: u64, restarted: Restarted) -> Result<(), AllocError>
-    ensures text { OnOk result (string_bytes out.new ≡ string_bytes out.old ++ spaced (decimal generation ∷ restarted_word restarted ∷ [])) }
-    ensures numbers { OnOk result (AreMachineNumbers (reply_numbers (replies.Finish generation restarted))) }
+fn write_finished(
+    out: &mut String,
+    version: Version,
+    generation: u64,
+    restarted: Restarted,
+) -> Result<(), AllocError>
+    ensures text { OnOk result (string_bytes out.new ≡ string_bytes out.old ++ spaced (words_of version (reply_parts (replies.Finish generation restarted)))) }
+    ensures numbers { OnOk result (AreMachineNumbers (numbers_in (reply_parts (replies.Finish generation restarted)))) }
 {
     match restarted {
         Restarted::No => write!(out, " {generation} none")?,
