@@ -3,7 +3,6 @@ use Rattle.std.proofs.Common.{◌≡◌, ℕ, ◌<◌, ◌≤◌, List, [], ◌�
 use Rattle.std.specs.Prelude.{Option, Some, None, Bool, true, IfSome, IfNone, nat_eq, is_some, ◌&&◌, if◌then◌else◌}
 use Rattle.std.proofs.lemmas.Bool.{cases_eq}
 use Rattle.std.proofs.lemmas.Bool.Decides.{nat_tests}
-use Rattle.std.proofs.lemmas.List.{get_or_past}
 use Rattle.ktime.specs.Readings.{ClockReading}
 use Rattle.seq_timer.specs.Steps.{Timer, greatest_limit}
 use Rattle.seq_timer.proofs.Effects.{HasLeft, placed_by}
@@ -11,7 +10,7 @@ use Rattle.seq_timer.proofs.Limits.{left-after, stamp-after}
 use Rattle.seq_timer.specs.Histories.{peek_of}
 use Rattle.timer_word.specs.Words.{IsWord, packed}
 use Rattle.seq_timer.specs.declared.observation.Peek.{Peek}
-use Rattle.seq_timer.specs.Tables.{IsStopped, in_context, no_timer, runs_on, timer_at}
+use Rattle.seq_timer.specs.Tables.{IsStopped, in_context, runs_on, timer_at}
 use Rattle.ktime.specs.declared.clock_id.ClockId.{ClockId}
 use Rattle.seq_timer.specs.declared.context.Context.{Context}
 use Rattle.seq_timer.specs.Halves.{generation_in, running_on}
@@ -25,7 +24,7 @@ use Rattle.seq_timer.specs.Tables.{IsNextDue}
 use Rattle.base_row.specs.Rules.{number_of}
 use Rattle.base_row.specs.Plays.{KnowsBases}
 use Rattle.base_row.specs.Calls.{AreFresh, base_seen, timer_seen}
-use Rattle.seq_timer.proofs.Systems.{timer_here, timer_else, untouched}
+use Rattle.seq_timer.proofs.Systems.{timer_here, timer_else}
 use Rattle.seq_timer.proofs.Agreement.{agrees}
 use Rattle.seq_timer.proofs.Firsts.{next_on-next, next_on-none}
 

@@ -9,7 +9,7 @@ ghost use Rattle.base_row.specs.Plays.{carry_after};
 ghost use Rattle.base_row.specs.Calls.{IsBasePassOf, MayAppend, Appended, own_receipt, stepped, timer_seen};
 
 use crate::held::{HeldBase, Pass};
-use crate::log::{Sink, Unlogged};
+use crate::log::{ReceiptSink, Unlogged};
 use crate::parts::number_of;
 use crate::row::BaseRow;
 use crate::steps::enter;
@@ -31,7 +31,7 @@ impl BaseRow {
     }
 
     /// The same, with a receipt into a sink.
-    pub fn append_logged<S: Sink>(
+    pub fn append_logged<S: ReceiptSink>(
         &self,
         pass: &mut Pass,
         sink: &mut S,
@@ -71,7 +71,7 @@ impl BaseRow {
     }
 
     /// The same, with a receipt into a sink.
-    pub fn out_logged<S: Sink>(
+    pub fn out_logged<S: ReceiptSink>(
         &self,
         pass: &mut Pass,
         sink: &mut S,
@@ -121,7 +121,7 @@ impl BaseRow {
     }
 
     /// The same, with a receipt into a sink.
-    pub fn arrive_logged<S: Sink>(
+    pub fn arrive_logged<S: ReceiptSink>(
         &self,
         pass: &mut Pass,
         sink: &mut S,
@@ -188,7 +188,7 @@ impl BaseRow {
     }
 
     /// Adds an entry that the held base has made: stores the timer's word, and puts the receipt into a sink.
-    fn note_entry<S: Sink>(
+    fn note_entry<S: ReceiptSink>(
         &self,
         pass: &mut Pass,
         sink: &mut S,

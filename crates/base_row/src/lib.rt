@@ -19,7 +19,7 @@ pub use laws::{
     a_holder_has_seen_all_of_its_timers, an_entry_extends_its_timer, locks_and_loads_only_look,
     passes_tell_what_they_saw,
 };
-pub use log::{Log, Noted, Receipt, ReceiptLog, Sink, Unlogged};
+pub use log::{Log, Noted, Receipt, ReceiptLog, ReceiptSink, Unlogged};
 pub use row::BaseRow;
 pub use slot::BaseSlot;
 pub use view::{BaseView, Claimed, HeldContent, Opening};

@@ -113,7 +113,7 @@ fn receipt_of(timer: u32, number: u64, event: Event, reply: Noted) -> Receipt
 }
 
 /// Where the receipts of entries go.
-pub trait Sink {
+pub trait ReceiptSink {
     ghost use Rattle.base_row.specs.declared.log.Receipt.{Receipt};
 
     /// With one receipt more.
@@ -133,7 +133,7 @@ pub trait Sink {
 #[derive(Clone, Copy, Drop)]
 pub struct Unlogged;
 
-impl Sink for Unlogged {
+impl ReceiptSink for Unlogged {
     ghost pushed = { λ s receipt. s };
 
     ghost room = { λ s. 2 };
@@ -143,7 +143,7 @@ impl Sink for Unlogged {
     }
 }
 
-impl Sink for Log {
+impl ReceiptSink for Log {
     ghost use Rattle.base_row.specs.Logs.{kept};
 
     ghost pushed = { kept };

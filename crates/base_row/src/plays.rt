@@ -23,24 +23,24 @@ impl TableRule<BaseCell, SlotView, About> for BaseRule {
 }
 
 /// Which event an entry has. Each entry picks it.
-pub trait Asked {
+pub trait EventPick {
     ghost use Rattle.seq_timer.specs.Events.{Event};
 
     ghost event: { Event };
 }
 
-impl Asked for Brand {
+impl EventPick for Brand {
     ghost use Rattle.seq_timer.specs.declared.event.EventBy.TheVariants.{Cancel};
 
     ghost event = { Cancel };
 }
 
 /// The store of a timer's word.
-pub struct Enter<K: Asked> {
+pub struct Enter<K: EventPick> {
     of: PhantomData<K>,
 }
 
-impl<K: Asked> Play<BaseCell, SlotView> for Enter<K> {
+impl<K: EventPick> Play<BaseCell, SlotView> for Enter<K> {
     ghost use Rattle.base_row.specs.Plays.{EntersBy};
 
     ghost then = { λ st m stored w. EntersBy K.event st m w };

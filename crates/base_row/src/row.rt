@@ -17,7 +17,7 @@ ghost use Rattle.base_row.specs.Calls.{LearnsFrom, MayAppend, Appended, own_rece
 
 use crate::cell::BaseCell;
 use crate::held::{HeldBase, Pass};
-use crate::log::{Sink, Unlogged};
+use crate::log::{ReceiptSink, Unlogged};
 use crate::parts::{empty_slots, lock_index, number_of, timer_index, zeros};
 use crate::plays::{About, BaseRule, Child, SlotView};
 use crate::slots::{attempt, put_back};

@@ -12,7 +12,9 @@ ghost use Rattle.base_row.specs.Plays.{MayEnter, OwnNeeds, EntersAs, MayMeetLock
 ghost use Rattle.base_row.specs.Calls.{LearnsFrom, Absorbs};
 
 use crate::cell::BaseCell;
-use crate::plays::{About, Asked, BaseRule, Child, Enter, Free, Look, Meet, Note, SlotView, Take};
+use crate::plays::{
+    About, BaseRule, Child, Enter, EventPick, Free, Look, Meet, Note, SlotView, Take,
+};
 use atomic_table::{Seat, Shared};
 use seq_timer::Event;
 
@@ -21,7 +23,7 @@ pub type BaseCells = Shared<BaseCell, SlotView, About, BaseRule>;
 pub type BaseSeat = Seat<BaseCell, SlotView>;
 
 /// Stores a timer's new word, which adds one entry.
-pub fn enter<K: Asked>(
+pub fn enter<K: EventPick>(
     cells: &BaseCells,
     seat: &mut BaseSeat,
     word: usize,

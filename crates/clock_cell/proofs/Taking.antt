@@ -1,17 +1,16 @@
 -- What is known of a write that was made after looks, and of one that was refused.
-use Rattle.std.proofs.Common.{◌≡◌, ◌≢◌, ℕ, ◌+◌, Bool, true, false, List, [], ◌∷◌, ◌++◌, ◌≤◌, length, refl, ap, sym, ◌∙◌, subst, ◌⊎◌, inl, inr, ⊎_elim, length-append, arith}
-use Rattle.std.proofs.lemmas.Bool.{cases_lt}
+use Rattle.std.proofs.Common.{◌≡◌, ◌≢◌, ℕ, ◌+◌, Bool, true, false, List, [], ◌∷◌, ◌++◌, ◌≤◌, length, refl, ap, sym, ◌∙◌, subst, ◌⊎◌, inl, inr, length-append, arith}
 use Rattle.std.specs.Prelude.{MatchBool, All}
 use Rattle.std.proofs.lemmas.List.Elements.{All-weaker}
 use Rattle.ktime.specs.Readings.{ClockReading}
 use Rattle.clock_model.specs.declared.write.Write.{Write}
 use Rattle.pass_names.specs.Passes.{Begins, Looks, places}
-use Rattle.pass_names.proofs.Passes.{begins_trans, begins_length, begins_whole, goes_trans, looks_trans}
+use Rattle.pass_names.proofs.Passes.{begins_trans, goes_trans}
 use Rattle.clock_cell.specs.declared.view.ClockView.{ClockView}
-use Rattle.clock_cell.specs.Views.{reading_after, writes, seen_reading, KnowsClock, Hears, AcceptsWrite}
+use Rattle.clock_cell.specs.Views.{writes, seen_reading, KnowsClock, Hears, AcceptsWrite}
 use Rattle.clock_cell.specs.Words.{cell_words, reading_in}
 use Rattle.clock_cell.specs.Plays.{Loaded, MadeWrite}
-use Rattle.clock_cell.specs.Turns.{Misses, SeesMore}
+use Rattle.clock_cell.specs.Turns.{Misses}
 use Rattle.clock_model.specs.Clocks.{last_stamp}
 use Rattle.clock_model.proofs.Writes.{shown_by, stamp_after}
 

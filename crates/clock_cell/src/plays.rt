@@ -25,24 +25,24 @@ impl Outcome<[u64; 5], ClockView> for Look {
 }
 
 /// Which write an exchange makes. Each exchange picks it.
-pub trait Asked {
+pub trait WritePick {
     ghost use Rattle.clock_model.specs.declared.write.Write.{Write};
 
     ghost write: { Write };
 }
 
-impl Asked for Brand {
+impl WritePick for Brand {
     ghost use Rattle.clock_model.specs.declared.write.Write.TheVariants.{Advance};
 
     ghost write = { Advance 0 };
 }
 
 /// An exchange from one reading to the one after the write.
-pub struct Enter<K: Asked> {
+pub struct Enter<K: WritePick> {
     of: PhantomData<K>,
 }
 
-impl<K: Asked> Outcome<[u64; 5], ClockView> for Enter<K> {
+impl<K: WritePick> Outcome<[u64; 5], ClockView> for Enter<K> {
     ghost use Rattle.clock_cell.specs.Plays.{Exchanged};
 
     ghost then = { Exchanged K.write };

@@ -7,7 +7,7 @@ ghost use Rattle.clock_cell.specs.Views.{told_clock_view, joined_clock_view};
 ghost use Rattle.clock_cell.specs.Plays.{Loaded, MadeWrite};
 ghost use Rattle.clock_cell.specs.Words.{cell_words};
 
-use crate::plays::{Asked, Child, ClockRule, Enter, Look, Note, Whole};
+use crate::plays::{WritePick, Child, ClockRule, Enter, Look, Note, Whole};
 use crate::view::ClockView;
 use crate::words::cell_words;
 use clock_model::Write;
@@ -30,7 +30,7 @@ pub fn look<R: Wait>(rt: &R, cell: &ClockCell, seat: &mut ClockSeat) -> [u64; 5]
 }
 
 /// Makes a write, if the words are still those of the reading `seen`.
-pub fn enter<K: Asked, R: Wait>(
+pub fn enter<K: WritePick, R: Wait>(
     rt: &R,
     cell: &ClockCell,
     seat: &mut ClockSeat,

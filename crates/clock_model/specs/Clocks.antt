@@ -1,5 +1,5 @@
 -- The clock after one write and after a list of writes, and when a write is refused.
-use Rattle.std.specs.Prelude.{◌≡◌, ℕ, ◌+◌, ◌^◌, ◌≤◌, ◌<◌, ◌↔◌, max, nat_eq, if◌then◌else◌, List, [], ◌∷◌, Result, Err, IfOk, OnErr, take}
+use Rattle.std.specs.Prelude.{◌≡◌, ℕ, ◌+◌, ◌^◌, ◌≤◌, ◌<◌, ◌↔◌, max, nat_eq, if◌then◌else◌, List, [], ◌∷◌, Result, Err, IfOk, OnErr}
 use Rattle.ktime.specs.Readings.{ClockReading, latest}
 use Rattle.clock_model.specs.declared.write.Write.{Write}
 use Rattle.clock_model.specs.declared.write.Write.TheVariants as writes

@@ -15,7 +15,6 @@ use Rattle.counted_row.specs.Calls.{Commits, ReadsValue}
 pub in_list : {A : Type 0} (xs : List A) (i : ℕ) (x : A) → get_elem? xs i ≡ some x → i < length xs
 in_list xs i x e = omega (arith, ap length (drop_at xs i x e), length-drop i xs)
 
-module _ {S C R : Type 0} where
 module _ {S C R : Type 0} {m : CallMeaning S C R} where
   -- a lock, and the commit that ended it
   abbrev pub commits_of : {r : RowOf S} {old mid new : PassOfRow S C R} {i : ℕ} {h : Locked S} {call : C} → Locks m old mid i h

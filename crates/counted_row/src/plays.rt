@@ -45,24 +45,24 @@ impl<O: Object> Play<ValueCell<O>, View<O, O::Call, O::Reply>> for Take {
 }
 
 /// Which call a commit makes, by its code. Each commit picks it.
-pub trait Asked {
+pub trait CallPick {
     ghost use base.Stored.{Gv};
 
     ghost code: { Gv };
 }
 
-impl Asked for Brand {
+impl CallPick for Brand {
     ghost use base.Stored.{coded_ℕ};
 
     ghost code = { coded_ℕ.code 0 };
 }
 
 /// The store of a commit.
-pub struct Enter<K: Asked> {
+pub struct Enter<K: CallPick> {
     of: PhantomData<K>,
 }
 
-impl<O: Object, K: Asked> Play<ValueCell<O>, View<O, O::Call, O::Reply>> for Enter<K> {
+impl<O: Object, K: CallPick> Play<ValueCell<O>, View<O, O::Call, O::Reply>> for Enter<K> {
     ghost use Rattle.std.specs.Prelude.{◌≡◌};
     ghost use Rattle.counted_row.specs.Plays.{Enters};
 

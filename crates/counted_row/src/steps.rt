@@ -12,7 +12,7 @@ ghost use Rattle.counted_row.specs.Views.{Knows, having_seen, committed, release
 
 use crate::cell::ValueCell;
 use crate::object::Object;
-use crate::plays::{Asked, Check, Child, Enter, Free, Look, Note, RowRule, Take};
+use crate::plays::{CallPick, Check, Child, Enter, Free, Look, Note, RowRule, Take};
 use crate::view::View;
 use atomic_table::{Seat, Shared};
 use std::snapshot::Snapshot;
@@ -69,7 +69,7 @@ pub fn take<O: Object>(
 }
 
 /// Adds the call to the history of the held value, and lets its lock go.
-pub fn enter<O: Object, K: Asked>(
+pub fn enter<O: Object, K: CallPick>(
     cells: &Cells<O>,
     seat: &mut RowSeat<O>,
     index: usize,

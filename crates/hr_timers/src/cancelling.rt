@@ -8,12 +8,12 @@ ghost use Rattle.hr_timers.specs.Calls.{Cancels};
 ghost use Rattle.hr_timers.specs.Logged.{CancelsLogged};
 
 use crate::under_lock::{enter_once, leave, lock_timer, state_of};
-use base_row::{BaseRow, HeldBase, Pass, Sink};
+use base_row::{BaseRow, HeldBase, Pass, ReceiptSink};
 use seq_timer::{CancelAnswer, Event};
 use std::sync::Wait;
 
 /// Takes the lock of the timer's base, but where a load shows the timer idle.
-pub fn try_to_cancel<R: Wait, S: Sink>(
+pub fn try_to_cancel<R: Wait, S: ReceiptSink>(
     rt: &R,
     row: &BaseRow,
     pass: &mut Pass,
@@ -50,7 +50,7 @@ fn look_idle(row: &BaseRow, pass: &mut Pass, timer: u32) -> Option<u64>
 }
 
 /// Disarms a timer of a held base, and lets the base go.
-pub fn cancel_held<S: Sink>(
+pub fn cancel_held<S: ReceiptSink>(
     row: &BaseRow,
     pass: &mut Pass,
     sink: &mut S,

@@ -12,13 +12,13 @@ use crate::answer::ClaimAnswer;
 use crate::numbers::ClaimNumbers;
 use crate::tokens::Claim;
 use crate::under_lock::{enter_once, leave, leave_base, lock, state_of};
-use base_row::{BaseRow, HeldBase, Pass, Sink};
+use base_row::{BaseRow, HeldBase, Pass, ReceiptSink};
 use ktime::Reading;
 use seq_timer::{Context, Event, Finished, ForwardAnswer, Rearmed, Reply, TimerState};
 use std::sync::Wait;
 
 /// Claims the timer of a context that is the next to expire on a base: its function is to run (`__run_hrtimer`).
-pub fn claim_next<R: Wait, S: Sink>(
+pub fn claim_next<R: Wait, S: ReceiptSink>(
     rt: &R,
     row: &BaseRow,
     pass: &mut Pass,
@@ -48,7 +48,7 @@ pub fn claim_next<R: Wait, S: Sink>(
 }
 
 /// Claims a timer that is the next to expire on a held base, and lets the base go.
-fn claim_held<S: Sink>(
+fn claim_held<S: ReceiptSink>(
     row: &BaseRow,
     pass: &mut Pass,
     sink: &mut S,
@@ -120,7 +120,7 @@ fn hold_claimed<R: Wait>(
 }
 
 /// Ends the run of a claim's function. `restart` is what the function answered.
-pub fn finish<R: Wait, S: Sink>(
+pub fn finish<R: Wait, S: ReceiptSink>(
     rt: &R,
     row: &BaseRow,
     pass: &mut Pass,
@@ -150,7 +150,7 @@ pub fn finish<R: Wait, S: Sink>(
 }
 
 /// Moves the expiry of a claim's timer past the reading by whole intervals (`hrtimer_forward`). It doesn't arm it.
-pub fn forward<R: Wait, S: Sink>(
+pub fn forward<R: Wait, S: ReceiptSink>(
     rt: &R,
     row: &BaseRow,
     pass: &mut Pass,
@@ -171,7 +171,7 @@ pub fn forward<R: Wait, S: Sink>(
 }
 
 /// The same on the held base, which is let go.
-fn forward_held<S: Sink>(
+fn forward_held<S: ReceiptSink>(
     row: &BaseRow,
     pass: &mut Pass,
     sink: &mut S,

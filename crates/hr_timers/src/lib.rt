@@ -18,7 +18,7 @@ mod trying_now;
 mod under_lock;
 
 pub use answer::{ClaimAnswer, NowAnswer, StartAnswer};
-pub use base_row::{Log, Noted, Receipt, ReceiptLog, Sink, Unlogged};
+pub use base_row::{Log, Noted, Receipt, ReceiptLog, ReceiptSink, Unlogged};
 pub use laws::{a_call_answers_the_stamp, no_answer_is_far_past_the_limit};
 pub use numbers::ClaimNumbers;
 pub use timers::Timers;

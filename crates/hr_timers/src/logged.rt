@@ -7,14 +7,14 @@ use crate::answer::{ClaimAnswer, StartAnswer};
 use crate::timers::Timers;
 use crate::tokens::{Claim, Pass};
 use crate::{cancelling, claiming, starting};
-use base_row::Sink;
+use base_row::ReceiptSink;
 use ktime::Reading;
 use seq_timer::{Asked, CancelAnswer, Context, Finished, ForwardAnswer};
 use std::sync::Wait;
 
 impl Timers {
     /// As `start_range`.
-    pub fn start_logged<R: Wait, S: Sink>(
+    pub fn start_logged<R: Wait, S: ReceiptSink>(
         &self,
         rt: &R,
         pass: &mut Pass,
@@ -38,7 +38,7 @@ impl Timers {
     }
 
     /// As `try_to_cancel`.
-    pub fn try_to_cancel_logged<R: Wait, S: Sink>(
+    pub fn try_to_cancel_logged<R: Wait, S: ReceiptSink>(
         &self,
         rt: &R,
         pass: &mut Pass,
@@ -59,7 +59,7 @@ impl Timers {
     }
 
     /// As `claim_in`.
-    pub fn claim_in_logged<R: Wait, S: Sink>(
+    pub fn claim_in_logged<R: Wait, S: ReceiptSink>(
         &self,
         rt: &R,
         pass: &mut Pass,
@@ -82,7 +82,7 @@ impl Timers {
     }
 
     /// As `forward`.
-    pub fn forward_logged<R: Wait, S: Sink>(
+    pub fn forward_logged<R: Wait, S: ReceiptSink>(
         &self,
         rt: &R,
         pass: &mut Pass,
@@ -106,7 +106,7 @@ impl Timers {
     }
 
     /// As `finish`.
-    pub fn finish_logged<R: Wait, S: Sink>(
+    pub fn finish_logged<R: Wait, S: ReceiptSink>(
         &self,
         rt: &R,
         pass: &mut Pass,

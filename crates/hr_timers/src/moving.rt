@@ -9,13 +9,13 @@ ghost use Rattle.hr_timers.specs.Calls.{entry_by};
 ghost use Rattle.hr_timers.specs.Logged.{IsLogged};
 
 use crate::under_lock::lock;
-use base_row::{BaseRow, HeldBase, Pass, Sink};
+use base_row::{BaseRow, HeldBase, Pass, ReceiptSink};
 use seq_timer::{Asked, Event, Placement, Reply, TimerState};
 use std::sync::Wait;
 
 /// Sends a timer from a held base to the one that is asked for, lets the base go, and starts the timer under the other's lock. It tells how the timer
 /// is kept then.
-pub fn move_and_start<R: Wait, S: Sink>(
+pub fn move_and_start<R: Wait, S: ReceiptSink>(
     rt: &R,
     row: &BaseRow,
     pass: &mut Pass,
@@ -40,7 +40,7 @@ pub fn move_and_start<R: Wait, S: Sink>(
 }
 
 /// Sends a timer off a held base to another, and lets the base go. The pass carries the timer then, in the state that it gives.
-fn send<S: Sink>(
+fn send<S: ReceiptSink>(
     row: &BaseRow,
     pass: &mut Pass,
     sink: &mut S,
@@ -69,7 +69,7 @@ fn send<S: Sink>(
 }
 
 /// Starts a timer that the pass carries on the base that it goes to, under that base's lock. It tells how the timer is kept then.
-fn bring<R: Wait, S: Sink>(
+fn bring<R: Wait, S: ReceiptSink>(
     rt: &R,
     row: &BaseRow,
     pass: &mut Pass,

@@ -12,12 +12,12 @@ use crate::answer::StartAnswer;
 use crate::asked::{generation_of, moves_first, outs_of};
 use crate::moving::move_and_start;
 use crate::under_lock::{enter_once, leave, lock_timer, state_of};
-use base_row::{BaseRow, HeldBase, Pass, Sink};
+use base_row::{BaseRow, HeldBase, Pass, ReceiptSink};
 use seq_timer::{Asked, Event, Placement, Reply};
 use std::sync::Wait;
 
 /// Starts a timer, once it isn't on the move.
-pub fn start<R: Wait, S: Sink>(
+pub fn start<R: Wait, S: ReceiptSink>(
     rt: &R,
     row: &BaseRow,
     pass: &mut Pass,
@@ -40,7 +40,7 @@ pub fn start<R: Wait, S: Sink>(
 }
 
 /// Starts a timer of a held base, and lets the base go.
-fn start_held<R: Wait, S: Sink>(
+fn start_held<R: Wait, S: ReceiptSink>(
     rt: &R,
     row: &BaseRow,
     pass: &mut Pass,
@@ -75,7 +75,7 @@ fn start_held<R: Wait, S: Sink>(
 }
 
 /// Makes the entries of a start that is below the limit, and lets the base go. It tells how the timer is kept then.
-fn enter_start<R: Wait, S: Sink>(
+fn enter_start<R: Wait, S: ReceiptSink>(
     rt: &R,
     row: &BaseRow,
     pass: &mut Pass,
@@ -103,7 +103,7 @@ fn enter_start<R: Wait, S: Sink>(
 }
 
 /// Starts a timer on the held base where it is, and lets the base go.
-fn start_here<S: Sink>(
+fn start_here<S: ReceiptSink>(
     row: &BaseRow,
     pass: &mut Pass,
     sink: &mut S,

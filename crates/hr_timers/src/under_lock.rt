@@ -14,7 +14,7 @@ ghost use Rattle.hr_timers.specs.Known.{AddsBehind, HoldsBase, HoldsTimer, IsAtR
 ghost use Rattle.hr_timers.specs.Calls.{SawMove, entry_by};
 ghost use Rattle.hr_timers.specs.Logged.{IsLogged};
 
-use base_row::{BaseRow, HeldBase, Pass, Sink};
+use base_row::{BaseRow, HeldBase, Pass, ReceiptSink};
 use pass_names::Retries;
 use seq_timer::{Event, Reply, TimerState};
 use std::sync::Wait;
@@ -93,7 +93,7 @@ fn is_on(state: &TimerState, base: u32) -> bool
 }
 
 /// Adds an entry of a timer that stays on a held base, with its receipt, and lets the base go.
-pub fn enter_once<S: Sink>(
+pub fn enter_once<S: ReceiptSink>(
     row: &BaseRow,
     pass: &mut Pass,
     sink: &mut S,

@@ -22,8 +22,8 @@ use Rattle.std.proofs.lemmas.Str.Parse.{digit_from_value}
 use Rattle.script_text.proofs.Numbers.{number_again}
 use Rattle.hrt_app.proofs.Asking.{not_given, within}
 use Rattle.clap.proofs.FaultLemmas.{stopped_fault}
-use Rattle.hrt_app.specs.declared.command.Asked.{Asked}
-use Rattle.hrt_app.specs.declared.command.Asked.TheVariants.{Run, Make}
+use Rattle.hrt_app.specs.declared.command.Request.{Request}
+use Rattle.hrt_app.specs.declared.command.Request.TheVariants.{Run, Make}
 use Rattle.hrt_app.specs.Command.{Calls, InAnyOrder, Lacks, Lanes, OptionName, Seed, asked_by_texts, asked_of, make_of, name_text, option_number, option_words, program}
 
 -- ---- the subcommand `gen`
@@ -328,7 +328,7 @@ no_default (a ∷ rules) rs h =
 no_defaults : (h : Held) → finished make_shape.rules h ≡ settled_rows_of h
 no_defaults h = no_default make_shape.rules (settled_rows_of h) (refl, (refl, (refl, (refl, tt))))
 
-abbrev nothing : ℕ → Option Asked
+abbrev nothing : ℕ → Option Request
 nothing n = None
 
 none_after : (o : Option ℕ) → option_and_then nothing o ≡ None

@@ -14,8 +14,8 @@ use Rattle.std.specs.declared.io.ErrorKind.TheVariants as kinds
 use Rattle.clap.specs.declared.builder.action.ArgAction.TheVariants.{Set}
 use Rattle.clap.specs.Words.{App, Row, Rule, Text, fault_of, first_of, new_app, new_rule, subcommand_of, with_rule, with_subcommand}
 use Rattle.script_text.specs.Reading.{number_in}
-use Rattle.hrt_app.specs.declared.command.Asked.{Asked}
-use Rattle.hrt_app.specs.declared.command.Asked.TheVariants.{Run, Make}
+use Rattle.hrt_app.specs.declared.command.Request.{Request}
+use Rattle.hrt_app.specs.declared.command.Request.TheVariants.{Run, Make}
 use Rattle.hrt_app.specs.declared.status.Status.{Status}
 use Rattle.hrt_app.specs.declared.status.Status.TheVariants as statuses
 
@@ -42,13 +42,13 @@ option_number name least most rows =
     option_and_then (λ n. if nat_le least n && nat_le n most then Some n else None) (option_and_then number_in (first_of name rows))
 
 -- the script that the options of `gen` ask for, where each is in its range
-abbrev pub make_of : List Row → Option Asked
+abbrev pub make_of : List Row → Option Request
 make_of rows =
     option_and_then (λ seed. option_and_then (λ lanes. option_and_then (λ calls. Some (Make seed lanes calls)) (option_number (codes "calls") 0 4096 rows))
     (option_number (codes "lanes") 1 8 rows)) (option_number (codes "seed") 0 2147483647 rows)
 
 -- what a subcommand with its options asks for
-abbrev pub asked_of : Option (Text × List Row) → Option Asked
+abbrev pub asked_of : Option (Text × List Row) → Option Request
 asked_of None = None
 asked_of (Some found) =
     if bytes_eq found.0 (codes "run") then Some Run
@@ -56,14 +56,14 @@ asked_of (Some found) =
     else None
 
 -- what words ask for, the program's name first: nothing where they don't fit the command
-abbrev pub asked_by_texts : List Text → Option Asked
+abbrev pub asked_by_texts : List Text → Option Request
 asked_by_texts words = if length (fault_of program words) == 0 then asked_of (subcommand_of program words) else None
 
-unfoldable pub asked_by : List (String Global) → Option Asked
+unfoldable pub asked_by : List (String Global) → Option Request
 asked_by words = asked_by_texts (map string_bytes words)
 
 -- the numbers of a script that is asked for are in their ranges
-abbrev pub AsksInRange : Option Asked → Type 0
+abbrev pub AsksInRange : Option Request → Type 0
 AsksInRange (Some (Make seed lanes calls)) = (seed ≤ 2147483647) × ((1 ≤ lanes) × ((lanes ≤ 8) × (calls ≤ 4096)))
 AsksInRange other = Unit
 

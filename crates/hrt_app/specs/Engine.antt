@@ -17,9 +17,8 @@ use Rattle.hrt_app.specs.declared.engine.Answer.TheVariants.{Record, Refusal}
 unfoldable pub IsScript : List ℕ → Type 0
 IsScript bytes = (s : Script) × Reads bytes s
 
--- The text is that of a record that fits the script that these bytes read as. Each number of the record is one that a program can hold, and one of
--- version 1 has no slack (`a_record_of_version_one_has_no_slack`). So by `text_determines_the_record` no other record that fits the script and has
--- such numbers has this text.
+-- The text is that of a record that fits the script that these bytes read as. Each number of the record is one that a program can hold. No other record
+-- that fits the script and has such numbers has this text (`the_text_of_a_record_that_fits_determines_it`).
 pub record IsRecordText (bytes text : List ℕ) : Type 0 where
   pub script : Script
   pub reads : Reads bytes script

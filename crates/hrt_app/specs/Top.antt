@@ -5,13 +5,13 @@ use Rattle.std.specs.Io.KnownBytes.{IsAtEnd}
 use Rattle.hrt_app.specs.Streams.{Adds}
 use Rattle.hrt_app.specs.Transfer.{IsRead, AddsPrefix}
 use Rattle.hrt_app.specs.Engine.{IsScript, IsRecordText, IsRefusalText, IsAnswerText, IsSummaryText}
-use Rattle.hrt_app.specs.declared.command.Asked.{Asked}
-use Rattle.hrt_app.specs.declared.command.Asked.TheVariants.{Run}
+use Rattle.hrt_app.specs.declared.command.Request.{Request}
+use Rattle.hrt_app.specs.declared.command.Request.TheVariants.{Run}
 use Rattle.hrt_app.specs.declared.status.Status.{Status}
 use Rattle.hrt_app.specs.declared.status.Status.TheVariants as statuses
 
 -- what the words asked for, by the outcome
-abbrev pub IsAskedFor : Option Asked → Status → Type 0
+abbrev pub IsAskedFor : Option Request → Status → Type 0
 IsAskedFor asked statuses.Ok = asked ≡ None → ⊥
 IsAskedFor asked statuses.Usage = asked ≡ None
 IsAskedFor asked statuses.Refused = asked ≡ Some Run

@@ -4,7 +4,7 @@ ghost use Rattle.std.specs.List.{AllByRecursion};
 ghost use Rattle.std.specs.IoError.{error_kind};
 ghost use Rattle.clap.specs.Words.{app_of, found_of, rows_of, rule_of, subcommand_rows_of, Text};
 ghost use Rattle.hrt_app.specs.Command.{asked_by, asked_by_texts, asked_of, make_of, option_number, option_words, program, required_option, unread_status, AreWords, InAnyOrder, AsksInRange, Lacks, OptionName, Seed, Lanes, Calls};
-ghost use Rattle.hrt_app.specs.declared.command.Asked.TheVariants.{Run, Make};
+ghost use Rattle.hrt_app.specs.declared.command.Request.TheVariants.{Run, Make};
 
 use crate::status::Status;
 use clap::error::ErrorKind;
@@ -16,7 +16,7 @@ use std::io;
 
 /// What the program is asked to do.
 #[derive(Clone, Copy, Debug, PartialEq, Eq)]
-pub enum Asked {
+pub enum Request {
     /// To read a script from the source, run it, and write its record.
     Run,
     /// To make the script of so many calls of each lane from this seed, run it, and write its summary.
@@ -25,7 +25,7 @@ pub enum Asked {
 
 /// Reads the words of a command line, the program's name first. `None` where they ask for nothing that the
 /// program does, `help` and `--help` alone among them.
-pub fn asks(alloc: Global, words: &[String]) -> Result<Option<Asked>, AllocError>
+pub fn asks(alloc: Global, words: &[String]) -> Result<Option<Request>, AllocError>
     ensures asked { IfOk result (λ asked. asked ≡ asked_by words.now) }
     ensures range { IfOk result AsksInRange }
 {
@@ -79,13 +79,13 @@ fn required<'a>(alloc: Global, name: &'a str) -> Arg<'a>
 }
 
 /// What was asked for, by the subcommand and its options.
-fn asked_of(matches: &ArgMatches<'_>) -> Option<Asked>
+fn asked_of(matches: &ArgMatches<'_>) -> Option<Request>
     ensures asked { result ≡ asked_of (subcommand_rows_of matches.now) }
     ensures range { AsksInRange result }
 {
     let (name, options) = matches.subcommand()?;
     if name == "run" {
-        Some(Asked::Run)
+        Some(Request::Run)
     } else if name == "gen" {
         make_of(options)
     } else {
@@ -94,14 +94,14 @@ fn asked_of(matches: &ArgMatches<'_>) -> Option<Asked>
 }
 
 /// The script that these options ask for, where each is in its range.
-fn make_of(options: &ArgMatches<'_>) -> Option<Asked>
+fn make_of(options: &ArgMatches<'_>) -> Option<Request>
     ensures asked { result ≡ make_of (rows_of (found_of options.now)) }
     ensures range { AsksInRange result }
 {
     let seed = option_number(options, "seed", 0, 2147483647)?;
     let lanes = option_number(options, "lanes", 1, 8)?;
     let calls = option_number(options, "calls", 0, 4096)?;
-    Some(Asked::Make {
+    Some(Request::Make {
         seed,
         lanes: lanes as u32,
         calls,
@@ -149,18 +149,18 @@ mod tests {
     use super::*;
     use std::test::Fail;
 
-    const MADE: Option<Asked> = Some(Asked::Make {
+    const MADE: Option<Request> = Some(Request::Make {
         seed: 2147483647,
         lanes: 8,
         calls: 4096,
     });
 
-    const CASES: [(&[&str], Option<Asked>); 26] = [
+    const CASES: [(&[&str], Option<Request>); 26] = [
         (&[], None),
         (&["hrt"], None),
         (&["run"], None),
-        (&["hrt", "run"], Some(Asked::Run)),
-        (&["", "run"], Some(Asked::Run)),
+        (&["hrt", "run"], Some(Request::Run)),
+        (&["", "run"], Some(Request::Run)),
         (&["hrt", "Run"], None),
         (&["hrt", "run", "run"], None),
         (&["hrt", "run", "--seed", "1"], None),
@@ -176,7 +176,7 @@ mod tests {
         ),
         (
             &["hrt", "gen", "--seed", "0", "--lanes", "1", "--calls", "0"],
-            Some(Asked::Make {
+            Some(Request::Make {
                 seed: 0,
                 lanes: 1,
                 calls: 0,

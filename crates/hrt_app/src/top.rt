@@ -7,7 +7,7 @@ ghost use Rattle.script_text.specs.declared.refusal.Refused.{Refused};
 ghost use Rattle.script_text.specs.Refusals.{IsRefused, refusal_text};
 ghost use Rattle.hrt_app.specs.Top.{IsAskedFor, HasRecorded, HasRefused, HasStopped, HasSummed, HasSummedInPart, MustAnswer};
 
-use crate::command::{Asked, asks};
+use crate::command::{Request, asks};
 use crate::engine::{Answer, answer_to, summary_of_generated};
 use crate::memory::{CleanSink, CleanSource};
 use crate::status::Status;
@@ -31,25 +31,25 @@ pub fn top<R: Threads + Wait + Sync + AllocGlobal, S: Source, K: Sink, G: Gate>(
     ensures asked { IsAskedFor (asked_by words.now) result }
     ensures usage { asked_by words.now ≡ None → (result ≡ Status.Usage) ⊎ (result ≡ Status.OutOfMemory) }
     ensures untouched { result ≡ Status.Usage → (source.new ≡ source.old) × (sink.new ≡ sink.old) }
-    ensures ok { asked_by words.now ≡ Some Asked.Run → result ≡ Status.Ok → HasRecorded (S.left source.old) (S.left source.new) (K.taken sink.old) (K.taken sink.new) }
+    ensures ok { asked_by words.now ≡ Some Request.Run → result ≡ Status.Ok → HasRecorded (S.left source.old) (S.left source.new) (K.taken sink.old) (K.taken sink.new) }
     ensures refused { result ≡ Status.Refused → HasRefused (S.left source.old) (S.left source.new) (K.taken sink.old) (K.taken sink.new) }
     ensures calm { (result ≡ Status.Ok) ⊎ (result ≡ Status.Refused) → (S.faults source.new ≡ S.faults source.old) × (K.faults sink.new ≡ K.faults sink.old) }
     ensures read_fault { result ≡ Status.ReadFault → Rose (S.faults source.old) (S.faults source.new) }
     ensures read_few { result ≡ Status.ReadFault → TakesAtMost (S.left source.old) (S.left source.new) most_bytes }
     ensures write_fault { result ≡ Status.WriteFault → Rose (K.faults sink.old) (K.faults sink.new) }
-    ensures prefix { asked_by words.now ≡ Some Asked.Run → result ≡ Status.WriteFault → HasStopped (S.left source.old) (S.left source.new) (K.taken sink.old) (K.taken sink.new) }
+    ensures prefix { asked_by words.now ≡ Some Request.Run → result ≡ Status.WriteFault → HasStopped (S.left source.old) (S.left source.new) (K.taken sink.old) (K.taken sink.new) }
     ensures unwritten { (result ≡ Status.ReadFault) ⊎ (result ≡ Status.OutOfMemory) → sink.new ≡ sink.old }
-    ensures complete { asked_by words.now ≡ Some Asked.Run → (Rose (S.faults source.old) (S.faults source.new) → ⊥) → (Rose (K.faults sink.old) (K.faults sink.new) → ⊥) → IfSome (S.left source.old) (λ bytes. MustAnswer bytes result) }
-    ensures unread { (s l c : ℕ) → asked_by words.now ≡ Some (Asked.Make s l c) → source.new ≡ source.old }
-    ensures made { (s l c : ℕ) → asked_by words.now ≡ Some (Asked.Make s l c) → result ≡ Status.Ok → HasSummed s l c (K.taken sink.old) (K.taken sink.new) }
-    ensures made_in_part { (s l c : ℕ) → asked_by words.now ≡ Some (Asked.Make s l c) → result ≡ Status.WriteFault → HasSummedInPart s l c (K.taken sink.old) (K.taken sink.new) }
-    ensures made_whole { (s l c : ℕ) → asked_by words.now ≡ Some (Asked.Make s l c) → (Rose (K.faults sink.old) (K.faults sink.new) → ⊥) → (result ≡ Status.Ok) ⊎ (result ≡ Status.OutOfMemory) }
+    ensures complete { asked_by words.now ≡ Some Request.Run → (Rose (S.faults source.old) (S.faults source.new) → ⊥) → (Rose (K.faults sink.old) (K.faults sink.new) → ⊥) → IfSome (S.left source.old) (λ bytes. MustAnswer bytes result) }
+    ensures unread { (s l c : ℕ) → asked_by words.now ≡ Some (Request.Make s l c) → source.new ≡ source.old }
+    ensures made { (s l c : ℕ) → asked_by words.now ≡ Some (Request.Make s l c) → result ≡ Status.Ok → HasSummed s l c (K.taken sink.old) (K.taken sink.new) }
+    ensures made_in_part { (s l c : ℕ) → asked_by words.now ≡ Some (Request.Make s l c) → result ≡ Status.WriteFault → HasSummedInPart s l c (K.taken sink.old) (K.taken sink.new) }
+    ensures made_whole { (s l c : ℕ) → asked_by words.now ≡ Some (Request.Make s l c) → (Rose (K.faults sink.old) (K.faults sink.new) → ⊥) → (result ≡ Status.Ok) ⊎ (result ≡ Status.OutOfMemory) }
     ensures source_later { S.faults source.old ≤ S.faults source.new }
     ensures sink_later { K.faults sink.old ≤ K.faults sink.new }
 {
     match asks(rt.alloc(), words) {
-        Ok(Some(Asked::Run)) => run_script(rt, source, sink, gate),
-        Ok(Some(Asked::Make { seed, lanes, calls })) => {
+        Ok(Some(Request::Run)) => run_script(rt, source, sink, gate),
+        Ok(Some(Request::Make { seed, lanes, calls })) => {
             make_summary(rt, sink, gate, seed, lanes, calls)
         }
         Ok(None) => Status::Usage,
@@ -134,11 +134,11 @@ pub fn on_bytes<R: Threads + Wait + Sync + AllocGlobal, G: Gate>(
     gate: &G,
 ) -> (Status, CleanSink)
     ensures asked { IsAskedFor (asked_by words.now) result.0 }
-    ensures answer { asked_by words.now ≡ Some Asked.Run → MustAnswer bytes.now result.0 }
-    ensures ok { asked_by words.now ≡ Some Asked.Run → result.0 ≡ Status.Ok → HasRecorded (Some bytes.now) (Some []) (Some []) result.1.kept }
+    ensures answer { asked_by words.now ≡ Some Request.Run → MustAnswer bytes.now result.0 }
+    ensures ok { asked_by words.now ≡ Some Request.Run → result.0 ≡ Status.Ok → HasRecorded (Some bytes.now) (Some []) (Some []) result.1.kept }
     ensures refused { result.0 ≡ Status.Refused → (r : Refused) × IsRefused bytes.now r × Adds (Some []) result.1.kept (refusal_text r) }
-    ensures made { (s l c : ℕ) → asked_by words.now ≡ Some (Asked.Make s l c) → result.0 ≡ Status.Ok → HasSummed s l c (Some []) result.1.kept }
-    ensures made_whole { (s l c : ℕ) → asked_by words.now ≡ Some (Asked.Make s l c) → (result.0 ≡ Status.Ok) ⊎ (result.0 ≡ Status.OutOfMemory) }
+    ensures made { (s l c : ℕ) → asked_by words.now ≡ Some (Request.Make s l c) → result.0 ≡ Status.Ok → HasSummed s l c (Some []) result.1.kept }
+    ensures made_whole { (s l c : ℕ) → asked_by words.now ≡ Some (Request.Make s l c) → (result.0 ≡ Status.Ok) ⊎ (result.0 ≡ Status.OutOfMemory) }
     ensures unwritten { (result.0 ≡ Status.Usage) ⊎ (result.0 ≡ Status.OutOfMemory) → result.1.kept ≡ Some [] }
     ensures no_fault { (result.0 ≡ Status.ReadFault) ⊎ (result.0 ≡ Status.WriteFault) → ⊥ }
 {

@@ -7,7 +7,7 @@ use record_text::{Armed, ObjectEntry, SettimeReply};
 use timer_setting::{Arm, SettimeCall, TriggerAnswer};
 
 /// What is noted of a call on an object: its entry, or the generation of an expiry that a full history refused.
-pub(crate) type Told = (Option<ObjectEntry>, Option<u64>);
+pub(crate) type NoteOrSkip = (Option<ObjectEntry>, Option<u64>);
 
 /// What became of the start that a call wanted.
 pub(crate) fn arm_noted(arm: Arm) -> Armed
@@ -35,7 +35,7 @@ pub(crate) fn settime_entry(call: SettimeCall, reply: SettimeReply) -> ObjectEnt
 }
 
 /// What is noted of an expiry: its entry, or its generation where it was refused.
-pub(crate) fn trigger_noted(generation: u64, reading: Reading, answer: TriggerAnswer) -> Told
+pub(crate) fn trigger_noted(generation: u64, reading: Reading, answer: TriggerAnswer) -> NoteOrSkip
     ensures { result ≡ (trigger_noted generation reading answer, trigger_skip generation answer) }
 {
     let counted = match answer {

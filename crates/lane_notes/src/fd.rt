@@ -3,13 +3,13 @@ ghost use Rattle.std.specs.Prelude.{◌≡◌};
 ghost use Rattle.timer_fd.specs.declared.calls.Call.TheVariants as calls;
 ghost use Rattle.lane_notes.specs.FdNotes.{fd_noted, fd_set_noted, fd_skip, read_noted};
 
-use crate::arm::{Told, arm_noted, settime_entry, trigger_noted};
+use crate::arm::{NoteOrSkip, arm_noted, settime_entry, trigger_noted};
 use ktime::Reading;
 use record_text::{ObjectEntry, ReadReply, SettimeReply};
 use timer_fd::{Arm, Call, GettimeAnswer, ReadAnswer, Reply, SettimeAnswer, SettimeCall};
 
 /// What is noted of a call and its reply, where they belong together.
-pub(crate) fn fd_noted(call: Call, reply: Reply) -> Told
+pub(crate) fn fd_noted(call: Call, reply: Reply) -> NoteOrSkip
     ensures { result ≡ (fd_noted call reply, fd_skip call reply) }
 {
     match call {

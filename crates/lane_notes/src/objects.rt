@@ -3,7 +3,7 @@
 ghost use Rattle.std.specs.Prelude.{◌≡◌, ◌∷◌, [], OnOk};
 ghost use Rattle.lane_notes.specs.Objects.{object_entry_noted, skip_generation, with_object_receipts};
 
-use crate::arm::Told;
+use crate::arm::NoteOrSkip;
 use crate::fd::fd_noted;
 use crate::notes::{Notes, ObjectNote, SkipNote};
 use crate::posix::posix_noted;
@@ -56,7 +56,7 @@ fn note_object_receipt(
 }
 
 /// What is noted of a call and its reply, where they belong together.
-fn told(call: ObjectCall, reply: ObjectReply) -> Told
+fn told(call: ObjectCall, reply: ObjectReply) -> NoteOrSkip
     ensures { result ≡ (object_entry_noted call reply, skip_generation call reply) }
 {
     match (call, reply) {

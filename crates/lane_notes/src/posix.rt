@@ -3,13 +3,13 @@ ghost use Rattle.std.specs.Prelude.{◌≡◌};
 ghost use Rattle.posix_timer.specs.declared.calls.Call.TheVariants as calls;
 ghost use Rattle.lane_notes.specs.PosixNotes.{posix_noted, posix_set_noted, posix_skip};
 
-use crate::arm::{Told, arm_noted, settime_entry, trigger_noted};
+use crate::arm::{NoteOrSkip, arm_noted, settime_entry, trigger_noted};
 use ktime::Reading;
 use posix_timer::{AcceptAnswer, Arm, Call, Reply, SettimeAnswer, SettimeCall};
 use record_text::{AcceptReply, ObjectEntry, SettimeReply};
 
 /// What is noted of a call and its reply, where they belong together.
-pub(crate) fn posix_noted(call: Call, reply: Reply) -> Told
+pub(crate) fn posix_noted(call: Call, reply: Reply) -> NoteOrSkip
     ensures { result ≡ (posix_noted call reply, posix_skip call reply) }
 {
     match call {

@@ -32,8 +32,8 @@ use Rattle.run_history.specs.Objects.{object_armed_after}
 use Rattle.run_history.specs.Starts.{arming_actions}
 use Rattle.script_text.specs.declared.script.Script.{Script}
 use Rattle.lane_notes.specs.Arms.{arm_noted}
-use Rattle.run_history.specs.Courses.{Course, entries_in}
-use Rattle.run_history.specs.Receipts.{Noted}
+use Rattle.run_history.specs.Witnesses.{Witness, entries_in}
+use Rattle.run_history.specs.Receipts.{PlacedEntry}
 use Rattle.run_history.specs.Traces.{all_entered}
 use Rattle.run_history.specs.Truths.{IsTrueStart}
 use Rattle.run_history.proofs.Known.{numbered}
@@ -53,7 +53,7 @@ use Rattle.hr_timers.specs.Calls.{cancel_entries, Cancels}
 use Rattle.run_history.specs.ObjectCalls.{cancels}
 use Rattle.run_history.specs.Objects.{ArmedAs}
 use Rattle.script_text.specs.declared.script.Call.{Call}
-use Rattle.run_history.specs.Courses as courses
+use Rattle.run_history.specs.Witnesses as witnesses
 use Rattle.lane_run.specs.Called.{LaneOf}
 use Rattle.lane_run.specs.Worlds.{WorldOf}
 use Rattle.lane_run.proofs.CallKept.{opened_timers}
@@ -72,14 +72,14 @@ HasRead reading clock = reading_at clock reading.stamp ≡ reading
 -- ---- entries of a timer
 
 -- law: the receipts of a part stand between what was seen before and behind it
-pub places_inside : {IsSo : List ClockLine → Type 0} {v w : KnownOfTimers} {notes : List Noted} → EntersNotes IsSo v w notes
+pub places_inside : {IsSo : List ClockLine → Type 0} {v w : KnownOfTimers} {notes : List PlacedEntry} → EntersNotes IsSo v w notes
     → AllByRecursion (λ x. (length v.seen ≤ x.place) × (x.place < length w.seen)) notes
 places_inside {v = v} {w = w} {notes = notes} enters =
     inside_of (length v.seen) (length v.seen) (length w.seen) notes (omega arith) enters.made.rise enters.made.below
 
 -- what a part of a call did to timers alone: its notes, and that they are a part
 abbrev pub TimersPart : LaneOf → ClockReading → KnownOfTimers → KnownOfTimers → List Action → List Receipt → Type 0
-TimersPart l reading v w actions log = (notes : List Noted) × IsPart (HasRead reading) l.label v l.pass.objects w l.pass.objects actions notes log []
+TimersPart l reading v w actions log = (notes : List PlacedEntry) × IsPart (HasRead reading) l.label v l.pass.objects w l.pass.objects actions notes log []
 
 -- what became of a start, by the timer where it ended
 abbrev pub IsArmedSo : Arm → Timer → Type 0
@@ -188,8 +188,8 @@ IsLike on_clock (arms.Armed generation) armed s = IsArmedLike on_clock armed gen
 IsLike on_clock arm armed s = Unit
 
 -- law: what an object's entry tells of its timer's start is true
-pub start_true : (w : Course) (i number n : ℕ) (on_clock : Bool) (arm : Arm) → IsArmedSo arm (courses.timer_along w n i)
-    → IsLike on_clock arm (object_armed_after w.script w.run i number (kind_of w.script i)) (courses.timer_along w n i)
+pub start_true : (w : Witness) (i number n : ℕ) (on_clock : Bool) (arm : Arm) → IsArmedSo arm (witnesses.timer_along w n i)
+    → IsLike on_clock arm (object_armed_after w.script w.run i number (kind_of w.script i)) (witnesses.timer_along w n i)
     → IsTrueStart w i number on_clock (arm_noted arm) n
 start_true w i number n on_clock arms.NotAsked armed like = tt
 start_true w i number n on_clock (arms.Armed generation) armed like = (armed, like)

@@ -49,7 +49,7 @@ use Rattle.script_text.specs.declared.script.Script.{Script}
 use Rattle.lane_notes.specs.Entries.{look_noted}
 use Rattle.run_history.specs.Calls.{IsBody, IsCallback}
 use Rattle.run_history.specs.Receipts.{count}
-use Rattle.run_history.specs.Runs.{course_of}
+use Rattle.run_history.specs.Runs.{witness_of}
 use Rattle.run_history.proofs.PassState.{saw_from, state_seen}
 use Rattle.run_history.proofs.Promise.{seen_first}
 use Rattle.lane_run.proofs.Kept.{begins_same, count_begins}
@@ -119,7 +119,7 @@ module _ (s : Script) (o : Opening) (is : o ≡ opening_of s.bases (declareds_of
         part = part_looked claim number event observation reply looks.0 looks.1 same noted (omega (arith, counted, low)) (omega (arith, counted, high));
         kind = declared (Looked c.timer number reply ∷ []) kind does;
         holds = λ e joined goes before points. (
-          rw observes (saw_from (course_of s e) w.seen goes.0 (seen_first w.seen joined goes) c.timer number observation
+          rw observes (saw_from (witness_of s e) w.seen goes.0 (seen_first w.seen joined goes) c.timer number observation
               (ap (λ (u : Timer). u.stamp) (sym state) ∙ sym stamp) (rw (← state) holds)),
           below,
         );

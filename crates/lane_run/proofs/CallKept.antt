@@ -30,11 +30,11 @@ use Rattle.lane_notes.specs.Entries.{entry_notes, look_notes, receipt_entry, rec
 use Rattle.lane_notes.specs.Notes.{both_noted, NotesOf}
 use Rattle.lane_notes.specs.Objects.{object_entry_noted, object_notes, skip_generation, skip_notes}
 use Rattle.lane_notes.specs.declared.notes.EntryNote.{EntryNote}
-use Rattle.run_history.specs.Courses.{Trace}
+use Rattle.run_history.specs.Witnesses.{Trace}
 use Rattle.run_history.specs.Fits.{FitsCall}
 use Rattle.run_history.specs.Promises.{GoesOnClock, HasLog, IsRightLog, IsPromised}
-use Rattle.run_history.specs.Receipts.{Noted, receipt, Rises}
-use Rattle.run_history.specs.Runs.{CallLog, course_of, Ending, IsJoined, moves_spans}
+use Rattle.run_history.specs.Receipts.{PlacedEntry, receipt, Rises}
+use Rattle.run_history.specs.Runs.{CallLog, witness_of, Ending, IsJoined, moves_spans}
 use Rattle.run_history.specs.Traces.{all_entered}
 use Rattle.run_history.proofs.Kept.{IsKept}
 use Rattle.run_history.proofs.Known.{AreMade}
@@ -119,7 +119,7 @@ receipt_place r = (r.0, r.1.0)
 abbrev pub note_place : EntryNote → ℕ × ℕ
 note_place e = (e.timer, e.number)
 
-receipt_places : (notes : List Noted) → map receipt_place (map receipt notes) ≡ map place_of notes
+receipt_places : (notes : List PlacedEntry) → map receipt_place (map receipt notes) ≡ map place_of notes
 receipt_places [] = refl
 receipt_places (x ∷ notes) = ap (λ ps. place_of x ∷ ps) (receipt_places notes)
 
@@ -128,7 +128,7 @@ note_places [] = refl
 note_places (e ∷ es) = ap (λ ps. note_place e ∷ ps) (note_places es)
 
 -- law: the places of a call's receipts are those of its notes, in another order
-pub places_added : (mine new : List (ℕ × ℕ)) (notes : List Noted) (es : List EntryNote) → new ≡ mine ++ map place_of notes
+pub places_added : (mine new : List (ℕ × ℕ)) (notes : List PlacedEntry) (es : List EntryNote) → new ≡ mine ++ map place_of notes
     → IsPermutation (map receipt notes) (map entry_in_note es) → (t n : ℕ)
     → count (is_place t n) new ≡ count (is_place t n) mine + count (is_place t n) (map note_place es)
 places_added mine new notes es is same t n =
@@ -180,7 +180,7 @@ pub reading_followed : (p q : WorldPass) (r : ClockReading) → ReadsClock p q r
 reading_followed p q r reads e follows = reading_goes_on p q r reads e follows.clock
 
 -- law: the receipts stand in what was seen
-pub stand_from : (IsSo : List ClockLine → Type 0) (p q : WorldPass) (notes : List Noted) → EntersNotes IsSo p.timers.known q.timers.known notes
+pub stand_from : (IsSo : List ClockLine → Type 0) (p q : WorldPass) (notes : List PlacedEntry) → EntersNotes IsSo p.timers.known q.timers.known notes
     → (t : Trace) → ((e : Ending) → Follows q e → IsSo e.run.clock) → StandAt q (log_of p q notes t)
 stand_from IsSo p q notes enters t so = record {
   rise = enters.made.rise;
@@ -192,14 +192,14 @@ stand_from IsSo p q notes enters t so = record {
 -- ---- the log
 
 -- rising places below a number stand between it and where they rise from
-pub inside_of : (low k high : ℕ) (notes : List Noted) → low ≤ k → Rises k (map (λ x. x.place) notes) → AllByRecursion (λ x. x.place < high) notes
+pub inside_of : (low k high : ℕ) (notes : List PlacedEntry) → low ≤ k → Rises k (map (λ x. x.place) notes) → AllByRecursion (λ x. x.place < high) notes
     → AllByRecursion (λ x. (low ≤ x.place) × (x.place < high)) notes
 inside_of low k high [] le rise below = tt
 inside_of low k high (x ∷ notes) le rise below =
     ((omega (arith, le, rise.0), below.0), inside_of low (x.place + 1) high notes (omega (arith, le, rise.0)) rise.1 below.1)
 
 -- law: what a lane keeps of a call that wrote nothing is right in itself
-pub logged_from : (p q : WorldPass) (notes : List Noted) (t : Trace) (call : Call) (a : Answer) → SeesOn p q → t.last ≡ length q.timers.known.seen
+pub logged_from : (p q : WorldPass) (notes : List PlacedEntry) (t : Trace) (call : Call) (a : Answer) → SeesOn p q → t.last ≡ length q.timers.known.seen
     → AreMade q.timers.known.seen (length p.timers.known.seen) (length q.timers.known.seen) notes → map receipt notes ≡ all_entered t.actions
     → t.at ≡ length (writes q.clock.knows) → wrote t.actions ≡ []
     → ((i : ℕ) → NeverFall (length (seen_of p.objects i)) (object_steps_on i call a t.actions) (length (seen_of q.objects i)))
@@ -222,14 +222,14 @@ logged_from p q notes t call a sees last made are at none objects =
     }
 
 -- a call fits, by what its lane kept of it, in every run that goes on from there
-abbrev pub FitsOn : Script → LaneOf → LaneOf → Call → Answer → List Noted → Trace → Type 0
+abbrev pub FitsOn : Script → LaneOf → LaneOf → Call → Answer → List PlacedEntry → Trace → Type 0
 FitsOn s l m call a notes t =
     (e : Ending) → Follows m.pass e → IsJoined s e → HasLog e l.label (log_of l.pass m.pass notes t)
-    → IsKept (course_of s e) (moves_spans e) l.label t notes call a (seen_by l.pass) (seen_by m.pass)
-    → length l.pass.timers.known.seen ≡ (moves_spans e).first l.label → FitsCall (course_of s e) l.label call a (seen_by l.pass) (seen_by m.pass)
+    → IsKept (witness_of s e) (moves_spans e) l.label t notes call a (seen_by l.pass) (seen_by m.pass)
+    → length l.pass.timers.known.seen ≡ (moves_spans e).first l.label → FitsCall (witness_of s e) l.label call a (seen_by l.pass) (seen_by m.pass)
 
 -- law: it keeps its promise then
-pub promised_from : {s : Script} {x : WorldOf} {l : LaneOf} {call : Call} (next : IsNextCall s x l call) (m : LaneOf) (notes : List Noted) (t : Trace)
+pub promised_from : {s : Script} {x : WorldOf} {l : LaneOf} {call : Call} (next : IsNextCall s x l call) (m : LaneOf) (notes : List PlacedEntry) (t : Trace)
     (a : Answer) → IsRightLog (log_of l.pass m.pass notes t) call a (seen_by l.pass) (seen_by m.pass) → FitsOn s l m call a notes t
     → IsPromised s l.label.lane l.label.call (log_of l.pass m.pass notes t) (Follows m.pass) call a (seen_by l.pass) (seen_by m.pass)
 promised_from {s = s} {l = l} next m notes t a logged fits e follows has joined =

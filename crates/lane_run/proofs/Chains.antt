@@ -1,9 +1,9 @@
 -- Where calls stand along one list: each call's span lies in its round.
 use Rattle.std.proofs.Common.{◌≡◌, ◌≤◌, ◌<◌, ℕ, ◌+◌, zero, suc, get_or, List, [], ◌∷◌, ◌++◌, length, length-append, arith, refl, ap}
 use Rattle.std.proofs.lemmas.List.{get_or_default, get_or_past, get_or_push}
-use Rattle.run_history.specs.Courses.{Trace}
+use Rattle.run_history.specs.Witnesses.{Trace}
 use Rattle.run_history.specs.Fits.{Seen}
-use Rattle.run_history.specs.Receipts.{Noted}
+use Rattle.run_history.specs.Receipts.{PlacedEntry}
 use Rattle.run_history.specs.Runs.{CallLog}
 use Rattle.lane_run.proofs.Kept.{IsNoLess, log_of, seen_by}
 use Rattle.lane_run.specs.declared.world.WorldPass.{WorldPass}
@@ -13,7 +13,7 @@ pub record ListOf : Type 0 where
   pub seen : Seen → ℕ
   pub span : CallLog → ℕ × ℕ
   pub rises : {a b : Seen} → IsNoLess a b → seen a ≤ seen b
-  pub of_log : (p q : WorldPass) (notes : List Noted) (trace : Trace) → span (log_of p q notes trace) ≡ (seen (seen_by p), seen (seen_by q))
+  pub of_log : (p q : WorldPass) (notes : List PlacedEntry) (trace : Trace) → span (log_of p q notes trace) ≡ (seen (seen_by p), seen (seen_by q))
 
 -- all timers' entries
 abbrev pub moves_list : ListOf
@@ -110,7 +110,7 @@ lies_pushed {x} {past} {now} {round} lies = record {
 }
 
 -- law: a call in the round that began last, when its lane had seen no less than this
-pub lies_new : (x : ListOf) (before : List Seen) {base : Seen} (p q : WorldPass) (notes : List Noted) (trace : Trace) → IsNoLess base (seen_by p)
+pub lies_new : (x : ListOf) (before : List Seen) {base : Seen} (p q : WorldPass) (notes : List PlacedEntry) (trace : Trace) → IsNoLess base (seen_by p)
     → IsNoLess (seen_by p) (seen_by q) → LiesIn x (before ++ base ∷ []) (seen_by q) (length before) (log_of p q notes trace)
 lies_new x before {base} p q notes trace old new =
     let past = before ++ base ∷ [] in

@@ -22,7 +22,7 @@ use Rattle.record_text.specs.declared.record.Label.{Label}
 use Rattle.record_text.specs.declared.record.RunRecord.{RunRecord}
 use Rattle.run_history.proofs.Stamped.{all_stamped_shown, entry_stamped, HasReading, HaveReadings}
 use Rattle.lane_notes.specs.Entries.{entry_notes, look_notes}
-use Rattle.run_history.specs.Receipts.{count, Noted, receipt, ShowsEntry}
+use Rattle.run_history.specs.Receipts.{count, PlacedEntry, receipt, ShowsEntry}
 use Rattle.run_history.proofs.Known.{adds_made, AreEntries, AreMade, made-append, made_goes_on, made_wider, none_made, numbered, shows_made}
 use Rattle.script_text.proofs.Lists.{All-append}
 use Rattle.lane_run.proofs.Kept.{entry_in_note}
@@ -31,18 +31,18 @@ use Rattle.pass_names.proofs.Passes.{begins_trans, begins_length}
 -- ---- receipts between two moments of a pass
 
 -- the place of a receipt among a pass's own
-abbrev pub place_of : Noted → ℕ × ℕ
+abbrev pub place_of : PlacedEntry → ℕ × ℕ
 place_of x = (x.timer, x.number)
 
 -- Between two moments a pass made the entries of these receipts, and no others, and seen has gone on. A record shows them whose clock is so.
-pub record EntersNotes (IsSo : List ClockLine → Type 0) (v w : KnownOfTimers) (notes : List Noted) : Type 0 where
+pub record EntersNotes (IsSo : List ClockLine → Type 0) (v w : KnownOfTimers) (notes : List PlacedEntry) : Type 0 where
   pub seen : Begins v.seen w.seen
   pub made : AreMade w.seen (length v.seen) (length w.seen) notes
   pub mine : w.mine ≡ v.mine ++ map place_of notes
   pub shows : (r : RunRecord) (order later : List TimerEntry) → order ≡ w.seen ++ later → IsSo r.clock → AllByRecursion (ShowsEntry r order) notes
 
 -- law: receipts of two parts of a call are those of both
-pub enters-append : {IsSo : List ClockLine → Type 0} {u v w : KnownOfTimers} {xs ys : List Noted} → EntersNotes IsSo u v xs → EntersNotes IsSo v w ys
+pub enters-append : {IsSo : List ClockLine → Type 0} {u v w : KnownOfTimers} {xs ys : List PlacedEntry} → EntersNotes IsSo u v xs → EntersNotes IsSo v w ys
     → EntersNotes IsSo u w (xs ++ ys)
 enters-append {u = u} {v = v} {w = w} {xs = xs} {ys = ys} one two = record {
   seen = begins_trans one.seen two.seen;
@@ -67,13 +67,13 @@ made_places : (t k : ℕ) (es : List seq.Entry) → places t k es ≡ map (λ r.
 made_places t k [] = refl
 made_places t k (e ∷ es) = ap (λ ps. (t, k + 1) ∷ ps) (made_places t (k + 1) es)
 
-places_told : (notes : List Noted) → map (λ r. (r.0, r.1.0)) (map receipt notes) ≡ map place_of notes
+places_told : (notes : List PlacedEntry) → map (λ r. (r.0, r.1.0)) (map receipt notes) ≡ map place_of notes
 places_told [] = refl
 places_told (n ∷ notes) = ap (λ ps. place_of n ∷ ps) (places_told notes)
 
 -- what a call made of a timer at a moment, behind so many entries, as receipts
 pub record EntersAt (IsSo : List ClockLine → Type 0) (v w : KnownOfTimers) (t n : ℕ) (es : List seq.Entry) : Type 0 where
-  pub notes : List Noted
+  pub notes : List PlacedEntry
   pub enters : EntersNotes IsSo v w notes
   pub are : map receipt notes ≡ numbered t n (map entry_stamped es)
 
@@ -110,7 +110,7 @@ enters_at IsSo o clocks terms {v = v} {w = w} {t = t} {x = x} {es = es} is made 
     }
 
 -- a receipt by itself
-single : (notes : List Noted) (y : ℕ × (ℕ × Entry)) → map receipt notes ≡ y ∷ [] → (n : Noted) × (notes ≡ n ∷ []) × (receipt n ≡ y)
+single : (notes : List PlacedEntry) (y : ℕ × (ℕ × Entry)) → map receipt notes ≡ y ∷ [] → (n : PlacedEntry) × (notes ≡ n ∷ []) × (receipt n ≡ y)
 single [] y is = absurd (cc)
 single (n ∷ []) y is = (n, refl, cc)
 single (n ∷ m ∷ notes) y is = absurd (cc)
@@ -119,7 +119,7 @@ single (n ∷ m ∷ notes) y is = absurd (cc)
 pub enters_once : (IsSo : List ClockLine → Type 0) (o : Opening) (clocks : List Declared) (terms : Terms) {v w : KnownOfTimers} {t : ℕ} {x : List TimerEntry}
     {e : seq.Entry} {number : ℕ} → o.timers ≡ openings clocks terms → MadeAt v w t x (e ∷ [])
     → ((clock : List ClockLine) → IsSo clock → HasReading clock e.event) → number ≡ (timer_then o x t).stamp + 1
-    → (n : Noted) × EntersNotes IsSo v w (n ∷ []) × (receipt n ≡ (t, (number, entry_stamped e)))
+    → (n : PlacedEntry) × EntersNotes IsSo v w (n ∷ []) × (receipt n ≡ (t, (number, entry_stamped e)))
 enters_once IsSo o clocks terms {t = t} {e = e} {number = number} is made reads counted =
     let at = enters_at IsSo o clocks terms is made (λ clock so. (reads clock so, tt)) in
     let one = single at.notes (t, (number, entry_stamped e)) (rw counted at.are) in (one.0, rw one.1 at at.enters, one.2)

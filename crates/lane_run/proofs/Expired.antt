@@ -30,11 +30,11 @@ use Rattle.run_history.specs.Order.{calls_of, IsLabel}
 use Rattle.script_text.specs.declared.script.Call.TheVariants as calls
 use Rattle.script_text.specs.declared.script.Script.{Script}
 use Rattle.run_history.specs.Calls.{fires}
-use Rattle.run_history.specs.Courses as courses
-use Rattle.run_history.specs.Courses.{Course, Fired}
+use Rattle.run_history.specs.Witnesses as witnesses
+use Rattle.run_history.specs.Witnesses.{Witness, Fired}
 use Rattle.run_history.specs.Fits.{FitsCall}
-use Rattle.run_history.specs.Receipts.{Noted}
-use Rattle.run_history.specs.Runs.{course_of, Ending, IsJoined, moves_spans}
+use Rattle.run_history.specs.Receipts.{PlacedEntry}
+use Rattle.run_history.specs.Runs.{witness_of, Ending, IsJoined, moves_spans}
 use Rattle.run_history.proofs.Expires.{expire_busy, expire_done, expire_more, expiring, HaveRun}
 use Rattle.run_history.proofs.Kept.{IsKept}
 use Rattle.run_history.proofs.PassState.{system_seen, timer_seen}
@@ -51,7 +51,7 @@ use Rattle.lane_run.proofs.Fired.{RunKept, turns_kept}
 -- ---- a run that looked on
 
 -- callbacks ran to a later number too
-have_later : (w : Course) (c : Label) (order : List TimerEntry) (context : Context) (base at : ℕ) (before : List Action) (from : ℕ) (fs : List Fired) (notes : List Noted)
+have_later : (w : Witness) (c : Label) (order : List TimerEntry) (context : Context) (base at : ℕ) (before : List Action) (from : ℕ) (fs : List Fired) (notes : List PlacedEntry)
     (to to' : ℕ) → to ≤ to' → HaveRun w c order context base at before from fs notes to → HaveRun w c order context base at before from fs notes to'
 have_later w c order context base at before from [] notes to to' le run = (run.0, omega (arith, run.1, le))
 have_later w c order context base at before from (f ∷ fs) notes to to' le run = (
@@ -80,7 +80,7 @@ run_later {s = s} {label = label} {context = context} {base = base} {reading = r
       claimed = run.claimed;
       part = rw (append-nil actions, append-nil run.notes, append-nil all, append-nil object_log) at part;
       have = λ e joined goes follows later behind points.
-          have_later (course_of s e) label e.order context base reading.stamp [] (length v.seen) run.fired run.notes (length w.seen) (length w'.seen)
+          have_later (witness_of s e) label e.order context base reading.stamp [] (length v.seen) run.fired run.notes (length w.seen) (length w'.seen)
           (begins_length looks.seen)
           (run.have e joined (goes_before looks.seen goes) follows later behind points);
     }
@@ -97,12 +97,12 @@ module _ {s : Script} {x : WorldOf} {l m : LaneOf} {a : Answer} {context : Conte
   -- a lane keeps the call, where its callbacks make it fit in every run that goes on from there
   keeps_run : {n : ℕ} (told : List ℕ → Answer) (run : Run n m.pass.timers.known)
       → ((e : Ending) → Follows m.pass e → IsJoined s e
-      → IsKept (course_of s e) (moves_spans e) l.label
+      → IsKept (witness_of s e) (moves_spans e) l.label
       (expiring base c.reading.stamp (length l.pass.timers.known.seen) (length m.pass.timers.known.seen) run.fired) run.notes (calls.Expire context base budget)
       (told (map (λ f. f.timer) run.fired)) (seen_by l.pass) (seen_by m.pass) → length l.pass.timers.known.seen ≡ (moves_spans e).first l.label
-      → HaveRun (course_of s e) l.label e.order context base c.reading.stamp [] (length l.pass.timers.known.seen) run.fired run.notes
+      → HaveRun (witness_of s e) l.label e.order context base c.reading.stamp [] (length l.pass.timers.known.seen) run.fired run.notes
       (length m.pass.timers.known.seen)
-      → FitsCall (course_of s e) l.label (calls.Expire context base budget) (told (map (λ f. f.timer) run.fired)) (seen_by l.pass) (seen_by m.pass))
+      → FitsCall (witness_of s e) l.label (calls.Expire context base budget) (told (map (λ f. f.timer) run.fired)) (seen_by l.pass) (seen_by m.pass))
       → KeepsCall s l (calls.Expire context base budget) (told (claimed_in c.log)) m
   keeps_run told run fits =
       let p = l.pass in
@@ -129,18 +129,18 @@ module _ {s : Script} {x : WorldOf} {l m : LaneOf} {a : Answer} {context : Conte
 
   -- a timer after what the lane has then seen
   state_is : (e : Ending) → Follows m.pass e → IsJoined s e → (t : ℕ)
-      → courses.timer_along (course_of s e) (length m.pass.timers.known.seen) t ≡ timer_then x.timers.about m.pass.timers.known.seen t
+      → witnesses.timer_along (witness_of s e) (length m.pass.timers.known.seen) t ≡ timer_then x.timers.about m.pass.timers.known.seen t
   state_is e follows joined t =
-      timer_seen (course_of s e) m.pass.timers.known.seen follows.timers.0 (seen_first m.pass.timers.known.seen joined follows.timers) t
+      timer_seen (witness_of s e) m.pass.timers.known.seen follows.timers.0 (seen_first m.pass.timers.known.seen joined follows.timers) t
       ∙ sym (ap (λ (o : Opening). timer_then o m.pass.timers.known.seen t) next.world.timers)
 
   -- the timer that is next to expire on the base after what the lane has then seen
   next_is : (e : Ending) → Follows m.pass e → IsJoined s e
-      → next_on context ((courses.system_along (course_of s e) (length m.pass.timers.known.seen)).bases base) (reading_at e.run.clock c.reading.stamp)
+      → next_on context ((witnesses.system_along (witness_of s e) (length m.pass.timers.known.seen)).bases base) (reading_at e.run.clock c.reading.stamp)
       ≡ next_on context ((system_after x.timers.about.timers m.pass.timers.known.seen).bases base) c.reading
   next_is e follows joined =
       ap (λ (u : System). next_on context (u.bases base) (reading_at e.run.clock c.reading.stamp))
-      (system_seen (course_of s e) m.pass.timers.known.seen follows.timers.0 (seen_first m.pass.timers.known.seen joined follows.timers)
+      (system_seen (witness_of s e) m.pass.timers.known.seen follows.timers.0 (seen_first m.pass.timers.known.seen joined follows.timers)
       ∙ sym (ap (λ (o : Opening). system_after o.timers m.pass.timers.known.seen) next.world.timers))
       ∙ ap (λ r. next_on context ((system_after x.timers.about.timers m.pass.timers.known.seen).bases base) r)
       (reading_followed l.pass m.pass c.reading c.reads e follows)

@@ -17,7 +17,7 @@ use Rattle.record_text.specs.declared.record.Label.{Label}
 use Rattle.run_history.specs.Actions.{also}
 use Rattle.run_history.specs.Order.{IsLabel}
 use Rattle.script_text.specs.declared.script.Script.{Script}
-use Rattle.run_history.specs.Receipts.{AreFiled, file_shape, Filed, files_on, IsMade, line_shape, Noted, RiseBy}
+use Rattle.run_history.specs.Receipts.{AreFiled, file_shape, Filed, files_on, IsMade, line_shape, PlacedEntry, RiseBy}
 use Rattle.run_history.specs.Runs.{CallLog}
 use Rattle.run_history.proofs.Known.{behind_all, rises_lower}
 use Rattle.run_history.proofs.Laid.{same_place}
@@ -77,16 +77,16 @@ module _ {s : Script} {x : WorldOf} {q : WorldPass} {notes sorted : NotesOf} {lo
   filed_notes = map (file logs) pairs
 
   -- two receipts with one entry's number are one
-  file_is : (c : Label) (j : ℕ) (y : Noted) → slice_get (logs c).notes j ≡ Some y → (p : WithReceipt logs) → p.0.label ≡ c → y ≡ noted_at y.place p.0
+  file_is : (c : Label) (j : ℕ) (y : PlacedEntry) → slice_get (logs c).notes j ≡ Some y → (p : WithReceipt logs) → p.0.label ≡ c → y ≡ noted_at y.place p.0
       → file logs p ≡ record { label = c; note = y }
   file_is c j y at p label told =
       let one = note_made left p.0 p.1 in
       let two = all_at (IsMade seen) (logs c).notes j y (left.stand c).made at in
-      let timer : p.0.timer ≡ y.timer = ap (λ (z : Noted). z.timer) (sym told) in
+      let timer : p.0.timer ≡ y.timer = ap (λ (z : PlacedEntry). z.timer) (sym told) in
       let its : receipts.count y.timer (take p.1.place seen) + 1 ≡ p.0.number =
       subst (λ t. receipts.count t (take p.1.place seen) + 1 ≡ p.0.number) timer one.number in
       let place : p.1.place ≡ y.place = same_place seen p.1.place y.place y.timer one.step two.step one.there two.there (one.timer ∙ timer) two.timer
-      (omega (arith, its, two.number, ap (λ (z : Noted). z.number) told)) in
+      (omega (arith, its, two.number, ap (λ (z : PlacedEntry). z.number) told)) in
       ap (λ l. record { label = l; note = noted_at p.1.place p.0 }) label ∙ ap (λ k. record { label = c; note = noted_at k p.0 }) place
       ∙ ap (λ z. record { label = c; note = z }) (sym told)
 

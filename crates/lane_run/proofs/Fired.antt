@@ -36,9 +36,9 @@ use Rattle.script_text.specs.declared.script.Kind.{Kind}
 use Rattle.script_text.specs.declared.script.Script.{Script}
 use Rattle.lane_notes.specs.Entries.{entry_notes, look_notes, entry_note, look_note}
 use Rattle.run_history.specs.Calls.{fires}
-use Rattle.run_history.specs.Courses.{Fired}
-use Rattle.run_history.specs.Receipts.{Noted, receipt}
-use Rattle.run_history.specs.Runs.{course_of, Ending, IsJoined}
+use Rattle.run_history.specs.Witnesses.{Fired}
+use Rattle.run_history.specs.Receipts.{PlacedEntry, receipt}
+use Rattle.run_history.specs.Runs.{witness_of, Ending, IsJoined}
 use Rattle.run_history.specs.Truths.{IsObjectPoint}
 use Rattle.run_history.proofs.Actions.{made-append}
 use Rattle.run_history.proofs.Expires.{claim_of, finish_of, with_claim, HaveRun, run_push}
@@ -86,21 +86,21 @@ four note a b c d = rw (notes-append note (a ++ b) (c ++ d), notes-append note a
 abbrev pub HasPoints : Script → Ending → Label → ObjectsPass → ObjectsPass → List Action → Type 0
 HasPoints s e label p q all =
     (i n : ℕ) (before rest : List Action) → all ≡ before ++ rest → length (seen_of p i) ≤ n → n ≤ length (seen_of q i)
-    → AllByRecursion (λ x. x.0 ≤ n) (made i before) → AllByRecursion (λ x. n < x.0) (made i rest) → IsObjectPoint (course_of s e) label before i n
+    → AllByRecursion (λ x. x.0 ≤ n) (made i before) → AllByRecursion (λ x. n < x.0) (made i rest) → IsObjectPoint (witness_of s e) label before i n
 
 -- callbacks of an expiry run from its beginning on: their actions, as a part of the call, and that they ran in every run that goes on from there
 pub record RunKept (s : Script) (label : Label) (context : Context) (base : ℕ) (reading : ClockReading) (n : ℕ) (k : KnownOfTimers) (p : ObjectsPass) (k' : KnownOfTimers)
     (p' : ObjectsPass) (log callback_log : List Receipt) (object_log : List ObjectReceipt) : Type 0 where
   pub fired : List Fired
   pub many : length fired ≡ n
-  pub notes : List Noted
+  pub notes : List PlacedEntry
   pub no_looks : look_notes label log ≡ []
   pub claimed : claimed_in log ≡ map (λ f. f.timer) fired
   pub part : IsPart (HasRead reading) label k p k' p' (flat_map (fires base reading.stamp) fired) notes (log ++ callback_log) object_log
   pub have : (e : Ending) → IsJoined s e → promises.GoesOn k'.seen e → ((i : ℕ) → FollowsObject e i (seen_of p' i)) → (later : List Action)
       → ((i : ℕ) → AllByRecursion (λ x. length (seen_of p' i) < x.0) (made i later))
       → HasPoints s e label p p' (flat_map (fires base reading.stamp) fired ++ later)
-      → HaveRun (course_of s e) label e.order context base reading.stamp [] (length k.seen) fired notes (length k'.seen)
+      → HaveRun (witness_of s e) label e.order context base reading.stamp [] (length k.seen) fired notes (length k'.seen)
 
 -- a run goes on from what was seen of objects before
 follows_before : (p q : ObjectsPass) (e : Ending) → GoesOn p.knows.pass.seen q.knows.pass.seen → ((i : ℕ) → FollowsObject e i (seen_of q i)) → (i : ℕ)
@@ -178,12 +178,12 @@ module _ (s : Script) (x : WorldOf) (is : IsWorldOf s x) (some : 1 ≤ s.limit) 
   turn_ran : {k v w k' : KnownOfTimers} {c : ClaimNumbers} {restart : Restart} {h h' : Firing} (claim : IsClaimed base c reading k v)
       (b : BodyKept s label claim restart w h h') (number : ℕ) (restarted : Restarted)
       (own : (declared_of s c.timer).context ≡ context)
-      (finish : (n : Noted) × EntersNotes (HasRead reading) w k' (n ∷ [])
+      (finish : (n : PlacedEntry) × EntersNotes (HasRead reading) w k' (n ∷ [])
       × (receipt n ≡ (c.timer, (number, record { event = events.Finish (asks restart); reply = replies.Finish c.generation restarted })))) (e : Ending) → IsJoined s e → promises.GoesOn k'.seen e
       → ((i : ℕ) → FollowsObject e i (seen_of h'.objects_pass.now i)) → (before : List Action)
-      → ((i : ℕ) → ((j : ℕ) → made j b.body ≡ []) → IsObjectPoint (course_of s e) label
+      → ((i : ℕ) → ((j : ℕ) → made j b.body ≡ []) → IsObjectPoint (witness_of s e) label
       (with_claim base reading.stamp (fired_of c b.body number (asks restart) restarted) before) i (length (seen_of h'.objects_pass.now i)))
-      → (ran : expires.Ran (course_of s e) label e.order context base reading.stamp before (fired_of c b.body number (asks restart) restarted) (length k.seen)
+      → (ran : expires.Ran (witness_of s e) label e.order context base reading.stamp before (fired_of c b.body number (asks restart) restarted) (length k.seen)
       (length k'.seen)) × (claim.note ∷ b.notes ++ finish.0 ∷ [] ≡ expires.notes_of ran)
   turn_ran {k = k} {v = v} {w = w} {k' = k'} {c = c} {restart = restart} claim b number restarted own finish e joined goes follows before points =
       let acted = goes_before finish.1.seen goes in
@@ -229,7 +229,7 @@ module _ (s : Script) (x : WorldOf) (is : IsWorldOf s x) (some : 1 ≤ s.limit) 
       let own : (declared_of s c.timer).context ≡ context =
       sym (ap (λ (d : Declared). d.context) (declared_seen turn.claims.at c.timer)) ∙ turn.claims.context in
       let one = enters_once (HasRead reading) o (declareds_of s) (terms_of s) {number = u.stamp + 1} on ran.finishes.made (λ clock has. refl) refl in
-      let finish : (n : Noted) × EntersNotes (HasRead reading) ran.done k' (n ∷ []) × (receipt n ≡ (c.timer, (u.stamp + 1, finish_of f))) = (
+      let finish : (n : PlacedEntry) × EntersNotes (HasRead reading) ran.done k' (n ∷ []) × (receipt n ≡ (c.timer, (u.stamp + 1, finish_of f))) = (
         one.0,
         one.1,
         one.2 ∙ ap (λ g. (c.timer, (u.stamp + 1, record { event = events.Finish restart; reply = replies.Finish (unwrap_or g 0) restarted }))) ran.finishes.runs,
@@ -291,7 +291,7 @@ module _ (s : Script) (x : WorldOf) (is : IsWorldOf s x) (some : 1 ≤ s.limit) 
             (rw (made-append i done claiming, append-nil (made i done))
             (each_weaker (made i done) (λ x less. omega (arith, less, le)) (run.part.objects.rise i).below))
             (rw (made-append i (f.body ++ finishing) later, made-append i f.body finishing, none i) (behind i))) in
-            rw one_run.1 (run_push (course_of s e) label e.order context base at [] done (length k.seen) run.fired run.notes (length k1.seen) f (length k'.seen)
+            rw one_run.1 (run_push (witness_of s e) label e.order context base at [] done (length k.seen) run.fired run.notes (length k1.seen) f (length k'.seen)
             before_run refl one_run.0);
       }
 

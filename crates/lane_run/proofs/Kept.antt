@@ -18,12 +18,12 @@ use Rattle.record_text.specs.declared.record.CallbackReply.{CallbackReply}
 use Rattle.record_text.specs.declared.record.Entry as entry
 use Rattle.record_text.specs.declared.record.Label.{Label}
 use Rattle.record_text.specs.declared.record.ObjectEntry.{ObjectEntry}
-use Rattle.run_history.specs.Courses.{Trace}
+use Rattle.run_history.specs.Witnesses.{Trace}
 use Rattle.run_history.specs.Fits.{Seen}
 use Rattle.run_history.specs.Promises as promises
 use Rattle.run_history.specs.Promises.{GoesOnClock, IsPromised}
 use Rattle.run_history.specs.Receipts as receipts
-use Rattle.run_history.specs.Receipts.{IsMade, Noted, receipt, Rises, ShowsEntry}
+use Rattle.run_history.specs.Receipts.{IsMade, PlacedEntry, receipt, Rises, ShowsEntry}
 use Rattle.run_history.specs.Runs.{CallLog, Ending}
 use Rattle.run_history.specs.Actions.{Action, also, looked, made, skipped, wrote}
 use Rattle.run_history.specs.Histories.{ShowsReading}
@@ -61,7 +61,7 @@ pub record SeesOn (p q : WorldPass) : Type 0 where
   pub opening : q.objects.knows.opening ≡ p.objects.knows.opening
 
 -- what a lane kept of a call, by its passes before and after it, its receipts and its actions
-abbrev pub log_of : WorldPass → WorldPass → List Noted → Trace → CallLog
+abbrev pub log_of : WorldPass → WorldPass → List PlacedEntry → Trace → CallLog
 log_of p q notes trace = record {
   notes = notes;
   trace = trace;
@@ -202,12 +202,12 @@ pub record IsObjectLeft (q : WorldPass) (log : CallLog) (n : ObjectNote) : Type 
   pub shows : (e : Ending) → GoesOnClock (writes q.clock.knows) e → ShowsObjectCall e.run.clock step.call.call step.reply n.entry
 
 -- a note is of something that was seen, and that its call did; of an entry the receipts say it
-abbrev pub IsSeen : (k : NoteKind) → WorldPass → CallLog → NoteOf k → Type 0
-IsSeen EntryNotes q log n = Unit
-IsSeen LookNotes q log n = IsLookNote q n
-IsSeen ObjectNotes q log n = IsObjectLeft q log n
-IsSeen SkipNotes q log n = IsSkipNote q n
-IsSeen WriteNotes q log n = IsWriteLeft q log n
+abbrev pub IsNoteSeen : (k : NoteKind) → WorldPass → CallLog → NoteOf k → Type 0
+IsNoteSeen EntryNotes q log n = Unit
+IsNoteSeen LookNotes q log n = IsLookNote q n
+IsNoteSeen ObjectNotes q log n = IsObjectLeft q log n
+IsNoteSeen SkipNotes q log n = IsSkipNote q n
+IsNoteSeen WriteNotes q log n = IsWriteLeft q log n
 
 -- the receipts stand in what was seen of all timers, at rising places in their call's span, and every run shows them that goes on from there
 pub record StandAt (q : WorldPass) (log : CallLog) : Type 0 where
@@ -230,7 +230,7 @@ pub record IsNextCall (s : Script) (x : WorldOf) (l : LaneOf) (call : Call) : Ty
 
 -- what a lane keeps of a call, with its receipts, its actions and the notes that it added
 pub record KeepsCall (s : Script) (l : LaneOf) (call : Call) (a : Answer) (m : LaneOf) : Type 0 where
-  pub notes : List Noted
+  pub notes : List PlacedEntry
   pub trace : Trace
   pub added : NotesOf
   pub sees : SeesOn l.pass m.pass
@@ -241,7 +241,7 @@ pub record KeepsCall (s : Script) (l : LaneOf) (call : Call) (a : Answer) (m : L
   -- no call writes more than once
   pub few : length added.writes ≤ 1
   pub places : AddsPlaces l.pass m.pass added
-  pub seen : (k : NoteKind) → AllByRecursion (IsSeen k m.pass (log_of l.pass m.pass notes trace)) (list_of k added)
+  pub seen : (k : NoteKind) → AllByRecursion (IsNoteSeen k m.pass (log_of l.pass m.pass notes trace)) (list_of k added)
   pub stand : StandAt m.pass (log_of l.pass m.pass notes trace)
   -- the promise
   pub promised : IsPromised s l.label.lane l.label.call (log_of l.pass m.pass notes trace) (Follows m.pass) call a (seen_by l.pass) (seen_by m.pass)
@@ -344,7 +344,7 @@ stand_later {log = log} more stand = record {
 }
 
 -- law: what a note is of
-pub seen_later : (k : NoteKind) {p q : WorldPass} (log : CallLog) (n : NoteOf k) → SeesMore p q → IsSeen k p log n → IsSeen k q log n
+pub seen_later : (k : NoteKind) {p q : WorldPass} (log : CallLog) (n : NoteOf k) → SeesMore p q → IsNoteSeen k p log n → IsNoteSeen k q log n
 seen_later EntryNotes log n more is = tt
 seen_later LookNotes log n more is = record { some = is.some; seen = omega (arith, is.seen, count_begins n.timer more.timers) }
 seen_later ObjectNotes log n more is = record {

@@ -7,7 +7,7 @@ use Rattle.run_history.specs.Told.{object_steps_on}
 use Rattle.run_history.specs.Order.{CallInRound}
 use Rattle.script_text.specs.declared.script.Call.{Call}
 use Rattle.script_text.specs.declared.script.Script.{Script}
-use Rattle.run_history.specs.Courses.{Course}
+use Rattle.run_history.specs.Witnesses.{Witness}
 use Rattle.run_history.specs.Fits.{FitsCall, FitsLane, Seen}
 use Rattle.run_history.specs.Rounds.{label_at}
 use Rattle.lane_run.specs.Called.{Called, LaneOf}
@@ -20,7 +20,7 @@ abbrev pub KeepsEach : Script → WorldOf → Type 0
 KeepsEach s x = (l m : LaneOf) (call : Call) (a : Answer) → IsNextCall s x l call → Called x l call a m → KeepsCall s l call a m
 
 -- law: a call that fits behind what its lane had seen fits behind less
-pub fits_behind : (w : Course) (c : Label) (call : Call) (a : Answer) (less before after : Seen) → IsNoLess less before → FitsCall w c call a before after
+pub fits_behind : (w : Witness) (c : Label) (call : Call) (a : Answer) (less before after : Seen) → IsNoLess less before → FitsCall w c call a before after
     → FitsCall w c call a less after
 fits_behind w c call a less before after no_less fits = record {
   traced = fits.traced;
@@ -39,7 +39,7 @@ fits_behind w c call a less before after no_less fits = record {
 }
 
 -- law: the same of the calls of a lane that are left
-pub fits_lane_behind : (w : Course) (lane index : ℕ) (less before : Seen) (ps : List CallInRound) (given : List Answer) → IsNoLess less before
+pub fits_lane_behind : (w : Witness) (lane index : ℕ) (less before : Seen) (ps : List CallInRound) (given : List Answer) → IsNoLess less before
     → FitsLane w lane index before ps given → FitsLane w lane index less ps given
 fits_lane_behind w lane index less before [] [] no_less fits = tt
 fits_lane_behind w lane index less before [] (a ∷ given) no_less fits = absurd fits

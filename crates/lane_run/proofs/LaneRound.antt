@@ -7,7 +7,7 @@ use Rattle.record_text.specs.declared.record.Answer.{Answer}
 use Rattle.record_text.specs.declared.record.Label.{Label}
 use Rattle.run_history.specs.Fits.{Seen}
 use Rattle.run_history.specs.Promises.{IsPromisedSoFar, IsPromised}
-use Rattle.run_history.specs.Runs.{CallLog, course_of}
+use Rattle.run_history.specs.Runs.{CallLog, witness_of}
 use Rattle.run_history.specs.Order.{CallInRound, calls_of}
 use Rattle.script_text.specs.Scripts.{IsInRange}
 use Rattle.script_text.specs.declared.script.Call.{Call}
@@ -74,7 +74,7 @@ pub kept_later : {s : Script} {past : List Seen} {p q : WorldPass} {lane : ℕ} 
 kept_later {s} {p = p} {q = q} {lane = lane} {d = d} more kept = record {
   parts = kept.parts;
   promised = λ e follows has joined later fits. kept.promised e (follows_less more follows) has joined later
-      (fits_lane_behind (course_of s e) lane (length d.done) (seen_by p) (seen_by q) d.rest later (no_less more) fits);
+      (fits_lane_behind (witness_of s e) lane (length d.done) (seen_by p) (seen_by q) d.rest later (no_less more) fits);
   each = each_weaker d.done (λ k is. record { stand = stand_later more is.stand; lies = λ x. lies_later (no_less more) (is.lies x) }) kept.each;
   next = kept.next;
 }

@@ -23,7 +23,7 @@ use Rattle.record_text.specs.declared.record.Label.{Label}
 use Rattle.run_history.specs.Order.{is_label}
 use Rattle.script_text.specs.declared.script.Declaration.{Declaration}
 use Rattle.script_text.specs.declared.script.Script.{Script}
-use Rattle.run_history.specs.Receipts.{IsMade, Noted, receipt}
+use Rattle.run_history.specs.Receipts.{IsMade, PlacedEntry, receipt}
 use Rattle.run_history.specs.Runs.{CallLog}
 use Rattle.run_history.proofs.Labels.{label_itself, same_label}
 use Rattle.run_history.proofs.Lists.{all_at}
@@ -48,10 +48,10 @@ entry_within bases count w (y ∷ es) zero e steps at = subst (λ (z : TimerEntr
 entry_within bases count w (y ∷ es) (suc p) e steps at = entry_within bases count (after_entry w y) es p e steps.1 at
 
 -- an entry's note as the receipt of it, with so many entries before it
-abbrev pub noted_at : ℕ → EntryNote → Noted
+abbrev pub noted_at : ℕ → EntryNote → PlacedEntry
 noted_at place n = record { place = place; timer = n.timer; number = n.number; entry = n.entry }
 
-told_at : (y : Noted) (n : EntryNote) → receipt y ≡ entry_in_note n → y ≡ noted_at y.place n
+told_at : (y : PlacedEntry) (n : EntryNote) → receipt y ≡ entry_in_note n → y ≡ noted_at y.place n
 told_at y n is = ap (λ (r : ℕ × (ℕ × Entry)). record { place = y.place; timer = r.0; number = r.1.0; entry = r.1.1 }) is
 
 -- the receipt that an entry's note is of, among those of its call
@@ -73,7 +73,7 @@ module _ {s : Script} {q : WorldPass} {notes : NotesOf} {logs : Label → CallLo
       record { place = m.0.place; index = m.1.0; there = m.1.1 ∙ ap Some (told_at m.0 n m.2) }
 
   -- law: and each receipt has a note
-  pub is_told : (c : Label) (i : ℕ) (y : Noted) → slice_get (logs c).notes i ≡ Some y
+  pub is_told : (c : Label) (i : ℕ) (y : PlacedEntry) → slice_get (logs c).notes i ≡ Some y
       → (n : EntryNote) × HasPlace notes.entries n × (n.label ≡ c) × (y ≡ noted_at y.place n)
   is_told c i y at =
       let o = stands_in_map receipt (logs c).notes y (i, at) in

@@ -7,7 +7,7 @@ use Rattle.lane_notes.specs.Notes.{NotesOf}
 use Rattle.record_text.specs.declared.record.Label.{Label}
 use Rattle.record_text.specs.declared.record.RunRecord.{RunRecord}
 use Rattle.run_history.specs.Promises.{HasLog}
-use Rattle.run_history.specs.Runs.{CallLog, Ending, IsJoined, RoundStarts, course_of, clock_spans, moves_spans, object_spans}
+use Rattle.run_history.specs.Runs.{CallLog, Ending, IsJoined, RoundStarts, witness_of, clock_spans, moves_spans, object_spans}
 use Rattle.run_history.specs.Rounds.{IsLedger}
 use Rattle.run_history.specs.Fits.{FitsLane, unseen}
 use Rattle.run_history.specs.Order.{calls_of, IsLabel}
@@ -16,7 +16,7 @@ use Rattle.script_text.specs.declared.script.Script.{Script}
 use Rattle.record_text.specs.declared.record.Answer.{Answer}
 use Rattle.timer_objects.specs.Known.{seen_of}
 use Rattle.lane_run.specs.Runs.{ObjectMove}
-use Rattle.lane_run.proofs.Kept.{Follows, IsSeen, NoteKind, StandAt, Tallies, TellLog, label_of, list_of, own_notes}
+use Rattle.lane_run.proofs.Kept.{Follows, IsNoteSeen, NoteKind, StandAt, Tallies, TellLog, label_of, list_of, own_notes}
 use Rattle.lane_run.specs.Worlds.{AreLast, ArePassesOf, IsWhole, IsWorldOf, WorldOf}
 use Rattle.lane_run.specs.declared.world.WorldPass.{WorldPass}
 
@@ -27,7 +27,7 @@ use Rattle.lane_run.specs.declared.world.WorldPass.{WorldPass}
 pub record AreLeft (s : Script) (q : WorldPass) (notes : NotesOf) (logs : Label → CallLog) : Type 0 where
   pub tell : (c : Label) → TellLog (logs c) (own_notes c notes)
   pub stand : (c : Label) → StandAt q (logs c)
-  pub seen : (k : NoteKind) → AllByRecursion (λ n. IsLabel s (label_of k n) × IsSeen k q (logs (label_of k n)) n) (list_of k notes)
+  pub seen : (k : NoteKind) → AllByRecursion (λ n. IsLabel s (label_of k n) × IsNoteSeen k q (logs (label_of k n)) n) (list_of k notes)
   pub few : length notes.writes < last_stamp
   pub places : Tallies q notes
 
@@ -66,4 +66,4 @@ pub record AreByRounds (s : Script) (q : WorldPass) (logs : Label → CallLog) (
   pub objects_most : (i : ℕ) (c : Label) → IsLabel s c → ((logs c).objects i).1 ≤ length (seen_of q.objects i)
   pub lanes : length answers ≡ s.lanes
   pub calls : (e : Ending) → Follows q e → ((c : Label) → HasLog e c (logs c)) → IsJoined s e → (lane : ℕ)
-      → FitsLane (course_of s e) lane 0 unseen (calls_of s lane) (get_or answers lane [])
+      → FitsLane (witness_of s e) lane 0 unseen (calls_of s lane) (get_or answers lane [])

@@ -10,7 +10,7 @@ use Rattle.record_text.specs.declared.record.Label.{Label}
 use Rattle.run_history.specs.Fits.{FitsLane, Seen, unseen}
 use Rattle.run_history.specs.Promises.{HasLog, HasLogs, IsPromisedSoFar}
 use Rattle.run_history.specs.Rounds.{IsLedger, label_at, Spans}
-use Rattle.run_history.specs.Runs.{CallLog, course_of, Ending, RoundStarts}
+use Rattle.run_history.specs.Runs.{CallLog, witness_of, Ending, RoundStarts}
 use Rattle.run_history.proofs.Lists.{all_at, at_map}
 use Rattle.run_history.proofs.Promise.{promised_all}
 use Rattle.run_history.specs.Order.{CallInRound, calls_of, IsLabel, round_of}
@@ -18,7 +18,7 @@ use Rattle.script_text.specs.Scripts.{all_calls, IsInRange}
 use Rattle.script_text.specs.declared.script.Call.TheVariants as calls
 use Rattle.script_text.specs.declared.script.Script.{Script}
 use Rattle.record_text.specs.declared.record.Answer.TheVariants as answers
-use Rattle.lane_run.proofs.Kept.{Follows, seen_by, label_of, StandAt, list_of, IsSeen, TellLog, own_notes}
+use Rattle.lane_run.proofs.Kept.{Follows, seen_by, label_of, StandAt, list_of, IsNoteSeen, TellLog, own_notes}
 use Rattle.lane_run.proofs.Left.{AreByRounds, AreLeft}
 use Rattle.lane_run.specs.Rounds.{LeftOf, MakesRounds, none_left}
 use Rattle.lane_run.specs.Worlds.{AreFirst, IsWhole, IsWorldOf, WorldOf}
@@ -103,7 +103,7 @@ module _ {s : Script} {past : List Seen} {q : WorldPass} {left : LeftOf} (of : �
         let c = label_of k n in
         let at = is.1 in (
           omega (arith, as_many c.lane, slice_get_within (of c.lane).done c.call at.0 at.1),
-          subst (λ g. IsSeen k q g n)
+          subst (λ g. IsNoteSeen k q g n)
               (sym (ap (λ (d : DoneCall). d.log) (get_or_from_slice_get (of c.lane).done c.call at.0 no_call at.1) ∙ at.2)) is.2,
         )) (so_far.are.seen k);
     few = omega (arith, few, range.count);
@@ -157,7 +157,7 @@ module _ {s : Script} {past : List Seen} {q : WorldPass} {left : LeftOf} (of : �
     calls = λ e follows has joined lane.
         let kept = so_far.kept lane in
         let done = (of lane).done in
-        subst (FitsLane (course_of s e) lane 0 unseen (calls_of s lane)) (sym (so_far.given lane))
+        subst (FitsLane (witness_of s e) lane 0 unseen (calls_of s lane)) (sym (so_far.given lane))
         (promised_all s lane (length done) (logs_of done) (Follows q) (seen_by q) (answers_in done)
         (subst (λ ps. IsPromisedSoFar s lane (length done) (logs_of done) (Follows q) (seen_by q) ps (answers_in done)) (rest lane) kept.promised)
         e follows (has_from e lane 0 done (λ j k at. subst (λ n. HasLog e (label_at lane n) k.log) (omega arith)

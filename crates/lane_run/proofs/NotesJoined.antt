@@ -12,7 +12,7 @@ use Rattle.run_history.specs.Order.{is_label}
 use Rattle.script_text.specs.declared.script.Call.{Call}
 use Rattle.script_text.specs.declared.script.Script.{Script}
 use Rattle.lane_run.specs.Called.{LaneOf}
-use Rattle.lane_run.proofs.Kept.{KeepsCall, log_of, label_of, list_of, IsSeen, TellLog, SkipNotes, ObjectNotes, LookNotes, EntryNotes, NoteOf, NoteKind, WriteNotes, SeesMore, seen_later, own_notes}
+use Rattle.lane_run.proofs.Kept.{KeepsCall, log_of, label_of, list_of, IsNoteSeen, TellLog, SkipNotes, ObjectNotes, LookNotes, EntryNotes, NoteOf, NoteKind, WriteNotes, SeesMore, seen_later, own_notes}
 use Rattle.lane_run.specs.declared.world.WorldPass.{WorldPass}
 use Rattle.lane_run.proofs.PartLists.{no_notes-joins, notes_same, each_weaker}
 use Rattle.record_text.proofs.Lists.{All-append}
@@ -21,7 +21,7 @@ use Rattle.run_history.specs.Actions.{also}
 -- notes of calls, with what was kept of each, and of something that the passes have seen; which calls, and what was kept of them, is `Of`
 pub record AreOf (p : WorldPass) (notes : NotesOf) (Of : Label → CallLog → Type 0) : Type 0 where
   pub tell : (c : Label) (g : CallLog) → Of c g → TellLog g (own_notes c notes)
-  pub seen : (k : NoteKind) → AllByRecursion (λ n. (g : CallLog) × Of (label_of k n) g × IsSeen k p g n) (list_of k notes)
+  pub seen : (k : NoteKind) → AllByRecursion (λ n. (g : CallLog) × Of (label_of k n) g × IsNoteSeen k p g n) (list_of k notes)
 
 -- ---- lists of labelled items
 
@@ -74,7 +74,7 @@ are_later {notes = notes} more are = record {
 pub none_noted : {p : WorldPass} {Of : Label → CallLog → Type 0} → ((c : Label) (g : CallLog) → Of c g → ⊥) → AreOf p no_notes Of
 none_noted {p} {Of} never = record {
   tell = λ c g of. absurd (never c g of);
-  seen = λ k. elim k as (λ j. AllByRecursion (λ n. (g : CallLog) × Of (label_of j n) g × IsSeen j p g n) (list_of j no_notes)) [
+  seen = λ k. elim k as (λ j. AllByRecursion (λ n. (g : CallLog) × Of (label_of j n) g × IsNoteSeen j p g n) (list_of j no_notes)) [
     | EntryNotes ↦ tt
     | LookNotes ↦ tt
     | ObjectNotes ↦ tt

@@ -26,7 +26,7 @@ use Rattle.script_text.specs.declared.script.Call.{Call}
 use Rattle.script_text.specs.declared.script.Kind.TheVariants as kinds
 use Rattle.script_text.specs.declared.script.Script.{Script}
 use Rattle.run_history.specs.Calls.{Does}
-use Rattle.run_history.specs.Runs.{course_of, Ending}
+use Rattle.run_history.specs.Runs.{witness_of, Ending}
 use Rattle.run_history.specs.Truths.{IsObjectPoint}
 use Rattle.lane_run.specs.Called.{Called, lane_caller, CallsOverrun, gettime_told, LaneOf, with_done}
 use Rattle.lane_run.proofs.Kept.{Follows, IsNextCall, KeepsCall, begins_same}
@@ -47,7 +47,7 @@ module _ {s : Script} {x : WorldOf} {l : LaneOf} (m : LaneOf) {call : Call} (nex
     (clock : LooksAtClock l.pass m.pass) (notes : m.notes ≡ with_done l.notes l.label log object_log) (on : object_called call ≡ Some i) where
   -- law: a lane keeps a call that looked at an object, where its answer holds of the object as the record has it after so many entries
   pub keeps_look : object_stamp_in a ≡ stamp ∷ [] → Does s (length (writes m.pass.clock.knows)) call a [] []
-      → ((e : Ending) → Follows m.pass e → IsObjectPoint (course_of s e) l.label [] i stamp → object ≡ object_after s e.run i stamp (kind_of s i)
+      → ((e : Ending) → Follows m.pass e → IsObjectPoint (witness_of s e) l.label [] i stamp → object ≡ object_after s e.run i stamp (kind_of s i)
       → IsToldSo s l m call a e)
       → KeepsCall s l call a m
   keeps_look stamps does seen =

@@ -16,8 +16,8 @@ use Rattle.run_history.specs.Objects.{armed_in_phase}
 use Rattle.run_history.specs.Order.{NeverFall}
 use Rattle.script_text.specs.declared.script.Script.{Script}
 use Rattle.lane_notes.specs.Arms.{arm_noted}
-use Rattle.run_history.specs.Courses.{entries_in}
-use Rattle.run_history.specs.Runs.{course_of, Ending, IsJoined, moves_spans}
+use Rattle.run_history.specs.Witnesses.{entries_in}
+use Rattle.run_history.specs.Runs.{witness_of, Ending, IsJoined, moves_spans}
 use Rattle.run_history.specs.Truths.{IsSpan, IsSpanBy, IsTrueStart}
 use Rattle.run_history.proofs.ObjectsMade.{settime_actions}
 use Rattle.run_history.proofs.OthersMade.{plain}
@@ -34,7 +34,7 @@ use Rattle.script_text.specs.declared.script.Call.{Call}
 use Rattle.run_history.specs.Fits.{FitsCall}
 use Rattle.run_history.proofs.Kept.{IsKept}
 use Rattle.ktime.specs.declared.mode.Mode.{Mode}
-use Rattle.run_history.specs.Courses as courses
+use Rattle.run_history.specs.Witnesses as witnesses
 use Rattle.lane_run.proofs.Armed.{HasRead, IsArmedSo, IsLike, IsRearmSpan, start_true, TimerPart}
 use Rattle.lane_run.proofs.CallKept.{clock_read, reading_goes_on, unstamped}
 use Rattle.lane_run.proofs.PartKept.{keeps_part}
@@ -45,7 +45,7 @@ use Rattle.timer_setting.specs.declared.arming.Arm.TheVariants as arms
 use Rattle.std.proofs.lemmas.List.{append-nil}
 use Rattle.timer_objects.specs.Steps.{object_answer}
 use Rattle.lane_run.specs.Runs.{ObjectMove}
-use Rattle.run_history.specs.Receipts.{Noted}
+use Rattle.run_history.specs.Receipts.{PlacedEntry}
 use Rattle.run_history.specs.Promises as promises
 use Rattle.std.proofs.Common.{length-append}
 use Rattle.std.specs.List.{slice_get}
@@ -91,19 +91,19 @@ module _ {s : Script} {x : WorldOf} {l : LaneOf} (m : LaneOf) {call : Call} (nex
 
   module _ {e : Ending} (follows : Follows m.pass e) (joined : IsJoined s e) where
     -- a timer as the lane knows it is the script's
-    timer_at : (ys : List TimerEntry) → promises.GoesOn ys e → courses.timer_along (course_of s e) (length ys) timer ≡ timer_then x.timers.about ys timer
+    timer_at : (ys : List TimerEntry) → promises.GoesOn ys e → witnesses.timer_along (witness_of s e) (length ys) timer ≡ timer_then x.timers.about ys timer
     timer_at ys on =
-        timer_seen (course_of s e) ys on.0 (seen_first ys joined on) timer ∙ sym (ap (λ (o : Opening). timer_then o ys timer) next.world.timers)
+        timer_seen (witness_of s e) ys on.0 (seen_first ys joined on) timer ∙ sym (ap (λ (o : Opening). timer_then o ys timer) next.world.timers)
 
-    timer_now : courses.timer_along (course_of s e) (length w.seen) timer ≡ timer_then x.timers.about w.seen timer
+    timer_now : witnesses.timer_along (witness_of s e) (length w.seen) timer ≡ timer_then x.timers.about w.seen timer
     timer_now = timer_at w.seen follows.timers
 
     -- law: so it is where the call found it
-    pub timer_found : courses.timer_along (course_of s e) (length begin.seen) timer ≡ timer_then x.timers.about begin.seen timer
+    pub timer_found : witnesses.timer_along (witness_of s e) (length begin.seen) timer ≡ timer_then x.timers.about begin.seen timer
     timer_found = timer_at begin.seen (goes_before k.part.1.timers.enters.seen follows.timers)
 
     -- law: what became of its start
-    pub outcome_is : IsArmedSo arm (courses.timer_along (course_of s e) (length w.seen) timer)
+    pub outcome_is : IsArmedSo arm (witnesses.timer_along (witness_of s e) (length w.seen) timer)
     outcome_is = subst (IsArmedSo arm) (sym timer_now) k.armed
 
     -- the object after the entry is the record's
@@ -123,10 +123,10 @@ module _ {s : Script} {x : WorldOf} {l : LaneOf} (m : LaneOf) {call : Call} (nex
 
     -- law: the object's entry tells the truth of it, where the object's phase bears it
     pub start_is : (on_clock : Bool) → IsLike on_clock arm (armed_in_phase phase) (timer_then x.timers.about w.seen timer)
-        → IsTrueStart (course_of s e) timer number on_clock (arm_noted arm) (length w.seen)
+        → IsTrueStart (witness_of s e) timer number on_clock (arm_noted arm) (length w.seen)
     start_is on_clock like =
-        start_true (course_of s e) timer number (length w.seen) on_clock arm outcome_is
-        (subst (λ o. IsLike on_clock arm o (courses.timer_along (course_of s e) (length w.seen) timer)) (sym phase_is)
+        start_true (witness_of s e) timer number (length w.seen) on_clock arm outcome_is
+        (subst (λ o. IsLike on_clock arm o (witnesses.timer_along (witness_of s e) (length w.seen) timer)) (sym phase_is)
         (subst (IsLike on_clock arm (armed_in_phase phase)) (sym timer_now) like))
 
     -- the run has the entry's span
@@ -138,14 +138,14 @@ module _ {s : Script} {x : WorldOf} {l : LaneOf} (m : LaneOf) {call : Call} (nex
 
     -- law: it is the whole part, where it goes from the timer as the call found it to the timer as it left it
     pub whole_span : made.from ≡ stamp_seen x.timers.about begin timer → made.to ≡ stamp_seen x.timers.about w timer
-        → IsSpan (course_of s e) (length begin.seen) timer number (length w.seen)
+        → IsSpan (witness_of s e) (length begin.seen) timer number (length w.seen)
     whole_span from to =
         span_is ∙ ap (λ n. (n, made.to)) (from ∙ sym (ap (λ (u : Timer). u.stamp) timer_found))
-        ∙ ap (λ n. ((courses.timer_along (course_of s e) (length begin.seen) timer).stamp, n)) (to ∙ sym (ap (λ (u : Timer). u.stamp) timer_now))
+        ∙ ap (λ n. ((witnesses.timer_along (witness_of s e) (length begin.seen) timer).stamp, n)) (to ∙ sym (ap (λ (u : Timer). u.stamp) timer_now))
 
     -- law: or as it is where the call starts the timer only if it has expired
     pub rearm_span : (b : Arm) → IsRearmSpan (timer_then x.timers.about begin.seen timer) (timer_then x.timers.about w.seen timer) b made.from made.to
-        → IsSpanBy (course_of s e) (length begin.seen) timer number (arm_noted b) (length w.seen)
+        → IsSpanBy (witness_of s e) (length begin.seen) timer number (arm_noted b) (length w.seen)
     rearm_span arms.NotAsked spans = record {
       empty = ap (λ p. p.0) span_is ∙ spans.0 ∙ sym (ap (λ p. p.1) span_is);
       seen = λ none. let le = spans.1 (sym (ap (λ (u : Timer). u.running) timer_now) ∙ none) in
@@ -159,10 +159,10 @@ module _ {s : Script} {x : WorldOf} {l : LaneOf} (m : LaneOf) {call : Call} (nex
       {entry : ObjectEntry} (noted : IsNotedAs (HasRead reading) made.call reply entry) where
     -- law: a lane keeps the call, where it fits
     pub keeps_made : (a : Answer) → object_stamp_in a ≡ []
-        → ((e : Ending) → Follows m.pass e → IsJoined s e → IsKept (course_of s e) (moves_spans e) l.label
+        → ((e : Ending) → Follows m.pass e → IsJoined s e → IsKept (witness_of s e) (moves_spans e) l.label
         (plain reading.stamp (length begin.seen) (length w.seen) (settime_actions timer cancel k.start number entry)) k.part.0 call a (seen_by l.pass)
         (seen_by m.pass) → (moves_spans e).first l.label ≤ length begin.seen
-        → FitsCall (course_of s e) l.label call a (seen_by l.pass) (seen_by m.pass))
+        → FitsCall (witness_of s e) l.label call a (seen_by l.pass) (seen_by m.pass))
         → KeepsCall s l call a m
     keeps_made a unstamps fits =
         let p = l.pass in
@@ -173,7 +173,7 @@ module _ {s : Script} {x : WorldOf} {l : LaneOf} (m : LaneOf) {call : Call} (nex
         let log_is : object_log ≡ receipt_of step.reply ∷ [] = enters.object_log ∙ ap (λ r. receipt_of r ∷ []) enters.reply in
         let as_told = subst (λ r. IsNotedAs (HasRead reading) made.call r entry) enters.reply noted in
         let entered = part_made {v = w} {step = step} enters.commits.adds enters.commits.opening as_told in
-        let Whole : List Noted → List Receipt → List ObjectReceipt → Type 0 =
+        let Whole : List PlacedEntry → List Receipt → List ObjectReceipt → Type 0 =
         λ ns rs os. IsPart (HasRead reading) l.label p.timers.known p.objects w q.objects ds ns rs os in
         let whole : Whole k.part.0 log object_log =
         subst (λ ns. Whole ns log object_log) (append-nil k.part.0) (subst (λ rs. Whole (k.part.0 ++ []) rs object_log) (append-nil log)

@@ -16,16 +16,16 @@ use Rattle.script_text.specs.declared.script.Call.{Call}
 use Rattle.script_text.specs.declared.script.Script.{Script}
 use Rattle.lane_notes.specs.Entries.{entry_notes, look_notes}
 use Rattle.lane_notes.specs.Objects.{object_notes, skip_notes}
-use Rattle.run_history.specs.Courses.{Trace}
+use Rattle.run_history.specs.Witnesses.{Trace}
 use Rattle.run_history.specs.Promises as promises
 use Rattle.run_history.specs.Promises.{HasLog, IsRightLog}
 use Rattle.run_history.specs.Receipts as receipts
-use Rattle.run_history.specs.Receipts.{Noted, Rises}
+use Rattle.run_history.specs.Receipts.{PlacedEntry, Rises}
 use Rattle.run_history.specs.Runs.{Ending}
 use Rattle.lane_run.specs.Called.{LaneOf, with_done}
 use Rattle.std.specs.List.{AllByRecursion}
 use Rattle.std.proofs.lemmas.Option.{slice_get_within}
-use Rattle.lane_run.proofs.Kept.{IsNextCall, IsSeen, list_of, EntryNotes, LookNotes, ObjectNotes, SkipNotes, WriteNotes, KeepsCall, log_of, SeesOn}
+use Rattle.lane_run.proofs.Kept.{IsNextCall, IsNoteSeen, list_of, EntryNotes, LookNotes, ObjectNotes, SkipNotes, WriteNotes, KeepsCall, log_of, SeesOn}
 use Rattle.lane_run.specs.Worlds.{WorldOf}
 use Rattle.lane_run.proofs.CallKept.{FitsOn, logged_from, LooksAtClock, no_places, notes_of, notes_of-bear, places_added, promised_from, stand_from, with_done-joins}
 use Rattle.lane_run.proofs.Parts.{IsPart, object_place}
@@ -36,7 +36,7 @@ use Rattle.lane_run.proofs.PartLists.{each_weaker}
 
 -- law: a lane keeps a call that is a part, with its log, where it fits in every run that goes on from there
 pub keeps_part : {s : Script} {x : WorldOf} {l : LaneOf} {call : Call} {IsSo : List ClockLine → Type 0} {log : List Receipt}
-    {object_log : List ObjectReceipt} {notes : List Noted} (next : IsNextCall s x l call) (m : LaneOf) (a : Answer) (t : Trace)
+    {object_log : List ObjectReceipt} {notes : List PlacedEntry} (next : IsNextCall s x l call) (m : LaneOf) (a : Answer) (t : Trace)
     → IsPart IsSo l.label l.pass.timers.known l.pass.objects m.pass.timers.known m.pass.objects t.actions notes log object_log
     → ((e : Ending) → promises.GoesOnClock (writes m.pass.clock.knows) e → IsSo e.run.clock) → LooksAtClock l.pass m.pass
     → m.notes ≡ with_done l.notes l.label log object_log → t.last ≡ length m.pass.timers.known.seen → t.at ≡ length (writes m.pass.clock.knows)
@@ -77,7 +77,7 @@ keeps_part {l = l} {call = call} {IsSo = IsSo} {log = log} {object_log = object_
             ∙ total-append (λ u. one_if (is_place i k u)) p.objects.knows.pass.mine (map object_place (object_notes label object_log));
         clock = λ k. no_places (is_place 0 k) p.clock.knows.pass.mine q.clock.knows.pass.mine clock.mine;
       };
-      seen = λ k. elim k as (λ j. AllByRecursion (IsSeen j q (log_of p q notes t)) (list_of j (notes_of label log object_log))) [
+      seen = λ k. elim k as (λ j. AllByRecursion (IsNoteSeen j q (log_of p q notes t)) (list_of j (notes_of label log object_log))) [
         | EntryNotes ↦ each_weaker (entry_notes label log) (λ n bears. tt) (notes_of-bear label log object_log EntryNotes)
         | LookNotes ↦ each_weaker (look_notes label log) (λ n its. record { some = its.0; seen = its.1 }) part.timers.looks_seen
         | ObjectNotes ↦ each_weaker (object_notes label object_log)

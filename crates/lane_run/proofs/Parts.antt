@@ -28,7 +28,7 @@ use Rattle.lane_notes.specs.Objects.{object_notes, skip_notes, object_entry_note
 use Rattle.lane_notes.specs.declared.notes.LookNote.{LookNote}
 use Rattle.lane_notes.specs.declared.notes.ObjectNote.{ObjectNote}
 use Rattle.lane_notes.specs.declared.notes.SkipNote.{SkipNote}
-use Rattle.run_history.specs.Receipts.{count, Noted, receipt}
+use Rattle.run_history.specs.Receipts.{count, PlacedEntry, receipt}
 use Rattle.run_history.specs.Traces.{all_entered}
 use Rattle.run_history.proofs.Actions.{all_entered-append, made-append}
 use Rattle.run_history.proofs.Lists.{at_left, at_seam}
@@ -60,9 +60,9 @@ use Rattle.script_text.specs.declared.script.Script.{Script}
 use Rattle.lane_notes.specs.Entries.{entry_note, look_note, look_noted}
 use Rattle.lane_notes.specs.Objects.{object_note, skip_note}
 use Rattle.run_history.specs.Calls.{IsBody}
-use Rattle.run_history.specs.Courses.{Fired}
+use Rattle.run_history.specs.Witnesses.{Fired}
 use Rattle.run_history.specs.Promises as promises
-use Rattle.run_history.specs.Runs.{course_of, Ending, IsJoined}
+use Rattle.run_history.specs.Runs.{witness_of, Ending, IsJoined}
 use Rattle.run_history.specs.Truths.{IsClaimSpan, IsObjectPoint}
 use Rattle.run_history.proofs.Expires.{ReplyHolds}
 use Rattle.lane_run.proofs.PartLists.{notes-append, rises_none}
@@ -100,7 +100,7 @@ object_place n = (n.object, n.number)
 -- ---- parts
 
 -- what a part of a call did of timers: its actions with its receipts and notes, by its pass before and after it; it made no write
-pub record IsTimersPart (IsSo : List ClockLine → Type 0) (label : Label) (v w : KnownOfTimers) (actions : List Action) (notes : List Noted)
+pub record IsTimersPart (IsSo : List ClockLine → Type 0) (label : Label) (v w : KnownOfTimers) (actions : List Action) (notes : List PlacedEntry)
     (log : List Receipt) : Type 0 where
   pub enters : EntersNotes IsSo v w notes
   pub are : map receipt notes ≡ all_entered actions
@@ -125,7 +125,7 @@ pub record IsObjectsPart (IsSo : List ClockLine → Type 0) (label : Label) (p q
 
 -- a part of a call
 pub record IsPart (IsSo : List ClockLine → Type 0) (label : Label) (v : KnownOfTimers) (p : ObjectsPass) (w : KnownOfTimers) (q : ObjectsPass)
-    (actions : List Action) (notes : List Noted) (log : List Receipt) (object_log : List ObjectReceipt) : Type 0 where
+    (actions : List Action) (notes : List PlacedEntry) (log : List Receipt) (object_log : List ObjectReceipt) : Type 0 where
   pub timers : IsTimersPart IsSo label v w actions notes log
   pub objects : IsObjectsPart IsSo label p q actions object_log
 
@@ -156,7 +156,7 @@ module _ {IsSo : List ClockLine → Type 0} {label : Label} where
   -- ---- entries of timers
 
   -- law: of timers, entries and nothing else
-  timers_entered : {v w : KnownOfTimers} {actions : List Action} {notes : List Noted} {log : List Receipt} → EntersNotes IsSo v w notes
+  timers_entered : {v w : KnownOfTimers} {actions : List Action} {notes : List PlacedEntry} {log : List Receipt} → EntersNotes IsSo v w notes
       → map receipt notes ≡ all_entered actions → map receipt notes ≡ map entry_in_note (entry_notes label log) → wrote actions ≡ []
       → ((t : ℕ) → looked t actions ≡ []) → look_notes label log ≡ [] → IsTimersPart IsSo label v w actions notes log
   timers_entered enters are told no_write no_look no_note = record {
@@ -205,7 +205,7 @@ module _ {IsSo : List ClockLine → Type 0} {label : Label} where
   part_none seen mine = part_seen seen mine (record { each = λ i. begins_same refl }) refl refl
 
   -- law: entries of timers, and nothing else
-  pub part_entered : {v : KnownOfTimers} {p : ObjectsPass} {w : KnownOfTimers} {q : ObjectsPass} {actions : List Action} {notes : List Noted}
+  pub part_entered : {v : KnownOfTimers} {p : ObjectsPass} {w : KnownOfTimers} {q : ObjectsPass} {actions : List Action} {notes : List PlacedEntry}
       {log : List Receipt} → EntersNotes IsSo v w notes → q ≡ p → AllByRecursion IsEntered actions → map receipt notes ≡ all_entered actions
       → map receipt notes ≡ map entry_in_note (entry_notes label log) → look_notes label log ≡ [] → IsPart IsSo label v p w q actions notes log []
   part_entered {actions = actions} enters same only are told no_note =
@@ -220,7 +220,7 @@ module _ {IsSo : List ClockLine → Type 0} {label : Label} where
       {t : ℕ} {at : List TimerEntry} {es : List seq.Entry} {actions : List Action} → o.timers ≡ openings clocks terms → MadeAt v w t at es
       → ((clock : List ClockLine) → IsSo clock → HaveReadings clock es) → q ≡ p → AllByRecursion IsEntered actions
       → numbered t (timer_then o at t).stamp (map entry_stamped es) ≡ all_entered actions
-      → (notes : List Noted) × IsPart IsSo label v p w q actions notes (receipts_of t (timer_then o at t).stamp es) []
+      → (notes : List PlacedEntry) × IsPart IsSo label v p w q actions notes (receipts_of t (timer_then o at t).stamp es) []
   part_at o clocks terms {t = t} {at = at} {es = es} is made reads same only are =
       let n = (timer_then o at t).stamp in
       let its = enters_at IsSo o clocks terms is made reads in (
@@ -291,7 +291,7 @@ module _ {IsSo : List ClockLine → Type 0} {label : Label} where
 
   -- law: a part behind another makes one part, whose receipts may stand in another order, but for looks
   pub part-append : {u : KnownOfTimers} {o : ObjectsPass} {v : KnownOfTimers} {p : ObjectsPass} {w : KnownOfTimers} {q : ObjectsPass} {ds es : List Action}
-      {xs ys : List Noted} {log more all : List Receipt} {object_log object_more : List ObjectReceipt} → IsPart IsSo label u o v p ds xs log object_log
+      {xs ys : List PlacedEntry} {log more all : List Receipt} {object_log object_more : List ObjectReceipt} → IsPart IsSo label u o v p ds xs log object_log
       → IsPart IsSo label v p w q es ys more object_more → IsPermutation (entry_notes label (log ++ more)) (entry_notes label all)
       → look_notes label all ≡ look_notes label (log ++ more) → IsPart IsSo label u o w q (ds ++ es) (xs ++ ys) all (object_log ++ object_more)
   part-append {ds = ds} {es = es} {xs = xs} {ys = ys} {log = log} {more = more} left right same looks =
@@ -316,7 +316,7 @@ module _ {IsSo : List ClockLine → Type 0} {label : Label} where
 
   -- law: a part behind another, whose receipts stand behind those of the other
   pub part_then : {u : KnownOfTimers} {o : ObjectsPass} {v : KnownOfTimers} {p : ObjectsPass} {w : KnownOfTimers} {q : ObjectsPass} {ds es : List Action}
-      {xs ys : List Noted} {log more : List Receipt} {object_log object_more : List ObjectReceipt} → IsPart IsSo label u o v p ds xs log object_log
+      {xs ys : List PlacedEntry} {log more : List Receipt} {object_log object_more : List ObjectReceipt} → IsPart IsSo label u o v p ds xs log object_log
       → IsPart IsSo label v p w q es ys more object_more → IsPart IsSo label u o w q (ds ++ es) (xs ++ ys) (log ++ more) (object_log ++ object_more)
   part_then one two = part-append one two (same_order refl) refl
 
@@ -337,7 +337,7 @@ claim_in base stamp c = record { event = events.Claim base stamp; reply = replie
 
 -- a pass has made a claim, and seen it
 pub record IsClaimed (base : ℕ) (c : ClaimNumbers) (reading : ClockReading) (k v : KnownOfTimers) : Type 0 where
-  pub note : Noted
+  pub note : PlacedEntry
   pub enters : EntersNotes (HasRead reading) k v (note ∷ [])
   pub is : receipt note ≡ (c.timer, (c.number, claim_in base reading.stamp c))
   pub there : c.base ≡ base
@@ -349,7 +349,7 @@ pub record IsClaimed (base : ℕ) (c : ClaimNumbers) (reading : ClockReading) (k
 pub record BodyKept (s : Script) (label : Label) {base : ℕ} {c : ClaimNumbers} {reading : ClockReading} {k v : KnownOfTimers}
     (claim : IsClaimed base c reading k v) (restart : Restart) (w : KnownOfTimers) (h h' : Firing) : Type 0 where
   pub body : List Action
-  pub notes : List Noted
+  pub notes : List PlacedEntry
   pub more : List Receipt
   pub object_more : List ObjectReceipt
   pub adds : h'.log.receipts ≡ h.log.receipts ++ more
@@ -359,14 +359,14 @@ pub record BodyKept (s : Script) (label : Label) {base : ℕ} {c : ClaimNumbers}
       (Entered c.timer c.number (claim_in base reading.stamp c) ∷ body) (claim.note ∷ notes) (claim_receipt reading c ∷ more) object_more
   pub kind : (finish : ℕ) (restarted : Restarted) → IsBody (kind_of s c.timer) reading.stamp (fired_of c body finish (asks restart) restarted)
   pub holds : (e : Ending) → IsJoined s e → promises.GoesOn w.seen e → (before : List Action)
-      → ((i : ℕ) → ((j : ℕ) → made j body ≡ []) → IsObjectPoint (course_of s e) label before i (length (seen_of h'.objects_pass.now i)))
-      → ReplyHolds (course_of s e) label before (length w.seen) body
+      → ((i : ℕ) → ((j : ℕ) → made j body ≡ []) → IsObjectPoint (witness_of s e) label before i (length (seen_of h'.objects_pass.now i)))
+      → ReplyHolds (witness_of s e) label before (length w.seen) body
   pub span : (e : Ending) → ((i : ℕ) → FollowsObject e i (seen_of h'.objects_pass.now i)) → (finish : ℕ) (restarted : Restarted)
-      → IsClaimSpan (course_of s e) (fired_of c body finish (asks restart) restarted) body
+      → IsClaimSpan (witness_of s e) (fired_of c body finish (asks restart) restarted) body
 
 module _ {label : Label} {base : ℕ} {c : ClaimNumbers} {reading : ClockReading} {k v w : KnownOfTimers} {p q : ObjectsPass} where
   -- law: a claim, and behind it a part that its function made
-  pub part_claimed : {body : List Action} {notes : List Noted} {more : List Receipt} {object_more : List ObjectReceipt}
+  pub part_claimed : {body : List Action} {notes : List PlacedEntry} {more : List Receipt} {object_more : List ObjectReceipt}
       (claim : IsClaimed base c reading k v) → IsPart (HasRead reading) label v p w q body notes more object_more
       → IsPart (HasRead reading) label k p w q (Entered c.timer c.number (claim_in base reading.stamp c) ∷ body) (claim.note ∷ notes)
       (claim_receipt reading c ∷ more) object_more

@@ -53,8 +53,8 @@ use Rattle.record_text.specs.declared.record.Armed.{Armed}
 use Rattle.run_history.specs.Actions.{Action}
 use Rattle.run_history.specs.Told.{object_called}
 use Rattle.run_history.specs.Fits.{FitsCall}
-use Rattle.run_history.specs.Receipts.{Noted}
-use Rattle.run_history.specs.Runs.{course_of, Ending, IsJoined, moves_spans}
+use Rattle.run_history.specs.Receipts.{PlacedEntry}
+use Rattle.run_history.specs.Runs.{witness_of, Ending, IsJoined, moves_spans}
 use Rattle.run_history.proofs.Kept.{IsKept}
 use Rattle.run_history.proofs.ObjectsMade.{IsRearmed, rearming_actions}
 use Rattle.run_history.proofs.OthersMade.{plain}
@@ -94,7 +94,7 @@ module _ {s : Script} {x : WorldOf} {l m : LaneOf} {call : Call} (next : IsNextC
       rearm_part next timer c.reading made.enters.commits.state.last (wanted_by r object c.reading) made.arm (wanted_timely r object c.reading) made.rearms
 
   rearmed : {e : Ending} → Follows m.pass e → IsJoined s e
-      → IsRearmed (course_of s e) l.label part.does.part.0 c.reading.stamp (length part.begin.seen) (length m.pass.timers.known.seen) timer
+      → IsRearmed (witness_of s e) l.label part.does.part.0 c.reading.stamp (length part.begin.seen) (length m.pass.timers.known.seen) timer
       (arm_noted made.arm) part.does.start (length made.enters.commits.adds.before + 1)
   rearmed follows joined = record {
     ns = part.ns;
@@ -116,10 +116,10 @@ module _ {s : Script} {x : WorldOf} {l m : LaneOf} {call : Call} (next : IsNextC
       → ((clock : List ClockLine)
       → ShowsObjectCall clock (rearming_call r (reading_at clock c.reading.stamp) made.arm) reply (entry (arm_noted made.arm)))
       → (b : Answer) → object_stamp_in b ≡ [] → ((e : Ending) (begin last : ℕ) (arm : Armed) (start : List Action) (number : ℕ)
-      (notes : List Noted) → IsKept (course_of s e) (moves_spans e) l.label
+      (notes : List PlacedEntry) → IsKept (witness_of s e) (moves_spans e) l.label
       (plain c.reading.stamp begin last (rearming_actions timer start number (entry arm))) notes call b (seen_by l.pass) (seen_by m.pass)
-      → (moves_spans e).first l.label ≤ begin → IsRearmed (course_of s e) l.label notes c.reading.stamp begin last timer arm start number
-      → FitsCall (course_of s e) l.label call b (seen_by l.pass) (seen_by m.pass))
+      → (moves_spans e).first l.label ≤ begin → IsRearmed (witness_of s e) l.label notes c.reading.stamp begin last timer arm start number
+      → FitsCall (witness_of s e) l.label call b (seen_by l.pass) (seen_by m.pass))
       → KeepsCall s l call b m
   keeps_rearming noted no_skip shows b unstamps fits =
       keeps_made m next made.enters part.does on c.reads c.notes

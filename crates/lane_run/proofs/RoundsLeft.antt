@@ -24,7 +24,7 @@ use Rattle.lane_run.proofs.LaneRound.{IsKeptOf, kept_later, kept_pushed, LaneSoF
 use Rattle.lane_run.proofs.LanesTaken.{AreLeftSoFar, left_taken, put, put_at}
 use Rattle.lane_run.proofs.NotesJoined.{are_later, none_noted}
 use Rattle.lane_run.proofs.Tallies.{tallies_split, tallies_none}
-use Rattle.run_history.specs.Runs.{course_of}
+use Rattle.run_history.specs.Runs.{witness_of}
 use Rattle.run_history.specs.Actions.{also}
 use Rattle.lane_run.specs.Called.{lane_of}
 
@@ -205,7 +205,7 @@ left_first s {p = p} first = record {
   given = no_answers s.lanes;
   kept = λ j. record {
     parts = refl;
-    promised = λ e follows has joined more fits. fits_lane_behind (course_of s e) j 0 unseen (seen_by p) (calls_of s j) more
+    promised = λ e follows has joined more fits. fits_lane_behind (witness_of s e) j 0 unseen (seen_by p) (calls_of s j) more
         (record { clock = omega arith; moves = omega arith; objects = λ i. omega arith }) fits;
     each = tt;
     next = λ x i g h at. absurd (cc);

@@ -22,7 +22,7 @@ use Rattle.record_text.specs.declared.record.SettimeReply.TheVariants as settime
 use Rattle.record_text.specs.declared.record.SettimeReply.{SettimeReply}
 use Rattle.run_history.specs.Histories.{reading_at}
 use Rattle.lane_notes.specs.Arms.{arm_noted}
-use Rattle.run_history.specs.Courses.{Course}
+use Rattle.run_history.specs.Witnesses.{Witness}
 use Rattle.run_history.proofs.ObjectsMade.{RefusedBy}
 use Rattle.lane_run.specs.Called.{settime_told}
 use Rattle.lane_run.proofs.Parts.{IsNotedAs, noted_at}
@@ -33,7 +33,7 @@ use Rattle.timer_objects.specs.declared.object.Kind.{Kind}
 use Rattle.timer_objects.specs.declared.object.Kind.TheVariants as over
 use Rattle.record_text.specs.declared.record.ObjectEntry.{ObjectEntry}
 use Rattle.lane_run.proofs.Armed.{HasRead, IsArmedSo}
-use Rattle.run_history.specs.Courses.{timer_along}
+use Rattle.run_history.specs.Witnesses.{timer_along}
 
 module _ (flags value interval : ℕ) (reading : ClockReading) (answer : SettimeAnswer) where
   -- a settime with its reading and the outcome of its start
@@ -49,13 +49,13 @@ module _ (flags value interval : ℕ) (reading : ClockReading) (answer : Settime
     pub told : SettimeReply
     pub noted : IsNotedAs (HasRead reading) (call_by k arm reading) reply (entry_by arm told)
     pub answers : settime_told answer ≡ answer_of_settime told
-    pub refused : (w : Course) (timer last : ℕ) → IsArmedSo arm (timer_along w last timer) → RefusedBy w timer told last
+    pub refused : (w : Witness) (timer last : ℕ) → IsArmedSo arm (timer_along w last timer) → RefusedBy w timer told last
 
   noted_so : (k : Kind) (arm : Arm) (reply : ObjectReply) (told : SettimeReply)
       → (object_entry_noted (call_by k arm reading) reply ≡ Some (entry_by arm told)) × (skip_generation (call_by k arm reading) reply ≡ None)
       × ((clock : List ClockLine) → ShowsObjectCall clock (call_by k arm (reading_at clock reading.stamp)) reply (entry_by arm told))
       → settime_told answer ≡ answer_of_settime told
-      → ((w : Course) (timer last : ℕ) → IsArmedSo arm (timer_along w last timer) → RefusedBy w timer told last) → SettimeNoted k arm reply
+      → ((w : Witness) (timer last : ℕ) → IsArmedSo arm (timer_along w last timer) → RefusedBy w timer told last) → SettimeNoted k arm reply
   noted_so k arm reply told is tells refused =
       let noted = noted_at reading (call_by k arm) reply (entry_by arm told) is.0 is.1 is.2 in
       record { told = told; noted = noted; answers = tells; refused = refused }

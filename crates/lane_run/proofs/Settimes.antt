@@ -23,7 +23,7 @@ use Rattle.script_text.specs.Declarations.{kind_of}
 use Rattle.script_text.specs.declared.script.Call.TheVariants as calls
 use Rattle.script_text.specs.declared.script.Script.{Script}
 use Rattle.lane_notes.specs.Arms.{arm_noted}
-use Rattle.run_history.specs.Runs.{course_of, Ending, IsJoined}
+use Rattle.run_history.specs.Runs.{witness_of, Ending, IsJoined}
 use Rattle.run_history.proofs.ObjectsMade.{FoundIdle, IsSet, settime_made}
 use Rattle.lane_run.specs.Called.{Called, lane_caller, CallsObject, LaneOf, ReadsClock, settime_told, with_done}
 use Rattle.lane_run.proofs.Kept.{Follows, IsNextCall, KeepsCall, begins_same}
@@ -81,7 +81,7 @@ module _ {s : Script} {x : WorldOf} {l : LaneOf} (m : LaneOf) {timer flags : ℕ
       (subst (λ r. SettimeTells r a) set.enters.reply set.answer))
 
   module _ {e : Ending} (follows : Follows m.pass e) (joined : IsJoined s e) where
-    is_set : IsSet (course_of s e) l.label part.part.0 reading.stamp (length begin.seen) (length w.seen) timer flags value interval disarmed.0
+    is_set : IsSet (witness_of s e) l.label part.part.0 reading.stamp (length begin.seen) (length w.seen) timer flags value interval disarmed.0
         (arm_noted set.arm) part.start (length set.enters.commits.adds.before + 1)
     is_set =
         let takes = takes_valid (kind_of s timer) _ flags value interval (declared_over s x timer next.world)
@@ -102,7 +102,7 @@ module _ {s : Script} {x : WorldOf} {l : LaneOf} (m : LaneOf) {timer flags : ℕ
         }
       where
         found : (cancel : Option (ℕ × ℕ)) → (cancel ≡ None → IsIdle (timer_then x.timers.about begin.seen timer))
-            → FoundIdle (course_of s e) timer cancel (length begin.seen)
+            → FoundIdle (witness_of s e) timer cancel (length begin.seen)
         found None idle = subst IsIdle (sym (timer_found m next set.enters part follows joined)) (idle refl)
         found (Some cancel) idle = tt
 
@@ -111,7 +111,7 @@ module _ {s : Script} {x : WorldOf} {l : LaneOf} (m : LaneOf) {timer flags : ℕ
   keeps_set = subst (λ b. KeepsCall s l (calls.Settime timer flags value interval) b m) (sym noted.answers)
       (keeps_made m next set.enters part refl reads notes noted.noted (answer_of_settime noted.told) (no_stamp noted.told) (λ e follows joined kept low.
       settime_made noted.told kept low (is_set follows joined)
-      (noted.refused (course_of s e) timer (length w.seen) (outcome_is m next set.enters part follows joined))))
+      (noted.refused (witness_of s e) timer (length w.seen) (outcome_is m next set.enters part follows joined))))
     where
       no_stamp : (reply : SettimeReply) → object_stamp_in (answer_of_settime reply) ≡ []
       no_stamp settimes.Canceled = refl

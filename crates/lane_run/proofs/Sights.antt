@@ -17,10 +17,10 @@ use Rattle.run_history.specs.Order.{calls_of, IsLabel, NeverFall}
 use Rattle.script_text.specs.declared.script.Call.{Call}
 use Rattle.script_text.specs.declared.script.Script.{Script}
 use Rattle.run_history.specs.Calls.{Does}
-use Rattle.run_history.specs.Courses.{Trace}
+use Rattle.run_history.specs.Witnesses.{Trace}
 use Rattle.run_history.specs.Promises.{HasLog}
-use Rattle.run_history.specs.Runs.{course_of, Ending, IsJoined}
-use Rattle.run_history.specs.Truths.{IsObjectPoint, IsSeen, SawFull}
+use Rattle.run_history.specs.Runs.{witness_of, Ending, IsJoined}
+use Rattle.run_history.specs.Truths.{IsObjectPoint, AnswerHolds, SawFull}
 use Rattle.run_history.proofs.OthersMade.{plain, quiet_made}
 use Rattle.run_history.proofs.Promise.{object_point_from}
 use Rattle.lane_run.specs.Called.{lane_caller, LaneOf, with_done}
@@ -47,9 +47,9 @@ use Rattle.run_history.specs.Actions.{made}
 use Rattle.script_text.specs.declared.script.Call.TheVariants as calls
 use Rattle.run_history.proofs.Known.{numbered}
 use Rattle.script_text.specs.Declarations.{declareds_of, terms_of}
-use Rattle.run_history.specs.Courses as courses
+use Rattle.run_history.specs.Witnesses as witnesses
 use Rattle.run_history.specs.Promises.{GoesOnClock}
-use Rattle.run_history.specs.Receipts.{Noted, receipt}
+use Rattle.run_history.specs.Receipts.{PlacedEntry, receipt}
 use Rattle.run_history.specs.Traces.{all_entered}
 use Rattle.run_history.specs.Truths.{Saw}
 use Rattle.run_history.proofs.PassState.{saw_from, state_seen, timer_seen}
@@ -121,7 +121,7 @@ stamped {l = l} {m = m} only call a i n number on stamps j =
 -- law: it is a number of entries that the call may have seen
 pub point_seen : {s : Script} {x : WorldOf} {l m : LaneOf} {call : Call} (next : IsNextCall s x l call) → LooksOnly l m → (t : Trace) → t.actions ≡ []
     → (i n : ℕ) → n ≡ length (seen_of m.pass.objects i) → (e : Ending) → IsJoined s e → HasLog e l.label (log_of l.pass m.pass [] t)
-    → IsObjectPoint (course_of s e) l.label [] i n
+    → IsObjectPoint (witness_of s e) l.label [] i n
 point_seen {s = s} {l = l} next only t none i n number e joined has =
     let is : IsLabel s l.label = slice_get_within (calls_of s l.label.lane) l.label.call next.at next.there in
     let le = grown only i in
@@ -146,7 +146,7 @@ keeps_looking {l = l} {m = m} next a only steps fits =
 -- what its answer tells of is so, when it ends
 abbrev pub IsToldSo : Script → LaneOf → LaneOf → Call → Answer → Ending → Type 0
 IsToldSo s l m call a e =
-    let last = length m.pass.timers.known.seen in IsSeen (course_of s e) last last l.label (length (writes m.pass.clock.knows)) [] call a
+    let last = length m.pass.timers.known.seen in AnswerHolds (witness_of s e) last last l.label (length (writes m.pass.clock.knows)) [] call a
 
 -- law: the same where it is so in every such run
 pub keeps_sight : {s : Script} {x : WorldOf} {l m : LaneOf} {call : Call} (next : IsNextCall s x l call) (a : Answer) → LooksOnly l m
@@ -161,7 +161,7 @@ keeps_sight next a only steps does seen =
 pub keeps_full : {s : Script} {x : WorldOf} {l m : LaneOf} {call : Call} {log : List Receipt} {object_log : List ObjectReceipt}
     (next : IsNextCall s x l call) (a : Answer) (i n : ℕ) → FindsFull x.objects (lane_caller l.pass [] []) (lane_caller m.pass log object_log) i n
     → LooksAtClock l.pass m.pass → m.notes ≡ with_done l.notes l.label log object_log → object_called call ≡ Some i → object_stamp_in a ≡ n ∷ []
-    → Does s (length (writes m.pass.clock.knows)) call a [] [] → ((e : Ending) → SawFull (course_of s e) l.label [] i n → IsToldSo s l m call a e)
+    → Does s (length (writes m.pass.clock.knows)) call a [] [] → ((e : Ending) → SawFull (witness_of s e) l.label [] i n → IsToldSo s l m call a e)
     → KeepsCall s l call a m
 keeps_full {l = l} {m = m} {call = call} next a i n full clock notes on stamps does seen =
     let only : LooksOnly l m = record {
@@ -208,7 +208,7 @@ pub keeps_entered : {s : Script} {x : WorldOf} {l : LaneOf} {call : Call} (IsSo 
     → LooksAtClock l.pass m.pass → m.pass.objects ≡ l.pass.objects
     → m.notes ≡ with_done l.notes l.label (receipts_of timer (timer_then x.timers.about at timer).stamp es) [] → AllByRecursion IsEntered t.actions
     → numbered timer (timer_then x.timers.about at timer).stamp (map entry_stamped es) ≡ all_entered t.actions → t.last ≡ length m.pass.timers.known.seen
-    → t.at ≡ length (writes m.pass.clock.knows) → object_called call ≡ None → ((notes : List Noted) → FitsOn s l m call a notes t) → KeepsCall s l call a m
+    → t.at ≡ length (writes m.pass.clock.knows) → object_called call ≡ None → ((notes : List PlacedEntry) → FitsOn s l m call a notes t) → KeepsCall s l call a m
 keeps_entered {s = s} {x = x} {l = l} {call = call} IsSo next m a t made reads so clock objects joins only are last at on_none fits =
     let part = part_at x.timers.about (declareds_of s) (terms_of s) (opened_timers next) made reads objects only are in
     keeps_part next m a t part.1 so clock joins last at
@@ -234,17 +234,17 @@ module _ {s : Script} {x : WorldOf} {l : LaneOf} {call : Call} (next : IsNextCal
   -- law: an observation that held of it holds when the call ends
   pub saw_quiet : (number : ℕ) (observation : Observation) → number ≡ (timer_then x.timers.about at t).stamp
       → Holds (timer_then x.timers.about at t) observation
-      → (e : Ending) → Follows q e → IsJoined s e → Saw (course_of s e) t number observation (length q.timers.known.seen)
+      → (e : Ending) → Follows q e → IsJoined s e → Saw (witness_of s e) t number observation (length q.timers.known.seen)
   saw_quiet number observation stamp holds e follows joined =
-      saw_from (course_of s e) q.timers.known.seen follows.timers.0 (seen_first q.timers.known.seen joined follows.timers) t number observation
+      saw_from (witness_of s e) q.timers.known.seen follows.timers.0 (seen_first q.timers.known.seen joined follows.timers) t number observation
       (ap (λ (u : Timer). u.stamp) (sym state_quiet) ∙ sym stamp) (subst (λ u. Holds u observation) state_quiet holds)
 
   -- law: it was not on the move then
   pub still_quiet : (timer_then x.timers.about at t).moving ≡ false → (e : Ending) → Follows q e → IsJoined s e
-      → (courses.timer_along (course_of s e) (length q.timers.known.seen) t).moving ≡ false
+      → (witnesses.timer_along (witness_of s e) (length q.timers.known.seen) t).moving ≡ false
   still_quiet still e follows joined =
       ap (λ (u : Timer). u.moving)
-      (timer_seen (course_of s e) q.timers.known.seen follows.timers.0 (seen_first q.timers.known.seen joined follows.timers) t ∙ sym state_quiet) ∙ still
+      (timer_seen (witness_of s e) q.timers.known.seen follows.timers.0 (seen_first q.timers.known.seen joined follows.timers) t ∙ sym state_quiet) ∙ still
 
 -- law: a call that made no entry of a timer only looked, where it left objects alone
 pub looks_at : {l m : LaneOf} {t : ℕ} {at : List TimerEntry} → MadeAt l.pass.timers.known m.pass.timers.known t at []

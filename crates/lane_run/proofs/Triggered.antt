@@ -33,7 +33,7 @@ use Rattle.script_text.specs.Declarations.{kind_of}
 use Rattle.script_text.specs.declared.script.Script.{Script}
 use Rattle.lane_notes.specs.Objects.{object_entry_noted, object_notes, skip_generation, skip_notes}
 use Rattle.run_history.specs.Calls.{IsBody, IsTrigger}
-use Rattle.run_history.specs.Courses.{Fired}
+use Rattle.run_history.specs.Witnesses.{Fired}
 use Rattle.run_history.proofs.Lists.{at_seam}
 use Rattle.lane_run.specs.Runs.{ObjectMove}
 use Rattle.lane_run.proofs.Kept.{made_on, skips_on, begins_same}

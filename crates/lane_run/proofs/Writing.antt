@@ -26,7 +26,7 @@ use Rattle.run_history.proofs.Lists.{at_seam}
 use Rattle.run_history.proofs.OthersMade.{plain, wrote_made}
 use Rattle.lane_run.specs.Called.{CallsWrite, LaneOf, line_of_write, with_write_told, write_told}
 use Rattle.std.specs.List.{AllByRecursion}
-use Rattle.lane_run.proofs.Kept.{IsSeen, label_of, list_of, EntryNotes, LookNotes, ObjectNotes, SkipNotes, WriteNotes, IsNextCall, KeepsCall, log_of, seen_by, SeesOn, begins_same}
+use Rattle.lane_run.proofs.Kept.{IsNoteSeen, label_of, list_of, EntryNotes, LookNotes, ObjectNotes, SkipNotes, WriteNotes, IsNextCall, KeepsCall, log_of, seen_by, SeesOn, begins_same}
 use Rattle.lane_run.specs.Worlds.{WorldOf}
 use Rattle.lane_run.proofs.Entering.{enters_none}
 use Rattle.pass_names.proofs.Passes.{begins_length}
@@ -142,7 +142,7 @@ write_kept {s = s} {l = l} {m = m} {write = write} next (Ok r) w timers objects 
         objects = λ i n. no_places (is_place i n) p.objects.knows.pass.mine q.objects.knows.pass.mine (ap (λ o. o.knows.pass.mine) objects);
         clock = λ n. ap (count (is_place 0 n)) w.ok.place ∙ total-append (λ k. one_if (is_place 0 n k)) p.clock.knows.pass.mine ((0, r.stamp) ∷ []);
       };
-      seen = λ k. elim k as (λ j. AllByRecursion (IsSeen j q (log_of p q [] t)) (list_of j added)) [
+      seen = λ k. elim k as (λ j. AllByRecursion (IsNoteSeen j q (log_of p q [] t)) (list_of j added)) [
         | EntryNotes ↦ tt
         | LookNotes ↦ tt
         | ObjectNotes ↦ tt

@@ -1,5 +1,8 @@
 //! What a script's calls are made on: its timers, its objects and the clock, with the first passes.
-ghost use Rattle.std.specs.Prelude.{◌≡◌, ◌≤◌, ◌<◌, IfOk, OnOk, map};
+ghost use Rattle.std.specs.Prelude.{◌≡◌, ◌≤◌, ◌<◌, [], IfOk, OnOk, map};
+ghost use Rattle.pass_names.specs.Passes.{HasEach};
+ghost use Rattle.hr_timers.specs.Known.{HasEachPlace};
+ghost use Rattle.clock_cell.specs.Views.{KnowsClock};
 ghost use Rattle.script_text.specs.Scripts.{IsInRange};
 ghost use Rattle.script_text.specs.Declarations.{declared_as};
 ghost use Rattle.lane_run.specs.Rounds.{TakesInPass};
@@ -89,6 +92,10 @@ impl World {
     pub fn close(self, pass: WorldPass)
         requires pass { ArePassesOf self pass }
         requires last { AreLast pass }
+        // The passes have each entry of each timer and object once, and the last one's writes are all that the clock took.
+        ensures timers { HasEachPlace self.timers.about pass.timers.known }
+        ensures objects { HasEach pass.objects.knows.pass.seen pass.objects.knows.pass.mine }
+        ensures clock { pass.clock.knows.heard ≡ [] → KnowsClock pass.clock.knows }
     {
         let World {
             timers,

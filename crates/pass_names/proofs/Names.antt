@@ -8,7 +8,7 @@ use Rattle.atomic_table.proofs.Lists.{at_set, at_snoc, set_else}
 use Rattle.pass_names.specs.declared.PassId.{PassId}
 use Rattle.pass_names.specs.Counts.{one_if, total, without_first}
 use Rattle.pass_names.specs.Names.{same, occurrences, Extends, first_pass_id, gone_pass_id, next_name, child_of, after_split, after_retire, AnswersFor, IsLast, listed, bearers, IsPassTree}
-use Rattle.pass_names.proofs.Counts.{met, total-append, total_set, total_at, total_two, total_found, count-without_first, count-without_first-le}
+use Rattle.pass_names.proofs.Counts.{total-append, total_set, total_at, total_two, total_found, count-without_first, count-without_first-le}
 
 pub same-refl : (n : List ℕ) → same n n ≡ true
 same-refl [] = refl

@@ -1,7 +1,7 @@
 -- Looks and entries one after another.
-use Rattle.std.proofs.Common.{◌≡◌, ℕ, ◌+◌, List, [], ◌∷◌, ◌++◌, length, append_assoc, length-append, refl, ap, sym, ◌∙◌, arith}
-use Rattle.pass_names.specs.Passes.{Begins, places}
-use Rattle.pass_names.specs.SharedHistory.{Known, LooksOn, AddsTo, ExtendsBy}
+use Rattle.std.proofs.Common.{◌≡◌, ℕ, ◌+◌, List, [], ◌∷◌, ◌++◌, length, refl, ap, ◌∙◌, arith}
+use Rattle.pass_names.specs.Passes.{places}
+use Rattle.pass_names.specs.SharedHistory.{Known, LooksOn, ExtendsBy}
 use Rattle.pass_names.proofs.Passes.{begins_refl, begins_trans}
 
 module _ {E C : Type 0} where

@@ -5,7 +5,6 @@ use Rattle.clock_model.specs.declared.write.Write.{Write}
 use Rattle.clock_model.specs.declared.write.Write.TheVariants as writes
 use Rattle.record_text.specs.declared.record.Label.{Label}
 use Rattle.record_text.specs.declared.record.ClockLine.{ClockLine}
-use Rattle.seq_timer.specs.declared.event.AskedBy.{AskedBy}
 use Rattle.seq_timer.specs.declared.event.EventBy.{EventBy}
 use Rattle.seq_timer.specs.declared.event.EventBy.TheVariants as events
 use Rattle.seq_timer.specs.declared.event.Reply.{Reply}

@@ -1,4 +1,4 @@
--- Calls of a small course: tests of where they stand, and what else makes each right.
+-- Calls of a small witness: tests of where they stand, and what else makes each right.
 use Rattle.std.proofs.Common.{◌≡◌, ◌≤◌, ◌⊎◌, ◌&&◌, ℕ, ◌+◌, Bool, true, nat_eq, nat_le, nat_lt, None, Option, Some, List, [], ◌∷◌, ◌++◌, if◌then◌else◌, length, map, arith, refl, sym, ap, ◌∙◌, subst}
 use Rattle.std.specs.List.Sorted.{IsPermutation}
 use Rattle.std.specs.List.{AllByRecursion, list_all}
@@ -16,11 +16,11 @@ use Rattle.run_history.specs.Histories.{clock_labels, lines_of_timer}
 use Rattle.run_history.specs.Objects.{lines_of_object}
 use Rattle.run_history.specs.Order.{CallInRound, NeverFall}
 use Rattle.run_history.specs.Calls.{Does}
-use Rattle.run_history.specs.Courses.{Course, labels}
+use Rattle.run_history.specs.Witnesses.{Witness, labels}
 use Rattle.run_history.specs.Fits.{FitsLane}
 use Rattle.run_history.specs.Traces.{all_entered, HasTraced, own_moves}
-use Rattle.run_history.specs.Truths.{AreTrue, IsClaimSpan, IsSeen}
-use Rattle.run_cases.proofs.Courses.{Along, everywhere, each_list}
+use Rattle.run_history.specs.Truths.{AreTrue, IsClaimSpan, AnswerHolds}
+use Rattle.run_cases.proofs.Witnesses.{Along, everywhere, each_list}
 use Rattle.run_cases.proofs.Tests.{all_true, are_made, are_plain, plain_pass, is_point, never_fall, IsPast, made_past, other, point_passes, steps_pass, upto}
 
 -- ---- calls
@@ -31,11 +31,11 @@ last_of n [] = n
 last_of n (m ∷ ms) = last_of m ms
 
 -- how many writes a call has seen at its end
-abbrev pub clock_then : Course → Label → ℕ
+abbrev pub clock_then : Witness → Label → ℕ
 clock_then w c = last_of (w.traces c).at (map (λ x. x.0) (wrote (w.traces c).actions))
 
 -- a call's reading, its first and its last moment stand where they may, behind these numbers of writes and of entries
-abbrev pub is_placed : Course → Label → ℕ → ℕ → Bool
+abbrev pub is_placed : Witness → Label → ℕ → ℕ → Bool
 is_placed w c clock moves =
     (is_point w.script c 0 (w.traces c).at (clock_labels w.run)
     && never_fall clock ((w.traces c).at ∷ map (λ x. x.0) (wrote (w.traces c).actions)) (clock_then w c))
@@ -43,16 +43,16 @@ is_placed w c clock moves =
     && is_point w.script c (length (all_entered (w.traces c).actions)) (w.traces c).last (labels w)) && nat_le moves (w.traces c).first)
 
 -- what else makes a call fit; the lane had seen so many entries of each object before it, and has seen so many after it
-pub record IsRight (w : Course) (c : Label) (call : Call) (answer : Answer) (before after : ℕ) : Type 0 where
+pub record IsRight (w : Witness) (c : Label) (call : Call) (answer : Answer) (before after : ℕ) : Type 0 where
   pub traced : HasTraced w c (w.traces c).actions
   pub does : Does w.script (w.traces c).at call answer (w.traces c).fired (w.traces c).actions
   pub truth : AreTrue w c (w.traces c).first (w.traces c).first [] (w.traces c).actions (w.traces c).last
   pub expiries : AllByRecursion (λ f. IsClaimSpan w f f.body) (w.traces c).fired
-  pub seen : IsSeen w (w.traces c).first (w.traces c).last c (w.traces c).at (w.traces c).actions call answer
+  pub seen : AnswerHolds w (w.traces c).first (w.traces c).last c (w.traces c).at (w.traces c).actions call answer
   pub steps : (i : ℕ) → NeverFall before (object_steps_on i call answer (w.traces c).actions) after
 
 -- the same of a lane's calls from one of them on
-abbrev pub AreRight : Course → ℕ → ℕ → ℕ → List CallInRound → List Answer → Type 0
+abbrev pub AreRight : Witness → ℕ → ℕ → ℕ → List CallInRound → List Answer → Type 0
 AreRight w lane index before [] [] = Unit
 AreRight w lane index before (p ∷ ps) (a ∷ more) =
     (after : ℕ) × IsRight w (record { lane = lane; call = index }) p.call a before after × AreRight w lane (index + 1) after ps more
@@ -60,14 +60,14 @@ AreRight w lane index before [] (a ∷ more) = ⊥
 AreRight w lane index before (p ∷ ps) [] = ⊥
 
 -- the same of a lane's calls from one of them on
-abbrev pub are_placed : Course → ℕ → ℕ → ℕ → ℕ → List CallInRound → Bool
+abbrev pub are_placed : Witness → ℕ → ℕ → ℕ → ℕ → List CallInRound → Bool
 are_placed w lane index clock moves [] = true
 are_placed w lane index clock moves (p ∷ ps) =
     is_placed w (record { lane = lane; call = index }) clock moves
     && are_placed w lane (index + 1) (clock_then w (record { lane = lane; call = index })) (w.traces (record { lane = lane; call = index })).last ps
 
 -- law: so the calls of a lane fit
-pub lane_fits : (w : Course) (lane index clock moves objects : ℕ) (ps : List CallInRound) (given : List Answer)
+pub lane_fits : (w : Witness) (lane index clock moves objects : ℕ) (ps : List CallInRound) (given : List Answer)
     → are_placed w lane index clock moves ps ≡ true
     → AreRight w lane index objects ps given → FitsLane w lane index (record { clock = clock; moves = moves; objects = λ i. objects }) ps given
 lane_fits w lane index clock moves objects [] [] placed right = tt
@@ -123,13 +123,13 @@ no_stamps k i None stamps e past = refl
 no_stamps k i (Some on) stamps e past = ap (λ b. if b then stamps else []) (other on k i e past)
 
 -- what a call did can be said of each timer and each object that is there
-abbrev pub is_said : Course → Label → Call → ℕ → ℕ → Bool
+abbrev pub is_said : Witness → Label → Call → ℕ → ℕ → Bool
 is_said w c call before after =
     (list_all is_unrefused w.run.objects && are_made (length w.run.timers) (length w.run.objects) (w.traces c).actions)
     && (is_on (length w.run.objects) (object_called call) && nat_le before after)
 
 -- law: so a call is right
-pub right : {w : Course} {c : Label} {call : Call} {answer : Answer} {before after : ℕ} → is_said w c call before after ≡ true
+pub right : {w : Witness} {c : Label} {call : Call} {answer : Answer} {before after : ℕ} → is_said w c call before after ≡ true
     → own (λ line. line.label) (λ line. line.write) c 1 w.run.clock ≡ wrote (w.traces c).actions
     → own_moves c w.moves ≡ all_entered (w.traces c).actions
     → Along (λ t. own_looks c 1 (lines_of_timer w.run t) ≡ looked t (w.traces c).actions) 0 w.run.timers
@@ -139,7 +139,7 @@ pub right : {w : Course} {c : Label} {call : Call} {answer : Answer} {before aft
     → (are_plain w c (w.traces c).first [] (w.traces c).actions (w.traces c).last ≡ true)
     ⊎ AreTrue w c (w.traces c).first (w.traces c).first [] (w.traces c).actions (w.traces c).last
     → AllByRecursion (λ f. IsClaimSpan w f f.body) (w.traces c).fired
-    → IsSeen w (w.traces c).first (w.traces c).last c (w.traces c).at (w.traces c).actions call answer
+    → AnswerHolds w (w.traces c).first (w.traces c).last c (w.traces c).at (w.traces c).actions call answer
     → IsRight w c call answer before after
 right {w} {c} {call} {answer} {before} {after} said clock timers looks objects steps does truth expiries seen =
     let r = w.run in

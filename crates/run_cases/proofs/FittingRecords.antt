@@ -1,4 +1,4 @@
--- The records that fit: a course for each, and what makes it fit.
+-- The records that fit: a witness for each, and what makes it fit.
 use Rattle.std.proofs.Common.{◌≡◌, ℕ, true, false, [], ◌∷◌, List, None, Some, get_or, arith, refl, inl, inr}
 use Rattle.ktime.specs.Times.{passed}
 use Rattle.ktime.specs.declared.clock_id.ClockId.{ClockId}
@@ -18,27 +18,27 @@ use Rattle.script_text.specs.Declarations.{declareds_of, terms_of}
 use Rattle.script_text.specs.declared.script.Call.TheVariants as calls
 use Rattle.run_history.specs.Actions.{Entered, Looked, Made, Wrote}
 use Rattle.run_history.specs.Order.{calls_of}
-use Rattle.run_history.specs.Courses.{Course, entries_in, timer_along, Trace}
+use Rattle.run_history.specs.Witnesses.{Witness, entries_in, timer_along, Trace}
 use Rattle.run_history.specs.Fits.{Fits}
 use Rattle.run_cases.specs.Fitting.{accept_entry, accepted_record, accepted_script, beside, beside_script, cancelled_record, expired_lines, idle_record, idle_script, kept_start, late_record, moved_record, moved_script, moved_start, rearming_start, none_entry, running_record, set_entry, told_record, told_script, trigger_entry, early_record, early_script, waiting_record, waiting_script, contexts_record, contexts_script}
 use Rattle.run_cases.specs.Lines.{at, slack_entry, start, cancel_entry, out_entry}
 use Rattle.run_cases.proofs.Calls.{are_placed, IsRight, right}
-use Rattle.run_cases.proofs.Courses.{armed_as, armed_by, course_by, did, done_by, fired, next, none_then, stopped_by, ran, step, three, two}
+use Rattle.run_cases.proofs.Witnesses.{armed_as, armed_by, witness_by, did, done_by, fired, next, none_then, stopped_by, ran, step, three, two}
 use Rattle.run_cases.proofs.Small.{fits_by}
 use Rattle.run_cases.proofs.Tests.{le, lt, point_passes}
 
 -- ---- a timer is started, expires, is cancelled when it is idle, and is looked at
 
--- its course
-abbrev idle_course : Course
-idle_course = course_by idle_script idle_record (0 ∷ 0 ∷ 0 ∷ []) ((did 0 (Entered 0 1 (start modes.Rel 100 100) ∷ []) 0 1
+-- its witness
+abbrev idle_witness : Witness
+idle_witness = witness_by idle_script idle_record (0 ∷ 0 ∷ 0 ∷ []) ((did 0 (Entered 0 1 (start modes.Rel 100 100) ∷ []) 0 1
     ∷ did 0 (Wrote 1 (writes.Advance 100) ∷ []) 1 1 ∷ ran 0 1 (fired 2 1 [] 3 false ∷ []) 1 3 ∷ did 1 [] 3 3 ∷ did 1 [] 3 3 ∷ []) ∷ [])
     (λ i k. (0, 0))
 
 -- law: it fits
 pub idle_fits : Fits idle_script idle_record
 unfolding after_entry changed
-idle_fits = fits_by idle_course (record {
+idle_fits = fits_by idle_witness (record {
   version = refl;
   passed = refl;
   writes = (record { counted = lt refl; timely = le refl }, record { mono = refl; real = refl; boot = refl; changes = refl }, tt);
@@ -53,7 +53,7 @@ idle_fits = fits_by idle_course (record {
       (next 0 (right refl refl refl (refl, tt) (refl, tt) (le refl, tt) refl (inl refl) tt tt)
       (next 0 (right refl refl refl (refl, tt) (refl, tt) (le refl, tt)
       (record { one_reading = refl; claimed = refl; done = refl; contexts = (refl, tt); bodies = ((refl, refl), tt) }, lt refl)
-      (inl refl) (tt, tt) (done_by idle_course contexts.Hard 1 0 3 refl refl (refl, tt) (λ clock. (refl, tt))))
+      (inl refl) (tt, tt) (done_by idle_witness contexts.Hard 1 0 3 refl refl (refl, tt) (λ clock. (refl, tt))))
       (next 0 (right refl refl refl (refl, tt) (refl, tt) (le refl, tt) refl (inl refl) tt
       (record { stamp = refl; holds = record { armed = refl; running = refl; moving = refl } }))
       (next 0 (right refl refl refl (refl, tt) (refl, tt) (le refl, tt) refl (inl refl) tt (record { stamp = refl; holds = refl })) tt))))
@@ -62,13 +62,13 @@ idle_fits = fits_by idle_course (record {
 
 -- ---- a callback is told that its own timer runs
 
--- its course
-abbrev told_course : Course
-told_course = course_by told_script told_record (0 ∷ 0 ∷ 0 ∷ []) ((did 0 (Entered 0 1 (start modes.Rel 0 0) ∷ []) 0 1
+-- its witness
+abbrev told_witness : Witness
+told_witness = witness_by told_script told_record (0 ∷ 0 ∷ 0 ∷ []) ((did 0 (Entered 0 1 (start modes.Rel 0 0) ∷ []) 0 1
     ∷ ran 0 0 (fired 2 1 (Looked 0 2 (replies.Running 1) ∷ []) 3 false ∷ []) 1 3 ∷ []) ∷ []) (λ i k. (0, 0))
 
 -- a start, the claim at the same time and the finish are a history
-at_once : IsSystemHistory told_script.bases (declareds_of told_script) (terms_of told_script) (entries_in told_course)
+at_once : IsSystemHistory told_script.bases (declareds_of told_script) (terms_of told_script) (entries_in told_witness)
 unfolding after_entry changed
 at_once = two (step refl (inr refl, inl (lt refl)) refl tt)
     (two (step refl (refl, refl, refl, refl, le refl) refl (refl, refl)) (two (step refl refl refl tt) tt))
@@ -76,7 +76,7 @@ at_once = two (step refl (inr refl, inl (lt refl)) refl tt)
 -- law: it fits
 pub told_fits : Fits told_script told_record
 unfolding after_entry changed
-told_fits = fits_by told_course (record {
+told_fits = fits_by told_witness (record {
   version = refl;
   passed = refl;
   writes = tt;
@@ -105,16 +105,16 @@ told_fits = fits_by told_course (record {
 
 -- ---- a callback starts its own timer while it runs, and a later start moves the timer to another base
 
--- its course
-abbrev moved_course : Course
-moved_course = course_by moved_script moved_record (0 ∷ 0 ∷ 0 ∷ 0 ∷ 0 ∷ 0 ∷ []) ((did 0 (Entered 0 1 (start modes.Abs 0 0) ∷ []) 0 1
+-- its witness
+abbrev moved_witness : Witness
+moved_witness = witness_by moved_script moved_record (0 ∷ 0 ∷ 0 ∷ 0 ∷ 0 ∷ 0 ∷ []) ((did 0 (Entered 0 1 (start modes.Abs 0 0) ∷ []) 0 1
     ∷ ran 0 0 (fired 2 1 (Entered 0 3 kept_start ∷ []) 4 true ∷ []) 1 4 ∷ did 0 [] 4 4
     ∷ did 0 (Entered 0 5 (out_entry 1 true) ∷ Entered 0 6 moved_start ∷ []) 4 6 ∷ []) ∷ []) (λ i k. (0, 0))
 
 -- law: it fits
 pub moved_fits : Fits moved_script moved_record
 unfolding after_entry changed
-moved_fits = fits_by moved_course (record {
+moved_fits = fits_by moved_witness (record {
   version = refl;
   passed = refl;
   writes = tt;
@@ -139,18 +139,18 @@ moved_fits = fits_by moved_course (record {
 -- ---- a lane cancels a timer beside another lane's expiry run
 
 -- the start came first; then the cancel, and the other lane's expiry run, did these things
-abbrev beside_course : RunRecord → List ℕ → Trace → Trace → Course
-beside_course r order cancel expire =
-    course_by beside_script r (0 ∷ order) ((did 0 (Entered 0 1 (start modes.Rel 0 0) ∷ []) 0 1 ∷ cancel ∷ []) ∷ (expire ∷ []) ∷ []) (λ i k. (0, 0))
+abbrev beside_witness : RunRecord → List ℕ → Trace → Trace → Witness
+beside_witness r order cancel expire =
+    witness_by beside_script r (0 ∷ order) ((did 0 (Entered 0 1 (start modes.Rel 0 0) ∷ []) 0 1 ∷ cancel ∷ []) ∷ (expire ∷ []) ∷ []) (λ i k. (0, 0))
 
 -- the cancel came first
-abbrev cancelled_course : Course
-cancelled_course = beside_course cancelled_record (0 ∷ []) (did 0 (Entered 0 2 (cancel_entry 1) ∷ []) 1 2) (ran 0 0 [] 2 2)
+abbrev cancelled_witness : Witness
+cancelled_witness = beside_witness cancelled_record (0 ∷ []) (did 0 (Entered 0 2 (cancel_entry 1) ∷ []) 1 2) (ran 0 0 [] 2 2)
 
 -- law: it fits
 pub cancelled_fits : Fits beside_script cancelled_record
 unfolding after_entry changed
-cancelled_fits = fits_by cancelled_course (record {
+cancelled_fits = fits_by cancelled_witness (record {
   version = refl;
   passed = refl;
   writes = tt;
@@ -165,20 +165,20 @@ cancelled_fits = fits_by cancelled_course (record {
       ) (two (
       next 0 (right refl refl refl (refl, tt) (refl, tt) (le refl, tt)
       (record { one_reading = refl; claimed = refl; done = refl; contexts = tt; bodies = tt }, lt refl) (inl refl) tt
-      (done_by cancelled_course contexts.Hard 0 0 2 refl refl (refl, tt) (λ clock. (refl, tt)))) tt
+      (done_by cancelled_witness contexts.Hard 0 0 2 refl refl (refl, tt) (λ clock. (refl, tt)))) tt
       ) tt);
 })
 
 -- the timer expired, and a cancel did nothing at this moment
-abbrev expired_course : Answer → ℕ → Course
-expired_course told moment = beside_course (beside expired_lines told (answers.Done 0 (0 ∷ []))) (0 ∷ 0 ∷ []) (did 0 [] moment moment)
+abbrev expired_witness : Answer → ℕ → Witness
+expired_witness told moment = beside_witness (beside expired_lines told (answers.Done 0 (0 ∷ []))) (0 ∷ 0 ∷ []) (did 0 [] moment moment)
     (ran 0 0 (fired 2 1 [] 3 false ∷ []) 1 3)
 
-expired_fits : (told : Answer) (moment : ℕ) → are_placed (expired_course told moment) 0 0 0 0 (calls_of beside_script 0) ≡ true
-    → IsRight (expired_course told moment) (at 0 1) (calls.Cancel 0) told 0 0
+expired_fits : (told : Answer) (moment : ℕ) → are_placed (expired_witness told moment) 0 0 0 0 (calls_of beside_script 0) ≡ true
+    → IsRight (expired_witness told moment) (at 0 1) (calls.Cancel 0) told 0 0
     → Fits beside_script (beside expired_lines told (answers.Done 0 (0 ∷ [])))
 unfolding after_entry changed
-expired_fits told moment placed cancel = fits_by (expired_course told moment) (record {
+expired_fits told moment placed cancel = fits_by (expired_witness told moment) (record {
   version = refl;
   passed = refl;
   writes = tt;
@@ -192,7 +192,7 @@ expired_fits told moment placed cancel = fits_by (expired_course told moment) (r
       ) (two (
       next 0 (right refl refl refl (refl, tt) (refl, tt) (le refl, tt)
       (record { one_reading = refl; claimed = refl; done = refl; contexts = (refl, tt); bodies = ((refl, refl), tt) }, lt refl) (inl refl) (tt, tt)
-      (done_by (expired_course told moment) contexts.Hard 0 0 3 refl refl (refl, tt) (λ clock. (refl, tt)))) tt
+      (done_by (expired_witness told moment) contexts.Hard 0 0 3 refl refl (refl, tt) (λ clock. (refl, tt)))) tt
       ) tt);
 })
 
@@ -214,9 +214,9 @@ late_fits = expired_fits (answers.Idle 3) 3 refl (right refl refl refl (refl, tt
 abbrev accepted_spans : ℕ → ℕ × ℕ
 accepted_spans k = get_or ((0, 0) ∷ (0, 1) ∷ (1, 2) ∷ (3, 4) ∷ (4, 4) ∷ []) k (0, 0)
 
--- its course
-abbrev accepted_course : Course
-accepted_course = course_by accepted_script accepted_record (0 ∷ 0 ∷ 0 ∷ 0 ∷ [])
+-- its witness
+abbrev accepted_witness : Witness
+accepted_witness = witness_by accepted_script accepted_record (0 ∷ 0 ∷ 0 ∷ 0 ∷ [])
     ((did 0 (Entered 0 1 (start modes.Abs 100 100) ∷ Made 0 1 set_entry ∷ []) 0 1
     ∷ did 0 (Wrote 1 (writes.Advance 100) ∷ []) 1 1 ∷ ran 0 1 (fired 2 1 (Made 0 2 trigger_entry ∷ []) 3 false ∷ []) 1 3
     ∷ did 1 (Wrote 2 (writes.Advance 35) ∷ []) 3 3 ∷ did 2 (Entered 0 4 rearming_start ∷ Made 0 3 accept_entry ∷ []) 3 4
@@ -225,7 +225,7 @@ accepted_course = course_by accepted_script accepted_record (0 ∷ 0 ∷ 0 ∷ 0
 -- law: it fits
 pub accepted_fits : Fits accepted_script accepted_record
 unfolding after_entry changed passed
-accepted_fits = fits_by accepted_course (record {
+accepted_fits = fits_by accepted_witness (record {
   version = refl;
   passed = refl;
   writes = three (record { counted = lt refl; timely = le refl }) (record { mono = refl; real = refl; boot = refl; changes = refl })
@@ -252,7 +252,7 @@ accepted_fits = fits_by accepted_course (record {
       (next 2 (right refl refl refl (refl, tt) (refl, tt) ((le refl, le refl), tt)
       (record { one_reading = refl; claimed = refl; done = refl; contexts = (refl, tt); bodies = ((inl (2, true, refl), refl), tt) }, lt refl)
       (inr (1, le refl, point_passes _ _ _ _ _ refl, (2, le refl, (point_passes _ _ _ _ _ refl, tt, tt), (2, le refl, tt, le refl))))
-      ((1, refl, refl), tt) (done_by accepted_course contexts.Hard 1 0 3 refl refl (refl, tt) (λ clock. (refl, tt))))
+      ((1, refl, refl), tt) (done_by accepted_witness contexts.Hard 1 0 3 refl refl (refl, tt) (λ clock. (refl, tt))))
       (next 2 (right refl refl refl (refl, tt) (refl, tt) (le refl, tt) refl (inl refl) tt tt)
       (next 3 (right refl refl refl (refl, tt) (refl, tt) ((le refl, le refl), tt) (record {
         arm = armings.Generation 4;
@@ -272,15 +272,15 @@ accepted_fits = fits_by accepted_course (record {
 
 -- ---- a timer with slack expires when its soft expiry is reached and its hard one isn't
 
--- its course
-abbrev early_course : Course
-early_course = course_by early_script early_record (0 ∷ 0 ∷ 0 ∷ [])
+-- its witness
+abbrev early_witness : Witness
+early_witness = witness_by early_script early_record (0 ∷ 0 ∷ 0 ∷ [])
     ((did 0 (Entered 0 1 (slack_entry 0 100) ∷ []) 0 1 ∷ ran 0 0 (fired 2 1 [] 3 false ∷ []) 1 3 ∷ []) ∷ []) (λ i k. (0, 0))
 
 -- law: it fits
 pub early_fits : Fits early_script early_record
 unfolding after_entry changed
-early_fits = fits_by early_course (record {
+early_fits = fits_by early_witness (record {
   version = refl;
   passed = refl;
   writes = tt;
@@ -295,35 +295,35 @@ early_fits = fits_by early_course (record {
       (armed_as 1 0 0 100, refl, refl, refl, refl, tt) (inl refl) tt tt)
       (next 0 (right refl refl refl (refl, tt) (refl, tt) (le refl, tt)
       (record { one_reading = refl; claimed = refl; done = refl; contexts = (refl, tt); bodies = ((refl, refl), tt) }, lt refl)
-      (inl refl) (tt, tt) (done_by early_course contexts.Hard 0 0 3 refl refl (refl, tt) (λ clock. (refl, tt)))) tt)
+      (inl refl) (tt, tt) (done_by early_witness contexts.Hard 0 0 3 refl refl (refl, tt) (λ clock. (refl, tt)))) tt)
       ) tt;
 })
 
 -- ---- a run is done and claimed nothing, though a soft expiry is reached: that of the timer with the earliest hard expiry isn't
 
--- its course
-abbrev waiting_course : Course
-waiting_course = course_by waiting_script waiting_record (0 ∷ 1 ∷ []) ((did 0 (Entered 0 1 (slack_entry 0 100) ∷ []) 0 1
+-- its witness
+abbrev waiting_witness : Witness
+waiting_witness = witness_by waiting_script waiting_record (0 ∷ 1 ∷ []) ((did 0 (Entered 0 1 (slack_entry 0 100) ∷ []) 0 1
     ∷ did 0 (Entered 1 1 (start modes.Abs 50 50) ∷ []) 1 2 ∷ ran 0 0 [] 2 2 ∷ []) ∷ []) (λ i k. (0, 0))
 
 -- the second timer leads the one clock on which timers are kept, and has a soft expiry that isn't reached
-waiting_stopped : (clock : ClockId) → IsStopped (in_context contexts.Hard (timer_along waiting_course 2)) 0 (reading_at [] 0) clock
+waiting_stopped : (clock : ClockId) → IsStopped (in_context contexts.Hard (timer_along waiting_witness 2)) 0 (reading_at [] 0) clock
 unfolding after_entry changed
 waiting_stopped clocks.Monotonic = inr (
   1,
   record {
     kept = refl;
-    smaller = none_then waiting_course contexts.Hard 2 (is_smaller 0 clocks.Monotonic 50) refl refl (refl, (refl, tt));
+    smaller = none_then waiting_witness contexts.Hard 2 (is_smaller 0 clocks.Monotonic 50) refl refl (refl, (refl, tt));
   },
   lt refl,
 )
-waiting_stopped clocks.Realtime = inl (none_then waiting_course contexts.Hard 2 (is_kept_on 0 clocks.Realtime) refl refl (refl, (refl, tt)))
-waiting_stopped clocks.Boottime = inl (none_then waiting_course contexts.Hard 2 (is_kept_on 0 clocks.Boottime) refl refl (refl, (refl, tt)))
+waiting_stopped clocks.Realtime = inl (none_then waiting_witness contexts.Hard 2 (is_kept_on 0 clocks.Realtime) refl refl (refl, (refl, tt)))
+waiting_stopped clocks.Boottime = inl (none_then waiting_witness contexts.Hard 2 (is_kept_on 0 clocks.Boottime) refl refl (refl, (refl, tt)))
 
 -- law: it fits
 pub waiting_fits : Fits waiting_script waiting_record
 unfolding after_entry changed
-waiting_fits = fits_by waiting_course (record {
+waiting_fits = fits_by waiting_witness (record {
   version = refl;
   passed = refl;
   writes = tt;
@@ -339,22 +339,22 @@ waiting_fits = fits_by waiting_course (record {
       (armed_by 1 50, refl, refl, refl, refl, tt) (inl refl) tt tt)
       (next 0 (right refl refl refl (refl, (refl, tt)) (refl, (refl, tt)) (le refl, (le refl, tt))
       (record { one_reading = refl; claimed = refl; done = refl; contexts = tt; bodies = tt }, lt refl)
-      (inl refl) tt (stopped_by waiting_course contexts.Hard 0 0 2 refl refl (refl, (refl, tt)) waiting_stopped)) tt))
+      (inl refl) tt (stopped_by waiting_witness contexts.Hard 0 0 2 refl refl (refl, (refl, tt)) waiting_stopped)) tt))
       ) tt;
 })
 
 -- ---- a hard and a soft expiry run on one base, each of which fires its own timer
 
--- its course
-abbrev contexts_course : Course
-contexts_course = course_by contexts_script contexts_record (0 ∷ 1 ∷ 0 ∷ 0 ∷ 1 ∷ 1 ∷ []) ((did 0 (Entered 0 1 (start modes.Abs 0 0) ∷ []) 0 1
+-- its witness
+abbrev contexts_witness : Witness
+contexts_witness = witness_by contexts_script contexts_record (0 ∷ 1 ∷ 0 ∷ 0 ∷ 1 ∷ 1 ∷ []) ((did 0 (Entered 0 1 (start modes.Abs 0 0) ∷ []) 0 1
     ∷ did 0 (Entered 1 1 (start modes.Abs 0 0) ∷ []) 1 2 ∷ ran 0 0 (fired 2 1 [] 3 false ∷ []) 2 4
     ∷ ran 0 0 (record (fired 2 1 [] 3 false) { timer = 1 } ∷ []) 4 6 ∷ []) ∷ []) (λ i k. (0, 0))
 
 -- law: it fits
 pub contexts_fit : Fits contexts_script contexts_record
 unfolding after_entry changed
-contexts_fit = fits_by contexts_course (record {
+contexts_fit = fits_by contexts_witness (record {
   version = refl;
   passed = refl;
   writes = tt;
@@ -372,9 +372,9 @@ contexts_fit = fits_by contexts_course (record {
       (armed_by 1 0, refl, refl, refl, refl, tt) (inl refl) tt tt)
       (next 0 (right refl refl refl (refl, (refl, tt)) (refl, (refl, tt)) (le refl, (le refl, tt))
       (record { one_reading = refl; claimed = refl; done = refl; contexts = (refl, tt); bodies = ((refl, refl), tt) }, lt refl)
-      (inl refl) (tt, tt) (done_by contexts_course contexts.Hard 0 0 4 refl refl (refl, (refl, tt)) (λ clock. (refl, (refl, tt)))))
+      (inl refl) (tt, tt) (done_by contexts_witness contexts.Hard 0 0 4 refl refl (refl, (refl, tt)) (λ clock. (refl, (refl, tt)))))
       (next 0 (right refl refl refl (refl, (refl, tt)) (refl, (refl, tt)) (le refl, (le refl, tt))
       (record { one_reading = refl; claimed = refl; done = refl; contexts = (refl, tt); bodies = ((refl, refl), tt) }, lt refl)
-      (inl refl) (tt, tt) (done_by contexts_course contexts.Soft 0 0 6 refl refl (refl, (refl, tt)) (λ clock. (refl, (refl, tt))))) tt)))
+      (inl refl) (tt, tt) (done_by contexts_witness contexts.Soft 0 0 6 refl refl (refl, (refl, tt)) (λ clock. (refl, (refl, tt))))) tt)))
       ) tt;
 })

@@ -1,5 +1,5 @@
 pub mod Calls
-pub mod Courses
+pub mod Witnesses
 pub mod FittingRecords
 pub mod Orders
 pub mod Settimes

@@ -1,4 +1,4 @@
--- What a record that fits has: a course of its script, and, where calls in order made its entries, one order of them alone.
+-- What a record that fits has: a witness of its script, and, where calls in order made its entries, one order of them alone.
 use Rattle.std.proofs.Common.{◌≡◌, ◌<◌, ◌≤◌, ◌&&◌, ℕ, zero, suc, Bool, true, false, if◌then◌else◌, nat_eq, nat_lt, List, [], ◌∷◌, Some, length, map, take, drop, arith, refl, sym, ap, ◌∙◌, subst}
 use Rattle.std.specs.List.{AllByRecursion, list_all, slice_get}
 use Rattle.std.proofs.Math.Logic.{⊎_elim}
@@ -11,25 +11,25 @@ use Rattle.script_text.specs.declared.script.Script.{Script}
 use Rattle.run_history.specs.Actions.{also}
 use Rattle.run_history.specs.Histories.{lines_of_timer}
 use Rattle.run_history.specs.Order.{is_before, IsInOrder}
-use Rattle.run_history.specs.Courses.{Course, Move, moves_from, moves_on, Trace}
+use Rattle.run_history.specs.Witnesses.{Witness, Move, moves_from, moves_on, Trace}
 use Rattle.run_history.specs.Fits.{Fits, FitsIn}
-use Rattle.run_cases.proofs.Courses.{Along, everywhere, moves_by, none_on}
+use Rattle.run_cases.proofs.Witnesses.{Along, everywhere, moves_by, none_on}
 use Rattle.run_cases.proofs.Tests.{all_true, other}
 
--- a course of this script and this record
-abbrev pub course_with : Script → RunRecord → List Move → (Label → Trace) → (ℕ → ℕ → ℕ × ℕ) → Course
-course_with s r moves traces spans = record { script = s; run = r; moves = moves; traces = traces; spans = spans }
+-- a witness of this script and this record
+abbrev pub witness_with : Script → RunRecord → List Move → (Label → Trace) → (ℕ → ℕ → ℕ × ℕ) → Witness
+witness_with s r moves traces spans = record { script = s; run = r; moves = moves; traces = traces; spans = spans }
 
 -- law: a record that fits has one
 pub opened : (s : Script) (r : RunRecord) → Fits s r
-    → (moves : List Move) × (traces : Label → Trace) × (spans : ℕ → ℕ → ℕ × ℕ) × FitsIn (course_with s r moves traces spans)
+    → (moves : List Move) × (traces : Label → Trace) × (spans : ℕ → ℕ → ℕ × ℕ) × FitsIn (witness_with s r moves traces spans)
 opened s r fits =
     let w = fits.0 in (
       w.moves,
       w.traces,
       w.spans,
-      subst (λ y. FitsIn (course_with s y w.moves w.traces w.spans)) fits.2
-          (subst (λ x. FitsIn (course_with x w.run w.moves w.traces w.spans)) fits.1 fits.3),
+      subst (λ y. FitsIn (witness_with s y w.moves w.traces w.spans)) fits.2
+          (subst (λ x. FitsIn (witness_with x w.run w.moves w.traces w.spans)) fits.1 fits.3),
     )
 
 -- ---- places
@@ -128,10 +128,10 @@ one_order s (m ∷ ms) (n ∷ ns) same order apart =
         false≢true (sym not_before ∙ subst (λ b. (if b then true else is_before s n.line.label m.line.label) ≡ true)
         (ne_eqb m.timer n.timer differ) before)
 
--- the record of a script whose entries have one order has a course in that order
+-- the record of a script whose entries have one order has a witness in that order
 pub in_one_order : (s : Script) (r : RunRecord) (order : List ℕ) → list_all (λ m. nat_lt m.timer (length r.timers)) (moves_by r [] order) ≡ true
     → Along (λ t. moves_on t (moves_by r [] order) ≡ moves_from t 0 (lines_of_timer r t)) 0 r.timers → are_apart s (moves_by r [] order) ≡ true
-    → Fits s r → (traces : Label → Trace) × (spans : ℕ → ℕ → ℕ × ℕ) × FitsIn (course_with s r (moves_by r [] order) traces spans)
+    → Fits s r → (traces : Label → Trace) × (spans : ℕ → ℕ → ℕ × ℕ) × FitsIn (witness_with s r (moves_by r [] order) traces spans)
 in_one_order s r order there all apart fits =
     let o = opened s r fits in
     let each : (t : ℕ) → moves_on t (moves_by r [] order) ≡ moves_from t 0 (lines_of_timer r t) =
@@ -141,6 +141,6 @@ in_one_order s r order there all apart fits =
     ∙ ap (moves_from t 0) (sym (get_or_past r.timers t [] past))) in (
       o.1,
       o.2,
-      subst (λ ms. FitsIn (course_with s r ms o.1 o.2))
+      subst (λ ms. FitsIn (witness_with s r ms o.1 o.2))
           (one_order s o.0 (moves_by r [] order) (λ t. o.3.history.all t ∙ sym (each t)) o.3.order apart) o.3,
     )

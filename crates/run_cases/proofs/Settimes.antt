@@ -18,7 +18,7 @@ use Rattle.run_history.specs.Actions.{Action, also, Entered, Looked, Made, made,
 use Rattle.run_history.specs.ObjectCalls.{cancels, nanoseconds_of}
 use Rattle.run_history.specs.Objects.{lines_of_object}
 use Rattle.run_history.specs.Order.{made_by}
-use Rattle.run_history.specs.Courses.{Course, labels, timer_along}
+use Rattle.run_history.specs.Witnesses.{Witness, labels, timer_along}
 use Rattle.run_history.specs.Fits.{FitsCall, Seen}
 use Rattle.run_history.specs.Traces.{all_entered, own_moves}
 use Rattle.run_history.specs.Truths.{ButOfCancel, DisarmedFirst}
@@ -26,7 +26,7 @@ use Rattle.run_history.proofs.Actions.{all_entered-append, made-append}
 use Rattle.run_history.proofs.EachTimer.{heads, true_at}
 
 -- what began with a start had found the timer idle
-pub idle_first : (w : Course) (t : ℕ) (actions : List Action) (first u number : ℕ) (entry : Entry) (rest : List (ℕ × (ℕ × Entry)))
+pub idle_first : (w : Witness) (t : ℕ) (actions : List Action) (first u number : ℕ) (entry : Entry) (rest : List (ℕ × (ℕ × Entry)))
     → (entry.event ≡ events.Cancel → ⊥) → (u, (number, entry)) ∷ rest ≡ all_entered actions
     → DisarmedFirst w t actions first → IsIdle (timer_along w first t)
 idle_first w t [] first u number entry rest other is idle = idle
@@ -47,7 +47,7 @@ last_is x y (z ∷ []) is = absurd (cc)
 last_is x y (z ∷ v ∷ xs) is = absurd (cc)
 
 -- the span of a settime's entry ends at a moment at which it had made all its entries of the timer
-pub record EndsAt (w : Course) (c : Label) (t number : ℕ) : Type 0 where
+pub record EndsAt (w : Witness) (c : Label) (t number : ℕ) : Type 0 where
   pub end : ℕ
   pub low : (w.spans t number).0 ≡ (timer_along w (w.traces c).first t).stamp
   pub high : (w.spans t number).1 ≡ (timer_along w end t).stamp
@@ -55,7 +55,7 @@ pub record EndsAt (w : Course) (c : Label) (t number : ℕ) : Type 0 where
   pub many : made_by c (take end (labels w)) ≡ length (own_moves c w.moves)
 
 -- law: of a settime that was answered the setting before it, and has one entry of its object
-pub settime_span : {w : Course} {c : Label} {flags left old : ℕ} {value interval : TimeSpec} {before after : Seen} (t number : ℕ)
+pub settime_span : {w : Witness} {c : Label} {flags left old : ℕ} {value interval : TimeSpec} {before after : Seen} (t number : ℕ)
     (entry : ObjectEntry) → FitsCall w c (calls.Settime t flags value interval) (answers.Old left old) before after
     → own (λ line. line.label) (λ line. line.entry) c 1 (lines_of_object w.run t) ≡ (number, entry) ∷ [] → EndsAt w c t number
 settime_span {w} {c} {flags} {left} {old} {value} {interval} t number entry fits one =

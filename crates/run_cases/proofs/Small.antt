@@ -1,4 +1,4 @@
--- The record of a small course fits: tests of the whole, and what is said of each timer and each lane.
+-- The record of a small witness fits: tests of the whole, and what is said of each timer and each lane.
 use Rattle.std.proofs.Common.{◌≡◌, ◌≤◌, ◌&&◌, ℕ, ◌+◌, Bool, true, false, nat_eq, nat_lt, List, [], ◌∷◌, length, map, refl, sym, ap, ◌∙◌, subst}
 use Rattle.std.specs.List.{AllByRecursion, list_all}
 use Rattle.std.proofs.lemmas.Bool.{and_parts, eqb-true}
@@ -17,22 +17,22 @@ use Rattle.run_history.specs.Histories.{answers_of, AreWrites, clock_labels, lin
 use Rattle.script_text.specs.Declarations.{declareds_of, terms_of, kind_of}
 use Rattle.run_history.specs.Objects.{IsLegalObject, lines_of_object}
 use Rattle.run_history.specs.Order.{AreUnder, calls_of, IsInOrder, IsLabel}
-use Rattle.run_history.specs.Courses.{Course, entries_in, labels, Move, moves_from, moves_on}
+use Rattle.run_history.specs.Witnesses.{Witness, entries_in, labels, Move, moves_from, moves_on}
 use Rattle.run_history.specs.Fits.{AreBehind, AreSkipsUnder, Fits, FitsIn, FitsLane, unseen}
 use Rattle.run_cases.proofs.Calls.{AreRight, are_placed, is_unrefused, lane_fits}
-use Rattle.run_cases.proofs.Courses.{Along, everywhere, each_list, none_on, no_calls}
+use Rattle.run_cases.proofs.Witnesses.{Along, everywhere, each_list, none_on, no_calls}
 use Rattle.run_cases.proofs.Tests.{all_true, are_calls, are_in_order, are_sorted, calls_pass, order_passes, other, sorted_pass}
 
 -- ---- the whole record
 
 -- its labels are those of calls, and in order
-abbrev pub are_called : Course → Bool
+abbrev pub are_called : Witness → Bool
 are_called w =
     (are_calls w.script (clock_labels w.run) && are_calls w.script (labels w))
     && list_all (λ lines. are_calls w.script (map (λ line. line.label) lines)) w.run.objects
 
 -- along each of its lists labels are in order
-abbrev pub are_ordered : Course → Bool
+abbrev pub are_ordered : Witness → Bool
 are_ordered w =
     (are_in_order w.script (clock_labels w.run) && are_in_order w.script (labels w))
     && list_all (λ lines. are_in_order w.script (map (λ line. line.label) lines)) w.run.objects
@@ -42,27 +42,27 @@ abbrev pub is_under : Script → TimerLine → Bool
 is_under s line = are_calls s (map (λ look. look.label) line.looks) && are_sorted (map (λ look. look.label) line.looks)
 
 -- the same of all its lines
-abbrev pub are_under : Course → Bool
+abbrev pub are_under : Witness → Bool
 are_under w = list_all (λ lines. list_all (is_under w.script) lines) w.run.timers && list_all is_unrefused w.run.objects
 
 -- no move is of a timer, and no call of a lane, that isn't there
-abbrev pub are_there : Course → Bool
+abbrev pub are_there : Witness → Bool
 are_there w =
     list_all (λ m. nat_lt m.timer (length w.run.timers)) w.moves
     && list_all (λ round. list_all (λ c. nat_lt c.lane (length w.run.answers)) round.calls) w.script.rounds
 
 -- there are lists for each timer, each object and each lane
-abbrev pub are_sized : Course → Bool
+abbrev pub are_sized : Witness → Bool
 are_sized w =
     (nat_eq (length w.run.timers) (length w.script.timers) && nat_eq (length w.run.objects) (length w.script.timers))
     && nat_eq (length w.run.answers) w.script.lanes
 
 -- all these tests
-abbrev pub is_passed : Course → Bool
+abbrev pub is_passed : Witness → Bool
 is_passed w = are_sized w && ((are_called w && are_ordered w) && (are_under w && are_there w))
 
--- what makes the record of a small course fit: the tests are passed, and the rest is said of each timer and each lane
-pub record IsSmall (w : Course) : Type 0 where
+-- what makes the record of a small witness fit: the tests are passed, and the rest is said of each timer and each lane
+pub record IsSmall (w : Witness) : Type 0 where
   pub version : w.run.version ≡ w.script.version
   pub passed : is_passed w ≡ true
   pub writes : AreWrites (at_stamp 0) w.run.clock
@@ -83,7 +83,7 @@ none_skipped s line e = subst (λ skips. AreSkipsUnder s (map (λ skip. skip.lab
     (sym (nil_from_length line.skips (eqb-true (length line.skips) 0 e)))
     (record { calls = tt; in_order = tt })
 
-small_fits : (w : Course) → IsSmall w → FitsIn w
+small_fits : (w : Witness) → IsSmall w → FitsIn w
 small_fits w small =
     let s = w.script in
     let r = w.run in
@@ -158,6 +158,6 @@ small_fits w small =
     both n [] placed each = tt
     both n (x ∷ xs) placed each = (lane_fits w n 0 0 0 0 (calls_of w.script n) (answers_of w.run n) placed.0 each.0, both (n + 1) xs placed.1 each.1)
 
--- law: the record of a small course fits its script
-pub fits_by : (w : Course) → IsSmall w → Fits w.script w.run
+-- law: the record of a small witness fits its script
+pub fits_by : (w : Witness) → IsSmall w → Fits w.script w.run
 fits_by w small = (w, refl, refl, small_fits w small)

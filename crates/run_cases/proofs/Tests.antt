@@ -1,4 +1,4 @@
--- What of a fit is a matter of numbers and labels, as tests that small courses pass by computing.
+-- What of a fit is a matter of numbers and labels, as tests that small witnesses pass by computing.
 use Rattle.std.proofs.Common.{◌≡◌, ◌<◌, ◌≤◌, ◌&&◌, ℕ, ◌+◌, zero, suc, Bool, true, false, not, if◌then◌else◌, nat_eq, nat_le, nat_lt, List, [], ◌∷◌, ◌++◌, length, take, drop, arith, refl, ap, ◌∙◌}
 use Rattle.std.specs.List.{AllByRecursion, list_all}
 use Rattle.std.proofs.lemmas.Bool.Decides.{nat_tests}
@@ -9,7 +9,7 @@ use Rattle.record_text.specs.declared.record.Label.{Label}
 use Rattle.script_text.specs.declared.script.Script.{Script}
 use Rattle.run_history.specs.Actions.{Action, also, Entered, Looked, looked, Made, made, numbers_of_object, Skipped, skipped, Wrote}
 use Rattle.run_history.specs.Order.{AreSorted, calls_of, is_before, is_label, is_lower, IsInOrder, IsLabel, IsPoint, made_by, NeverFall}
-use Rattle.run_history.specs.Courses.{Course, labels}
+use Rattle.run_history.specs.Witnesses.{Witness, labels}
 use Rattle.run_history.specs.Traces.{all_entered}
 use Rattle.run_history.specs.Truths.{AreTrue, OfClaim}
 
@@ -110,7 +110,7 @@ own_place c zero n (x ∷ xs) = if is_label c x then n else own_place c zero (n 
 own_place c (suc made) n (x ∷ xs) = own_place c (if is_label c x then made else suc made) (n + 1) xs
 
 -- the call only wrote the clock and made entries of timers, each claim at a moment of its own
-abbrev pub are_plain : Course → Label → ℕ → List Action → List Action → ℕ → Bool
+abbrev pub are_plain : Witness → Label → ℕ → List Action → List Action → ℕ → Bool
 are_plain w c from before [] last = nat_le from last
 are_plain w c from before (Wrote number write ∷ ds) last = nat_le from from && are_plain w c from (before ++ Wrote number write ∷ []) ds last
 are_plain w c from before (Entered t number entry ∷ ds) last =
@@ -126,7 +126,7 @@ of_claim (events.Claim base reading) is = is
 of_claim event is = tt
 
 -- law: so what it did is true
-pub plain_pass : (w : Course) (c : Label) (first from : ℕ) (before ds : List Action) (last : ℕ) → are_plain w c from before ds last ≡ true
+pub plain_pass : (w : Witness) (c : Label) (first from : ℕ) (before ds : List Action) (last : ℕ) → are_plain w c from before ds last ≡ true
     → AreTrue w c first from before ds last
 plain_pass w c first from before [] last e = upto from last e
 plain_pass w c first from before (Wrote number write ∷ ds) last e =

@@ -23,7 +23,7 @@ use Rattle.run_history.specs.Histories.{reading_at, timer_after}
 use Rattle.script_text.specs.Declarations.{declared_of, declareds_of, terms_of, kind_of}
 use Rattle.run_history.specs.Order.{is_before, IsPoint, made_by}
 use Rattle.run_history.specs.Calls.{fires, IsBody, IsTrigger}
-use Rattle.run_history.specs.Courses.{labels, Move, timer_along, entries_in, Course, Trace, Fired}
+use Rattle.run_history.specs.Witnesses.{labels, Move, timer_along, entries_in, Witness, Trace, Fired}
 use Rattle.run_history.specs.Fits.{Fits}
 use Rattle.run_history.specs.Traces.{all_entered}
 use Rattle.run_history.specs.Truths.{IsDone, IsClaimSpan}
@@ -34,9 +34,9 @@ use Rattle.run_history.proofs.OwnPoints.{declared_then, same_then, seen, seen_ri
 use Rattle.run_cases.specs.Lines.{at, line, claim_entry}
 use Rattle.run_cases.specs.Fitting.{waiting_script}
 use Rattle.run_cases.specs.Wrong.{both_record, both_script, tie_record, tie_script, due_record, due_script, uncancelled_record, uncancelled_script, crossed_record, crossed_script, set_entry_of, settimes_record, settimes_script, soon_record, soon_script, past_record, missed_record, missed_script, astray_record, astray_script, versions_record, versions_script}
-use Rattle.run_cases.proofs.Courses.{moves_by}
+use Rattle.run_cases.proofs.Witnesses.{moves_by}
 use Rattle.run_cases.proofs.Tests.{upto}
-use Rattle.run_cases.proofs.Orders.{at_early, at_late, course_with, found, opened, in_one_order}
+use Rattle.run_cases.proofs.Orders.{at_early, at_late, witness_with, found, opened, in_one_order}
 use Rattle.run_cases.proofs.Settimes.{idle_first, settime_span}
 
 -- ---- two functions run at once on one base, by what a lane is told before and behind its claim
@@ -49,7 +49,7 @@ claim = record { timer = 1; before = 1; line = line 1 1 (claim_entry 0 0 1) }
 pub both_dont_fit : Fits both_script both_record → ⊥
 both_dont_fit fits =
     let o = opened both_script both_record fits in
-    let w = course_with both_script both_record o.0 o.1 o.2 in
+    let w = witness_with both_script both_record o.0 o.1 o.2 in
     let f = o.3 in
     let one = (f.calls 1).1 in
     let three = (f.calls 1).2.2.1 in
@@ -91,7 +91,7 @@ pub tie_doesnt_fit : Fits tie_script tie_record → ⊥
 unfolding after_entry changed
 tie_doesnt_fit fits =
     let o = in_one_order tie_script tie_record (0 ∷ 1 ∷ 1 ∷ 1 ∷ 0 ∷ 0 ∷ []) refl (refl, (refl, tt)) refl fits in
-    let w = course_with tie_script tie_record (moves_by tie_record [] (0 ∷ 1 ∷ 1 ∷ 1 ∷ 0 ∷ 0 ∷ [])) o.0 o.1 in
+    let w = witness_with tie_script tie_record (moves_by tie_record [] (0 ∷ 1 ∷ 1 ∷ 1 ∷ 0 ∷ 0 ∷ [])) o.0 o.1 in
     -- at the third place, where the second timer is claimed
     let wrong : 2 < 1 = (turn_at w o.2.history o.2.timers 2 _ 0 1 refl refl).ties 0 (λ e. omega (arith, e)) refl refl in
     omega (arith, wrong)
@@ -99,15 +99,15 @@ tie_doesnt_fit fits =
 -- ---- an expiry run has nothing left to do, though at each moment one timer or the other was due
 
 -- the one order: the first timer is started, the second is, and the first is cancelled
-abbrev due_course : (Label → Trace) → (ℕ → ℕ → ℕ × ℕ) → Course
-due_course traces spans = course_with due_script due_record (moves_by due_record [] (0 ∷ 1 ∷ 0 ∷ [])) traces spans
+abbrev due_witness : (Label → Trace) → (ℕ → ℕ → ℕ × ℕ) → Witness
+due_witness traces spans = witness_with due_script due_record (moves_by due_record [] (0 ∷ 1 ∷ 0 ∷ [])) traces spans
 
--- a base is stopped for the monotonic clock, as the hard context's timers stand after so many entries of a course
-abbrev IsStoppedHard : Course → ℕ → ℕ → Type 0
+-- a base is stopped for the monotonic clock, as the hard context's timers stand after so many entries of a witness
+abbrev IsStoppedHard : Witness → ℕ → ℕ → Type 0
 IsStoppedHard w reading n = IsStopped (in_context contexts.Hard (timer_along w n)) 0 (reading_at w.run.clock reading) clocks.Monotonic
 
 -- it isn't where a timer is kept whose expiry is reached
-not_stopped : (w : Course) (reading n t : ℕ) → IsStoppedHard w reading n
+not_stopped : (w : Witness) (reading n t : ℕ) → IsStoppedHard w reading n
     → is_kept_on 0 clocks.Monotonic (in_context contexts.Hard (timer_along w n) t) ≡ true
     → nat_le (in_context contexts.Hard (timer_along w n) t).expires (reading_at w.run.clock reading).mono ≡ true → ⊥
 not_stopped w reading n t stopped kept reached =
@@ -118,12 +118,12 @@ not_stopped w reading n t stopped kept reached =
     omega (arith, late, reached_so)
 
 one_is_due : (traces : Label → Trace) (spans : ℕ → ℕ → ℕ × ℕ) (n made : ℕ)
-    → IsPoint due_script (at 1 0) made n (labels (due_course traces spans)) → IsStoppedHard (due_course traces spans) 0 n → ⊥
+    → IsPoint due_script (at 1 0) made n (labels (due_witness traces spans)) → IsStoppedHard (due_witness traces spans) 0 n → ⊥
 unfolding after_entry changed
 one_is_due traces spans zero made point stopped = false≢true (sym point.within.behind.0)
-one_is_due traces spans (suc zero) made point stopped = not_stopped (due_course traces spans) 0 1 0 stopped refl refl
-one_is_due traces spans (suc (suc zero)) made point stopped = not_stopped (due_course traces spans) 0 2 0 stopped refl refl
-one_is_due traces spans (suc (suc (suc zero))) made point stopped = not_stopped (due_course traces spans) 0 3 1 stopped refl refl
+one_is_due traces spans (suc zero) made point stopped = not_stopped (due_witness traces spans) 0 1 0 stopped refl refl
+one_is_due traces spans (suc (suc zero)) made point stopped = not_stopped (due_witness traces spans) 0 2 0 stopped refl refl
+one_is_due traces spans (suc (suc (suc zero))) made point stopped = not_stopped (due_witness traces spans) 0 3 1 stopped refl refl
 one_is_due traces spans (suc (suc (suc (suc n)))) made point stopped = omega (arith, point.within.small)
 
 -- law: it does not fit
@@ -131,20 +131,20 @@ pub due_doesnt_fit : Fits due_script due_record → ⊥
 due_doesnt_fit fits =
     let o = in_one_order due_script due_record (0 ∷ 1 ∷ 0 ∷ []) refl (refl, (refl, tt)) refl fits in
     let call = (o.2.calls 1).1 in
-    let done : IsDone (due_course o.0 o.1) contexts.Hard 0 0 (o.0 (at 1 0)).last =
-    subst (λ k. IsDone (due_course o.0 o.1) contexts.Hard k 0 (o.0 (at 1 0)).last) (sym call.does.0.one_reading) call.seen in
+    let done : IsDone (due_witness o.0 o.1) contexts.Hard 0 0 (o.0 (at 1 0)).last =
+    subst (λ k. IsDone (due_witness o.0 o.1) contexts.Hard k 0 (o.0 (at 1 0)).last) (sym call.does.0.one_reading) call.seen in
     one_is_due o.0 o.1 (o.0 (at 1 0)).last _ call.ends (done.stopped clocks.Monotonic)
 
 -- ---- a settime of an armed POSIX timer starts it with no cancel before
 
 -- the one order: both starts
-abbrev uncancelled_course : (Label → Trace) → (ℕ → ℕ → ℕ × ℕ) → Course
-uncancelled_course traces spans = course_with uncancelled_script uncancelled_record (moves_by uncancelled_record [] (0 ∷ 0 ∷ [])) traces spans
+abbrev uncancelled_witness : (Label → Trace) → (ℕ → ℕ → ℕ × ℕ) → Witness
+uncancelled_witness traces spans = witness_with uncancelled_script uncancelled_record (moves_by uncancelled_record [] (0 ∷ 0 ∷ [])) traces spans
 
 -- where the second settime begins the timer is armed by the first
 armed_there : (traces : Label → Trace) (spans : ℕ → ℕ → ℕ × ℕ) (n : ℕ)
-    → IsPoint uncancelled_script (at 0 1) 0 n (labels (uncancelled_course traces spans))
-    → IsIdle (timer_along (uncancelled_course traces spans) n 0) → ⊥
+    → IsPoint uncancelled_script (at 0 1) 0 n (labels (uncancelled_witness traces spans))
+    → IsIdle (timer_along (uncancelled_witness traces spans) n 0) → ⊥
 unfolding after_entry changed
 armed_there traces spans zero point idle = false≢true (sym point.within.behind.0)
 armed_there traces spans (suc zero) point idle = let armed = idle.armed in cc
@@ -157,17 +157,17 @@ uncancelled_doesnt_fit fits =
     let o = in_one_order uncancelled_script uncancelled_record (0 ∷ 0 ∷ []) refl (refl, tt) refl fits in
     let call = (o.2.calls 0).2.1 in
     armed_there o.0 o.1 (o.0 (at 0 1)).first call.begins
-    (idle_first (uncancelled_course o.0 o.1) 0 (o.0 (at 0 1)).actions (o.0 (at 0 1)).first _ _ _ _ (λ is. cc) call.traced.timers call.seen)
+    (idle_first (uncancelled_witness o.0 o.1) 0 (o.0 (at 0 1)).actions (o.0 (at 0 1)).first _ _ _ _ (λ is. cc) call.traced.timers call.seen)
 
 -- ---- a settime's start stands behind the claim of an expiry, but its entry stands before that expiry's
 
 -- the one order: the start, the claim, the finish, the start
-abbrev crossed_course : (Label → Trace) → (ℕ → ℕ → ℕ × ℕ) → Course
-crossed_course traces spans = course_with crossed_script crossed_record (moves_by crossed_record [] (0 ∷ 0 ∷ 0 ∷ 0 ∷ [])) traces spans
+abbrev crossed_witness : (Label → Trace) → (ℕ → ℕ → ℕ × ℕ) → Witness
+crossed_witness traces spans = witness_with crossed_script crossed_record (moves_by crossed_record [] (0 ∷ 0 ∷ 0 ∷ 0 ∷ [])) traces spans
 
 -- the settime ended behind the fourth entry, which is its start
-set_there : (traces : Label → Trace) (spans : ℕ → ℕ → ℕ × ℕ) (n : ℕ) → n ≤ 4 → made_by (at 0 2) (take n (labels (crossed_course traces spans))) ≡ 1
-    → (timer_along (crossed_course traces spans) n 0).stamp ≡ 4
+set_there : (traces : Label → Trace) (spans : ℕ → ℕ → ℕ × ℕ) (n : ℕ) → n ≤ 4 → made_by (at 0 2) (take n (labels (crossed_witness traces spans))) ≡ 1
+    → (timer_along (crossed_witness traces spans) n 0).stamp ≡ 4
 unfolding after_entry changed
 set_there traces spans zero small many = absurd (cc)
 set_there traces spans (suc zero) small many = absurd (cc)
@@ -177,7 +177,7 @@ set_there traces spans (suc (suc (suc (suc zero)))) small many = refl
 set_there traces spans (suc (suc (suc (suc (suc n))))) small many = absurd (omega (arith, small))
 
 -- the span of an expiry's entry is just its claim
-module _ (w : Course) (base reading claim number : ℕ) (entry : ObjectEntry) where
+module _ (w : Witness) (base reading claim number : ℕ) (entry : ObjectEntry) where
   claimed_span : (f : Fired) → f.timer ≡ 0 → f.claim ≡ claim → IsTrigger reading f → (number, entry) ∷ [] ≡ made 0 (fires base reading f ++ [])
       → IsClaimSpan w f f.body → (w.spans 0 number).0 + 1 ≡ claim
   claimed_span f timer claim_is trigger its span = ⊎_elim
@@ -210,7 +210,7 @@ module _ (w : Course) (base reading claim number : ℕ) (entry : ObjectEntry) wh
 pub crossed_doesnt_fit : Fits crossed_script crossed_record → ⊥
 crossed_doesnt_fit fits =
     let o = in_one_order crossed_script crossed_record (0 ∷ 0 ∷ 0 ∷ 0 ∷ []) refl (refl, tt) refl fits in
-    let w = crossed_course o.0 o.1 in
+    let w = crossed_witness o.0 o.1 in
     let t = o.0 (at 1 0) in
     let run = (o.2.calls 1).1 in
     let settime = settime_span {w = w} {c = at 0 2} 0 2 (set_entry_of 50 1 4 1) (o.2.calls 0).2.2.1 refl in
@@ -222,18 +222,18 @@ crossed_doesnt_fit fits =
 -- ---- of two lanes' settimes the one whose start stands first has its entry last
 
 -- the one order: the first settime's start, the other's cancel and start
-abbrev settimes_course : (Label → Trace) → (ℕ → ℕ → ℕ × ℕ) → Course
-settimes_course traces spans = course_with settimes_script settimes_record (moves_by settimes_record [] (0 ∷ 0 ∷ 0 ∷ [])) traces spans
+abbrev settimes_witness : (Label → Trace) → (ℕ → ℕ → ℕ × ℕ) → Witness
+settimes_witness traces spans = witness_with settimes_script settimes_record (moves_by settimes_record [] (0 ∷ 0 ∷ 0 ∷ [])) traces spans
 
 -- lane 0 began before its own start, which is the first entry; lane 1 ended behind the third
-begins_there : (traces : Label → Trace) (spans : ℕ → ℕ → ℕ × ℕ) (n : ℕ) → made_by (at 0 0) (take n (labels (settimes_course traces spans))) ≡ 0
-    → (timer_along (settimes_course traces spans) n 0).stamp ≡ 0
+begins_there : (traces : Label → Trace) (spans : ℕ → ℕ → ℕ × ℕ) (n : ℕ) → made_by (at 0 0) (take n (labels (settimes_witness traces spans))) ≡ 0
+    → (timer_along (settimes_witness traces spans) n 0).stamp ≡ 0
 unfolding after_entry changed
 begins_there traces spans zero many = refl
 begins_there traces spans (suc n) many = absurd (cc)
 
-ends_there : (traces : Label → Trace) (spans : ℕ → ℕ → ℕ × ℕ) (n : ℕ) → n ≤ 3 → made_by (at 1 0) (take n (labels (settimes_course traces spans))) ≡ 2
-    → (timer_along (settimes_course traces spans) n 0).stamp ≡ 3
+ends_there : (traces : Label → Trace) (spans : ℕ → ℕ → ℕ × ℕ) (n : ℕ) → n ≤ 3 → made_by (at 1 0) (take n (labels (settimes_witness traces spans))) ≡ 2
+    → (timer_along (settimes_witness traces spans) n 0).stamp ≡ 3
 unfolding after_entry changed
 ends_there traces spans zero small many = absurd (cc)
 ends_there traces spans (suc zero) small many = absurd (cc)
@@ -245,7 +245,7 @@ ends_there traces spans (suc (suc (suc (suc n)))) small many = absurd (omega (ar
 pub settimes_dont_fit : Fits settimes_script settimes_record → ⊥
 settimes_dont_fit fits =
     let o = in_one_order settimes_script settimes_record (0 ∷ 0 ∷ 0 ∷ []) refl (refl, tt) refl fits in
-    let w = settimes_course o.0 o.1 in
+    let w = settimes_witness o.0 o.1 in
     let zero_call = (o.2.calls 0).1 in
     let one_call = (o.2.calls 1).1 in
     let early = settime_span {w = w} {c = at 1 0} 0 1 (set_entry_of 200 0 3 0) one_call refl in
@@ -267,7 +267,7 @@ pub soon_doesnt_fit : Fits soon_script soon_record → ⊥
 unfolding after_entry changed
 soon_doesnt_fit fits =
     let o = in_one_order soon_script soon_record (0 ∷ 0 ∷ 0 ∷ []) refl (refl, tt) refl fits in
-    let w = course_with soon_script soon_record (moves_by soon_record [] (0 ∷ 0 ∷ 0 ∷ [])) o.0 o.1 in
+    let w = witness_with soon_script soon_record (moves_by soon_record [] (0 ∷ 0 ∷ 0 ∷ [])) o.0 o.1 in
     let due : false ≡ true = (turn_at w o.2.history o.2.timers 1 _ 0 0 refl refl).next.due in
     false≢true due
 
@@ -278,7 +278,7 @@ pub past_doesnt_fit : Fits waiting_script past_record → ⊥
 unfolding after_entry changed
 past_doesnt_fit fits =
     let o = in_one_order waiting_script past_record (0 ∷ 1 ∷ 0 ∷ 0 ∷ []) refl (refl, (refl, tt)) refl fits in
-    let w = course_with waiting_script past_record (moves_by past_record [] (0 ∷ 1 ∷ 0 ∷ 0 ∷ [])) o.0 o.1 in
+    let w = witness_with waiting_script past_record (moves_by past_record [] (0 ∷ 1 ∷ 0 ∷ 0 ∷ [])) o.0 o.1 in
     -- at the third place, where the first timer is claimed, the second one's expiry is earlier
     let smaller : true ≡ false = (turn_at w o.2.history o.2.timers 2 _ 0 0 refl refl).next.smaller 1 in
     false≢true (sym smaller)
@@ -286,14 +286,14 @@ past_doesnt_fit fits =
 -- ---- nothing was left to do, though a timer's hard expiry was reached
 
 -- the one order: the start
-abbrev missed_course : (Label → Trace) → (ℕ → ℕ → ℕ × ℕ) → Course
-missed_course traces spans = course_with missed_script missed_record (moves_by missed_record [] (0 ∷ [])) traces spans
+abbrev missed_witness : (Label → Trace) → (ℕ → ℕ → ℕ × ℕ) → Witness
+missed_witness traces spans = witness_with missed_script missed_record (moves_by missed_record [] (0 ∷ [])) traces spans
 
 one_is_missed : (traces : Label → Trace) (spans : ℕ → ℕ → ℕ × ℕ) (n made : ℕ)
-    → IsPoint missed_script (at 0 2) made n (labels (missed_course traces spans)) → IsStoppedHard (missed_course traces spans) 1 n → ⊥
+    → IsPoint missed_script (at 0 2) made n (labels (missed_witness traces spans)) → IsStoppedHard (missed_witness traces spans) 1 n → ⊥
 unfolding after_entry changed
 one_is_missed traces spans zero made point stopped = false≢true (sym point.within.behind.0)
-one_is_missed traces spans (suc zero) made point stopped = not_stopped (missed_course traces spans) 1 1 0 stopped refl refl
+one_is_missed traces spans (suc zero) made point stopped = not_stopped (missed_witness traces spans) 1 1 0 stopped refl refl
 one_is_missed traces spans (suc (suc n)) made point stopped = omega (arith, point.within.small)
 
 -- law: it does not fit
@@ -301,8 +301,8 @@ pub missed_doesnt_fit : Fits missed_script missed_record → ⊥
 missed_doesnt_fit fits =
     let o = in_one_order missed_script missed_record (0 ∷ []) refl (refl, tt) refl fits in
     let call = (o.2.calls 0).2.2.1 in
-    let done : IsDone (missed_course o.0 o.1) contexts.Hard 1 0 (o.0 (at 0 2)).last =
-    subst (λ k. IsDone (missed_course o.0 o.1) contexts.Hard k 0 (o.0 (at 0 2)).last) (sym call.does.0.one_reading) call.seen in
+    let done : IsDone (missed_witness o.0 o.1) contexts.Hard 1 0 (o.0 (at 0 2)).last =
+    subst (λ k. IsDone (missed_witness o.0 o.1) contexts.Hard k 0 (o.0 (at 0 2)).last) (sym call.does.0.one_reading) call.seen in
     one_is_missed o.0 o.1 (o.0 (at 0 2)).last _ call.ends (done.stopped clocks.Monotonic)
 
 -- ---- a hard expiry run claims a timer of the soft context

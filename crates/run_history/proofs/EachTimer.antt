@@ -32,11 +32,11 @@ use Rattle.run_history.specs.Told.{observed}
 use Rattle.run_history.specs.Histories.{answers_of, reading_at, timer_after}
 use Rattle.script_text.specs.Declarations.{declared_of, terms_of}
 use Rattle.run_history.specs.Order.{CallInRound, calls_of, is_before, is_label, IsInOrder, IsLabel, IsWithin, made_by, round_of}
-use Rattle.run_history.specs.Courses.{Course, labels, Move, timer_along}
+use Rattle.run_history.specs.Witnesses.{Witness, labels, Move, timer_along}
 use Rattle.run_history.specs.EachTimer.{HasTimers, FitsTimers, TookNextDue, WasRefused, WasSo, WasTold}
 use Rattle.run_history.specs.Fits.{Fits, FitsCall, FitsIn, FitsLane, Seen, unseen}
 use Rattle.run_history.specs.Traces.{all_entered, own_moves}
-use Rattle.run_history.specs.Truths.{AreTrue, IsMoment, IsSeen, IsTrue, Saw, SawRefusal}
+use Rattle.run_history.specs.Truths.{AreTrue, IsMoment, AnswerHolds, IsTrue, Saw, SawRefusal}
 use Rattle.run_history.proofs.Actions.{all_entered-append}
 use Rattle.run_history.proofs.Labels.{same_label}
 use Rattle.run_history.proofs.Lists.{all_at, at_map, each_drop, each_take}
@@ -158,7 +158,7 @@ within_at s c ls p order there = record {
 -- ---- each call
 
 -- what is true of all that a call did is true of each thing
-pub true_at : (w : Course) (c : Label) (first from : ℕ) (done ds mid : List Action) (d : Action) (rest : List Action) (last : ℕ)
+pub true_at : (w : Witness) (c : Label) (first from : ℕ) (done ds mid : List Action) (d : Action) (rest : List Action) (last : ℕ)
     → AreTrue w c first from done ds last
     → ds ≡ mid ++ d ∷ rest → (n : ℕ) × IsTrue w c first (done ++ mid) d n
 true_at w c first from done [] [] d rest last all is = absurd (cc)
@@ -175,7 +175,7 @@ true_at w c first from done (x ∷ ds) (m ∷ mid) d rest last all is =
           (append_assoc done (x ∷ []) mid ∙ ap (λ y. done ++ y ∷ mid) (heads x m ds (mid ++ d ∷ rest) is)) further.1,
     )
 
-module _ (w : Course) (f : FitsIn w) where
+module _ (w : Witness) (f : FitsIn w) where
   -- a claim was made at the place where its entry stands
   claim_then : (c : Label) (before rest : List Action) (t number base reading : ℕ) (reply : Reply)
       → own_moves c w.moves ≡ all_entered (before ++ Entered t number (record { event = events.Claim base reading; reply = reply }) ∷ rest)
@@ -231,7 +231,7 @@ module _ (w : Course) (f : FitsIn w) where
     )
 
     -- what an answer tells was so
-    told_then : (call : Call) (answer : Answer) → IsSeen w first last c at actions call answer → WasTold w.script w.run c at actions call answer
+    told_then : (call : Call) (answer : Answer) → AnswerHolds w first last c at actions call answer → WasTold w.script w.run c at actions call answer
     told_then (calls.Start t request) (answers.Spent stamp) is = refused t stamp is
     told_then (calls.Cancel t) (answers.Running generation stamp) is = was_so t stamp (observations.Running generation) is
     told_then (calls.Cancel t) (answers.Idle stamp) is = was_so t stamp observations.Idle is

@@ -28,12 +28,12 @@ use Rattle.script_text.specs.declared.script.Callback.{Callback}
 use Rattle.script_text.specs.declared.script.Kind.TheVariants as kinds
 use Rattle.script_text.specs.declared.script.Kind.{Kind}
 use Rattle.run_history.specs.Calls.{Does, fires, IsBody, IsCallback, IsExpiryRun, IsTrigger}
-use Rattle.run_history.specs.Courses.{Course, Fired, timer_along, Trace}
+use Rattle.run_history.specs.Witnesses.{Witness, Fired, timer_along, Trace}
 use Rattle.run_history.specs.Fits.{FitsCall, Seen}
-use Rattle.run_history.specs.Receipts.{Noted, receipt}
+use Rattle.run_history.specs.Receipts.{PlacedEntry, receipt}
 use Rattle.run_history.specs.Rounds.{Spans}
 use Rattle.run_history.specs.Traces.{all_entered}
-use Rattle.run_history.specs.Truths.{AreTrue, IsClaimSpan, IsDone, IsMoment, IsSeen, Saw, SawFull}
+use Rattle.run_history.specs.Truths.{AreTrue, IsClaimSpan, IsDone, IsMoment, AnswerHolds, Saw, SawFull}
 use Rattle.run_history.proofs.Actions.{all_entered-append}
 use Rattle.run_history.proofs.Kept.{call_made_whole, IsKept, moment_of, Stops}
 use Rattle.run_history.proofs.Known.{AreMade, made-append, made_wider, none_made, stops_between}
@@ -42,12 +42,12 @@ use Rattle.run_history.proofs.OthersMade.{start_true}
 -- ---- truths in turn
 
 -- they may begin earlier
-true_earlier : (w : Course) (c : Label) (first from mid last : ℕ) (before es : List Action) → from ≤ mid → AreTrue w c first mid before es last
+true_earlier : (w : Witness) (c : Label) (first from mid last : ℕ) (before es : List Action) → from ≤ mid → AreTrue w c first mid before es last
     → AreTrue w c first from before es last
 true_earlier w c first from mid last before [] le all = omega (arith, le, all)
 true_earlier w c first from mid last before (d ∷ ds) le all = (all.0, omega (arith, le, all.1), all.2, all.3)
 
-true-append : (w : Course) (c : Label) (first from mid last : ℕ) (before ds es : List Action) → AreTrue w c first from before ds mid
+true-append : (w : Witness) (c : Label) (first from mid last : ℕ) (before ds es : List Action) → AreTrue w c first from before ds mid
     → AreTrue w c first mid (before ++ ds) es last → AreTrue w c first from before (ds ++ es) last
 true-append w c first from mid last before [] es one two =
     subst (λ b. AreTrue w c first from b es last) (append-nil before) (true_earlier w c first from mid last (before ++ []) es one two)
@@ -74,20 +74,20 @@ with_claim base at f before = before ++ Entered f.timer f.claim (claim_of base a
 
 -- what a callback was told holds: a look, of the timer as it was when the pass had seen so many entries; a refused expiry, of the object, whose history
 -- was full
-abbrev pub ReplyHolds : Course → Label → List Action → ℕ → List Action → Type 0
+abbrev pub ReplyHolds : Witness → Label → List Action → ℕ → List Action → Type 0
 ReplyHolds w c before acted (Looked timer number look ∷ []) = Saw w timer number (observed look) acted × IsBelowLimit w.script.limit number look
 ReplyHolds w c before acted (Skipped i number generation ∷ []) = SawFull w c before i number
 ReplyHolds w c before acted ds = Unit
 
 -- one callback of an expiry run, from one number of entries that its pass had seen to another
-pub record Ran (w : Course) (c : Label) (order : List TimerEntry) (context : Context) (base at : ℕ) (before : List Action) (f : Fired) (from to : ℕ) : Type 0 where
+pub record Ran (w : Witness) (c : Label) (order : List TimerEntry) (context : Context) (base at : ℕ) (before : List Action) (f : Fired) (from to : ℕ) : Type 0 where
   -- that number after the claim, and where the callback's look held or after the callback
   pub claimed : ℕ
   pub acted : ℕ
   -- the claim's receipt, the callback's, the finish's
-  pub claim : Noted
-  pub body : List Noted
-  pub finish : Noted
+  pub claim : PlacedEntry
+  pub body : List PlacedEntry
+  pub finish : PlacedEntry
   pub rise : from ≤ claimed
   pub goes_on : claimed ≤ acted
   pub ends : acted ≤ to
@@ -104,15 +104,15 @@ pub record Ran (w : Course) (c : Label) (order : List TimerEntry) (context : Con
   pub span : IsClaimSpan w f f.body
 
 -- its receipts
-abbrev pub notes_of : {w : Course} {c : Label} {order : List TimerEntry} {context : Context} {base at : ℕ} {before : List Action} {f : Fired} {from to : ℕ}
-    → Ran w c order context base at before f from to → List Noted
+abbrev pub notes_of : {w : Witness} {c : Label} {order : List TimerEntry} {context : Context} {base at : ℕ} {before : List Action} {f : Fired} {from to : ℕ}
+    → Ran w c order context base at before f from to → List PlacedEntry
 notes_of ran = ran.claim ∷ ran.body ++ ran.finish ∷ []
 
-no_notes : (xs : List Noted) → map receipt xs ≡ [] → xs ≡ []
+no_notes : (xs : List PlacedEntry) → map receipt xs ≡ [] → xs ≡ []
 no_notes [] is = refl
 no_notes (x ∷ xs) is = absurd (cc)
 
-module _ {w : Course} {c : Label} {order : List TimerEntry} {context : Context} {base at : ℕ} {before : List Action} {f : Fired} {from to : ℕ}
+module _ {w : Witness} {c : Label} {order : List TimerEntry} {context : Context} {base at : ℕ} {before : List Action} {f : Fired} {from to : ℕ}
     (ran : Ran w c order context base at before f from to) where
   forward : from ≤ to
   forward = omega (arith, ran.rise, ran.goes_on, ran.ends)
@@ -131,12 +131,12 @@ module _ {w : Course} {c : Label} {order : List TimerEntry} {context : Context} 
       ∙ sym (ap (λ es. (f.timer, (f.claim, claim_of base at f)) ∷ es) (all_entered-append f.body (Entered f.timer f.finish (finish_of f) ∷ [])))
 
 -- the call's moments are where it had made so much, between these numbers
-abbrev pub AreMoments : Course → Label → List Noted → ℕ → ℕ → Type 0
+abbrev pub AreMoments : Witness → Label → List PlacedEntry → ℕ → ℕ → Type 0
 AreMoments w c notes low high = (early : List Action) (n : ℕ) → low ≤ n → n ≤ high → Stops c notes early n → IsMoment w c early n
 
 -- a callback among a call's receipts, those before it and those behind
-module _ {w : Course} {c : Label} {order : List TimerEntry} {context : Context} {base at : ℕ} {before : List Action} {f : Fired} {from to : ℕ}
-    (ran : Ran w c order context base at before f from to) (low high : ℕ) (all early late : List Noted) (split : all ≡ early ++ (notes_of ran ++ late))
+module _ {w : Witness} {c : Label} {order : List TimerEntry} {context : Context} {base at : ℕ} {before : List Action} {f : Fired} {from to : ℕ}
+    (ran : Ran w c order context base at before f from to) (low high : ℕ) (all early late : List PlacedEntry) (split : all ≡ early ++ (notes_of ran ++ late))
     (one : AreMade order low from early) (two : AreMade order to high late) (are : map receipt early ≡ all_entered before) (under : low ≤ from)
     (over : to ≤ high) (moments : AreMoments w c all low high) where
   forward_claimed : low ≤ ran.claimed
@@ -150,7 +150,7 @@ module _ {w : Course} {c : Label} {order : List TimerEntry} {context : Context} 
       (subst (λ xs. Stops c xs before from) (sym split) (stops_between c order low from high early (notes_of ran ++ late) before one rest are))
 
   -- a moment behind the claim, before the rest
-  moment_behind : (n : ℕ) (rest : List Noted) → ran.claimed ≤ n → n ≤ to → AreMade order n to rest → all ≡ early ++ (ran.claim ∷ rest ++ late)
+  moment_behind : (n : ℕ) (rest : List PlacedEntry) → ran.claimed ≤ n → n ≤ to → AreMade order n to rest → all ≡ early ++ (ran.claim ∷ rest ++ late)
       → IsMoment w c (with_claim base at f before) n
   moment_behind n rest le more made is =
       let first = made_wider order low low ran.claimed n (early ++ ran.claim ∷ []) (omega arith) le
@@ -231,20 +231,20 @@ module _ {w : Course} {c : Label} {order : List TimerEntry} {context : Context} 
 -- ---- the callbacks of an expiry run
 
 -- they ran in turn, each between two numbers of entries that the pass had seen, and these are their receipts
-abbrev pub HaveRun : Course → Label → List TimerEntry → Context → ℕ → ℕ → List Action → ℕ → List Fired → List Noted → ℕ → Type 0
+abbrev pub HaveRun : Witness → Label → List TimerEntry → Context → ℕ → ℕ → List Action → ℕ → List Fired → List PlacedEntry → ℕ → Type 0
 HaveRun w c order context base at before from [] notes to = (notes ≡ []) × (from ≤ to)
 HaveRun w c order context base at before from (f ∷ fs) notes to =
-    (ends : ℕ) × (ran : Ran w c order context base at before f from ends) × (rest : List Noted) × (notes ≡ notes_of ran ++ rest)
+    (ends : ℕ) × (ran : Ran w c order context base at before f from ends) × (rest : List PlacedEntry) × (notes ≡ notes_of ran ++ rest)
     × HaveRun w c order context base at (before ++ fires base at f) ends fs rest to
 
-module _ (w : Course) (c : Label) (order : List TimerEntry) (context : Context) (base at : ℕ) where
-  run_forward : (before : List Action) (from : ℕ) (fs : List Fired) (notes : List Noted) (to : ℕ) → HaveRun w c order context base at before from fs notes to
+module _ (w : Witness) (c : Label) (order : List TimerEntry) (context : Context) (base at : ℕ) where
+  run_forward : (before : List Action) (from : ℕ) (fs : List Fired) (notes : List PlacedEntry) (to : ℕ) → HaveRun w c order context base at before from fs notes to
       → from ≤ to
   run_forward before from [] notes to run = run.1
   run_forward before from (f ∷ fs) notes to run = omega (arith, forward run.1, run_forward (before ++ fires base at f) run.0 fs run.2 to run.4)
 
   -- law: the receipts are made in turn, and are of what the callbacks did
-  pub run_made : (before : List Action) (from : ℕ) (fs : List Fired) (notes : List Noted) (to : ℕ) → HaveRun w c order context base at before from fs notes to
+  pub run_made : (before : List Action) (from : ℕ) (fs : List Fired) (notes : List PlacedEntry) (to : ℕ) → HaveRun w c order context base at before from fs notes to
       → AreMade order from to notes × (map receipt notes ≡ all_entered (flat_map (fires base at) fs))
   run_made before from [] notes to run = subst (λ xs. AreMade order from to xs × (map receipt xs ≡ [])) (sym run.0) (none_made order from to, refl)
   run_made before from (f ∷ fs) notes to run =
@@ -281,7 +281,7 @@ module _ (w : Course) (c : Label) (order : List TimerEntry) (context : Context) 
   }
 
   -- law: one more callback behind those that ran
-  pub run_push : (before since : List Action) (from : ℕ) (fs : List Fired) (notes : List Noted) (mid : ℕ) (f : Fired) (to : ℕ)
+  pub run_push : (before since : List Action) (from : ℕ) (fs : List Fired) (notes : List PlacedEntry) (mid : ℕ) (f : Fired) (to : ℕ)
       → HaveRun w c order context base at before from fs notes mid → since ≡ before ++ flat_map (fires base at) fs
       → (ran : Ran w c order context base at since f mid to)
       → HaveRun w c order context base at before from (fs ++ f ∷ []) (notes ++ notes_of ran) to
@@ -304,14 +304,14 @@ module _ (w : Course) (c : Label) (order : List TimerEntry) (context : Context) 
 
   -- what one that has run has, each has
   each_ran : (P : Fired → Type 0) → ((before : List Action) (f : Fired) (from to : ℕ) → Ran w c order context base at before f from to → P f)
-      → (before : List Action) (from : ℕ) (fs : List Fired) (notes : List Noted) (to : ℕ) → HaveRun w c order context base at before from fs notes to
+      → (before : List Action) (from : ℕ) (fs : List Fired) (notes : List PlacedEntry) (to : ℕ) → HaveRun w c order context base at before from fs notes to
       → AllByRecursion P fs
   each_ran P one before from [] notes to run = tt
   each_ran P one before from (f ∷ fs) notes to run =
       (one before f from run.0 run.1, each_ran P one (before ++ fires base at f) run.0 fs run.2 to run.4)
 
-  run_true : (first low high : ℕ) (all : List Noted) → AreMoments w c all low high → (before : List Action) (from : ℕ) (fs : List Fired) (notes : List Noted)
-      (to : ℕ) (early : List Noted) → HaveRun w c order context base at before from fs notes to → all ≡ early ++ notes → AreMade order low from early
+  run_true : (first low high : ℕ) (all : List PlacedEntry) → AreMoments w c all low high → (before : List Action) (from : ℕ) (fs : List Fired) (notes : List PlacedEntry)
+      (to : ℕ) (early : List PlacedEntry) → HaveRun w c order context base at before from fs notes to → all ≡ early ++ notes → AreMade order low from early
       → map receipt early ≡ all_entered before → low ≤ from → to ≤ high → AreTrue w c first from before (flat_map (fires base at) fs) to
   run_true first low high all moments before from [] notes to early run is one are under over = run.1
   run_true first low high all moments before from (f ∷ fs) notes to early run is one are under over =
@@ -334,13 +334,13 @@ module _ (w : Course) (c : Label) (order : List TimerEntry) (context : Context) 
 abbrev pub expiring : ℕ → ℕ → ℕ → ℕ → List Fired → Trace
 expiring base at first last fired = record { at = at; fired = fired; actions = flat_map (fires base at) fired; first = first; last = last }
 
-module _ {w : Course} {moves : Spans} {c : Label} {context : Context} {base budget at first last : ℕ} {notes : List Noted} {fired : List Fired} {answer : Answer}
+module _ {w : Witness} {moves : Spans} {c : Label} {context : Context} {base budget at first last : ℕ} {notes : List PlacedEntry} {fired : List Fired} {answer : Answer}
     {before after : Seen} (order : List TimerEntry)
     (kept : IsKept w moves c (expiring base at first last fired) notes (calls.Expire context base budget) answer before after) (starts : first ≡ moves.first c)
     (run : HaveRun w c order context base at [] first fired notes last) where
   expired : (IsExpiryRun w.script context at base fired at (map (λ f. f.timer) fired) (flat_map (fires base at) fired)
       → Does w.script at (calls.Expire context base budget) answer fired (flat_map (fires base at) fired))
-      → IsSeen w first last c at (flat_map (fires base at) fired) (calls.Expire context base budget) answer
+      → AnswerHolds w first last c at (flat_map (fires base at) fired) (calls.Expire context base budget) answer
       → FitsCall w c (calls.Expire context base budget) answer before after
   expired does seen =
       call_made_whole kept starts
@@ -356,7 +356,7 @@ module _ {w : Course} {moves : Spans} {c : Label} {context : Context} {base budg
       (each_ran w c order context base at _ (λ before f from to ran. ran.span) [] first fired notes last run) seen
 
 -- a run that left nothing to do
-pub expire_done : {w : Course} {moves : Spans} {c : Label} {context : Context} {base budget at first last : ℕ} {notes : List Noted} {fired : List Fired} {before after : Seen}
+pub expire_done : {w : Witness} {moves : Spans} {c : Label} {context : Context} {base budget at first last : ℕ} {notes : List PlacedEntry} {fired : List Fired} {before after : Seen}
     (order : List TimerEntry)
     → IsKept w moves c (expiring base at first last fired) notes (calls.Expire context base budget) (answers.Done at (map (λ f. f.timer) fired)) before after
     → first ≡ moves.first c → HaveRun w c order context base at [] first fired notes last → length fired < budget → IsDone w context at base last
@@ -364,7 +364,7 @@ pub expire_done : {w : Course} {moves : Spans} {c : Label} {context : Context} {
 expire_done order kept starts ran few done = expired order kept starts ran (λ run. (run, few)) done
 
 -- a run that ended with its budget
-pub expire_more : {w : Course} {moves : Spans} {c : Label} {context : Context} {base budget at first last : ℕ} {notes : List Noted} {fired : List Fired} {before after : Seen}
+pub expire_more : {w : Witness} {moves : Spans} {c : Label} {context : Context} {base budget at first last : ℕ} {notes : List PlacedEntry} {fired : List Fired} {before after : Seen}
     (order : List TimerEntry)
     → IsKept w moves c (expiring base at first last fired) notes (calls.Expire context base budget) (answers.More at (map (λ f. f.timer) fired)) before after
     → first ≡ moves.first c → HaveRun w c order context base at [] first fired notes last → length fired ≡ budget
@@ -372,7 +372,7 @@ pub expire_more : {w : Course} {moves : Spans} {c : Label} {context : Context} {
 expire_more order kept starts ran all = expired order kept starts ran (λ run. (run, all)) tt
 
 -- a run that met a function that ran on its base
-pub expire_busy : {w : Course} {moves : Spans} {c : Label} {context : Context} {base budget at first last timer generation : ℕ} {notes : List Noted} {fired : List Fired}
+pub expire_busy : {w : Witness} {moves : Spans} {c : Label} {context : Context} {base budget at first last timer generation : ℕ} {notes : List PlacedEntry} {fired : List Fired}
     {before after : Seen} (order : List TimerEntry)
     → IsKept w moves c (expiring base at first last fired) notes (calls.Expire context base budget) (answers.Busy at (map (λ f. f.timer) fired) timer generation)
     before after

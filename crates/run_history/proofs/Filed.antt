@@ -12,7 +12,7 @@ use Rattle.record_text.specs.declared.record.RunRecord.{RunRecord}
 use Rattle.record_text.specs.declared.record.TimerLine.{TimerLine}
 use Rattle.run_history.specs.Actions.{also}
 use Rattle.run_history.specs.Histories.{lines_of_timer}
-use Rattle.run_history.specs.Receipts.{AreFiled, count, file_shape, Filed, files_on, IsMade, line_shape, Noted, RiseBy, Rises}
+use Rattle.run_history.specs.Receipts.{AreFiled, count, file_shape, Filed, files_on, IsMade, line_shape, PlacedEntry, RiseBy, Rises}
 use Rattle.run_history.proofs.Laid.{AreReceipts, counts_more, IsLine, IsNoted}
 use Rattle.run_history.proofs.Lists.{all_at, at_map, each, map_get}
 
@@ -95,7 +95,7 @@ found_on t j f (x ∷ fs) at =
     here zero at is further = (0, at, ap (λ (y : Filed). y.note.timer) (sym (same_Some x f at)) ∙ is)
     here (suc j) at is further = let r = further j at in (suc r.0, r.1, r.2)
 
-module _ (r : RunRecord) (order : List TimerEntry) (notes : Label → List Noted) (sorted : List Filed) (filed : AreFiled r order notes sorted) where
+module _ (r : RunRecord) (order : List TimerEntry) (notes : Label → List PlacedEntry) (sorted : List Filed) (filed : AreFiled r order notes sorted) where
   made_of : (i : ℕ) (f : Filed) → slice_get sorted i ≡ Some f → IsMade order f.note
   made_of i f at = let b = filed.back i f at in all_at (IsMade order) (notes f.label) b.0 f.note (filed.made f.label) b.1
 
@@ -111,7 +111,7 @@ module _ (r : RunRecord) (order : List TimerEntry) (notes : Label → List Noted
       below n _ _ (subst (λ m. m ≤ count t order) g.2 (at_most g.0 (made_of s.0 g.0 s.1) s.2)) (length-map (files_on t sorted) number_of) (filed.as_many t)))
       (at_map number_of (files_on t sorted) j f at))
     where
-      at_least : {x : Noted} → IsMade order x → 1 ≤ x.number
+      at_least : {x : PlacedEntry} → IsMade order x → 1 ≤ x.number
       at_least made = omega (arith, made.number)
 
       at_most : (g : Filed) → IsMade order g.note → g.note.timer ≡ t → g.note.number ≤ count t order
@@ -128,7 +128,7 @@ module _ (r : RunRecord) (order : List TimerEntry) (notes : Label → List Noted
       turned : (j n : ℕ) → n ≡ 1 + j → n ≡ j + 1
       turned j n e = omega (arith, e)
 
-  line_of : (c : Label) (i : ℕ) (x : Noted) → slice_get sorted i ≡ Some (record { label = c; note = x }) → IsLine r c x
+  line_of : (c : Label) (i : ℕ) (x : PlacedEntry) → slice_get sorted i ≡ Some (record { label = c; note = x }) → IsLine r c x
   line_of c i x at =
       let f : Filed = record { label = c; note = x } in
       let t = x.timer in

@@ -12,18 +12,18 @@ use Rattle.run_history.specs.Objects.{lines_of_object}
 use Rattle.run_history.specs.Order.{is_label, IsLabel, IsPoint, NeverFall}
 use Rattle.script_text.specs.declared.script.Call.{Call}
 use Rattle.run_history.specs.Calls.{Does}
-use Rattle.run_history.specs.Courses.{Course, labels, Move, Trace}
+use Rattle.run_history.specs.Witnesses.{Witness, labels, Move, Trace}
 use Rattle.run_history.specs.Fits.{FitsCall, Seen}
-use Rattle.run_history.specs.Receipts.{AreAll, at_place, Noted, receipt, shape}
+use Rattle.run_history.specs.Receipts.{AreAll, at_place, PlacedEntry, receipt, shape}
 use Rattle.run_history.specs.Rounds.{IsLaid, Spans}
 use Rattle.run_history.specs.Traces.{all_entered, HasTraced, own_moves}
-use Rattle.run_history.specs.Truths.{AreTrue, IsClaimSpan, IsMoment, IsSeen}
+use Rattle.run_history.specs.Truths.{AreTrue, IsClaimSpan, IsMoment, AnswerHolds}
 use Rattle.run_history.proofs.Points.{point_among}
 
 -- a call that had made these entries, and no others, when it had seen so many of all timers'
-pub record Stops (c : Label) (notes : List Noted) (before : List Action) (n : ℕ) : Type 0 where
-  pub early : List Noted
-  pub late : List Noted
+pub record Stops (c : Label) (notes : List PlacedEntry) (before : List Action) (n : ℕ) : Type 0 where
+  pub early : List PlacedEntry
+  pub late : List PlacedEntry
   pub split : notes ≡ early ++ late
   pub are : map receipt early ≡ all_entered before
   pub below : AllByRecursion (λ x. x.place < n) early
@@ -38,23 +38,23 @@ own_moves_are c k (m ∷ ms) =
       | false ↦ own_moves_are c (k + 1) ms
     ]
 
-receipts_are : (xs : List Noted) → map (λ e. e.1) (map at_place xs) ≡ map receipt xs
+receipts_are : (xs : List PlacedEntry) → map (λ e. e.1) (map at_place xs) ≡ map receipt xs
 receipts_are [] = refl
 receipts_are (x ∷ xs) = ap (λ ys. receipt x ∷ ys) (receipts_are xs)
 
-places_below : (n : ℕ) (xs : List Noted) → AllByRecursion (λ x. x.place < n) xs → AllByRecursion (λ e. e.0 < 0 + n) (map at_place xs)
+places_below : (n : ℕ) (xs : List PlacedEntry) → AllByRecursion (λ x. x.place < n) xs → AllByRecursion (λ e. e.0 < 0 + n) (map at_place xs)
 places_below n [] all = tt
 places_below n (x ∷ xs) all = (omega (arith, all.0), places_below n xs all.1)
 
-places_behind : (n : ℕ) (xs : List Noted) → AllByRecursion (λ x. n ≤ x.place) xs → AllByRecursion (λ e. 0 + n ≤ e.0) (map at_place xs)
+places_behind : (n : ℕ) (xs : List PlacedEntry) → AllByRecursion (λ x. n ≤ x.place) xs → AllByRecursion (λ e. 0 + n ≤ e.0) (map at_place xs)
 places_behind n [] all = tt
 places_behind n (x ∷ xs) all = (omega (arith, all.0), places_behind n xs all.1)
 
-pub inside_below : (low high : ℕ) (xs : List Noted) → AllByRecursion (λ x. (low ≤ x.place) × (x.place < high)) xs → AllByRecursion (λ x. x.place < high) xs
+pub inside_below : (low high : ℕ) (xs : List PlacedEntry) → AllByRecursion (λ x. (low ≤ x.place) × (x.place < high)) xs → AllByRecursion (λ x. x.place < high) xs
 inside_below low high [] all = tt
 inside_below low high (x ∷ xs) all = (all.0.1, inside_below low high xs all.1)
 
-pub inside_behind : (low high : ℕ) (xs : List Noted) → AllByRecursion (λ x. (low ≤ x.place) × (x.place < high)) xs → AllByRecursion (λ x. low ≤ x.place) xs
+pub inside_behind : (low high : ℕ) (xs : List PlacedEntry) → AllByRecursion (λ x. (low ≤ x.place) × (x.place < high)) xs → AllByRecursion (λ x. low ≤ x.place) xs
 inside_behind low high [] all = tt
 inside_behind low high (x ∷ xs) all = (all.0.0, inside_behind low high xs all.1)
 
@@ -62,7 +62,7 @@ inside_behind low high (x ∷ xs) all = (all.0.0, inside_behind low high xs all.
 
 -- What is known of every call at the end of the run: what it did; its receipts stand in the order, in its span; the record's other lists have what it
 -- did; its reading is within its bounds, and its lane's numbers never fall.
-pub record IsKept (w : Course) (moves : Spans) (c : Label) (t : Trace) (notes : List Noted) (call : Call) (answer : Answer) (before after : Seen) : Type 0 where
+pub record IsKept (w : Witness) (moves : Spans) (c : Label) (t : Trace) (notes : List PlacedEntry) (call : Call) (answer : Answer) (before after : Seen) : Type 0 where
   pub trace : w.traces c ≡ t
   pub laid : IsLaid w.script (labels w) moves
   pub is : IsLabel w.script c
@@ -80,7 +80,7 @@ pub record IsKept (w : Course) (moves : Spans) (c : Label) (t : Trace) (notes : 
   pub move_steps : (before.moves ≤ moves.first c) × (moves.last c ≤ after.moves)
   pub object_steps : (i : ℕ) → NeverFall (before.objects i) (object_steps_on i call answer t.actions) (after.objects i)
 
-module _ {w : Course} {moves : Spans} {c : Label} {t : Trace} {notes : List Noted} {call : Call} {answer : Answer} {before after : Seen}
+module _ {w : Witness} {moves : Spans} {c : Label} {t : Trace} {notes : List PlacedEntry} {call : Call} {answer : Answer} {before after : Seen}
     (kept : IsKept w moves c t notes call answer before after) where
   -- a number in the call's span, before which these of its receipts stand, and behind which the others, is a moment of it
   pub moment_of : (early : List Action) (n : ℕ) → moves.first c ≤ n → n ≤ t.last → Stops c notes early n → IsMoment w c early n
@@ -104,7 +104,7 @@ module _ {w : Course} {moves : Spans} {c : Label} {t : Trace} {notes : List Note
   -- answer is right.
   pub call_made : moves.first c ≤ t.first → t.first ≤ t.last → AllByRecursion (λ x. t.first ≤ x.place) notes → Does w.script t.at call answer t.fired t.actions
       → AreTrue w c t.first t.first [] t.actions t.last → AllByRecursion (λ f. IsClaimSpan w f f.body) t.fired
-      → IsSeen w t.first t.last c t.at t.actions call answer → FitsCall w c call answer before after
+      → AnswerHolds w t.first t.last c t.at t.actions call answer → FitsCall w c call answer before after
   call_made low high behind does truth claims seen =
       let to : (P : Trace → Type 0) → P t → P (w.traces c) = λ P. subst P (sym kept.trace) in record {
         traced = to (λ x. HasTraced w c x.actions) (record {
@@ -120,7 +120,7 @@ module _ {w : Course} {moves : Spans} {c : Label} {t : Trace} {notes : List Note
         ends = to (λ x. IsMoment w c x.actions x.last) (moment_of t.actions t.last kept.forward (omega arith) made_at_end);
         truth = to (λ x. AreTrue w c x.first x.first [] x.actions x.last) truth;
         expiries = to (λ x. AllByRecursion (λ f. IsClaimSpan w f f.body) x.fired) claims;
-        seen = to (λ x. IsSeen w x.first x.last c x.at x.actions call answer) seen;
+        seen = to (λ x. AnswerHolds w x.first x.last c x.at x.actions call answer) seen;
         clock_steps = to (λ x. NeverFall before.clock (x.at ∷ map (λ y. y.0) (wrote x.actions)) after.clock) kept.clock_steps;
         move_steps = to (λ x. (before.moves ≤ x.first) × (x.last ≤ after.moves))
             (omega (arith, kept.move_steps.0, low), omega (arith, kept.last, kept.move_steps.1));
@@ -130,6 +130,6 @@ module _ {w : Course} {moves : Spans} {c : Label} {t : Trace} {notes : List Note
   -- the same, where it begins with what its pass had seen
   pub call_made_whole : t.first ≡ moves.first c → Does w.script t.at call answer t.fired t.actions
       → AreTrue w c t.first t.first [] t.actions t.last → AllByRecursion (λ f. IsClaimSpan w f f.body) t.fired
-      → IsSeen w t.first t.last c t.at t.actions call answer → FitsCall w c call answer before after
+      → AnswerHolds w t.first t.last c t.at t.actions call answer → FitsCall w c call answer before after
   call_made_whole starts = call_made (omega (arith, starts)) (omega (arith, starts, kept.forward))
       (subst (λ n. AllByRecursion (λ x. n ≤ x.place) notes) (sym starts) (inside_behind (moves.first c) t.last notes kept.inside))

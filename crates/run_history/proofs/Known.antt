@@ -15,7 +15,7 @@ use Rattle.record_text.specs.declared.record.RunRecord.{RunRecord}
 use Rattle.run_history.specs.Actions.{Action}
 use Rattle.run_history.specs.Histories.{entry_shown}
 use Rattle.script_text.proofs.Lists.{All-append, All-weaker}
-use Rattle.run_history.specs.Receipts.{as_own, count, IsMade, Noted, receipt, Rises, ShowsEntry}
+use Rattle.run_history.specs.Receipts.{as_own, count, IsMade, PlacedEntry, receipt, Rises, ShowsEntry}
 use Rattle.run_history.specs.Traces.{all_entered}
 use Rattle.run_history.proofs.Kept.{Stops}
 use Rattle.run_history.proofs.Laid.{counts_more}
@@ -24,13 +24,13 @@ use Rattle.run_history.proofs.Shown.{entry_place}
 use Rattle.run_history.proofs.Weave.{with_own}
 
 -- entries that a pass made between two lengths of what it has seen
-pub record AreMade (order : List TimerEntry) (low high : ℕ) (notes : List Noted) : Type 0 where
+pub record AreMade (order : List TimerEntry) (low high : ℕ) (notes : List PlacedEntry) : Type 0 where
   pub rise : Rises low (map (λ x. x.place) notes)
   pub below : AllByRecursion (λ x. x.place < high) notes
   pub made : AllByRecursion (IsMade order) notes
 
 -- they are these entries of the order
-abbrev pub AreEntries : List TimerEntry → List Noted → List histories.Entry → Type 0
+abbrev pub AreEntries : List TimerEntry → List PlacedEntry → List histories.Entry → Type 0
 AreEntries order [] [] = Unit
 AreEntries order (x ∷ xs) (e ∷ es) = ((step : TimerEntry) × (slice_get order x.place ≡ Some step) × (as_own step ≡ e)) × AreEntries order xs es
 AreEntries order [] (e ∷ es) = ⊥
@@ -62,7 +62,7 @@ count_next t (suc p) x (y ∷ xs) at is =
 -- the entries of a timer from a number on stand at rising places, behind a length at which there were no more
 made_from : (t k low : ℕ) (xs : List TimerEntry) (es : List histories.Entry) (shown : List Entry) → length shown ≡ length es
     → ((j : ℕ) (e : histories.Entry) → slice_get es j ≡ Some e → slice_get (entries_of t xs) (k + j) ≡ Some e) → count t (take low xs) ≤ k
-    → (notes : List Noted) × AreMade xs low (length xs) notes × (map receipt notes ≡ numbered t k shown) × AreEntries xs notes es
+    → (notes : List PlacedEntry) × AreMade xs low (length xs) notes × (map receipt notes ≡ numbered t k shown) × AreEntries xs notes es
 made_from t k low xs [] [] same at few = ([], record { rise = tt; below = tt; made = tt }, refl, tt)
 made_from t k low xs [] (x ∷ shown) same at few = absurd (omega (arith, same))
 made_from t k low xs (e ∷ es) [] same at few = absurd (omega (arith, same))
@@ -76,7 +76,7 @@ made_from t k low xs (e ∷ es) (x ∷ shown) same at few =
     let rest = made_from t (k + 1) (p + 1) xs es shown (omega (arith, same))
     (λ j z is. subst (λ n. slice_get (entries_of t xs) n ≡ Some z) (shift k j) (at (suc j) z is))
     (subst (λ n. count t (take n xs) ≤ k + 1) (add_one p) (omega (arith, next, f.number))) in
-    let note : Noted = record { place = p; timer = t; number = k + 1; entry = x } in (
+    let note : PlacedEntry = record { place = p; timer = t; number = k + 1; entry = x } in (
       note ∷ rest.0,
       record {
         rise = (later, rest.1.rise);
@@ -110,7 +110,7 @@ at_right (x ∷ xs) ys j y at = subst (λ n. slice_get (x ∷ xs ++ ys) n ≡ So
 -- the numbers behind those that the timer had then
 pub adds_made : (before more : List TimerEntry) (t : ℕ) (es : List histories.Entry) (shown : List Entry)
     → entries_of t (before ++ more) ≡ entries_of t before ++ es → length shown ≡ length es
-    → (notes : List Noted) × AreMade (before ++ more) (length before) (length (before ++ more)) notes
+    → (notes : List PlacedEntry) × AreMade (before ++ more) (length before) (length (before ++ more)) notes
     × (map receipt notes ≡ numbered t (count t before) shown) × AreEntries (before ++ more) notes es
 adds_made before more t es shown adds same =
     made_from t (count t before) (length before) (before ++ more) es shown same
@@ -119,7 +119,7 @@ adds_made before more t es shown adds same =
 
 -- ---- the order goes on
 
-made_on : (xs ys : List TimerEntry) (notes : List Noted) → AllByRecursion (IsMade xs) notes → AllByRecursion (IsMade (xs ++ ys)) notes
+made_on : (xs ys : List TimerEntry) (notes : List PlacedEntry) → AllByRecursion (IsMade xs) notes → AllByRecursion (IsMade (xs ++ ys)) notes
 made_on xs ys [] made = tt
 made_on xs ys (x ∷ notes) made =
     let inside = slice_get_within xs x.place made.0.step made.0.there in (
@@ -132,7 +132,7 @@ made_on xs ys (x ∷ notes) made =
       made_on xs ys notes made.1,
     )
 
-pub made_goes_on : (order seen later : List TimerEntry) (low high : ℕ) (notes : List Noted) → order ≡ seen ++ later → AreMade seen low high notes
+pub made_goes_on : (order seen later : List TimerEntry) (low high : ℕ) (notes : List PlacedEntry) → order ≡ seen ++ later → AreMade seen low high notes
     → AreMade order low high notes
 made_goes_on order seen later low high notes is made = record {
   rise = made.rise;
@@ -141,7 +141,7 @@ made_goes_on order seen later low high notes is made = record {
 }
 
 -- so each receipt shows its entry, in a record whose clock has the readings
-pub shows_made : (r : RunRecord) (order seen later : List TimerEntry) (t k : ℕ) (notes : List Noted) (es : List histories.Entry) (shown : List Entry)
+pub shows_made : (r : RunRecord) (order seen later : List TimerEntry) (t k : ℕ) (notes : List PlacedEntry) (es : List histories.Entry) (shown : List Entry)
     → order ≡ seen ++ later → AreEntries seen notes es → map receipt notes ≡ numbered t k shown → es ≡ map (entry_shown r.clock) shown
     → AllByRecursion (ShowsEntry r order) notes
 shows_made r order seen later t k [] es shown is those are shows = tt
@@ -167,16 +167,16 @@ pub rises_lower : (j k : ℕ) (xs : List ℕ) → j ≤ k → Rises k xs → Ris
 rises_lower j k [] le rises = tt
 rises_lower j k (x ∷ xs) le rises = (omega (arith, le, rises.0), rises.1)
 
-rises_both : (low mid : ℕ) (xs ys : List Noted) → Rises low (map (λ x. x.place) xs) → AllByRecursion (λ x. x.place < mid) xs → low ≤ mid
+rises_both : (low mid : ℕ) (xs ys : List PlacedEntry) → Rises low (map (λ x. x.place) xs) → AllByRecursion (λ x. x.place < mid) xs → low ≤ mid
     → Rises mid (map (λ x. x.place) ys) → Rises low (map (λ x. x.place) (xs ++ ys))
 rises_both low mid [] [] one below le two = tt
 rises_both low mid [] (y ∷ ys) one below le two = (omega (arith, le, two.0), two.1)
 rises_both low mid (x ∷ xs) ys one below le two = (one.0, rises_both (x.place + 1) mid xs ys one.1 below.1 (omega (arith, below.0)) two)
 
-pub below_all : (mid high : ℕ) (xs : List Noted) → mid ≤ high → AllByRecursion (λ x. x.place < mid) xs → AllByRecursion (λ x. x.place < high) xs
+pub below_all : (mid high : ℕ) (xs : List PlacedEntry) → mid ≤ high → AllByRecursion (λ x. x.place < mid) xs → AllByRecursion (λ x. x.place < high) xs
 below_all mid high xs le below = All-weaker (λ x. x.place < mid) (λ x. x.place < high) (λ x less. omega (arith, le, less)) xs below
 
-pub made-append : (order : List TimerEntry) (low mid high : ℕ) (xs ys : List Noted) → AreMade order low mid xs → AreMade order mid high ys → low ≤ mid
+pub made-append : (order : List TimerEntry) (low mid high : ℕ) (xs ys : List PlacedEntry) → AreMade order low mid xs → AreMade order mid high ys → low ≤ mid
     → mid ≤ high → AreMade order low high (xs ++ ys)
 made-append order low mid high xs ys one two le more = record {
   rise = rises_both low mid xs ys one.rise one.below le two.rise;
@@ -184,11 +184,11 @@ made-append order low mid high xs ys one two le more = record {
   made = All-append (IsMade order) xs ys one.made two.made;
 }
 
-pub behind_all : (n k : ℕ) (xs : List Noted) → n ≤ k → Rises k (map (λ x. x.place) xs) → AllByRecursion (λ x. n ≤ x.place) xs
+pub behind_all : (n k : ℕ) (xs : List PlacedEntry) → n ≤ k → Rises k (map (λ x. x.place) xs) → AllByRecursion (λ x. n ≤ x.place) xs
 behind_all n k [] le rise = tt
 behind_all n k (x ∷ xs) le rise = (omega (arith, le, rise.0), behind_all n (x.place + 1) xs (omega (arith, le, rise.0)) rise.1)
 
-pub made_wider : (order : List TimerEntry) (low low' high' high : ℕ) (notes : List Noted) → low ≤ low' → high' ≤ high → AreMade order low' high' notes
+pub made_wider : (order : List TimerEntry) (low low' high' high : ℕ) (notes : List PlacedEntry) → low ≤ low' → high' ≤ high → AreMade order low' high' notes
     → AreMade order low high notes
 made_wider order low low' high' high notes under over made = record {
   rise = rises_lower low low' (map (λ x. x.place) notes) under made.rise;
@@ -201,7 +201,7 @@ pub none_made : (order : List TimerEntry) (low high : ℕ) → AreMade order low
 none_made order low high = record { rise = tt; below = tt; made = tt }
 
 -- law: between two calls of a pass, what it had seen is a stop of all that it made
-pub stops_between : (c : Label) (order : List TimerEntry) (low n high : ℕ) (early late : List Noted) (before : List Action) → AreMade order low n early
+pub stops_between : (c : Label) (order : List TimerEntry) (low n high : ℕ) (early late : List PlacedEntry) (before : List Action) → AreMade order low n early
     → AreMade order n high late → map receipt early ≡ all_entered before → Stops c (early ++ late) before n
 stops_between c order low n high early late before one two are = record {
   early = early;

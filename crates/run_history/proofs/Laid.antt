@@ -13,8 +13,8 @@ use Rattle.record_text.specs.declared.record.RunRecord.{RunRecord}
 use Rattle.record_text.specs.declared.record.TimerLine.{TimerLine}
 use Rattle.run_history.specs.Histories.{lines_of_timer}
 use Rattle.run_history.specs.Order.{is_label}
-use Rattle.run_history.specs.Courses.{Move}
-use Rattle.run_history.specs.Receipts.{AreAll, at_place, count, IsMade, move_of, no_line, Noted, receipt, Rises, shape, weave}
+use Rattle.run_history.specs.Witnesses.{Move}
+use Rattle.run_history.specs.Receipts.{AreAll, at_place, count, IsMade, move_of, no_line, PlacedEntry, receipt, Rises, shape, weave}
 use Rattle.run_history.proofs.Items.{Among, own_items, RiseIn, StandsIn}
 use Rattle.run_history.proofs.Labels.{label_itself, same_label}
 use Rattle.run_history.proofs.Lists.{all_at}
@@ -63,7 +63,7 @@ same_place xs p q t x y at_p at_q is_x is_y same =
 -- ---- receipts and lines
 
 -- the line at an entry's number is the call's, with this entry
-pub record IsLine (r : RunRecord) (c : Label) (x : Noted) : Type 0 where
+pub record IsLine (r : RunRecord) (c : Label) (x : PlacedEntry) : Type 0 where
   pub before : ℕ
   pub number : before + 1 ≡ x.number
   pub line : TimerLine
@@ -72,16 +72,16 @@ pub record IsLine (r : RunRecord) (c : Label) (x : Noted) : Type 0 where
   pub entry : line.entry ≡ x.entry
 
 -- a line of a timer is one of the receipts of the call that it is labelled with
-pub record IsNoted (notes : Label → List Noted) (t before : ℕ) (line : TimerLine) : Type 0 where
+pub record IsNoted (notes : Label → List PlacedEntry) (t before : ℕ) (line : TimerLine) : Type 0 where
   pub index : ℕ
-  pub note : Noted
+  pub note : PlacedEntry
   pub there : slice_get (notes line.label) index ≡ Some note
   pub timer : note.timer ≡ t
   pub number : note.number ≡ before + 1
 
 -- the receipts of all calls: of each call they stand at rising places of the order; the record's lines are just they; and each timer has
 -- as many lines as entries
-pub record AreReceipts (r : RunRecord) (order : List TimerEntry) (notes : Label → List Noted) : Type 0 where
+pub record AreReceipts (r : RunRecord) (order : List TimerEntry) (notes : Label → List PlacedEntry) : Type 0 where
   pub rise : (c : Label) → Rises 0 (map (λ x. x.place) (notes c))
   pub made : (c : Label) → AllByRecursion (IsMade order) (notes c)
   pub lines : (c : Label) → AllByRecursion (IsLine r c) (notes c)
@@ -91,24 +91,24 @@ pub record AreReceipts (r : RunRecord) (order : List TimerEntry) (notes : Label 
 less_one : (a b n : ℕ) → a + 1 ≡ n → b + 1 ≡ n → a ≡ b
 less_one a b n e f = omega (arith, e, f)
 
-rise_places : (k : ℕ) (xs : List Noted) → Rises k (map (λ x. x.place) xs) → RiseIn k (map at_place xs)
+rise_places : (k : ℕ) (xs : List PlacedEntry) → Rises k (map (λ x. x.place) xs) → RiseIn k (map at_place xs)
 rise_places k [] rise = tt
 rise_places k (x ∷ xs) rise = (rise.0, rise_places (x.place + 1) xs rise.1)
 
-among_at : (xs : List Noted) (i : ℕ) (x : Noted) → slice_get xs i ≡ Some x → Among (at_place x) (map at_place xs)
+among_at : (xs : List PlacedEntry) (i : ℕ) (x : PlacedEntry) → slice_get xs i ≡ Some x → Among (at_place x) (map at_place xs)
 among_at [] i x at = absurd (cc)
 among_at (y ∷ xs) zero x at = inl (ap at_place (sym (same_Some y x at)))
 among_at (y ∷ xs) (suc i) x at = inr (among_at xs i x at)
 
-pub at_among : (e : ℕ × (ℕ × (ℕ × Entry))) (xs : List Noted) → Among e (map at_place xs) → (i : ℕ) × (x : Noted) × (slice_get xs i ≡ Some x) × (e ≡ at_place x)
+pub at_among : (e : ℕ × (ℕ × (ℕ × Entry))) (xs : List PlacedEntry) → Among e (map at_place xs) → (i : ℕ) × (x : PlacedEntry) × (slice_get xs i ≡ Some x) × (e ≡ at_place x)
 at_among e [] here = absurd here
 at_among e (x ∷ xs) here = ⊎_elim (λ is. (0, x, refl, is)) (λ more. let r = at_among e xs more in (suc r.0, r.1, r.2, r.3)) here
 
 -- a receipt's move stands at its place, under the call's label
-abbrev Stands : RunRecord → List TimerEntry → Label → Noted → Type 0
+abbrev Stands : RunRecord → List TimerEntry → Label → PlacedEntry → Type 0
 Stands r order c x = StandsIn Move (ℕ × (ℕ × Entry)) (λ m. m.line.label) shape c 0 (weave r [] order) (at_place x)
 
-stands_at : (r : RunRecord) (order : List TimerEntry) (c : Label) (x : Noted) → IsMade order x → IsLine r c x → Stands r order c x
+stands_at : (r : RunRecord) (order : List TimerEntry) (c : Label) (x : PlacedEntry) → IsMade order x → IsLine r c x → Stands r order c x
 stands_at r order c x here line =
     let move = move_of r (take x.place order) here.step in
     let count_is : count here.step.timer (take x.place order) ≡ line.before =
@@ -132,8 +132,8 @@ stands_at r order c x here line =
     from_none : (n : ℕ) → n ≡ 0 + n
     from_none n = omega arith
 
-module _ (r : RunRecord) (order : List TimerEntry) (notes : Label → List Noted) (all : AreReceipts r order notes) (c : Label) where
-  each_stands : (i : ℕ) (x : Noted) → slice_get (notes c) i ≡ Some x → Stands r order c x
+module _ (r : RunRecord) (order : List TimerEntry) (notes : Label → List PlacedEntry) (all : AreReceipts r order notes) (c : Label) where
+  each_stands : (i : ℕ) (x : PlacedEntry) → slice_get (notes c) i ≡ Some x → Stands r order c x
   each_stands i x at = stands_at r order c x (all_at (IsMade order) (notes c) i x (all.made c) at) (all_at (IsLine r c) (notes c) i x (all.lines c) at)
 
   -- each entry under the call's label is one of its receipts
@@ -163,7 +163,7 @@ module _ (r : RunRecord) (order : List TimerEntry) (notes : Label → List Noted
       within : (n l k : ℕ) {m : ℕ} → l ≡ k → n + 1 ≤ m → m ≡ k → n < l
       within n l k e le f = omega (arith, e, le, f)
 
-      shown : (x : Noted) (m : Move) (p : ℕ) → Stands r order c x → x.place ≡ p → slice_get (weave r [] order) p ≡ Some m → at_place x ≡ (0 + p, shape m)
+      shown : (x : PlacedEntry) (m : Move) (p : ℕ) → Stands r order c x → x.place ≡ p → slice_get (weave r [] order) p ≡ Some m → at_place x ≡ (0 + p, shape m)
       shown x m p stands same there =
           let before : stands.before ≡ p = grounded x.place stands.before p (ap (λ (e : ℕ × (ℕ × (ℕ × Entry))). e.0) stands.is) same in
           stands.is ∙ ap (λ n. (0 + n, shape stands.line)) before

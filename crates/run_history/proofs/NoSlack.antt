@@ -50,7 +50,7 @@ use Rattle.script_text.specs.declared.script.Round.{Round}
 use Rattle.script_text.specs.declared.script.Script.{Script}
 use Rattle.script_text.specs.declared.script.StartRequest.{StartRequest}
 use Rattle.run_history.specs.Calls.{Does, IsBody, IsExpiryRun, fires}
-use Rattle.run_history.specs.Courses.{Fired}
+use Rattle.run_history.specs.Witnesses.{Fired}
 use Rattle.run_history.specs.EachTimer.{FitsTimers, HasTimers}
 use Rattle.run_history.specs.Fits.{Fits}
 use Rattle.run_history.proofs.EachTimer.{fits_for_each_timer}

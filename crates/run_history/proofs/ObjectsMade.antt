@@ -38,20 +38,17 @@ use Rattle.script_text.specs.declared.script.Call.TheVariants as calls
 use Rattle.script_text.specs.declared.script.Call.{Call}
 use Rattle.script_text.specs.declared.script.Kind.TheVariants as kinds
 use Rattle.run_history.specs.Calls.{Does}
-use Rattle.run_history.specs.Courses.{Course, entries_in, timer_along}
+use Rattle.run_history.specs.Witnesses.{Witness, entries_in, timer_along}
 use Rattle.run_history.specs.Fits.{FitsCall, Seen}
-use Rattle.run_history.specs.Receipts.{Noted}
+use Rattle.run_history.specs.Receipts.{PlacedEntry}
 use Rattle.run_history.specs.Rounds.{Spans}
 use Rattle.run_history.specs.Traces.{all_entered}
-use Rattle.run_history.specs.Truths.{AreTrue, DisarmedFirst, HasSpan, IsEmptySpan, IsMoment, IsSeen, IsSpan, IsSpanBy, IsTrue, IsTrueEntry, IsTrueStart, OfClaim, SawRefusal}
+use Rattle.run_history.specs.Truths.{AreTrue, DisarmedFirst, HasSpan, IsEmptySpan, IsMoment, AnswerHolds, IsSpan, IsSpanBy, IsTrue, IsTrueEntry, IsTrueStart, OfClaim, SawRefusal}
 use Rattle.run_history.proofs.Actions.{all_entered-append}
 use Rattle.run_history.proofs.Kept.{call_made, inside_behind, inside_below, IsKept, made_all, moment_of}
 use Rattle.run_history.proofs.OthersMade.{plain}
 use Rattle.run_history.proofs.PassState.{state_seen, timer_seen}
 
--- ---- what its pass had seen when it ended its part of the timer
-
-module _ (w : Course) (seen later : List TimerEntry) (is : entries_in w ≡ seen ++ later) (i : ℕ) where
 -- ---- entries of its timer, and then the object's
 
 -- an entry of a timer that isn't a claim tells nothing that must be looked up
@@ -63,7 +60,7 @@ no_claim : (event : EventBy ℕ) (P : Type 0) → OfClaim event ⊥ → OfClaim 
 no_claim (events.Claim base reading) P plain = absurd plain
 no_claim event P plain = tt
 
-plain_then : (w : Course) (c : Label) (first from n last : ℕ) (before ds : List Action) (d : Action) → AllByRecursion IsPlain ds → from ≤ n → n ≤ last
+plain_then : (w : Witness) (c : Label) (first from n last : ℕ) (before ds : List Action) (d : Action) → AllByRecursion IsPlain ds → from ≤ n → n ≤ last
     → IsTrue w c first (before ++ ds) d n → AreTrue w c first from before (ds ++ d ∷ []) last
 plain_then w c first from n last before [] d plain le high is = (n, le, subst (λ b. IsTrue w c first b d n) (append-nil before) is, high)
 plain_then w c first from n last before (Entered timer number entry ∷ ds) d plain le high is = (
@@ -103,12 +100,12 @@ but_made ds i number entry = all_entered-append ds (Made i number entry ∷ []) 
 -- ---- a settime
 
 -- how a settime found its timer disarmed: it cancelled it, or it was idle when the call looked at it, holding the object
-abbrev pub FoundIdle : Course → ℕ → Option (ℕ × ℕ) → ℕ → Type 0
+abbrev pub FoundIdle : Witness → ℕ → Option (ℕ × ℕ) → ℕ → Type 0
 FoundIdle w timer None begin = Holds (timer_along w begin timer) observations.Idle
 FoundIdle w timer (Some cancel) begin = Unit
 
 -- what a settime of a reading that makes an entry knows at its end, between its first moment and its last
-pub record IsSet (w : Course) (c : Label) (notes : List Noted) (at begin last timer flags : ℕ) (value interval : TimeSpec) (cancel : Option (ℕ × ℕ))
+pub record IsSet (w : Witness) (c : Label) (notes : List PlacedEntry) (at begin last timer flags : ℕ) (value interval : TimeSpec) (cancel : Option (ℕ × ℕ))
     (arm : Armed) (start : List Action) (number : ℕ) : Type 0 where
   pub taken : AreValidFor (kind_of w.script timer) flags value interval
   pub arms : Arms timer (start_mode (kind_of w.script timer) flags) (nanoseconds_of value) at (base_of (kind_of w.script timer)) arm start
@@ -130,7 +127,7 @@ settime_entry at flags value interval reply arm = object_entries.Settime flags (
 abbrev pub settime_actions : ℕ → Option (ℕ × ℕ) → List Action → ℕ → ObjectEntry → List Action
 settime_actions timer cancel start number entry = cancels timer cancel ++ start ++ Made timer number entry ∷ []
 
-disarmed : (w : Course) (timer ns at base begin : ℕ) (mode : Mode) (cancel : Option (ℕ × ℕ)) (arm : Armed) (start : List Action) (number : ℕ)
+disarmed : (w : Witness) (timer ns at base begin : ℕ) (mode : Mode) (cancel : Option (ℕ × ℕ)) (arm : Armed) (start : List Action) (number : ℕ)
     (entry : ObjectEntry) → Arms timer mode ns at base arm start → FoundIdle w timer cancel begin
     → DisarmedFirst w timer (settime_actions timer cancel start number entry) begin
 disarmed w timer ns at base begin mode (Some cancel) arm start number entry arms idle = tt
@@ -147,13 +144,13 @@ disarmed w timer ns at base begin mode None (armings.Generation generation) star
     go (Some out) = idle
 
 -- where its start was refused, the timer's history was full at the call's last moment
-abbrev pub RefusedBy : Course → ℕ → SettimeReply → ℕ → Type 0
+abbrev pub RefusedBy : Witness → ℕ → SettimeReply → ℕ → Type 0
 RefusedBy w timer (settings.Old left old) last = Unit
 RefusedBy w timer settings.Canceled last = Unit
 RefusedBy w timer (settings.Unarmed stamp) last = SawRefusal w timer stamp last
 
-module _ (reply : SettimeReply) {w : Course} {moves : Spans} {c : Label} {at begin last timer flags : ℕ} {value interval : TimeSpec}
-    {cancel : Option (ℕ × ℕ)} {arm : Armed} {start : List Action} {number : ℕ} {notes : List Noted} {before after : Seen}
+module _ (reply : SettimeReply) {w : Witness} {moves : Spans} {c : Label} {at begin last timer flags : ℕ} {value interval : TimeSpec}
+    {cancel : Option (ℕ × ℕ)} {arm : Armed} {start : List Action} {number : ℕ} {notes : List PlacedEntry} {before after : Seen}
     (kept : IsKept w moves c (plain at begin last (settime_actions timer cancel start number (settime_entry at flags value interval reply arm))) notes
     (calls.Settime timer flags value interval) (answer_of_settime reply) before after)
     (low : moves.first c ≤ begin) (set : IsSet w c notes at begin last timer flags value interval cancel arm start number)
@@ -181,7 +178,7 @@ module _ (reply : SettimeReply) {w : Course} {moves : Spans} {c : Label} {at beg
       does (settings.Unarmed stamp) ds makes = makes
 
       seen : (reply : SettimeReply) (ds : List Action) → RefusedBy w timer reply last → DisarmedFirst w timer ds begin
-          → IsSeen w begin last c at ds (calls.Settime timer flags value interval) (answer_of_settime reply)
+          → AnswerHolds w begin last c at ds (calls.Settime timer flags value interval) (answer_of_settime reply)
       seen (settings.Old left old) ds refused first = first
       seen settings.Canceled ds refused first = first
       seen (settings.Unarmed stamp) ds refused first = (first, refused)
@@ -190,7 +187,7 @@ module _ (reply : SettimeReply) {w : Course} {moves : Spans} {c : Label} {at beg
 
 -- What such a call of a reading knows at its end, between its first moment and its last. There are three cases: it wanted no start, its start was made, or
 -- its start was refused.
-pub record IsRearmed (w : Course) (c : Label) (notes : List Noted) (at begin last timer : ℕ) (arm : Armed) (start : List Action) (number : ℕ) : Type 0 where
+pub record IsRearmed (w : Witness) (c : Label) (notes : List PlacedEntry) (at begin last timer : ℕ) (arm : Armed) (start : List Action) (number : ℕ) : Type 0 where
   pub ns : ℕ
   pub timely : ns ≤ last_time
   pub arms : Arms timer modes.Keep ns at (base_of (kind_of w.script timer)) arm start
@@ -205,7 +202,7 @@ pub record IsRearmed (w : Course) (c : Label) (notes : List Noted) (at begin las
 abbrev pub rearming_actions : ℕ → List Action → ℕ → ObjectEntry → List Action
 rearming_actions timer start number entry = start ++ Made timer number entry ∷ []
 
-module _ {w : Course} {moves : Spans} {c : Label} {at begin last timer : ℕ} {arm : Armed} {start : List Action} {number : ℕ} {notes : List Noted} {call : Call}
+module _ {w : Witness} {moves : Spans} {c : Label} {at begin last timer : ℕ} {arm : Armed} {start : List Action} {number : ℕ} {notes : List PlacedEntry} {call : Call}
     {answer : Answer} {before after : Seen} (entry : Armed → ObjectEntry)
     (kept : IsKept w moves c (plain at begin last (rearming_actions timer start number (entry arm))) notes call answer before after)
     (low : moves.first c ≤ begin) (rearmed : IsRearmed w c notes at begin last timer arm start number) where
@@ -213,7 +210,7 @@ module _ {w : Course} {moves : Spans} {c : Label} {at begin last timer : ℕ} {a
       → (IsSpanBy w begin timer number arm rearmed.ends → HasSpan w begin timer number (entry arm) rearmed.ends)
       → (MakesRearming (kind_of w.script timer) timer at entry (rearming_actions timer start number (entry arm))
       → Does w.script at call answer [] (rearming_actions timer start number (entry arm)))
-      → IsSeen w begin last c at (rearming_actions timer start number (entry arm)) call answer → FitsCall w c call answer before after
+      → AnswerHolds w begin last c at (rearming_actions timer start number (entry arm)) call answer → FitsCall w c call answer before after
   rearming_made holds span does seen =
       let stops = made_all kept rearmed.ends start (but_made start timer number (entry arm)) (inside_below begin rearmed.ends notes rearmed.part) in
       call_made kept low (omega (arith, rearmed.between, rearmed.high)) (inside_behind begin rearmed.ends notes rearmed.part)
@@ -223,7 +220,7 @@ module _ {w : Course} {moves : Spans} {c : Label} {at begin last timer : ℕ} {a
       (moment_of kept start rearmed.ends (omega (arith, low, rearmed.between)) rearmed.high stops, holds rearmed.holds, span rearmed.span))
       tt seen
 
-module _ {w : Course} {moves : Spans} {c : Label} {at begin last timer : ℕ} {arm : Armed} {start : List Action} {number : ℕ} {notes : List Noted}
+module _ {w : Witness} {moves : Spans} {c : Label} {at begin last timer : ℕ} {arm : Armed} {start : List Action} {number : ℕ} {notes : List PlacedEntry}
     {before after : Seen} where
   -- law: an acceptance that makes an entry fits
   pub accept_made : (reply : AcceptReply)

@@ -13,11 +13,11 @@ use Rattle.script_text.specs.declared.script.StartRequest.{StartRequest}
 use Rattle.script_text.specs.declared.script.Call.TheVariants as calls
 use Rattle.script_text.specs.declared.script.Call.{Call}
 use Rattle.run_history.specs.Calls.{Does}
-use Rattle.run_history.specs.Courses.{Course, Trace}
+use Rattle.run_history.specs.Witnesses.{Witness, Trace}
 use Rattle.run_history.specs.Fits.{FitsCall, Seen}
-use Rattle.run_history.specs.Receipts.{Noted, receipt}
+use Rattle.run_history.specs.Receipts.{PlacedEntry, receipt}
 use Rattle.run_history.specs.Rounds.{Spans}
-use Rattle.run_history.specs.Truths.{AreTrue, IsSeen}
+use Rattle.run_history.specs.Truths.{AreTrue, AnswerHolds}
 use Rattle.run_history.proofs.Kept.{call_made, call_made_whole, IsKept}
 
 -- what a call did that ran no callbacks
@@ -25,18 +25,18 @@ abbrev pub plain : ℕ → ℕ → ℕ → List Action → Trace
 plain at first last actions = record { at = at; fired = []; actions = actions; first = first; last = last }
 
 -- a call that makes no entry, of a timer, an object or the clock: what it was told held at one moment
-pub quiet_made : {w : Course} {moves : Spans} {c : Label} {at last : ℕ} {notes : List Noted} {call : Call} {answer : Answer} {before after : Seen}
+pub quiet_made : {w : Witness} {moves : Spans} {c : Label} {at last : ℕ} {notes : List PlacedEntry} {call : Call} {answer : Answer} {before after : Seen}
     → IsKept w moves c (plain at last last []) notes call answer before after
-    → Does w.script at call answer [] [] → IsSeen w last last c at [] call answer → FitsCall w c call answer before after
+    → Does w.script at call answer [] [] → AnswerHolds w last last c at [] call answer → FitsCall w c call answer before after
 quiet_made {last = last} {notes = notes} kept does seen =
     call_made kept kept.forward (omega arith) (none_of notes kept.entered) does (omega arith) tt seen
   where
-    none_of : (xs : List Noted) → map receipt xs ≡ [] → AllByRecursion (λ x. last ≤ x.place) xs
+    none_of : (xs : List PlacedEntry) → map receipt xs ≡ [] → AllByRecursion (λ x. last ≤ x.place) xs
     none_of [] none = tt
     none_of (x ∷ xs) none = absurd (cc)
 
 -- a cancel that cancelled
-pub cancelled_made : {w : Course} {moves : Spans} {c : Label} {at first last : ℕ} {notes : List Noted} {before after : Seen} (timer number generation : ℕ)
+pub cancelled_made : {w : Witness} {moves : Spans} {c : Label} {at first last : ℕ} {notes : List PlacedEntry} {before after : Seen} (timer number generation : ℕ)
     → IsKept w moves c (plain at first last (Entered timer number (record { event = events.Cancel; reply = replies.Cancel generation }) ∷ [])) notes
     (calls.Cancel timer) (answers.Cancelled generation) before after
     → first ≡ moves.first c → FitsCall w c (calls.Cancel timer) (answers.Cancelled generation) before after
@@ -44,14 +44,14 @@ cancelled_made {first = first} timer number generation kept starts =
     call_made_whole kept starts (number, refl) (first, omega arith, tt, omega (arith, starts, kept.forward)) tt tt
 
 -- a write of the clock that it took
-pub wrote_made : {w : Course} {moves : Spans} {c : Label} {at first last : ℕ} {notes : List Noted} {before after : Seen} (stamp : ℕ) (write : Write)
+pub wrote_made : {w : Witness} {moves : Spans} {c : Label} {at first last : ℕ} {notes : List PlacedEntry} {before after : Seen} (stamp : ℕ) (write : Write)
     → IsKept w moves c (plain at first last (Wrote stamp write ∷ [])) notes (calls.Clock write) (answers.Clock stamp) before after
     → first ≡ moves.first c → FitsCall w c (calls.Clock write) (answers.Clock stamp) before after
 wrote_made {first = first} stamp write kept starts =
     call_made_whole kept starts refl (first, omega arith, tt, omega (arith, starts, kept.forward)) tt tt
 
 -- a start's entries tell nothing that must be looked up
-pub start_true : (w : Course) (c : Label) (first from to timer reading : ℕ) (request : StartRequest) (before : List Action) (a : Arming) → from ≤ to
+pub start_true : (w : Witness) (c : Label) (first from to timer reading : ℕ) (request : StartRequest) (before : List Action) (a : Arming) → from ≤ to
     → AreTrue w c first from before (arming_actions timer request reading a) to
 start_true w c first from to timer reading request before a order = go a.out
   where
@@ -60,7 +60,7 @@ start_true w c first from to timer reading request before a order = go a.out
     go (Some out) = (from, omega arith, tt, (from, omega arith, tt, order))
 
 -- a start that was made
-pub started_made : {w : Course} {moves : Spans} {c : Label} {at first last : ℕ} {notes : List Noted} {before after : Seen} (timer : ℕ) (request : StartRequest)
+pub started_made : {w : Witness} {moves : Spans} {c : Label} {at first last : ℕ} {notes : List PlacedEntry} {before after : Seen} (timer : ℕ) (request : StartRequest)
     (a : Arming)
     → IsKept w moves c (plain at first last (arming_actions timer request at a)) notes (calls.Start timer request)
     (answers.Started a.number a.placement.base (was_armed_before a.out a.was_armed)) before after

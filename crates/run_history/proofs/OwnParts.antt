@@ -14,7 +14,7 @@ use Rattle.run_history.specs.Histories.{entry_shown, history_from}
 use Rattle.run_history.specs.Order.{is_label, made_by}
 use Rattle.seq_timer.specs.Histories as histories
 use Rattle.seq_timer.specs.Systems.{entries_of}
-use Rattle.run_history.specs.Courses.{entry_of_move, Move, moves_from, moves_on}
+use Rattle.run_history.specs.Witnesses.{entry_of_move, Move, moves_from, moves_on}
 use Rattle.run_history.specs.Traces.{all_entered, own_moves}
 
 -- ---- the moves of one timer

@@ -27,7 +27,7 @@ use Rattle.run_history.specs.Actions.{Action, also, entered, own}
 use Rattle.run_history.specs.Histories.{history_from, history_of, lines_of_timer, reading_at, timer_after, timer_labels}
 use Rattle.script_text.specs.Declarations.{declared_as, declared_of, terms_of, declareds_of}
 use Rattle.run_history.specs.Order.{is_before, IsInOrder, made_by}
-use Rattle.run_history.specs.Courses.{Course, entries_in, entry_of_move, IsOneHistory, labels, Move, moves_on, timer_along}
+use Rattle.run_history.specs.Witnesses.{Witness, entries_in, entry_of_move, IsOneHistory, labels, Move, moves_on, timer_along}
 use Rattle.run_history.specs.EachTimer.{IsOwnPoint, WasSo}
 use Rattle.run_history.specs.Traces.{all_entered, own_moves}
 use Rattle.run_history.specs.Truths.{IsMoment, Saw}
@@ -43,7 +43,7 @@ split_at (y ∷ xs) zero x at = let same : y ≡ x = cc in ap (λ z. z ∷ xs) s
 split_at (y ∷ xs) (suc p) x at = ap (λ zs. y ∷ zs) (split_at xs p x at)
 
 -- how many entries a timer has among the first so many of all
-abbrev pub seen : Course → ℕ → ℕ → ℕ
+abbrev pub seen : Witness → ℕ → ℕ → ℕ
 seen w n t = length (moves_on t (take n w.moves))
 
 -- ---- a timer's part of a history of all is one of its own
@@ -84,7 +84,7 @@ nothing_taken o zero [] is = refl
 nothing_taken o (suc n) [] is = refl
 nothing_taken o n (e ∷ es) is = absurd (cc)
 
-module _ (w : Course) (one : IsOneHistory w) (timers : length w.run.timers ≡ length w.script.timers) where
+module _ (w : Witness) (one : IsOneHistory w) (timers : length w.run.timers ≡ length w.script.timers) where
   -- each entry in turn, by the timers alone
   in_turn : IsInTurn w.script.bases (declareds_of w.script) (terms_of w.script) (entries_in w)
   in_turn = λ before later x is. may_follow w.script.bases (terms_of w.script) (declareds_of w.script) before later x

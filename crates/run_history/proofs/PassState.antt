@@ -8,14 +8,14 @@ use Rattle.seq_timer.specs.declared.observation.Observation.{Observation}
 use Rattle.seq_timer.specs.declared.system.TimerEntry.{TimerEntry}
 use Rattle.script_text.specs.Declarations.{declareds_of, terms_of}
 use Rattle.script_text.specs.declared.script.Script.{Script}
-use Rattle.run_history.specs.Courses.{Course, entries_in, system_along, timer_along}
+use Rattle.run_history.specs.Witnesses.{Witness, entries_in, system_along, timer_along}
 use Rattle.run_history.specs.Truths.{Saw}
 
 -- a timer after what a pass has seen of all timers
 abbrev pub state_seen : Script → List TimerEntry → ℕ → Timer
 state_seen s seen t = (system_of (declareds_of s) (terms_of s) seen).timers t
 
-module _ (w : Course) (seen later : List TimerEntry) (is : entries_in w ≡ seen ++ later) where
+module _ (w : Witness) (seen later : List TimerEntry) (is : entries_in w ≡ seen ++ later) where
   -- all timers and bases after what was seen are those after so many entries of the order
   pub system_seen : system_along w (length seen) ≡ system_of (declareds_of w.script) (terms_of w.script) seen
   system_seen = ap (λ xs. system_of (declareds_of w.script) (terms_of w.script) xs) (ap (take (length seen)) is ∙ take-append_seam seen later)

@@ -8,7 +8,7 @@ use Rattle.run_history.specs.Histories.{clock_labels}
 use Rattle.run_history.specs.Objects.{lines_of_object, object_labels}
 use Rattle.run_history.specs.Order.{is_label, IsLabel, IsPoint, made_by}
 use Rattle.script_text.specs.declared.script.Script.{Script}
-use Rattle.run_history.specs.Courses.{Course}
+use Rattle.run_history.specs.Witnesses.{Witness}
 use Rattle.run_history.specs.Rounds.{IsLaid, Spans}
 use Rattle.run_history.specs.Truths.{IsObjectPoint}
 use Rattle.run_history.proofs.Actions.{made-append}
@@ -88,7 +88,7 @@ more n [] all = tt
 more n (e ∷ es) all = (omega (arith, all.0), more n es all.1)
 
 -- a call's reading, which it took before it wrote
-pub reading_from : (w : Course) (c : Label) (p : Spans) (actions : List Action) (n : ℕ) → IsLaid w.script (clock_labels w.run) p → IsLabel w.script c
+pub reading_from : (w : Witness) (c : Label) (p : Spans) (actions : List Action) (n : ℕ) → IsLaid w.script (clock_labels w.run) p → IsLabel w.script c
     → p.first c ≤ n → n ≤ p.last c → own (λ line. line.label) (λ line. line.write) c 1 w.run.clock ≡ wrote actions
     → AllByRecursion (λ e. n < e.0) (wrote actions) → IsPoint w.script c 0 n (clock_labels w.run)
 reading_from w c p actions n laid is low high own_are behind =
@@ -96,7 +96,7 @@ reading_from w c p actions n laid is low high own_are behind =
     (more n (wrote actions) behind)
 
 -- how many of an object's entries a call had seen when it had done these things, and not yet those
-pub object_point : (w : Course) (c : Label) (i : ℕ) (p : Spans) (before rest : List Action) (n : ℕ) → IsLaid w.script (object_labels w.run i) p
+pub object_point : (w : Witness) (c : Label) (i : ℕ) (p : Spans) (before rest : List Action) (n : ℕ) → IsLaid w.script (object_labels w.run i) p
     → IsLabel w.script c → p.first c ≤ n → n ≤ p.last c
     → own (λ line. line.label) (λ line. line.entry) c 1 (lines_of_object w.run i) ≡ made i (before ++ rest)
     → AllByRecursion (λ e. e.0 ≤ n) (made i before) → AllByRecursion (λ e. n < e.0) (made i rest) → IsObjectPoint w c before i n

@@ -13,12 +13,12 @@ use Rattle.run_history.specs.Histories.{reading_at}
 use Rattle.run_history.specs.Order.{CallInRound, calls_of, IsLabel}
 use Rattle.script_text.specs.declared.script.Call.{Call}
 use Rattle.script_text.specs.declared.script.Script.{Script}
-use Rattle.run_history.specs.Courses.{Course, entries_in}
+use Rattle.run_history.specs.Witnesses.{Witness, entries_in}
 use Rattle.run_history.specs.Fits.{FitsCall, FitsLane, Seen, unseen}
 use Rattle.run_history.specs.Promises.{GoesOn, GoesOnClock, HasLog, HasLogs, IsRightLog, IsPromised, IsPromisedSoFar, IsSoFar}
 use Rattle.run_history.specs.Receipts.{AreAll}
 use Rattle.run_history.specs.Rounds.{label_at}
-use Rattle.run_history.specs.Runs.{CallLog, clock_spans, course_of, Ending, IsJoined, moves_spans, object_spans}
+use Rattle.run_history.specs.Runs.{CallLog, clock_spans, witness_of, Ending, IsJoined, moves_spans, object_spans}
 use Rattle.run_history.specs.Truths.{IsObjectPoint}
 use Rattle.run_history.proofs.Kept.{IsKept}
 use Rattle.run_history.proofs.Points.{object_point, reading_from}
@@ -28,7 +28,7 @@ use Rattle.run_history.proofs.Points.{object_point, reading_from}
 module _ {s : Script} {e : Ending} {c : Label} {log : CallLog} (joined : IsJoined s e) (is : IsLabel s c) (has : HasLog e c log) where
   -- law: then the call is as the lemmas of calls ask
   pub kept_from : {call : Call} {answer : Answer} {before after : Seen} → IsRightLog log call answer before after
-      → IsKept (course_of s e) (moves_spans e) c log.trace log.notes call answer before after
+      → IsKept (witness_of s e) (moves_spans e) c log.trace log.notes call answer before after
   kept_from {before = before} {after = after} logged =
       let of : (P : CallLog → Type 0) → P log → P (e.logs c) = λ P. subst P (sym has.kept) in record {
         trace = ap (λ (l : CallLog). l.trace) has.kept;
@@ -36,14 +36,14 @@ module _ {s : Script} {e : Ending} {c : Label} {log : CallLog} (joined : IsJoine
         is = is;
         forward = of (λ l. l.moves.0 ≤ log.trace.last) logged.forward;
         last = of (λ l. log.trace.last ≤ l.moves.1) logged.last;
-        all = subst (λ (l : CallLog). AreAll c (course_of s e).moves l.notes) has.kept (joined.all c);
+        all = subst (λ (l : CallLog). AreAll c (witness_of s e).moves l.notes) has.kept (joined.all c);
         inside = of (λ l. AllByRecursion (λ x. (l.moves.0 ≤ x.place) × (x.place < log.trace.last)) log.notes) logged.inside;
         entered = logged.entered;
         clock = has.clock;
         looks = has.looks;
         objects = has.objects;
         skips = has.skips;
-        reading = reading_from (course_of s e) c (clock_spans e) log.trace.actions log.trace.at joined.clock_laid is
+        reading = reading_from (witness_of s e) c (clock_spans e) log.trace.actions log.trace.at joined.clock_laid is
             (of (λ l. l.clock.0 ≤ log.trace.at) logged.reading.0) (of (λ l. log.trace.at ≤ l.clock.1) logged.reading.1) has.clock logged.writes;
         clock_steps = logged.clock_steps;
         move_steps = (of (λ l. before.moves ≤ l.moves.0) logged.move_steps.0, of (λ l. l.moves.1 ≤ after.moves) logged.move_steps.1);
@@ -52,16 +52,16 @@ module _ {s : Script} {e : Ending} {c : Label} {log : CallLog} (joined : IsJoine
 
   -- law: a number of an object's entries that the call had seen when it had done these things, and not yet those
   pub object_point_from : (i n : ℕ) (before rest : List Action) → log.trace.actions ≡ before ++ rest → (log.objects i).0 ≤ n → n ≤ (log.objects i).1
-      → AllByRecursion (λ x. x.0 ≤ n) (made i before) → AllByRecursion (λ x. n < x.0) (made i rest) → IsObjectPoint (course_of s e) c before i n
+      → AllByRecursion (λ x. x.0 ≤ n) (made i before) → AllByRecursion (λ x. n < x.0) (made i rest) → IsObjectPoint (witness_of s e) c before i n
   object_point_from i n before rest parts low high below behind =
-      object_point (course_of s e) c i (object_spans e i) before rest n (joined.objects_laid i) is
+      object_point (witness_of s e) c i (object_spans e i) before rest n (joined.objects_laid i) is
       (subst (λ (l : CallLog). (l.objects i).0 ≤ n) (sym has.kept) low) (subst (λ (l : CallLog). n ≤ (l.objects i).1) (sym has.kept) high)
       (has.objects i ∙ ap (made i) parts) below behind
 
 -- ---- what its passes had seen
 
 -- the entries along the record's lines begin with what a pass of the timers' table had seen
-pub seen_first : {s : Script} {e : Ending} (seen : List TimerEntry) → IsJoined s e → (on : GoesOn seen e) → entries_in (course_of s e) ≡ seen ++ on.0
+pub seen_first : {s : Script} {e : Ending} (seen : List TimerEntry) → IsJoined s e → (on : GoesOn seen e) → entries_in (witness_of s e) ≡ seen ++ on.0
 seen_first seen joined on = joined.entries ∙ on.1
 
 -- a reading that a stamp names is the one after so many of the writes that a pass of the clock's table had seen
@@ -72,7 +72,7 @@ reading_seen e writes n on le =
 
 -- ---- a lane's calls in turn
 
-so_far_push : (w : Course) (lane index : ℕ) (now after : Seen) (all rest : List CallInRound) (p : CallInRound) (given : List Answer) (answer : Answer)
+so_far_push : (w : Witness) (lane index : ℕ) (now after : Seen) (all rest : List CallInRound) (p : CallInRound) (given : List Answer) (answer : Answer)
     → IsSoFar w lane index now all (p ∷ rest) given → FitsCall w (label_at lane index) p.call answer now after
     → IsSoFar w lane (index + 1) after all rest (given ++ answer ∷ [])
 so_far_push w lane index now after all rest p given answer so_far fits more left =
@@ -100,7 +100,7 @@ pub promised_push : (s : Script) (lane index : ℕ) (logs : List CallLog) (log :
     → IsPromisedSoFar s lane index logs Before now (p ∷ rest) given → IsPromised s lane index log After p.call answer now after
     → IsPromisedSoFar s lane (index + 1) (logs ++ log ∷ []) After after rest (given ++ answer ∷ [])
 promised_push s lane index logs log Before After now after p rest given answer counted no_less so_far promise e follows has joined =
-    so_far_push (course_of s e) lane index now after (calls_of s lane) rest p given answer
+    so_far_push (witness_of s e) lane index now after (calls_of s lane) rest p given answer
     (so_far e (no_less e follows) (early_logs e lane 0 logs (log ∷ []) has) joined)
     (promise e follows (subst (λ n. HasLog e (label_at lane n) log) (at_last counted) (last_log e lane 0 logs log has)) joined)
   where
@@ -110,6 +110,6 @@ promised_push s lane index logs log Before After now after p rest given answer c
 -- law: at the end of the lane, its part of Fits
 pub promised_all : (s : Script) (lane index : ℕ) (logs : List CallLog) (Follows : Ending → Type 0) (now : Seen) (given : List Answer)
     → IsPromisedSoFar s lane index logs Follows now [] given → (e : Ending) → Follows e → HasLogs e lane 0 logs → IsJoined s e
-    → FitsLane (course_of s e) lane 0 unseen (calls_of s lane) given
+    → FitsLane (witness_of s e) lane 0 unseen (calls_of s lane) given
 promised_all s lane index logs Follows now given so_far e follows has joined =
-    subst (FitsLane (course_of s e) lane 0 unseen (calls_of s lane)) (append-nil given) (so_far e follows has joined [] tt)
+    subst (FitsLane (witness_of s e) lane 0 unseen (calls_of s lane)) (append-nil given) (so_far e follows has joined [] tt)

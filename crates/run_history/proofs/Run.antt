@@ -9,10 +9,10 @@ use Rattle.run_history.specs.Histories.{clock_labels, history_of}
 use Rattle.run_history.specs.Objects.{object_labels}
 use Rattle.run_history.specs.Order.{is_label, IsLabel}
 use Rattle.script_text.specs.declared.script.Script.{Script}
-use Rattle.run_history.specs.Courses.{labels, Move}
+use Rattle.run_history.specs.Witnesses.{labels, Move}
 use Rattle.run_history.specs.Fits.{Fits, FitsIn}
 use Rattle.run_history.specs.Receipts.{AreAll, shape, weave}
-use Rattle.run_history.specs.Runs.{clock_spans, course_of, Ending, IsEnding, IsJoined, IsRun, moves_spans, notes_in, object_spans}
+use Rattle.run_history.specs.Runs.{clock_spans, witness_of, Ending, IsEnding, IsJoined, IsRun, moves_spans, notes_in, object_spans}
 use Rattle.run_history.proofs.Filed.{receipts_from}
 use Rattle.run_history.proofs.Labels.{label_itself}
 use Rattle.run_history.proofs.Laid.{are_all, AreReceipts, at_among, is_among}
@@ -25,7 +25,7 @@ module _ (s : Script) (e : Ending) (ends : IsEnding s e) where
   receipts : AreReceipts e.run e.order (notes_in e)
   receipts = receipts_from e.run e.order (notes_in e) ends.sorted ends.filed
 
-  each_is_all : (c : Label) → AreAll c (course_of s e).moves (notes_in e c)
+  each_is_all : (c : Label) → AreAll c (witness_of s e).moves (notes_in e c)
   each_is_all c = are_all e.run e.order (notes_in e) receipts c
 
   -- each timer's lines show its part of the order
@@ -56,14 +56,14 @@ module _ (s : Script) (e : Ending) (ends : IsEnding s e) where
     objects_laid = ends.objects_laid;
   }
 
-  fits_in : FitsIn (course_of s e)
+  fits_in : FitsIn (witness_of s e)
   fits_in = record {
     timers = ends.timers;
     objects = ends.objects;
     version = ends.version;
     lanes = ends.lanes;
     clock_calls = labels_from s (clock_labels e.run) (clock_spans e) ends.clock_laid;
-    timer_calls = labels_from s (labels (course_of s e)) (moves_spans e) joined_from.moves_laid;
+    timer_calls = labels_from s (labels (witness_of s e)) (moves_spans e) joined_from.moves_laid;
     looks = ends.looks;
     object_calls = λ i. labels_from s (object_labels e.run i) (object_spans e i) (ends.objects_laid i);
     skips = ends.skips;
@@ -71,7 +71,7 @@ module _ (s : Script) (e : Ending) (ends : IsEnding s e) where
     history = joined_from.one;
     object_histories = ends.object_histories;
     clock_order = in_order s (clock_labels e.run) (clock_spans e) ends.clock_laid;
-    order = in_order s (labels (course_of s e)) (moves_spans e) joined_from.moves_laid;
+    order = in_order s (labels (witness_of s e)) (moves_spans e) joined_from.moves_laid;
     object_order = λ i. in_order s (object_labels e.run i) (object_spans e i) (ends.objects_laid i);
     object_spans = ends.spans;
     calls = λ lane. ends.calls lane joined_from;
@@ -79,4 +79,4 @@ module _ (s : Script) (e : Ending) (ends : IsEnding s e) where
 
 -- law: then the record fits the script
 pub run_fits : (s : Script) (r : RunRecord) → IsRun s r → Fits s r
-run_fits s r run = (course_of s run.0, refl, run.1, fits_in s run.0 run.2)
+run_fits s r run = (witness_of s run.0, refl, run.1, fits_in s run.0 run.2)

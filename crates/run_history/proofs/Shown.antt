@@ -11,7 +11,7 @@ use Rattle.record_text.specs.declared.record.Label.{Label}
 use Rattle.record_text.specs.declared.record.RunRecord.{RunRecord}
 use Rattle.record_text.specs.declared.record.TimerLine.{TimerLine}
 use Rattle.run_history.specs.Histories.{entry_shown, history_of, lines_of_timer}
-use Rattle.run_history.specs.Receipts.{as_own, count, IsMade, no_line, Noted, ShowsEntry}
+use Rattle.run_history.specs.Receipts.{as_own, count, IsMade, no_line, PlacedEntry, ShowsEntry}
 use Rattle.run_history.proofs.Laid.{AreReceipts, IsLine, same_place}
 use Rattle.run_history.proofs.Lists.{all_at, at_map}
 use Rattle.run_history.proofs.Weave.{length_history, with_own}
@@ -50,7 +50,7 @@ entry_place t k e (y ∷ xs) at =
     here (suc k) at is further =
         let r = further k at in later (suc k) r (ap (λ b. length (with_own b y (entries_of t (take r.place xs)))) is ∙ ap suc r.number)
 
-module _ (r : RunRecord) (order : List TimerEntry) (notes : Label → List Noted) (all : AreReceipts r order notes)
+module _ (r : RunRecord) (order : List TimerEntry) (notes : Label → List PlacedEntry) (all : AreReceipts r order notes)
     (entries : (c : Label) → AllByRecursion (ShowsEntry r order) (notes c)) where
   -- the line of a timer's entry shows it
   shows_at : (t k : ℕ) (e : histories.Entry) → slice_get (entries_of t order) k ≡ Some e → slice_get (history_of r t) k ≡ Some e

@@ -16,9 +16,9 @@ use Rattle.run_history.specs.Actions.{also}
 use Rattle.run_history.specs.Histories.{entry_shown, history_from, history_of, lines_of_timer}
 use Rattle.script_text.specs.Declarations.{terms_of, declareds_of}
 use Rattle.script_text.specs.declared.script.Script.{Script}
-use Rattle.run_history.specs.Courses.{entries_in, entry_of_move, IsOneHistory, Move, moves_from, moves_on}
+use Rattle.run_history.specs.Witnesses.{entries_in, entry_of_move, IsOneHistory, Move, moves_from, moves_on}
 use Rattle.run_history.specs.Receipts.{as_own, count, move_of, no_line, weave}
-use Rattle.run_history.specs.Runs.{course_of, Ending}
+use Rattle.run_history.specs.Runs.{witness_of, Ending}
 use Rattle.run_history.proofs.Lists.{at_seam}
 
 -- the entries of one timer, where the first is one of it or not
@@ -88,10 +88,10 @@ length_weave r done (x ∷ xs) = ap suc (length_weave r (done ++ x ∷ []) xs)
 
 -- so a record whose lists each show their part of a history of all timers is one history in that order
 module _ (s : Script) (e : Ending) (shows : (t : ℕ) → history_of e.run t ≡ entries_of t e.order) where
-  pub woven : entries_in (course_of s e) ≡ e.order
+  pub woven : entries_in (witness_of s e) ≡ e.order
   woven = weave_shows e.run e.order [] e.order refl shows
 
-  pub one_history_from : IsSystemHistory s.bases (declareds_of s) (terms_of s) e.order → IsOneHistory (course_of s e)
+  pub one_history_from : IsSystemHistory s.bases (declareds_of s) (terms_of s) e.order → IsOneHistory (witness_of s e)
   one_history_from history = record {
     all = λ t. weave_on e.run t [] e.order
         (sym (from_none (count t e.order)) ∙ ap length (sym (shows t)) ∙ length_history e.run.clock (lines_of_timer e.run t));

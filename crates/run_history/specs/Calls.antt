@@ -21,7 +21,7 @@ use Rattle.script_text.specs.Declarations.{declared_of, without_slack, kind_of}
 use Rattle.run_history.specs.Starts.{Arming, IsJustBefore, arming_actions, was_armed_before}
 use Rattle.run_history.specs.ObjectCalls.{DoesSettime, DoesGettime, DoesAccept, DoesRead}
 use Rattle.run_history.specs.Actions.{Action, Wrote, Entered, Looked, Made, Skipped}
-use Rattle.run_history.specs.Courses.{Fired}
+use Rattle.run_history.specs.Witnesses.{Fired}
 
 -- all that an expiry run did for one callback
 abbrev pub fires : ℕ → ℕ → Fired → List Action

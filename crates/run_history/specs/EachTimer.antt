@@ -24,7 +24,7 @@ use Rattle.run_history.specs.Histories.{answers_of, clock_labels, history_of, li
 use Rattle.script_text.specs.Declarations.{declared_of, terms_of}
 use Rattle.run_history.specs.Order.{CallInRound, calls_of, IsInOrder, IsLabel, IsPoint}
 use Rattle.run_history.specs.Calls.{Does}
-use Rattle.run_history.specs.Courses.{Fired}
+use Rattle.run_history.specs.Witnesses.{Fired}
 
 -- a number of a timer's entries is one that the call, having done so much, may have seen
 abbrev pub IsOwnPoint : Script → RunRecord → Label → List Action → ℕ → ℕ → Type 0

@@ -15,10 +15,10 @@ use Rattle.run_history.specs.Objects.{IsLegalObject, object_labels, lines_of_obj
 use Rattle.script_text.specs.Declarations.{kind_of}
 use Rattle.run_history.specs.Actions.{wrote}
 use Rattle.run_history.specs.Told.{object_steps_on}
-use Rattle.run_history.specs.Courses.{Course, IsOneHistory, labels}
+use Rattle.run_history.specs.Witnesses.{Witness, IsOneHistory, labels}
 use Rattle.run_history.specs.Traces.{HasTraced}
 use Rattle.run_history.specs.Calls.{Does}
-use Rattle.run_history.specs.Truths.{AreTrue, IsClaimSpan, IsMoment, IsSeen}
+use Rattle.run_history.specs.Truths.{AreTrue, IsClaimSpan, IsMoment, AnswerHolds}
 
 -- how many of the clock's writes, of all timers' entries, and of each object's entries, a lane has seen
 pub record Seen : Type 0 where
@@ -32,7 +32,7 @@ unseen = record { clock = 0; moves = 0; objects = λ i. 0 }
 
 -- One call with its answer: what it did is what the record shows, and makes the answer right; it saw no less than its lane had seen before, and
 -- no more than its lane has seen after it.
-pub record FitsCall (w : Course) (c : Label) (call : Call) (answer : Answer) (before after : Seen) : Type 0 where
+pub record FitsCall (w : Witness) (c : Label) (call : Call) (answer : Answer) (before after : Seen) : Type 0 where
   pub traced : HasTraced w c (w.traces c).actions
   pub does : Does w.script (w.traces c).at call answer (w.traces c).fired (w.traces c).actions
   pub reading : IsPoint w.script c 0 (w.traces c).at (clock_labels w.run)
@@ -41,13 +41,13 @@ pub record FitsCall (w : Course) (c : Label) (call : Call) (answer : Answer) (be
   pub ends : IsMoment w c (w.traces c).actions (w.traces c).last
   pub truth : AreTrue w c (w.traces c).first (w.traces c).first [] (w.traces c).actions (w.traces c).last
   pub expiries : AllByRecursion (λ f. IsClaimSpan w f f.body) (w.traces c).fired
-  pub seen : IsSeen w (w.traces c).first (w.traces c).last c (w.traces c).at (w.traces c).actions call answer
+  pub seen : AnswerHolds w (w.traces c).first (w.traces c).last c (w.traces c).at (w.traces c).actions call answer
   pub clock_steps : NeverFall before.clock ((w.traces c).at ∷ map (λ x. x.0) (wrote (w.traces c).actions)) after.clock
   pub move_steps : (before.moves ≤ (w.traces c).first) × ((w.traces c).last ≤ after.moves)
   pub object_steps : (i : ℕ) → NeverFall (before.objects i) (object_steps_on i call answer (w.traces c).actions) (after.objects i)
 
 -- the calls of a lane from one of them on, each with its answer
-abbrev pub FitsLane : Course → ℕ → ℕ → Seen → List CallInRound → List Answer → Type 0
+abbrev pub FitsLane : Witness → ℕ → ℕ → Seen → List CallInRound → List Answer → Type 0
 FitsLane w lane index before [] [] = Unit
 FitsLane w lane index before (p ∷ ps) (a ∷ more) =
     (after : Seen) × FitsCall w (record { lane = lane; call = index }) p.call a before after × FitsLane w lane (index + 1) after ps more
@@ -71,7 +71,7 @@ pub record AreSkipsUnder (s : Script) (labels : List Label) : Type 0 where
   pub in_order : LabelsNeverFall labels
 
 -- the record fits the script, in this order of all timers' entries
-pub record FitsIn (w : Course) : Type 0 where
+pub record FitsIn (w : Witness) : Type 0 where
   -- the record is of the script's version
   pub version : w.run.version ≡ w.script.version
   -- a history for each timer, one for the object of the same number, and the answers of each lane
@@ -98,4 +98,4 @@ pub record FitsIn (w : Course) : Type 0 where
 
 -- the record fits the script: there is an order of all timers' entries, with what each call did and the spans of objects' entries, in which it does
 abbrev pub Fits : Script → RunRecord → Type 0
-Fits s r = (w : Course) × (w.script ≡ s) × (w.run ≡ r) × FitsIn w
+Fits s r = (w : Witness) × (w.script ≡ s) × (w.run ≡ r) × FitsIn w

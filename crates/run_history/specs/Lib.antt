@@ -7,7 +7,7 @@ pub mod Actions
 pub mod Starts
 pub mod ObjectCalls
 pub mod Told
-pub mod Courses
+pub mod Witnesses
 pub mod Traces
 pub mod Calls
 pub mod Truths

@@ -13,11 +13,11 @@ use Rattle.run_history.specs.Objects.{lines_of_object}
 use Rattle.run_history.specs.Order.{CallInRound, calls_of, NeverFall}
 use Rattle.script_text.specs.declared.script.Call.{Call}
 use Rattle.script_text.specs.declared.script.Script.{Script}
-use Rattle.run_history.specs.Courses.{Course}
+use Rattle.run_history.specs.Witnesses.{Witness}
 use Rattle.run_history.specs.Fits.{FitsCall, FitsLane, Seen, unseen}
 use Rattle.run_history.specs.Receipts.{receipt}
 use Rattle.run_history.specs.Rounds.{label_at}
-use Rattle.run_history.specs.Runs.{CallLog, course_of, Ending, IsJoined}
+use Rattle.run_history.specs.Runs.{CallLog, witness_of, Ending, IsJoined}
 use Rattle.run_history.specs.Traces.{all_entered}
 
 -- What a lane kept of a call is right in itself: the call made its entries in its span, up to its last moment; the receipts are of them; its reading is
@@ -59,13 +59,13 @@ GoesOnClock writes e = (later : List Write) × (map (λ line. line.write) e.run.
 -- each table: that the run goes on from it.
 abbrev pub IsPromised : Script → ℕ → ℕ → CallLog → (Ending → Type 0) → Call → Answer → Seen → Seen → Type 0
 IsPromised s lane index log Follows call answer before after =
-    (e : Ending) → Follows e → HasLog e (label_at lane index) log → IsJoined s e → FitsCall (course_of s e) (label_at lane index) call answer before after
+    (e : Ending) → Follows e → HasLog e (label_at lane index) log → IsJoined s e → FitsCall (witness_of s e) (label_at lane index) call answer before after
 
 -- a fit of the calls that are left makes a fit of all
-abbrev pub IsSoFar : Course → ℕ → ℕ → Seen → List CallInRound → List CallInRound → List Answer → Type 0
+abbrev pub IsSoFar : Witness → ℕ → ℕ → Seen → List CallInRound → List CallInRound → List Answer → Type 0
 IsSoFar w lane index now all rest given = (more : List Answer) → FitsLane w lane index now rest more → FitsLane w lane 0 unseen all (given ++ more)
 
 -- the same of all calls so far, in every run that the lane can still end in, and that has what it kept of its calls
 abbrev pub IsPromisedSoFar : Script → ℕ → ℕ → List CallLog → (Ending → Type 0) → Seen → List CallInRound → List Answer → Type 0
 IsPromisedSoFar s lane index logs Follows now rest given =
-    (e : Ending) → Follows e → HasLogs e lane 0 logs → IsJoined s e → IsSoFar (course_of s e) lane index now (calls_of s lane) rest given
+    (e : Ending) → Follows e → HasLogs e lane 0 logs → IsJoined s e → IsSoFar (witness_of s e) lane index now (calls_of s lane) rest given

@@ -12,17 +12,17 @@ use Rattle.record_text.specs.declared.record.RunRecord.{RunRecord}
 use Rattle.record_text.specs.declared.record.TimerLine.{TimerLine}
 use Rattle.run_history.specs.Actions.{also, own}
 use Rattle.run_history.specs.Histories.{entry_shown, lines_of_timer}
-use Rattle.run_history.specs.Courses.{Move}
+use Rattle.run_history.specs.Witnesses.{Move}
 
 -- a receipt of an entry: how many entries of all timers stand before it, and the entry with its number among its timer's
-pub record Noted : Type 0 where
+pub record PlacedEntry : Type 0 where
   pub place : ℕ
   pub timer : ℕ
   pub number : ℕ
   pub entry : Entry
 
 -- what the receipt tells but for the place
-abbrev pub receipt : Noted → ℕ × (ℕ × Entry)
+abbrev pub receipt : PlacedEntry → ℕ × (ℕ × Entry)
 receipt x = (x.timer, (x.number, x.entry))
 
 -- an entry of all timers' order as one of its timer's own history
@@ -39,14 +39,14 @@ Rises k [] = Unit
 Rises k (x ∷ xs) = (k ≤ x) × Rises (x + 1) xs
 
 -- an entry stands in the order at the receipt's place, and has the receipt's number among its timer's
-pub record IsMade (order : List TimerEntry) (x : Noted) : Type 0 where
+pub record IsMade (order : List TimerEntry) (x : PlacedEntry) : Type 0 where
   pub step : TimerEntry
   pub there : slice_get order x.place ≡ Some step
   pub timer : step.timer ≡ x.timer
   pub number : count x.timer (take x.place order) + 1 ≡ x.number
 
 -- it is the entry that the receipt shows
-pub record ShowsEntry (r : RunRecord) (order : List TimerEntry) (x : Noted) : Type 0 where
+pub record ShowsEntry (r : RunRecord) (order : List TimerEntry) (x : PlacedEntry) : Type 0 where
   pub step : TimerEntry
   pub there : slice_get order x.place ≡ Some step
   pub entry : as_own step ≡ entry_shown r.clock x.entry
@@ -56,7 +56,7 @@ pub record ShowsEntry (r : RunRecord) (order : List TimerEntry) (x : Noted) : Ty
 -- a receipt under its call's label
 pub record Filed : Type 0 where
   pub label : Label
-  pub note : Noted
+  pub note : PlacedEntry
 
 -- in the order of timers, and of the numbers along a timer, behind a timer's number
 abbrev pub RiseBy : ℕ → ℕ → List Filed → Type 0
@@ -77,7 +77,7 @@ abbrev pub file_shape : Filed → Label × Entry
 file_shape f = (f.label, f.note.entry)
 
 -- the record's lines are the receipts of all calls, sorted; there are as many as entries in the order
-pub record AreFiled (r : RunRecord) (order : List TimerEntry) (notes : Label → List Noted) (sorted : List Filed) : Type 0 where
+pub record AreFiled (r : RunRecord) (order : List TimerEntry) (notes : Label → List PlacedEntry) (sorted : List Filed) : Type 0 where
   -- each call's receipts stand at rising places of the order
   pub rise : (c : Label) → Rises 0 (map (λ x. x.place) (notes c))
   pub made : (c : Label) → AllByRecursion (IsMade order) (notes c)
@@ -109,9 +109,9 @@ abbrev pub shape : Move → ℕ × (ℕ × Entry)
 shape m = (m.timer, (m.before + 1, m.line.entry))
 
 -- a receipt with its place
-abbrev pub at_place : Noted → ℕ × (ℕ × (ℕ × Entry))
+abbrev pub at_place : PlacedEntry → ℕ × (ℕ × (ℕ × Entry))
 at_place x = (x.place, receipt x)
 
 -- the receipts are all of the call's moves, at their places, in the order in which it made them
-abbrev pub AreAll : Label → List Move → List Noted → Type 0
+abbrev pub AreAll : Label → List Move → List PlacedEntry → Type 0
 AreAll c ms xs = own (λ m. m.line.label) shape c 0 ms ≡ map at_place xs

@@ -11,15 +11,15 @@ use Rattle.script_text.specs.Declarations.{terms_of, declareds_of, kind_of}
 use Rattle.run_history.specs.Objects.{IsLegalObject, lines_of_object, object_labels}
 use Rattle.run_history.specs.Order.{AreUnder, calls_of, IsLabel}
 use Rattle.script_text.specs.declared.script.Script.{Script}
-use Rattle.run_history.specs.Courses.{Course, entries_in, IsOneHistory, labels, Trace}
+use Rattle.run_history.specs.Witnesses.{Witness, entries_in, IsOneHistory, labels, Trace}
 use Rattle.run_history.specs.Fits.{AreBehind, AreSkipsUnder, FitsLane, unseen}
-use Rattle.run_history.specs.Receipts.{AreAll, AreFiled, Filed, Noted, ShowsEntry, weave}
+use Rattle.run_history.specs.Receipts.{AreAll, AreFiled, Filed, PlacedEntry, ShowsEntry, weave}
 use Rattle.run_history.specs.Rounds.{IsLaid, IsLedger, Spans}
 
 -- What a lane keeps of one call: its receipts with their places; what it did; and how many entries of all timers, writes of the clock and entries of
 -- each object its passes had seen when it began and when it ended.
 pub record CallLog : Type 0 where
-  pub notes : List Noted
+  pub notes : List PlacedEntry
   pub trace : Trace
   pub moves : ℕ × ℕ
   pub clock : ℕ × ℕ
@@ -41,7 +41,7 @@ pub record Ending : Type 0 where
   pub starts : RoundStarts
 
 -- the receipts of a call
-abbrev pub notes_in : Ending → Label → List Noted
+abbrev pub notes_in : Ending → Label → List PlacedEntry
 notes_in e c = (e.logs c).notes
 
 -- the spans of the calls on the list of all timers' entries, on that of the clock's writes, and on an object's
@@ -55,19 +55,19 @@ abbrev pub object_spans : Ending → ℕ → Spans
 object_spans e i = record { first = λ c. ((e.logs c).objects i).0; last = λ c. ((e.logs c).objects i).1; starts = e.starts.objects i }
 
 -- the record's lines along the order
-abbrev pub course_of : Script → Ending → Course
-course_of s e = record { script = s; run = e.run; moves = weave e.run [] e.order; traces = λ c. (e.logs c).trace; spans = e.spans }
+abbrev pub witness_of : Script → Ending → Witness
+witness_of s e = record { script = s; run = e.run; moves = weave e.run [] e.order; traces = λ c. (e.logs c).trace; spans = e.spans }
 
 -- what holds of the whole run, for each lane to use
 pub record IsJoined (s : Script) (e : Ending) : Type 0 where
   -- the entries along the record's lines are the order's, a history of all timers and bases
-  pub entries : entries_in (course_of s e) ≡ e.order
+  pub entries : entries_in (witness_of s e) ≡ e.order
   pub history : IsSystemHistory s.bases (declareds_of s) (terms_of s) e.order
-  pub one : IsOneHistory (course_of s e)
+  pub one : IsOneHistory (witness_of s e)
   -- each call's receipts are its moves
-  pub all : (c : Label) → AreAll c (course_of s e).moves (notes_in e c)
+  pub all : (c : Label) → AreAll c (witness_of s e).moves (notes_in e c)
   -- calls stand along each list by rounds
-  pub moves_laid : IsLaid s (labels (course_of s e)) (moves_spans e)
+  pub moves_laid : IsLaid s (labels (witness_of s e)) (moves_spans e)
   pub clock_laid : IsLaid s (clock_labels e.run) (clock_spans e)
   pub objects_laid : (i : ℕ) → IsLaid s (object_labels e.run i) (object_spans e i)
 
@@ -99,7 +99,7 @@ pub record IsEnding (s : Script) (e : Ending) : Type 0 where
   pub lanes : length e.run.answers ≡ s.lanes
   pub version : e.run.version ≡ s.version
   -- each lane's promise
-  pub calls : (lane : ℕ) → IsJoined s e → FitsLane (course_of s e) lane 0 unseen (calls_of s lane) (answers_of e.run lane)
+  pub calls : (lane : ℕ) → IsJoined s e → FitsLane (witness_of s e) lane 0 unseen (calls_of s lane) (answers_of e.run lane)
 
 -- a run of lanes may leave this record
 abbrev pub IsRun : Script → RunRecord → Type 0

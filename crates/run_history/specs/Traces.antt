@@ -3,7 +3,7 @@ use Rattle.std.specs.Prelude.{ℕ, ◌≡◌, ◌+◌, List, [], ◌∷◌}
 use Rattle.std.specs.List.Sorted.{IsPermutation}
 use Rattle.record_text.specs.declared.record.Entry.{Entry}
 use Rattle.record_text.specs.declared.record.Label.{Label}
-use Rattle.run_history.specs.Courses.{Course, Move}
+use Rattle.run_history.specs.Witnesses.{Witness, Move}
 use Rattle.run_history.specs.Actions.{Action, Entered, Looked, Made, Skipped, Wrote, also, looked, made, own, own_looks, own_skips, skipped, wrote}
 use Rattle.run_history.specs.Histories.{lines_of_timer}
 use Rattle.run_history.specs.Objects.{lines_of_object}
@@ -25,7 +25,7 @@ own_moves c (m ∷ ms) = also (is_label c m.line.label) (m.timer, (m.before + 1,
 
 -- the record has these things under the label, and no others; the timers' entries in this very order; the refused expiries of one call under one entry
 -- have no order among themselves
-pub record HasTraced (w : Course) (c : Label) (actions : List Action) : Type 0 where
+pub record HasTraced (w : Witness) (c : Label) (actions : List Action) : Type 0 where
   pub clock : own (λ line. line.label) (λ line. line.write) c 1 w.run.clock ≡ wrote actions
   pub timers : own_moves c w.moves ≡ all_entered actions
   pub looks : (t : ℕ) → own_looks c 1 (lines_of_timer w.run t) ≡ looked t actions

@@ -29,28 +29,28 @@ use Rattle.seq_timer.specs.Halves.{running_on}
 use Rattle.seq_timer.specs.Systems.{next_on}
 use Rattle.seq_timer.specs.Tables.{IsStopped, in_context, runs_on}
 use Rattle.run_history.specs.Traces.{all_entered}
-use Rattle.run_history.specs.Courses.{Course, labels, system_along, timer_along}
-use Rattle.run_history.specs.Courses.{Fired}
+use Rattle.run_history.specs.Witnesses.{Witness, labels, system_along, timer_along}
+use Rattle.run_history.specs.Witnesses.{Fired}
 
 -- a number of entries of all timers is one at which the call has done so much, and that it may have seen
-abbrev pub IsMoment : Course → Label → List Action → ℕ → Type 0
+abbrev pub IsMoment : Witness → Label → List Action → ℕ → Type 0
 IsMoment w c before n = IsPoint w.script c (length (all_entered before)) n (labels w)
 
 -- at this moment the timer had so many entries, and the observation of it held
-pub record Saw (w : Course) (timer number : ℕ) (observation : Observation) (n : ℕ) : Type 0 where
+pub record Saw (w : Witness) (timer number : ℕ) (observation : Observation) (n : ℕ) : Type 0 where
   pub stamp : (timer_along w n timer).stamp ≡ number
   pub holds : Holds (timer_along w n timer) observation
 
 -- a start was refused: the timer's history was full, and the timer was not on the move between bases
-abbrev pub SawRefusal : Course → ℕ → ℕ → ℕ → Type 0
+abbrev pub SawRefusal : Witness → ℕ → ℕ → ℕ → Type 0
 SawRefusal w timer stamp n = Saw w timer stamp observations.Spent n × ((timer_along w n timer).moving ≡ false)
 
 -- a number of entries of an object is one that the call, having done so much, may have seen
-abbrev pub IsObjectPoint : Course → Label → List Action → ℕ → ℕ → Type 0
+abbrev pub IsObjectPoint : Witness → Label → List Action → ℕ → ℕ → Type 0
 IsObjectPoint w c before i n = IsPoint w.script c (length (made i before)) n (object_labels w.run i)
 
 -- an object's history is full, after so many of its entries, which the call, having done so much, may have seen
-abbrev pub SawFull : Course → Label → List Action → ℕ → ℕ → Type 0
+abbrev pub SawFull : Witness → Label → List Action → ℕ → ℕ → Type 0
 SawFull w c before i stamp = IsObjectPoint w c before i stamp × (w.script.limit ≤ stamp)
 
 -- what is asked where an event is a claim
@@ -64,12 +64,12 @@ ButOfCancel events.Cancel P = Unit
 ButOfCancel event P = P
 
 -- a settime disarmed its timer first: it cancelled it, or it was idle at the call's first moment, before which the call had made no entry
-abbrev pub DisarmedFirst : Course → ℕ → List Action → ℕ → Type 0
+abbrev pub DisarmedFirst : Witness → ℕ → List Action → ℕ → Type 0
 DisarmedFirst w timer (Entered t number entry ∷ actions) first = ButOfCancel entry.event (Holds (timer_along w first timer) observations.Idle)
 DisarmedFirst w timer actions first = Holds (timer_along w first timer) observations.Idle
 
 -- what an entry of an object tells of its timer's start is true
-abbrev pub IsTrueStart : Course → ℕ → ℕ → Bool → Armed → ℕ → Type 0
+abbrev pub IsTrueStart : Witness → ℕ → ℕ → Bool → Armed → ℕ → Type 0
 IsTrueStart w i number on_clock armings.None n = Unit
 IsTrueStart w i number on_clock (armings.Generation generation) n =
     ((timer_along w n i).stamp ≡ generation)
@@ -77,7 +77,7 @@ IsTrueStart w i number on_clock (armings.Generation generation) n =
 IsTrueStart w i number on_clock armings.Unarmed n = SawRefusal w i (timer_along w n i).stamp n
 
 -- the same, of each entry of an object
-abbrev pub IsTrueEntry : Course → ℕ → ℕ → ObjectEntry → ℕ → Type 0
+abbrev pub IsTrueEntry : Witness → ℕ → ℕ → ObjectEntry → ℕ → Type 0
 IsTrueEntry w i number (object_entries.Settime flags value interval reading arm reply) n = IsTrueStart w i number true arm n
 IsTrueEntry w i number (object_entries.Trigger generation reading counted) n = Unit
 IsTrueEntry w i number (object_entries.Accept reading arm reply) n = IsTrueStart w i number false arm n
@@ -86,22 +86,22 @@ IsTrueEntry w i number (object_entries.Gettime reading arm left interval) n = Is
 
 -- An entry of an object has a span: how many entries the object's timer had where the call found it, and at a moment after the call's own entries
 -- of it. That of an expiry is said at IsClaimSpan.
-abbrev pub IsSpan : Course → ℕ → ℕ → ℕ → ℕ → Type 0
+abbrev pub IsSpan : Witness → ℕ → ℕ → ℕ → ℕ → Type 0
 IsSpan w first i number n = w.spans i number ≡ ((timer_along w first i).stamp, (timer_along w n i).stamp)
 
 -- The span of a call that started nothing is empty. The call had seen no entry of the timer behind it, unless the timer's function ran then.
-pub record IsEmptySpan (w : Course) (i number n : ℕ) : Type 0 where
+pub record IsEmptySpan (w : Witness) (i number n : ℕ) : Type 0 where
   pub empty : (w.spans i number).0 ≡ (w.spans i number).1
   pub seen : (timer_along w n i).running ≡ None → (timer_along w n i).stamp ≤ (w.spans i number).0
 
 -- the span of a call that starts the timer only where it has expired
-abbrev pub IsSpanBy : Course → ℕ → ℕ → ℕ → Armed → ℕ → Type 0
+abbrev pub IsSpanBy : Witness → ℕ → ℕ → ℕ → Armed → ℕ → Type 0
 IsSpanBy w first i number armings.None n = IsEmptySpan w i number n
 IsSpanBy w first i number (armings.Generation generation) n = IsSpan w first i number n
 IsSpanBy w first i number armings.Unarmed n = IsSpan w first i number n
 
 -- the same, of each entry of an object
-abbrev pub HasSpan : Course → ℕ → ℕ → ℕ → ObjectEntry → ℕ → Type 0
+abbrev pub HasSpan : Witness → ℕ → ℕ → ℕ → ObjectEntry → ℕ → Type 0
 HasSpan w first i number (object_entries.Settime flags value interval reading arm reply) n = IsSpan w first i number n
 HasSpan w first i number (object_entries.Trigger generation reading counted) n = Unit
 HasSpan w first i number (object_entries.Accept reading arm reply) n = IsSpanBy w first i number arm n
@@ -109,12 +109,12 @@ HasSpan w first i number (object_entries.Read reading arm reply) n = IsSpanBy w 
 HasSpan w first i number (object_entries.Gettime reading arm left interval) n = IsSpanBy w first i number arm n
 
 -- the span of an expiry that an object's entry tells: just the claim of its timer
-abbrev pub IsClaimSpan : Course → Fired → List Action → Type 0
+abbrev pub IsClaimSpan : Witness → Fired → List Action → Type 0
 IsClaimSpan w f (Made i number entry ∷ []) = (before : ℕ) × (before + 1 ≡ f.claim) × (w.spans i number ≡ (before, f.claim))
 IsClaimSpan w f body = Unit
 
 -- what a thing that a call did tells of a timer or an object is true, at a moment after what the call did before it
-abbrev pub IsTrue : Course → Label → ℕ → List Action → Action → ℕ → Type 0
+abbrev pub IsTrue : Witness → Label → ℕ → List Action → Action → ℕ → Type 0
 IsTrue w c first before (Entered timer number entry) n = OfClaim entry.event (IsMoment w c before n)
 IsTrue w c first before (Looked timer number look) n = IsMoment w c before n × Saw w timer number (observed look) n × IsBelowLimit w.script.limit number look
 IsTrue w c first before (Made i number entry) n = IsMoment w c before n × IsTrueEntry w i number entry n × HasSpan w first i number entry n
@@ -122,12 +122,12 @@ IsTrue w c first before (Skipped i number generation) n = SawFull w c before i n
 IsTrue w c first before did n = Unit
 
 -- each thing that a call did tells the truth, at moments that never go back, from one moment to another
-abbrev pub AreTrue : Course → Label → ℕ → ℕ → List Action → List Action → ℕ → Type 0
+abbrev pub AreTrue : Witness → Label → ℕ → ℕ → List Action → List Action → ℕ → Type 0
 AreTrue w c first from before [] last = from ≤ last
 AreTrue w c first from before (d ∷ ds) last = (n : ℕ) × (from ≤ n) × IsTrue w c first before d n × AreTrue w c first n (before ++ d ∷ []) ds last
 
 -- no function of a context ran on the base, no timer of it was the first to expire there, and the base was stopped for each clock
-pub record IsDone (w : Course) (context : Context) (reading base n : ℕ) : Type 0 where
+pub record IsDone (w : Witness) (context : Context) (reading base n : ℕ) : Type 0 where
   pub free : (t : ℕ) → runs_on base (in_context context (timer_along w n) t) ≡ false
   pub first : next_on context ((system_along w n).bases base) (reading_at w.run.clock reading) ≡ None
   pub stopped : (clock : ClockId) → IsStopped (in_context context (timer_along w n)) base (reading_at w.run.clock reading) clock
@@ -135,32 +135,32 @@ pub record IsDone (w : Course) (context : Context) (reading base n : ℕ) : Type
 -- An answer that tells of a state tells of one that the call may have seen: of timers and bases at its last moment, and, for a settime that cancelled
 -- nothing, of an idle timer at its first; of an object after so many of its entries. A write is refused only while the clock may take more of them,
 -- and where one of its times would be past the latest, and the answer is the greatest of these.
-abbrev pub IsSeen : Course → ℕ → ℕ → Label → ℕ → List Action → Call → Answer → Type 0
-IsSeen w first last c reading actions (calls.Start timer request) (answers.Spent stamp) = SawRefusal w timer stamp last
-IsSeen w first last c reading actions (calls.Cancel timer) (answers.Running generation stamp) = Saw w timer stamp (observations.Running generation) last
-IsSeen w first last c reading actions (calls.Cancel timer) (answers.Idle stamp) = Saw w timer stamp observations.Idle last
-IsSeen w first last c reading actions (calls.Peek timer) (answers.Peek stamp base enqueued running moving) =
+abbrev pub AnswerHolds : Witness → ℕ → ℕ → Label → ℕ → List Action → Call → Answer → Type 0
+AnswerHolds w first last c reading actions (calls.Start timer request) (answers.Spent stamp) = SawRefusal w timer stamp last
+AnswerHolds w first last c reading actions (calls.Cancel timer) (answers.Running generation stamp) = Saw w timer stamp (observations.Running generation) last
+AnswerHolds w first last c reading actions (calls.Cancel timer) (answers.Idle stamp) = Saw w timer stamp observations.Idle last
+AnswerHolds w first last c reading actions (calls.Peek timer) (answers.Peek stamp base enqueued running moving) =
     Saw w timer stamp (observations.Peek (record { stamp = stamp; base = base; enqueued = enqueued; running = running; moving = moving })) last
-IsSeen w first last c reading actions (calls.Expire context base budget) (answers.Done shown timers) = IsDone w context reading base last
-IsSeen w first last c reading actions (calls.Expire context base budget) (answers.Busy shown timers timer generation) =
+AnswerHolds w first last c reading actions (calls.Expire context base budget) (answers.Done shown timers) = IsDone w context reading base last
+AnswerHolds w first last c reading actions (calls.Expire context base budget) (answers.Busy shown timers timer generation) =
     running_on base (in_context context (timer_along w last) timer) ≡ Some generation
-IsSeen w first last c reading actions (calls.Clock write) (answers.Range would_be) =
+AnswerHolds w first last c reading actions (calls.Clock write) (answers.Range would_be) =
     IsOutOfRange reading would_be (greatest (after_write (reading_at w.run.clock reading) write))
-IsSeen w first last c reading actions (calls.Settime timer flags value interval) (answers.Spent stamp) = SawFull w c actions timer stamp
-IsSeen w first last c reading actions (calls.Settime timer flags value interval) (answers.Old left old) = DisarmedFirst w timer actions first
-IsSeen w first last c reading actions (calls.Settime timer flags value interval) answers.Canceled = DisarmedFirst w timer actions first
-IsSeen w first last c reading actions (calls.Settime timer flags value interval) (answers.Unarmed stamp) =
+AnswerHolds w first last c reading actions (calls.Settime timer flags value interval) (answers.Spent stamp) = SawFull w c actions timer stamp
+AnswerHolds w first last c reading actions (calls.Settime timer flags value interval) (answers.Old left old) = DisarmedFirst w timer actions first
+AnswerHolds w first last c reading actions (calls.Settime timer flags value interval) answers.Canceled = DisarmedFirst w timer actions first
+AnswerHolds w first last c reading actions (calls.Settime timer flags value interval) (answers.Unarmed stamp) =
     DisarmedFirst w timer actions first × SawRefusal w timer stamp last
-IsSeen w first last c reading actions (calls.Gettime timer) (answers.Spent stamp) = SawFull w c actions timer stamp
-IsSeen w first last c reading actions (calls.Gettime timer) (answers.LeftAt left interval shown stamp) =
+AnswerHolds w first last c reading actions (calls.Gettime timer) (answers.Spent stamp) = SawFull w c actions timer stamp
+AnswerHolds w first last c reading actions (calls.Gettime timer) (answers.LeftAt left interval shown stamp) =
     IsObjectPoint w c actions timer stamp
     × (setting_of (posix_after w.script w.run timer (base_of (kind_of w.script timer)) stamp) (reading_at w.run.clock reading)
     ≡ record { left = left; interval = interval })
-IsSeen w first last c reading actions (calls.Accept timer) (answers.Spent stamp) = SawFull w c actions timer stamp
-IsSeen w first last c reading actions (calls.Overrun timer) (answers.Overrun overrun stamp) =
+AnswerHolds w first last c reading actions (calls.Accept timer) (answers.Spent stamp) = SawFull w c actions timer stamp
+AnswerHolds w first last c reading actions (calls.Overrun timer) (answers.Overrun overrun stamp) =
     IsObjectPoint w c actions timer stamp × ((posix_after w.script w.run timer (base_of (kind_of w.script timer)) stamp).overrun ≡ overrun)
-IsSeen w first last c reading actions (calls.Read timer len) (answers.Spent stamp) = SawFull w c actions timer stamp
-IsSeen w first last c reading actions (calls.Readable timer) (answers.Readable ready shown stamp) =
+AnswerHolds w first last c reading actions (calls.Read timer len) (answers.Spent stamp) = SawFull w c actions timer stamp
+AnswerHolds w first last c reading actions (calls.Readable timer) (answers.Readable ready shown stamp) =
     IsObjectPoint w c actions timer stamp
     × (is_readable (fd_after w.script w.run timer (base_of (kind_of w.script timer)) stamp) (reading_at w.run.clock reading) ≡ ready)
-IsSeen w first last c reading actions call answer = Unit
+AnswerHolds w first last c reading actions call answer = Unit

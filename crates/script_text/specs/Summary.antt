@@ -24,9 +24,9 @@ cancels_in events.Cancel = 1
 cancels_in other = 0
 
 -- the periods by which a forward moved its timer
-abbrev pub periods_in : Reply → ℕ
-periods_in (replies.Forward moved) = moved.count
-periods_in other = 0
+abbrev pub periods_told : Reply → ℕ
+periods_told (replies.Forward moved) = moved.count
+periods_told other = 0
 
 -- what all entries of all timers come to
 abbrev pub of_entries : (Entry → ℕ) → RunRecord → ℕ
@@ -46,5 +46,5 @@ summary_of r =
     ++ (named (codes "entries") (of_entries entry_count r)
     ++ (named (codes "claims") (of_entries (λ e. claims_in e.event) r)
     ++ (named (codes "cancels") (of_entries (λ e. cancels_in e.event) r)
-    ++ (named (codes "periods") (of_entries (λ e. periods_in e.reply) r)
+    ++ (named (codes "periods") (of_entries (λ e. periods_told e.reply) r)
     ++ codes "end\n")))))))

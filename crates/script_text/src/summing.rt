@@ -2,7 +2,7 @@
 ghost use Rattle.std.specs.Prelude.{◌≡◌, ◌+◌, ℕ, IfOk, length};
 ghost use Rattle.std.specs.List.{sum_by};
 ghost use Rattle.record_text.specs.declared.record.Entry.{Entry};
-ghost use Rattle.script_text.specs.Summary.{cancels_in, claims_in, entry_count, periods_in, summary_of};
+ghost use Rattle.script_text.specs.Summary.{cancels_in, claims_in, entry_count, periods_told, summary_of};
 
 use record_text::{Answer, Entry, ItemList, RunRecord, TimerLine};
 use seq_timer::{EventBy, Reply};
@@ -98,7 +98,7 @@ impl Amount for Cancels {
 }
 
 impl Amount for Periods {
-    ghost amount = { λ e. periods_in e.reply };
+    ghost amount = { λ e. periods_told e.reply };
 
     fn amount(entry: Entry) -> u64 {
         match entry.reply {

@@ -9,7 +9,6 @@ use Rattle.timer_queue.proofs.Pairs.{has_id-expiry_of, expiry_of-without}
 use Rattle.seq_timer.specs.declared.effect.RunEffect.{RunEffect}
 use Rattle.seq_timer.specs.declared.effect.RunEffect.TheVariants as functions
 use Rattle.seq_timer.specs.Bases.{IsInNone, IsQueuedIn, is_queued}
-use Rattle.seq_timer.specs.Steps.{Timer}
 use Rattle.seq_timer.specs.Tables.{rank}
 use Rattle.seq_timer.specs.Halves.{Half, queue_of, dequeued, enqueued, run_by, with_running}
 

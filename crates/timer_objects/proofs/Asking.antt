@@ -13,8 +13,8 @@ use Rattle.timer_objects.specs.declared.cell.Span.{Span}
 use Rattle.timer_objects.specs.declared.log.ObjectReceipt.{ObjectReceipt}
 use Rattle.timer_objects.specs.declared.object.Decl.{Decl}
 use Rattle.timer_objects.specs.declared.object.ObjectReply.{ObjectReply}
-use Rattle.timer_objects.specs.declared.wanting.Asked.{Asked}
-use Rattle.timer_objects.specs.declared.wanting.Asked.TheVariants as askeds
+use Rattle.timer_objects.specs.declared.wanting.EntryCall.{EntryCall}
+use Rattle.timer_objects.specs.declared.wanting.EntryCall.TheVariants as entry_calls
 use Rattle.timer_objects.specs.declared.wanting.Ended.{Ended}
 use Rattle.timer_objects.specs.declared.wanting.Ended.TheVariants as ends
 use Rattle.timer_objects.specs.Steps.{IsObjectOf, ObjectAllows}
@@ -39,18 +39,18 @@ module _ (x : ObjectsOf) (o : Opening) (v w : KnownOfTimers) (p m : ObjectsPass)
   holds_it : IsObjectOf d x.limit h.stamp h.state.object
   holds_it = subst (λ i. IsObjectOf (decl_at x i) x.limit h.stamp h.state.object) locks.index holds
 
-  spans_asked : (asked : Asked) → Sets o v w id asked h.state d.base arm span log log' → (h.state.last ≤ span.from) × (span.from ≤ span.to)
-  spans_asked (askeds.Settime s) sets = anew_spans o v w id h.state.last d.base s.reading arm span log log' (start_by s.flags s.value) sets
-  spans_asked (askeds.Rearming r reading) sets =
+  spans_asked : (asked : EntryCall) → Sets o v w id asked h.state d.base arm span log log' → (h.state.last ≤ span.from) × (span.from ≤ span.to)
+  spans_asked (entry_calls.Settime s) sets = anew_spans o v w id h.state.last d.base s.reading arm span log log' (start_by s.flags s.value) sets
+  spans_asked (entry_calls.Rearming r reading) sets =
       spans o v w id h.state.last d.base reading arm log log' (wanted_by r h.state.object reading) span sets
 
-  allowed_asked : (asked : Asked) → IsAskedOf d.kind asked → IsOutcomeOf arm (start_asked asked h.state.object)
+  allowed_asked : (asked : EntryCall) → IsAskedOf d.kind asked → IsOutcomeOf arm (start_asked asked h.state.object)
       → ObjectAllows h.state.object (call_asked d.kind asked arm)
-  allowed_asked (askeds.Settime s) fits outcome = settime_allowed d x.limit h.stamp h.state.object (settime_with s arm) holds_it fits.0 room fits.1.flags
+  allowed_asked (entry_calls.Settime s) fits outcome = settime_allowed d x.limit h.stamp h.state.object (settime_with s arm) holds_it fits.0 room fits.1.flags
       fits.1.value fits.1.interval outcome
-  allowed_asked (askeds.Rearming r reading) fits outcome = allows d x.limit h.stamp reading arm r h.state.object holds_it fits room outcome
+  allowed_asked (entry_calls.Rearming r reading) fits outcome = allows d x.limit h.stamp reading arm r h.state.object holds_it fits room outcome
 
-  pub may_enter : (asked : Asked) → IsAskedOf d.kind asked → Sets o v w id asked h.state d.base arm span log log'
+  pub may_enter : (asked : EntryCall) → IsAskedOf d.kind asked → Sets o v w id asked h.state d.base arm span log log'
       → IsOutcomeOf arm (start_asked asked h.state.object) → MayEnter x m h id (call_asked d.kind asked arm) span
   may_enter asked fits sets outcome = record {
     row = row;
@@ -73,10 +73,10 @@ module _ (x : ObjectsOf) (o : Opening) (v w : KnownOfTimers) (p m : ObjectsPass)
     abbrev done : Caller
     done = record { timers = w; objects = q; log = log'; object_log = olog' }
 
-    pub makes : (asked : Asked) → IsAskedOf d.kind asked → Sets o v w id asked h.state d.base arm span log log'
+    pub makes : (asked : EntryCall) → IsAskedOf d.kind asked → Sets o v w id asked h.state d.base arm span log log'
         → Enters m q h (spanned (call_asked d.kind asked arm) span) reply
         → olog' ≡ olog ++ receipt_of h (spanned (call_asked d.kind asked arm) span) ∷ [] → MakesEntry x o begun done id asked reply
-    makes (askeds.Settime s) fits sets e noted =
+    makes (entry_calls.Settime s) fits sets e noted =
         let c = settime_with s arm in (
           subst IsSettimeReply (sym e.reply) (settime_replies d x.limit h.stamp h.state.object c holds_it fits.0),
           λ a tells. made_by x o begun done id _ _ _ _ a
@@ -99,7 +99,7 @@ module _ (x : ObjectsOf) (o : Opening) (v w : KnownOfTimers) (p m : ObjectsPass)
                 answer = tells;
               }),
         )
-    makes (askeds.Rearming r reading) fits sets e noted = (
+    makes (entry_calls.Rearming r reading) fits sets e noted = (
       record {
         arm = arm;
         span = span;
@@ -110,7 +110,7 @@ module _ (x : ObjectsOf) (o : Opening) (v w : KnownOfTimers) (p m : ObjectsPass)
       replies_to d x.limit h.stamp reading arm r h.state.object reply holds_it fits e.reply,
     )
 
-pub sets_as : (o : Opening) (v w : KnownOfTimers) (id : ℕ) (asked : Asked) (arm : Arm) (span : Span) (log log' : List Receipt) (cell cell' : ObjectCell)
+pub sets_as : (o : Opening) (v w : KnownOfTimers) (id : ℕ) (asked : EntryCall) (arm : Arm) (span : Span) (log log' : List Receipt) (cell cell' : ObjectCell)
     (d d' : Decl) → cell ≡ cell' → d ≡ d' → Sets o v w id asked cell d.base arm span log log' → Sets o v w id asked cell' d'.base arm span log log'
 sets_as o v w id asked arm span log log' cell cell' d d' same there sets =
     subst (λ (x : ObjectCell). Sets o v w id asked x d'.base arm span log log') same
@@ -118,12 +118,12 @@ sets_as o v w id asked arm span log log' cell cell' d d' same there sets =
 
 -- ---- turns that only looked
 
-pub ends_after : (x : ObjectsOf) (o : Opening) (a b c : Caller) (id : ℕ) (asked : Asked) (e : Ended) → HasWaited a b → Ends x o b c id asked e
+pub ends_after : (x : ObjectsOf) (o : Opening) (a b c : Caller) (id : ℕ) (asked : EntryCall) (e : Ended) → HasWaited a b → Ends x o b c id asked e
     → Ends x o a c id asked e
 ends_after x o a b c id asked (ends.Full n) waits found = full_after waits found
-ends_after x o a b c id (askeds.Settime s) (ends.Made n reply) waits made =
+ends_after x o a b c id (entry_calls.Settime s) (ends.Made n reply) waits made =
     ((made.0.0, λ answer tells. made_after x o a b c id _ _ _ _ answer waits (made.0.1 answer tells)), made.1)
-ends_after x o a b c id (askeds.Rearming r reading) (ends.Made n reply) waits made =
+ends_after x o a b c id (entry_calls.Rearming r reading) (ends.Made n reply) waits made =
     let m = made.0.0 in (
       (
         record {
@@ -140,11 +140,11 @@ ends_after x o a b c id (askeds.Rearming r reading) (ends.Made n reply) waits ma
 
 -- ---- names
 
-pub ends_names : (x : ObjectsOf) (o : Opening) (old new : Caller) (id : ℕ) (asked : Asked) (e : Ended) → Ends x o old new id asked e → KeepsNames old new
+pub ends_names : (x : ObjectsOf) (o : Opening) (old new : Caller) (id : ℕ) (asked : EntryCall) (e : Ended) → Ends x o old new id asked e → KeepsNames old new
 ends_names x o old new id asked (ends.Full n) found = record { timers = found.looks.id; claims = found.looks.claims; objects = found.reads.pass.id }
-ends_names x o old new id (askeds.Settime s) (ends.Made n reply) made =
+ends_names x o old new id (entry_calls.Settime s) (ends.Made n reply) made =
     made_names x o old new id _ _ _ _ made.0.0.0 (made.0.1 made.0.0.0 made.0.0.1)
-ends_names x o old new id (askeds.Rearming r reading) (ends.Made n reply) made =
+ends_names x o old new id (entry_calls.Rearming r reading) (ends.Made n reply) made =
     let m = made.0.0 in
     let names = rearms_names o old.timers new.timers id _ _ reading m.arm m.span _ _ _ m.rearms in
     record { timers = names.0; claims = names.1; objects = m.enters.commits.adds.id }

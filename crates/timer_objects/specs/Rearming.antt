@@ -39,8 +39,8 @@ use Rattle.timer_objects.specs.Calls.{
 use Rattle.timer_objects.specs.Arming.{ArmsFor, Disarms, stamp_seen}
 use Rattle.timer_objects.specs.Waiting.{IsHindered}
 use Rattle.timer_objects.specs.Valid.{IsSettimeReply, IsValidSettime, end_by}
-use Rattle.timer_objects.specs.declared.wanting.Asked.{Asked}
-use Rattle.timer_objects.specs.declared.wanting.Asked.TheVariants as askeds
+use Rattle.timer_objects.specs.declared.wanting.EntryCall.{EntryCall}
+use Rattle.timer_objects.specs.declared.wanting.EntryCall.TheVariants as entry_calls
 use Rattle.timer_objects.specs.declared.object.ObjectCall.{ObjectCall}
 use Rattle.timer_objects.specs.declared.cell.ObjectCell.{ObjectCell}
 use Rattle.timer_objects.specs.declared.cell.Span.{Span}
@@ -86,12 +86,12 @@ RepliesTo rearmings.Getting reply = (left interval : ℕ) × (reply ≡ replies.
 -- ---- all calls that make an entry
 
 -- a call that an object of this kind has; the arguments of a settime are valid
-abbrev pub IsAskedOf : Kind → Asked → Type 0
-IsAskedOf kind (askeds.Settime v) = (kind ≢ kinds.Raw) × IsValidSettime kind v
-IsAskedOf kind (askeds.Rearming r reading) = kind ≡ rearming_kind r
+abbrev pub IsAskedOf : Kind → EntryCall → Type 0
+IsAskedOf kind (entry_calls.Settime v) = (kind ≢ kinds.Raw) × IsValidSettime kind v
+IsAskedOf kind (entry_calls.Rearming r reading) = kind ≡ rearming_kind r
 
 -- a caller has passes of these timers and objects, and asks this of an object
-pub record MayAsk (x : ObjectsOf) (timers : BaseRowOf) (pass : PassOf) (objects_pass : ObjectsPass) (id : ℕ) (asked : Asked) : Type 0 where
+pub record MayAsk (x : ObjectsOf) (timers : BaseRowOf) (pass : PassOf) (objects_pass : ObjectsPass) (id : ℕ) (asked : EntryCall) : Type 0 where
   pub of_timers : IsPassOf timers pass
   pub of_objects : IsObjectsPass x objects_pass
   pub suits : Suits x timers.about
@@ -104,18 +104,18 @@ pub record LeavesPasses (x : ObjectsOf) (timers : BaseRowOf) (pass : PassOf) (ob
   pub of_objects : IsObjectsPass x objects_pass
 
 -- the start that a call wants of an object whose history has room
-abbrev pub start_asked : Asked → Object → Option Wanted
-start_asked (askeds.Settime v) object = start_by v.flags v.value
-start_asked (askeds.Rearming r reading) object = wanted_by r object reading
+abbrev pub start_asked : EntryCall → Object → Option Wanted
+start_asked (entry_calls.Settime v) object = start_by v.flags v.value
+start_asked (entry_calls.Rearming r reading) object = wanted_by r object reading
 
 -- a settime, with the outcome of that start
 abbrev pub settime_with : ValidSettime → Arm → SettimeCall
 settime_with v arm = record { flags = v.flags; value = v.value; interval = v.interval; reading = v.reading; arm = arm }
 
 -- the call as it is entered
-abbrev pub call_asked : Kind → Asked → Arm → ObjectCall
-call_asked kind (askeds.Settime v) arm = settime_call kind (settime_with v arm)
-call_asked kind (askeds.Rearming r reading) arm = rearming_call r reading arm
+abbrev pub call_asked : Kind → EntryCall → Arm → ObjectCall
+call_asked kind (entry_calls.Settime v) arm = settime_call kind (settime_with v arm)
+call_asked kind (entry_calls.Rearming r reading) arm = rearming_call r reading arm
 
 -- a timer was disarmed and then started where that was wanted, and the span goes from before the one to behind the other
 pub record SetsAnew (o : Opening) (v w : KnownOfTimers) (t last : ℕ) (wanted : Option Wanted) (base : ℕ) (reading : ClockReading) (arm : Arm) (span : Span)
@@ -129,24 +129,24 @@ pub record SetsAnew (o : Opening) (v w : KnownOfTimers) (t last : ℕ) (wanted :
   pub to : span.to ≡ end_by arm so_far.to
 
 -- a timer was set as the call on its object wants, with this outcome and span
-abbrev pub Sets : Opening → KnownOfTimers → KnownOfTimers → ℕ → Asked → ObjectCell → ℕ → Arm → Span → List Receipt → List Receipt → Type 0
-Sets o v w t (askeds.Settime s) cell base arm span log log' = SetsAnew o v w t cell.last (start_by s.flags s.value) base s.reading arm span log log'
-Sets o v w t (askeds.Rearming r reading) cell base arm span log log' =
+abbrev pub Sets : Opening → KnownOfTimers → KnownOfTimers → ℕ → EntryCall → ObjectCell → ℕ → Arm → Span → List Receipt → List Receipt → Type 0
+Sets o v w t (entry_calls.Settime s) cell base arm span log log' = SetsAnew o v w t cell.last (start_by s.flags s.value) base s.reading arm span log log'
+Sets o v w t (entry_calls.Rearming r reading) cell base arm span log log' =
     RearmsFor o v w t cell.last (wanted_by r cell.object reading) base reading arm span log log'
 
 -- a timer can't be set yet, as the call on its object wants
-abbrev pub IsUnsettable : Opening → KnownOfTimers → ℕ → Asked → ObjectCell → Type 0
-IsUnsettable o k t (askeds.Settime s) cell = IsHindered o k t cell.last
-IsUnsettable o k t (askeds.Rearming r reading) cell = IsSome (wanted_by r cell.object reading) × (stamp_seen o k t < cell.last)
+abbrev pub IsUnsettable : Opening → KnownOfTimers → ℕ → EntryCall → ObjectCell → Type 0
+IsUnsettable o k t (entry_calls.Settime s) cell = IsHindered o k t cell.last
+IsUnsettable o k t (entry_calls.Rearming r reading) cell = IsSome (wanted_by r cell.object reading) × (stamp_seen o k t < cell.last)
 
 -- a call made an entry with this reply
-abbrev pub MakesEntry : ObjectsOf → Opening → Caller → Caller → ℕ → Asked → ObjectReply → Type 0
-MakesEntry x o old new id (askeds.Settime v) reply =
+abbrev pub MakesEntry : ObjectsOf → Opening → Caller → Caller → ℕ → EntryCall → ObjectReply → Type 0
+MakesEntry x o old new id (entry_calls.Settime v) reply =
     IsSettimeReply reply × ((a : SettimeAnswer) → SettimeTells reply a → SettimeMade x o old new id v.flags v.value v.interval v.reading a)
-MakesEntry x o old new id (askeds.Rearming r reading) reply = RearmingMade x o old new id r reading reply × RepliesTo r reply
+MakesEntry x o old new id (entry_calls.Rearming r reading) reply = RearmingMade x o old new id r reading reply × RepliesTo r reply
 
 -- a call found the object's history full, or made entry number `n`
-abbrev pub Ends : ObjectsOf → Opening → Caller → Caller → ℕ → Asked → Ended → Type 0
+abbrev pub Ends : ObjectsOf → Opening → Caller → Caller → ℕ → EntryCall → Ended → Type 0
 Ends x o old new id asked (ends.Full n) = FindsFull x old new id n
 Ends x o old new id asked (ends.Made n reply) = MakesEntry x o old new id asked reply × (n ≡ length (seen_of new.objects id))
 

@@ -16,7 +16,7 @@ use crate::log::ObjectLog;
 use crate::object::{Decl, Kind, ObjectCall, ObjectReply};
 use crate::objects::Objects;
 use crate::settime::{end_of, wanted_by};
-use crate::wanting::{Asked, COUNT_LENGTH, Ended, Rearming, wanted};
+use crate::wanting::{EntryCall, COUNT_LENGTH, Ended, Rearming, wanted};
 use counted_row::RowPass;
 use expire_pass::Log;
 use hr_timers::{Pass, Timers};
@@ -52,7 +52,7 @@ impl Objects {
         ensures names { KeepsNames (caller_of pass.old objects_pass.old log.old object_log.old) (caller_of pass.new objects_pass.new log.new object_log.new) }
         ensures room { (log.old.spare ≤ log.new.spare + 4) × (object_log.old.spare ≤ object_log.new.spare + 1) }
     {
-        let asked = &Asked::Rearming(Rearming::Accepting, reading);
+        let asked = &EntryCall::Rearming(Rearming::Accepting, reading);
         match self.ask(rt, timers, pass, objects_pass, log, object_log, id, asked) {
             Ended::Full { stamp } => AcceptAnswer::Spent { stamp },
             Ended::Made {
@@ -91,7 +91,7 @@ impl Objects {
         if len < COUNT_LENGTH {
             return ReadAnswer::ShortBuffer;
         }
-        let asked = &Asked::Rearming(Rearming::Reading, reading);
+        let asked = &EntryCall::Rearming(Rearming::Reading, reading);
         match self.ask(rt, timers, pass, objects_pass, log, object_log, id, asked) {
             Ended::Full { stamp } => ReadAnswer::Spent { stamp },
             Ended::Made {
@@ -112,7 +112,7 @@ impl Objects {
         log: &mut Log,
         object_log: &mut ObjectLog,
         id: u32,
-        asked: &Asked,
+        asked: &EntryCall,
     ) -> Ended
         requires may { MayAsk self.now timers.now pass.old objects_pass.old id asked.now }
         requires room { (4 ≤ log.old.spare) × (1 ≤ object_log.old.spare) }
@@ -140,7 +140,7 @@ impl Objects {
         log: &mut Log,
         object_log: &mut ObjectLog,
         id: u32,
-        asked: &Asked,
+        asked: &EntryCall,
     ) -> Option<Ended>
         requires may { MayAsk self.now timers.now pass.old objects_pass.old id asked.now }
         requires room { (4 ≤ log.old.spare) × (1 ≤ object_log.old.spare) }
@@ -169,18 +169,18 @@ impl Objects {
 }
 
 /// The call as it is entered, with the outcome of its start.
-fn call_of(kind: Kind, asked: &Asked, arm: Arm) -> ObjectCall
+fn call_of(kind: Kind, asked: &EntryCall, arm: Arm) -> ObjectCall
     ensures { result ≡ call_asked kind asked.now arm }
 {
     match asked {
-        Asked::Settime(valid) => {
+        EntryCall::Settime(valid) => {
             let call = valid.with(arm);
             match kind {
                 Kind::Raw | Kind::Posix => ObjectCall::Posix(posix_timer::Call::Settime(call)),
                 Kind::Fd => ObjectCall::Fd(timer_fd::Call::Settime(call)),
             }
         }
-        Asked::Rearming(call, reading) => {
+        EntryCall::Rearming(call, reading) => {
             let reading = *reading;
             match call {
                 Rearming::Accepting => {
@@ -200,7 +200,7 @@ fn set<R: Wait>(
     pass: &mut Pass,
     log: &mut Log,
     timer: u32,
-    asked: &Asked,
+    asked: &EntryCall,
     cell: &ObjectCell,
     base: u32,
 ) -> Option<(Arm, Span)>
@@ -216,7 +216,7 @@ fn set<R: Wait>(
     ensures room { log.old.spare ≤ log.new.spare + 4 }
 {
     match asked {
-        Asked::Settime(valid) => {
+        EntryCall::Settime(valid) => {
             let so_far = disarm(rt, timers, pass, log, timer, cell.last)?;
             let wants = wanted_by(valid.flags, valid.value);
             let outcome = arm(rt, timers, pass, log, timer, wants, base, valid.reading);
@@ -224,7 +224,7 @@ fn set<R: Wait>(
             let to = end_of(outcome, so_far.to);
             Some((outcome, Span { from, to }))
         }
-        Asked::Rearming(call, reading) => {
+        EntryCall::Rearming(call, reading) => {
             let Some(start) = wanted(*call, &cell.object, *reading) else {
                 return Some((Arm::NotAsked, quiet_span(timers, pass, timer, cell.last)));
             };

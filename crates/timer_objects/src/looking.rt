@@ -12,7 +12,7 @@ use crate::cell::ObjectCell;
 use crate::log::ObjectLog;
 use crate::object::{Kind, Object, ObjectReply};
 use crate::objects::Objects;
-use crate::wanting::{Asked, Ended, Rearming};
+use crate::wanting::{EntryCall, Ended, Rearming};
 use counted_row::RowPass;
 use expire_pass::Log;
 use hr_timers::{Pass, Timers};
@@ -61,7 +61,7 @@ impl Objects {
                 }
             }
             Kind::Fd => {
-                let asked = &Asked::Rearming(Rearming::Getting, reading);
+                let asked = &EntryCall::Rearming(Rearming::Getting, reading);
                 match self.ask(rt, timers, pass, objects_pass, log, object_log, id, asked) {
                     Ended::Full { stamp } => Gettime::Spent { stamp },
                     Ended::Made {

@@ -12,7 +12,7 @@ use crate::cell::ObjectCell;
 use crate::log::ObjectLog;
 use crate::object::{Kind, ObjectReply};
 use crate::objects::Objects;
-use crate::wanting::{Asked, Ended};
+use crate::wanting::{EntryCall, Ended};
 use counted_row::RowPass;
 use expire_pass::Log;
 use hr_timers::{Pass, Timers};
@@ -64,7 +64,7 @@ impl Objects {
             Err(BadArgument::Flags) => return SettimeAnswer::BadFlags,
             Err(BadArgument::Time) => return SettimeAnswer::BadTime,
         };
-        let asked = &Asked::Settime(ValidSettime {
+        let asked = &EntryCall::Settime(ValidSettime {
             flags,
             value,
             interval,

@@ -24,7 +24,7 @@ pub enum Rearming {
 
 /// A call that makes an entry of an object, and may start the object's timer before that.
 #[derive(Clone, Copy, Debug, PartialEq, Eq)]
-pub enum Asked {
+pub enum EntryCall {
     Settime(ValidSettime),
     /// One that arms a periodic timer again which has expired, at this reading.
     Rearming(Rearming, Reading),

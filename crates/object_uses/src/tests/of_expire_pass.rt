@@ -2,7 +2,7 @@
 use super::assert_equal;
 use super::expected::{cancel, entry};
 use expire_pass::{Log, Noted, Receipt};
-use hr_timers::Sink;
+use hr_timers::ReceiptSink;
 use seq_timer::{Event, Observation, Reply, Restarted};
 use std::test::Fail;
 

@@ -7,7 +7,7 @@ ghost use Rattle.expire_pass.specs.Handlers.{KeepsPass};
 use super::acting::{Act, Acting, Told as ToldInside, is_periodic};
 use super::{assert_equal, some_timers};
 use expire_pass::{ExpireAnswer, Log, Restart, expire};
-use hr_timers::{Pass, Sink, StartAnswer, Timers};
+use hr_timers::{Pass, ReceiptSink, StartAnswer, Timers};
 use ktime::{ClockId, Mode, Reading};
 use seq_timer::{CancelAnswer, Declared, Event, Placement, Rearmed, Reply, Restarted};
 use std::alloc::{AllocError, Global};

@@ -12,7 +12,7 @@ store-requires g c =
     let key = c.args.cells.now.key in (
       c.requires.same,
       c.requires.word.1,
-      enters_by key.0 key.1.value.items seat.id seat.me.0 c.requires.may.0 c.args.timer c.args.event.now g.K.Asked.event
+      enters_by key.0 key.1.value.items seat.id seat.me.0 c.requires.may.0 c.args.timer c.args.event.now g.K.EventPick.event
           c.requires.about c.requires.asked c.requires.live c.requires.may.1 c.requires.own
           c.args.cells.now.table_id.slots seat.me.1 c.args.word c.args.stamp c.requires.word.0 c.requires.stamp,
     )
@@ -23,4 +23,4 @@ returns-clause-entered g c = λ h e.
     let key = c.args.cells.now.key in
     let told = c.store.ensures.2 h c.args.timer e (c.requires.word.0 ∙ ap (λ (o : Opening). word_at o.bases c.args.timer) (sym c.requires.about)) in
     subst (λ x. EntersAs key.0 key.1.value.items number_of h c.args.timer x seat.me c.store.new.seat.me) c.requires.asked
-    (subst (λ (o : Opening). EntersAs o.bases o.timers number_of h c.args.timer g.K.Asked.event seat.me c.store.new.seat.me) c.requires.about told)
+    (subst (λ (o : Opening). EntersAs o.bases o.timers number_of h c.args.timer g.K.EventPick.event seat.me c.store.new.seat.me) c.requires.about told)

@@ -14,7 +14,7 @@ store-requires g c =
       rw (c.requires.word.0, ready.slots)
           (enters g.O.Object.meaning c.counts.ensures.counts c.args.cells.now.key.value.items c.args.cells.now.table_id.slots seat.id seat.me.0
           (record { index = c.args.index; stamp = c.args.stamp; state = c.requires.ready.0 }) c.args.call.now
-          (λ call. g.row.O-Call.coded.code call ≡ g.K.Asked.code)
+          (λ call. g.row.O-Call.coded.code call ≡ g.K.CallPick.code)
           (sym c.requires.asked) c.requires.known.0 c.requires.known.1 ready.held ready.may ready.permits c.requires.short),
     )
 

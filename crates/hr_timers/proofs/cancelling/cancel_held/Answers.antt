@@ -6,7 +6,7 @@ use Rattle.hr_timers.proofs.cancelling.cancel_held.Goals as goal
 pub returns-clause-cancels : goal.returns-clause-cancels
 returns-clause-cancels g c =
     let is = sym c.state_of-state.ensures in
-    cancels_one g.S.Sink.pushed c.args.row.now.about c.args.pass.now.knows c.enter_once.new.pass.knows c.args.timer c.in-Some-armed.generation _
+    cancels_one g.S.ReceiptSink.pushed c.args.row.now.about c.args.pass.now.knows c.enter_once.new.pass.knows c.args.timer c.in-Some-armed.generation _
     c.args.sink.now c.enter_once.new.sink
     (ap (λ (t : Timer). t.armed) is ∙ (sym c.armed.ensures ∙ c.in-Some-armed.is))
     (ap (λ (t : Timer). t.running) is ∙ (sym c.running.ensures ∙ c.in_default.is))

@@ -6,5 +6,5 @@ pub returns-clause-cancels : goal.returns-clause-cancels
 returns-clause-cancels g c =
     let u = c.args.pass.now.knows in
     let v = c.lock_timer-held.new.pass.knows in
-    cancels_before g.S.Sink.pushed c.args.row.now.about u v _ c.args.timer c.cancel_held.result c.args.sink.now c.cancel_held.new.sink
+    cancels_before g.S.ReceiptSink.pushed c.args.row.now.about u v _ c.args.timer c.cancel_held.result c.args.sink.now c.cancel_held.new.sink
     (looks_trans u c.look_idle.new.pass.knows v c.in_default.ensures.cancels c.lock_timer-held.ensures.looks) c.cancel_held.ensures.cancels

@@ -35,6 +35,6 @@ returns-in_default-first-clause-claims g c =
     }
 
 pub returns-clause-claims : goal.returns-clause-claims
-returns-clause-claims g c = claims_before g.S.Sink.pushed c.args.row.now.about c.args.pass.now.knows c.lock-held.new.pass.knows _ c.args.context c.args.base
+returns-clause-claims g c = claims_before g.S.ReceiptSink.pushed c.args.row.now.about c.args.pass.now.knows c.lock-held.new.pass.knows _ c.args.context c.args.base
     c.args.reading c.claim_held-numbers.result c.args.sink.now c.claim_held-numbers.new.sink c.lock-held.ensures.looks
     c.claim_held-numbers.ensures.claimed

@@ -71,7 +71,7 @@ returns-clause-logged g c =
     let event = Start c.args.asked.now in
     let same = brought in
     let stamp = ap (λ (t : Timer). t.stamp) (sym same ∙ c.requires.state) in
-    c.arrive_logged-reply.ensures.logged ∙ (λ i. g.S.Sink.pushed c.args.sink.now
+    c.arrive_logged-reply.ensures.logged ∙ (λ i. g.S.ReceiptSink.pushed c.args.sink.now
     (record { timer = c.args.timer; number = stamp i + 1; event = event; reply = noteds.Entry (reply_to (sym same i) event) }))
 
 pub returns-clause-placement : goal.returns-clause-placement

@@ -8,7 +8,7 @@ use Rattle.hr_timers.proofs.moving.move_and_start.Goals as goal
 
 pub returns-clause-logged : goal.returns-clause-logged
 returns-clause-logged g c =
-    let put = g.S.Sink.pushed in
+    let put = g.S.ReceiptSink.pushed in
     let o = c.args.row.now.about in
     let v = c.args.pass.now.knows in
     let w = c.send-state.new.pass.knows in

@@ -11,5 +11,5 @@ start_held-requires-clause-room g c =
     (knows_in o v told.holds.holds.row.about c.known.ensures) c.requires.timer told.looks c.requires.room
 
 pub returns-clause-starts : goal.returns-clause-starts
-returns-clause-starts g c = starts_before g.S.Sink.pushed c.args.row.now.about c.args.pass.now.knows c.lock_timer-held.new.pass.knows
+returns-clause-starts g c = starts_before g.S.ReceiptSink.pushed c.args.row.now.about c.args.pass.now.knows c.lock_timer-held.new.pass.knows
     _ c.args.timer c.args.asked.now c.start_held.result c.args.sink.now c.start_held.new.sink c.lock_timer-held.ensures.looks c.start_held.ensures.starts

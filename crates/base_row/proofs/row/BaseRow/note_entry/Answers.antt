@@ -4,7 +4,6 @@ use Rattle.seq_timer.specs.Steps.{Timer, after}
 use Rattle.seq_timer.specs.Systems.{BaseContent, BeginsInTurn}
 use Rattle.seq_timer.proofs.Effects.{by_effect, placed_by}
 use Rattle.base_row.specs.declared.log.Noted.TheVariants as noteds
-use Rattle.base_row.specs.declared.view.HeldContent.{HeldContent}
 use Rattle.base_row.specs.declared.view.Opening.{Opening}
 use Rattle.base_row.specs.declared.view.BaseView.{BaseView}
 use Rattle.base_row.specs.Rules.{now, number_of}
@@ -71,7 +70,7 @@ returns-clause-logged g c =
     let o = c.args.self.now.about in
     let v = c.args.pass.now.knows in
     let stamp = c.stamp.ensures ∙ (ap (λ (x : Timer). x.stamp) (c.state-state.ensures ∙ c.requires.left) ∙ (by_effect (timer_seen o v c.args.timer) c.args.event.now).stamp) in
-    c.note.ensures.takes ∙ (λ i. g.S.Sink.pushed c.args.sink.now (record {
+    c.note.ensures.takes ∙ (λ i. g.S.ReceiptSink.pushed c.args.sink.now (record {
       timer = c.args.timer;
       number = stamp i;
       event = c.args.event.now;

@@ -1,4 +1,4 @@
--- Small courses, given by lists: short words for them, facts of all numbers by the places of lists, and timers that are not there.
+-- Small witnesses, given by lists: short words for them, facts of all numbers by the places of lists, and timers that are not there.
 use Rattle.std.proofs.Common.{◌≡◌, ◌≤◌, ℕ, ◌+◌, zero, suc, Bool, true, false, nat_eq, nat_lt, None, List, [], ◌∷◌, ◌++◌, if◌then◌else◌, filter, flat_map, length, map, take, get_or, arith, refl, sym, ap, ◌∙◌, subst, inl}
 use Rattle.std.specs.List.{AllByRecursion, list_all}
 use Rattle.std.proofs.lemmas.List.{get_or_past, length-map}
@@ -24,12 +24,12 @@ use Rattle.script_text.specs.Declarations.{declared_as, declareds_of, terms_of}
 use Rattle.run_history.specs.Order.{calls_from}
 use Rattle.run_history.specs.Starts.{Arming}
 use Rattle.run_history.specs.Calls.{fires}
-use Rattle.run_history.specs.Courses.{Course, entries_in, entry_of_move, Fired, Move, moves_on, system_along, timer_along, Trace}
+use Rattle.run_history.specs.Witnesses.{Witness, entries_in, entry_of_move, Fired, Move, moves_on, system_along, timer_along, Trace}
 use Rattle.run_history.specs.Receipts.{no_line}
 use Rattle.run_history.specs.Truths.{IsDone}
 use Rattle.run_cases.proofs.Tests.{all_true, lt, other}
 
--- ---- a course by lists
+-- ---- a witness by lists
 
 -- how many of these are the number
 abbrev pub times : ℕ → List ℕ → ℕ
@@ -54,10 +54,10 @@ abbrev pub fired : ℕ → ℕ → List Action → ℕ → Bool → Fired
 fired claim generation body finish restart =
     record { timer = 0; claim = claim; generation = generation; body = body; finish = finish; restart = restart; restarted = restarts.No }
 
--- the course of a script and a record, where timers' entries follow one another so, each lane's calls did these things, and objects' entries have
+-- the witness of a script and a record, where timers' entries follow one another so, each lane's calls did these things, and objects' entries have
 -- such spans
-abbrev pub course_by : Script → RunRecord → List ℕ → List (List Trace) → (ℕ → ℕ → ℕ × ℕ) → Course
-course_by s r order traces spans = record {
+abbrev pub witness_by : Script → RunRecord → List ℕ → List (List Trace) → (ℕ → ℕ → ℕ × ℕ) → Witness
+witness_by s r order traces spans = record {
   script = s;
   run = r;
   moves = moves_by r [] order;
@@ -155,7 +155,7 @@ none_at clock t (suc n) (m ∷ ms) none =
     let rest = entries_of t (take n (map (entry_of_move clock) ms)) in
     ap (λ b. if b then entry_shown clock m.line.entry ∷ rest else rest) none.0 ∙ none_at clock t n ms none.1
 
-absent_then : (w : Course) (n t : ℕ) → list_all (λ m. nat_lt m.timer (length w.script.timers)) w.moves ≡ true → length w.script.timers ≤ t
+absent_then : (w : Witness) (n t : ℕ) → list_all (λ m. nat_lt m.timer (length w.script.timers)) w.moves ≡ true → length w.script.timers ≤ t
     → timer_along w n t ≡ no_timer
 absent_then w n t there past =
     let opened = openings (declareds_of w.script) (terms_of w.script) in
@@ -171,14 +171,14 @@ no_timer_seen contexts.Hard = refl
 no_timer_seen contexts.Soft = refl
 
 -- what is said of no timer, and of none that is there, as a context sees them, is said of none
-pub none_then : (w : Course) (x : Context) (n : ℕ) (f : Timer → Bool) → f no_timer ≡ false
+pub none_then : (w : Witness) (x : Context) (n : ℕ) (f : Timer → Bool) → f no_timer ≡ false
     → list_all (λ m. nat_lt m.timer (length w.script.timers)) w.moves ≡ true
     → Along (λ t. f (in_context x (timer_along w n) t) ≡ false) 0 w.script.timers → (t : ℕ) → f (in_context x (timer_along w n) t) ≡ false
 none_then w x n f none there each = everywhere (λ t. f (in_context x (timer_along w n) t) ≡ false) w.script.timers each
     (λ t past. ap (λ timer. f (seen_in x timer)) (absent_then w n t there past) ∙ ap f (no_timer_seen x) ∙ none)
 
 -- nothing is left to do on a base, where no function of a timer that is there runs, none comes first, and the base is stopped
-pub stopped_by : (w : Course) (x : Context) (reading base n : ℕ) → list_all (λ m. nat_lt m.timer (length w.script.timers)) w.moves ≡ true
+pub stopped_by : (w : Witness) (x : Context) (reading base n : ℕ) → list_all (λ m. nat_lt m.timer (length w.script.timers)) w.moves ≡ true
     → next_on x ((system_along w n).bases base) (reading_at w.run.clock reading) ≡ None
     → Along (λ t. runs_on base (in_context x (timer_along w n) t) ≡ false) 0 w.script.timers
     → ((clock : ClockId) → IsStopped (in_context x (timer_along w n)) base (reading_at w.run.clock reading) clock) → IsDone w x reading base n
@@ -186,7 +186,7 @@ stopped_by w x reading base n there first free stopped =
     record { free = none_then w x n (runs_on base) refl there free; first = first; stopped = stopped }
 
 -- the same, where no timer that is there is kept on the base
-pub done_by : (w : Course) (x : Context) (reading base n : ℕ) → list_all (λ m. nat_lt m.timer (length w.script.timers)) w.moves ≡ true
+pub done_by : (w : Witness) (x : Context) (reading base n : ℕ) → list_all (λ m. nat_lt m.timer (length w.script.timers)) w.moves ≡ true
     → next_on x ((system_along w n).bases base) (reading_at w.run.clock reading) ≡ None
     → Along (λ t. runs_on base (in_context x (timer_along w n) t) ≡ false) 0 w.script.timers
     → ((clock : ClockId) → Along (λ t. is_kept_on base clock (in_context x (timer_along w n) t) ≡ false) 0 w.script.timers)

@@ -41,7 +41,7 @@ pub record Move : Type 0 where
 
 -- a script, a record of it, and what the record doesn't print: an order of all timers' entries; what each call did; and for each entry of an
 -- object, by the object and the entry's number, how many entries the object's timer had at the start and at the end of the entry's span
-pub record Course : Type 0 where
+pub record Witness : Type 0 where
   pub script : Script
   pub run : RunRecord
   pub moves : List Move
@@ -64,23 +64,23 @@ entry_of_move clock m =
     record { timer = m.timer; event = (entry_shown clock m.line.entry).event; reply = (entry_shown clock m.line.entry).reply }
 
 -- the labels along the order
-abbrev pub labels : Course → List Label
+abbrev pub labels : Witness → List Label
 labels w = map (λ m. m.line.label) w.moves
 
 -- the entries in the order
-abbrev pub entries_in : Course → List TimerEntry
+abbrev pub entries_in : Witness → List TimerEntry
 entries_in w = map (entry_of_move w.run.clock) w.moves
 
 -- all timers and bases after so many entries of all timers
-abbrev pub system_along : Course → ℕ → System
+abbrev pub system_along : Witness → ℕ → System
 system_along w n = system_of (declareds_of w.script) (terms_of w.script) (take n (entries_in w))
 
 -- a timer after so many entries of all timers
-abbrev pub timer_along : Course → ℕ → ℕ → Timer
+abbrev pub timer_along : Witness → ℕ → ℕ → Timer
 timer_along w n t = (system_along w n).timers t
 
 -- the order is one of all entries, and all together are one history that a library on one thread gives: each is a step of its timer and of the base
 -- that it is on, is sent only to a base that is there, and each claim takes the first timer of its context in the base's queues
-pub record IsOneHistory (w : Course) : Type 0 where
+pub record IsOneHistory (w : Witness) : Type 0 where
   pub all : (t : ℕ) → moves_on t w.moves ≡ moves_from t 0 (lines_of_timer w.run t)
   pub history : IsSystemHistory w.script.bases (declareds_of w.script) (terms_of w.script) (entries_in w)
