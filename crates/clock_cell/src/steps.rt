@@ -7,7 +7,7 @@ ghost use Rattle.clock_cell.specs.Views.{told_clock_view, joined_clock_view};
 ghost use Rattle.clock_cell.specs.Plays.{Loaded, MadeWrite};
 ghost use Rattle.clock_cell.specs.Words.{cell_words};
 
-use crate::plays::{WritePick, Child, ClockRule, Enter, Look, Note, Whole};
+use crate::plays::{Child, ClockRule, Enter, Look, Note, Whole, WritePick};
 use crate::view::ClockView;
 use crate::words::cell_words;
 use clock_model::Write;

@@ -9,18 +9,19 @@ pub mod Labels
 pub mod Laid
 pub mod Lists
 pub mod Looks
+pub mod NoSlack
 pub mod ObjectsMade
+mod OneText
 pub mod OthersMade
-pub mod PassState
 pub mod OwnParts
 pub mod OwnPoints
+pub mod PassState
 pub mod Permuted
 pub mod Points
 pub mod Promise
+pub mod Replies
 pub mod Rounds
 pub mod Run
 pub mod Shown
-pub mod Weave
-pub mod NoSlack
-pub mod Replies
 pub mod Stamped
+pub mod Weave
