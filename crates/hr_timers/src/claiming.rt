@@ -99,12 +99,7 @@ fn numbers(state: &TimerState) -> (u64, u64)
 }
 
 /// Locks the base of a claim. The claim's timer is there and runs.
-fn hold_claimed<R: Wait>(
-    rt: &R,
-    row: &BaseRow,
-    pass: &mut Pass,
-    claim: ClaimNumbers,
-) -> HeldBase
+fn hold_claimed<R: Wait>(rt: &R, row: &BaseRow, pass: &mut Pass, claim: ClaimNumbers) -> HeldBase
     requires rest { IsAtRest row.now pass.old }
     requires claim { OwnsClaim row.now.about (known_of pass.old.knows) claim }
     ensures holds { HoldsTimer row.now pass.new result claim.timer }

@@ -58,12 +58,7 @@ pub fn lock_timer<R: Wait>(rt: &R, row: &BaseRow, pass: &mut Pass, timer: u32) -
 }
 
 /// One try, on the base that the timer's word names. It answers `None` only where the timer was seen on the move, or on one base and then on another.
-fn lock_named<R: Wait>(
-    rt: &R,
-    row: &BaseRow,
-    pass: &mut Pass,
-    timer: u32,
-) -> Option<HeldBase>
+fn lock_named<R: Wait>(rt: &R, row: &BaseRow, pass: &mut Pass, timer: u32) -> Option<HeldBase>
     requires rest { IsAtRest row.now pass.old }
     requires timer { timer < length row.now.about.timers }
     ensures holds { MatchOption result (IsAtRest row.now pass.new) (λ h. HoldsTimer row.now pass.new h timer) }

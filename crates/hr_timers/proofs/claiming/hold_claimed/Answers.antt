@@ -1,6 +1,5 @@
-use Rattle.std.proofs.Common.{◌<◌, ap, sym, subst, ◌∙◌}
+use Rattle.std.proofs.Common.{◌<◌, sym, subst, ◌∙◌}
 use Rattle.seq_timer.specs.Systems.{IsOn}
-use Rattle.seq_timer.specs.Steps.{Timer}
 use Rattle.base_row.specs.Calls.{timer_seen}
 use Rattle.hr_timers.proofs.Making.{looks_refl}
 use Rattle.hr_timers.proofs.Standing.{still_runs}

@@ -1,18 +1,17 @@
-use Rattle.std.proofs.Common.{◌≡◌, ℕ, ◌+◌, [], ◌∷◌, ap, sym, subst, ◌∙◌, refl}
+use Rattle.std.proofs.Common.{ℕ, ◌+◌, [], ◌∷◌, ap, sym, subst, ◌∙◌, refl}
 use Rattle.std.specs.Prelude.{Bool, Option, None, if◌then◌else◌}
 use Rattle.base_row.specs.declared.log.Noted.TheVariants as noteds
 use Rattle.base_row.specs.declared.view.BaseView.{BaseView}
 use Rattle.seq_timer.specs.declared.event.EventBy.TheVariants.{Start}
-use Rattle.seq_timer.specs.Steps.{Timer, after, reply_to}
+use Rattle.seq_timer.specs.Steps.{Timer, reply_to}
 use Rattle.seq_timer.specs.Systems.{BaseContent, entries_of}
-use Rattle.base_row.specs.Calls.{known_of, timer_seen}
+use Rattle.base_row.specs.Calls.{known_of}
 use Rattle.base_row.proofs.Calling.{may_start, seen_same}
 use Rattle.pass_names.proofs.SharedHistory.{looks_extends}
 use Rattle.hr_timers.specs.Known.{AddsBehind}
 use Rattle.hr_timers.specs.Calls.{entry_by}
 use Rattle.hr_timers.proofs.Standing.{start_same}
 use Rattle.hr_timers.proofs.Making.{extends_freed, looks_on}
-use Rattle.hr_timers.proofs.moving.bring.Given.{Over}
 use Rattle.hr_timers.proofs.moving.bring.Goals as goal
 
 pub arrive_logged-reply-requires-clause-state : goal.arrive_logged-reply-requires-clause-state
