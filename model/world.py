@@ -1,0 +1,237 @@
+"""Runs a script on one thread: round by round, and in each round lane after lane."""
+import objects
+import timers
+from objects import NOT_ASKED, Accept, Gettime, Object, Read, Settime, Trigger
+from record import Entry, Record, Seen
+from timers import CLOCKS, MOST_WRITES, Cancel, Claim, Finish, Forward, Out, Reading, Start, Timer
+
+
+class World:
+    def __init__(self, script):
+        self.script, self.limit = script, script.limit
+        self.reading = Reading()
+        declared = script.declarations
+        self.timers = [Timer(it.clock, it.clock) for it in declared]
+        self.objects = [Object(it.kind, it.clock, it.base) if it.is_object() else None for it in declared]
+        contexts = [(base, soft) for base in range(script.bases) for soft in (False, True)]
+        self.queues = {(*context, clock): [] for context in contexts for clock in CLOCKS}
+        self.running = dict.fromkeys(contexts)
+        self.record = Record(script.version, len(declared), [len(calls) for calls in script.calls])
+        self.label = None
+
+    def run(self):
+        rounds = [[] for _ in range(self.script.rounds + 1)]
+        for calls in self.script.calls:
+            for call in calls:
+                rounds[call.round].append(call)
+        for calls in rounds:
+            for call in calls:
+                self.label = call.lane, call.index
+                self.record.answers[call.lane][call.index] = getattr(self, "call_" + call.verb)(**call.args)
+        return self.record
+
+    # ---- entries
+
+    def stamp_of(self, timer):
+        return len(self.record.timers[timer])
+
+    def is_spent(self, timer):
+        return self.stamp_of(timer) >= self.limit
+
+    def is_soft(self, timer):
+        return self.script.declarations[timer].kind == "soft"
+
+    def enter(self, timer, event):
+        """One entry of a timer: its step, its place in the queues, and its line."""
+        old = self.timers[timer]
+        new, answer = timers.step(old, self.stamp_of(timer), self.limit, event)
+        self.timers[timer] = new
+        soft = self.is_soft(timer)
+        if new.armed != old.armed:
+            if old.armed is not None:
+                self.queues[old.base, soft, old.effective].remove((old.expires, timer))
+            if new.armed is not None:
+                timers.put(self.queues[new.base, soft, new.effective], new.expires, timer)
+        if (new.running is None) != (old.running is None):
+            self.running[new.base, soft] = None if new.running is None else (timer, new.running)
+        words = self.words_of(event, new, answer)
+        self.record.timers[timer].append(Entry(*self.label, words))
+        return answer
+
+    def words_of(self, event, new, answer):
+        """An entry's words, in the text of the script's version."""
+        wide = self.script.version == 2
+        soft = (new.soft,) if wide else ()
+        if isinstance(event, Out):
+            return "out", event.to, int(answer)
+        if isinstance(event, Start):
+            slack = (event.slack,) if wide else ()
+            placed = (new.base, new.effective, *soft, new.expires, int(answer))
+            return "start", event.mode, event.ns, *slack, event.reading.stamp, event.base, *placed
+        if isinstance(event, Cancel):
+            return "cancel", answer
+        if isinstance(event, Claim):
+            return "claim", event.base, event.reading.stamp, answer
+        if isinstance(event, Forward):
+            return "forward", event.reading.stamp, event.interval, answer, *soft, new.expires
+        return "finish", "again" if event.restart else "stop", *answer
+
+    def look(self, timer, *words):
+        self.record.looks[timer].append(Seen(self.stamp_of(timer), *self.label, words))
+
+    # ---- calls of one timer
+
+    def start(self, timer, mode, ns, slack, base, reading):
+        """The generation that the timer is armed with, and whether it was armed before; None where its limit refuses."""
+        if self.is_spent(timer):
+            return None
+        was_armed = self.timers[timer].armed is not None
+        if self.timers[timer].running is None and self.timers[timer].base != base:
+            self.enter(timer, Out(base))
+        self.enter(timer, Start(mode, ns, slack, reading, base))
+        return self.stamp_of(timer), was_armed
+
+    def cancel(self, timer):
+        state = self.timers[timer]
+        if state.running is not None:
+            return "running", state.running, self.stamp_of(timer)
+        if state.armed is not None:
+            return "cancelled", self.enter(timer, Cancel())
+        return "idle", self.stamp_of(timer)
+
+    def call_start(self, I, MODE, NS, B, SLACK=0):
+        started = self.start(I, MODE, NS, SLACK, B, self.reading)
+        if started is None:
+            return f"spent {self.stamp_of(I)}"
+        return f"started {started[0]} {self.timers[I].base} {int(started[1])}"
+
+    call_startrange = call_start
+
+    def call_cancel(self, I):
+        return " ".join(str(word) for word in self.cancel(I))
+
+    def call_peek(self, I):
+        state = self.timers[I]
+        return f"peek {self.stamp_of(I)} {state.base} {int(state.armed is not None)} {int(state.running is not None)} 0"
+
+    # ---- the clock
+
+    def write(self, verb, number):
+        if self.reading.stamp >= MOST_WRITES:
+            return "clockspent"
+        after = timers.after_write(self.reading, verb, number)
+        if after.latest() > timers.CLOCK_MOST:
+            return f"range {after.latest()}"
+        self.reading = after
+        self.record.clock.append(Entry(*self.label, (verb, number, *after[1:])))
+        return f"clock {after.stamp}"
+
+    def call_advance(self, D):
+        return self.write("advance", D)
+
+    def call_set(self, D):
+        return self.write("set", D)
+
+    def call_suspend(self, D):
+        return self.write("suspend", D)
+
+    # ---- expiry runs
+
+    def next_of(self, base, soft, reading):
+        """The first timer of the first queue whose first timer is due."""
+        for clock in CLOCKS:
+            for _, timer in self.queues[base, soft, clock][:1]:
+                if self.timers[timer].is_due(base, reading):
+                    return timer
+        return None
+
+    def expire(self, base, budget, soft):
+        reading, fired = self.reading, []
+        last = "more"
+        while len(fired) < budget:
+            # On one thread no function of the context runs when a run begins, so no run is told that one does.
+            timers.need(self.running[base, soft] is None, "one thread runs one function at a time")
+            timer = self.next_of(base, soft, reading)
+            if timer is None:
+                last = "done"
+                break
+            generation = self.enter(timer, Claim(base, reading))
+            fired.append(timer)
+            self.enter(timer, Finish(self.callback(timer, generation, reading)))
+        return " ".join(str(word) for word in (last, len(fired), reading.stamp, *fired))
+
+    def call_expire(self, B, N):
+        return self.expire(B, N, False)
+
+    def call_softexpire(self, B, N):
+        return self.expire(B, N, True)
+
+    def callback(self, timer, generation, reading):
+        """Does what a timer's callback does, and gives whether it asks for a restart."""
+        declared = self.script.declarations[timer]
+        if declared.is_object():
+            self.trigger(timer, Trigger(generation, reading))
+        elif declared.callback == "every":
+            if self.is_spent(timer):
+                self.look(timer, "spent")
+            else:
+                self.enter(timer, Forward(reading, declared.number))
+        elif declared.callback == "cancels":
+            self.look(timer, *self.cancel(timer)[:2])
+        elif declared.callback == "starts":
+            if self.start(timer, "rel", declared.number, 0, declared.base, reading) is None:
+                self.look(timer, "spent")
+        return declared.callback in ("every", "starts")
+
+    # ---- objects
+
+    def object_stamp(self, number):
+        return len(self.record.objects[number])
+
+    def trigger(self, number, call):
+        if self.object_stamp(number) >= self.limit:
+            self.record.skips[number].append(Seen(self.object_stamp(number), *self.label, (call.generation,)))
+            return
+        self.objects[number], outcome = objects.step(self.objects[number], call)
+        self.record.objects[number].append(Entry(*self.label, ("trigger", call.generation, call.reading.stamp, outcome)))
+
+    def make(self, number, verb, call, *arguments, cancels=False):
+        """A call on an object: the start that it wants, and then its entry. Its answer, in the record's words."""
+        if self.object_stamp(number) >= self.limit:
+            return f"spent {self.object_stamp(number)}"
+        if cancels:
+            timers.need(self.cancel(number)[0] != "running", "one thread makes no call while a function runs")
+        arm, wanted = NOT_ASKED, objects.wants(self.objects[number], call)
+        if wanted is not None:
+            started = self.start(number, *wanted, 0, self.objects[number].base, call.reading)
+            arm = ("armed", started[0]) if started else ("unarmed", self.stamp_of(number))
+        self.objects[number], answer = objects.step(self.objects[number], call, arm)
+        armed = arm[1] if arm[0] == "armed" else arm[0]
+        words = (verb, *arguments, call.reading.stamp, armed, answer)
+        self.record.objects[number].append(Entry(*self.label, words))
+        return answer
+
+    def call_settime(self, I, F, VS, VN, IS, IN):
+        if objects.is_bad(self.objects[I].kind, F, VN, IN):
+            return "einval"
+        value, interval = timers.nanoseconds(VS, VN), timers.nanoseconds(IS, IN)
+        return self.make(I, "settime", Settime(F, value, interval, self.reading), F, value, interval, cancels=True)
+
+    def call_gettime(self, I):
+        state = self.objects[I]
+        if state.kind == "posix":
+            return f"left {state.left(self.reading)} {state.interval} {self.reading.stamp} {self.object_stamp(I)}"
+        answer = self.make(I, "gettime", Gettime(self.reading))
+        return answer if answer.startswith("spent") else f"left {answer}"
+
+    def call_accept(self, I):
+        return self.make(I, "accept", Accept(self.reading))
+
+    def call_read(self, I, LEN):
+        return "einval" if LEN < 8 else self.make(I, "read", Read(self.reading))
+
+    def call_overrun(self, I):
+        return f"overrun {self.objects[I].overrun} {self.object_stamp(I)}"
+
+    def call_readable(self, I):
+        return f"readable {int(self.objects[I].is_readable(self.reading))} {self.reading.stamp} {self.object_stamp(I)}"
