@@ -1,0 +1,15 @@
+# Completions of bin/hrt for fish: put this file into ~/.config/fish/completions.
+complete -c hrt -n __fish_use_subcommand -f -a run -d 'runs a script of timer calls, and prints the record of what happened'
+complete -c hrt -n __fish_use_subcommand -f -a gen -d 'makes a script from a number, runs it, and prints a summary of its record'
+complete -c hrt -n __fish_use_subcommand -f -a json -d 'prints a record as JSON, one object a line'
+complete -c hrt -n __fish_use_subcommand -f -a draw -d 'draws a record as a picture, in SVG'
+complete -c hrt -n __fish_use_subcommand -f -l prove -d 'proves what the program needs, and keeps the proved program'
+complete -c hrt -n __fish_use_subcommand -f -l program -d 'prints where the program is that run and gen start; builds one where none is'
+complete -c hrt -n __fish_use_subcommand -f -l version -d 'prints which commit, program and kit these are'
+complete -c hrt -n __fish_use_subcommand -f -l help -d 'prints this text'
+complete -c hrt -n '__fish_seen_subcommand_from gen' -x -l seed -d 'the number that the script is made from: 0 to 2147483647'
+complete -c hrt -n '__fish_seen_subcommand_from gen' -x -l lanes -d 'how many lanes call, each with a base of its own: 1 to 8'
+complete -c hrt -n '__fish_seen_subcommand_from gen' -x -l calls -d 'how many turns each lane has: 0 to 4096'
+complete -c hrt -n '__fish_seen_subcommand_from gen' -f
+complete -c hrt -n '__fish_seen_subcommand_from json' -l to-text -d 'reads such lines, and prints the text of the record'
+complete -c hrt -n '__fish_seen_subcommand_from draw' -r -l script -d 'the script of the record, so that its rounds and the words of its calls are shown'
