@@ -19,7 +19,7 @@ from record_order import Order, calls_of  # noqa: E402
 
 ROW, LEFT, TOP, CHARACTER = 36, 100, 60, 6.7
 # A column is as wide as the words of its calls want, within these bounds.
-NARROWEST, WIDEST = 58, 150
+NARROWEST, WIDEST = 58, 200
 MOST_STEPS = 3000
 MARKS = {"out": "o", "start": "s", "cancel": "x", "claim": "c", "forward": "f", "finish": "e"}
 NAMES = {"out": "out", "start": "start", "cancel": "cancel", "claim": "claim", "forward": "forward", "finish": "end of the function"}

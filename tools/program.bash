@@ -1,9 +1,14 @@
-# shellcheck shell=bash disable=SC2154
+# shellcheck shell=bash disable=SC2034,SC2154
 # Where a checkout's programs are kept, and what they were made from. bin/hrt and .ci/run source this; $top is the checkout.
 # A program is kept in out/ under a name with a sum of its sources, so it is found exactly where these are the same.
 
-main_crate=hrt_app
 kept=$top/out
+
+# The program that is looked for: its crate, and a small call by which it is seen to be whole.
+main_crate=hrt_app
+small_words=(run)
+small_input=$top/examples/no_calls.hrt
+small_output=$top/examples/no_calls.record
 
 # The crates of the program, each behind those that it stands on.
 needed_crates() {
@@ -45,10 +50,10 @@ sum_of() {
 
 # Where the proved program of these sources is kept, and the one that is built without its proofs.
 proved_place() {
-    echo "$kept/hrt.proved.$(sum_of src specs proofs)"
+    echo "$kept/$main_crate.proved.$(sum_of src specs proofs)"
 }
 unproved_place() {
-    echo "$kept/hrt.unproved.$(sum_of src)"
+    echo "$kept/$main_crate.unproved.$(sum_of src)"
 }
 
 # Keeps a program in its place, and removes those of other sources.
