@@ -4,11 +4,12 @@
 
 kept=$top/out
 
-# The program that is looked for: its crate, and a small call by which it is seen to be whole.
-main_crate=hrt_app
-small_words=(run)
-small_input=$top/examples/no_calls.hrt
-small_output=$top/examples/no_calls.record
+# Chooses the program that is looked for: its crate; a file of examples/ that it reads in no time, and what it then prints; the words of that call.
+use_program() {
+    main_crate=$1 linked=$top/crates/$1/out/$1 small_input=$top/examples/$2 small_output=$top/examples/$3
+    small_words=("${@:4}")
+}
+use_program hrt_app no_calls.hrt no_calls.record run
 
 # The crates of the program, each behind those that it stands on.
 needed_crates() {
