@@ -84,7 +84,10 @@ def whole(random, version):
     return ("\n".join(Maker(random, version).lines()) + "\n").encode()
 
 
-NUMBERS = [b"0", b"1", b"2", b"3", b"00", b"01", b"-1", b"+1", b"64", b"65", b"256", b"4097", b"9223372036854775807", b"9223372036854775808", b"1e3", b""]
+NUMBERS = [
+    *(str(number).encode() for number in (*range(7), 9, 17, 64, 65, 256, 257, 4096, 4097, 2**48 - 2047, 2**48 - 15, 2**63 - 1, 2**63)),
+    b"00", b"01", b"-1", b"+1", b"1e3", b"",
+]
 BYTES = [b"\r", b"\t", b"\0", b"\x7f", b"\xef\xbb\xbf", b"\xc3\xa9", b" ", b"  ", b"\n", b"#"]
 
 
@@ -92,8 +95,8 @@ def damaged_line(random, line):
     words = line.split(b" ")
     at = random.randrange(len(words))
     place = random.randrange(len(line) + 1)
-    change = random.randrange(6)
-    if change == 0:
+    change = random.randrange(8)
+    if change >= 6 or change == 0:
         words[at] = random.choice(NUMBERS)
     elif change == 1:
         words.insert(at, random.choice([*NUMBERS, b"rel", b"once"]))
@@ -121,7 +124,8 @@ def damaged(random, version):
     """A whole script in which a line or two are changed, doubled, moved, or lost. Where it is still one, two lanes may call in a round."""
     lines = whole(random, version).split(b"\n")[:-1]
     for _ in range(random.choice([1, 1, 2])):
-        at, change = random.randrange(len(lines)), random.randrange(8)
+        # Half of them among the first six, where the header stands.
+        at, change = random.randrange(random.choice([len(lines), min(6, len(lines))])), random.randrange(9)
         if change == 0 and len(lines) > 1:
             del lines[at]
         elif change == 1:
