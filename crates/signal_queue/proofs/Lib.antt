@@ -1,0 +1,10 @@
+pub mod Frames
+pub mod Lasting
+pub mod Locks
+pub mod Longer
+pub mod Opening
+pub mod Somewhere
+pub mod Splitting
+pub mod Turned
+pub mod Turning
+pub mod Turns

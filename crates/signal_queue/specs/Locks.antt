@@ -1,0 +1,50 @@
+-- The lock of an end: its word, the slot in which the end lies while it isn't lent, and who has it.
+use Rattle.std.specs.Prelude.{◌≡◌, ◌⊎◌, ℕ, true, false, [], ◌∷◌, ◌==◌, MatchBool, Option, Some}
+use mathlib.Core.Option.{none, some}
+use lib.ListN.{get_elem?}
+use Rattle.atomic_table.specs.Seated.{TableId}
+use Rattle.atomic_table.specs.Table.{Me, State, Step}
+use Rattle.atomic_table.specs.declared.shared.Seat.{Seat}
+use Rattle.signal_queue.specs.Ends.{SeatOfQueue}
+use Rattle.signal_queue.specs.declared.lock.LockView.{LockView}
+
+-- a lock, and a seat of the queue that its end is of
+pub record LockOf : Type 0 where
+  pub id : TableId
+  pub of : SeatOfQueue
+
+-- what is asked of an end, and of which queue it is
+module _ (is_end : SeatOfQueue → SeatOfQueue → Type 0) where
+  -- the end lies in its slot, and nobody has it
+  pub record IsFree (of : SeatOfQueue) (s : State (Option SeatOfQueue) LockView) : Type 0 where
+    pub words : s.words ≡ 0 ∷ []
+    pub end : SeatOfQueue
+    pub homes : s.homes ≡ some (Some end) ∷ []
+    pub fits : is_end of end
+    pub views : (j : ℕ) (v : LockView) → get_elem? s.views j ≡ some v → (v.of ≡ of) × (v.holds ≡ false)
+
+  -- one has it
+  pub record IsTaken (of : SeatOfQueue) (s : State (Option SeatOfQueue) LockView) : Type 0 where
+    pub words : s.words ≡ 1 ∷ []
+    pub homes : s.homes ≡ none ∷ []
+    pub by : ℕ
+    pub views : (j : ℕ) (v : LockView) → get_elem? s.views j ≡ some v → (v.of ≡ of) × (v.holds ≡ true → j ≡ by)
+
+  -- the rule of a lock
+  abbrev pub IsLock : SeatOfQueue → State (Option SeatOfQueue) LockView → Type 0
+  IsLock of s = IsFree of s ⊎ IsTaken of s
+
+  -- a try: where the word was 0, the end was taken out of its slot
+  abbrev pub TriesLock : Step (Option SeatOfQueue) → Me (Option SeatOfQueue) LockView → ℕ → Me (Option SeatOfQueue) LockView → Type 0
+  TriesLock st me found after =
+      MatchBool (found == 0) ((end : SeatOfQueue) × (after ≡ (record { of = me.0.of; holds = true }, (0, Some end) ∷ [])) × is_end me.0.of end)
+      (after ≡ (me.0, []))
+
+-- a new seat of a lock
+abbrev pub first_lock_view : SeatOfQueue → LockView
+first_lock_view of = record { of = of; holds = false }
+
+-- the seat has the lock, with this in its slot
+pub record HoldsLock (lock : LockOf) (slot : Option SeatOfQueue) (seat : Seat (Option SeatOfQueue) LockView) : Type 0 where
+  pub same : seat.table_id ≡ lock.id
+  pub me : seat.me ≡ (record { of = lock.of; holds = true }, (0, slot) ∷ [])

@@ -1,0 +1,30 @@
+-- The history of a queue of signals: a list of pushes and pops.
+use Rattle.std.specs.Prelude.{◌≡◌, List, [], ◌∷◌, ◌++◌, drop}
+use Rattle.signal_queue.specs.declared.signal.Signal.{Signal}
+use Rattle.signal_queue.specs.declared.signal.Turn.{Turn}
+use Rattle.signal_queue.specs.declared.signal.Turn.TheVariants.{Pushed, Popped}
+
+-- from these waiting signals on, oldest first, each pop takes the oldest signal that was not yet popped
+abbrev pub AreTurns : List Signal → List Turn → Type 0
+AreTurns waiting [] = Unit
+AreTurns waiting (Pushed s ∷ turns) = AreTurns (waiting ++ s ∷ []) turns
+AreTurns [] (Popped s ∷ turns) = ⊥
+AreTurns (w ∷ waiting) (Popped s ∷ turns) = (s ≡ w) × AreTurns waiting turns
+
+-- the signals that wait after the turns, oldest first
+abbrev pub waiting_after : List Signal → List Turn → List Signal
+waiting_after waiting [] = waiting
+waiting_after waiting (Pushed s ∷ turns) = waiting_after (waiting ++ s ∷ []) turns
+waiting_after waiting (Popped s ∷ turns) = waiting_after (drop 1 waiting) turns
+
+-- the signals that were pushed, in their order
+abbrev pub pushed : List Turn → List Signal
+pushed [] = []
+pushed (Pushed s ∷ turns) = s ∷ pushed turns
+pushed (Popped s ∷ turns) = pushed turns
+
+-- the signals that were popped, in their order
+abbrev pub popped : List Turn → List Signal
+popped [] = []
+popped (Pushed s ∷ turns) = popped turns
+popped (Popped s ∷ turns) = s ∷ popped turns

@@ -1,0 +1,146 @@
+//! The lock by which an end of a queue is lent: a word, 1 while the end is lent, and a slot in which the end lies while it isn't.
+ghost use Rattle.std.specs.Prelude.{◌≡◌, IfOk, IfSome, Option, Some, None};
+ghost use Rattle.signal_queue.specs.Ends.{SeatOfQueue};
+ghost use Rattle.signal_queue.specs.Locks.{HoldsLock};
+
+use crate::ends::Side;
+use crate::pass::QueueSeat;
+use atomic_table::{Play, Refused, Seat, Table, TableRule};
+use pass_names::Retries;
+use std::alloc::{AllocError, Global};
+use std::marker::{Model, PhantomData};
+use std::sync::Wait;
+
+/// What a seat of a lock knows. No value of it is made.
+pub struct LockView {
+    /// A seat of the queue that the lock's end is of.
+    pub of: QueueSeat,
+    /// It has the end.
+    pub holds: bool,
+}
+
+/// The rule of a lock.
+pub struct LockRule<S: Side> {
+    side: PhantomData<S>,
+}
+
+impl<S: Side> TableRule<Option<QueueSeat>, LockView, QueueSeat> for LockRule<S> {
+    ghost use Rattle.signal_queue.specs.Locks.{IsLock, first_lock_view};
+
+    ghost holds = { IsLock S.is_end };
+
+    ghost first = { first_lock_view };
+}
+
+/// A try.
+pub struct Tries<S: Side> {
+    side: PhantomData<S>,
+}
+
+impl<S: Side> Play<Option<QueueSeat>, LockView> for Tries<S> {
+    ghost use Rattle.signal_queue.specs.Locks.{TriesLock};
+
+    ghost then = { TriesLock S.is_end };
+}
+
+/// The end is put back.
+pub struct Frees;
+
+impl Play<Option<QueueSeat>, LockView> for Frees {
+    ghost use Rattle.std.specs.Prelude.{⊤};
+
+    ghost then = { λ st me found after. ⊤ };
+}
+
+/// Who has an end, until it is given back.
+pub type LockSeat = Seat<Option<QueueSeat>, LockView>;
+
+/// The lock of an end.
+#[derive(Drop)]
+pub struct EndLock<S: Side> {
+    table: Table<Option<QueueSeat>, LockView, QueueSeat, LockRule<S>, Global>,
+}
+
+impl<S: Side> Model for EndLock<S> {
+    ghost use Rattle.std.specs.Prelude.{◌≡◌};
+    ghost use Rattle.signal_queue.specs.Locks.{LockOf};
+
+    ghost Value = { LockOf };
+
+    ghost view = { λ l. record { id = l.table.shared.table_id; of = l.table.shared.key } };
+
+    ghost invariant = { λ l. (l.table.shared.table_id.words ≡ 1) × (l.table.shared.table_id.slots ≡ 1) };
+}
+
+impl<S: Side> EndLock<S> {
+    /// A lock with the end in it, of the queue that the other seat is of.
+    pub fn make(alloc: Global, end: QueueSeat, of: &QueueSeat) -> Result<EndLock<S>, AllocError>
+        requires { S.is_end of.now end }
+        ensures { IfOk result (λ l. l.of ≡ of.now) }
+    {
+        let slots = vec![in alloc; Some(end)]?;
+        match Table::new(alloc, &[0], slots, of) {
+            Ok((table, _)) => Ok(EndLock { table }),
+            Err(Refused { slots: _ }) => Err(AllocError),
+        }
+    }
+
+    /// Takes the end, once nobody else has it.
+    pub fn take<R: Wait>(&self, rt: &R) -> (QueueSeat, LockSeat)
+        ensures end { S.is_end self.now.of result.0 }
+        ensures holds { HoldsLock self.now None result.1 }
+    {
+        for _ in Retries::new(rt) {
+            if let Some(taken) = self.try_take() {
+                return taken;
+            }
+        }
+        unreachable!()
+    }
+
+    /// One try to take the lock. Its seat then has the end in its slot.
+    fn try_lock(&self) -> Option<LockSeat>
+        ensures { IfSome result (λ seat. (end : SeatOfQueue) × (S.is_end self.now.of end × HoldsLock self.now (Some end) seat)) }
+    {
+        let shared = &self.table.shared;
+        if shared.peek(0) != 0 {
+            return None;
+        }
+        let (found, seat) = shared.swap_new_seat::<Tries<S>>(0, 1);
+        (found == 0).then_some(seat)
+    }
+
+    fn try_take(&self) -> Option<(QueueSeat, LockSeat)>
+        ensures { IfSome result (λ r. S.is_end self.now.of r.0 × HoldsLock self.now None r.1) }
+    {
+        let mut seat = self.try_lock()?;
+        match self.exchange(&mut seat, None) {
+            Some(end) => Some((end, seat)),
+            None => unreachable!(),
+        }
+    }
+
+    /// Gives the end back. It doesn't wait.
+    pub fn give(&self, mut seat: LockSeat, end: QueueSeat)
+        requires end { S.is_end self.now.of end }
+        requires holds { HoldsLock self.now None seat }
+    {
+        self.exchange(&mut seat, Some(end));
+        self.free(seat);
+    }
+    /// What lies in the slot of a lock that the seat has goes out, and another comes in.
+    fn exchange(&self, seat: &mut LockSeat, new: Option<QueueSeat>) -> Option<QueueSeat>
+        requires holds { (old : Option SeatOfQueue) × HoldsLock self.now old seat.old }
+        ensures holds { HoldsLock self.now new seat.new }
+        ensures out { (old : Option SeatOfQueue) → HoldsLock self.now old seat.old → result ≡ old }
+    {
+        self.table.shared.exchange(seat, 0, new)
+    }
+
+    /// Ends a hold.
+    fn free(&self, mut seat: LockSeat)
+        requires { (end : SeatOfQueue) × (S.is_end self.now.of end × HoldsLock self.now (Some end) seat) }
+    {
+        self.table.shared.store::<Frees>(&mut seat, 0, 0);
+    }
+}

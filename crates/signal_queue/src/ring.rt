@@ -1,0 +1,139 @@
+//! The ring of a queue, and its steps: a seat is lent an end, pushes or pops, and gives the end back; seats are split off and taken in.
+ghost use Rattle.std.specs.Prelude.{◌≡◌, Bool, true, false};
+ghost use Rattle.crossbeam_queue.specs.Passes.{IsPassOf, IsSamePass, ruled_capacity, view};
+ghost use Rattle.pass_names.specs.Names.{AnswersFor};
+ghost use Rattle.pass_names.specs.Passes.{Retires};
+ghost use Rattle.signal_queue.specs.Calls.{PopsLent, PopsSignal, PushesLent, PushesSignal};
+ghost use Rattle.signal_queue.specs.Views.{IsEndView, IsRestingView, end_queue_view, first_queue_view, lent_queue_view, opened_end, opened_view, rid_queue_view};
+
+use crate::pass::QueueSeat;
+use crate::plays::{Child, Loan, Opens, Puts, QueueRule, Room, Takes};
+use crate::signal::Signal;
+use crate::signals::Push;
+use crate::view::QueueView;
+use crossbeam_queue::RuledArrayQueue;
+use std::sync::Wait;
+
+/// The kit's bounded ring, under the rule of a queue.
+pub type Ring = RuledArrayQueue<Signal, QueueView, QueueRule>;
+
+/// The first seat learns how many signals may wait, and gives the end for pops up.
+pub fn open<B: Room>(ring: &Ring, seat: &mut QueueSeat) -> QueueSeat
+    requires queue { IsPassOf ring.now seat.old }
+    requires first { view seat.old ≡ first_queue_view }
+    ensures queue { IsSamePass seat.old seat.new × IsPassOf ring.now result }
+    ensures rule { (view seat.new ≡ opened_view B.room first_queue_view) × (view result ≡ opened_end B.room first_queue_view) }
+{
+    ring.another::<Opens<B>>(seat)
+}
+
+/// Lends an end to a seat.
+fn lend(ring: &Ring, seat: &mut QueueSeat, end: QueueSeat)
+    requires queue { IsPassOf ring.now seat.old × IsPassOf ring.now end }
+    requires rests { IsRestingView (view seat.old) }
+    requires end { (pushing : Bool) × ((popping : Bool) × IsEndView (view seat.old).room pushing popping (view end)) }
+    ensures queue { IsSamePass seat.old seat.new }
+    ensures lent { view seat.new ≡ lent_queue_view (view seat.old) (view end) }
+{
+    ring.absorb::<Loan>(seat, end);
+}
+
+/// A seat gives back what it was lent.
+pub fn give_back(ring: &Ring, seat: &mut QueueSeat) -> QueueSeat
+    requires queue { IsPassOf ring.now seat.old }
+    ensures queue { IsSamePass seat.old seat.new × IsPassOf ring.now result }
+    ensures rid { view seat.new ≡ rid_queue_view (view seat.old) }
+    ensures end { view result ≡ end_queue_view (view seat.old) }
+{
+    ring.another::<Loan>(seat)
+}
+
+/// Pushes with a seat that has the end for it.
+fn push_lent<R: Wait>(rt: &R, ring: &Ring, seat: &mut QueueSeat, signal: Signal) -> Push
+    requires queue { IsPassOf ring.now seat.old }
+    requires live { (view seat.old).pass.id.live ≡ true }
+    requires end { (view seat.old).pushes ≡ true }
+    requires room { (view seat.old).room ≡ ruled_capacity ring.now }
+    ensures queue { IsSamePass seat.old seat.new }
+    ensures pushes { PushesLent (ruled_capacity ring.now) (view seat.old) (view seat.new) signal result }
+{
+    match ring.push_as::<Puts, R>(rt, seat, signal) {
+        Ok(()) => Push::Queued,
+        Err(_) => Push::Full {
+            room: ring.capacity(),
+        },
+    }
+}
+
+/// Pops with a seat that has the end for it, and not the other one.
+fn pop_lent<R: Wait>(rt: &R, ring: &Ring, seat: &mut QueueSeat) -> Option<Signal>
+    requires queue { IsPassOf ring.now seat.old }
+    requires live { (view seat.old).pass.id.live ≡ true }
+    requires end { ((view seat.old).pops ≡ true) × ((view seat.old).pushes ≡ false) }
+    ensures queue { IsSamePass seat.old seat.new }
+    ensures pops { PopsLent (view seat.old) (view seat.new) result }
+{
+    ring.pop_as::<Takes, R>(rt, seat)
+}
+
+/// Pushes with an end that is lent for it, and answers the end too.
+pub fn push_by<R: Wait>(
+    rt: &R,
+    ring: &Ring,
+    seat: &mut QueueSeat,
+    end: QueueSeat,
+    signal: Signal,
+) -> (Push, QueueSeat)
+    requires queue { IsPassOf ring.now seat.old × IsPassOf ring.now end }
+    requires rests { IsRestingView (view seat.old) }
+    requires room { (view seat.old).room ≡ ruled_capacity ring.now }
+    requires end { IsEndView (view seat.old).room true false (view end) }
+    ensures queue { IsSamePass seat.old seat.new × IsPassOf ring.now result.1 }
+    ensures rests { IsRestingView (view seat.new) }
+    ensures room { (view seat.new).room ≡ (view seat.old).room }
+    ensures end { IsEndView (view seat.old).room true false (view result.1) }
+    ensures pushes { PushesSignal (ruled_capacity ring.now) (view seat.old) (view seat.new) signal result.0 }
+    ensures id { (view seat.new).pass.id ≡ (view seat.old).pass.id }
+{
+    lend(ring, seat, end);
+    let answer = push_lent(rt, ring, seat, signal);
+    let end = give_back(ring, seat);
+    (answer, end)
+}
+
+/// Pops with an end that is lent for it, and answers the end too.
+pub fn pop_by<R: Wait>(
+    rt: &R,
+    ring: &Ring,
+    seat: &mut QueueSeat,
+    end: QueueSeat,
+) -> (Option<Signal>, QueueSeat)
+    requires queue { IsPassOf ring.now seat.old × IsPassOf ring.now end }
+    requires rests { IsRestingView (view seat.old) }
+    requires end { IsEndView (view seat.old).room false true (view end) }
+    ensures queue { IsSamePass seat.old seat.new × IsPassOf ring.now result.1 }
+    ensures rests { IsRestingView (view seat.new) }
+    ensures room { (view seat.new).room ≡ (view seat.old).room }
+    ensures end { IsEndView (view seat.old).room false true (view result.1) }
+    ensures pops { PopsSignal (view seat.old) (view seat.new) result.0 }
+    ensures id { (view seat.new).pass.id ≡ (view seat.old).pass.id }
+{
+    lend(ring, seat, end);
+    let answer = pop_lent(rt, ring, seat);
+    let end = give_back(ring, seat);
+    (answer, end)
+}
+
+/// A seat takes in another, and learns what both had seen.
+pub fn merge(ring: &Ring, seat: &mut QueueSeat, other: QueueSeat)
+    requires queue { IsPassOf ring.now seat.old × IsPassOf ring.now other }
+    requires rests { IsRestingView (view seat.old) × IsRestingView (view other) }
+    requires answers { AnswersFor (view seat.old).pass.id (view other).pass.id }
+    ensures queue { IsSamePass seat.old seat.new }
+    ensures rests { IsRestingView (view seat.new) }
+    ensures retires { Retires (view seat.old).pass (view other).pass (view seat.new).pass }
+    ensures room { (view seat.new).room ≡ (view seat.old).room }
+{
+    ring.absorb::<Child>(seat, other);
+    ring.learn_as::<Puts>(seat);
+}

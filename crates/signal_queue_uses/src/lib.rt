@@ -1,0 +1,10 @@
+//! Small callers of `signal_queue`: signals that are sent and taken, on one thread and on two.
+#![tactic(auto)]
+
+pub use draining::{drain, send};
+pub use threads::hand_over;
+
+mod draining;
+#[cfg(test)]
+mod tests;
+mod threads;

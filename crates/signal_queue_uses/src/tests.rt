@@ -1,0 +1,47 @@
+//! The callers, run; and the tests of `signal_queue`.
+ghost use Rattle.std.specs.Prelude.{◌≡◌, ◌<◌, IfOk};
+ghost use Rattle.pass_names.specs.Names.{IsLast};
+ghost use Rattle.signal_queue.specs.Views.{IsPassOfQueue};
+
+mod of_signal_queue;
+
+use crate::{drain, hand_over, send};
+use signal_queue::{Push, Signal, SignalPass, Signals};
+use std::fmt::Debug;
+use std::process::Abort;
+use std::test::Fail;
+
+/// Fails the test where these differ, and shows both. This is proved once; an `assert_eq!` is proved in each test that has it.
+fn assert_equal<T: PartialEq + Debug + Drop>(rt: &impl Abort, got: T, wanted: T) {
+    assert_eq!(rt; got, wanted);
+}
+
+/// A signal of timer 7.
+fn signal(number: u64) -> Signal {
+    Signal { timer: 7, number }
+}
+
+#[test]
+fn two_threads_hand_signals_over_in_order(rt: HostRuntime) -> Result<(), Fail> {
+    let in_order = hand_over(&rt, rt.alloc(), 8, 10_000)?;
+    assert_equal(&rt, in_order, 10_000);
+    Ok(())
+}
+
+#[test]
+fn two_threads_hand_signals_over_in_room_for_one(rt: HostRuntime) -> Result<(), Fail> {
+    let in_order = hand_over(&rt, rt.alloc(), 1, 1_000)?;
+    assert_equal(&rt, in_order, 1_000);
+    Ok(())
+}
+
+#[test]
+fn what_was_sent_is_drained(rt: HostRuntime) -> Result<(), Fail> {
+    let (signals, mut pass) = Signals::make(rt.alloc(), 4)?;
+    send(&rt, &signals, &mut pass, signal(1));
+    send(&rt, &signals, &mut pass, signal(2));
+    assert_equal(&rt, drain(&rt, &signals, &mut pass), 2);
+    assert_equal(&rt, drain(&rt, &signals, &mut pass), 0);
+    signals.close(pass);
+    Ok(())
+}
