@@ -16,7 +16,7 @@ use crate::log::ObjectLog;
 use crate::object::{Decl, Kind, ObjectCall, ObjectReply};
 use crate::objects::Objects;
 use crate::settime::{end_of, wanted_by};
-use crate::wanting::{EntryCall, COUNT_LENGTH, Ended, Rearming, wanted};
+use crate::wanting::{COUNT_LENGTH, Ended, EntryCall, Rearming, wanted};
 use counted_row::RowPass;
 use expire_pass::Log;
 use hr_timers::{Pass, Timers};

@@ -12,7 +12,7 @@ use crate::cell::ObjectCell;
 use crate::log::ObjectLog;
 use crate::object::{Kind, Object, ObjectReply};
 use crate::objects::Objects;
-use crate::wanting::{EntryCall, Ended, Rearming};
+use crate::wanting::{Ended, EntryCall, Rearming};
 use counted_row::RowPass;
 use expire_pass::Log;
 use hr_timers::{Pass, Timers};

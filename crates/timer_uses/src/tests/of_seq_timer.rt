@@ -245,33 +245,17 @@ fn the_limit_refuses_a_restart(rt: HostRuntime) {
 #[test]
 fn a_base_goes_along_with_its_timer(rt: HostRuntime) -> Result<(), AllocError> {
     let mut base = Base::<ListQueue>::make(rt.alloc(), 1)?;
-    let idle = TimerState::make(MONOTONIC, Terms::limited(100));
-    let event = start(Mode::Rel, 100, Reading::at(0));
-    let mut armed = idle;
-    armed.apply(event);
-    base.step(0, &idle, &event, &armed);
-    assert_equal(
-        &rt,
-        base.first(Context::Hard, &[armed], Reading::at(99)),
-        None,
-    );
-    assert_equal(
-        &rt,
-        base.first(Context::Hard, &[armed], Reading::at(100)),
-        Some((100, 0)),
-    );
-    let event = Event::Claim {
-        base: 0,
-        reading: Reading::at(100),
-    };
-    let mut running = armed;
-    running.apply(event);
-    base.step(0, &armed, &event, &running);
-    assert_equal(
-        &rt,
-        base.first(Context::Hard, &[running], Reading::at(100)),
-        None,
-    );
+    let mut timer = TimerState::make(MONOTONIC, Terms::limited(100));
+    base.apply(0, &mut timer, &start(Mode::Rel, 100, Reading::at(0)));
+    let early = base.first(Context::Hard, &[timer], Reading::at(99));
+    assert_equal(&rt, early, None);
+    let due = base.first(Context::Hard, &[timer], Reading::at(100));
+    assert_equal(&rt, due, Some((100, 0)));
+    let reply = base.apply(0, &mut timer, &claim(100));
+    assert_equal(&rt, reply, Reply::Claim { generation: 1 });
+    assert_equal(&rt, timer.running(), Some(1));
+    let none = base.first(Context::Hard, &[timer], Reading::at(100));
+    assert_equal(&rt, none, None);
     assert_equal(&rt, base.running(Context::Hard), Some((0, 1)));
     Ok(())
 }
@@ -279,19 +263,13 @@ fn a_base_goes_along_with_its_timer(rt: HostRuntime) -> Result<(), AllocError> {
 #[test]
 fn a_base_keeps_the_soft_context_apart(rt: HostRuntime) -> Result<(), AllocError> {
     let mut base = Base::<ListQueue>::make(rt.alloc(), 1)?;
-    let idle = TimerState::make(SOFT, Terms::limited(100));
-    let event = start(Mode::Rel, 100, Reading::at(0));
-    let mut armed = idle;
-    armed.apply(event);
-    base.step(0, &idle, &event, &armed);
+    let mut timer = TimerState::make(SOFT, Terms::limited(100));
+    base.apply(0, &mut timer, &start(Mode::Rel, 100, Reading::at(0)));
     let now = Reading::at(100);
-    assert_equal(&rt, base.first(Context::Hard, &[armed], now), None);
-    let first = base.first(Context::Soft, &[armed], now);
+    assert_equal(&rt, base.first(Context::Hard, &[timer], now), None);
+    let first = base.first(Context::Soft, &[timer], now);
     assert_equal(&rt, first, Some((100, 0)));
-    let event = claim(100);
-    let mut running = armed;
-    running.apply(event);
-    base.step(0, &armed, &event, &running);
+    base.apply(0, &mut timer, &claim(100));
     assert_equal(&rt, base.running(Context::Hard), None);
     assert_equal(&rt, base.running(Context::Soft), Some((0, 1)));
     Ok(())
