@@ -2,7 +2,7 @@
 #![tactic(auto)]
 
 pub use draining::{drain, send};
-pub use threads::hand_over;
+pub use threads::{hand_over, trade};
 
 mod draining;
 #[cfg(test)]

@@ -5,7 +5,7 @@ ghost use Rattle.signal_queue.specs.Views.{IsPassOfQueue};
 
 mod of_signal_queue;
 
-use crate::{drain, hand_over, send};
+use crate::{drain, hand_over, send, trade};
 use signal_queue::{Push, Signal, SignalPass, Signals};
 use std::fmt::Debug;
 use std::process::Abort;
@@ -32,6 +32,13 @@ fn two_threads_hand_signals_over_in_order(rt: HostRuntime) -> Result<(), Fail> {
 fn two_threads_hand_signals_over_in_room_for_one(rt: HostRuntime) -> Result<(), Fail> {
     let in_order = hand_over(&rt, rt.alloc(), 1, 1_000)?;
     assert_equal(&rt, in_order, 1_000);
+    Ok(())
+}
+
+#[test]
+fn two_threads_that_want_both_ends_take_each_signal_once(rt: HostRuntime) -> Result<(), Fail> {
+    let sum = trade(&rt, rt.alloc(), 2, 10_000)?;
+    assert_equal(&rt, sum, 99_990_000);
     Ok(())
 }
 

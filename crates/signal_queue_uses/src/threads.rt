@@ -91,3 +91,59 @@ pub fn hand_over<R: Threads + Wait + Sync>(
     signals.close(sender);
     Ok(in_order)
 }
+
+/// Sends a signal and takes one, not always its own, so many times. It answers the sum of the numbers that it took.
+fn trade_all<R: Wait>(
+    rt: &R,
+    signals: &Signals,
+    pass: &mut SignalPass,
+    timer: u32,
+    count: u64,
+) -> u64
+    requires pass { IsPassOfQueue signals.now pass.old }
+    ensures pass { IsPassOfQueue signals.now pass.new }
+    ensures id { pass.new.knows.pass.id ≡ pass.old.knows.pass.id }
+{
+    let mut sum = 0u64;
+    for number in 0..count {
+        send(rt, signals, pass, Signal { timer, number });
+        sum = sum.saturating_add(take(rt, signals, pass).number);
+    }
+    sum
+}
+
+/// Two threads that both send and take, each with a pass.
+fn trade_both<R: Threads + Wait + Sync>(
+    rt: &R,
+    signals: &Signals,
+    first: &mut SignalPass,
+    second: &mut SignalPass,
+    count: u64,
+) -> (u64, u64)
+    requires pass { IsPassOfQueue signals.now first.old × IsPassOfQueue signals.now second.old }
+    ensures pass { IsPassOfQueue signals.now first.new × IsPassOfQueue signals.now second.new }
+    ensures id { (first.new.knows.pass.id ≡ first.old.knows.pass.id) × (second.new.knows.pass.id ≡ second.old.knows.pass.id) }
+{
+    join_mut(
+        rt,
+        &mut || trade_all(rt, signals, first, 0, count),
+        &mut || trade_all(rt, signals, second, 1, count),
+    )
+}
+
+/// Two threads send so many signals each, numbered from 0, and take as many: both want both ends. It answers the sum of the numbers that were taken.
+pub fn trade<R: Threads + Wait + Sync>(
+    rt: &R,
+    alloc: Global,
+    room: usize,
+    count: u64,
+) -> Result<u64, AllocError>
+    requires { 1 < room }
+{
+    let (signals, mut first) = Signals::make(alloc, room)?;
+    let mut second = signals.split(&mut first);
+    let (a, b) = trade_both(rt, &signals, &mut first, &mut second, count);
+    signals.join(&mut first, second);
+    signals.close(first);
+    Ok(a.saturating_add(b))
+}
