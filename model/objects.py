@@ -111,8 +111,8 @@ def phase_again(state, call, arm):
 
 
 def counts(state, call):
-    """Whether a trigger is of the object's setting and its time has come."""
-    armed = state.phase[0] == "armed" and state.phase[1] == call.generation
+    """Whether a trigger is of the object's setting, which a move of its timer may have given a later generation, and its time has come."""
+    armed = state.phase[0] == "armed" and state.phase[1] <= call.generation
     return armed and call.reading.of(state.phase[2]) >= state.phase[3]
 
 

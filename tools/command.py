@@ -58,6 +58,15 @@ GEN = Command(
 OF_PROGRAM = (RUN, GEN)
 
 # Commands beside it.
+CHECK = Command(
+    "check",
+    "says whether a Linux kernel's trace of its timers is a history that the model gives",
+    takes_file=True,
+    options=(
+        Option("--summary", "prints a table too: events by kind, most timers queued at once, latest expiries"),
+        Option("--prove", "proves the program hrt_check in place of a check, and keeps it"),
+    ),
+)
 JSON = Command(
     "json",
     "prints a record as JSON, one object a line",
@@ -70,7 +79,7 @@ DRAW = Command(
     takes_file=True,
     options=(Option("--script", "the script of the record, so that its rounds and the words of its calls are shown", file="SCRIPT"),),
 )
-COMMANDS = (*OF_PROGRAM, JSON, DRAW)
+COMMANDS = (*OF_PROGRAM, CHECK, JSON, DRAW)
 
 OPTIONS = (
     Option("--prove", "proves what the program needs, and keeps the proved program"),
@@ -83,10 +92,11 @@ STATUSES = (
     (0, "done"),
     (1, "no program is there, and none could be built; a record can't be read"),
     (2, "the words ask for nothing that there is, or for help"),
-    (3, "the script is refused: 'line N: CAUSE' is printed in place of a record"),
+    (3, "the script is refused: 'line N: CAUSE' is printed in place of a record; a line of a trace can't be read"),
     (4, "a read failed; nothing was printed"),
     (5, "a write failed; a part of the text was printed"),
     (6, "out of memory; nothing was printed"),
+    (7, "the trace doesn't fit: 'line N: CAUSE' is printed"),
 )
 
 INTRODUCTION = (
@@ -99,7 +109,10 @@ EXAMPLE = (
     "bin/hrt gen --seed 7 --lanes 8 --calls 4096",
     "bin/hrt run examples/periodic.hrt | bin/hrt draw --script examples/periodic.hrt > periodic.svg",
 )
-ENVIRONMENT = (("HRT_PROGRAM", "a program to run in place of the one that is built here"),)
+ENVIRONMENT = (
+    ("HRT_PROGRAM", "a program to run in place of the one that is built here for run and gen"),
+    ("HRT_CHECK_PROGRAM", "a program to run in place of the one that is built here for check"),
+)
 SEE_ALSO = "docs/DEFINITIONS.md has the words of scripts and records, examples/ scripts with their records."
 
 

@@ -4,12 +4,19 @@
 
 kept=$top/out
 
-# Chooses the program that is looked for: its crate; a file of examples/ that it reads in no time, and what it then prints; the words of that call.
+# Chooses the program that is looked for: its crate; the variable that names another program in its place; a file that it reads in no time, and what it
+# then prints; the words of that call.
 use_program() {
-    main_crate=$1 linked=$top/crates/$1/out/$1 small_input=$top/examples/$2 small_output=$top/examples/$3
-    small_words=("${@:4}")
+    main_crate=$1 linked=$top/crates/$1/out/$1 chosen_by=$2 small_input=$top/$3 small_output=$top/$4
+    small_words=("${@:5}")
 }
-use_program hrt_app no_calls.hrt no_calls.record run
+use_hrt() {
+    use_program hrt_app HRT_PROGRAM examples/no_calls.hrt examples/no_calls.record run
+}
+use_hrt_check() {
+    use_program trace_app HRT_CHECK_PROGRAM crates/trace_app/stdin crates/trace_app/stdout
+}
+use_hrt
 
 # The crates of the program, each behind those that it stands on.
 needed_crates() {

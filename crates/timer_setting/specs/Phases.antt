@@ -33,10 +33,11 @@ expiry_by declared flags ns reading = if is_absolute flags then ns else sat (val
 abbrev pub phase_by : ClockId → ℕ → ℕ → ClockReading → Arm → Phase
 phase_by declared flags ns reading arm = armed_by arm (clock_by declared flags) (expiry_by declared flags ns reading)
 
--- an expiry of this generation is the one that is armed, and its clock has reached it
+-- an expiry of this generation is the object's: it is armed by this one or an earlier one, and its clock has reached the time. A start by others
+-- than the object, such as the move of its timer to another base, gives the timer a later generation for the same time
 abbrev pub is_expiry_of : Phase → ℕ → ClockReading → Bool
 is_expiry_of phases.Idle generation reading = false
-is_expiry_of (phases.Armed armed clock expires) generation reading = nat_eq armed generation && nat_le expires (value_of clock reading)
+is_expiry_of (phases.Armed armed clock expires) generation reading = nat_le armed generation && nat_le expires (value_of clock reading)
 is_expiry_of (phases.Expired clock expires) generation reading = false
 
 -- the phase after an expiry: a periodic timer waits to be armed again

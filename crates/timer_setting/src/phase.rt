@@ -12,7 +12,7 @@ use ktime::{ClockId, Mode, Reading, effective, sat_add};
 pub enum Phase {
     /// It is disarmed, or has expired for the last time.
     Idle,
-    /// The high-resolution timer is armed, as this generation.
+    /// The high-resolution timer is armed, as this generation or, where others have moved it since, as a later one.
     Armed {
         generation: u64,
         clock: ClockId,
@@ -27,7 +27,8 @@ pub enum Phase {
 }
 
 impl Phase {
-    /// Whether an expiry of this generation is the one that is armed, and its time has come.
+    /// Whether an expiry of this generation is the object's, and its time has come: what was armed by an earlier generation and moved since is the
+    /// object's still.
     pub(crate) fn is_expiry(self, generation: u64, reading: Reading) -> bool
         ensures { result ≡ is_expiry_of self generation reading }
     {
@@ -36,7 +37,7 @@ impl Phase {
                 generation: armed,
                 clock,
                 expires,
-            } => armed == generation && reading.value(clock) >= expires,
+            } => armed <= generation && reading.value(clock) >= expires,
             Phase::Idle | Phase::Expired { .. } => false,
         }
     }

@@ -5,7 +5,7 @@
 pub enum TriggerAnswer {
     /// It counts: a signal is pending, or there is one more expiry to be read.
     Counted,
-    /// The expiry is of a generation that is armed no more.
+    /// The object is armed by a later generation or not at all, or its time hasn't come.
     Stale,
     /// The object has as many entries as its limit allows.
     Spent { stamp: u64 },

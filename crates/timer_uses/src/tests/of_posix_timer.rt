@@ -80,20 +80,20 @@ fn the_overrun_stops_at_its_greatest_value(rt: HostRuntime) {
 #[test]
 fn a_timer_whose_expiry_has_come_has_one_nanosecond_left(rt: HostRuntime) {
     let mut timer = PosixState::make(ClockId::Monotonic, 0, 100);
-    timer.settime(1, ns(100), ns(10), Reading::at(0), Arm::Armed(1));
+    timer.settime(1, ns(100), ns(10), Reading::at(0), Arm::Armed(2));
     assert_equal(&rt, timer.gettime(Reading::at(40)), setting(60, 10));
     assert_equal(&rt, timer.gettime(Reading::at(130)), setting(1, 10));
     let bad = timer.settime(1, ns(1_000_000_000), ns(0), Reading::at(130), Arm::NotAsked);
     assert_equal(&rt, bad, SettimeAnswer::BadTime);
     assert_equal(
         &rt,
-        timer.trigger(2, Reading::at(130)),
+        timer.trigger(1, Reading::at(130)),
         TriggerAnswer::Stale,
     );
-    assert_equal(&rt, timer.trigger(1, Reading::at(99)), TriggerAnswer::Stale);
+    assert_equal(&rt, timer.trigger(2, Reading::at(99)), TriggerAnswer::Stale);
     assert_equal(
         &rt,
-        timer.trigger(1, Reading::at(130)),
+        timer.trigger(3, Reading::at(130)),
         TriggerAnswer::Counted,
     );
     let due = Phase::Expired {

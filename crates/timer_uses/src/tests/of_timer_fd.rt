@@ -84,20 +84,20 @@ fn an_overdue_timer_has_nothing_left(rt: HostRuntime) {
 #[test]
 fn a_gettime_arms_an_expired_timer_again(rt: HostRuntime) {
     let mut descriptor = FdState::make(ClockId::Boottime, 0, 100);
-    descriptor.settime(0, ns(100), ns(10), Reading::at(0), Arm::Armed(1));
-    assert_equal(
-        &rt,
-        descriptor.trigger(2, Reading::at(100)),
-        TriggerAnswer::Stale,
-    );
-    assert_equal(
-        &rt,
-        descriptor.trigger(1, Reading::at(99)),
-        TriggerAnswer::Stale,
-    );
+    descriptor.settime(0, ns(100), ns(10), Reading::at(0), Arm::Armed(2));
     assert_equal(
         &rt,
         descriptor.trigger(1, Reading::at(100)),
+        TriggerAnswer::Stale,
+    );
+    assert_equal(
+        &rt,
+        descriptor.trigger(2, Reading::at(99)),
+        TriggerAnswer::Stale,
+    );
+    assert_equal(
+        &rt,
+        descriptor.trigger(2, Reading::at(100)),
         TriggerAnswer::Counted,
     );
     let expired = Phase::Expired {

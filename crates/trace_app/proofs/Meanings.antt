@@ -1,0 +1,196 @@
+-- What an answer to lines means.
+use Rattle.std.proofs.Common.{◌≡◌, ◌+◌, ◌++◌, ◌∷◌, ◌∙◌, [], ℕ, Option, Some, None, Result, Ok, Err, List, length, refl, sym, ap, subst, arith, inl, inr}
+use Rattle.std.specs.Prelude.{IsOk, option_map}
+use Rattle.trace_text.specs.declared.event.KernelEvent.{KernelEvent}
+use Rattle.trace_text.specs.declared.event.KernelEvent.TheVariants as kernel
+use Rattle.trace_text.specs.declared.unreadable.Unreadable.{Unreadable}
+use Rattle.trace_text.specs.Reading.{line_in}
+use Rattle.trace_check.specs.declared.misfit.Misfit.{Misfit}
+use Rattle.trace_check.specs.Knowledge.{Knowledge, misfit, misfit_or, first_misfit, learned, no_knowledge}
+use Rattle.trace_check.proofs.Histories.{fitting_fits, fits_without_misfit}
+use Rattle.trace_app.specs.declared.verdict.Verdict.{Verdict}
+use Rattle.trace_app.specs.declared.verdict.Verdict.TheVariants as verdicts
+use Rattle.trace_app.specs.Lines as lines_spec
+use Rattle.trace_app.specs.Lines.{AreReadable, Fit, Means, events_in, judged, known_after, line_verdict, lines_of, told, verdict_on, verdict_or}
+use Rattle.trace_app.specs.Checking.{Answers, MayEnd, MustAnswer}
+use Rattle.trace_app.specs.Status.{status_of}
+use Rattle.trace_app.specs.declared.status.Status.{Status}
+
+-- lines can be read, and what they tell has no misfit behind what is known
+abbrev Passes : Knowledge → List (List ℕ) → Type 0
+Passes k lines = AreReadable lines × (first_misfit k (events_in lines) ≡ None)
+
+-- the line of this number, of which those before it pass; the first one's number is n
+record IsFirst (n : ℕ) (k : Knowledge) (lines : List (List ℕ)) (at : ℕ) : Type 0 where
+  front : List (List ℕ)
+  line : List ℕ
+  rest : List (List ℕ)
+  cut : lines ≡ front ++ line ∷ rest
+  number : at ≡ n + length front
+  passes : Passes k front
+
+-- what an answer says, behind lines that told this
+abbrev Says : ℕ → Knowledge → List (List ℕ) → Verdict → Type 0
+Says n k lines (verdicts.Fits events) = Passes k lines × (events ≡ k.count + length (events_in lines))
+Says n k lines (verdicts.Refused at cause) = (first : IsFirst n k lines at) × IsOk (line_in first.line)
+    × (first_misfit k (events_in (first.front ++ first.line ∷ [])) ≡ None → ⊥)
+Says n k lines (verdicts.Unreadable at what) = (first : IsFirst n k lines at) × (line_in first.line ≡ Err what)
+
+no_cause : (o : Option Misfit) (n : ℕ) → option_map (λ cause. verdicts.Refused n cause) o ≡ None → o ≡ None
+no_cause None n is = refl
+no_cause (Some cause) n is = absurd cc
+
+-- a line that passes leaves the misfits to those behind it
+same_misfit : (k : Knowledge) (line : List ℕ) (lines : List (List ℕ)) (r : Result (Option KernelEvent) Unreadable) (n : ℕ) → line_in line ≡ r
+    → line_verdict n k r ≡ None → first_misfit k (events_in (line ∷ lines)) ≡ first_misfit (known_after k r) (events_in lines)
+same_misfit k line lines (Ok None) n is none = rw is refl
+same_misfit k line lines (Ok (Some event)) n is none = rw (is, no_cause (misfit k event) n none) refl
+same_misfit k line lines (Err what) n is none = absurd cc
+
+readable : (k : Knowledge) (line : List ℕ) (r : Result (Option KernelEvent) Unreadable) (n : ℕ) → line_in line ≡ r → line_verdict n k r ≡ None → IsOk (line_in line)
+readable k line (Ok event) n is none = rw is refl
+readable k line (Err what) n is none = absurd cc
+
+abbrev one_more : (n : ℕ) (k : Knowledge) (line : List ℕ) (lines : List (List ℕ)) (r : Result (Option KernelEvent) Unreadable) (at : ℕ) → line_in line ≡ r
+    → line_verdict n k r ≡ None → IsFirst (n + 1) (known_after k r) lines at → IsFirst n k (line ∷ lines) at
+one_more n k line lines r at is none f = record {
+  front = line ∷ f.front;
+  line = f.line;
+  rest = f.rest;
+  cut = ap (λ ls. line ∷ ls) f.cut;
+  number = omega (arith, f.number);
+  passes = ((readable k line r n is none, f.passes.0), same_misfit k line f.front r n is none ∙ f.passes.1);
+}
+
+counted : (k : Knowledge) (e : KernelEvent) → (learned k e).count ≡ k.count + 1
+counted k (kernel.SetUp t clock context) = refl
+counted k (kernel.Start t soft expires was) = refl
+counted k (kernel.Cancel t) = refl
+counted k (kernel.Entry t site now) = refl
+counted k (kernel.Exit t site) = refl
+counted k kernel.Lost = refl
+
+-- a line that passes counts as many events as it tells
+one_event : (k : Knowledge) (line : List ℕ) (lines : List (List ℕ)) (r : Result (Option KernelEvent) Unreadable) (n : ℕ) → line_in line ≡ r
+    → line_verdict n k r ≡ None → (known_after k r).count + length (events_in lines) ≡ k.count + length (events_in (line ∷ lines))
+one_event k line lines (Ok None) n is none = rw is refl
+one_event k line lines (Ok (Some event)) n is none = rw is (omega (arith, counted k event))
+one_event k line lines (Err what) n is none = absurd cc
+
+-- what an answer to the lines behind one that passes says, with that one before
+more : (n : ℕ) (k : Knowledge) (line : List ℕ) (lines : List (List ℕ)) (r : Result (Option KernelEvent) Unreadable) (v : Verdict) → line_in line ≡ r
+    → line_verdict n k r ≡ None → Says (n + 1) (known_after k r) lines v → Says n k (line ∷ lines) v
+more n k line lines r (verdicts.Fits events) is none s =
+    (((readable k line r n is none, s.0.0), same_misfit k line lines r n is none ∙ s.0.1), s.1 ∙ one_event k line lines r n is none)
+more n k line lines r (verdicts.Refused at cause) is none s = (
+  one_more n k line lines r at is none s.0,
+  s.1,
+  λ no_misfit. s.2 (sym (same_misfit k line (s.0.front ++ s.0.line ∷ []) r n is none) ∙ no_misfit),
+)
+more n k line lines r (verdicts.Unreadable at what) is none s = (one_more n k line lines r at is none s.0, s.1)
+
+-- the first line is the one
+abbrev here : (n : ℕ) (k : Knowledge) (line : List ℕ) (lines : List (List ℕ)) → IsFirst n k (line ∷ lines) n
+here n k line lines = record { front = []; line = line; rest = lines; cut = refl; number = omega arith; passes = (tt, refl) }
+
+not_none : {n : ℕ} {cause : Misfit} → ◌≡◌ {A = Option (ℕ × Misfit)} (Some (n, cause)) None → ⊥
+not_none e = absurd cc
+
+misfit_there : (k : Knowledge) (line : List ℕ) (event : KernelEvent) (cause : Misfit) → line_in line ≡ Ok (Some event) → misfit k event ≡ Some cause
+    → first_misfit k (events_in (line ∷ [])) ≡ None → ⊥
+misfit_there k line event cause is found no_misfit =
+    not_none (subst (λ o. misfit_or o k.count None ≡ None) found (subst (λ r. first_misfit k (told r ++ []) ≡ None) is no_misfit))
+
+-- a line is answered itself
+told_misfit : (n : ℕ) (k : Knowledge) (line : List ℕ) (lines : List (List ℕ)) (event : KernelEvent) (o : Option Misfit) (later : Verdict)
+    → line_in line ≡ Ok (Some event) → misfit k event ≡ o → Says (n + 1) (learned k event) lines later
+    → Says n k (line ∷ lines) (verdict_or (option_map (λ cause. verdicts.Refused n cause) o) later)
+told_misfit n k line lines event (Some cause) later is found s = (here n k line lines, rw is refl, λ no_misfit. misfit_there k line event cause is found no_misfit)
+told_misfit n k line lines event None later is found s =
+    more n k line lines (Ok (Some event)) later is (ap (λ o. option_map (λ cause. verdicts.Refused n cause) o) found) s
+
+by_line : (n : ℕ) (k : Knowledge) (line : List ℕ) (lines : List (List ℕ)) (r : Result (Option KernelEvent) Unreadable) (later : Verdict) → line_in line ≡ r
+    → Says (n + 1) (known_after k r) lines later → Says n k (line ∷ lines) (verdict_or (line_verdict n k r) later)
+by_line n k line lines (Ok None) later is s = more n k line lines (Ok None) later is refl s
+by_line n k line lines (Ok (Some event)) later is s = told_misfit n k line lines event (misfit k event) later is refl s
+by_line n k line lines (Err what) later is s = (here n k line lines, is)
+
+says : (n : ℕ) (k : Knowledge) (lines : List (List ℕ)) → Says n k lines (judged n k lines)
+says n k [] = ((tt, refl), omega arith)
+says n k (line ∷ lines) =
+    by_line n k line lines (line_in line) (judged (n + 1) (known_after k (line_in line)) lines) refl (says (n + 1) (known_after k (line_in line)) lines)
+
+abbrev first_is : (lines : List (List ℕ)) (at : ℕ) → IsFirst 1 (no_knowledge 0) lines at → lines_spec.IsFirst lines at
+first_is lines at f = record {
+  front = f.front;
+  line = f.line;
+  rest = f.rest;
+  cut = f.cut;
+  number = omega (arith, f.number);
+  fits = (f.passes.0, fitting_fits (events_in f.front) f.passes.1);
+}
+
+means : (lines : List (List ℕ)) (v : Verdict) → Says 1 (no_knowledge 0) lines v → Means lines v
+means lines (verdicts.Fits events) s = ((s.0.0, fitting_fits (events_in lines) s.0.1), omega (arith, s.1))
+means lines (verdicts.Refused at cause) s = (
+  first_is lines at s.0,
+  s.1,
+  λ fits. s.2 (fits_without_misfit (events_in (s.0.front ++ s.0.line ∷ [])) fits),
+)
+means lines (verdicts.Unreadable at what) s = (first_is lines at s.0, s.1)
+
+pub judged_means : (lines : List (List ℕ)) → Means lines (judged 1 (no_knowledge 0) lines)
+judged_means lines = means lines (judged 1 (no_knowledge 0) lines) (says 1 (no_knowledge 0) lines)
+
+pub answered : (bytes : List ℕ) (v : Verdict) → verdict_on bytes ≡ v → Answers bytes v
+answered bytes v is = (is, subst (λ u. Means (lines_of bytes) u) is (judged_means (lines_of bytes)))
+
+-- ---- what fits is answered so
+
+neither : (o : Option Misfit) (n : ℕ) (later : Option (ℕ × Misfit)) → misfit_or o n later ≡ None → (o ≡ None) × (later ≡ None)
+neither None n later none = (refl, none)
+neither (Some cause) n later none = absurd cc
+
+not_readable : (what : Unreadable) → IsOk {T = Option KernelEvent} (Err what) → ⊥
+not_readable what h = absurd cc
+
+not_refused : {events n : ℕ} {cause : Misfit} → verdicts.Fits events ≡ verdicts.Refused n cause → ⊥
+not_refused e = absurd cc
+
+not_unreadable : {events n : ℕ} {what : Unreadable} → verdicts.Fits events ≡ verdicts.Unreadable n what → ⊥
+not_unreadable e = absurd cc
+
+fits_by : (n : ℕ) (k : Knowledge) (line : List ℕ) (lines : List (List ℕ)) (r : Result (Option KernelEvent) Unreadable) → line_in line ≡ r
+    → Passes k (line ∷ lines) → (line_verdict n k r ≡ None) × Passes (known_after k r) lines
+fits_by n k line lines (Ok None) is p = (refl, (p.0.1, subst (λ r. first_misfit k (told r ++ events_in lines) ≡ None) is p.1))
+fits_by n k line lines (Ok (Some event)) is p =
+    let both = neither (misfit k event) k.count _ (subst (λ r. first_misfit k (told r ++ events_in lines) ≡ None) is p.1) in
+    (ap (λ o. option_map (λ cause. verdicts.Refused n cause) o) both.0, (p.0.1, both.1))
+fits_by n k line lines (Err what) is p = absurd (not_readable what (subst (λ r. IsOk r) is p.0.0))
+
+passes_fits : (n : ℕ) (k : Knowledge) (lines : List (List ℕ)) → Passes k lines → (events : ℕ) × (judged n k lines ≡ verdicts.Fits events)
+passes_fits n k [] p = (k.count, refl)
+passes_fits n k (line ∷ lines) p =
+    let first = fits_by n k line lines (line_in line) refl p in
+    let more = passes_fits (n + 1) (known_after k (line_in line)) lines first.1 in
+    (more.0, ap (λ v. verdict_or v (judged (n + 1) (known_after k (line_in line)) lines)) first.0 ∙ more.1)
+
+pub fit_verdict : (bytes : List ℕ) → Fit (lines_of bytes) → (events : ℕ) × (verdict_on bytes ≡ verdicts.Fits events)
+fit_verdict bytes fit = passes_fits 1 (no_knowledge 0) (lines_of bytes) (fit.0, fits_without_misfit (events_in (lines_of bytes)) fit.1)
+
+must_by : (bytes : List ℕ) (status : Status) (v : Verdict) → verdict_on bytes ≡ v → status ≡ status_of v → MustAnswer bytes status
+must_by bytes status (verdicts.Fits events) answer is = record { fits = λ fit. inl is; other = λ unfit. absurd (unfit ((answered bytes (verdicts.Fits events) answer).1.0)) }
+must_by bytes status (verdicts.Refused n cause) answer is = record {
+  fits = λ fit. absurd (not_refused (sym (fit_verdict bytes fit).1 ∙ answer));
+  other = λ unfit. inl is;
+}
+must_by bytes status (verdicts.Unreadable n what) answer is = record {
+  fits = λ fit. absurd (not_unreadable (sym (fit_verdict bytes fit).1 ∙ answer));
+  other = λ unfit. inr (inl is);
+}
+
+pub must_answer : (bytes : List ℕ) (status : Status) → MayEnd bytes status → MustAnswer bytes status
+must_answer bytes status end = elim end [
+  | inl is ↦ must_by bytes status (verdict_on bytes) refl is
+  | inr spent ↦ record { fits = λ fit. inr spent; other = λ unfit. inr (inr spent) }
+]

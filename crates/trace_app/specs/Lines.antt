@@ -1,0 +1,85 @@
+-- The lines of a text, and how they are answered.
+use Rattle.std.specs.Prelude.{ℕ, ◌≡◌, ◌+◌, ◌==◌, if◌then◌else◌, List, [], ◌∷◌, ◌++◌, length, Option, Some, None, option_map, Result, Ok, Err, IsOk}
+use Rattle.std.specs.List.{AllByRecursion, flat_map}
+use Rattle.std.specs.Option.{option_to_list}
+use Rattle.trace_text.specs.declared.event.KernelEvent.{KernelEvent}
+use Rattle.trace_text.specs.declared.unreadable.Unreadable.{Unreadable}
+use Rattle.trace_text.specs.Reading.{line_in}
+use Rattle.trace_check.specs.Fits.{FitsTrace}
+use Rattle.trace_check.specs.Knowledge.{Knowledge, misfit, learned, no_knowledge}
+use Rattle.trace_app.specs.declared.verdict.Verdict.{Verdict}
+use Rattle.trace_app.specs.declared.verdict.Verdict.TheVariants as verdicts
+
+-- the lines of bytes, of which the first begins with these
+abbrev pub lines_from : List ℕ → List ℕ → List (List ℕ)
+lines_from begun [] = begun ∷ []
+lines_from begun (b ∷ bs) = if b == 10 then begun ∷ lines_from [] bs else lines_from (begun ++ b ∷ []) bs
+
+-- the lines of a text: what stands before, between and behind its newlines
+abbrev pub lines_of : List ℕ → List (List ℕ)
+lines_of bytes = lines_from [] bytes
+
+-- ---- what a text tells
+
+-- the event of a line that was read
+abbrev pub told : Result (Option KernelEvent) Unreadable → List KernelEvent
+told (Ok event) = option_to_list event
+told (Err what) = []
+
+-- the events that lines tell, in order
+abbrev pub events_in : List (List ℕ) → List KernelEvent
+events_in lines = flat_map (λ line. told (line_in line)) lines
+
+-- each line can be read
+abbrev pub AreReadable : List (List ℕ) → Type 0
+AreReadable lines = AllByRecursion (λ line. IsOk (line_in line)) lines
+
+-- these lines can be read, and what they tell fits
+abbrev pub Fit : List (List ℕ) → Type 0
+Fit lines = AreReadable lines × FitsTrace (events_in lines)
+
+-- ---- how lines are answered one by one
+
+-- what is known after a line
+abbrev pub known_after : Knowledge → Result (Option KernelEvent) Unreadable → Knowledge
+known_after k (Ok (Some event)) = learned k event
+known_after k (Ok None) = k
+known_after k (Err what) = k
+
+-- the answer to line n, where it can't be read or no history shows it
+abbrev pub line_verdict : ℕ → Knowledge → Result (Option KernelEvent) Unreadable → Option Verdict
+line_verdict n k (Ok (Some event)) = option_map (λ cause. verdicts.Refused n cause) (misfit k event)
+line_verdict n k (Ok None) = None
+line_verdict n k (Err what) = Some (verdicts.Unreadable n what)
+
+-- a verdict, or else a later one
+abbrev pub verdict_or : Option Verdict → Verdict → Verdict
+verdict_or None later = later
+verdict_or (Some verdict) later = verdict
+
+-- the answer to lines, numbered on from n, behind those that told this
+abbrev pub judged : ℕ → Knowledge → List (List ℕ) → Verdict
+judged n k [] = verdicts.Fits k.count
+judged n k (line ∷ lines) = verdict_or (line_verdict n k (line_in line)) (judged (n + 1) (known_after k (line_in line)) lines)
+
+-- the answer to a text
+abbrev pub verdict_on : List ℕ → Verdict
+verdict_on bytes = judged 1 (no_knowledge 0) (lines_of bytes)
+
+-- ---- what an answer means
+
+-- the line of this number, of which those before it can be read and fit
+pub record IsFirst (lines : List (List ℕ)) (n : ℕ) : Type 0 where
+  pub front : List (List ℕ)
+  pub line : List ℕ
+  pub rest : List (List ℕ)
+  pub cut : lines ≡ front ++ line ∷ rest
+  pub number : n ≡ length front + 1
+  pub fits : Fit front
+
+-- all lines can be read and fit, and tell so many events; or with a line that can be read, behind lines that fit, no history shows the lines so far; or it can't be read
+abbrev pub Means : List (List ℕ) → Verdict → Type 0
+Means lines (verdicts.Fits events) = Fit lines × (events ≡ length (events_in lines))
+Means lines (verdicts.Refused n cause) =
+    (first : IsFirst lines n) × IsOk (line_in first.line) × (FitsTrace (events_in (first.front ++ first.line ∷ [])) → ⊥)
+Means lines (verdicts.Unreadable n what) = (first : IsFirst lines n) × (line_in first.line ≡ Err what)

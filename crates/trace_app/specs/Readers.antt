@@ -1,0 +1,28 @@
+-- What a reader of lines knows of the text so far.
+use Rattle.std.specs.Prelude.{ℕ, ◌≡◌, ◌++◌, List, Option, Some, None}
+use Rattle.trace_check.specs.Checkers.{HoldsKnowledge}
+use Rattle.trace_check.specs.Knowledge.{Knowledge}
+use Rattle.trace_app.specs.declared.verdict.Verdict.{Verdict}
+use Rattle.trace_app.specs.declared.reader.Reader.{Reader}
+use Rattle.trace_app.specs.Lines.{judged, lines_from}
+
+-- the answer to the text so far with these bytes behind it, by what a reader holds
+abbrev pub verdict_behind : Reader → Knowledge → List ℕ → Verdict
+verdict_behind r k rest = judged r.number k (lines_from r.begun.items rest)
+
+-- a reader's checker has taken what is known, and all of its events are counted
+pub record HasTaken (r : Reader) (known : Knowledge) : Type 0 where
+  pub holds : HoldsKnowledge r.checker known
+  pub events : r.events ≡ known.count
+
+-- a reader has read so far that this is the answer, by the bytes that come behind
+pub record Stands (r : Reader) (answer : List ℕ → Verdict) : Type 0 where
+  pub known : Knowledge
+  pub holds : HoldsKnowledge r.checker known
+  pub events : r.events ≡ known.count
+  pub answers : (rest : List ℕ) → answer rest ≡ verdict_behind r known rest
+
+-- after these bytes more there is an answer whatever follows, or the reader has read so far
+abbrev pub ReadsOn : Option Verdict → Reader → (List ℕ → Verdict) → List ℕ → Type 0
+ReadsOn (Some verdict) r answer bytes = (rest : List ℕ) → answer (bytes ++ rest) ≡ verdict
+ReadsOn None r answer bytes = Stands r (λ rest. answer (bytes ++ rest))

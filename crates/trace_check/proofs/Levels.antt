@@ -1,0 +1,599 @@
+-- TracedTimers of the model and plain ones: a history of the one kind is one of the other.
+use Rattle.std.proofs.Common.{◌≡◌, ◌≤◌, ℕ, ◌+◌, ◌*◌, ◌-◌, Bool, true, false, not, ◌&&◌, if◌then◌else◌, Option, Some, None, List, [], ◌∷◌, refl, sym, ap, subst, ◌∙◌, inl, inr, arith, nat_eq}
+use Rattle.std.specs.Prelude.{IfSome, is_some}
+use Rattle.std.proofs.lemmas.Bool.{and_from, and_parts, both_ways, cases_eq, eq-eqb, eqb-true, false_from_ne_true, not-false, not-true, not_from_false}
+use Rattle.ktime.specs.Readings.{ClockReading, value_of}
+use Rattle.ktime.specs.Times.{effective_clock}
+use Rattle.ktime.specs.declared.clock_id.ClockId.{ClockId}
+use Rattle.ktime.specs.declared.clock_id.ClockId.TheVariants as clocks
+use Rattle.ktime.specs.declared.mode.Mode.TheVariants as modes
+use Rattle.seq_timer.specs.declared.context.Context.{Context}
+use Rattle.seq_timer.specs.declared.event.EventBy.TheVariants as events
+use Rattle.seq_timer.specs.Calls.{asked_for, moves_first}
+use Rattle.seq_timer.specs.Events.{Asked}
+use Rattle.seq_timer.specs.Steps.{Timer, after, limited, opening, started}
+use Rattle.seq_timer.specs.Systems.{updated}
+use Rattle.seq_timer.specs.Tables.{rank}
+use Rattle.seq_timer.proofs.Systems.{updated_here, updated_else}
+use Rattle.trace_text.specs.declared.event.KernelEvent.{KernelEvent}
+use Rattle.trace_text.specs.declared.event.KernelEvent.TheVariants as kernel
+use Rattle.trace_text.specs.declared.event.Site.{Site}
+use Rattle.trace_check.specs.Fits as fits
+use Rattle.trace_check.specs.Fits.{order_of}
+use Rattle.trace_check.specs.Traced as traced
+use Rattle.trace_check.specs.Traced.{Goes, Spares, TracedTimers, Traced, context_at, is_ahead}
+use Rattle.trace_check.proofs.Plain.{Happen, IsBeginning, IsCancelled, IsEntered, IsExited, IsSetUp, IsStarted, HasTurn, Plain, PlainTimers, ShowsEvent, Spared}
+
+keep_clock : (declared present : ClockId) → effective_clock declared modes.Keep present ≡ present
+keep_clock clocks.Monotonic present = refl
+keep_clock clocks.Realtime present = refl
+keep_clock clocks.Boottime present = refl
+
+-- ---- from the model to plain timers
+
+abbrev pub plain_of : Traced → Plain
+plain_of r = record {
+  armed = is_some r.timer.armed;
+  soft = r.timer.soft;
+  expires = r.timer.expires;
+  clock = r.timer.clock;
+  base = r.timer.base;
+  running = is_some r.timer.running;
+  context = r.timer.declared.context;
+  clocked = r.clocked;
+  told = r.told;
+  order = r.order;
+}
+
+abbrev pub plain_all : TracedTimers → PlainTimers
+plain_all w t = plain_of (w t)
+
+spared_plain : (t : ℕ) (w w' : TracedTimers) → Spares t w w' → Spared t (plain_all w) (plain_all w')
+spared_plain t w w' spares u other = ap plain_of (spares u other)
+
+-- no timer is on the move between two events
+abbrev pub AreStill : TracedTimers → Type 0
+AreStill w = (t : ℕ) → (w t).timer.moving ≡ false
+
+still_all : (t : ℕ) (w w' : TracedTimers) → Spares t w w' → (w' t).timer.moving ≡ false → AreStill w → AreStill w'
+still_all t w w' spares here still u =
+    elim (cases_eq u t) [
+      | inl same ↦ subst (λ v. (w' v).timer.moving ≡ false) (sym same) here
+      | inr other ↦ subst (λ r. r.timer.moving ≡ false) (sym (spares u other)) (still u)
+    ]
+
+-- a start that is told leaves a timer so
+start_plain : (n soft expires processor : ℕ) (was : Option Bool) (reading : ClockReading) (old new : Traced) (first : Bool)
+    → moves_first old.timer processor ≡ first
+    → Goes old.timer (if first then events.Out processor ∷ events.Start (asked_for modes.Keep soft (expires - soft) processor reading) ∷ [] else events.Start
+    (asked_for modes.Keep soft (expires - soft) processor reading) ∷ []) new.timer
+    → new.timer.soft ≡ soft → new.timer.expires ≡ expires → IfSome was (λ b. is_some old.timer.armed ≡ b) → new.clocked ≡ old.clocked
+    → new.told ≡ old.told → new.order ≡ order_of n old.clocked (is_some old.timer.running)
+    → IsStarted n soft expires was (plain_of old) (plain_of new) × (new.timer.moving ≡ false)
+start_plain n soft expires processor was reading old new false moves goes from_soft to_hard is_was clocked told order =
+    let is = goes.1 in (
+      record {
+        keeps = record {
+          clock = ap (λ t. t.clock) is ∙ keep_clock old.timer.declared.clock old.timer.clock;
+          context = ap (λ t. t.declared.context) is;
+          clocked = clocked;
+        };
+        told = told;
+        order = order;
+        early = omega (arith, sym from_soft ∙ ap (λ t. t.soft) is, sym to_hard ∙ ap (λ t. t.expires) is);
+        late = omega (arith, sym to_hard ∙ ap (λ t. t.expires) is);
+        was = is_was;
+        armed = ap (λ t. is_some t.armed) is;
+        from_soft = from_soft;
+        to_hard = to_hard;
+        running = ap (λ t. is_some t.running) is;
+        base = λ run. ap (λ t. t.base) is;
+      },
+      ap (λ t. t.moving) is,
+    )
+start_plain n soft expires processor was reading old new true moves goes from_soft to_hard is_was clocked told order =
+    let is = goes.1.1 in (
+      record {
+        keeps = record {
+          clock = ap (λ t. t.clock) is ∙ keep_clock old.timer.declared.clock old.timer.clock;
+          context = ap (λ t. t.declared.context) is;
+          clocked = clocked;
+        };
+        told = told;
+        order = order;
+        early = omega (arith, sym from_soft ∙ ap (λ t. t.soft) is, sym to_hard ∙ ap (λ t. t.expires) is);
+        late = omega (arith, sym to_hard ∙ ap (λ t. t.expires) is);
+        was = is_was;
+        armed = ap (λ t. is_some t.armed) is;
+        from_soft = from_soft;
+        to_hard = to_hard;
+        running = ap (λ t. is_some t.running) is;
+        base = λ run. absurd (both_ways (is_some old.timer.running) goes.0.0 run);
+      },
+      ap (λ t. t.moving) is,
+    )
+
+turn_plain : (w : TracedTimers) (processor t : ℕ) → AreStill w → traced.HasTurn w processor t → HasTurn (plain_all w) processor t
+turn_plain w processor t still turn = record {
+  free = λ u context run at. both_ways _ (turn.free u context) (and_from _ _ run (eq-eqb _ _ at));
+  first = λ u m n other order_t order_u context armed at clock.
+      turn.first u m n other order_t order_u context
+      (and_from _ _ (and_from _ _ (and_from _ _ armed (not_from_false _ (still u))) (eq-eqb _ _ at)) (eq-eqb _ _ clock));
+}
+
+pub first_plain : (w : TracedTimers) → fits.IsBeginning w → IsBeginning (plain_all w)
+first_plain w b = record { alone = λ t u run_t run_u base context. b.alone t u run_t run_u base context; clocked = b.clocked; told = b.told; order = b.order }
+
+shows_plain : (n : ℕ) (e : KernelEvent) (w w' : TracedTimers) → AreStill w → fits.ShowsEvent n e w w' → ShowsEvent n e (plain_all w) (plain_all w') × AreStill w'
+shows_plain n (kernel.SetUp t clock context) w w' still s =
+    let fresh = s.0.fresh in
+    let is = fresh.2 in (
+      (
+        record {
+          unarmed = s.0.unarmed;
+          rests = s.0.rests;
+          still = ap (λ r. is_some r.armed) is;
+          stopped = ap (λ r. is_some r.running) is;
+          on = s.0.on;
+          within = s.0.within;
+          clocked = s.0.clocked;
+          told = s.0.told;
+          order = s.0.order;
+        },
+        spared_plain t w w' s.1,
+      ),
+      still_all t w w' s.1 (ap (λ r. r.moving) is) still,
+    )
+shows_plain n (kernel.Start t soft expires was) w w' still s =
+    let g = s.0.goes in
+    let p = start_plain n soft expires g.0 was g.1 (w t) (w' t) (moves_first (w t).timer g.0) refl g.2 s.0.from_soft s.0.to_hard s.0.was s.0.clocked s.0.told
+    s.0.order in
+    ((p.0, spared_plain t w w' s.1), still_all t w w' s.1 p.1 still)
+shows_plain n (kernel.Cancel t) w w' still s =
+    let needs = s.0.goes.0 in
+    let is = s.0.goes.1 in (
+      (
+        record {
+          keeps = record { clock = ap (λ r. r.clock) is; context = ap (λ r. r.declared.context) is; clocked = s.0.clocked };
+          told = s.0.told;
+          order = s.0.order;
+          armed = needs.0;
+          rests = needs.1;
+          unarmed = ap (λ r. is_some r.armed) is;
+          still = ap (λ r. is_some r.running) is ∙ needs.1;
+        },
+        spared_plain t w w' s.1,
+      ),
+      still_all t w w' s.1 (ap (λ r. r.moving) is ∙ still t) still,
+    )
+shows_plain n (kernel.Entry t site now) w w' still s =
+    let g = s.0.goes in
+    let needs = g.2.0 in
+    let is = g.2.1 in (
+      (
+        record {
+          keeps = record { clock = ap (λ r. r.clock) is; context = ap (λ r. r.declared.context) is; clocked = s.0.clocked };
+          told = s.0.told;
+          order = s.0.order;
+          context = s.0.context;
+          armed = needs.0;
+          rests = needs.2;
+          at = sym needs.1;
+          reached = omega (arith, needs.4, g.1);
+          unarmed = ap (λ r. is_some r.armed) is;
+          runs = ap (λ r. is_some r.running) is ∙ needs.0;
+          base = ap (λ r. r.base) is ∙ sym needs.1;
+        },
+        turn_plain w site.processor t still s.1,
+        spared_plain t w w' s.2,
+      ),
+      still_all t w w' s.2 (ap (λ r. r.moving) is ∙ still t) still,
+    )
+shows_plain n (kernel.Exit t site) w w' still s =
+    let needs = s.0.goes.0 in
+    let is = s.0.goes.1 in (
+      (
+        record {
+          keeps = record { clock = ap (λ r. r.clock) is; context = ap (λ r. r.declared.context) is; clocked = s.0.clocked };
+          told = s.0.told;
+          order = s.0.order;
+          context = s.0.context;
+          runs = needs;
+          at = s.0.base;
+          still = ap (λ r. is_some r.running) is;
+          armed = ap (λ r. is_some r.armed) is;
+          stays = λ armed. record { base = ap (λ r. r.base) is; soft = ap (λ r. r.soft) is; expires = ap (λ r. r.expires) is };
+        },
+        spared_plain t w w' s.1,
+      ),
+      still_all t w w' s.1 (ap (λ r. r.moving) is ∙ still t) still,
+    )
+shows_plain n kernel.Lost w w' still s = (first_plain w' s, s.still)
+
+pub plain_history : (n : ℕ) (w : TracedTimers) (es : List KernelEvent) → AreStill w → fits.Happen n w es → Happen n (plain_all w) es
+plain_history n w [] still h = tt
+plain_history n w (e ∷ es) still h =
+    let s = shows_plain n e w h.0 still h.1 in (plain_all h.0, s.0, plain_history (n + 1) h.0 es s.1 h.2)
+
+-- ---- from plain timers to the model
+
+-- a timer of the model is this plain one, and its history has room for so many events
+pub record Is (left : ℕ) (r : Traced) (p : Plain) : Type 0 where
+  pub armed : is_some r.timer.armed ≡ p.armed
+  pub running : is_some r.timer.running ≡ p.running
+  pub clock : r.timer.clock ≡ p.clock
+  pub context : r.timer.declared.context ≡ p.context
+  pub still : r.timer.moving ≡ false
+  pub base_armed : p.armed ≡ true → r.timer.base ≡ p.base
+  pub base_running : p.running ≡ true → r.timer.base ≡ p.base
+  pub soft : p.armed ≡ true → r.timer.soft ≡ p.soft
+  pub expires : p.armed ≡ true → r.timer.expires ≡ p.expires
+  pub clocked : r.clocked ≡ p.clocked
+  pub told : r.told ≡ p.told
+  pub order : r.order ≡ p.order
+  pub room : r.timer.stamp + 2 * left ≤ r.timer.terms.limit
+
+abbrev pub AreAll : ℕ → TracedTimers → PlainTimers → Type 0
+AreAll left w p = (t : ℕ) → Is left (w t) (p t)
+
+fewer : (left : ℕ) (r : Traced) (p : Plain) → Is (left + 1) r p → Is left r p
+fewer left r p i = record {
+  armed = i.armed;
+  running = i.running;
+  clock = i.clock;
+  context = i.context;
+  still = i.still;
+  base_armed = i.base_armed;
+  base_running = i.base_running;
+  soft = i.soft;
+  expires = i.expires;
+  clocked = i.clocked;
+  told = i.told;
+  order = i.order;
+  room = omega (arith, i.room);
+}
+
+-- a timer of the model for a plain one
+abbrev some_timer : Plain → ℕ → Timer
+some_timer p left = record {
+  declared = record { clock = p.clock; context = p.context };
+  clock = p.clock;
+  base = p.base;
+  soft = p.soft;
+  expires = p.expires;
+  armed = (if p.armed then Some 0 else None);
+  running = (if p.running then Some 0 else None);
+  moving = false;
+  stamp = 0;
+  terms = limited (2 * left);
+}
+
+abbrev traced_as : Plain → Timer → Traced
+traced_as p timer = record { timer = timer; clocked = p.clocked; told = p.told; order = p.order }
+
+some_if : (b : Bool) → is_some {T = ℕ} (if b then Some 0 else None) ≡ b
+some_if true = refl
+some_if false = refl
+
+is_some_timer : (p : Plain) (left : ℕ) → Is left (traced_as p (some_timer p left)) p
+is_some_timer p left = record {
+  armed = some_if p.armed;
+  running = some_if p.running;
+  clock = refl;
+  context = refl;
+  still = refl;
+  base_armed = λ is. refl;
+  base_running = λ is. refl;
+  soft = λ is. refl;
+  expires = λ is. refl;
+  clocked = refl;
+  told = refl;
+  order = refl;
+  room = omega arith;
+}
+
+pub first_timers : (p : PlainTimers) (left : ℕ) → IsBeginning p → (w : TracedTimers) × fits.IsBeginning w × AreAll left w p
+first_timers p left b = (
+  λ t. traced_as (p t) (some_timer (p t) left),
+  record {
+    still = λ t. refl;
+    alone = λ t u run_t run_u base context. b.alone t u (sym (some_if (p t).running) ∙ run_t) (sym (some_if (p u).running) ∙ run_u) base context;
+    clocked = b.clocked;
+    told = b.told;
+    order = b.order;
+  },
+  λ t. is_some_timer (p t) left,
+)
+
+-- ---- one timer
+
+-- what an event makes of a timer of the model, where it makes this of the plain one
+abbrev Makes : ℕ → (Traced → Traced → Type 0) → Traced → Plain → Type 0
+Makes left Step r p' = (r' : Traced) × Step r r' × Is left r' p'
+
+make_set_up : (left : ℕ) (clock : Option ClockId) (context : Option Context) (r : Traced) (p p' : Plain) → Is (left + 1) r p
+    → IsSetUp clock context p p' → Makes left (fits.IsSetUp clock context) r p'
+make_set_up left clock context r p p' i s = (
+  traced_as p' (opening (record { clock = p'.clock; context = p'.context }) (limited (2 * left))),
+  record {
+    unarmed = i.armed ∙ s.unarmed;
+    rests = i.running ∙ s.rests;
+    fresh = (record { clock = p'.clock; context = p'.context }, 2 * left, refl);
+    on = s.on;
+    within = s.within;
+    clocked = s.clocked;
+    told = s.told;
+    order = s.order;
+  },
+  record {
+    armed = sym s.still;
+    running = sym s.stopped;
+    clock = refl;
+    context = refl;
+    still = refl;
+    base_armed = λ is. absurd (both_ways p'.armed s.still is);
+    base_running = λ is. absurd (both_ways p'.running s.stopped is);
+    soft = λ is. absurd (both_ways p'.armed s.still is);
+    expires = λ is. absurd (both_ways p'.armed s.still is);
+    clocked = refl;
+    told = refl;
+    order = refl;
+    room = omega arith;
+  },
+)
+
+make_cancel : (left : ℕ) (r : Traced) (p p' : Plain) → Is (left + 1) r p → IsCancelled p p' → Makes left fits.IsCancelled r p'
+make_cancel left r p p' i s = (
+  traced_as p' (after r.timer events.Cancel),
+  record {
+    goes = ((i.armed ∙ s.armed, i.running ∙ s.rests, i.still), refl);
+    clocked = s.keeps.clocked ∙ sym i.clocked;
+    told = s.told ∙ sym i.told;
+    order = s.order;
+  },
+  record {
+    armed = sym s.unarmed;
+    running = i.running ∙ s.rests ∙ sym s.still;
+    clock = i.clock ∙ sym s.keeps.clock;
+    context = i.context ∙ sym s.keeps.context;
+    still = i.still;
+    base_armed = λ is. absurd (both_ways p'.armed s.unarmed is);
+    base_running = λ is. absurd (both_ways p'.running s.still is);
+    soft = λ is. absurd (both_ways p'.armed s.unarmed is);
+    expires = λ is. absurd (both_ways p'.armed s.unarmed is);
+    clocked = refl;
+    told = refl;
+    order = refl;
+    room = omega (arith, i.room);
+  },
+)
+
+-- a reading in which each clock shows this time
+abbrev all_at : ℕ → ClockReading
+all_at now = record { stamp = 0; mono = now; real = now; boot = now; changes = 0 }
+
+shows_now : (clock : ClockId) (now : ℕ) → value_of clock (all_at now) ≡ now
+shows_now clocks.Monotonic now = refl
+shows_now clocks.Realtime now = refl
+shows_now clocks.Boottime now = refl
+
+make_entry : (left : ℕ) (site : Site) (now : ℕ) (r : Traced) (p p' : Plain) → Is (left + 1) r p → IsEntered site now p p'
+    → Makes left (fits.IsEntered site now) r p'
+make_entry left site now r p p' i s =
+    let at : r.timer.base ≡ site.processor = i.base_armed s.armed ∙ s.at in
+    let context : context_at site.context p.told ≡ context_at site.context r.told = ap (λ o. context_at site.context o) (sym i.told) in (
+      traced_as p' (after r.timer (events.Claim site.processor (all_at now))),
+      record {
+        goes = (
+          all_at now,
+          shows_now r.timer.clock now,
+          (
+            (i.armed ∙ s.armed, sym at, i.running ∙ s.rests, i.still, omega (arith, i.soft s.armed, s.reached, shows_now r.timer.clock now)),
+            refl,
+          ),
+        );
+        context = i.context ∙ s.context ∙ context;
+        clocked = s.keeps.clocked ∙ sym i.clocked;
+        told = s.told ∙ ap Some context;
+        order = s.order;
+      },
+      record {
+        armed = sym s.unarmed;
+        running = i.armed ∙ s.armed ∙ sym s.runs;
+        clock = i.clock ∙ sym s.keeps.clock;
+        context = i.context ∙ sym s.keeps.context;
+        still = i.still;
+        base_armed = λ is. at ∙ sym s.base;
+        base_running = λ is. at ∙ sym s.base;
+        soft = λ is. absurd (both_ways p'.armed s.unarmed is);
+        expires = λ is. absurd (both_ways p'.armed s.unarmed is);
+        clocked = refl;
+        told = refl;
+        order = refl;
+        room = omega (arith, i.room);
+      },
+    )
+
+make_exit : (left : ℕ) (site : Site) (r : Traced) (p p' : Plain) → Is (left + 1) r p → IsExited site p p' → Makes left (fits.IsExited site) r p'
+make_exit left site r p p' i s =
+    let at : r.timer.base ≡ site.processor = i.base_running s.runs ∙ s.at in
+    let context : context_at site.context p.told ≡ context_at site.context r.told = ap (λ o. context_at site.context o) (sym i.told) in (
+      traced_as p' (after r.timer (events.Finish false)),
+      record {
+        goes = (i.running ∙ s.runs, refl);
+        base = at;
+        context = i.context ∙ s.context ∙ context;
+        clocked = s.keeps.clocked ∙ sym i.clocked;
+        told = s.told ∙ ap Some context;
+        order = s.order ∙ sym i.order;
+      },
+      record {
+        armed = i.armed ∙ sym s.armed;
+        running = sym s.still;
+        clock = i.clock ∙ sym s.keeps.clock;
+        context = i.context ∙ sym s.keeps.context;
+        still = i.still;
+        base_armed = λ is. i.base_running s.runs ∙ sym (s.stays is).base;
+        base_running = λ is. absurd (both_ways p'.running s.still is);
+        soft = λ is. i.soft (sym s.armed ∙ is) ∙ sym (s.stays is).soft;
+        expires = λ is. i.expires (sym s.armed ∙ is) ∙ sym (s.stays is).expires;
+        clocked = refl;
+        told = refl;
+        order = refl;
+        room = omega (arith, i.room);
+      },
+    )
+
+-- what a start asks for
+abbrev asks : ℕ → ℕ → ℕ → Asked
+asks soft expires processor = asked_for modes.Keep soft (expires - soft) processor (all_at 0)
+
+started_is : (n left soft expires processor : ℕ) (was : Option Bool) (r : Traced) (p p' : Plain) (t : Timer) → Is (left + 1) r p
+    → IsStarted n soft expires was p p' → t.declared ≡ r.timer.declared → t.clock ≡ r.timer.clock → t.running ≡ r.timer.running → t.terms ≡ r.timer.terms
+    → t.stamp + 1 ≤ r.timer.stamp + 2 → t.base ≡ p'.base → Is left (traced_as p' (started t (asks soft expires processor))) p'
+started_is n left soft expires processor was r p p' t i s declared clock running terms stamp base = record {
+  armed = sym s.armed;
+  running = ap (λ o. is_some o) running ∙ i.running ∙ sym s.running;
+  clock = keep_clock t.declared.clock t.clock ∙ clock ∙ i.clock ∙ sym s.keeps.clock;
+  context = ap (λ d. d.context) declared ∙ i.context ∙ sym s.keeps.context;
+  still = refl;
+  base_armed = λ is. base;
+  base_running = λ is. base;
+  soft = λ is. omega (arith, s.early, s.late, s.from_soft);
+  expires = λ is. omega (arith, s.early, s.late, s.to_hard);
+  clocked = refl;
+  told = refl;
+  order = refl;
+  room = omega (arith, i.room, stamp, ap (λ o. o.limit) terms);
+}
+
+-- a timer that is started without an Out is where it is started
+stays_there : (run : Bool) (base asked : ℕ) → not run && not (nat_eq base asked) ≡ false → (run ≡ true → base ≡ asked) → base ≡ asked
+stays_there true base asked moves runs_ = runs_ refl
+stays_there false base asked moves runs_ = eqb-true base asked (not-false _ moves)
+
+was_as : (was : Option Bool) {a b : Bool} → a ≡ b → IfSome was (λ x. b ≡ x) → IfSome was (λ x. a ≡ x)
+was_as None same h = tt
+was_as (Some x) same h = same ∙ h
+
+make_start_by : (n left soft expires : ℕ) (was : Option Bool) (r : Traced) (p p' : Plain) → Is (left + 1) r p → IsStarted n soft expires was p p'
+    → (first : Bool) → moves_first r.timer p'.base ≡ first
+    → Makes left (fits.IsStarted n soft expires was) r p'
+make_start_by n left soft expires was r p p' i s false moves =
+    let asked = asks soft expires p'.base in
+    let stays : r.timer.base ≡ p'.base = stays_there (is_some r.timer.running) r.timer.base p'.base moves
+    (λ run. i.base_running (sym i.running ∙ run) ∙ sym (s.base (sym i.running ∙ run))) in (
+      traced_as p' (started r.timer asked),
+      record {
+        goes = (
+          p'.base,
+          all_at 0,
+          subst (λ b. Goes r.timer (if b then events.Out p'.base ∷ events.Start asked ∷ [] else events.Start asked ∷ [])
+              (started r.timer asked)) (sym moves) ((inr (sym stays), inl (omega (arith, i.room))), refl),
+        );
+        from_soft = omega (arith, s.early, s.late);
+        to_hard = omega (arith, s.early, s.late);
+        was = was_as was i.armed s.was;
+        clocked = s.keeps.clocked ∙ sym i.clocked;
+        told = s.told ∙ sym i.told;
+        order = s.order ∙ ap (λ b. order_of n b p.running) (sym i.clocked) ∙ ap (λ b. order_of n r.clocked b) (sym i.running);
+      },
+      started_is n left soft expires p'.base was r p p' r.timer i s refl refl refl refl (omega arith) stays,
+    )
+make_start_by n left soft expires was r p p' i s true moves =
+    let asked = asks soft expires p'.base in
+    let out = after r.timer (events.Out p'.base) in
+    let parts = and_parts (not (is_some r.timer.running)) (not (nat_eq r.timer.base p'.base)) moves in
+    let rested : is_some r.timer.running ≡ false = not-true _ parts.0 in
+    let other : p'.base ≡ r.timer.base → ⊥ = λ same. both_ways _ (not-true _ parts.1) (eq-eqb _ _ (sym same)) in (
+      traced_as p' (started out asked),
+      record {
+        goes = (
+          p'.base,
+          all_at 0,
+          subst (λ b. Goes r.timer (if b then events.Out p'.base ∷ events.Start asked ∷ [] else events.Start asked ∷ [])
+              (started out asked)) (sym moves) ((rested, i.still, other, omega (arith, i.room)), ((inr refl, inr refl), refl)),
+        );
+        from_soft = omega (arith, s.early, s.late);
+        to_hard = omega (arith, s.early, s.late);
+        was = was_as was i.armed s.was;
+        clocked = s.keeps.clocked ∙ sym i.clocked;
+        told = s.told ∙ sym i.told;
+        order = s.order ∙ ap (λ b. order_of n b p.running) (sym i.clocked) ∙ ap (λ b. order_of n r.clocked b) (sym i.running);
+      },
+      started_is n left soft expires p'.base was r p p' out i s refl refl refl refl (omega arith) refl,
+    )
+
+-- ---- all timers
+
+all_but : (left t : ℕ) (w : TracedTimers) (p p' : PlainTimers) (r' : Traced) → AreAll (left + 1) w p → Spared t p p' → Is left r' (p' t)
+    → AreAll left (updated w t r') p'
+all_but left t w p p' r' all spared here u =
+    elim (cases_eq u t) [
+      | inl same ↦ subst (λ v. Is left (updated w t r' v) (p' v)) (sym same) (subst (λ r. Is left r (p' t)) (sym (updated_here w t r')) here)
+      | inr other ↦ subst (λ r. Is left r (p' u)) (sym (updated_else w t u r' other))
+          (subst (λ q. Is left (w u) q) (sym (spared u other)) (fewer left (w u) (p u) (all u)))
+    ]
+
+-- such timers of the model, and the event that led to them
+abbrev Comes : ℕ → ℕ → KernelEvent → TracedTimers → PlainTimers → Type 0
+Comes n left e w p' = (w' : TracedTimers) × fits.ShowsEvent n e w w' × AreAll left w' p'
+
+spares_but : (w : TracedTimers) (t : ℕ) (r' : Traced) → Spares t w (updated w t r')
+spares_but w t r' u other = updated_else w t u r' other
+
+turn_of : (left processor t : ℕ) (w : TracedTimers) (p : PlainTimers) → AreAll (left + 1) w p → HasTurn p processor t → (p t).armed ≡ true
+    → traced.HasTurn w processor t
+turn_of left processor t w p all turn armed_t = record {
+  free = λ u context. false_from_ne_true _ (λ run.
+      let parts = and_parts (is_some (w u).timer.running) (nat_eq (w u).timer.base processor) run in
+      let running = sym (all u).running ∙ parts.0 in
+      turn.free u (sym (all u).context ∙ context ∙ (all t).context) running (sym ((all u).base_running running) ∙ eqb-true _ _ parts.1));
+  first = λ u m n other order_t order_u context kept.
+      let on = and_parts _ (nat_eq (rank (w u).timer.clock) (rank (w t).timer.clock)) kept in
+      let at = and_parts _ (nat_eq (w u).timer.base processor) on.0 in
+      let armed_u = sym (all u).armed ∙ (and_parts (is_some (w u).timer.armed) (not (w u).timer.moving) at.0).0 in
+      subst (λ e. is_ahead e m (w u).timer.expires n ≡ true) (sym ((all t).expires armed_t))
+      (subst (λ e. is_ahead (p t).expires m e n ≡ true) (sym ((all u).expires armed_u))
+      (turn.first u m n other (sym (all t).order ∙ order_t) (sym (all u).order ∙ order_u) (sym (all u).context ∙ context ∙ (all t).context) armed_u
+      (sym ((all u).base_armed armed_u) ∙ eqb-true _ _ at.1)
+      (ap rank (sym (all u).clock) ∙ eqb-true _ _ on.1 ∙ ap rank (all t).clock)));
+}
+
+comes : (n left : ℕ) (e : KernelEvent) (w : TracedTimers) (p p' : PlainTimers) → AreAll (left + 1) w p → ShowsEvent n e p p' → Comes n left e w p'
+comes n left (kernel.SetUp t clock context) w p p' all s =
+    let m = make_set_up left clock context (w t) (p t) (p' t) (all t) s.0 in
+    (updated w t m.0, (subst (λ r. fits.IsSetUp clock context (w t) r) (sym (updated_here w t m.0)) m.1, spares_but w t m.0), all_but left t w p p' m.0 all s.1 m.2)
+comes n left (kernel.Start t soft expires was) w p p' all s =
+    let m = make_start_by n left soft expires was (w t) (p t) (p' t) (all t) s.0 (moves_first (w t).timer (p' t).base) refl in (
+      updated w t m.0,
+      (subst (λ r. fits.IsStarted n soft expires was (w t) r) (sym (updated_here w t m.0)) m.1, spares_but w t m.0),
+      all_but left t w p p' m.0 all s.1 m.2,
+    )
+comes n left (kernel.Cancel t) w p p' all s =
+    let m = make_cancel left (w t) (p t) (p' t) (all t) s.0 in
+    (updated w t m.0, (subst (λ r. fits.IsCancelled (w t) r) (sym (updated_here w t m.0)) m.1, spares_but w t m.0), all_but left t w p p' m.0 all s.1 m.2)
+comes n left (kernel.Entry t site now) w p p' all s =
+    let m = make_entry left site now (w t) (p t) (p' t) (all t) s.0 in (
+      updated w t m.0,
+      (
+        subst (λ r. fits.IsEntered site now (w t) r) (sym (updated_here w t m.0)) m.1,
+        turn_of left site.processor t w p all s.1 s.0.armed,
+        spares_but w t m.0,
+      ),
+      all_but left t w p p' m.0 all s.2 m.2,
+    )
+comes n left (kernel.Exit t site) w p p' all s =
+    let m = make_exit left site (w t) (p t) (p' t) (all t) s.0 in
+    (updated w t m.0, (subst (λ r. fits.IsExited site (w t) r) (sym (updated_here w t m.0)) m.1, spares_but w t m.0), all_but left t w p p' m.0 all s.1 m.2)
+comes n left kernel.Lost w p p' all s = first_timers p' left s
+
+-- how many events there are
+abbrev pub size : List KernelEvent → ℕ
+size [] = 0
+size (e ∷ es) = size es + 1
+
+pub model_history : (n : ℕ) (w : TracedTimers) (p : PlainTimers) (es : List KernelEvent) → AreAll (size es) w p → Happen n p es → fits.Happen n w es
+model_history n w p [] all h = tt
+model_history n w p (e ∷ es) all h =
+    let c = comes n (size es) e w p h.0 all h.1 in (c.0, c.1, model_history (n + 1) c.0 h.0 es c.2 h.2)

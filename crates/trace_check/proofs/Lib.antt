@@ -1,0 +1,9 @@
+pub mod Plain
+pub mod Agreement
+pub mod Parts
+pub mod Forth
+pub mod Soundness
+pub mod Back
+pub mod Levels
+pub mod Histories
+pub mod Padding

@@ -1,0 +1,276 @@
+-- What the lines of a trace so far tell, and why no history shows a line behind them.
+use Rattle.std.specs.Prelude.{ℕ, ◌+◌, ◌*◌, Bool, true, false, not, ◌&&◌, nat_eq, nat_lt, is_some, if◌then◌else◌, Option, Some, None, List, [], ◌∷◌}
+use Rattle.std.specs.List.{list_any}
+use Rattle.ktime.specs.Times.{last_time}
+use Rattle.ktime.specs.declared.clock_id.ClockId.{ClockId}
+use Rattle.seq_timer.specs.declared.context.Context.{Context}
+use Rattle.seq_timer.specs.declared.context.Context.TheVariants as contexts
+use Rattle.seq_timer.specs.Systems.{updated}
+use Rattle.seq_timer.specs.Tables.{is_context, rank}
+use Rattle.trace_text.specs.declared.event.KernelEvent.{KernelEvent}
+use Rattle.trace_text.specs.declared.event.KernelEvent.TheVariants as kernel
+use Rattle.trace_text.specs.declared.event.Site.{Site}
+use Rattle.trace_check.specs.declared.misfit.Misfit.{Misfit}
+use Rattle.trace_check.specs.declared.misfit.Misfit.TheVariants as causes
+use Rattle.trace_check.specs.declared.known.ArmedKnown.{ArmedKnown}
+use Rattle.trace_check.specs.declared.known.ArmedKnown.TheVariants as arms
+use Rattle.trace_check.specs.declared.known.OrderedExpiry.{OrderedExpiry}
+use Rattle.trace_check.specs.declared.known.FunctionKnown.{FunctionKnown}
+use Rattle.trace_check.specs.declared.known.FunctionKnown.TheVariants as functions
+use Rattle.trace_check.specs.declared.known.HalfKnown.{HalfKnown}
+use Rattle.trace_check.specs.declared.known.HalfKnown.TheVariants as halves
+use Rattle.trace_check.specs.declared.known.KnownTimer.{KnownTimer}
+use Rattle.trace_check.specs.Traced.{is_ahead, context_at}
+
+-- what is known of each timer and of each half of a processor, the expiries so far that took part in an order, and how many events there were
+pub record Knowledge : Type 0 where
+  pub timers : ℕ → KnownTimer
+  pub halves : ℕ → HalfKnown
+  pub claims : List OrderedExpiry
+  pub count : ℕ
+
+-- the number of a processor's half for a context
+abbrev pub half_number : ℕ → Context → ℕ
+half_number processor contexts.Hard = 2 * processor
+half_number processor contexts.Soft = 2 * processor + 1
+
+-- nothing is known of a timer
+abbrev pub unknown : KnownTimer
+unknown = record { armed = arms.Untold; function = functions.Untold; clock = None; context = None; home = None; order = None }
+
+-- nothing is known, after so many events
+abbrev pub no_knowledge : ℕ → Knowledge
+no_knowledge n = record { timers = λ t. unknown; halves = λ h. halves.Untold; claims = []; count = n }
+
+-- ---- what a line tells
+
+-- where a start queues a timer, as far as that is known: where its function runs, if it does
+abbrev pub home_by : FunctionKnown → Option ℕ
+home_by functions.Untold = None
+home_by functions.Rests = None
+home_by (functions.Runs processor context) = Some processor
+
+-- it is known that the function rests
+abbrev pub rests : FunctionKnown → Bool
+rests functions.Untold = false
+rests functions.Rests = true
+rests (functions.Runs processor context) = false
+
+-- what is known of a timer that was set up
+abbrev pub known_set_up : Option ClockId → Option Context → KnownTimer
+known_set_up clock context = record { armed = arms.No; function = functions.Rests; clock = clock; context = context; home = None; order = None }
+
+-- that was started by event n
+abbrev pub known_started : ℕ → ℕ → ℕ → KnownTimer → KnownTimer
+known_started n soft expires k = record k {
+  armed = arms.Until soft expires;
+  home = home_by k.function;
+  order = (if is_some k.clock && rests k.function then Some n else None);
+}
+
+-- that was cancelled
+abbrev pub known_cancelled : KnownTimer → KnownTimer
+known_cancelled k = record k { armed = arms.No; function = functions.Rests; home = None; order = None }
+
+-- that has expired, so that its function runs
+abbrev pub known_entered : Site → KnownTimer → KnownTimer
+known_entered site k = record k {
+  armed = arms.No;
+  function = functions.Runs site.processor (context_at site.context k.context);
+  context = Some (context_at site.context k.context);
+  home = None;
+  order = None;
+}
+
+-- where a timer is queued whose function has returned: if nothing had told that it ran, it was armed meanwhile, if at all
+abbrev pub home_after : ℕ → FunctionKnown → Option ℕ → Option ℕ
+home_after processor functions.Untold home = Some processor
+home_after processor functions.Rests home = home
+home_after processor (functions.Runs at context) home = home
+
+-- whose function has returned
+abbrev pub known_exited : Site → KnownTimer → KnownTimer
+known_exited site k = record k {
+  function = functions.Rests;
+  context = Some (context_at site.context k.context);
+  home = home_after site.processor k.function k.home;
+}
+
+-- an expiry by event n, where it takes part in the order of its queue
+abbrev pub claim_by : ℕ → ℕ → Context → ArmedKnown → Option ClockId → Option ℕ → Option OrderedExpiry
+claim_by n processor context (arms.Until soft expires) (Some clock) (Some order) = Some (record {
+  processor = processor;
+  context = context;
+  clock = clock;
+  expires = expires;
+  order = order;
+  at = n;
+})
+claim_by n processor context armed clock order = None
+
+-- the expiry of a timer of which this is known, where it takes part
+abbrev pub claim_of : ℕ → Site → KnownTimer → Option OrderedExpiry
+claim_of n site k = claim_by n site.processor (context_at site.context k.context) k.armed k.clock k.order
+
+-- one more expiry, if it takes part
+abbrev pub with_claim : Option OrderedExpiry → List OrderedExpiry → List OrderedExpiry
+with_claim None claims = claims
+with_claim (Some claim) claims = claim ∷ claims
+
+-- with this known of a timer, after one more event
+abbrev pub with_known : Knowledge → ℕ → KnownTimer → Knowledge
+with_known k t known = record k { timers = updated k.timers t known; count = k.count + 1 }
+
+-- what is known after one more event, which some history shows
+abbrev pub learned : Knowledge → KernelEvent → Knowledge
+learned k (kernel.SetUp t clock context) = with_known k t (known_set_up clock context)
+learned k (kernel.Start t soft expires was_armed) = with_known k t (known_started k.count soft expires (k.timers t))
+learned k (kernel.Cancel t) = with_known k t (known_cancelled (k.timers t))
+learned k (kernel.Entry t site now) = record (with_known k t (known_entered site (k.timers t))) {
+  halves = updated k.halves (half_number site.processor (context_at site.context (k.timers t).context)) (halves.Taken t);
+  claims = with_claim (claim_of k.count site (k.timers t)) k.claims;
+}
+learned k (kernel.Exit t site) = record (with_known k t (known_exited site (k.timers t))) {
+  halves = updated k.halves (half_number site.processor (context_at site.context (k.timers t).context)) halves.Free;
+}
+learned k kernel.Lost = no_knowledge (k.count + 1)
+
+-- ---- why no history shows an event
+
+-- the first of these tests that holds tells the cause
+abbrev pub first_that_holds : List (Bool × Misfit) → Option Misfit
+first_that_holds [] = None
+first_that_holds (p ∷ ps) = if p.0 then Some p.1 else first_that_holds ps
+
+abbrev pub is_unarmed : ArmedKnown → Bool
+is_unarmed arms.Untold = false
+is_unarmed arms.No = true
+is_unarmed (arms.Until soft expires) = false
+
+abbrev pub is_armed : ArmedKnown → Bool
+is_armed arms.Untold = false
+is_armed arms.No = false
+is_armed (arms.Until soft expires) = true
+
+abbrev pub runs : FunctionKnown → Bool
+runs functions.Untold = false
+runs functions.Rests = false
+runs (functions.Runs processor context) = true
+
+-- the soft expiry, where it is known
+abbrev pub soft_of : ArmedKnown → ℕ
+soft_of arms.Untold = 0
+soft_of arms.No = 0
+soft_of (arms.Until soft expires) = soft
+
+-- it was told, and is another one
+abbrev pub is_other_processor : ℕ → Option ℕ → Bool
+is_other_processor processor None = false
+is_other_processor processor (Some known) = not (nat_eq known processor)
+
+abbrev pub is_other_context : Context → Option Context → Bool
+is_other_context context None = false
+is_other_context context (Some known) = not (is_context known context)
+
+-- it was told whether the timer was armed, and that was not so
+abbrev pub tells_armed : Option Bool → Bool
+tells_armed None = false
+tells_armed (Some was) = was
+
+abbrev pub tells_unarmed : Option Bool → Bool
+tells_unarmed None = false
+tells_unarmed (Some was) = not was
+
+-- a function runs in a half
+abbrev pub is_taken : HalfKnown → Bool
+is_taken halves.Untold = false
+is_taken halves.Free = false
+is_taken (halves.Taken timer) = true
+
+-- the timer whose function runs there
+abbrev pub runner : HalfKnown → ℕ
+runner halves.Untold = 0
+runner halves.Free = 0
+runner (halves.Taken timer) = timer
+
+abbrev pub is_untold : HalfKnown → Bool
+is_untold halves.Untold = true
+is_untold halves.Free = false
+is_untold (halves.Taken timer) = false
+
+-- a timer's function may run in a half: it is known to run there, or nothing is known of either
+abbrev pub may_run : ℕ → Context → HalfKnown → FunctionKnown → Bool
+may_run processor context half functions.Untold = is_untold half
+may_run processor context half functions.Rests = false
+may_run processor context half (functions.Runs at known) = nat_eq at processor && is_context known context
+
+-- an earlier expiry of the same queue that came while this one waited, and had no turn before it
+abbrev pub passes : OrderedExpiry → OrderedExpiry → Bool
+passes earlier claim =
+    nat_eq earlier.processor claim.processor && is_context earlier.context claim.context && nat_eq (rank earlier.clock) (rank claim.clock)
+    && (nat_lt claim.order earlier.at && not (is_ahead earlier.expires earlier.order claim.expires claim.order))
+
+abbrev pub is_passed : List OrderedExpiry → Option OrderedExpiry → Bool
+is_passed claims None = false
+is_passed claims (Some claim) = list_any (λ earlier. passes earlier claim) claims
+
+-- what is wrong with a set-up, a start and a cancel of a timer of which this is known
+abbrev pub misfits_of_set_up : KnownTimer → List (Bool × Misfit)
+misfits_of_set_up k = (is_armed k.armed, causes.SetUpArmed) ∷ (runs k.function, causes.SetUpRunning) ∷ []
+
+abbrev pub misfits_of_start : ℕ → ℕ → Option Bool → KnownTimer → List (Bool × Misfit)
+misfits_of_start soft expires was_armed k =
+    (nat_lt expires soft, causes.SoftAfterHard)
+    ∷ (nat_lt last_time expires, causes.PastTime)
+    ∷ (tells_armed was_armed && is_unarmed k.armed, causes.WasNotArmed)
+    ∷ (tells_unarmed was_armed && is_armed k.armed, causes.WasArmed)
+    ∷ []
+
+abbrev pub misfits_of_cancel : KnownTimer → List (Bool × Misfit)
+misfits_of_cancel k = (runs k.function, causes.Running) ∷ (is_unarmed k.armed, causes.NotArmed) ∷ []
+
+-- what is wrong with an expiry, where this is known of its timer and of the half of its processor, and whether it was passed
+abbrev pub misfits_of_entry : Site → ℕ → KnownTimer → HalfKnown → Bool → List (Bool × Misfit)
+misfits_of_entry site now k half passed =
+    (runs k.function, causes.Running)
+    ∷ (is_unarmed k.armed, causes.NotArmed)
+    ∷ (is_other_processor site.processor k.home, causes.OtherProcessor)
+    ∷ (is_other_context (context_at site.context k.context) k.context, causes.OtherContext)
+    ∷ (nat_lt now (soft_of k.armed), causes.TooEarly (soft_of k.armed) now)
+    ∷ (is_taken half, causes.SecondFunction (runner half))
+    ∷ (passed, causes.OutOfOrder)
+    ∷ []
+
+-- what is wrong with a return
+abbrev pub misfits_of_exit : Site → KnownTimer → HalfKnown → List (Bool × Misfit)
+misfits_of_exit site k half =
+    (is_other_context (context_at site.context k.context) k.context, causes.OtherContext)
+    ∷ (not (may_run site.processor (context_at site.context k.context) half k.function), causes.NotRunning)
+    ∷ []
+
+-- the half that a line was told in
+abbrev pub half_at : Knowledge → ℕ → Site → HalfKnown
+half_at k t site = k.halves (half_number site.processor (context_at site.context (k.timers t).context))
+
+-- what may be wrong with an event, in the order in which it is looked for
+abbrev pub misfits_of : Knowledge → KernelEvent → List (Bool × Misfit)
+misfits_of k (kernel.SetUp t clock context) = misfits_of_set_up (k.timers t)
+misfits_of k (kernel.Start t soft expires was_armed) = misfits_of_start soft expires was_armed (k.timers t)
+misfits_of k (kernel.Cancel t) = misfits_of_cancel (k.timers t)
+misfits_of k (kernel.Entry t site now) = misfits_of_entry site now (k.timers t) (half_at k t site) (is_passed k.claims (claim_of k.count site (k.timers t)))
+misfits_of k (kernel.Exit t site) = misfits_of_exit site (k.timers t) (half_at k t site)
+misfits_of k kernel.Lost = []
+
+-- why no history shows the events so far with this one behind them, where there is none
+abbrev pub misfit : Knowledge → KernelEvent → Option Misfit
+misfit k e = first_that_holds (misfits_of k e)
+
+-- a misfit of event n, or a later one
+abbrev pub misfit_or : Option Misfit → ℕ → Option (ℕ × Misfit) → Option (ℕ × Misfit)
+misfit_or None n later = later
+misfit_or (Some cause) n later = Some (n, cause)
+
+-- the number of the first event that no history shows behind those before it, and why
+abbrev pub first_misfit : Knowledge → List KernelEvent → Option (ℕ × Misfit)
+first_misfit k [] = None
+first_misfit k (e ∷ es) = misfit_or (misfit k e) k.count (first_misfit (learned k e) es)

@@ -1,0 +1,181 @@
+//! A checker of a kernel's trace, event by event.
+ghost use Rattle.std.specs.Prelude.{◌≡◌, ◌+◌, ℕ, IfOk, OnOk, None};
+ghost use Rattle.trace_check.specs.Checkers.{HoldsKnowledge};
+ghost use Rattle.trace_check.specs.Holding.{half_in};
+ghost use Rattle.trace_check.specs.Knowledge.{Knowledge, misfit, half_number, learned, no_knowledge, with_claim, with_known};
+ghost use Rattle.seq_timer.specs.Systems.{updated};
+ghost use Rattle.trace_check.specs.Traced.{context_at};
+
+use crate::known::{HalfKnown, KnownTimer, OrderedExpiry};
+use crate::learning::context_at;
+use crate::misfit::Misfit;
+use crate::places::{half, half_number, is_passed, note_claim, note_half};
+use crate::queue::MarkList;
+use crate::timers::{TimerTable, known, note};
+use std::alloc::{AllocError, Global};
+use std::collections::HashMap;
+use trace_text::{KernelEvent, Site};
+
+/// What the events so far tell: of each timer that they name, of each half of a processor, and the expiries that timers still wait behind.
+#[derive(Drop)]
+pub struct Checker {
+    timers: TimerTable,
+    halves: Vec<HalfKnown>,
+    queues: Vec<MarkList>,
+    count: u64,
+    alloc: Global,
+}
+
+impl Checker {
+    /// A checker that was told nothing.
+    pub fn new(alloc: Global) -> Checker
+        ensures { HoldsKnowledge result (no_knowledge 0) }
+    {
+        Checker {
+            timers: HashMap::new(alloc),
+            halves: Vec::new(alloc),
+            queues: Vec::new(alloc),
+            count: 0,
+            alloc,
+        }
+    }
+
+    /// Why no history shows the events so far with this one behind them, where there is none.
+    fn misfit(&self, event: &KernelEvent) -> Option<Misfit>
+        ensures { (k : Knowledge) → HoldsKnowledge self.now k → result ≡ misfit k event.now }
+    {
+        match *event {
+            KernelEvent::SetUp { timer, .. } => known(&self.timers, timer).misfit_of_set_up(),
+            KernelEvent::Start {
+                timer,
+                soft,
+                expires,
+                was_armed,
+            } => known(&self.timers, timer).misfit_of_start(soft, expires, was_armed),
+            KernelEvent::Cancel { timer } => known(&self.timers, timer).misfit_of_cancel(),
+            KernelEvent::Entry { timer, site, now } => self.misfit_of_entry(timer, site, now),
+            KernelEvent::Exit { timer, site } => {
+                let known = known(&self.timers, timer);
+                known.misfit_of_exit(site, self.half_at(site, known))
+            }
+            KernelEvent::Lost => None,
+        }
+    }
+
+    /// What is known of the half that a line was told in.
+    fn half_at(&self, site: Site, known: KnownTimer) -> HalfKnown
+        ensures { result ≡ half_in self.now.halves.items (half_number site.processor (context_at site.context known.context)) }
+    {
+        let context = context_at(site.context, known.context);
+        half(&self.halves, half_number(site.processor, context))
+    }
+
+    /// What is wrong with an expiry.
+    fn misfit_of_entry(&self, timer: u64, site: Site, now: u64) -> Option<Misfit>
+        ensures { (k : Knowledge) → HoldsKnowledge self.now k → result ≡ misfit k (KernelEvent.Entry timer site now) }
+    {
+        let known = known(&self.timers, timer);
+        let passed = match known.claim(self.count, site) {
+            Some(claim) => is_passed(&self.queues, &claim),
+            None => false,
+        };
+        known.misfit_of_entry(site, now, self.half_at(site, known), passed)
+    }
+
+    /// Notes what is known of a timer after one more event.
+    fn note(&mut self, timer: u64, known: KnownTimer) -> Result<(), AllocError>
+        ensures { (k : Knowledge) → HoldsKnowledge self.old k → OnOk result (HoldsKnowledge self.new (with_known k timer known)) }
+    {
+        self.count = self.count.checked_add(1).ok_or(AllocError)?;
+        note(&mut self.timers, timer, known)
+    }
+
+    /// Notes what runs in a half.
+    fn note_half(
+        &mut self,
+        site: Site,
+        known: KnownTimer,
+        half: HalfKnown,
+    ) -> Result<(), AllocError>
+        ensures { (k : Knowledge) → HoldsKnowledge self.old k → OnOk result (HoldsKnowledge self.new (record k { halves = updated k.halves (half_number site.processor (context_at site.context known.context)) half })) }
+    {
+        let context = context_at(site.context, known.context);
+        note_half(&mut self.halves, half_number(site.processor, context), half)
+    }
+
+    /// Notes an expiry, where it takes part in the order of its queue.
+    fn note_claim(&mut self, claim: Option<OrderedExpiry>) -> Result<(), AllocError>
+        ensures { (k : Knowledge) → HoldsKnowledge self.old k → OnOk result (HoldsKnowledge self.new (record k { claims = with_claim claim k.claims })) }
+    {
+        match claim {
+            Some(claim) => note_claim(self.alloc, &mut self.queues, claim),
+            None => Ok(()),
+        }
+    }
+
+    /// Forgets all but the count of events.
+    fn begin_anew(&mut self) -> Result<(), AllocError>
+        ensures { (k : Knowledge) → HoldsKnowledge self.old k → OnOk result (HoldsKnowledge self.new (no_knowledge (k.count + 1))) }
+    {
+        self.count = self.count.checked_add(1).ok_or(AllocError)?;
+        self.timers = HashMap::new(self.alloc);
+        self.halves.clear();
+        self.queues.clear();
+        Ok(())
+    }
+
+    /// What is known after one more event, which some history shows.
+    fn learn(&mut self, event: KernelEvent) -> Result<(), AllocError>
+        ensures { (k : Knowledge) → HoldsKnowledge self.old k → OnOk result (HoldsKnowledge self.new (learned k event)) }
+    {
+        match event {
+            KernelEvent::SetUp {
+                timer,
+                clock,
+                context,
+            } => self.note(timer, KnownTimer::set_up(clock, context)),
+            KernelEvent::Start {
+                timer,
+                soft,
+                expires,
+                ..
+            } => {
+                let known = known(&self.timers, timer);
+                self.note(timer, known.started(self.count, soft, expires))
+            }
+            KernelEvent::Cancel { timer } => {
+                let known = known(&self.timers, timer);
+                self.note(timer, known.cancelled())
+            }
+            KernelEvent::Entry { timer, site, .. } => self.learn_entry(timer, site),
+            KernelEvent::Exit { timer, site } => {
+                let known = known(&self.timers, timer);
+                self.note_half(site, known, HalfKnown::Free)?;
+                self.note(timer, known.exited(site))
+            }
+            KernelEvent::Lost => self.begin_anew(),
+        }
+    }
+
+    /// What is known after an expiry.
+    fn learn_entry(&mut self, timer: u64, site: Site) -> Result<(), AllocError>
+        ensures { (k : Knowledge) (now : ℕ) → HoldsKnowledge self.old k → OnOk result (HoldsKnowledge self.new (learned k (KernelEvent.Entry timer site now))) }
+    {
+        let known = known(&self.timers, timer);
+        self.note_claim(known.claim(self.count, site))?;
+        self.note_half(site, known, HalfKnown::Taken { timer })?;
+        self.note(timer, known.entered(site))
+    }
+
+    /// Takes one more event: the cause why no history shows the events so far with this one behind them, if there is none. After a cause, and
+    /// where memory has run out, the checker isn't to be used any more.
+    pub fn step(&mut self, event: KernelEvent) -> Result<Option<Misfit>, AllocError>
+        ensures { (k : Knowledge) → HoldsKnowledge self.old k → IfOk result (λ cause. (cause ≡ misfit k event) × (cause ≡ None → HoldsKnowledge self.new (learned k event))) }
+    {
+        if let Some(cause) = self.misfit(&event) {
+            return Ok(Some(cause));
+        }
+        self.learn(event)?;
+        Ok(None)
+    }
+}

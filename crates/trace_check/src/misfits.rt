@@ -1,0 +1,168 @@
+//! What is wrong with an event, by what is known of its timer.
+ghost use Rattle.std.specs.Prelude.{◌≡◌};
+ghost use Rattle.trace_check.specs.Knowledge.{misfits_of_cancel, misfits_of_entry, misfits_of_exit, misfits_of_set_up, misfits_of_start, first_that_holds, is_armed, is_other_context, is_other_processor, is_unarmed, may_run, runs, soft_of};
+
+use crate::known::{ArmedKnown, FunctionKnown, HalfKnown, KnownTimer};
+use crate::learning::context_at;
+use crate::misfit::Misfit;
+use ktime::LAST_TIME;
+use seq_timer::Context;
+use trace_text::Site;
+
+impl KnownTimer {
+    fn is_armed(&self) -> bool
+        ensures { result ≡ is_armed self.now.armed }
+    {
+        matches!(self.armed, ArmedKnown::Until { .. })
+    }
+
+    fn is_unarmed(&self) -> bool
+        ensures { result ≡ is_unarmed self.now.armed }
+    {
+        matches!(self.armed, ArmedKnown::No)
+    }
+
+    fn runs(&self) -> bool
+        ensures { result ≡ runs self.now.function }
+    {
+        matches!(self.function, FunctionKnown::Runs { .. })
+    }
+
+    fn soft(&self) -> u64
+        ensures { result ≡ soft_of self.now.armed }
+    {
+        match self.armed {
+            ArmedKnown::Until { soft, .. } => soft,
+            _ => 0,
+        }
+    }
+
+    fn is_elsewhere(&self, processor: u32) -> bool
+        ensures { result ≡ is_other_processor processor self.now.home }
+    {
+        match self.home {
+            Some(home) => home != processor,
+            None => false,
+        }
+    }
+
+    fn is_in_other(&self, context: Context) -> bool
+        ensures { result ≡ is_other_context context self.now.context }
+    {
+        match self.context {
+            Some(known) => known != context,
+            None => false,
+        }
+    }
+
+    /// Whether the timer's function may run in a half of a processor.
+    fn may_run(&self, processor: u32, context: Context, half: HalfKnown) -> bool
+        ensures { result ≡ may_run processor context half self.now.function }
+    {
+        match self.function {
+            FunctionKnown::Untold => matches!(half, HalfKnown::Untold),
+            FunctionKnown::Rests => false,
+            FunctionKnown::Runs {
+                processor: at,
+                context: known,
+            } => at == processor && known == context,
+        }
+    }
+
+    /// What is wrong with a set-up.
+    pub fn misfit_of_set_up(&self) -> Option<Misfit>
+        ensures { result ≡ first_that_holds (misfits_of_set_up self.now) }
+    {
+        if self.is_armed() {
+            Some(Misfit::SetUpArmed)
+        } else if self.runs() {
+            Some(Misfit::SetUpRunning)
+        } else {
+            None
+        }
+    }
+
+    /// What is wrong with a start.
+    pub fn misfit_of_start(
+        &self,
+        soft: u64,
+        expires: u64,
+        was_armed: Option<bool>,
+    ) -> Option<Misfit>
+        ensures { result ≡ first_that_holds (misfits_of_start soft expires was_armed self.now) }
+    {
+        if expires < soft {
+            Some(Misfit::SoftAfterHard)
+        } else if expires > LAST_TIME {
+            Some(Misfit::PastTime)
+        } else if was_armed == Some(true) && self.is_unarmed() {
+            Some(Misfit::WasNotArmed)
+        } else if was_armed == Some(false) && self.is_armed() {
+            Some(Misfit::WasArmed)
+        } else {
+            None
+        }
+    }
+
+    /// What is wrong with a cancel.
+    pub fn misfit_of_cancel(&self) -> Option<Misfit>
+        ensures { result ≡ first_that_holds (misfits_of_cancel self.now) }
+    {
+        if self.runs() {
+            Some(Misfit::Running)
+        } else if self.is_unarmed() {
+            Some(Misfit::NotArmed)
+        } else {
+            None
+        }
+    }
+
+    /// What is wrong with an expiry. `passed`: an earlier one of its queue had to wait for it.
+    pub fn misfit_of_entry(
+        &self,
+        site: Site,
+        now: u64,
+        half: HalfKnown,
+        passed: bool,
+    ) -> Option<Misfit>
+        ensures { result ≡ first_that_holds (misfits_of_entry site now self.now half passed) }
+    {
+        let soft = self.soft();
+        if self.runs() {
+            return Some(Misfit::Running);
+        }
+        if self.is_unarmed() {
+            return Some(Misfit::NotArmed);
+        }
+        if self.is_elsewhere(site.processor) {
+            return Some(Misfit::OtherProcessor);
+        }
+        if self.is_in_other(context_at(site.context, self.context)) {
+            return Some(Misfit::OtherContext);
+        }
+        if now < soft {
+            return Some(Misfit::TooEarly { soft, now });
+        }
+        if let HalfKnown::Taken { timer } = half {
+            return Some(Misfit::SecondFunction { timer });
+        }
+        if passed {
+            return Some(Misfit::OutOfOrder);
+        }
+        None
+    }
+
+    /// What is wrong with a return.
+    pub fn misfit_of_exit(&self, site: Site, half: HalfKnown) -> Option<Misfit>
+        ensures { result ≡ first_that_holds (misfits_of_exit site self.now half) }
+    {
+        let context = context_at(site.context, self.context);
+        if self.is_in_other(context) {
+            Some(Misfit::OtherContext)
+        } else if !self.may_run(site.processor, context, half) {
+            Some(Misfit::NotRunning)
+        } else {
+            None
+        }
+    }
+}
