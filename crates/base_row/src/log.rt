@@ -1,5 +1,5 @@
 //! A log of a caller's own entries and looks.
-ghost use Rattle.std.specs.Prelude.{◌≡◌, ◌≤◌, ◌<◌, ◌+◌, ℕ, [], ◌∷◌, ◌++◌, OnOk, OnErr};
+ghost use Rattle.std.specs.Prelude.{◌≡◌, ◌≤◌, ◌<◌, ◌+◌, ℕ, [], ◌∷◌, ◌++◌, length, OnOk, OnErr};
 ghost use Rattle.base_row.specs.declared.log.Noted.TheVariants as noteds;
 
 use seq_timer::{Event, Observation, Reply};
@@ -79,6 +79,16 @@ impl<T: Drop> ReceiptLog<T> {
     {
         self.receipts.push_reserved(receipt);
         self.spare -= 1;
+    }
+
+    /// Takes all receipts out. Their room is spare again, so one who clears the log after each run needs no more memory.
+    pub fn clear(&mut self)
+        ensures receipts { self.new.receipts ≡ [] }
+        ensures spare { self.new.spare ≡ self.old.spare + length self.old.receipts }
+    {
+        let cleared = self.receipts.len();
+        self.receipts.clear();
+        self.spare += cleared;
     }
 
     /// The receipts, in the order in which they were noted.

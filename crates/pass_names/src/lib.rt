@@ -4,8 +4,10 @@
 //! these crates try again.
 #![tactic(auto)]
 
+mod laws;
 mod retries;
 
+pub use laws::a_pass_answers_for_its_split;
 pub use retries::Retries;
 use std::collections::LinkedList;
 

@@ -40,5 +40,8 @@ fn receipts_stand_in_the_order_of_their_notes(rt: HostRuntime) -> Result<(), Fai
     assert_equal(&rt, log.receipts()[1], second);
     assert_equal(&rt, log.receipts()[2], third);
     assert_equal(&rt, log.spare(), 0);
+    log.clear();
+    assert_equal(&rt, log.receipts().len(), 0);
+    assert_equal(&rt, log.spare(), 3);
     Ok(())
 }
