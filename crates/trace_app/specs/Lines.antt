@@ -77,7 +77,8 @@ pub record IsFirst (lines : List (List ℕ)) (n : ℕ) : Type 0 where
   pub number : n ≡ length front + 1
   pub fits : Fit front
 
--- all lines can be read and fit, and tell so many events; or with a line that can be read, behind lines that fit, no history shows the lines so far; or it can't be read
+-- all lines can be read and fit, and tell so many events; or with a line that can be read, behind lines that fit, no history shows the lines so far; or
+-- it can't be read
 abbrev pub Means : List (List ℕ) → Verdict → Type 0
 Means lines (verdicts.Fits events) = Fit lines × (events ≡ length (events_in lines))
 Means lines (verdicts.Refused n cause) =

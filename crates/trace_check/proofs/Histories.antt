@@ -8,7 +8,8 @@ use Rattle.trace_check.specs.Knowledge.{Knowledge, misfit, misfit_or, first_misf
 use Rattle.trace_check.proofs.Agreement.{Agrees, Sound}
 use Rattle.trace_check.proofs.Back.{back, first_of, some_timers}
 use Rattle.trace_check.proofs.Forth.{agrees_at_first, forth}
-use Rattle.trace_check.proofs.Levels.{first_plain, first_timers, model_history, plain_all, plain_history, size}
+use Rattle.trace_check.proofs.ToPlain.{first_plain, plain_all, plain_history}
+use Rattle.trace_check.proofs.FromPlain.{first_timers, model_history, size}
 use Rattle.trace_check.proofs.Plain.{Happen, PlainTimers}
 use Rattle.trace_check.proofs.Soundness.{sound, sound_at_first}
 

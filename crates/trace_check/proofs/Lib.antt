@@ -3,7 +3,11 @@ pub mod Agreement
 pub mod Parts
 pub mod Forth
 pub mod Soundness
+pub mod Before
+pub mod BackStarts
+pub mod BackRuns
 pub mod Back
-pub mod Levels
+pub mod ToPlain
+pub mod FromPlain
 pub mod Histories
 pub mod Padding
