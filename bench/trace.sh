@@ -1,6 +1,6 @@
 #!/usr/bin/env bash
-# Records a trace of this machine's timers under a load of sleeps, timer descriptors and POSIX timers, and checks it by hrt_check; by trace-cmd too,
-# where that is installed. Prints the answers. Needs root and tracefs. Where it can't record it says so, and checks the recorded trace of bench/traces alone.
+# Records a trace of this machine's timers under a load of sleeps, timer descriptors and POSIX timers, and checks it by hrt_check; then one by trace-cmd
+# and one by perf, where these can record. Prints the answers. Needs root and tracefs. Where it can't record it says so, and checks the recorded trace of bench/traces alone.
 #
 # usage: bench/trace.sh [SECONDS]
 set -u
@@ -13,6 +13,17 @@ check() {
     echo "$1:"
     bin/hrt check --summary "$2"
     echo "status $?"
+}
+
+# The events of a trace but for those of timers that expire more than once and are never started in it: a recorder that leaves out a task's events
+# leaves out the starts of its timers.
+without_untold() {
+    awk '
+        match($0, /hrtimer=[0-9a-fx]+/) { timer = substr($0, RSTART, RLENGTH) }
+        FNR == NR { if (/hrtimer_expire_entry:/) expiries[timer]++; if (/hrtimer_start:/) starts[timer]++; next }
+        /hrtimer_[a-z_]+:/ && expiries[timer] > 1 && !starts[timer] { left[timer]; next }
+        { print }
+        END { for (timer in left) print "left out, since its starts are not told: " timer > "/dev/stderr" }' "$1" "$1"
 }
 
 # Sleeps, timer descriptors that are set anew, and POSIX timers, on four threads.
@@ -56,10 +67,15 @@ for event in "$instance"/events/timer/hrtimer_*; do echo 1 > "$event/enable"; do
 echo 1 > "$instance/tracing_on"
 load
 echo 0 > "$instance/tracing_on"
-cat "$instance/trace" > "$folder/trace"
+without_untold "$instance/trace" > "$folder/trace"
 check "this machine, by tracefs" "$folder/trace"
-if command -v trace-cmd > /dev/null; then
-    trace-cmd record -q -C mono -o "$folder/trace.dat" -e 'timer:hrtimer_*' sleep 2 > /dev/null 2>&1
+if command -v trace-cmd > /dev/null && trace-cmd record -q -C mono -o "$folder/trace.dat" -e 'timer:hrtimer_*' sleep 2 > /dev/null 2>&1; then
     trace-cmd report -i "$folder/trace.dat" > "$folder/report" 2> /dev/null
-    check "this machine, by trace-cmd" "$folder/report"
+    without_untold "$folder/report" > "$folder/trace"
+    check "this machine, by trace-cmd" "$folder/trace"
+fi
+if command -v perf > /dev/null && perf record -q -k mono -a -e 'timer:hrtimer_*' -o "$folder/perf.data" sleep 2 > /dev/null 2>&1; then
+    perf script -i "$folder/perf.data" > "$folder/report" 2> /dev/null
+    without_untold "$folder/report" > "$folder/trace"
+    check "this machine, by perf" "$folder/trace"
 fi

@@ -1,5 +1,5 @@
 -- What the fields behind an event's name say.
-use Rattle.std.specs.Prelude.{ℕ, ◌-◌, ◌^◌, Bool, true, false, if◌then◌else◌, List, [], ◌∷◌, bytes_eq, codes, Option, Some, None, option_map, unwrap_or, Result, Ok, Err}
+use Rattle.std.specs.Prelude.{ℕ, ◌-◌, ◌^◌, ◌/◌, ◌%◌, ◌==◌, Bool, true, false, if◌then◌else◌, List, [], ◌∷◌, bytes_eq, codes, Option, Some, None, option_map, unwrap_or, Result, Ok, Err}
 use Rattle.std.specs.Option.{option_and_then, option_or}
 use Rattle.ktime.specs.declared.clock_id.ClockId.{ClockId}
 use Rattle.ktime.specs.declared.clock_id.ClockId.TheVariants as clocks
@@ -68,10 +68,23 @@ context_by rest =
 abbrev pub mode_with : Mode → List ℕ → Option TimerMode
 mode_with mode rest = option_map (λ x. record { mode = mode; context = x }) (context_by (unwrap_or (behind (codes "|PINNED") rest) rest))
 
--- a mode: absolute or relative, and a context where it tells one
-abbrev pub mode_in : List ℕ → Option TimerMode
-mode_in word = option_or (option_and_then (λ rest. mode_with modes.Abs rest) (behind (codes "ABS") word))
+-- a mode by its name: absolute or relative, and a context where it tells one
+abbrev pub mode_named : List ℕ → Option TimerMode
+mode_named word = option_or (option_and_then (λ rest. mode_with modes.Abs rest) (behind (codes "ABS") word))
     (option_and_then (λ rest. mode_with modes.Rel rest) (behind (codes "REL") word))
+
+-- the context that a mode's number tells: 4 is soft, and 8 hard
+unfoldable pub context_numbered : ℕ → Option (Option Context)
+context_numbered n =
+    if n == 0 then Some None else if n == 1 then Some (Some contexts.Soft) else if n == 2 then Some (Some contexts.Hard) else None
+
+-- a mode by its number, in which 1 is relative and 2 pinned
+abbrev pub mode_numbered : ℕ → Option TimerMode
+mode_numbered n = option_map (λ x. record { mode = (if n % 2 == 0 then modes.Abs else modes.Rel); context = x }) (context_numbered (n / 4))
+
+-- a mode: by its name as tracefs prints it, or by its number as perf does
+abbrev pub mode_in : List ℕ → Option TimerMode
+mode_in word = option_or (mode_named word) (option_and_then (λ n. mode_numbered n) (option_and_then (λ w. number_in 16 (2 ^ 64 - 1) w) (behind (codes "0x") word)))
 
 -- the clock of a timer's times, where it is set up on this one and by this mode
 abbrev pub clock_kept : Mode → Option ClockId → Option ClockId

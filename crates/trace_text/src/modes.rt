@@ -1,7 +1,8 @@
 //! Clocks and modes.
 ghost use Rattle.std.specs.Prelude.{◌≡◌};
-ghost use Rattle.trace_text.specs.Fields.{clock_in, context_by, mode_in, mode_with};
+ghost use Rattle.trace_text.specs.Fields.{clock_in, context_by, context_numbered, mode_in, mode_named, mode_numbered, mode_with};
 
+use crate::numbers::number;
 use ktime::{ClockId, Mode};
 use seq_timer::Context;
 
@@ -52,9 +53,31 @@ fn with(mode: Mode, rest: &[u8]) -> Option<TimerMode>
     Some(TimerMode { mode, context })
 }
 
+/// The context that a mode's number tells, by what of it is above `HRTIMER_MODE_REL` and `HRTIMER_MODE_PINNED`.
+#[tactic(auto, unfolding(crate::specs::Fields::context_numbered))]
+fn context_of(n: u64) -> Option<Option<Context>>
+    ensures { result ≡ context_numbered n }
+{
+    match n {
+        0 => Some(None),
+        1 => Some(Some(Context::Soft)),
+        2 => Some(Some(Context::Hard)),
+        _ => None,
+    }
+}
+
+/// A mode by its number (`enum hrtimer_mode`).
+fn numbered(n: u64) -> Option<TimerMode>
+    ensures { result ≡ mode_numbered n }
+{
+    let context = context_of(n / 4)?;
+    let mode = if n % 2 == 0 { Mode::Abs } else { Mode::Rel };
+    Some(TimerMode { mode, context })
+}
+
 /// A mode as `decode_hrtimer_mode` prints it.
-pub fn mode(word: &[u8]) -> Option<TimerMode>
-    ensures { result ≡ mode_in word.now }
+fn named(word: &[u8]) -> Option<TimerMode>
+    ensures { result ≡ mode_named word.now }
 {
     if let Some(rest) = word.strip_prefix(b"ABS") {
         if let Some(mode) = with(Mode::Abs, rest) {
@@ -62,4 +85,14 @@ pub fn mode(word: &[u8]) -> Option<TimerMode>
         }
     }
     with(Mode::Rel, word.strip_prefix(b"REL")?)
+}
+
+/// A mode by its name, as tracefs prints it, or by its number, as perf does.
+pub fn mode(word: &[u8]) -> Option<TimerMode>
+    ensures { result ≡ mode_in word.now }
+{
+    if let Some(mode) = named(word) {
+        return Some(mode);
+    }
+    numbered(number(16, u64::MAX, word.strip_prefix(b"0x")?)?)
 }

@@ -6,7 +6,7 @@ use seq_timer::Context;
 use std::test::Fail;
 use trace_text::{KernelEvent, Site, read_line};
 
-const READ: [(&str, Option<KernelEvent>); 9] = [
+const READ: [(&str, Option<KernelEvent>); 10] = [
     (
         "            task-4287       [003] .....  4607.088209: hrtimer_setup: hrtimer=000000003aa2b693 clockid=CLOCK_MONOTONIC mode=REL|HARD",
         Some(KernelEvent::SetUp {
@@ -21,6 +21,14 @@ const READ: [(&str, Option<KernelEvent>); 9] = [
             timer: 0x3d3c3c14,
             clock: Some(ClockId::Monotonic),
             context: None,
+        }),
+    ),
+    (
+        "           sleep  9623 [001]  2548.544828:        timer:hrtimer_setup: hrtimer=0xffffc9000b20bc20 clockid=CLOCK_REALTIME mode=0x5",
+        Some(KernelEvent::SetUp {
+            timer: 0xffffc9000b20bc20,
+            clock: Some(ClockId::Monotonic),
+            context: Some(Context::Soft),
         }),
     ),
     (
