@@ -1,6 +1,6 @@
 -- A sleep that goes on keeps its clock and its expiry, and the expiry that ends it is of that.
 use Rattle.std.proofs.Common.{arith, refl, ◌≡◌, ◌≤◌, ℕ, ◌+◌, Bool, true, false, true≢false, if◌then◌else◌, List, [], ◌∷◌, ap, sym, ◌∙◌}
-use Rattle.std.specs.Prelude.{nat_eq, nat_le}
+use Rattle.std.specs.Prelude.{nat_le}
 use Rattle.std.proofs.lemmas.Bool.{and_parts}
 use Rattle.std.proofs.lemmas.Bool.Decides.{nat_tests}
 use Rattle.ktime.specs.declared.clock_id.ClockId.{ClockId}
@@ -62,5 +62,5 @@ pub expiry_reached : (arm : Arm) (clock : ClockId) (expires generation : ℕ) (r
     → expires ≤ value_of clock r
 expiry_reached arms.NotAsked clock expires generation r is = absurd (true≢false (sym is))
 expiry_reached (arms.Armed armed) clock expires generation r is =
-    let now = (and_parts (nat_eq armed generation) (nat_le expires (value_of clock r)) is).1 in grind (arith, nat_tests, now)
+    let now = (and_parts (nat_le armed generation) (nat_le expires (value_of clock r)) is).1 in grind (arith, nat_tests, now)
 expiry_reached (arms.Unarmed stamp) clock expires generation r is = absurd (true≢false (sym is))
