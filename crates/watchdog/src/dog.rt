@@ -17,8 +17,8 @@ impl Handler for Dog {
     ghost use Rattle.std.specs.Prelude.{◌≡◌, ◌^◌};
     ghost use Rattle.expire_pass.specs.declared.handler.Restart.TheVariants as restarts;
 
-    // What each function does; for how many functions there is room; the most timers that it serves, here all that there can be; and how many
-    // bases it needs.
+    // What each function does; for how many functions there is room; the most timers that it serves, here all that there can be; and how
+    // many bases it needs.
     ghost meaning = { record {
       did = λ o h h' k k' c reading restart. restart ≡ restarts.Stop;
       ready = λ h. 2 ^ 64;
