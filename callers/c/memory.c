@@ -1,0 +1,80 @@
+/* Where memory is taken: each allocation of hrt_new fails once, and the calls between hrt_new and hrt_free make none. The linker sends malloc,
+ * realloc and free of the library here: -Wl,--wrap=malloc,--wrap=realloc,--wrap=free. */
+#include "hrt.h"
+
+#include <inttypes.h>
+#include <stdio.h>
+
+void *__real_malloc(size_t size);
+void *__real_realloc(void *at, size_t size);
+void __real_free(void *at);
+
+static int calls, held, failing;
+
+static int fails(void) {
+    return ++calls == failing;
+}
+
+void *__wrap_malloc(size_t size) {
+    if (fails()) return NULL;
+    held++;
+    return __real_malloc(size);
+}
+
+void *__wrap_realloc(void *at, size_t size) {
+    if (fails()) return NULL;
+    if (!at) held++;
+    return __real_realloc(at, size);
+}
+
+void __wrap_free(void *at) {
+    if (at) held--;
+    __real_free(at);
+}
+
+static hrt_timers timers = HRT_NONE;
+static hrt_declared declared[256];
+static uint32_t seed = 1;
+
+static uint32_t below(uint32_t bound) {
+    seed = seed * 1664525 + 1013904223;
+    return (seed >> 8) % bound;
+}
+
+static int32_t open_all(int fail_at) {
+    calls = 0;
+    failing = fail_at;
+    int32_t code = hrt_new(&timers, 8, declared, 256, 1000);
+    failing = 0;
+    return code;
+}
+
+static void call_all(uint64_t ns) {
+    hrt_answer a;
+    hrt_time now = {ns, ns, ns};
+    hrt_start(&timers, below(256), below(3), ns + below(100), below(20), below(8), &now, &a);
+    hrt_cancel(&timers, below(256), &a);
+    hrt_peek(&timers, below(256), &a);
+    if (hrt_claim(&timers, below(2), below(8), &now, &a) != HRT_CLAIMED) return;
+    uint32_t timer = a.timer;
+    hrt_forward(&timers, timer, &now, 5, &a);
+    hrt_finish(&timers, timer, below(2), &a);
+}
+
+int main(void) {
+    static const uint32_t clocks[] = {HRT_CLOCK_MONOTONIC, HRT_CLOCK_REALTIME, HRT_CLOCK_BOOTTIME};
+    for (uint32_t i = 0; i < 256; i++) declared[i] = (hrt_declared){clocks[i % 3], i / 3 % 2};
+    int32_t code;
+    int failed = 0, left = 0;
+    while ((code = open_all(failed + 1)) == HRT_NO_MEMORY) {
+        failed++;
+        left += held + (timers.at != NULL);
+    }
+    printf("new = %" PRId32 ", each allocation failed once: %s, left behind: %d\n", code, failed > 0 ? "yes" : "no", left);
+    calls = 0;
+    for (uint64_t ns = 0; ns < 100000; ns++) call_all(ns);
+    printf("allocations of the other calls: %d\n", calls);
+    code = hrt_free(&timers);
+    printf("free = %" PRId32 ", left behind: %d\n", code, held);
+    return 0;
+}

@@ -1,0 +1,72 @@
+"""The declarations of include/hrt.h, by ctypes, over a shared object that is linked from the archive."""
+from ctypes import CDLL, POINTER, Structure, byref, c_int32, c_size_t, c_uint32, c_uint64, c_void_p
+
+CLAIMED = 5
+ABS, REL, KEEP = 0, 1, 2
+REALTIME, MONOTONIC, BOOTTIME = 0, 1, 7
+HARD, SOFT = 0, 1
+
+
+class Handle(Structure):
+    _fields_ = [("at", c_void_p)]
+
+
+class Declared(Structure):
+    _fields_ = [("clock", c_uint32), ("context", c_uint32)]
+
+
+class Time(Structure):
+    _fields_ = [(name, c_uint64) for name in ("mono", "real", "boot")]
+
+
+class Answer(Structure):
+    _fields_ = [(name, c_uint32) for name in ("timer", "base", "clock", "armed", "running", "moved")] + [
+        (name, c_uint64) for name in ("generation", "number", "soft", "expires", "count")
+    ]
+
+
+class Timers:
+    """A handle. Each call answers its number and, but for open and free, writes into an Answer. One thread at a time: ctypes lets go of
+    the interpreter's lock during a call."""
+
+    def __init__(self, library):
+        hrt, u32, u64, handle, now, out = CDLL(library), c_uint32, c_uint64, POINTER(Handle), POINTER(Time), POINTER(Answer)
+        kinds = {
+            "new": [u32, POINTER(Declared), c_size_t, u64],
+            "free": [],
+            "start": [u32, u32, u64, u64, u32, now, out],
+            "cancel": [u32, out],
+            "claim": [u32, u32, now, out],
+            "forward": [u32, now, u64, out],
+            "finish": [u32, u32, out],
+            "peek": [u32, out],
+        }
+        for name, kind in kinds.items():
+            call = getattr(hrt, "hrt_" + name)
+            call.argtypes, call.restype = [handle] + kind, c_int32
+        self.hrt, self.handle = hrt, Handle()
+
+    def open(self, bases, declared, max_events):
+        array = (Declared * max(len(declared), 1))(*declared)
+        return self.hrt.hrt_new(byref(self.handle), bases, array, len(declared), max_events)
+
+    def free(self):
+        return self.hrt.hrt_free(byref(self.handle))
+
+    def start(self, timer, mode, ns, slack, base, now, out):
+        return self.hrt.hrt_start(byref(self.handle), timer, mode, ns, slack, base, byref(now), byref(out))
+
+    def cancel(self, timer, out):
+        return self.hrt.hrt_cancel(byref(self.handle), timer, byref(out))
+
+    def claim(self, context, base, now, out):
+        return self.hrt.hrt_claim(byref(self.handle), context, base, byref(now), byref(out))
+
+    def forward(self, timer, now, interval, out):
+        return self.hrt.hrt_forward(byref(self.handle), timer, byref(now), interval, byref(out))
+
+    def finish(self, timer, restart, out):
+        return self.hrt.hrt_finish(byref(self.handle), timer, int(restart), byref(out))
+
+    def peek(self, timer, out):
+        return self.hrt.hrt_peek(byref(self.handle), timer, byref(out))

@@ -1,0 +1,86 @@
+"""The simulation of callers/c/simulation.c, from Python: simulation.py LIBRARY."""
+import sys
+
+from hrt import ABS, BOOTTIME, CLAIMED, HARD, MONOTONIC, REALTIME, REL, SOFT, Answer, Declared, Time, Timers
+
+TICK, WATCHDOG, DEADLINE = range(3)
+LIBRARY = sys.argv[1]
+timers = Timers(LIBRARY)
+
+
+def at(ns):
+    return Time(ns, 1000 + ns, ns)
+
+
+def start(timer, mode, ns, slack, now):
+    a = Answer()
+    code = timers.start(timer, mode, ns, slack, 0, at(now), a)
+    print(f"{now}: start {timer} = {code}, generation {a.generation}, expires {a.expires}")
+
+
+def run(timer, now):
+    """What the function of each timer does; answers whether it is to be armed again."""
+    a = Answer()
+    if timer == TICK:
+        code = timers.forward(TICK, at(now), 100, a)
+        print(f"{now}: forward = {code}, count {a.count}, expires {a.expires}")
+        start(WATCHDOG, REL, 150, 20, now)
+        return True
+    if timer == DEADLINE:
+        code = timers.cancel(TICK, a)
+        print(f"{now}: cancel tick = {code}, generation {a.generation}")
+        code = timers.cancel(DEADLINE, a)
+        print(f"{now}: cancel itself = {code}, claim beside it = {timers.claim(SOFT, 0, at(now), a)}")
+    return False
+
+
+def expire(context, now):
+    a = Answer()
+    while timers.claim(context, 0, at(now), a) == CLAIMED:
+        timer = a.timer
+        print(f"{now}: claim {timer}, generation {a.generation}")
+        code = timers.finish(timer, run(timer, now), a)
+        print(f"{now}: finish {timer} = {code}, number {a.number}")
+
+
+def one_entry():
+    """A timer that takes one entry, and takes no other."""
+    one, a = Timers(LIBRARY), Answer()
+    codes = [one.open(1, [Declared(BOOTTIME, HARD)], 1)]
+    codes += [one.start(0, REL, 5, 0, 0, at(0), a) for _ in range(2)]
+    print("one entry:", *codes)
+    one.free()
+
+
+def bad(declared):
+    none, a, t, late = Timers(LIBRARY), Answer(count=77), at(0), Time(0, 2**62 + 1, 0)
+    print(f"no timers: {none.peek(0, a)}")
+    print(f"in use: {timers.open(1, declared, 100)}")
+    print(f"bases: {none.open(0, declared, 100)} {none.open(9, declared, 100)}")
+    print(f"count: {none.open(1, [Declared(0, 0)] * 257, 100)}")
+    print(f"limit: {none.open(1, declared, 0)} {none.open(1, declared, 2**48)}")
+    print(f"clock: {none.open(1, [Declared(2, 0)], 100)}, context: {none.open(1, [Declared(1, 2)], 100)}")
+    print(f"timer: {timers.start(3, REL, 1, 0, 0, t, a)}")
+    print(f"base: {timers.start(TICK, REL, 1, 0, 1, t, a)}")
+    print(f"mode: {timers.start(TICK, 3, 1, 0, 0, t, a)}")
+    print(f"time: {timers.start(TICK, REL, 1, 0, 0, late, a)}")
+    print(f"context: {timers.claim(2, 0, t, a)}")
+    print(f"not running: {timers.forward(TICK, t, 1, a)} {timers.finish(TICK, False, a)}")
+    print(f"untouched: {a.count}")
+
+
+declared = [Declared(MONOTONIC, HARD), Declared(MONOTONIC, HARD), Declared(REALTIME, SOFT)]
+print(f"new = {timers.open(1, declared, 1000)}")
+start(TICK, REL, 100, 0, 0)
+start(DEADLINE, ABS, 1360, 0, 0)
+for now in range(0, 601, 50):
+    expire(HARD, now)
+    expire(SOFT, now)
+a = Answer()
+for timer in range(3):
+    timers.peek(timer, a)
+    print(f"peek {timer}: armed {a.armed}, running {a.running}, number {a.number}, expires {a.expires}")
+one_entry()
+bad(declared)
+print(f"free = {timers.free()}")
+print(f"free = {timers.free()}")

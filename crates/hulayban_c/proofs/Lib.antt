@@ -1,0 +1,5 @@
+-- Lemmas about handles.
+pub mod Boxes
+pub mod Handles
+pub mod Returned
+pub mod Words

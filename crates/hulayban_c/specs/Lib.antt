@@ -1,0 +1,4 @@
+-- What contracts cite.
+pub mod Calls
+pub mod Handles
+pub mod Numbers

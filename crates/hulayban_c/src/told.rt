@@ -1,0 +1,156 @@
+//! What calls tell C of what the timers answer.
+ghost use Rattle.std.specs.Prelude.{◌≡◌};
+ghost use Rattle.hulayban_c.specs.Calls.{IsReturned, cancel_tells, claim_tells, finish_tells, forward_tells, of_generation, peek_tells, of_count, start_tells};
+
+use crate::codes::{AGAIN, ARMED, BUSY, CANCELLED, CLAIMED, DONE, RUNNING, SPENT};
+use crate::crossing::{Answer, NOTHING, clock_number};
+use seq_timer::{CancelAnswer, Finished, ForwardAnswer, Rearmed, TimerState};
+use timer_core::{ClaimAnswer, StartAnswer};
+
+/// Of a timer with so many entries.
+fn of_count(timer: u32, stamp: u64) -> Answer
+    ensures { result ≡ of_count timer stamp }
+{
+    Answer {
+        timer,
+        number: stamp,
+        ..NOTHING
+    }
+}
+
+/// Of a generation, and the number of an entry.
+fn of_generation(timer: u32, generation: u64, number: u64) -> Answer
+    ensures { result ≡ of_generation timer generation number }
+{
+    Answer {
+        timer,
+        generation,
+        number,
+        ..NOTHING
+    }
+}
+
+/// What a start tells.
+pub fn start_tells(timer: u32, answer: StartAnswer) -> (i32, Answer)
+    ensures { result ≡ start_tells timer answer }
+{
+    match answer {
+        StartAnswer::Spent { stamp } => (SPENT, of_count(timer, stamp)),
+        StartAnswer::Started {
+            was_armed,
+            generation,
+            moved_to,
+            placement,
+        } => {
+            let answer = Answer {
+                timer,
+                base: placement.base,
+                clock: clock_number(placement.clock),
+                armed: u32::from(was_armed),
+                moved: u32::from(moved_to.is_some()),
+                generation,
+                number: generation,
+                soft: placement.soft,
+                expires: placement.expires,
+                ..NOTHING
+            };
+            (DONE, answer)
+        }
+    }
+}
+
+/// What a cancel tells.
+pub fn cancel_tells(timer: u32, answer: CancelAnswer) -> (i32, Answer)
+    ensures { result ≡ cancel_tells timer answer }
+{
+    match answer {
+        CancelAnswer::Idle { stamp } => (DONE, of_count(timer, stamp)),
+        CancelAnswer::Cancelled { generation, number } => {
+            (CANCELLED, of_generation(timer, generation, number))
+        }
+        CancelAnswer::Running { generation, stamp } => {
+            (RUNNING, of_generation(timer, generation, stamp))
+        }
+    }
+}
+
+/// What a claim tells.
+pub fn claim_tells(answer: ClaimAnswer) -> (i32, Answer)
+    ensures { result ≡ claim_tells answer }
+{
+    match answer {
+        ClaimAnswer::Claimed {
+            timer,
+            generation,
+            number,
+        } => (CLAIMED, of_generation(timer, generation, number)),
+        ClaimAnswer::NoneDue => (DONE, NOTHING),
+        ClaimAnswer::BaseBusy { timer, generation } => (BUSY, of_generation(timer, generation, 0)),
+    }
+}
+
+/// What a forward tells.
+pub fn forward_tells(timer: u32, answer: ForwardAnswer) -> (i32, Answer)
+    ensures { result ≡ forward_tells timer answer }
+{
+    match answer {
+        ForwardAnswer::Forwarded { number, moved } => {
+            let answer = Answer {
+                timer,
+                number,
+                count: moved.count,
+                soft: moved.soft,
+                expires: moved.expires,
+                ..NOTHING
+            };
+            (DONE, answer)
+        }
+        ForwardAnswer::Spent { stamp } => (SPENT, of_count(timer, stamp)),
+        ForwardAnswer::Armed { generation, stamp } => (
+            ARMED,
+            of_generation(timer, generation, stamp),
+        ),
+    }
+}
+
+/// What a finish tells.
+pub fn finish_tells(timer: u32, finished: Finished) -> (i32, Answer)
+    ensures { result ≡ finish_tells timer finished.number finished.rearmed }
+{
+    match finished.rearmed {
+        Rearmed::No => (DONE, of_count(timer, finished.number)),
+        Rearmed::Again { generation } => (AGAIN, of_generation(timer, generation, finished.number)),
+        Rearmed::Spent { .. } => (SPENT, of_count(timer, finished.number)),
+    }
+}
+
+/// How a timer is kept.
+pub fn peek_tells(timer: u32, state: &TimerState) -> Answer
+    ensures { result ≡ peek_tells timer state.now }
+{
+    Answer {
+        timer,
+        base: state.base(),
+        clock: clock_number(state.clock()),
+        armed: u32::from(state.armed().is_some()),
+        running: u32::from(state.running().is_some()),
+        generation: state.armed().unwrap_or(0),
+        number: state.stamp(),
+        soft: state.soft(),
+        expires: state.expires(),
+        ..NOTHING
+    }
+}
+
+/// Gives C what is told: an answer is written, and a number returned.
+pub fn give(out: &mut Answer, told: Result<(i32, Answer), i32>) -> i32
+    ensures { IsReturned result out.old out.new told }
+{
+    match told {
+        Ok((code, answer)) => {
+            *out = answer;
+            code
+        }
+        Err(code) => code,
+    }
+}
