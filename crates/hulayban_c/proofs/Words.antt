@@ -5,7 +5,6 @@ use mir.Val.{Val}
 use base.Logic.{SProp, ent, id⊢}
 use types.Logic.{Logic}
 use types.Kit.{Item, Goal, Seq, ‵, ◌$◌}
-use denote.RawPtr.{block_ptr}
 use Rattle.core.proofs.alloc.Calls.{Fits}
 use Rattle.std_alloc.proofs.BoxSteps.Form.{Bx, D, B, word}
 use Rattle.std_alloc.proofs.BoxSteps.Steps.{box_out, box_in}

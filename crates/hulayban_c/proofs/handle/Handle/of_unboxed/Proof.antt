@@ -1,5 +1,5 @@
 -- `of_unboxed` moves two fields: the pointer isn't null, so a handle owns what they own.
-use Rattle.std.proofs.Common.{List, [], ◌∷◌, ◌++◌, refl}
+use Rattle.std.proofs.Common.{[], ◌∷◌, refl}
 use mir.Val.{Val}
 use base.Logic.{SProp, emp}
 use base.Fml.{ftrue, fsep}

@@ -1,6 +1,5 @@
 -- `rebox` hands the two fields to `from_raw`, with the memory that they own.
-use Rattle.std.proofs.Common.{◌≡◌, List, [], ◌∷◌, ◌++◌, refl, sym, ap, subst}
-use mir.Syntax.{a_type, dcons, dnil}
+use Rattle.std.proofs.Common.{◌≡◌, List, [], ◌∷◌, refl, sym, ap, subst}
 use mir.MapTy.{inst_fn}
 use mir.Val.{Val, vptr}
 use base.Logic.{SProp, emp, id⊢}
@@ -14,7 +13,6 @@ use types.Part.{whole, sub}
 use types.Run.{stop, fld, no_more, and_then, of_opd, returns, enter, first, blocks, exec}
 use types.ByLocal.{alloc_all, pass_all, free_all, look_at, get, get_in, sets, lands_last, env}
 use denote.Exit.{no}
-use denote.Param.{layout}
 use denote.RattleType.{RattleType, owns}
 use denote.RawPtr.{block_ptr}
 use denote.Signature.{types_at, plain}

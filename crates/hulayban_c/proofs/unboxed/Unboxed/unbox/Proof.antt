@@ -1,6 +1,6 @@
 -- `unbox` calls `into_raw_with_allocator` on the box. With the memory that it hands out, the pair that it returns owns what a box owns, and so do the
 -- two fields that are made of it.
-use Rattle.std.proofs.Common.{◌≡◌, List, [], ◌∷◌, ◌++◌, refl, sym, ap}
+use Rattle.std.proofs.Common.{◌≡◌, [], ◌∷◌, refl, sym, ap}
 use mir.Syntax.{a_type, dcons, dnil}
 use mir.MapTy.{inst_fn}
 use mir.Val.{Val}
