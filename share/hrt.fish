@@ -1,7 +1,7 @@
 # Completions of bin/hrt for fish: put this file into ~/.config/fish/completions.
 complete -c hrt -n __fish_use_subcommand -f -a run -d 'runs a script of timer calls, and prints the record of what happened'
 complete -c hrt -n __fish_use_subcommand -f -a gen -d 'makes a script from a number, runs it, and prints a summary of its record'
-complete -c hrt -n __fish_use_subcommand -f -a check -d 'says whether a Linux kernel's trace of its timers is a history that the model gives'
+complete -c hrt -n __fish_use_subcommand -f -a check -d 'says whether a trace of the timers of a Linux kernel is a history that the model gives'
 complete -c hrt -n __fish_use_subcommand -f -a json -d 'prints a record as JSON, one object a line'
 complete -c hrt -n __fish_use_subcommand -f -a draw -d 'draws a record as a picture, in SVG'
 complete -c hrt -n __fish_use_subcommand -f -l prove -d 'proves what the program needs, and keeps the proved program'
@@ -12,7 +12,7 @@ complete -c hrt -n '__fish_seen_subcommand_from gen' -x -l seed -d 'the number t
 complete -c hrt -n '__fish_seen_subcommand_from gen' -x -l lanes -d 'how many lanes call, each with a base of its own: 1 to 8'
 complete -c hrt -n '__fish_seen_subcommand_from gen' -x -l calls -d 'how many turns each lane has: 0 to 4096'
 complete -c hrt -n '__fish_seen_subcommand_from gen' -f
-complete -c hrt -n '__fish_seen_subcommand_from check' -l summary -d 'prints a table too: events by kind, most timers queued at once, latest expiries'
+complete -c hrt -n '__fish_seen_subcommand_from check' -l summary -d 'prints a table too, of events by kind, most timers queued at once, and latest expiries'
 complete -c hrt -n '__fish_seen_subcommand_from check' -l prove -d 'proves the program hrt_check in place of a check, and keeps it'
 complete -c hrt -n '__fish_seen_subcommand_from json' -l to-text -d 'reads such lines, and prints the text of the record'
 complete -c hrt -n '__fish_seen_subcommand_from draw' -r -l script -d 'the script of the record, so that its rounds and the words of its calls are shown'

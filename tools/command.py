@@ -60,10 +60,10 @@ OF_PROGRAM = (RUN, GEN)
 # Commands beside it.
 CHECK = Command(
     "check",
-    "says whether a Linux kernel's trace of its timers is a history that the model gives",
+    "says whether a trace of the timers of a Linux kernel is a history that the model gives",
     takes_file=True,
     options=(
-        Option("--summary", "prints a table too: events by kind, most timers queued at once, latest expiries"),
+        Option("--summary", "prints a table too, of events by kind, most timers queued at once, and latest expiries"),
         Option("--prove", "proves the program hrt_check in place of a check, and keeps it"),
     ),
 )
